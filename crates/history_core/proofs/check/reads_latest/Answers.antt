@@ -1,0 +1,24 @@
+use Rattle.std.proofs.Common.{arith, refl, ap, ◌∙◌}
+use Rattle.history_core.specs.Orders.{left_by}
+use Rattle.history_core.proofs.Listed.{listed_read}
+use Rattle.history_core.proofs.Forwards.{latest_step, reads_step, reads_broken, reads_all}
+use Rattle.history_core.proofs.check.reads_latest.Goals as goal
+
+pub returns-in-None : goal.returns-in-None
+returns-in-None g c =
+    let at = listed_read c.args.ops.now c.args.order.now c.loop-place.place-index c.index-ops-place.result c.requires (omega arith) c.index-ops-place.is in
+    (λ t. cc, λ all. absurd (c.in-None.ensures.wrong (reads_broken _ _ _ _ _ _ _ at c.loop-place.invariant.held all)))
+
+pub loop-place-preserved : goal.loop-place-preserved
+loop-place-preserved g c =
+    let at = listed_read c.args.ops.now c.args.order.now c.loop-place.place-index c.index-ops-place.result c.requires (omega arith) c.index-ops-place.is in
+    record {
+      reads = reads_step _ _ _ _ _ _ _ at c.loop-place.invariant.held c.in-Some.ensures.right c.loop-place.invariant.reads;
+      held =
+          latest_step c.args.opening c.args.ops.now c.args.order.now c.loop-place.place-index c.index-ops-place.result at
+          ∙ ap (λ w. left_by w c.index-ops-place.result.kind c.index-ops-place.result.item) c.loop-place.invariant.held
+          ∙ c.in-Some.ensures.value;
+    }
+
+pub returns : goal.returns
+returns g c = (λ t. reads_all _ _ _ _ c.loop-place.place-index (omega arith) c.loop-place.invariant.reads, λ all. refl)

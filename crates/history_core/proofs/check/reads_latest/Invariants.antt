@@ -1,0 +1,10 @@
+use Rattle.std.proofs.Common.{◌≡◌, take, Some, IsTrue}
+use Rattle.history_core.specs.Orders.{latest}
+use Rattle.history_core.proofs.Forwards.{ReadsUpTo}
+use Rattle.history_core.proofs.check.reads_latest.Given as goal
+
+abbrev pub invariant-loop-place : goal.invariant-loop-place
+invariant-loop-place g l = record {
+  reads : ReadsUpTo (λ x y. IsTrue (g.R.PartialEq.eq x y)) l.fn.opening l.ops l.order l.place-index;
+  held : latest l.fn.opening l.ops (take l.place-index l.order) ≡ Some l.latest;
+}

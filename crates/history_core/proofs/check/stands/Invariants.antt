@@ -1,0 +1,6 @@
+use Rattle.std.proofs.Common.{◌*◌}
+use Rattle.history_core.specs.Orders.{EachStands}
+use Rattle.history_core.proofs.check.stands.Given as goal
+
+abbrev pub invariant-loop-block : goal.invariant-loop-block
+invariant-loop-block g l = EachStands l.ops l.order 0 (l.block * 4096)

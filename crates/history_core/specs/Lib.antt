@@ -1,0 +1,7 @@
+pub mod Band
+pub mod Ends
+pub mod Marks
+pub mod Numbers
+pub mod Orders
+pub mod Ranges
+pub mod Schedules
