@@ -1,0 +1,18 @@
+-- An interleaving grows at its end: a new last event of one side is made after all others, by induction over the
+-- interleaving.
+use Rattle.std.proofs.Common.{List, [], ◌∷◌, ◌++◌, refl, sym, subst}
+use Rattle.fourslot_core.specs.declared.state.State.{State}
+use Rattle.fourslot_core.specs.declared.event.WriteEvent.{WriteEvent}
+use Rattle.fourslot_core.specs.declared.event.ReadEvent.{ReadEvent}
+use Rattle.fourslot_core.specs.Interleaving.{Writes, Reads, Leads}
+use Rattle.fourslot_core.specs.Interleaving.Leads.{Stays, WriterFirst, ReaderFirst}
+
+pub then_writes : {R : Type 0} (ws : List (WriteEvent R)) (rs : List (ReadEvent R)) (s t u : State R) (e : WriteEvent R) → Leads ws rs s t → Writes e t u → Leads (ws ++ e ∷ []) rs s u
+then_writes {R} [] [] s t u e (Stays s' t' q) h = let P : State R → Type 0 = λ v. Writes e v u in WriterFirst e [] [] s u u (subst P (sym q) h) (Stays u u refl)
+then_writes (f ∷ ws) rs s t u e (WriterFirst f' ws' rs' s' m t' g l) h = WriterFirst f (ws ++ e ∷ []) rs s m u g (then_writes ws rs m t u e l h)
+then_writes ws (f ∷ rs) s t u e (ReaderFirst f' ws' rs' s' m t' g l) h = ReaderFirst f (ws ++ e ∷ []) rs s m u g (then_writes ws rs m t u e l h)
+
+pub then_reads : {R : Type 0} (ws : List (WriteEvent R)) (rs : List (ReadEvent R)) (s t u : State R) (e : ReadEvent R) → Leads ws rs s t → Reads e t u → Leads ws (rs ++ e ∷ []) s u
+then_reads {R} [] [] s t u e (Stays s' t' q) h = let P : State R → Type 0 = λ v. Reads e v u in ReaderFirst e [] [] s u u (subst P (sym q) h) (Stays u u refl)
+then_reads (f ∷ ws) rs s t u e (WriterFirst f' ws' rs' s' m t' g l) h = WriterFirst f ws (rs ++ e ∷ []) s m u g (then_reads ws rs m t u e l h)
+then_reads ws (f ∷ rs) s t u e (ReaderFirst f' ws' rs' s' m t' g l) h = ReaderFirst f ws (rs ++ e ∷ []) s m u g (then_reads ws rs m t u e l h)

@@ -1,0 +1,5 @@
+pub mod TwoSides
+pub mod Keeping
+pub mod KeepingFresh
+pub mod Interleaved
+pub mod Mapped

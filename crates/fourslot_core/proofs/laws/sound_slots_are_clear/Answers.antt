@@ -1,0 +1,5 @@
+use Rattle.fourslot_core.proofs.Keeping.{clear_of_sound, opening_unmet, write_unmet, read_unmet}
+use Rattle.fourslot_core.proofs.laws.sound_slots_are_clear.Goals as goal
+
+pub returns : goal.returns
+returns g c = record { apart = clear_of_sound; opening = opening_unmet; write = write_unmet; read = read_unmet }

@@ -1,0 +1,142 @@
+-- The events of the four-slot cell, as functions of its state (H. Simpson, Four-slot fully asynchronous communication
+-- mechanism, 1990). The writer remembers the two slot bits and doesn't load them. Slots are safe registers (L. Lamport, On
+-- Interprocess Communication, 1986): a slot read that meets a write of its slot gives the noise.
+use Rattle.std.specs.Prelude.{◌≡◌, ℕ, ◌+◌, ◌*◌, Bool, true, false, not, ◌&&◌, ◌||◌, None, Some, [], ◌∷◌, if◌then◌else◌}
+use Rattle.fourslot_core.specs.declared.state.Sides.{Sides}
+use Rattle.fourslot_core.specs.declared.state.Place.{Place}
+use Rattle.fourslot_core.specs.declared.state.State.{State}
+use Rattle.fourslot_core.specs.declared.state.Bits.{Bits}
+use Rattle.fourslot_core.specs.declared.state.InSlot.{InSlot}
+use Rattle.fourslot_core.specs.declared.state.Stage.{Stage}
+use Rattle.fourslot_core.specs.declared.state.Stage.TheVariants.{W1, W2, W3, W4, W5}
+use Rattle.fourslot_core.specs.declared.state.ReaderStage.{ReaderStage}
+use Rattle.fourslot_core.specs.declared.state.ReaderStage.TheVariants as reader
+use Rattle.fourslot_core.specs.declared.state.ReadStage.{ReadStage}
+use Rattle.fourslot_core.specs.declared.state.ReadStage.TheVariants.{R1, R2, R3, R4, R5}
+
+abbrev pub side : {X : Type 0} → Sides X → Bool → X
+side s true = s.one
+side s false = s.zero
+
+abbrev pub with_side : {X : Type 0} → Sides X → Bool → X → Sides X
+with_side s true x = record s { one = x }
+with_side s false x = record s { zero = x }
+
+abbrev pub record_in : {R : Type 0} → Sides (Sides R) → Place → R
+record_in s p = side (side s p.pair) p.index
+
+abbrev pub with_record : {R : Type 0} → Sides (Sides R) → Place → R → Sides (Sides R)
+with_record s p x = with_side s p.pair (with_side (side s p.pair) p.index x)
+
+abbrev pub same_bit : Bool → Bool → Bool
+same_bit true b = b
+same_bit false b = not b
+
+abbrev pub same_place : Place → Place → Bool
+same_place p q = same_bit p.pair q.pair && same_bit p.index q.index
+
+abbrev pub place_of : Bool → Bool → Place
+place_of pair index = record { pair = pair; index = index }
+
+-- whether the writer is in its slot, from W2 to W3, and the reader in its, from R4 to R5
+abbrev pub is_writing : Stage → Bool
+is_writing W2 = true
+is_writing _ = false
+
+abbrev pub is_reading : ReaderStage → Bool
+is_reading reader.R4 = true
+is_reading _ = false
+
+-- the event that follows
+abbrev pub next_write : Stage → Stage
+next_write W1 = W2
+next_write W2 = W3
+next_write W3 = W4
+next_write W4 = W5
+next_write W5 = W1
+
+-- the state after the event that follows this one of the writer
+abbrev pub after_write : {R : Type 0} → Stage → R → State R → State R
+-- W1: load reading; take its opposite as pair, and the opposite of the pair's remembered bit as index
+after_write W5 x s = record s { writer = W1; write = place_of (not s.reading) (not (side s.remembered (not s.reading))); item = x }
+-- W2: the slot write begins
+after_write W1 x s = record s { writer = W2; met = s.met || (is_reading s.reader && same_place s.write s.read) }
+-- W3: it ends
+after_write W2 x s = record s { writer = W3; records = with_record s.records s.write s.item }
+-- W4: store the index
+after_write W3 x s = record s { writer = W4; slot = with_side s.slot s.write.pair s.write.index; remembered = with_side s.remembered s.write.pair s.write.index }
+-- W5: store the pair
+after_write W4 x s = record s { writer = W5; latest = s.write.pair }
+
+abbrev pub IsWriteEvent : {R : Type 0} → R → State R → Stage → State R → Type 0
+IsWriteEvent x old stage new = (stage ≡ next_write old.writer) × (new ≡ after_write old.writer x old)
+
+-- the answer of a slot read that ends in this state
+abbrev pub answer : {R : Type 0} → State R → R
+answer s = if s.met then s.noise else record_in s.records s.read
+
+abbrev pub next_read : {R : Type 0} → ReaderStage → State R → ReadStage R
+next_read reader.R1 s = R2
+next_read reader.R2 s = R3
+next_read reader.R3 s = R4
+next_read reader.R4 s = R5 (answer s)
+next_read reader.R5 s = R1
+
+abbrev pub after_read : {R : Type 0} → ReaderStage → State R → State R
+-- R1: load latest
+after_read reader.R5 s = record s { reader = reader.R1; read = place_of s.latest s.read.index }
+-- R2: store the pair in reading
+after_read reader.R1 s = record s { reader = reader.R2; reading = s.read.pair }
+-- R3: load the pair's bit
+after_read reader.R2 s = record s { reader = reader.R3; read = place_of s.read.pair (side s.slot s.read.pair); chosen = Some (place_of s.read.pair (side s.slot s.read.pair)) }
+-- R4: the slot read begins
+after_read reader.R3 s = record s { reader = reader.R4; met = is_writing s.writer && same_place s.write s.read }
+-- R5: it ends
+after_read reader.R4 s = record s { reader = reader.R5 }
+
+abbrev pub IsReadEvent : {R : Type 0} → State R → ReadStage R → State R → Type 0
+IsReadEvent old stage new = (stage ≡ next_read old.reader old) × (new ≡ after_read old.reader old)
+
+abbrev pub both : {X : Type 0} → X → Sides X
+both x = record { zero = x; one = x }
+
+-- the state before the first event: all bits are 0, and the opening stands in all four slots
+abbrev pub opening_state : {R : Type 0} → R → R → State R
+opening_state opening noise =
+    record {
+      noise = noise;
+      latest = false;
+      reading = false;
+      slot = both false;
+      records = both (both opening);
+      writer = W5;
+      write = place_of false false;
+      item = opening;
+      remembered = both false;
+      reader = reader.R5;
+      read = place_of false false;
+      chosen = None;
+      met = false;
+    }
+
+-- what the calls tell of a state: the bits, and the number of each slot whose access has begun and not ended
+abbrev pub bits_of : {R : Type 0} → State R → Bits
+bits_of s = record { latest = s.latest; reading = s.reading; slot = s.slot.zero ∷ s.slot.one ∷ [] }
+
+abbrev pub bit_number : Bool → ℕ
+bit_number true = 1
+bit_number false = 0
+
+abbrev pub slot_number : Place → ℕ
+slot_number p = 2 * bit_number p.pair + bit_number p.index
+
+abbrev pub in_slot_of : {R : Type 0} → State R → InSlot
+in_slot_of s =
+    record {
+      writer = if is_writing s.writer then Some (slot_number s.write) else None;
+      reader = if is_reading s.reader then Some (slot_number s.read) else None;
+    }
+
+-- a new cell whose reader stands just after R3 with this slot
+abbrev pub reader_state : {R : Type 0} → R → R → Place → State R
+reader_state opening noise p = record (opening_state opening noise) { reader = reader.R3; read = p; chosen = Some p }

@@ -1,0 +1,4 @@
+pub mod Events
+pub mod Freshness
+pub mod Interleaving
+pub mod Invariant

@@ -1,0 +1,39 @@
+//! Laws over the definitions.
+
+ghost use Rattle.std.specs.Prelude.{◌≡◌, ◌≢◌, ℕ, ◌+◌, List, [], ◌∷◌, ◌++◌, false};
+ghost use Rattle.fourslot_core.specs.declared.state.State.{State};
+ghost use Rattle.fourslot_core.specs.declared.state.Stage.TheVariants.{W5};
+ghost use Rattle.fourslot_core.specs.declared.event.ReadEvent.{ReadEvent};
+ghost use Rattle.fourslot_core.specs.declared.event.WriteEvent.{WriteEvent};
+ghost use Rattle.fourslot_core.specs.Events.{after_read, after_write, opening_state};
+ghost use Rattle.fourslot_core.specs.Freshness.{floor_after, IsFresh, prev_after};
+ghost use Rattle.fourslot_core.specs.Interleaving.{Leads, Reads, Writes};
+ghost use Rattle.fourslot_core.specs.Invariant.{HasIndex, HasSlot, IsSound, IsUnmet, last_after};
+
+/// The opening is sound, and each event leads from a sound state to a sound one.
+pub fn events_keep_soundness<R>()
+    ensures opening { (opening noise : R) → IsSound (opening_state opening noise) opening }
+    ensures write { (x : R) (s : State R) (last : R) → IsSound s last → IsSound (after_write s.writer x s) (last_after s.writer s last) }
+    ensures read { (s : State R) (last : R) → IsSound s last → IsSound (after_read s.reader s) last }
+{}
+
+/// In a sound state a reader and a writer that have their slots have different ones, so no slot read meets a slot write.
+pub fn sound_slots_are_clear<R>()
+    ensures apart { (s : State R) (last : R) → IsSound s last → HasIndex s.reader → HasSlot s.writer → s.write ≢ s.read }
+    ensures opening { (opening noise : R) → IsUnmet (opening_state opening noise) }
+    ensures write { (x : R) (s : State R) (last : R) → IsSound s last → IsUnmet s → IsUnmet (after_write s.writer x s) }
+    ensures read { (s : State R) (last : R) → IsSound s last → IsUnmet s → IsUnmet (after_read s.reader s) }
+{}
+
+/// The numbers of the records in the slots stay fresh, for any numbering in which each write's is the next.
+pub fn events_keep_freshness<R>()
+    ensures opening { (num : R → ℕ) (opening noise : R) → num opening ≡ 0 → IsFresh num (opening_state opening noise) opening 0 0 }
+    ensures write { (num : R → ℕ) (x : R) (s : State R) (last : R) (prev floor : ℕ) → (s.writer ≡ W5 → num x ≡ num last + 1) → IsSound s last → IsFresh num s last prev floor → IsFresh num (after_write s.writer x s) (last_after s.writer s last) prev floor }
+    ensures read { (num : R → ℕ) (s : State R) (last : R) (prev floor : ℕ) → IsSound s last → IsFresh num s last prev floor → IsFresh num (after_read s.reader s) last (prev_after s.reader num s prev) (floor_after s.reader num last floor) }
+{}
+
+/// An interleaving grows at its end by an event of either side.
+pub fn interleavings_grow<R>()
+    ensures write { (ws : List (WriteEvent R)) (rs : List (ReadEvent R)) (s t u : State R) (e : WriteEvent R) → Leads ws rs s t → Writes e t u → Leads (ws ++ e ∷ []) rs s u }
+    ensures read { (ws : List (WriteEvent R)) (rs : List (ReadEvent R)) (s t u : State R) (e : ReadEvent R) → Leads ws rs s t → Reads e t u → Leads ws (rs ++ e ∷ []) s u }
+{}
