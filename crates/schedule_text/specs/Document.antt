@@ -1,0 +1,38 @@
+-- The document that bytes stand for, or the first refusal with its first key (this project's own, over RFC 8259 as serde_json
+-- reads it).
+use Rattle.std.specs.Prelude.{ℕ, List, length, codes, Bool, false, nat_le, if◌then◌else◌, Option, None, option_and_then, Result, Err}
+use Rattle.std.specs.Option.{option_map_or}
+use Rattle.std.specs.Str.{bytes_eq, is_utf8}
+use Rattle.serde_json.specs.Data.{Data}
+use Rattle.serde_json.specs.Read.{read}
+use Rattle.serde_json.specs.Find.{get, as_str}
+use Rattle.schedule_text.specs.declared.document.Document.{Document}
+use Rattle.schedule_text.specs.declared.document.DocError.{DocError}
+use Rattle.schedule_text.specs.declared.document.DocError.TheVariants.{Long, NotJson, Kind}
+use Rattle.schedule_text.specs.declared.document.Want.{Want}
+use Rattle.schedule_text.specs.declared.document.Want.TheVariants.{Check}
+use Rattle.schedule_text.specs.Check.{check_in}
+use Rattle.schedule_text.specs.Refusals.{◌>>=◌, must, some_or}
+
+-- the value that the bytes are, as serde_json reads them
+abbrev pub value_of : List ℕ → Option Data
+value_of bytes = if is_utf8 bytes then read bytes else None
+
+abbrev pub kind_in : Data → Option (List ℕ)
+kind_in d = option_and_then as_str (get (codes "kind") d)
+
+abbrev pub is_kind : List ℕ → Data → Bool
+is_kind name d = option_map_or (bytes_eq name) (kind_in d) false
+
+-- a document of a kind that the command takes
+abbrev pub document_in : Want → Data → Result Document DocError
+document_in Check d = if is_kind (codes "check") d then check_in d else Err Kind
+
+abbrev pub max_bytes : ℕ
+max_bytes = 1048576
+
+unfoldable pub document_of : Want → List ℕ → Result Document DocError
+document_of want bytes = do
+  short_enough ← must (nat_le (length bytes) max_bytes) Long
+  d ← some_or NotJson (value_of bytes)
+  document_in want d

@@ -1,0 +1,10 @@
+-- The keys of a document.
+use Rattle.std.specs.Prelude.{ℕ, List, codes}
+use Rattle.schedule_text.specs.declared.key.Key.{Key}
+use Rattle.schedule_text.specs.declared.key.Key.TheVariants.{Opening, Limit, Ops, Order}
+
+abbrev pub name_of : Key → List ℕ
+name_of Opening = codes "opening"
+name_of Limit = codes "limit"
+name_of Ops = codes "ops"
+name_of Order = codes "order"

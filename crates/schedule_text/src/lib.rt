@@ -1,0 +1,17 @@
+//! The documents that `fsr` reads and the reports that it prints: JSON text to values, and values to lines.
+#![tactic(auto)]
+
+mod check;
+mod document;
+mod fields;
+mod key;
+mod read;
+mod report;
+mod shape;
+mod text;
+
+pub use document::{DocError, Document, Want};
+pub use key::Key;
+pub use read::read_document;
+pub use report::Report;
+pub use text::report_text;

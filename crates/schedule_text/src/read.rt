@@ -1,0 +1,54 @@
+ghost use Rattle.std.specs.Prelude.{◌≡◌};
+ghost use Rattle.serde_json.specs.View.{view};
+ghost use Rattle.schedule_text.specs.Document.{document_in, document_of, is_kind, value_of};
+ghost use Rattle.schedule_text.specs.Refusals.{Gives, some_or};
+
+use crate::check::check_in;
+use crate::fields::must;
+use crate::{DocError, Document, Want};
+use serde_json::Value;
+use std::alloc::Global;
+
+const MAX_BYTES: usize = 1_048_576;
+
+/// The document that the bytes stand for, or the first refusal with its first key.
+#[tactic(auto, unfolding(crate::specs::Document::document_of))]
+pub fn read_document(alloc: Global, want: Want, bytes: &[u8]) -> Result<Document, DocError>
+    ensures { Gives (λ d. d) result (document_of want bytes.now) }
+{
+    must(bytes.len() <= MAX_BYTES, DocError::Long)?;
+    let value = value_of(alloc, bytes)?;
+    document_in(alloc, want, &value)
+}
+
+#[tactic(auto, using(crate::proofs::ReadLemmas::value_of_read, crate::proofs::ReadLemmas::value_of_refused))]
+fn value_of(alloc: Global, bytes: &[u8]) -> Result<Value, DocError>
+    ensures { Gives view result (some_or DocError.NotJson (value_of bytes.now)) }
+{
+    match Value::from_slice(alloc, bytes) {
+        Ok(value) => Ok(value),
+        Err(e) if e.is_memory() => Err(DocError::NoMemory),
+        Err(_) => Err(DocError::NotJson),
+    }
+}
+
+fn document_in(alloc: Global, want: Want, value: &Value) -> Result<Document, DocError>
+    ensures { Gives (λ d. d) result (document_in want (view value.now)) }
+{
+    match want {
+        Want::Check if is_kind(value, "check") => check_in(alloc, value),
+        Want::Check => Err(DocError::Kind),
+    }
+}
+
+fn is_kind(value: &Value, name: &str) -> bool
+    ensures { result ≡ is_kind name.now (view value.now) }
+{
+    match value.get("kind") {
+        Some(kind) => match kind.as_str() {
+            Some(text) => name == text,
+            None => false,
+        },
+        None => false,
+    }
+}

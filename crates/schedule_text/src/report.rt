@@ -1,0 +1,7 @@
+use history_core::Verdict;
+
+/// What a command prints.
+#[derive(Drop)]
+pub enum Report {
+    Verdict(Verdict),
+}
