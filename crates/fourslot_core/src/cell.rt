@@ -1,12 +1,12 @@
-ghost use Rattle.std.specs.Prelude.{◌≡◌, Bool, true, false, not};
+ghost use Rattle.std.specs.Prelude.{◌≡◌, ◌<◌, Bool, true, false, not};
 ghost use Rattle.fourslot_core.specs.declared.state.State.{State};
-ghost use Rattle.fourslot_core.specs.Events.{bits_of, bit_number, in_slot_of, IsReadEvent, IsWriteEvent, opening_state, same_place, side, slot_number, with_side};
+ghost use Rattle.fourslot_core.specs.Events.{bits_of, bit_number, in_slot_of, IsReadEvent, IsWriteEvent, opening_state, reader_state, same_place, side, slot_number, with_side};
 
 use crate::state::{Bits, InSlot, Place, ReadStage, ReaderStage, Sides, Stage, State};
 use std::marker::Model;
 
 impl<T: Copy> Sides<T> {
-    pub(crate) fn at(&self, bit: bool) -> T
+    fn at(&self, bit: bool) -> T
         ensures { result ≡ side self.now bit }
     {
         if bit { self.one } else { self.zero }
@@ -34,6 +34,17 @@ impl Place {
         ensures { result ≡ slot_number self.now }
     {
         2 * (self.pair as u8) + self.index as u8
+    }
+
+    /// The slot with this number.
+    pub(crate) fn numbered(number: u8) -> Self
+        requires { number < 4 }
+        ensures { slot_number result ≡ number }
+    {
+        Place {
+            pair: number >= 2,
+            index: number == 1 || number == 3,
+        }
     }
 }
 
@@ -86,6 +97,17 @@ impl<R: Copy> CellCore<R> {
                 met: false,
             },
         }
+    }
+
+    /// A new cell whose reader stands just after R3 with this slot.
+    pub(crate) fn with_reader(opening: R, noise: R, place: Place) -> Self
+        ensures { result ≡ reader_state opening noise place }
+    {
+        let mut cell = CellCore::new(opening, noise);
+        cell.state.reader = ReaderStage::R3;
+        cell.state.read = place;
+        cell.state.chosen = Some(place);
+        cell
     }
 
     /// Makes the writer's next event and tells which it was. The item of a write is taken at W1; at the other events it has

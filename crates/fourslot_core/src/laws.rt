@@ -1,14 +1,26 @@
 //! Laws over the definitions.
 
-ghost use Rattle.std.specs.Prelude.{◌≡◌, ◌≢◌, ℕ, ◌+◌, List, [], ◌∷◌, ◌++◌, false};
+ghost use Rattle.std.specs.Prelude.{◌≡◌, ◌≢◌, ℕ, ◌+◌, ◌<◌, List, [], ◌∷◌, ◌++◌, false};
 ghost use Rattle.fourslot_core.specs.declared.state.State.{State};
 ghost use Rattle.fourslot_core.specs.declared.state.Stage.TheVariants.{W5};
 ghost use Rattle.fourslot_core.specs.declared.event.ReadEvent.{ReadEvent};
 ghost use Rattle.fourslot_core.specs.declared.event.WriteEvent.{WriteEvent};
-ghost use Rattle.fourslot_core.specs.Events.{after_read, after_write, opening_state};
+ghost use Rattle.fourslot_core.specs.Events.{after_read, after_write, opening_state, reader_state, slot_number};
 ghost use Rattle.fourslot_core.specs.Freshness.{floor_after, IsFresh, prev_after};
 ghost use Rattle.fourslot_core.specs.Interleaving.{Leads, Reads, Writes};
 ghost use Rattle.fourslot_core.specs.Invariant.{HasIndex, HasSlot, IsSound, IsUnmet, last_after};
+
+use crate::cell::CellCore;
+use crate::state::Place;
+
+/// A new cell whose reader stands just after R3 with this slot, all bits 0. No schedule of a new cell leads to a slot read
+/// that meets a slot write, so only such a state shows what the noise does.
+pub fn reader_at<R: Copy>(opening: R, noise: R, slot: u8) -> CellCore<R>
+    requires { slot < 4 }
+    ensures { (p : Place) × (slot_number p ≡ slot) × (result ≡ reader_state opening noise p) }
+{
+    CellCore::with_reader(opening, noise, Place::numbered(slot))
+}
 
 /// The opening is sound, and each event leads from a sound state to a sound one.
 pub fn events_keep_soundness<R>()

@@ -7,6 +7,8 @@ mod event;
 pub mod laws;
 mod schedule;
 mod state;
+#[cfg(test)]
+mod tests;
 
 pub use cell::CellCore;
 pub use event::{ReadEvent, WriteEvent};
