@@ -28,6 +28,10 @@ pub record Span (R : Type 0) : Type 0 where
   pub plans : List (List (Wish R))
   pub steps : List ℕ
 
+-- how many of these steps are an actor's
+abbrev pub steps_of : ℕ → List ℕ → ℕ
+steps_of who steps = count_by (λ s. nat_eq s who) steps
+
 -- the positions of an actor's steps, where the first of these steps has the position `at`
 abbrev pub positions : ℕ → ℕ → List ℕ → List ℕ
 positions at who [] = []
@@ -79,9 +83,9 @@ module _ {R : Type 0} where
   abbrev pub HasShape : List (Span R) → List Term → List (Op R) → Type 0
   HasShape spans terms ops = HasShapeFrom 0 0 spans terms ops
 
-  -- how many of the first `step` steps of a term are an actor's
+  -- how many steps an actor has before a term's step number `step`
   abbrev pub steps_before : Span R → ℕ → ℕ → ℕ
-  steps_before span step who = count_by (λ s. nat_eq s who) (take step span.steps)
+  steps_before span step who = steps_of who (take step span.steps)
 
   -- a term's step number `step` is of an actor that has no operation left
   abbrev pub Overruns : Span R → ℕ → Type 0
