@@ -1,0 +1,14 @@
+//! A register of several writers and readers from a matrix of cells that have one writer and one reader each. The idea
+//! of such a matrix with tags is credited to P. Vitányi and B. Awerbuch, FOCS 1986; the rules are this project's own.
+#![tactic(auto)]
+
+mod matrix;
+mod schedule;
+mod stamp;
+#[cfg(test)]
+mod tests;
+
+pub use history_core::Wish;
+pub use matrix::{MatrixCore, MatrixStage, Outcome};
+pub use schedule::{MatrixReport, MatrixSchedule, MatrixTerm};
+pub use stamp::{Stamp, Stamped};

@@ -1,0 +1,230 @@
+//! The matrix and its events, each one whole access of a cell.
+
+ghost use Rattle.std.specs.Prelude.{◌≡◌, ◌+◌, ◌-◌, ◌*◌, ◌<◌, ◌≤◌, ◌^◌, ℕ, length, replicate, vec_len, IfOk, Some, slice_get, slice_set};
+ghost use Rattle.matrix_core.specs.declared.matrix.Progress.{Progress};
+ghost use Rattle.matrix_core.specs.Events.{Matrix, after_access, after_read, after_write, cell_place, chosen, IsMatrix, opening_matrix, other, size, stage_of};
+
+use crate::stamp::{Stamp, Stamped};
+use history_core::{MAX_LIMIT, Wish};
+use std::alloc::{AllocError, Global};
+use std::marker::Model;
+
+/// What an operation answers.
+#[derive(Clone, Copy, Debug, PartialEq, Eq)]
+pub enum Outcome<R> {
+    /// A write took place, under this stamp.
+    Written(Stamp),
+    /// A read's answer.
+    Seen(Stamped<R>),
+    /// A write was refused; this is what it saw last.
+    Ended(Stamped<R>),
+}
+
+/// One event of a matrix.
+#[derive(Clone, Copy, Debug, PartialEq, Eq)]
+pub enum MatrixStage<R> {
+    /// The cell that this process writes was read.
+    Got { from: usize },
+    /// The cell that this process reads was written.
+    Put { to: usize },
+    /// The last cell was written, which ends the operation.
+    Done(Outcome<R>),
+}
+
+/// How far a process is: the accesses that its operation has made, what the operation is to do, the greatest record that
+/// it saw, the process's own record, and what the operation answers once it has chosen.
+#[derive(Clone, Copy)]
+pub struct Progress<R> {
+    pub done: usize,
+    pub wish: Wish<R>,
+    pub seen: Stamped<R>,
+    pub own: Stamped<R>,
+    pub outcome: Outcome<R>,
+}
+
+/// The matrix of n processes: process i writes cell (i, j) and process j reads it. The cells stand row after row; a
+/// process keeps its own record in its progress, and cell (i, i) isn't used.
+#[derive(Drop)]
+pub struct MatrixCore<R> {
+    limit: u64,
+    cells: Vec<Stamped<R>>,
+    lines: Vec<Progress<R>>,
+}
+
+impl<R> Model for MatrixCore<R> {
+    ghost Value = { Matrix R };
+
+    ghost view = { λ m. record { limit = m.limit; cells = m.cells.items; lines = m.lines.items } };
+
+    ghost invariant = { λ m. IsMatrix (record { limit = m.limit; cells = m.cells.items; lines = m.lines.items }) };
+}
+
+impl<R: Copy> MatrixCore<R> {
+    /// The matrix of `n` processes in which every record is the opening, with tag 0 of writer 0.
+    pub fn new(alloc: Global, n: usize, limit: u64, opening: R) -> Result<MatrixCore<R>, AllocError>
+        requires processes { 2 ≤ n × n ≤ 16 }
+        requires limit { 1 ≤ limit × limit ≤ MAX_LIMIT }
+        ensures matrix { IfOk result (λ core. core ≡ opening_matrix n limit opening) }
+        ensures size { IfOk result (λ core. size core ≡ n) }
+    {
+        let first = Stamped {
+            stamp: Stamp { tag: 0, writer: 0 },
+            item: opening,
+        };
+        let line = Progress {
+            done: 0,
+            wish: Wish::Read,
+            seen: first,
+            own: first,
+            outcome: Outcome::Seen(first),
+        };
+        Ok(MatrixCore {
+            limit,
+            cells: filled(alloc, first, n * n)?,
+            lines: filled(alloc, line, n)?,
+        })
+    }
+
+    /// The next access of a process: it reads a cell of its column, or writes one of its row. The wish counts at the
+    /// first access of an operation and has no effect at the others.
+    pub fn step(&mut self, process: usize, wish: Wish<R>) -> MatrixStage<R>
+        requires { process < size self.old }
+        ensures matrix { self.new ≡ after_access self.old process wish }
+        ensures stage { result ≡ stage_of self.old process }
+        ensures size { size self.new ≡ size self.old }
+    {
+        let n = self.lines.len();
+        let line = line_at(&self.lines, process);
+        if line.done + 1 < n {
+            let from = other(process, line.done);
+            let answer = cell_at(&self.cells, cell_index(n, from, process));
+            self.lines[process] = read_line(n, self.limit, process, line, wish, answer);
+            return MatrixStage::Got { from };
+        }
+        let to = other(process, line.done + 1 - n);
+        put_cell(&mut self.cells, cell_index(n, process, to), line.own);
+        self.lines[process] = write_line(n, line);
+        if line.done + 3 == 2 * n {
+            MatrixStage::Done(line.outcome)
+        } else {
+            MatrixStage::Put { to }
+        }
+    }
+}
+
+fn line_at<R: Copy>(lines: &[Progress<R>], process: usize) -> Progress<R>
+    requires process { process < length lines.now }
+    requires small { length lines.now ≤ 16 }
+    requires inside { (i : ℕ) (line : Progress R) → slice_get lines.now i ≡ Some line → line.done + 3 ≤ 2 * length lines.now }
+    ensures at { slice_get lines.now process ≡ Some result }
+    ensures inside { result.done + 3 ≤ 2 * length lines.now }
+    ensures small { length lines.now ≤ 16 }
+{
+    lines[process]
+}
+
+fn cell_at<R: Copy>(cells: &[Stamped<R>], index: usize) -> Stamped<R>
+    requires { index < length cells.now }
+    ensures { slice_get cells.now index ≡ Some result }
+{
+    cells[index]
+}
+
+fn put_cell<R: Copy>(cells: &mut Vec<Stamped<R>>, index: usize, item: Stamped<R>)
+    requires { index < vec_len cells.old }
+    ensures { cells.new.items ≡ slice_set cells.old.items index item }
+{
+    cells[index] = item;
+}
+
+fn cell_index(n: usize, writer: usize, reader: usize) -> usize
+    requires small { n ≤ 16 }
+    requires writer { writer < n }
+    requires reader { reader < n }
+    ensures place { result ≡ cell_place n writer reader }
+    ensures inside { result < n * n }
+{
+    writer * n + reader
+}
+
+/// A list of `count` times the same item.
+fn filled<T: Copy + Drop>(alloc: Global, item: T, count: usize) -> Result<Vec<T>, AllocError>
+    requires { count ≤ 256 }
+    ensures { IfOk result (λ v. v.items ≡ replicate count item) }
+{
+    let mut items = Vec::with_capacity(alloc, count)?;
+    for _i in 0..count {
+        items.push(item)?;
+    }
+    Ok(items)
+}
+
+/// The other processes in rising order, from 0.
+fn other(process: usize, k: usize) -> usize
+    requires { k < 64 }
+    ensures { result ≡ other process k }
+{
+    if k < process { k } else { k + 1 }
+}
+
+fn read_line<R: Copy>(
+    n: usize,
+    limit: u64,
+    process: usize,
+    line: Progress<R>,
+    wish: Wish<R>,
+    answer: Stamped<R>,
+) -> Progress<R>
+    requires { line.done + 1 < n }
+    ensures { result ≡ after_read n limit process wish line answer }
+{
+    let mut line = line;
+    if line.done == 0 {
+        line.wish = wish;
+        line.seen = line.own;
+    }
+    line.seen = line.seen.or_greater(answer);
+    line.done += 1;
+    if line.done + 1 == n {
+        choose(limit, process, line)
+    } else {
+        line
+    }
+}
+
+fn choose<R: Copy>(limit: u64, process: usize, line: Progress<R>) -> Progress<R>
+    ensures { result ≡ chosen limit process line }
+{
+    let mut line = line;
+    match line.wish {
+        Wish::Read => {
+            line.own = line.seen;
+            line.outcome = Outcome::Seen(line.seen);
+        }
+        Wish::Write(item) => match line.seen.stamp.next(limit, process) {
+            Some(stamp) => {
+                line.own = Stamped { stamp, item };
+                line.outcome = Outcome::Written(stamp);
+            }
+            None => {
+                line.own = line.seen;
+                line.outcome = Outcome::Ended(line.seen);
+            }
+        },
+    }
+    line
+}
+
+fn write_line<R: Copy>(n: usize, line: Progress<R>) -> Progress<R>
+    requires inside { line.done + 3 ≤ 2 * n }
+    requires small { n ≤ 16 }
+    ensures { result ≡ after_write n line }
+{
+    let mut line = line;
+    line.done = if line.done + 3 == 2 * n {
+        0
+    } else {
+        line.done + 1
+    };
+    line
+}
