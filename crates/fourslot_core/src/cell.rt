@@ -186,6 +186,20 @@ impl<R: Copy> CellCore<R> {
         }
     }
 
+    /// The number of the slot that the last W1 chose, 0 before the first.
+    pub fn write_slot(&self) -> u8
+        ensures { result ≡ slot_number self.now.write }
+    {
+        self.state.write.number()
+    }
+
+    /// The number of the slot of the reader's pair and index; from R3 to R5 it is the slot that R3 chose.
+    pub fn read_slot(&self) -> u8
+        ensures { result ≡ slot_number self.now.read }
+    {
+        self.state.read.number()
+    }
+
     pub fn bits(&self) -> Bits
         ensures { result ≡ bits_of self.now }
     {

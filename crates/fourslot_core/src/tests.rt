@@ -66,6 +66,12 @@ fn follows(rt: &impl Abort, cell: &mut CellCore<u64>, sights: &[Sight]) {
         assert_eq!(rt; told, sight.bits);
         let (writer, reader) = sight.in_slot;
         assert_eq!(rt; cell.in_slot(), InSlot { writer, reader });
+        if writer.is_some() {
+            assert_eq!(rt; Some(cell.write_slot()), writer);
+        }
+        if reader.is_some() {
+            assert_eq!(rt; Some(cell.read_slot()), reader);
+        }
     }
 }
 
