@@ -93,6 +93,10 @@ abbrev pub is_write_at : {R : Type 0} → Option (Op R) → Bool
 is_write_at None = false
 is_write_at (Some o) = is_write o.kind
 
+-- no operation that the order lists is a write
+abbrev pub HasNoWrites : {R : Type 0} → List (Op R) → List ℕ → Type 0
+HasNoWrites ops order = (i p : ℕ) → slice_get order i ≡ Some p → is_write_at (slice_get ops p) ≡ false
+
 -- how many writes at such places the order lists
 abbrev pub writes_in : {R : Type 0} → (ℕ → Bool) → List (Op R) → List ℕ → ℕ
 writes_in within ops order = count_by (λ q. within q && is_write_at (slice_get ops q)) order
