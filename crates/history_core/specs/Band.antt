@@ -1,4 +1,4 @@
--- The law of a band: its reading lies between its limits.
+-- The law of a band, this project's own: its reading lies between its limits.
 use Rattle.std.specs.Prelude.{Bool, ◌&&◌, nat_le}
 use Rattle.history_core.specs.declared.band.Band.{Band}
 

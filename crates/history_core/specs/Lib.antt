@@ -1,3 +1,4 @@
+-- What the contracts speak of.
 pub mod Band
 pub mod Ends
 pub mod Marks

@@ -1,5 +1,7 @@
 -- Orders of a history: which operations they list, and when they are atomic. An order is a list of places in the
--- list of operations.
+-- list of operations. Operations as intervals, precedence and atomic orders are those of L. Lamport, On Interprocess
+-- Communication, Parts I and II, Distributed Computing 1, 1986; unfinished operations in an order, refused writes and terms
+-- are this project's own.
 use Rattle.std.specs.Prelude.{◌≡◌, ◌≢◌, ℕ, ◌+◌, ◌<◌, ◌≤◌, Bool, true, false, ◌&&◌, nat_eq, nat_lt, nat_le, List, length, take, drop, slice_get, Option, None, Some, IsSome, IsSomeAnd}
 use Rattle.std.specs.List.{count_by, fold, list_all}
 use Rattle.std.specs.Option.{option_and_then}

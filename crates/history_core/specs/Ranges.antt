@@ -1,4 +1,4 @@
--- Places from a first one up to a next one.
+-- Places from a first one up to a next one, and the writes among them: the check of the limit.
 use Rattle.std.specs.Prelude.{◌≡◌, ℕ, ◌+◌, ◌≤◌, Bool, true, ◌&&◌, nat_le, nat_lt, if◌then◌else◌}
 use Rattle.history_core.specs.declared.history.Kind.{Kind}
 use Rattle.history_core.specs.declared.history.Kind.TheVariants.{Refused}

@@ -1,6 +1,6 @@
 -- What a schedule says of the history that plays it: which operations it has, with their intervals. A schedule names an
 -- actor for each step, and for each actor what its operations are to do. Positions of steps are counted from 0 through
--- the whole schedule.
+-- the whole schedule. Schedules, terms and shape are this project's own.
 use Rattle.std.specs.Prelude.{◌≡◌, ℕ, ◌+◌, ◌-◌, ◌*◌, ◌/◌, ◌<◌, ◌≤◌, List, [], ◌∷◌, ◌++◌, length, take, slice_get, nat_eq, if◌then◌else◌, Option, None, Some, ◌⊎◌}
 use Rattle.std.specs.List.{count_by}
 use Rattle.std.specs.Option.{option_and_then}

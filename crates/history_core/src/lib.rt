@@ -8,6 +8,8 @@ mod history;
 pub mod laws;
 mod list;
 mod play;
+#[cfg(test)]
+mod tests;
 
 pub use band::Band;
 pub use check::check_order;

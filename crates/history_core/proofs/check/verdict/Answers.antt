@@ -1,3 +1,4 @@
+-- Each rule was tested alone, so the first test that fails names the first broken rule.
 use Rattle.history_core.proofs.check.verdict.Goals as goal
 use Rattle.history_core.proofs.check.verdict.Goals.{then-not-lists_places-via-then-not-lists_places, then-not-lists_places-via-else-not-lists_places+then-not-stands}
 

@@ -1,3 +1,4 @@
+-- Where b stands before a that precedes it, both have one number, and then by its kind b can't stand first.
 use Rattle.std.proofs.Common.{◌≡◌, ℕ, ◌<◌, ◌≤◌, List, slice_get, Option, subst, inl, inr, arith}
 use Rattle.std.specs.Prelude.{IfSome}
 use Rattle.std.proofs.lemmas.Bool.{cases_lt, cases_Bool}

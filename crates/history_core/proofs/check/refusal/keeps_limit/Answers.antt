@@ -1,10 +1,11 @@
+-- One more entry keeps or breaks the rule by the count before it alone.
 use Rattle.std.proofs.Common.{◌≡◌, ℕ, ◌<◌, List, slice_get, get_or, length, Some, arith, refl, sym, ap, ◌∙◌}
 use Rattle.std.proofs.lemmas.Option.{slice_get-get_or, slice_get_read}
 use Rattle.history_core.specs.declared.history.Op.{Op}
 use Rattle.history_core.specs.Orders.{ListsPlaces}
 use Rattle.history_core.specs.Ranges.{writes_after}
 use Rattle.history_core.proofs.Limits.{counts_start, counts_step, counts_all, counts_broken}
-use Rattle.history_core.proofs.check.keeps_limit.Goals as goal
+use Rattle.history_core.proofs.check.refusal.keeps_limit.Goals as goal
 
 listed : {R : Type 0} (ops : List (Op R)) (order : List ℕ) (i : ℕ) (o : Op R) → ListsPlaces ops order → i < length order → o ≡ get_or ops (get_or order i 0) o → (slice_get order i ≡ Some (get_or order i 0)) × (slice_get ops (get_or order i 0) ≡ Some o)
 listed ops order i o places l e =

@@ -1,8 +1,9 @@
+-- A term's places are those from its first up to the least first of the terms after it.
 use Rattle.std.proofs.Common.{◌≡◌, ◌-◌, get_or, arith, refl}
 use Rattle.std.proofs.lemmas.List.{get_or_default}
 use Rattle.history_core.specs.declared.history.Term.{Term}
 use Rattle.history_core.proofs.Limits.{terms_start, terms_step, terms_broken}
-use Rattle.history_core.proofs.check.refuses_lawfully.Goals as goal
+use Rattle.history_core.proofs.check.refusal.refuses_lawfully.Goals as goal
 
 pub loop-k-init : goal.loop-k-init
 loop-k-init g c = terms_start _ _ _

@@ -1,3 +1,4 @@
+-- A place that is met again stands twice; and after all entries a mark is the number of times that its place stands.
 use Rattle.std.proofs.Common.{◌≡◌, ℕ, ◌+◌, ◌<◌, ◌≤◌, Bool, List, take, slice_get, length, Some, arith, refl, sym, subst, ap, ◌∙◌, inl, inr}
 use Rattle.std.proofs.lemmas.Bool.{cases_lt}
 use Rattle.std.proofs.lemmas.List.{take_all}
@@ -6,7 +7,7 @@ use Rattle.history_core.specs.declared.history.Op.{Op}
 use Rattle.history_core.specs.Orders.{times_of, EachStands, MayStand}
 use Rattle.history_core.specs.Marks.{times_marked}
 use Rattle.history_core.proofs.Counting.{marked_twice, block_step, block_all}
-use Rattle.history_core.proofs.check.block_stands.Goals as goal
+use Rattle.history_core.proofs.check.listing.block_stands.Goals as goal
 
 -- the counts over the whole order
 all_times : (order : List ℕ) (base : ℕ) (seen : List Bool) (n : ℕ) → length order ≤ n → ((k : ℕ) → k < length seen → times_of (base + k) (take n order) ≡ times_marked seen k) → (k : ℕ) → k < length seen → times_of (base + k) order ≡ times_marked seen k

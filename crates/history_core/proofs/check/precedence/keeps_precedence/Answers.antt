@@ -1,7 +1,8 @@
+-- Some later entry precedes this one exactly where the least later end is before its beginning.
 use Rattle.std.proofs.Common.{◌-◌, arith, refl}
 use Rattle.history_core.proofs.Listed.{listed_read, keeps_from_none}
 use Rattle.history_core.proofs.Backwards.{least_step, none_step, broken_at}
-use Rattle.history_core.proofs.check.keeps_precedence.Goals as goal
+use Rattle.history_core.proofs.check.precedence.keeps_precedence.Goals as goal
 
 pub returns-then-is_before : goal.returns-then-is_before
 returns-then-is_before g c =

@@ -1,8 +1,9 @@
+-- One more entry keeps or breaks the rule by its own kind and item alone.
 use Rattle.std.proofs.Common.{arith, refl, ap, ◌∙◌}
 use Rattle.history_core.specs.Orders.{left_by}
 use Rattle.history_core.proofs.Listed.{listed_read}
 use Rattle.history_core.proofs.Forwards.{latest_step, reads_step, reads_broken, reads_all}
-use Rattle.history_core.proofs.check.reads_latest.Goals as goal
+use Rattle.history_core.proofs.check.reading.reads_latest.Goals as goal
 
 pub returns-in-None : goal.returns-in-None
 returns-in-None g c =

@@ -1,7 +1,8 @@
+-- The entries met so far have the latest record, and the one after them is known.
 use Rattle.std.proofs.Common.{◌≡◌, take, Some, IsTrue}
 use Rattle.history_core.specs.Orders.{latest}
 use Rattle.history_core.proofs.Forwards.{ReadsUpTo}
-use Rattle.history_core.proofs.check.reads_latest.Given as goal
+use Rattle.history_core.proofs.check.reading.reads_latest.Given as goal
 
 abbrev pub invariant-loop-place : goal.invariant-loop-place
 invariant-loop-place g l = record {
