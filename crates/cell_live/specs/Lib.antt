@@ -1,0 +1,3 @@
+pub mod Running
+pub mod Triple
+pub mod TripleWords

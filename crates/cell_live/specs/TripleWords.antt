@@ -1,0 +1,51 @@
+-- The words of the contract, of the passes of a triple buffer.
+use Rattle.std.specs.Prelude.{◌≡◌, ℕ, List}
+use Rattle.cell_live.specs.Running.{Name, IsName}
+use Rattle.cell_live.specs.Triple.{first_put, first_get, put_or, get_or}
+use Rattle.cell_live.specs.declared.triple.notes.PutNotes.{PutNotes}
+use Rattle.cell_live.specs.declared.triple.notes.GetNotes.{GetNotes}
+use Rattle.cell_live.specs.declared.triple.TripleCell.{TripleCell}
+use Rattle.cell_live.specs.declared.triple.TriplePut.{TriplePut}
+use Rattle.cell_live.specs.declared.triple.TripleGet.{TripleGet}
+use Rattle.cell_live.specs.declared.triple.TripleTold.{TripleTold}
+
+module _ {T : Type 0} where
+  abbrev pub cell_name : TripleCell T → Name T
+  cell_name c = record { table = c.slots.shared.table_id; opening = c.slots.shared.key }
+
+  abbrev pub put_notes : TriplePut T → PutNotes T
+  put_notes p = put_or (first_put p.last) p.seat.me.0
+
+  abbrev pub get_notes : TripleGet T → GetNotes T
+  get_notes g = get_or (first_get g.last) g.seat.me.0
+
+  abbrev pub is_put_of : TripleCell T → TriplePut T → Type 0
+  is_put_of c p = IsName (record { table = p.seat.table_id; opening = (put_notes p).opening.value }) (cell_name c)
+
+  abbrev pub is_get_of : TripleCell T → TripleGet T → Type 0
+  is_get_of c g = IsName (record { table = g.seat.table_id; opening = (get_notes g).opening.value }) (cell_name c)
+
+  abbrev pub is_told_of : TripleCell T → TripleTold T → Type 0
+  is_told_of c t = t.seat.table_id ≡ c.slots.shared.table_id
+
+  abbrev pub written_by : TriplePut T → List T
+  written_by p = (put_notes p).written
+
+  abbrev pub answers_of : TripleGet T → List T
+  answers_of g = (get_notes g).answers
+
+  abbrev pub told_to : TripleGet T → List T
+  told_to g = (get_notes g).told
+
+  abbrev pub swaps_of_put : TriplePut T → ℕ
+  swaps_of_put p = (put_notes p).swaps
+
+  abbrev pub loads_of : TripleGet T → ℕ
+  loads_of g = (get_notes g).loads
+
+  abbrev pub swaps_of : TripleGet T → ℕ
+  swaps_of g = (get_notes g).swaps
+
+  -- the word that the last load found
+  abbrev pub found_by : TripleGet T → ℕ
+  found_by g = (get_notes g).found

@@ -1,0 +1,12 @@
+//! Registers with one writer and one reader, which wait for nobody.
+#![tactic(auto)]
+
+mod cell;
+mod moves;
+mod triple;
+
+pub use cell::{Calls, Cell, Kept, Lawful};
+pub use triple::{TripleCell, TripleGet, TriplePut, TripleTold};
+
+#[cfg(test)]
+mod tests;

@@ -1,0 +1,137 @@
+//! The calls of the triple buffer.
+ghost use Rattle.std.specs.Prelude.{◌≡◌, ℕ, ◌+◌, ◌<◌, ◌≤◌, [], ◌∷◌, ◌++◌};
+ghost use Rattle.cell_live.specs.Running.{IsAnswer};
+ghost use Rattle.cell_live.specs.TripleWords.{is_put_of, is_get_of, is_told_of, written_by, answers_of, told_to, swaps_of_put, loads_of, swaps_of, found_by};
+
+use super::plays::{
+    Ends, GetSwaps, GetTakes, Hears, Looks, Parts, PutSwaps, PutTakes, Tells, Yields,
+};
+use super::{TripleCell, TripleGet, TriplePut, TripleTold};
+use crate::cell::{Calls, Cell, Kept, Lawful};
+use crate::moves::{copy_out, empty, fill};
+use atomic_table::Table;
+use std::alloc::{AllocError, Global};
+
+impl<T: Lawful> Calls<T> for TripleCell<T> {
+    type Put = TriplePut<T>;
+
+    type Get = TripleGet<T>;
+
+    type Told = TripleTold<T>;
+
+    ghost opening = { λ c. c.slots.shared.key };
+
+    ghost is_put = { is_put_of };
+
+    ghost is_get = { is_get_of };
+
+    ghost is_told = { is_told_of };
+
+    ghost written = { written_by };
+
+    ghost answers = { answers_of };
+
+    ghost told = { told_to };
+
+    ghost named = { λ t. t.item };
+
+    ghost put_accesses = { swaps_of_put };
+
+    ghost get_accesses = { λ g. loads_of g + swaps_of g };
+
+    fn make(alloc: Global, first: T) -> Result<(Self, TriplePut<T>, TripleGet<T>), AllocError> {
+        let mut slots = Vec::new(alloc);
+        slots.push(first).map_err(|_| AllocError)?;
+        slots.push(first).map_err(|_| AllocError)?;
+        slots.push(first).map_err(|_| AllocError)?;
+        let (slots, mut put) = Table::new(alloc, &[1], slots, &first).map_err(|_| AllocError)?;
+        let mut get = slots.shared.split_seat::<Parts>(&mut put);
+        slots.shared.load::<PutTakes>(&mut put, 0);
+        slots.shared.load::<GetTakes>(&mut get, 0);
+        Ok((
+            TripleCell { slots },
+            TriplePut {
+                seat: put,
+                slot: 0,
+                last: first,
+            },
+            TripleGet {
+                seat: get,
+                slot: 2,
+                last: first,
+            },
+        ))
+    }
+
+    fn write(&self, put: &mut TriplePut<T>, item: T) {
+        fill(&self.slots.shared, &mut put.seat, put.slot, item);
+        let found = self
+            .slots
+            .shared
+            .swap::<PutSwaps>(&mut put.seat, 0, put.slot as u64 + 4);
+        put.slot = (found % 4) as usize;
+        put.last = item;
+    }
+
+    fn read(&self, get: &mut TripleGet<T>) -> T
+        requires { is_get_of self.now get.old }
+        ensures own { is_get_of self.now get.new }
+        ensures answers { answers_of get.new ≡ answers_of get.old ++ result ∷ [] }
+        ensures told { told_to get.new ≡ told_to get.old }
+        ensures running { IsAnswer T.fits T.rises self.now.slots.shared.key (answers_of get.old) (told_to get.old) result }
+        ensures accesses { loads_of get.new + swaps_of get.new ≤ loads_of get.old + swaps_of get.old + 3 }
+        // One load, and a swap exactly where the word that it found has the mark.
+        ensures loaded { loads_of get.new ≡ loads_of get.old + 1 }
+        ensures unmarked { found_by get.new < 4 → swaps_of get.new ≡ swaps_of get.old }
+        ensures marked { 4 ≤ found_by get.new → swaps_of get.new ≡ swaps_of get.old + 1 }
+        // The answer is the record of the slot that the pass then holds.
+        ensures held { get.new.seat.me.1 ≡ (get.new.slot, result) ∷ [] }
+    {
+        let found = self.slots.shared.load::<Looks>(&mut get.seat, 0);
+        if found < 4 {
+            let answer = copy_out(&self.slots.shared, &mut get.seat, get.slot, get.last);
+            get.last = answer;
+            return answer;
+        }
+        let taken = self
+            .slots
+            .shared
+            .swap::<GetSwaps>(&mut get.seat, 0, get.slot as u64);
+        get.slot = (taken % 4) as usize;
+        let answer = copy_out(&self.slots.shared, &mut get.seat, get.slot, get.last);
+        get.last = answer;
+        answer
+    }
+
+    fn tell(&self, put: &mut TriplePut<T>) -> TripleTold<T> {
+        let seat = self.slots.shared.split_seat::<Tells>(&mut put.seat);
+        TripleTold {
+            seat,
+            item: put.last,
+        }
+    }
+
+    fn learn(&self, get: &mut TripleGet<T>, receipt: TripleTold<T>) {
+        let TripleTold { seat, item: _ } = receipt;
+        self.slots.shared.join_seat::<Hears>(&mut get.seat, seat);
+    }
+
+    fn finish(self, put: TriplePut<T>, get: TripleGet<T>) {
+        let TripleCell { slots } = self;
+        let TriplePut {
+            seat: mut put,
+            slot: _,
+            last: _,
+        } = put;
+        let TripleGet {
+            seat: mut get,
+            slot: _,
+            last: _,
+        } = get;
+        let whole = slots.shared.split_seat::<Yields>(&mut put);
+        slots.shared.join_seat::<Ends>(&mut get, whole);
+        empty(slots.close_with(get));
+    }
+}
+
+impl<T: Kept> Cell<T> for TripleCell<T> {}

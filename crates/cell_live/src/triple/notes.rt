@@ -1,0 +1,41 @@
+//! What the seats of a triple buffer know. No value of these types is made. Records stand in them as snapshots, since a view's type must have a known size.
+use std::collections::LinkedList;
+use std::snapshot::Snapshot;
+
+/// What the writer's seat knows.
+pub struct PutNotes<T> {
+    pub opening: Snapshot<T>,
+    pub slot: u64,
+    /// 1 once the slot was taken.
+    pub has: u64,
+    pub written: LinkedList<T>,
+    /// The swaps made with the pass.
+    pub swaps: u64,
+}
+
+/// What the reader's seat knows.
+pub struct GetNotes<T> {
+    pub opening: Snapshot<T>,
+    pub slot: u64,
+    pub has: u64,
+    /// The record in the slot.
+    pub at_hand: Snapshot<T>,
+    /// The word that the last load found.
+    pub found: u64,
+    /// 1 from a load that found the mark to the swap.
+    pub asked: u64,
+    pub answers: LinkedList<T>,
+    pub told: LinkedList<T>,
+    /// The loads and the swaps made with the pass.
+    pub loads: u64,
+    pub swaps: u64,
+}
+
+/// What a seat knows.
+pub enum View<T> {
+    Spent,
+    Told(Snapshot<T>),
+    Put(PutNotes<T>),
+    Get(GetNotes<T>),
+    Both(PutNotes<T>, GetNotes<T>),
+}
