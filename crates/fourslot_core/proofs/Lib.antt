@@ -3,3 +3,5 @@ pub mod Keeping
 pub mod KeepingFresh
 pub mod Interleaved
 pub mod Mapped
+pub mod Steps
+pub mod Operations

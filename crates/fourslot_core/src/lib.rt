@@ -5,6 +5,9 @@
 mod cell;
 mod event;
 pub mod laws;
+mod player;
+#[cfg(test)]
+mod rows;
 mod schedule;
 mod state;
 #[cfg(test)]
@@ -12,5 +15,6 @@ mod tests;
 
 pub use cell::CellCore;
 pub use event::{ReadEvent, WriteEvent};
+pub use player::play_cell;
 pub use schedule::{CellReport, CellSchedule, Turn};
 pub use state::{Bits, InSlot, Place, ReadStage, ReaderStage, Sides, Stage, State};

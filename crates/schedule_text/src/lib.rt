@@ -8,8 +8,6 @@ mod key;
 mod read;
 mod report;
 mod shape;
-#[cfg(test)]
-mod tests;
 mod text;
 
 pub use document::{DocError, Document, Want};

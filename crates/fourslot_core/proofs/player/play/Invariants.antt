@@ -1,0 +1,7 @@
+use Rattle.std.proofs.Common.{◌≡◌, take}
+use Rattle.fourslot_core.specs.Parts.{shown}
+use Rattle.fourslot_core.specs.Runs.{numbered_run}
+use Rattle.fourslot_core.proofs.player.play.Given as goal
+
+abbrev pub invariant-loop-turn : goal.invariant-loop-turn
+invariant-loop-turn g l = shown l.run ≡ numbered_run l.opening l.fn.noise l.writes (take l.turn-index l.steps)

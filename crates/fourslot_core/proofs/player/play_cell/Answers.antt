@@ -1,0 +1,30 @@
+-- What the slices have is what the schedule's lists have.
+use Rattle.std.proofs.Common.{◌≡◌, ℕ, List, [], ◌∷◌, subst}
+use Rattle.history_core.specs.Schedules.{HasOperations, HasShape, IsFirstOverrun}
+use Rattle.fourslot_core.specs.declared.schedule.Turn.{Turn}
+use Rattle.fourslot_core.specs.Play.{span_of}
+use Rattle.fourslot_core.specs.Runs.{IsAssembled, numbered_run}
+use Rattle.fourslot_core.proofs.Operations.{assembled_shape}
+use Rattle.fourslot_core.proofs.player.play_cell.Goals as goal
+
+-- a fact of the two slices is one of the schedule's lists
+along : {R : Type 0} (P : List Turn → List R → Type 0) (steps s : List Turn) (writes w : List R) → steps ≡ s → writes ≡ w → P steps writes → P s w
+along P steps s writes w es ew h = subst (P s) ew (subst (λ t. P t writes) es h)
+
+pub returns-in-Some-clause-refused : goal.returns-in-Some-clause-refused
+returns-in-Some-clause-refused g c =
+    along (λ steps writes. IsFirstOverrun (span_of steps writes c.args.s.now.reads ∷ []) c.in-Some.position) _ _ _ _ c.as_slice-steps.ensures c.as_slice-writes.ensures c.in-Some.ensures.overrun
+
+pub returns-in-Err-clause-refused : goal.returns-in-Err-clause-refused
+returns-in-Err-clause-refused g c =
+    along (λ steps writes. HasOperations (span_of steps writes c.args.s.now.reads ∷ [])) _ _ _ _ c.as_slice-steps.ensures c.as_slice-writes.ensures c.in_default.ensures.none
+
+pub returns-in-Ok-clause-played : goal.returns-in-Ok-clause-played
+returns-in-Ok-clause-played g c =
+    along (λ steps writes. HasOperations (span_of steps writes c.args.s.now.reads ∷ [])) _ _ _ _ c.as_slice-steps.ensures c.as_slice-writes.ensures c.in_default.ensures.none
+
+pub returns-in-Ok-clause-shape : goal.returns-in-Ok-clause-shape
+returns-in-Ok-clause-shape g c =
+    let r = c.in-Ok.report in
+    along (λ steps writes. HasShape (span_of steps writes c.args.s.now.reads ∷ []) r.history.terms r.history.ops) _ _ _ _ c.as_slice-steps.ensures c.as_slice-writes.ensures
+    (assembled_shape _ c.as_slice-steps.result.now c.as_slice-writes.result.now c.args.s.now.reads r.history.terms r.history.ops r.slots r.order c.in_default.ensures.none c.in-Ok.ensures.assembled)

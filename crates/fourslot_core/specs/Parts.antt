@@ -1,0 +1,81 @@
+-- What the player holds: the operations that the steps begin, the ends of those that end, and a run over numbered records.
+use Rattle.std.specs.Prelude.{◌≡◌, ℕ, ◌+◌, ◌*◌, ◌/◌, ◌%◌, ◌<◌, Bool, true, false, ◌&&◌, nat_eq, if◌then◌else◌, List, [], ◌∷◌, ◌++◌, length, map, replicate, slice_get, get_or, Option, None, Some}
+use Rattle.std.specs.Option.{option_map}
+use Rattle.history_core.specs.declared.history.Op.{Op}
+use Rattle.history_core.specs.declared.history.Kind.TheVariants.{Write as WriteKind, Read as ReadKind}
+use Rattle.history_core.specs.declared.play.Wish.{Wish}
+use Rattle.history_core.specs.declared.play.Wish.TheVariants.{Write, Read}
+use Rattle.history_core.specs.Schedules.{positions, steps_of}
+use Rattle.fourslot_core.specs.declared.schedule.Turn.{Turn}
+use Rattle.fourslot_core.specs.declared.schedule.Turn.TheVariants.{Writer, Reader}
+use Rattle.fourslot_core.specs.declared.player.Made.{Made}
+use Rattle.fourslot_core.specs.declared.player.Part.{Part}
+use Rattle.fourslot_core.specs.declared.player.Numbered.{Numbered}
+use Rattle.fourslot_core.specs.declared.player.Run.{Run}
+use Rattle.fourslot_core.specs.Play.{Log, actor}
+
+abbrev pub made_by : Turn → Made → ℕ
+made_by Writer made = made.writer
+made_by Reader made = made.reader
+
+abbrev pub counted : Turn → Made → Made
+counted Writer made = record made { writer = made.writer + 1 }
+counted Reader made = record made { reader = made.reader + 1 }
+
+abbrev pub part_of : Turn → ℕ → ℕ → Part
+part_of turn number starts = record { turn = turn; number = number; starts = starts }
+
+-- the operation that step number `step` of a side begins
+abbrev pub begun_by : Turn → ℕ → ℕ → List Part
+begun_by turn step position = if nat_eq (step % 5) 0 then part_of turn (step / 5) position ∷ [] else []
+
+-- the operations that the steps of these actors begin, in order of beginning
+pub record IsPartsOf (steps : List ℕ) (parts : List Part) : Type 0 where
+  pub each : (p : ℕ) (part : Part) → slice_get parts p ≡ Some part → slice_get (positions 0 (actor part.turn) steps) (part.number * 5 + 0) ≡ Some part.starts
+  pub all : (turn : Turn) (k begin : ℕ) → slice_get (positions 0 (actor turn) steps) (k * 5 + 0) ≡ Some begin → (p : ℕ) × (slice_get parts p ≡ Some (part_of turn k begin))
+  pub rising : (p q : ℕ) (a b : Part) → slice_get parts p ≡ Some a → slice_get parts q ≡ Some b → p < q → a.starts < b.starts
+
+abbrev pub noted : Bool → ℕ → List ℕ
+noted here position = if here then position ∷ [] else []
+
+-- the position of this access of each operation of an actor that makes it
+pub record IsAccessesOf (who access : ℕ) (steps all : List ℕ) : Type 0 where
+  pub each : (k : ℕ) → slice_get all k ≡ slice_get (positions 0 who steps) (k * 5 + access)
+  pub rest : ℕ
+  pub last : access + rest ≡ 4
+  pub long : length all ≡ (steps_of who steps + rest) / 5
+
+-- what a side is to do
+abbrev pub plan_of : {R : Type 0} → Turn → List R → ℕ → List (Wish R)
+plan_of Writer writes reads = map Write writes
+plan_of Reader writes reads = replicate reads Read
+
+-- the log of a run
+abbrev pub shown : {R : Type 0} → Run R → Log (Numbered R)
+shown r = record { cell = r.cell; write_slots = r.write_slots.items; read_slots = r.read_slots.items; answers = r.answers.items }
+
+abbrev pub opening_record : {R : Type 0} → R → Numbered R
+opening_record opening = record { number = 0; item = opening }
+
+-- write k has the number k + 1
+abbrev pub numbered : {R : Type 0} → R → List R → ℕ → Numbered R
+numbered opening writes k = record { number = k + 1; item = get_or writes k opening }
+
+-- the operation of a part: it ends where its side's operation of that number does; a write has the schedule's item, a read its
+-- answer
+abbrev pub op_by : {R : Type 0} → Turn → ℕ → ℕ → List R → List ℕ → List ℕ → List (Numbered R) → Op R
+op_by Writer number starts writes writer_ends reader_ends answers =
+    record { who = 0; kind = WriteKind; starts = starts; ends = slice_get writer_ends number; item = slice_get writes number }
+op_by Reader number starts writes writer_ends reader_ends answers =
+    record { who = 1; kind = ReadKind; starts = starts; ends = slice_get reader_ends number; item = option_map (λ (a : Numbered _). a.item) (slice_get answers number) }
+
+abbrev pub op_of : {R : Type 0} → List R → List ℕ → List ℕ → List (Numbered R) → Part → Op R
+op_of writes writer_ends reader_ends answers part = op_by part.turn part.number part.starts writes writer_ends reader_ends answers
+
+-- and its slot
+abbrev pub slot_by : Turn → ℕ → List ℕ → List ℕ → Option ℕ
+slot_by Writer number write_slots read_slots = slice_get write_slots number
+slot_by Reader number write_slots read_slots = slice_get read_slots number
+
+abbrev pub slot_of : List ℕ → List ℕ → Part → Option ℕ
+slot_of write_slots read_slots part = slot_by part.turn part.number write_slots read_slots

@@ -1,0 +1,406 @@
+//! The player of cell schedules: which operations a schedule has is read off its steps, and what they saw off a cell that
+//! makes the steps' events.
+
+ghost use Rattle.std.specs.Prelude.{◌≡◌, ◌+◌, ◌<◌, ◌^◌, ◌++◌, [], ◌∷◌, ℕ, length, map, nat_eq, IfErr, IfNone, IfOk, IfSome, IsTrue, OnOk, ◌↔◌, ◌%◌};
+ghost use Rattle.history_core.specs.Schedules.{HasOperations, HasShape, IsFirstOverrun, positions};
+ghost use Rattle.fourslot_core.specs.Play.{actor, after_reader, after_writer, IsRefusal, span_of, step_of};
+ghost use Rattle.fourslot_core.specs.Runs.{IsAssembled, numbered_run};
+ghost use Rattle.fourslot_core.specs.Parts.{begun_by, counted, IsPartsOf, made_by, shown, IsAccessesOf, noted, numbered, opening_record, plan_of, op_of, slot_of};
+
+use crate::cell::CellCore;
+use crate::schedule::{CellReport, CellSchedule, Turn};
+use crate::state::{ReadStage, Stage};
+use history_core::{History, Items, Kind, MAX_LIMIT, Op, PlayError, Term};
+use std::alloc::{AllocError, Global};
+
+/// The steps of one operation.
+const ACCESSES: usize = 5;
+
+/// How many steps each side has made.
+#[derive(Clone, Copy)]
+struct Made {
+    writer: usize,
+    reader: usize,
+}
+
+impl Made {
+    fn by(&self, turn: Turn) -> usize
+        ensures { result ≡ made_by turn self.now }
+    {
+        match turn {
+            Turn::Writer => self.writer,
+            Turn::Reader => self.reader,
+        }
+    }
+
+    fn count(&mut self, turn: Turn)
+        requires writer { self.old.writer + 1 < 2 ^ 64 }
+        requires reader { self.old.reader + 1 < 2 ^ 64 }
+        ensures { self.new ≡ counted turn self.old }
+    {
+        match turn {
+            Turn::Writer => self.writer += 1,
+            Turn::Reader => self.reader += 1,
+        }
+    }
+}
+
+/// How many operations a side is to do.
+fn planned<R>(turn: Turn, writes: &[R], reads: u64) -> u64
+    ensures { result ≡ length (plan_of turn writes.now reads) }
+{
+    match turn {
+        Turn::Writer => writes.len() as u64,
+        Turn::Reader => reads,
+    }
+}
+
+/// The first step of a side that has no operation left.
+fn first_overrun<R>(steps: &[Turn], writes: &[R], reads: u64) -> Option<u64>
+    ensures overrun { IfSome result (λ p. IsFirstOverrun (span_of steps.now writes.now reads ∷ []) p) }
+    ensures none { IfNone result (HasOperations (span_of steps.now writes.now reads ∷ [])) }
+{
+    let mut made = Made {
+        writer: 0,
+        reader: 0,
+    };
+    for (position, turn) in steps.iter().enumerate() {
+        if planned(*turn, writes, reads) <= (made.by(*turn) / ACCESSES) as u64 {
+            return Some(position as u64);
+        }
+        made.count(*turn);
+    }
+    None
+}
+
+/// An operation of a side: its number on that side, from 0, and its beginning.
+#[derive(Clone, Copy)]
+struct Part {
+    turn: Turn,
+    number: usize,
+    starts: u64,
+}
+
+/// The operations that the steps begin, in order of beginning.
+fn operations(alloc: Global, steps: &[Turn]) -> Result<Vec<Part>, AllocError>
+    ensures { IfOk result (λ parts. IsPartsOf (map actor steps.now) parts.items) }
+{
+    let mut parts = Vec::new(alloc);
+    let mut made = Made {
+        writer: 0,
+        reader: 0,
+    };
+    for (position, turn) in steps.iter().enumerate() {
+        begin(&mut parts, *turn, made.by(*turn), position as u64)?;
+        made.count(*turn);
+    }
+    Ok(parts)
+}
+
+/// Adds the operation that this step of a side begins, if it begins one.
+fn begin(parts: &mut Vec<Part>, turn: Turn, step: usize, position: u64) -> Result<(), AllocError>
+    ensures { OnOk result (parts.new.items ≡ parts.old.items ++ begun_by turn step position) }
+{
+    if step % ACCESSES == 0 {
+        parts.push(Part {
+            turn,
+            number: step / ACCESSES,
+            starts: position,
+        })?;
+    }
+    Ok(())
+}
+
+fn is_by(turn: Turn, side: Turn) -> bool
+    ensures { result ≡ nat_eq (actor turn) (actor side) }
+{
+    turn == side
+}
+
+/// The position of this access, counted from 0, of each operation of a side that makes it.
+fn accesses(
+    alloc: Global,
+    steps: &[Turn],
+    side: Turn,
+    access: usize,
+) -> Result<Vec<u64>, AllocError>
+    requires { access < 5 }
+    ensures { IfOk result (λ all. IsAccessesOf (actor side) access (map actor steps.now) all.items) }
+{
+    let mut all = Vec::new(alloc);
+    let mut made = Made {
+        writer: 0,
+        reader: 0,
+    };
+    for (position, turn) in steps.iter().enumerate() {
+        note(
+            &mut all,
+            is_access(*turn, side, made.by(side), access),
+            position as u64,
+        )?;
+        made.count(*turn);
+    }
+    Ok(all)
+}
+
+/// Whether a step of a turn is this access of an operation of the side, which has made so many steps.
+fn is_access(turn: Turn, side: Turn, made: usize, access: usize) -> bool
+    ensures { IsTrue result ↔ ((actor turn ≡ actor side) × (made % 5 ≡ access)) }
+{
+    is_by(turn, side) && made % ACCESSES == access
+}
+
+fn note(positions: &mut Vec<u64>, here: bool, position: u64) -> Result<(), AllocError>
+    ensures { OnOk result (positions.new.items ≡ positions.old.items ++ noted here position) }
+{
+    if here {
+        positions.push(position)?;
+    }
+    Ok(())
+}
+
+/// A record with the number of its write, from 1 on; the opening has the number 0.
+#[derive(Clone, Copy)]
+struct Numbered<R> {
+    number: usize,
+    item: R,
+}
+
+/// A cell in play, with what its events have shown so far.
+#[derive(Drop)]
+struct Run<R> {
+    cell: CellCore<Numbered<R>>,
+    write_slots: Vec<u8>,
+    read_slots: Vec<u8>,
+    answers: Vec<Numbered<R>>,
+}
+
+impl<R: Copy> Run<R> {
+    fn write_turn(&mut self, item: Numbered<R>) -> Result<(), AllocError>
+        ensures { OnOk result (shown self.new ≡ after_writer item (shown self.old)) }
+    {
+        if self.cell.write_step(item) == Stage::W1 {
+            self.write_slots.push(self.cell.write_slot())?;
+        }
+        Ok(())
+    }
+
+    fn read_turn(&mut self) -> Result<(), AllocError>
+        ensures { OnOk result (shown self.new ≡ after_reader (shown self.old)) }
+    {
+        match self.cell.read_step() {
+            ReadStage::R3 => self.read_slots.push(self.cell.read_slot())?,
+            ReadStage::R5(answer) => self.answers.push(answer)?,
+            ReadStage::R1 | ReadStage::R2 | ReadStage::R4 => {}
+        }
+        Ok(())
+    }
+}
+
+/// Makes the events of the steps, one after the other.
+fn play<R: Copy>(
+    alloc: Global,
+    opening: R,
+    noise: R,
+    steps: &[Turn],
+    writes: &[R],
+) -> Result<Run<R>, AllocError>
+    ensures { IfOk result (λ r. shown r ≡ numbered_run opening noise writes.now steps.now) }
+{
+    let mut run = Run {
+        cell: CellCore::new(
+            Numbered {
+                number: 0,
+                item: opening,
+            },
+            Numbered {
+                number: 0,
+                item: noise,
+            },
+        ),
+        write_slots: Vec::new(alloc),
+        read_slots: Vec::new(alloc),
+        answers: Vec::new(alloc),
+    };
+    for turn in steps {
+        take_turn(&mut run, *turn, opening, writes)?;
+    }
+    Ok(run)
+}
+
+fn take_turn<R: Copy>(
+    run: &mut Run<R>,
+    turn: Turn,
+    opening: R,
+    writes: &[R],
+) -> Result<(), AllocError>
+    ensures { OnOk result (shown run.new ≡ step_of (numbered opening writes.now) (shown run.old) turn) }
+{
+    match turn {
+        Turn::Writer => {
+            let number = run.write_slots.len();
+            let item = writes.get(number).copied().unwrap_or(opening);
+            run.write_turn(Numbered {
+                number: number + 1,
+                item,
+            })
+        }
+        Turn::Reader => run.read_turn(),
+    }
+}
+
+/// A schedule that was played: its run, the end of each operation that ends, and W4 of each write that makes it.
+#[derive(Drop)]
+struct Played<R> {
+    run: Run<R>,
+    writer_ends: Vec<u64>,
+    reader_ends: Vec<u64>,
+    stores: Vec<u64>,
+}
+
+impl<R: Copy> Played<R> {
+    fn operation(&self, part: &Part, writes: &[R]) -> Op<R>
+        ensures { result ≡ op_of writes.now self.now.writer_ends.items self.now.reader_ends.items self.now.run.answers.items part.now }
+    {
+        match part.turn {
+            Turn::Writer => Op {
+                who: 0,
+                kind: Kind::Write,
+                starts: part.starts,
+                ends: self.writer_ends.get(part.number).copied(),
+                item: writes.get(part.number).copied(),
+            },
+            Turn::Reader => Op {
+                who: 1,
+                kind: Kind::Read,
+                starts: part.starts,
+                ends: self.reader_ends.get(part.number).copied(),
+                item: self.run.answers.get(part.number).map(|answer| answer.item),
+            },
+        }
+    }
+
+    fn slot(&self, part: &Part) -> Option<u8>
+        ensures { result ≡ slot_of self.now.run.write_slots.items self.now.run.read_slots.items part.now }
+    {
+        match part.turn {
+            Turn::Writer => self.run.write_slots.get(part.number).copied(),
+            Turn::Reader => self.run.read_slots.get(part.number).copied(),
+        }
+    }
+
+    fn operations(
+        &self,
+        alloc: Global,
+        parts: &[Part],
+        writes: &[R],
+    ) -> Result<Vec<Op<R>>, AllocError>
+        ensures { IfOk result (λ ops. ops.items ≡ map (op_of writes.now self.now.writer_ends.items self.now.reader_ends.items self.now.run.answers.items) parts.now) }
+    {
+        let mut ops = Vec::new(alloc);
+        for part in parts {
+            ops.push(self.operation(part, writes))?;
+        }
+        Ok(ops)
+    }
+
+    fn slots(&self, alloc: Global, parts: &[Part]) -> Result<Vec<Option<u8>>, AllocError>
+        ensures { IfOk result (λ slots. slots.items ≡ map (slot_of self.now.run.write_slots.items self.now.run.read_slots.items) parts.now) }
+    {
+        let mut slots = Vec::new(alloc);
+        for part in parts {
+            slots.push(self.slot(part))?;
+        }
+        Ok(slots)
+    }
+
+    /// The order: the finished reads by the number of their answer, each before the writes with a greater number.
+    fn order(&self, alloc: Global, parts: &[Part]) -> Result<Vec<usize>, AllocError> {
+        let writes = places(alloc, parts, Turn::Writer, self.stores.len())?;
+        let reads = places(alloc, parts, Turn::Reader, self.run.answers.len())?;
+        let mut order = Vec::new(alloc);
+        let mut next = 0;
+        for (read, answer) in reads.iter().zip(&self.run.answers) {
+            if let Some(more) = writes.get(next..answer.number) {
+                order.extend_from_slice(more)?;
+            }
+            order.push(*read)?;
+            next = answer.number;
+        }
+        if let Some(more) = writes.get(next..) {
+            order.extend_from_slice(more)?;
+        }
+        Ok(order)
+    }
+}
+
+/// The places of the first `count` operations of a side.
+fn places(
+    alloc: Global,
+    parts: &[Part],
+    side: Turn,
+    count: usize,
+) -> Result<Vec<usize>, AllocError> {
+    let mut places = Vec::new(alloc);
+    for (place, part) in parts.iter().enumerate() {
+        if is_by(part.turn, side) && part.number < count {
+            places.push(place)?;
+        }
+    }
+    Ok(places)
+}
+
+/// Plays steps of which each has an operation left.
+fn report<R: Copy>(
+    alloc: Global,
+    opening: R,
+    noise: R,
+    steps: &[Turn],
+    writes: &[R],
+) -> Result<CellReport<R>, AllocError>
+    ensures opening { IfOk result (λ r. r.history.opening ≡ opening) }
+    ensures assembled { IfOk result (λ r. IsAssembled (numbered_run opening noise writes.now steps.now) steps.now writes.now r.history.terms r.history.ops r.slots r.order) }
+{
+    let parts = operations(alloc, steps)?;
+    let played = Played {
+        run: play(alloc, opening, noise, steps, writes)?,
+        writer_ends: accesses(alloc, steps, Turn::Writer, ACCESSES - 1)?,
+        reader_ends: accesses(alloc, steps, Turn::Reader, ACCESSES - 1)?,
+        stores: accesses(alloc, steps, Turn::Writer, ACCESSES - 2)?,
+    };
+    let mut terms = Vec::new(alloc);
+    terms.push(Term {
+        first: 0,
+        limit: MAX_LIMIT,
+    })?;
+    let ops = played.operations(alloc, &parts, writes)?;
+    let slots = played.slots(alloc, &parts)?;
+    let order = played.order(alloc, &parts)?;
+    Ok(CellReport {
+        history: History {
+            opening,
+            terms: Items::new(terms),
+            ops: Items::new(ops),
+        },
+        slots: Items::new(slots),
+        order: Items::new(order),
+    })
+}
+
+/// Plays a schedule of a cell. It takes time and memory in proportion to the steps.
+pub fn play_cell<R: Copy>(alloc: Global, s: &CellSchedule<R>) -> Result<CellReport<R>, PlayError>
+    ensures refused { IfErr result (λ e. IsRefusal (span_of s.now.steps s.now.writes s.now.reads) e) }
+    ensures played { IfOk result (λ r. HasOperations (span_of s.now.steps s.now.writes s.now.reads ∷ [])) }
+    ensures opening { IfOk result (λ r. r.history.opening ≡ s.now.opening) }
+    ensures shape { IfOk result (λ r. HasShape (span_of s.now.steps s.now.writes s.now.reads ∷ []) r.history.terms r.history.ops) }
+{
+    let steps = s.steps.as_slice();
+    let writes = s.writes.as_slice();
+    if let Some(position) = first_overrun(steps, writes, s.reads) {
+        return Err(PlayError::TooManySteps { position });
+    }
+    match report(alloc, s.opening, s.noise, steps, writes) {
+        Ok(report) => Ok(report),
+        Err(_) => Err(PlayError::NoMemory),
+    }
+}
