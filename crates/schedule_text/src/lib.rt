@@ -8,6 +8,8 @@ mod key;
 mod read;
 mod report;
 mod shape;
+#[cfg(test)]
+mod tests;
 mod text;
 
 pub use document::{DocError, Document, Want};

@@ -151,7 +151,7 @@ fn all_of<T: Shape>(alloc: Global, values: &[Value]) -> Result<Option<Vec<T>>, A
     ensures { IfOk result (λ found. option_map (λ v. v.items) found
         ≡ all_of T.shape (map view values.now)) }
 {
-    let mut found = Vec::new(alloc);
+    let mut found = Vec::with_capacity(alloc, values.len())?;
     for item in values {
         let Some(x) = T::read(alloc, item)? else {
             return Ok(None);

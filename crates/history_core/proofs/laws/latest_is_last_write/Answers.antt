@@ -1,5 +1,5 @@
 -- Only a write changes the latest record, so what a write left stays to the next one.
-use Rattle.std.proofs.Common.{◌≡◌, ℕ, false, List, [], ◌∷◌, slice_get, Option, None, Some, zero, suc, refl, ◌∙◌, ap}
+use Rattle.std.proofs.Common.{◌≡◌, ℕ, false, List, [], ◌∷◌, slice_get, Option, None, Some, suc, refl, ◌∙◌, ap}
 use Rattle.std.specs.List.{fold}
 use Rattle.std.proofs.lemmas.List.Sums.{fold-append}
 use Rattle.history_core.specs.declared.history.Op.{Op}
