@@ -20,7 +20,8 @@ module _ {R : Type 0} where
   left_by_kind r item Read h = refl
   left_by_kind r item Refused h = refl
 
-  left_unwritten : (r : Option R) (o : Option (Op R)) → is_write_at o ≡ false → left_at r o ≡ r
+  -- only a write changes the latest record
+  pub left_unwritten : (r : Option R) (o : Option (Op R)) → is_write_at o ≡ false → left_at r o ≡ r
   left_unwritten r None h = refl
   left_unwritten r (Some o) h = left_by_kind r o.item o.kind h
 

@@ -35,7 +35,7 @@ pub struct Term {
 }
 
 /// The operations on one register that held `opening` at first.
-#[derive(Drop)]
+#[derive(Debug, Drop)]
 pub struct History<R> {
     pub opening: R,
     pub terms: Items<Term>,

@@ -1,26 +1,16 @@
 -- Only a write changes the latest record, so what a write left stays to the next one.
-use Rattle.std.proofs.Common.{◌≡◌, ℕ, false, List, [], ◌∷◌, slice_get, Option, None, Some, suc, refl, ◌∙◌, ap}
+use Rattle.std.proofs.Common.{◌≡◌, ℕ, List, [], ◌∷◌, slice_get, Option, Some, suc, refl, ◌∙◌, ap}
 use Rattle.std.specs.List.{fold}
 use Rattle.std.proofs.lemmas.List.Sums.{fold-append}
 use Rattle.history_core.specs.declared.history.Op.{Op}
-use Rattle.history_core.specs.declared.history.Kind.{Kind}
-use Rattle.history_core.specs.declared.history.Kind.TheVariants.{Write, Read, Refused}
-use Rattle.history_core.specs.Orders.{HasNoWrites, is_write, is_write_at, latest, left_at, left_by}
+use Rattle.history_core.specs.Orders.{HasNoWrites, latest, left_at, left_by}
+use Rattle.history_core.proofs.Latest.{left_unwritten}
 use Rattle.history_core.proofs.laws.latest_is_last_write.Goals as goal
-
-kept_by : {R : Type 0} (r item : Option R) (kind : Kind) → is_write kind ≡ false → left_by r kind item ≡ r
-kept_by r item Write h = cc
-kept_by r item Read h = refl
-kept_by r item Refused h = refl
-
-kept_at : {R : Type 0} (r : Option R) (o : Option (Op R)) → is_write_at o ≡ false → left_at r o ≡ r
-kept_at r None h = refl
-kept_at r (Some o) h = kept_by r o.item o.kind h
 
 kept : {R : Type 0} (ops : List (Op R)) (order : List ℕ) (r : Option R) → HasNoWrites ops order → fold (λ r p. left_at r (slice_get ops p)) r order ≡ r
 kept ops [] r h = refl
 kept {R} ops (p ∷ order) r h =
-    kept ops order (left_at r (slice_get ops p)) (λ i q e. h (suc i) q e) ∙ kept_at r (slice_get ops p) (h 0 p refl)
+    kept ops order (left_at r (slice_get ops p)) (λ i q e. h (suc i) q e) ∙ left_unwritten r (slice_get ops p) (h 0 p refl)
 
 pub returns-clause-opening : goal.returns-clause-opening
 returns-clause-opening g c opening ops order none = kept ops order (Some opening) none
