@@ -1,6 +1,7 @@
 -- What the contracts speak of.
 pub mod Band
 pub mod Ends
+pub mod Joined
 pub mod Marks
 pub mod Numbers
 pub mod Orders
