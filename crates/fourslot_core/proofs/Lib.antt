@@ -3,5 +3,14 @@ pub mod Keeping
 pub mod KeepingFresh
 pub mod Interleaved
 pub mod Mapped
-pub mod Steps
 pub mod Operations
+pub mod Steps
+pub mod Pushed
+pub mod TraceCounts
+pub mod TraceClear
+pub mod TraceFresh
+pub mod TraceSources
+pub mod TraceRecords
+pub mod TraceGood
+pub mod TraceMapped
+pub mod TraceLaws

@@ -22,6 +22,11 @@ abbrev pub RisesFrom : ℕ → List Moment → Type 0
 RisesFrom next [] = Unit {0}
 RisesFrom next (m ∷ ms) = (next ≤ m.at) × RisesFrom (m.at + 1) ms
 
+-- the steps of a schedule, at the positions from n on
+abbrev pub moments_from : ℕ → List Turn → List Moment
+moments_from n [] = []
+moments_from n (turn ∷ turns) = record { at = n; turn = turn } ∷ moments_from (n + 1) turns
+
 -- a cell after some steps: the positions of the writer's and of the reader's, the slot of each write since its W1 and of each
 -- read since its R3, and the answer of each read that has ended
 pub record Trace (R : Type 0) : Type 0 where

@@ -1,14 +1,17 @@
 //! Laws over the definitions.
 
-ghost use Rattle.std.specs.Prelude.{◌≡◌, ◌≢◌, ℕ, ◌+◌, ◌<◌, List, [], ◌∷◌, ◌++◌, false};
+ghost use Rattle.std.specs.Prelude.{◌≡◌, ◌≢◌, ℕ, ◌+◌, ◌<◌, List, [], ◌∷◌, ◌++◌, slice_get, IsSome, false};
 ghost use Rattle.fourslot_core.specs.declared.state.State.{State};
 ghost use Rattle.fourslot_core.specs.declared.state.Stage.TheVariants.{W5};
 ghost use Rattle.fourslot_core.specs.declared.event.ReadEvent.{ReadEvent};
 ghost use Rattle.fourslot_core.specs.declared.event.WriteEvent.{WriteEvent};
+ghost use Rattle.fourslot_core.specs.declared.schedule.Turn.{Turn};
+ghost use Rattle.fourslot_core.specs.Accesses.{IsClear, IsFreshRead};
 ghost use Rattle.fourslot_core.specs.Events.{after_read, after_write, opening_state, reader_state, slot_number};
 ghost use Rattle.fourslot_core.specs.Freshness.{floor_after, IsFresh, prev_after};
 ghost use Rattle.fourslot_core.specs.Interleaving.{Leads, Reads, Writes};
 ghost use Rattle.fourslot_core.specs.Invariant.{HasIndex, HasSlot, IsSound, IsUnmet, last_after};
+ghost use Rattle.fourslot_core.specs.Traces.{Moment, moments_from, reads_of, RisesFrom, source_record, trace, writes_of};
 
 use crate::cell::CellCore;
 use crate::state::Place;
@@ -48,4 +51,20 @@ pub fn events_keep_freshness<R>()
 pub fn interleavings_grow<R>()
     ensures write { (ws : List (WriteEvent R)) (rs : List (ReadEvent R)) (s t u : State R) (e : WriteEvent R) → Leads ws rs s t → Writes e t u → Leads (ws ++ e ∷ []) rs s u }
     ensures read { (ws : List (WriteEvent R)) (rs : List (ReadEvent R)) (s t u : State R) (e : ReadEvent R) → Leads ws rs s t → Reads e t u → Leads ws (rs ++ e ∷ []) s u }
+{}
+
+/// A cell that is stepped in any interleaving, at positions that rise, is clear; and each read that has ended is fresh and
+/// answers the record of its source. The first steps of such an interleaving are one too, so this holds after each step.
+pub fn interleavings_are_clear_and_fresh<R>()
+    ensures clear { (opening noise : R) (items : ℕ → R) (moments : List Moment) → RisesFrom 0 moments →
+        let t = trace opening noise items moments in IsClear (writes_of t) (reads_of t) }
+    ensures fresh { (opening noise : R) (items : ℕ → R) (moments : List Moment) → RisesFrom 0 moments →
+        let t = trace opening noise items moments in
+        (m : ℕ) (answer : R) → slice_get t.answers m ≡ Some answer →
+        (n : ℕ) × IsFreshRead (writes_of t) (reads_of t) m n × (answer ≡ source_record opening items n) }
+    ensures answered { (opening noise : R) (items : ℕ → R) (moments : List Moment) → RisesFrom 0 moments →
+        let t = trace opening noise items moments in
+        (m : ℕ) → IsSome ((reads_of t).at m 4) → IsSome (slice_get t.answers m) }
+    ensures first { (next : ℕ) (moments more : List Moment) → RisesFrom next (moments ++ more) → RisesFrom next moments }
+    ensures played { (n : ℕ) (turns : List Turn) → RisesFrom n (moments_from n turns) }
 {}
