@@ -1,5 +1,5 @@
 -- Many parts, one after the other, by recursion: the first one, and the whole of the others with their places moved on.
-use Rattle.std.proofs.Common.{◌≡◌, ℕ, ◌+◌, List, [], ◌∷◌, ◌++◌, length, Some, arith, refl, sym, subst, ◌∙◌, ap}
+use Rattle.std.proofs.Common.{◌≡◌, ℕ, ◌+◌, List, [], ◌∷◌, ◌++◌, length, Some, arith, refl, sym, subst, ◌∙◌, ap, append-nil, append_assoc, length-append}
 use Rattle.history_core.specs.Joined.{HasFirstTerm, IsInTurn, ops_of, order_after, order_from, Part, terms_after, terms_from}
 use Rattle.history_core.specs.Orders.{IsAtomicOrder, latest, RefusesLawfully}
 use Rattle.history_core.proofs.Joined.{atomic_joined, latest_joined}
@@ -19,6 +19,9 @@ order_after_join a [] ys = refl
 order_after_join a (x ∷ xs) ys = ap (λ zs. (a + x) ∷ zs) (order_after_join a xs ys)
 
 module _ {R : Type 0} where
+  places_after : (place : ℕ) (first : Part R) (parts : List (Part R)) → (place + length first.ops) + length (ops_of parts) ≡ place + length (ops_of (first ∷ parts))
+  places_after place first parts = omega (arith, length-append first.ops (ops_of parts))
+
   pub order_moved : (a b : ℕ) (parts : List (Part R)) → order_from (a + b) parts ≡ order_after a (order_from b parts)
   order_moved a b [] = refl
   order_moved a b (part ∷ parts) =
@@ -75,3 +78,23 @@ module _ {R : Type 0} where
       ap (latest opening (part.ops ++ ops_of parts)) (order_first part parts)
       ∙ latest_joined opening h.0 part.ops (ops_of parts) part.order (order_from 0 parts) h.1.listing.places h.3
       ∙ latest_parts Same h.0 last parts h.5
+
+  -- one more part after the others
+  pub ops_more : (parts : List (Part R)) (part : Part R) → ops_of (parts ++ part ∷ []) ≡ ops_of parts ++ part.ops
+  ops_more [] part = append-nil part.ops
+  ops_more (first ∷ parts) part = ap (λ xs. first.ops ++ xs) (ops_more parts part) ∙ sym (append_assoc first.ops (ops_of parts) part.ops)
+
+  pub order_more : (place : ℕ) (parts : List (Part R)) (part : Part R) → order_from place (parts ++ part ∷ []) ≡ order_from place parts ++ order_after (place + length (ops_of parts)) part.order
+  order_more place [] part = append-nil (order_after place part.order) ∙ ap (λ n. order_after n part.order) (let e : place ≡ place + 0 = omega arith in e)
+  order_more place (first ∷ parts) part =
+      ap (λ xs. order_after place first.order ++ xs) (order_more (place + length first.ops) parts part)
+      ∙ ap (λ n. order_after place first.order ++ (order_from (place + length first.ops) parts ++ order_after n part.order)) (places_after place first parts)
+      ∙ sym (append_assoc (order_after place first.order) (order_from (place + length first.ops) parts) (order_after (place + length (ops_of (first ∷ parts))) part.order))
+
+  pub terms_more : (place : ℕ) (parts : List (Part R)) (part : Part R) → terms_from place (parts ++ part ∷ []) ≡ terms_from place parts ++ record { first = place + length (ops_of parts); limit = part.limit } ∷ []
+  terms_more place [] part = ap (λ n. record { first = n; limit = part.limit } ∷ []) (let e : place ≡ place + 0 = omega arith in e)
+  terms_more place (first ∷ parts) part =
+      ap (λ ts. record { first = place; limit = first.limit } ∷ ts) (
+      terms_more (place + length first.ops) parts part
+      ∙ ap (λ n. terms_from (place + length first.ops) parts ++ record { first = n; limit = part.limit } ∷ []) (places_after place first parts)
+      )

@@ -1,5 +1,5 @@
 -- The parts of a played schedule: positions tell the terms apart, so that no operation precedes one of an earlier term.
-use Rattle.std.proofs.Common.{◌≡◌, ℕ, ◌+◌, ◌<◌, ◌≤◌, List, [], ◌∷◌, length, slice_get, Some, arith, refl, ap, inl, inr}
+use Rattle.std.proofs.Common.{◌≡◌, ℕ, ◌+◌, ◌<◌, ◌≤◌, List, [], ◌∷◌, length, slice_get, Some, arith, refl, ap, inl, inr, ◌++◌, sym, subst, ◌∙◌}
 use Rattle.history_core.specs.declared.history.Op.{Op}
 use Rattle.history_core.specs.Joined.{IsInTurn, ops_of, Part, StaysBehind, terms_from}
 use Rattle.history_core.specs.Orders.{IsAtomicOrder, latest, RefusesLawfully}
@@ -7,6 +7,7 @@ use Rattle.history_core.specs.Schedules.{HasShapeFrom, IsPlayed, Span}
 use Rattle.history_core.proofs.JoinedPlaces.{get_cases}
 use Rattle.history_core.proofs.Listed.{some_and_of}
 use Rattle.history_core.proofs.Played.{ends_least, starts_below}
+use Rattle.history_core.proofs.Terms.{steps_in}
 
 module _ {R : Type 0} where
   -- each part has the operations of its term, the first of which begins at the position `at`; its order is atomic and refuses
@@ -66,3 +67,12 @@ module _ {R : Type 0} where
           let before : a.starts < at + length span.steps = starts_below at span k.0 a k.1 in
           let l = end.2 in
           omega arith
+
+  -- one more term after the others
+  pub played_more : (Same : R → R → Type 0) (at : ℕ) (opening last next : R) (spans : List (Span R)) (parts : List (Part R)) (span : Span R) (part : Part R) → IsPlayedInTurn Same at opening spans parts last → part.limit ≡ span.limit → IsPlayed (at + steps_in spans) span part.ops → IsAtomicOrder Same last part.ops part.order → RefusesLawfully (record { first = 0; limit = part.limit } ∷ []) part.ops part.order → latest last part.ops part.order ≡ Some next → IsPlayedInTurn Same at opening (spans ++ span ∷ []) (parts ++ part ∷ []) next
+  played_more Same at opening last next [] [] span part h limit played atomic lawful held =
+      (next, limit, subst (λ n. IsPlayed n span part.ops) (omega arith) played, subst (λ r. IsAtomicOrder Same r part.ops part.order) (sym h) atomic, lawful, ap (λ r. latest r part.ops part.order) h ∙ held, refl)
+  played_more Same at opening last next [] (first ∷ parts) span part h limit played atomic lawful held = absurd h
+  played_more Same at opening last next (first ∷ spans) [] span part h limit played atomic lawful held = absurd h
+  played_more Same at opening last next (first ∷ spans) (front ∷ parts) span part h limit played atomic lawful held =
+      (h.0, h.1, h.2, h.3, h.4, h.5, played_more Same (at + length first.steps) h.0 last next spans parts span part h.6 limit (subst (λ n. IsPlayed n span part.ops) (omega arith) played) atomic lawful held)
