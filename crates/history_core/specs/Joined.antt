@@ -1,5 +1,5 @@
 -- Parts of a history, one after the other: each counts the places of its operations from 0, and in the whole they go on from
--- those of the parts before it. This is this project's own.
+-- those of the parts before it. Parts in turn are this project's own.
 use Rattle.std.specs.Prelude.{◌≡◌, ℕ, ◌+◌, ◌<◌, List, [], ◌∷◌, ◌++◌, length, map, slice_get, Some}
 use Rattle.history_core.specs.declared.history.Op.{Op}
 use Rattle.history_core.specs.declared.history.Term.{Term}
