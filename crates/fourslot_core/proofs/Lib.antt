@@ -14,3 +14,4 @@ pub mod TraceRecords
 pub mod TraceGood
 pub mod TraceMapped
 pub mod TraceLaws
+pub mod PlayedTraces
