@@ -4,6 +4,7 @@ pub mod KeepingFresh
 pub mod Interleaved
 pub mod Mapped
 pub mod Operations
+pub mod RunTraces
 pub mod Steps
 pub mod Pushed
 pub mod TraceCounts

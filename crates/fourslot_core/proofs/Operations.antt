@@ -15,9 +15,9 @@ use Rattle.fourslot_core.specs.declared.schedule.Turn.{Turn}
 use Rattle.fourslot_core.specs.declared.schedule.Turn.TheVariants.{Writer, Reader}
 use Rattle.fourslot_core.specs.declared.player.Part.{Part}
 use Rattle.fourslot_core.specs.declared.player.Numbered.{Numbered}
-use Rattle.fourslot_core.specs.Play.{Log, actor, span_of}
+use Rattle.fourslot_core.specs.Play.{actor, span_of}
 use Rattle.fourslot_core.specs.Parts.{part_of, op_by, op_of, IsPartsOf, IsAccessesOf}
-use Rattle.fourslot_core.specs.Runs.{IsAssembled}
+use Rattle.fourslot_core.specs.Runs.{Log, IsAssembled}
 
 -- what an element of a mapped list comes from
 pub mapped_from : {A B : Type 0} (f : A → B) (xs : List A) (p : ℕ) (y : B) → slice_get (map f xs) p ≡ Some y → (x : A) × (slice_get xs p ≡ Some x) × (f x ≡ y)

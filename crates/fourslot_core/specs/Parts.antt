@@ -11,8 +11,7 @@ use Rattle.fourslot_core.specs.declared.schedule.Turn.TheVariants.{Writer, Reade
 use Rattle.fourslot_core.specs.declared.player.Made.{Made}
 use Rattle.fourslot_core.specs.declared.player.Part.{Part}
 use Rattle.fourslot_core.specs.declared.player.Numbered.{Numbered}
-use Rattle.fourslot_core.specs.declared.player.Run.{Run}
-use Rattle.fourslot_core.specs.Play.{Log, actor}
+use Rattle.fourslot_core.specs.Play.{actor}
 
 abbrev pub made_by : Turn → Made → ℕ
 made_by Writer made = made.writer
@@ -49,17 +48,6 @@ pub record IsAccessesOf (who access : ℕ) (steps all : List ℕ) : Type 0 where
 abbrev pub plan_of : {R : Type 0} → Turn → List R → ℕ → List (Wish R)
 plan_of Writer writes reads = map Write writes
 plan_of Reader writes reads = replicate reads Read
-
--- the log of a run
-abbrev pub shown : {R : Type 0} → Run R → Log (Numbered R)
-shown r = record { cell = r.cell; write_slots = r.write_slots.items; read_slots = r.read_slots.items; answers = r.answers.items }
-
-abbrev pub opening_record : {R : Type 0} → R → Numbered R
-opening_record opening = record { number = 0; item = opening }
-
--- write k has the number k + 1
-abbrev pub numbered : {R : Type 0} → R → List R → ℕ → Numbered R
-numbered opening writes k = record { number = k + 1; item = get_or writes k opening }
 
 -- the operation of a part: it ends where its side's operation of that number does; a write has the schedule's item, a read its
 -- answer

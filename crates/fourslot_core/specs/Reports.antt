@@ -1,9 +1,10 @@
--- The report of a cell as accesses: positions are the schedule's, slots the report's.
-use Rattle.std.specs.Prelude.{ℕ, List, [], ◌∷◌, Option, None, IsSome, nat_eq, if◌then◌else◌}
+-- The report of a cell as accesses, positions being the schedule's and slots the report's; and what it has of the run.
+use Rattle.std.specs.Prelude.{◌≡◌, ℕ, List, [], ◌∷◌, length, slice_get, Option, None, Some, IsSome, nat_eq, if◌then◌else◌}
 use Rattle.std.specs.Option.{option_and_then}
 use Rattle.history_core.specs.declared.history.Op.{Op}
 use Rattle.history_core.specs.Schedules.{Span, access_at}
 use Rattle.fourslot_core.specs.Accesses.{Accesses, IsFreshRead}
+use Rattle.fourslot_core.specs.Traces.{Trace}
 
 -- the slot that a report gives the operation with this beginning
 abbrev pub slot_from : {R : Type 0} → ℕ → List (Op R) → List (Option ℕ) → Option ℕ
@@ -18,6 +19,13 @@ accesses_of span ops slots who =
       at = access_at 0 span who;
       slot = λ k. option_and_then (λ begin. slot_from begin ops slots) (access_at 0 span who k 0);
     }
+
+-- the slots and the answers are the run's
+pub record IsOfRun {R : Type 0} (span : Span R) (run : Trace R) (ops : List (Op R)) (slots : List (Option ℕ)) : Type 0 where
+  pub each_slot : length slots ≡ length ops
+  pub write_slots : (k : ℕ) → (accesses_of span ops slots 0).slot k ≡ slice_get run.write_slots k
+  pub read_slots : (m : ℕ) → (accesses_of span ops slots 1).slot m ≡ slice_get run.read_slots m
+  pub answers : (p m : ℕ) (op : Op R) → slice_get ops p ≡ Some op → op.who ≡ 1 → access_at 0 span 1 m 0 ≡ Some op.starts → op.item ≡ slice_get run.answers m
 
 -- fresh: each finished read is
 abbrev pub IsFreshReport : Accesses → Accesses → Type 0

@@ -3,9 +3,9 @@
 
 ghost use Rattle.std.specs.Prelude.{◌≡◌, ◌+◌, ◌<◌, ◌^◌, ◌++◌, [], ◌∷◌, ℕ, length, map, nat_eq, IfErr, IfNone, IfOk, IfSome, IsTrue, OnOk, ◌↔◌, ◌%◌};
 ghost use Rattle.history_core.specs.Schedules.{HasOperations, HasShape, IsFirstOverrun, positions};
-ghost use Rattle.fourslot_core.specs.Play.{actor, after_reader, after_writer, IsRefusal, span_of, step_of};
-ghost use Rattle.fourslot_core.specs.Runs.{IsAssembled, numbered_run};
-ghost use Rattle.fourslot_core.specs.Parts.{begun_by, counted, IsPartsOf, made_by, shown, IsAccessesOf, noted, numbered, opening_record, plan_of, op_of, slot_of};
+ghost use Rattle.fourslot_core.specs.Play.{actor, IsRefusal, span_of};
+ghost use Rattle.fourslot_core.specs.Runs.{after_reader, after_writer, IsAssembled, numbered, numbered_run, numbered_trace, shown, step_of};
+ghost use Rattle.fourslot_core.specs.Parts.{begun_by, counted, IsAccessesOf, IsPartsOf, made_by, noted, op_of, plan_of, slot_of};
 
 use crate::cell::CellCore;
 use crate::schedule::{CellReport, CellSchedule, Turn};

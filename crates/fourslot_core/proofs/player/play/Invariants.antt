@@ -1,6 +1,5 @@
 use Rattle.std.proofs.Common.{◌≡◌, take}
-use Rattle.fourslot_core.specs.Parts.{shown}
-use Rattle.fourslot_core.specs.Runs.{numbered_run}
+use Rattle.fourslot_core.specs.Runs.{numbered_run, shown}
 use Rattle.fourslot_core.proofs.player.play.Given as goal
 
 abbrev pub invariant-loop-turn : goal.invariant-loop-turn

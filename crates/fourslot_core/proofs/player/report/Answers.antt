@@ -5,9 +5,8 @@ use Rattle.history_core.specs.declared.history.Term.{Term}
 use Rattle.history_core.specs.declared.play.TheConstants.{MAX_LIMIT}
 use Rattle.fourslot_core.specs.declared.player.Numbered.{Numbered}
 use Rattle.fourslot_core.specs.declared.player.Part.{Part}
-use Rattle.fourslot_core.specs.Play.{Log}
-use Rattle.fourslot_core.specs.Parts.{op_of, slot_of, shown}
-use Rattle.fourslot_core.specs.Runs.{numbered_run}
+use Rattle.fourslot_core.specs.Parts.{op_of, slot_of}
+use Rattle.fourslot_core.specs.Runs.{Log, numbered_run, shown}
 use Rattle.fourslot_core.proofs.player.report.Goals as goal
 
 -- the same with the log of the run
