@@ -5,6 +5,7 @@ pub mod Interleaved
 pub mod Mapped
 pub mod Operations
 pub mod RunTraces
+pub mod ReportAccesses
 pub mod Steps
 pub mod Pushed
 pub mod TraceCounts
@@ -15,4 +16,3 @@ pub mod TraceRecords
 pub mod TraceGood
 pub mod TraceMapped
 pub mod TraceLaws
-pub mod PlayedTraces

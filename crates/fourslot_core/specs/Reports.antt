@@ -20,11 +20,17 @@ accesses_of span ops slots who =
       slot = λ k. option_and_then (λ begin. slot_from begin ops slots) (access_at 0 span who k 0);
     }
 
+abbrev pub writer_of : {R : Type 0} → Span R → List (Op R) → List (Option ℕ) → Accesses
+writer_of span ops slots = accesses_of span ops slots 0
+
+abbrev pub reader_of : {R : Type 0} → Span R → List (Op R) → List (Option ℕ) → Accesses
+reader_of span ops slots = accesses_of span ops slots 1
+
 -- the slots and the answers are the run's
 pub record IsOfRun {R : Type 0} (span : Span R) (run : Trace R) (ops : List (Op R)) (slots : List (Option ℕ)) : Type 0 where
   pub each_slot : length slots ≡ length ops
-  pub write_slots : (k : ℕ) → (accesses_of span ops slots 0).slot k ≡ slice_get run.write_slots k
-  pub read_slots : (m : ℕ) → (accesses_of span ops slots 1).slot m ≡ slice_get run.read_slots m
+  pub write_slots : (k : ℕ) → (writer_of span ops slots).slot k ≡ slice_get run.write_slots k
+  pub read_slots : (m : ℕ) → (reader_of span ops slots).slot m ≡ slice_get run.read_slots m
   pub answers : (p m : ℕ) (op : Op R) → slice_get ops p ≡ Some op → op.who ≡ 1 → access_at 0 span 1 m 0 ≡ Some op.starts → op.item ≡ slice_get run.answers m
 
 -- fresh: each finished read is

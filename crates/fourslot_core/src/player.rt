@@ -3,7 +3,10 @@
 
 ghost use Rattle.std.specs.Prelude.{◌≡◌, ◌+◌, ◌<◌, ◌^◌, ◌++◌, [], ◌∷◌, ℕ, length, map, nat_eq, IfErr, IfNone, IfOk, IfSome, IsTrue, OnOk, ◌↔◌, ◌%◌};
 ghost use Rattle.history_core.specs.Schedules.{HasOperations, HasShape, IsFirstOverrun, positions};
-ghost use Rattle.fourslot_core.specs.Play.{actor, IsRefusal, span_of};
+ghost use Rattle.fourslot_core.specs.Play.{actor, IsRefusal, run, span_of};
+ghost use Rattle.fourslot_core.specs.Accesses.{IsClear};
+ghost use Rattle.fourslot_core.specs.Reports.{IsFreshReport, IsOfRun, reader_of, writer_of};
+ghost use Rattle.history_core.specs.Orders.{RefusesLawfully};
 ghost use Rattle.fourslot_core.specs.Runs.{after_reader, after_writer, IsAssembled, numbered, numbered_run, numbered_trace, shown, step_of};
 ghost use Rattle.fourslot_core.specs.Parts.{begun_by, counted, IsAccessesOf, IsPartsOf, made_by, noted, op_of, plan_of, slot_of};
 
@@ -393,6 +396,10 @@ pub fn play_cell<R: Copy>(alloc: Global, s: &CellSchedule<R>) -> Result<CellRepo
     ensures played { IfOk result (λ r. HasOperations (span_of s.now.steps s.now.writes s.now.reads ∷ [])) }
     ensures opening { IfOk result (λ r. r.history.opening ≡ s.now.opening) }
     ensures shape { IfOk result (λ r. HasShape (span_of s.now.steps s.now.writes s.now.reads ∷ []) r.history.terms r.history.ops) }
+    ensures run { IfOk result (λ r. IsOfRun (span_of s.now.steps s.now.writes s.now.reads) (run s.now.opening s.now.noise s.now.writes s.now.steps) r.history.ops r.slots) }
+    ensures clear { IfOk result (λ r. let span = span_of s.now.steps s.now.writes s.now.reads in IsClear (writer_of span r.history.ops r.slots) (reader_of span r.history.ops r.slots)) }
+    ensures fresh { IfOk result (λ r. let span = span_of s.now.steps s.now.writes s.now.reads in IsFreshReport (writer_of span r.history.ops r.slots) (reader_of span r.history.ops r.slots)) }
+    ensures refuses { IfOk result (λ r. RefusesLawfully r.history.terms r.history.ops r.order) }
 {
     let steps = s.steps.as_slice();
     let writes = s.writes.as_slice();

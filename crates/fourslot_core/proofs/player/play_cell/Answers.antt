@@ -2,9 +2,13 @@
 use Rattle.std.proofs.Common.{◌≡◌, ℕ, List, [], ◌∷◌, subst}
 use Rattle.history_core.specs.Schedules.{HasOperations, HasShape, IsFirstOverrun}
 use Rattle.fourslot_core.specs.declared.schedule.Turn.{Turn}
-use Rattle.fourslot_core.specs.Play.{span_of}
+use Rattle.history_core.specs.Orders.{RefusesLawfully}
+use Rattle.fourslot_core.specs.Accesses.{IsClear}
+use Rattle.fourslot_core.specs.Play.{run, span_of}
+use Rattle.fourslot_core.specs.Reports.{IsFreshReport, IsOfRun, reader_of, writer_of}
 use Rattle.fourslot_core.specs.Runs.{IsAssembled, numbered_run}
 use Rattle.fourslot_core.proofs.Operations.{assembled_shape}
+use Rattle.fourslot_core.proofs.ReportAccesses.{of_trace, is_of_run, is_clear, is_fresh, refuses}
 use Rattle.fourslot_core.proofs.player.play_cell.Goals as goal
 
 -- a fact of the two slices is one of the schedule's lists
@@ -28,3 +32,46 @@ returns-in-Ok-clause-shape g c =
     let r = c.in-Ok.report in
     along (λ steps writes. HasShape (span_of steps writes c.args.s.now.reads ∷ []) r.history.terms r.history.ops) _ _ _ _ c.as_slice-steps.ensures c.as_slice-writes.ensures
     (assembled_shape _ c.as_slice-steps.result.now c.as_slice-writes.result.now c.args.s.now.reads r.history.terms r.history.ops r.slots r.order c.in_default.ensures.none c.in-Ok.ensures.assembled)
+
+pub returns-in-Ok-clause-run : goal.returns-in-Ok-clause-run
+returns-in-Ok-clause-run g c =
+    let r = c.in-Ok.report in
+    let steps = c.as_slice-steps.result.now in
+    let writes = c.as_slice-writes.result.now in
+    let o = c.args.s.now.opening in
+    let n = c.args.s.now.noise in
+    let reads = c.args.s.now.reads in
+    along (λ s w. IsOfRun (span_of s w reads) (run o n w s) r.history.ops r.slots) _ _ _ _ c.as_slice-steps.ensures c.as_slice-writes.ensures
+    (is_of_run o n steps writes reads r.history.terms r.history.ops r.slots r.order (of_trace o n steps writes reads r.history.terms r.history.ops r.slots r.order c.in-Ok.ensures.assembled))
+
+pub returns-in-Ok-clause-clear : goal.returns-in-Ok-clause-clear
+returns-in-Ok-clause-clear g c =
+    let r = c.in-Ok.report in
+    let steps = c.as_slice-steps.result.now in
+    let writes = c.as_slice-writes.result.now in
+    let o = c.args.s.now.opening in
+    let n = c.args.s.now.noise in
+    let reads = c.args.s.now.reads in
+    along (λ s w. IsClear (writer_of (span_of s w reads) r.history.ops r.slots) (reader_of (span_of s w reads) r.history.ops r.slots)) _ _ _ _ c.as_slice-steps.ensures c.as_slice-writes.ensures
+    (is_clear o n steps writes reads r.history.terms r.history.ops r.slots r.order (of_trace o n steps writes reads r.history.terms r.history.ops r.slots r.order c.in-Ok.ensures.assembled))
+
+pub returns-in-Ok-clause-fresh : goal.returns-in-Ok-clause-fresh
+returns-in-Ok-clause-fresh g c =
+    let r = c.in-Ok.report in
+    let steps = c.as_slice-steps.result.now in
+    let writes = c.as_slice-writes.result.now in
+    let o = c.args.s.now.opening in
+    let n = c.args.s.now.noise in
+    let reads = c.args.s.now.reads in
+    along (λ s w. IsFreshReport (writer_of (span_of s w reads) r.history.ops r.slots) (reader_of (span_of s w reads) r.history.ops r.slots)) _ _ _ _ c.as_slice-steps.ensures c.as_slice-writes.ensures
+    (is_fresh o n steps writes reads r.history.terms r.history.ops r.slots r.order (of_trace o n steps writes reads r.history.terms r.history.ops r.slots r.order c.in-Ok.ensures.assembled))
+
+pub returns-in-Ok-clause-refuses : goal.returns-in-Ok-clause-refuses
+returns-in-Ok-clause-refuses g c =
+    let r = c.in-Ok.report in
+    let steps = c.as_slice-steps.result.now in
+    let writes = c.as_slice-writes.result.now in
+    let o = c.args.s.now.opening in
+    let n = c.args.s.now.noise in
+    let reads = c.args.s.now.reads in
+    (refuses o n steps writes reads r.history.terms r.history.ops r.slots r.order (of_trace o n steps writes reads r.history.terms r.history.ops r.slots r.order c.in-Ok.ensures.assembled))
