@@ -58,13 +58,19 @@ next_write W5 = W1
 -- the state after the event that follows this one of the writer
 abbrev pub after_write : {R : Type 0} → Stage → R → State R → State R
 -- W1: load reading; take its opposite as pair, and the opposite of the pair's remembered bit as index
-after_write W5 x s = record s { writer = W1; write = place_of (not s.reading) (not (side s.remembered (not s.reading))); item = x }
+after_write W5 x s =
+    record s { writer = W1; write = place_of (not s.reading) (not (side s.remembered (not s.reading))); item = x }
 -- W2: the slot write begins
 after_write W1 x s = record s { writer = W2; met = s.met || (is_reading s.reader && same_place s.write s.read) }
 -- W3: it ends
 after_write W2 x s = record s { writer = W3; records = with_record s.records s.write s.item }
 -- W4: store the index
-after_write W3 x s = record s { writer = W4; slot = with_side s.slot s.write.pair s.write.index; remembered = with_side s.remembered s.write.pair s.write.index }
+after_write W3 x s =
+    record s {
+      writer = W4;
+      slot = with_side s.slot s.write.pair s.write.index;
+      remembered = with_side s.remembered s.write.pair s.write.index;
+    }
 -- W5: store the pair
 after_write W4 x s = record s { writer = W5; latest = s.write.pair }
 
@@ -88,7 +94,12 @@ after_read reader.R5 s = record s { reader = reader.R1; read = place_of s.latest
 -- R2: store the pair in reading
 after_read reader.R1 s = record s { reader = reader.R2; reading = s.read.pair }
 -- R3: load the pair's bit
-after_read reader.R2 s = record s { reader = reader.R3; read = place_of s.read.pair (side s.slot s.read.pair); chosen = Some (place_of s.read.pair (side s.slot s.read.pair)) }
+after_read reader.R2 s =
+    record s {
+      reader = reader.R3;
+      read = place_of s.read.pair (side s.slot s.read.pair);
+      chosen = Some (place_of s.read.pair (side s.slot s.read.pair));
+    }
 -- R4: the slot read begins
 after_read reader.R3 s = record s { reader = reader.R4; met = is_writing s.writer && same_place s.write s.read }
 -- R5: it ends
