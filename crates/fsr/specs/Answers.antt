@@ -1,0 +1,57 @@
+-- The answer to a document: what is printed with which status, or the fault (this project's own).
+use Rattle.std.specs.Prelude.{◌≡◌, ◌≢◌, ℕ, List, Result, Ok, Err}
+use Rattle.history_core.specs.Orders.{IsVerdict}
+use Rattle.history_core.specs.declared.history.History.{History}
+use Rattle.history_core.specs.declared.history.Verdict.{Verdict}
+use Rattle.history_core.specs.declared.history.Verdict.TheVariants.{Lawful, Listing, Precedence, Reading, Limit}
+use Rattle.history_core.specs.declared.band.Band.{Band}
+use Rattle.schedule_text.specs.Document.{document_of}
+use Rattle.schedule_text.specs.Text.{text_of}
+use Rattle.schedule_text.specs.declared.document.Want.{Want}
+use Rattle.schedule_text.specs.declared.document.Document.{Document}
+use Rattle.schedule_text.specs.declared.document.Document.TheVariants.{Check}
+use Rattle.schedule_text.specs.declared.document.DocError.{DocError}
+use Rattle.schedule_text.specs.declared.report.Report.{Report}
+use Rattle.schedule_text.specs.declared.report.Report.TheVariants as report
+use Rattle.fsr.specs.declared.fault.Answer.{Answer}
+use Rattle.fsr.specs.declared.fault.Fault.{Fault}
+use Rattle.fsr.specs.declared.fault.Fault.TheVariants as fault
+
+-- the status of a verdict: 0 where the order is lawful, else 1
+abbrev pub status_of : Verdict → ℕ
+status_of Lawful = 0
+status_of Listing = 1
+status_of Precedence = 1
+status_of Reading = 1
+status_of Limit = 1
+
+-- the text of a report, with this status
+abbrev pub printed : Report → ℕ → Answer
+printed r status = record { text = text_of r; status = status }
+
+-- the verdict on an order of a history of bands
+abbrev pub IsVerdictOn : History Band → List ℕ → Verdict → Type 0
+IsVerdictOn history order v = IsVerdict (λ x y. x ≡ y) history.opening history.terms history.ops order v
+
+-- the answer to a history and an order of it: the text of the verdict
+abbrev pub AnswersCheck : History Band → List ℕ → Result Answer Fault → Type 0
+AnswersCheck history order reply =
+    (v : Verdict) × IsVerdictOn history order v × (reply ≡ Ok (printed (report.Verdict v) (status_of v)))
+
+-- the answer to what a document stands for
+abbrev pub Answers : Document → Result Answer Fault → Type 0
+Answers (Check history order) reply = AnswersCheck history order reply
+
+-- the same where a document may be refused, which is the fault then
+abbrev pub AnswersReading : Result Document DocError → Result Answer Fault → Type 0
+AnswersReading (Ok document) reply = Answers document reply
+AnswersReading (Err refusal) reply = reply ≡ Err (fault.Document refusal)
+
+-- the answer of a command to the bytes of a document
+abbrev pub IsAnswer : Want → List ℕ → Result Answer Fault → Type 0
+IsAnswer want bytes reply = AnswersReading (document_of want bytes) reply
+
+-- what a call returned is such a reply, unless memory ran out
+abbrev pub Gives : (Result Answer Fault → Type 0) → Result Answer Fault → Type 0
+Gives IsReply (Ok answer) = IsReply (Ok answer)
+Gives IsReply (Err e) = e ≢ fault.NoMemory → IsReply (Err e)

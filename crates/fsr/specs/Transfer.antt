@@ -1,0 +1,25 @@
+-- What reading the input does (this project's own).
+use Rattle.std.specs.Prelude.{◌≡◌, ◌≤◌, ◌+◌, ◌++◌, ℕ, List, length, Option, Result, Ok, Err, Vec}
+use Rattle.std.specs.declared.alloc.Global.{Global}
+use Rattle.std.specs.Io.KnownBytes.{Consumes, IsAtEnd}
+use Rattle.fsr.specs.Run.{IsWhole, most_taken}
+use Rattle.fsr.specs.declared.transfer.InputFault.{InputFault}
+use Rattle.fsr.specs.declared.transfer.InputFault.TheVariants.{Failed, NoMemory}
+
+-- These bytes were taken, and no more than a run takes.
+abbrev pub TakesBytes : Option (List ℕ) → Option (List ℕ) → List ℕ → Type 0
+TakesBytes old new taken = Consumes old new taken × (length taken ≤ most_taken)
+
+abbrev pub Takes : Option (List ℕ) → Option (List ℕ) → Result (Vec ℕ Global) InputFault → Type 0
+Takes old new (Ok v) = TakesBytes old new v.items × IsWhole v.items new
+Takes old new (Err e) = (taken : List ℕ) × TakesBytes old new taken
+
+abbrev pub CountsFailure : {T : Type 0} → ℕ → ℕ → Result T InputFault → Type 0
+CountsFailure old new (Ok x) = new ≡ old
+CountsFailure old new (Err Failed) = new ≡ old + 1
+CountsFailure old new (Err NoMemory) = new ≡ old
+
+-- A piece was taken and added, which is empty at the end alone; or it was taken, and what had come before stays within the bound with it.
+abbrev pub TakesMore : Option (List ℕ) → Option (List ℕ) → List ℕ → List ℕ → Result ℕ InputFault → Type 0
+TakesMore old new before after (Ok n) = (taken : List ℕ) × Consumes old new taken × (after ≡ before ++ taken) × (length after ≤ most_taken) × (length taken ≡ n) × (n ≡ 0 → IsAtEnd new)
+TakesMore old new before after (Err e) = (taken : List ℕ) × Consumes old new taken × (length before + length taken ≤ most_taken)

@@ -1,0 +1,53 @@
+ghost use Rattle.std.specs.Prelude.{◌≡◌, ◌≢◌, None, Some, map, IfOk, IfErr};
+ghost use Rattle.clap.specs.Words.{app_of};
+ghost use Rattle.fsr.specs.Command.{fsr, command_of, Refuses};
+
+use clap::error::ErrorKind;
+use clap::{Command, Error};
+use schedule_text::Want;
+use std::alloc::{AllocError, Global};
+use std::convert::AsStr;
+
+/// Why words are no command.
+#[derive(Drop)]
+pub enum NoCommand {
+    /// Among them a request for help.
+    Refused(Error),
+    /// The line has a subcommand that no command stands for.
+    Unknown,
+    NoMemory,
+}
+
+/// The command line of `fsr`.
+fn command_line<'a>(alloc: Global) -> Result<Command<'a>, AllocError>
+    ensures { IfOk result (λ c. app_of c ≡ fsr) }
+{
+    let check = Command::new(alloc, "check").about("Checks that an order of a history is atomic");
+    Command::new(alloc, "fsr")
+        .about("Reads a document on standard input")
+        .subcommand_required(true)
+        .subcommand(check)
+}
+
+/// The command that the words name. The first word is the program's name.
+pub fn command_of<'a, S: AsStr>(alloc: Global, words: &'a [S]) -> Result<Want, NoCommand>
+    ensures ok { IfOk result (λ want. command_of (map S.text words.now) ≡ Some want) }
+    ensures err { IfErr result (λ e. Refuses e (command_of (map S.text words.now))) }
+{
+    let Ok(line) = command_line(alloc) else {
+        return Err(NoCommand::NoMemory);
+    };
+    match line.try_get_matches_from(words) {
+        Ok(matches) => match matches.subcommand_name() {
+            Some("check") => Ok(Want::Check),
+            _ => Err(NoCommand::Unknown),
+        },
+        Err(e) => {
+            if e.kind() == ErrorKind::OutOfMemory {
+                Err(NoCommand::NoMemory)
+            } else {
+                Err(NoCommand::Refused(e))
+            }
+        }
+    }
+}

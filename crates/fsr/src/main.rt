@@ -1,0 +1,40 @@
+//! `fsr`: checks a history that comes as a document on standard input.
+#![tactic(auto)]
+
+mod command;
+mod fault;
+mod reply;
+mod run;
+mod stream;
+mod transfer;
+
+use crate::run::{NO_MEMORY, run, tell};
+use crate::stream::Over;
+use std::io::ErrorKind;
+use std::process::ExitCode;
+
+fn main(rt: HostRuntime) -> ExitCode {
+    let alloc = rt.alloc();
+    let mut faults = Over::new(rt.stderr());
+    let words: Vec<String> = match std::env::args(&rt) {
+        Ok(all) => match all.collect(alloc) {
+            Ok(words) => words,
+            Err(_) => {
+                tell(&mut faults, NO_MEMORY);
+                return ExitCode::from(4);
+            }
+        },
+        Err(e) => {
+            if e.kind() == ErrorKind::OutOfMemory {
+                tell(&mut faults, NO_MEMORY);
+                return ExitCode::from(4);
+            }
+            tell(&mut faults, "fsr: words are not UTF-8\n");
+            return ExitCode::from(2);
+        }
+    };
+    let mut input = Over::new(rt.stdin());
+    let mut out = Over::new(rt.stdout());
+    let status = run(alloc, words.as_slice(), &mut input, &mut out, &mut faults);
+    ExitCode::from(status)
+}

@@ -1,0 +1,49 @@
+ghost use Rattle.std.specs.Prelude.{◌≡◌, IfOk};
+ghost use Rattle.fsr.specs.Answers.{AnswersCheck, Gives, IsAnswer, printed, status_of};
+
+use crate::fault::{Answer, Fault};
+use history_core::{Band, History, Items, Verdict, check_order};
+use schedule_text::{DocError, Document, Report, Want, read_document, report_text};
+use std::alloc::{AllocError, Global};
+
+/// The answer of a command to the bytes of a document.
+pub fn answer(alloc: Global, want: Want, bytes: &[u8]) -> Result<Answer, Fault>
+    ensures { Gives (IsAnswer want bytes.now) result }
+{
+    let document = match read_document(alloc, want, bytes) {
+        Ok(document) => document,
+        Err(DocError::NoMemory) => return Err(Fault::NoMemory),
+        Err(refusal) => return Err(Fault::Document(refusal)),
+    };
+    match document {
+        Document::Check { history, order } => check(alloc, &history, &order),
+    }
+}
+
+/// The verdict on an order of a history.
+fn check(alloc: Global, history: &History<Band>, order: &Items<usize>) -> Result<Answer, Fault>
+    ensures { Gives (AnswersCheck history.now order.now) result }
+{
+    let verdict = check_order(history, order.as_slice());
+    match print(alloc, &Report::Verdict(verdict), status_of(verdict)) {
+        Ok(answer) => Ok(answer),
+        Err(AllocError) => Err(Fault::NoMemory),
+    }
+}
+
+/// The text of a report, with this status.
+fn print(alloc: Global, report: &Report, status: u8) -> Result<Answer, AllocError>
+    ensures { IfOk result (λ answer. answer ≡ printed report.now status) }
+{
+    let text = Items::new(report_text(alloc, report)?);
+    Ok(Answer { text, status })
+}
+
+fn status_of(verdict: Verdict) -> u8
+    ensures { result ≡ status_of verdict }
+{
+    match verdict {
+        Verdict::Lawful => 0,
+        _ => 1,
+    }
+}
