@@ -1,12 +1,11 @@
 -- The answer to a document of each kind, from what the calls of its command gave.
-use Rattle.std.proofs.Common.{◌≡◌, ℕ, List, Result, Ok, Err, refl, ap, sym, ◌∙◌, subst}
+use Rattle.std.proofs.Common.{◌≡◌, ℕ, List, Result, Ok, Err, ap, sym, ◌∙◌, subst}
 use Rattle.history_core.specs.Orders.{IsVerdict}
 use Rattle.history_core.specs.declared.band.Band.{Band}
 use Rattle.history_core.specs.declared.history.History.{History}
 use Rattle.history_core.specs.declared.history.Verdict.{Verdict}
 use Rattle.schedule_text.specs.Document.{document_of}
 use Rattle.schedule_text.specs.declared.document.Document.{Document}
-use Rattle.schedule_text.specs.declared.document.Document.TheVariants.{Check}
 use Rattle.schedule_text.specs.declared.document.Want.{Want}
 use Rattle.schedule_text.specs.declared.report.Report.TheVariants as report
 use Rattle.fsr.specs.Answers.{Answers, AnswersCheck, AnswersReading, Gives, IsAnswer, printed, status_of}

@@ -1,8 +1,8 @@
 -- The ends of a run: each says what was taken and what went out, and why the status tells it.
-use Rattle.std.proofs.Common.{rules, ◌≡◌, ◌≢◌, ◌⊎◌, inl, inr, ◌≤◌, ℕ, List, [], length, Option, Some, None, Result, Ok, Err, refl, ap, sym, ◌∙◌, arith, subst}
+use Rattle.std.proofs.Common.{rules, ◌≡◌, ◌⊎◌, inl, inr, ◌≤◌, ℕ, List, [], Option, Some, None, Result, Ok, Err, refl, ap, arith, subst}
 use Rattle.std.proofs.KnownBytes.{Consumes-nil, Appends-nil}
 use Rattle.std.specs.Io.{StartsWith}
-use Rattle.std.specs.Io.KnownBytes.{Appends, Consumes}
+use Rattle.std.specs.Io.KnownBytes.{Appends}
 use Rattle.history_core.specs.declared.history.Verdict.{Verdict}
 use Rattle.history_core.specs.declared.history.Verdict.TheVariants.{Lawful, Listing, Precedence, Reading, Limit}
 use Rattle.schedule_text.specs.declared.document.Document.{Document}
@@ -10,8 +10,8 @@ use Rattle.schedule_text.specs.declared.document.Document.TheVariants.{Check}
 use Rattle.schedule_text.specs.declared.document.DocError.{DocError}
 use Rattle.schedule_text.specs.declared.document.Want.{Want}
 use Rattle.schedule_text.specs.Document.{document_of}
-use Rattle.fsr.specs.Answers.{Answers, AnswersReading, Gives, IsAnswer, status_of}
-use Rattle.fsr.specs.Run.{Runs, IsOutcome, IsWhole, most_taken, told_by, fault_status}
+use Rattle.fsr.specs.Answers.{AnswersReading, Gives, IsAnswer, status_of}
+use Rattle.fsr.specs.Run.{Runs, IsWhole, told_by, fault_status}
 use Rattle.fsr.specs.Transfer.{TakesBytes}
 use Rattle.fsr.specs.declared.fault.Answer.{Answer}
 use Rattle.fsr.specs.declared.fault.Fault.{Fault}

@@ -1,6 +1,5 @@
 -- The verdict on bands by their fields is the verdict by their values: two bands with the same fields are the same.
-use Rattle.std.proofs.Common.{rules, arith, tests, ◌≡◌, ◌&&◌, IsTrue, ℕ, List, Bool, true, false, eqb, length, Option, Some, None, refl, ap, sym, ◌∙◌, Result, Ok, Err}
-use Rattle.std.proofs.lemmas.Bool.Decides.{nat_tests}
+use Rattle.std.proofs.Common.{rules, tests, ◌≡◌, ◌&&◌, IsTrue, ℕ, List, eqb, Option, Some, None}
 use Rattle.history_core.specs.Orders.{IsAtomicOrder, IsVerdict, ReadsLatest, ReadsRight}
 use Rattle.history_core.specs.declared.band.Band.{Band}
 use Rattle.history_core.specs.declared.history.Op.{Op}
