@@ -1,0 +1,75 @@
+# Refused growth: each request for memory of a program is refused in turn by a malloc that is loaded before the C library's
+# (refuse.c), until a run meets no refusal. Each run ends as with ample memory, or says that there is no memory and prints
+# nothing besides.
+
+compiler=
+for name in "${CC:-cc}" gcc clang; do
+    if command -v "$name" >/dev/null 2>&1; then
+        compiler=$name
+        break
+    fi
+done
+
+# Whether a run ended as one without memory does: `fsr` by its status and the line on standard error, `growths` by its answer.
+is_refusal() {
+    case $1 in
+    fsr) [ "$status" = 4 ] && [ ! -s "$room/out" ] && [ "$(cat "$room/err")" = "fsr: out of memory" ] ;;
+    growths) [ "$status" = 0 ] && [ "$(cat "$room/out")" = "out of memory" ] && [ ! -s "$room/err" ] ;;
+    esac
+}
+
+# Runs a program on an input, with these words, with each of its requests refused in turn. The answer that is wanted stands
+# in the file `wanted`, and the status is 0.
+refuse_each() {
+    program=$1 input=$2
+    shift 2
+    title="$program $* with each request for memory refused"
+    if ! has_program "$program"; then
+        fail "$title" "$program wasn't built"
+        return
+    fi
+    request=0
+    refusals=0
+    while :; do
+        request=$((request + 1))
+        rm -f "$room/met"
+        REFUSE=$request REFUSE_MARK=$room/met LD_PRELOAD=$room/refuse.so \
+            "crates/$program/out/$program" "$@" <"$input" >"$room/out" 2>"$room/err"
+        status=$?
+        if [ "$status" = 0 ] && cmp -s "$room/out" "$room/wanted" && [ ! -s "$room/err" ]; then
+            [ -e "$room/met" ] && continue
+            break
+        fi
+        if [ ! -e "$room/met" ]; then
+            fail "$title" "with ample memory it ended with status $status and another answer"
+            return
+        fi
+        if ! is_refusal "$program"; then
+            fail "$title" "at request $request it ended with status $status: $(head -c 200 "$room/out" "$room/err")"
+            return
+        fi
+        refusals=$((refusals + 1))
+    done
+    if [ "$refusals" = 0 ]; then
+        fail "$title" "no request was refused"
+    else
+        pass "$title ($((request - 1)) requests)"
+    fi
+}
+
+if [ -z "$compiler" ]; then
+    fail "refused growth" "there is no C compiler"
+elif ! "$compiler" -O1 -shared -fPIC -o "$room/refuse.so" tests/refuse.c -ldl; then
+    fail "refused growth" "tests/refuse.c wasn't compiled"
+else
+    for name in lawful; do
+        cp "examples/$name.txt" "$room/wanted"
+        refuse_each fsr "examples/$name.json" check
+    done
+    for on in check; do
+        cp "tests/growths/read_document.$on.txt" "$room/wanted"
+        refuse_each growths /dev/null read_document "$on"
+        cp "tests/growths/report_text.$on.txt" "$room/wanted"
+        refuse_each growths /dev/null report_text "$on"
+    done
+fi
