@@ -38,3 +38,6 @@ fn main(rt: HostRuntime) -> ExitCode {
     let status = run(alloc, words.as_slice(), &mut input, &mut out, &mut faults);
     ExitCode::from(status)
 }
+
+#[cfg(test)]
+mod tests;

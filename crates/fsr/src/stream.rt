@@ -69,6 +69,13 @@ impl<S> Over<S> {
     }
 }
 
+#[cfg(test)]
+impl<S> Over<S> {
+    pub fn stream(&self) -> &S {
+        &self.stream
+    }
+}
+
 impl<S: io::Read> Source for Over<S> {
     ghost remaining = { λ o. S.remaining o.stream };
 

@@ -1,0 +1,7 @@
+mod long;
+mod refusals;
+mod runs;
+mod streams;
+mod transfers;
+mod verdicts;
+mod words;

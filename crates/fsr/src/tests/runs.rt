@@ -1,0 +1,30 @@
+use crate::run::run;
+use crate::stream::Over;
+use crate::tests::streams::{Full, Kept, Pieces};
+use std::alloc::{AllocError, Global};
+use std::process::Abort;
+
+/// More bytes than any test gives or prints.
+pub const AMPLE: usize = 2_000_000;
+
+/// Runs `fsr check` on a document, and sees that it ends with this status, prints this text and tells this fault.
+pub fn check(rt: &impl Abort, alloc: Global, document: &[u8], status: u8, text: &str, fault: &str) {
+    let mut input = Over::new(Pieces::new(document, 4096, AMPLE));
+    let mut out = Over::new(Kept::new(alloc, AMPLE, Full::Fails));
+    let mut faults = Over::new(Kept::new(alloc, AMPLE, Full::Fails));
+    let ended = run(alloc, &["fsr", "check"], &mut input, &mut out, &mut faults);
+    assert_eq!(rt; ended, status);
+    assert!(rt; out.stream().as_slice() == text.as_bytes());
+    assert!(rt; faults.stream().as_slice() == fault.as_bytes());
+}
+
+/// A document of kind `check` with these operations and this order. Its opening is `[0,0,0]` and its limit 9.
+pub fn document(alloc: Global, ops: &str, order: &str) -> Result<String, AllocError> {
+    format!(in alloc;
+        "{{\"kind\":\"check\",\"opening\":[0,0,0],\"limit\":9,\"ops\":[{ops}],\"order\":[{order}]}}"
+    )
+}
+
+/// A write and a read of its record, in the order in which they are lawful.
+pub const ROW: &str =
+    "{\"kind\":\"check\",\"opening\":[0,0,0],\"limit\":9,\"ops\":[\n {\"who\":0,\"kind\":\"write\",\"begin\":0,\"end\":4,\"record\":[1,1,1]},\n {\"who\":1,\"kind\":\"read\",\"begin\":5,\"end\":9,\"record\":[1,1,1]}],\n \"order\":[0,1]}";

@@ -1,0 +1,94 @@
+use crate::run::run;
+use crate::stream::{Failed, Over, Sink, Source};
+use crate::tests::long::padded;
+use crate::tests::runs::{AMPLE, ROW};
+use crate::tests::streams::{Full, Kept, Pieces};
+use std::test::Fail;
+
+#[test]
+fn runs_over_hostile_streams(rt: HostRuntime) {
+    // the most bytes of a read, where reading fails, the room of the output and what follows, and what comes of it
+    for (most, fails_at, room, full, status, text, fault) in [
+        (4096, AMPLE, 7, Full::Fails, 0, "lawful\n", ""),
+        (1, AMPLE, AMPLE, Full::Fails, 0, "lawful\n", ""),
+        (4096, 10, AMPLE, Full::Fails, 5, "", "fsr: read failed\n"),
+        (1, 10, AMPLE, Full::Fails, 5, "", "fsr: read failed\n"),
+        (
+            4096,
+            ROW.len(),
+            AMPLE,
+            Full::Fails,
+            5,
+            "",
+            "fsr: read failed\n",
+        ),
+        (4096, 0, 0, Full::Fails, 5, "", "fsr: read failed\n"),
+        (4096, AMPLE, 3, Full::Fails, 5, "law", "fsr: write failed\n"),
+        (
+            1,
+            AMPLE,
+            6,
+            Full::TakesNothing,
+            5,
+            "lawful",
+            "fsr: write failed\n",
+        ),
+        (
+            4096,
+            AMPLE,
+            0,
+            Full::TakesNothing,
+            5,
+            "",
+            "fsr: write failed\n",
+        ),
+    ] {
+        let mut input = Over::new(Pieces::new(ROW.as_bytes(), most, fails_at));
+        let mut out = Over::new(Kept::new(rt.alloc(), room, full));
+        let mut faults = Over::new(Kept::new(rt.alloc(), AMPLE, Full::Fails));
+        let ended = run(
+            rt.alloc(),
+            &["fsr", "check"],
+            &mut input,
+            &mut out,
+            &mut faults,
+        );
+        assert_eq!(rt; ended, status);
+        assert!(rt; out.stream().as_slice() == text.as_bytes());
+        assert!(rt; faults.stream().as_slice() == fault.as_bytes());
+        let failed = Source::failures(&input) + Sink::failures(&out);
+        assert_eq!(rt; failed, if status == 5 { 1 } else { 0 });
+    }
+}
+
+/// A document is read to one byte more than the longest, also where more comes, and a failure of the fault lines' writer
+/// changes no status.
+#[test]
+fn leaves_the_rest_unread(rt: HostRuntime) -> Result<(), Fail> {
+    let document = padded(rt.alloc(), 1_100_000)?;
+    let mut input = Over::new(Pieces::new(document.as_slice(), 3000, AMPLE));
+    let mut out = Over::new(Kept::new(rt.alloc(), AMPLE, Full::Fails));
+    let mut faults = Over::new(Kept::new(rt.alloc(), 5, Full::TakesNothing));
+    let ended = run(
+        rt.alloc(),
+        &["fsr", "check"],
+        &mut input,
+        &mut out,
+        &mut faults,
+    );
+    assert_eq!(rt; ended, 3);
+    assert_eq!(rt; input.stream().taken(), 1_048_577);
+    assert!(rt; out.stream().as_slice().is_empty());
+    assert!(rt; faults.stream().as_slice() == b"fsr: ".as_slice());
+    assert_eq!(rt; Sink::failures(&faults), 1);
+    Ok(())
+}
+
+/// A writer that takes no byte of an empty piece does as it is told.
+#[test]
+fn puts_an_empty_piece(rt: HostRuntime) {
+    let mut out = Over::new(Kept::new(rt.alloc(), 0, Full::TakesNothing));
+    assert_eq!(rt; out.put(b""), Ok(0));
+    assert_eq!(rt; out.put(b"a"), Err(Failed));
+    assert_eq!(rt; Sink::failures(&out), 1);
+}

@@ -1,0 +1,32 @@
+use crate::run::run;
+use crate::stream::Over;
+use crate::tests::runs::{AMPLE, ROW};
+use crate::tests::streams::{Full, Kept, Pieces};
+use std::alloc::Global;
+use std::process::Abort;
+
+/// Sees that the words are refused with nothing read and nothing on standard output, and how the text on standard error
+/// begins.
+fn refuses(rt: &impl Abort, alloc: Global, words: &[&str], begins: &str) {
+    let mut input = Over::new(Pieces::new(ROW.as_bytes(), 4096, 0));
+    let mut out = Over::new(Kept::new(alloc, AMPLE, Full::Fails));
+    let mut faults = Over::new(Kept::new(alloc, AMPLE, Full::Fails));
+    let ended = run(alloc, words, &mut input, &mut out, &mut faults);
+    assert_eq!(rt; ended, 2);
+    assert!(rt; out.stream().as_slice().is_empty());
+    assert!(rt; faults.stream().as_slice().starts_with(begins.as_bytes()));
+}
+
+#[test]
+fn refuses_words_that_are_no_command(rt: HostRuntime) {
+    refuses(&rt, rt.alloc(), &["fsr"], "error:");
+    refuses(&rt, rt.alloc(), &["fsr", ""], "error:");
+    refuses(&rt, rt.alloc(), &["fsr", "checks"], "error:");
+    refuses(&rt, rt.alloc(), &["fsr", "--version"], "error:");
+    refuses(&rt, rt.alloc(), &["fsr", "check", "check"], "error:");
+    refuses(&rt, rt.alloc(), &["fsr", "check", "-x"], "error:");
+    refuses(&rt, rt.alloc(), &["fsr", "help"], "Reads a document");
+    refuses(&rt, rt.alloc(), &["fsr", "-h"], "Reads a document");
+    refuses(&rt, rt.alloc(), &["fsr", "--help"], "Reads a document");
+    refuses(&rt, rt.alloc(), &["fsr", "check", "--help"], "Checks that");
+}
