@@ -1,3 +1,5 @@
 pub mod Running
 pub mod Triple
 pub mod TripleWords
+pub mod FourSlot
+pub mod FourSlotSteps

@@ -2,6 +2,7 @@
 #![tactic(auto)]
 
 mod cell;
+mod four_slot;
 mod moves;
 mod triple;
 

@@ -1,0 +1,52 @@
+//! What the seats of a four-slot cell know. No value of these types is made. A record stands in them as a snapshot, since the
+//! size of a view's type must be known.
+use fourslot_core::{Place, ReadEvent, ReaderStage, Sides, Stage, WriteEvent};
+use std::collections::LinkedList;
+use std::snapshot::Snapshot;
+
+/// What the writer's seat knows.
+pub struct WriterNotes<T> {
+    /// The last event: W5 between two writes.
+    pub stage: Stage,
+    /// The slot that the last W1 chose, and the item that it took.
+    pub place: Place,
+    pub item: Snapshot<T>,
+    /// The pairs' bits, as the writer remembers them.
+    pub remembered: Sides<bool>,
+    /// The record of the last finished write.
+    pub finished: Snapshot<T>,
+    pub opening: Snapshot<T>,
+    pub written: LinkedList<T>,
+    /// The slot of each write, beside its record.
+    pub slots: LinkedList<Place>,
+    pub events: LinkedList<WriteEvent<T>>,
+    /// The control accesses made.
+    pub accesses: u64,
+}
+
+/// What the reader's seat knows.
+pub struct ReaderNotes<T> {
+    /// The last event: R5 between two reads.
+    pub stage: ReaderStage,
+    /// The pair of the last R1 and the index of the last R3.
+    pub place: Place,
+    /// The slot that the last R3 chose. The seat has it until the next R2.
+    pub chosen: Option<Place>,
+    /// The record with which that slot came.
+    pub at_hand: Snapshot<T>,
+    pub opening: Snapshot<T>,
+    pub answers: LinkedList<T>,
+    pub told: LinkedList<T>,
+    pub events: LinkedList<ReadEvent<T>>,
+    /// The control accesses made.
+    pub accesses: u64,
+}
+
+/// What a seat knows.
+pub enum Sight<T> {
+    Spent,
+    Told(Snapshot<T>),
+    Writer(WriterNotes<T>),
+    Reader(ReaderNotes<T>),
+    Both(WriterNotes<T>, ReaderNotes<T>),
+}
