@@ -1,5 +1,5 @@
 -- The words and slots of a four-slot cell show a state of the register through each step: a slot that a side takes is at home, since the invariant keeps it apart from the other side's.
-use Rattle.std.proofs.Common.{◌≡◌, ◌≢◌, ◌⊎◌, ℕ, ◌+◌, ◌*◌, ◌<◌, ◌≤◌, Bool, true, false, not, Option, None, Some, List, [], ◌∷◌, length, get_or, set, sym, refl, ap, ◌∙◌, subst, ⊎_elim, inl, inr, arith, length-set}
+use Rattle.std.proofs.Common.{◌≡◌, ◌≢◌, ℕ, ◌+◌, Bool, true, false, not, Option, None, Some, List, [], ◌∷◌, length, get_or, set, sym, refl, ap, ◌∙◌, subst, ⊎_elim, arith, length-set}
 use Rattle.std.proofs.lemmas.Option.{same_Some}
 use mathlib.Core.Option.{some, none, Option as Opt}
 use lib.ListN.{get_elem?}
@@ -10,7 +10,7 @@ use Rattle.fourslot_core.specs.declared.state.Place.{Place}
 use Rattle.fourslot_core.specs.declared.state.State.{State as Core}
 use Rattle.fourslot_core.specs.declared.state.Stage.TheVariants as writer
 use Rattle.fourslot_core.specs.declared.state.ReaderStage.TheVariants as reader
-use Rattle.fourslot_core.specs.Events.{side, with_side, record_in, with_record, place_of, bit_number, slot_number, after_write, after_read}
+use Rattle.fourslot_core.specs.Events.{side, with_side, record_in, place_of, bit_number, slot_number, after_write, after_read}
 use Rattle.fourslot_core.specs.Invariant.{HasSlot, IsKept, IsSound}
 use Rattle.fourslot_core.proofs.TwoSides.{not_same, record_same, record_other}
 use Rattle.cell_live.specs.FourSlot.{InTable, HeldByWriter, HeldByReader, named_place}
@@ -80,7 +80,7 @@ module _ {T : Type 0} where
         four = length-set hs (slot_number k0) (some c.item) ∙ t.four;
         home = λ k mine theirs. ⊎_elim
             (λ (e : k ≡ k0). ap (λ (j : Place). get_elem? (set hs (slot_number k0) (some c.item)) (slot_number j)) e
-              ∙ (set_here hs (slot_number k0) (some c.item) (omega arith) ∙ (ap (λ (y : T). some (some y)) (sym (t.in_writer (subst HasSlot (sym w) tt))) ∙ ap (λ (j : Place). some (some (record_in c.records j))) (sym e))))
+            ∙ (set_here hs (slot_number k0) (some c.item) (omega arith) ∙ (ap (λ (y : T). some (some y)) (sym (t.in_writer (subst HasSlot (sym w) tt))) ∙ ap (λ (j : Place). some (some (record_in c.records j))) (sym e))))
             (λ (ne : k ≢ k0). set_else hs (slot_number k0) (slot_number k) (some c.item) (λ e. ne (place_number k k0 e)) ∙ t.home k (λ u. ne u.1) theirs)
             (same_or_not k k0);
         in_writer = λ n. absurd n;
@@ -119,7 +119,7 @@ module _ {T : Type 0} where
   back_home hs None h c four is has home k mine = home k mine (λ e. let no : None ≡ Some k = sym is ∙ e in absurd (cc))
   back_home hs (Some j) h c four is has home k mine = let low = slot_low j in ⊎_elim
       (λ (e : k ≡ j). ap (λ (z : Place). get_elem? (set hs (slot_number j) (some h)) (slot_number z)) e
-        ∙ (set_here hs (slot_number j) (some h) (omega arith) ∙ (ap (λ (y : T). some (some y)) (sym (has j is)) ∙ ap (λ (z : Place). some (some (record_in c.records z))) (sym e))))
+      ∙ (set_here hs (slot_number j) (some h) (omega arith) ∙ (ap (λ (y : T). some (some y)) (sym (has j is)) ∙ ap (λ (z : Place). some (some (record_in c.records z))) (sym e))))
       (λ (ne : k ≢ j). set_else hs (slot_number j) (slot_number k) (some h) (λ e. ne (place_number k j e)) ∙ home k mine (λ e. ne (sym (same_Some j k (sym is ∙ e)))))
       (same_or_not k j)
 

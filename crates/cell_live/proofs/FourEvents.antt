@@ -1,19 +1,17 @@
 -- The passes' lists of events lead to the state shown: a step adds its events at the end of one list, and the state after it is the state before with these events made.
-use Rattle.std.proofs.Common.{◌≡◌, Bool, false, not, ◌&&◌, if◌then◌else◌, Option, List, [], ◌∷◌, ◌++◌, sym, refl, ap, ◌∙◌, subst}
-use Rattle.std.specs.declared.snapshot.Snapshot.{Snapshot}
+use Rattle.std.proofs.Common.{◌≡◌, Bool, false, ◌&&◌, if◌then◌else◌, List, [], ◌∷◌, ◌++◌, sym, refl, ap, subst}
 use Rattle.fourslot_core.specs.declared.state.State.{State as Core}
 use Rattle.fourslot_core.specs.declared.state.Stage.{Stage}
 use Rattle.fourslot_core.specs.declared.state.Stage.TheVariants as writer
 use Rattle.fourslot_core.specs.declared.state.ReaderStage.{ReaderStage}
 use Rattle.fourslot_core.specs.declared.state.ReaderStage.TheVariants as reader
-use Rattle.fourslot_core.specs.declared.state.ReadStage.{ReadStage}
 use Rattle.fourslot_core.specs.declared.state.ReadStage.TheVariants as told
 use Rattle.fourslot_core.specs.declared.event.WriteEvent.{WriteEvent}
 use Rattle.fourslot_core.specs.declared.event.WriteEvent.TheVariants.{W1, W2, W3, W4, W5}
 use Rattle.fourslot_core.specs.declared.event.ReadEvent.{ReadEvent}
 use Rattle.fourslot_core.specs.declared.event.ReadEvent.TheVariants.{R1, R2, R3, R4, R5}
-use Rattle.fourslot_core.specs.Events.{side, record_in, place_of, same_place, is_writing, next_write, next_read, after_write, after_read, answer}
-use Rattle.fourslot_core.specs.Interleaving.{Writes, Reads, Leads}
+use Rattle.fourslot_core.specs.Events.{record_in, same_place, is_writing, next_write, next_read, after_write, after_read, answer}
+use Rattle.fourslot_core.specs.Interleaving.{Leads}
 use Rattle.fourslot_core.specs.Invariant.{IsSound, IsSoundAt}
 use Rattle.fourslot_core.proofs.Interleaved.{then_writes, then_reads}
 use Rattle.fourslot_core.proofs.Keeping.{keep_write, keep_read}
@@ -90,3 +88,12 @@ module _ {T : Type 0} where
       let h0 = subst (λ (z : ReaderStage). IsSoundAt c.writer z c last) r h in
       let c3 : Core T = after_read reader.R2 c in let c4 : Core T = after_read reader.R3 c3 in
       keep_read c.writer reader.R4 c4 last (keep_read c.writer reader.R3 c3 last (keep_read c.writer reader.R2 c last h0))
+
+-- the events of a whole call
+pub write_joined : {A : Type 0} (xs : List A) (a b c d e : A) → ((xs ++ a ∷ b ∷ c ∷ []) ++ d ∷ []) ++ e ∷ [] ≡ xs ++ a ∷ b ∷ c ∷ d ∷ e ∷ []
+write_joined [] a b c d e = refl
+write_joined (x ∷ xs) a b c d e = ap (λ ys. x ∷ ys) (write_joined xs a b c d e)
+
+pub read_joined : {A : Type 0} (xs : List A) (a b c d e : A) → ((xs ++ a ∷ []) ++ b ∷ []) ++ c ∷ d ∷ e ∷ [] ≡ xs ++ a ∷ b ∷ c ∷ d ∷ e ∷ []
+read_joined [] a b c d e = refl
+read_joined (x ∷ xs) a b c d e = ap (λ ys. x ∷ ys) (read_joined xs a b c d e)

@@ -1,5 +1,5 @@
 -- The numbers of the records in the slots through each step: the slot that a pair's bit names never gets an older record, since W4 puts the newest record there and a write under way has a slot that no bit names.
-use Rattle.std.proofs.Common.{◌≡◌, ◌≢◌, ◌⊎◌, ℕ, ◌+◌, ◌-◌, ◌*◌, ◌<◌, ◌≤◌, Bool, true, false, not, List, [], ◌∷◌, ◌++◌, length, take, All, sym, refl, ap, ◌∙◌, subst, ⊎_elim, inl, inr, arith, length-append, le_refl}
+use Rattle.std.proofs.Common.{◌≡◌, ◌≢◌, ◌⊎◌, ℕ, ◌+◌, ◌-◌, ◌<◌, ◌≤◌, Bool, List, [], ◌∷◌, ◌++◌, length, take, sym, refl, ap, ◌∙◌, subst, ⊎_elim, inl, inr, arith, length-append, le_refl}
 use mathlib.Core.Option.{some}
 use lib.ListN.{get_elem?}
 use lib.Seq.{take-append-le}
@@ -9,7 +9,7 @@ use Rattle.fourslot_core.specs.declared.state.State.{State as Core}
 use Rattle.fourslot_core.specs.declared.state.Stage.{Stage}
 use Rattle.fourslot_core.specs.declared.state.Stage.TheVariants as writer
 use Rattle.fourslot_core.specs.declared.state.ReaderStage.TheVariants as reader
-use Rattle.fourslot_core.specs.Events.{side, with_side, record_in, with_record, place_of, after_write, after_read}
+use Rattle.fourslot_core.specs.Events.{side, record_in, with_record, place_of, after_write, after_read}
 use Rattle.fourslot_core.specs.Invariant.{IsUnderWay, IsStored, IsAnnounced, IsFilled, HasSlot, latest_place, IsSound}
 use Rattle.fourslot_core.specs.Freshness.{IsBegun}
 use Rattle.fourslot_core.proofs.TwoSides.{bit_cases, side_same, side_other, record_same, record_other}
@@ -17,7 +17,7 @@ use Rattle.cell_live.specs.Running.{last_or, Settled, Rising, IsAnswer}
 use Rattle.cell_live.specs.FourSlot.{number_in, finished_number, named_place, StandsBy, UpTo, IsNumbered, IsSettled, IsWriterShown}
 use Rattle.cell_live.proofs.FourPlaces.{same_or_not, not_named, number_here, number_else, number_bound}
 use Rattle.cell_live.proofs.FourClear.{free_place, begun, read_on, same_opposite}
-use Rattle.cell_live.proofs.ListLaws.{settled_more, settled_at, last_by, all_each, all_snoc, rises_at, fits_at, take_more}
+use Rattle.cell_live.proofs.ListLaws.{settled_more, settled_at, last_by, all_each, rises_at, fits_at, take_more}
 
 -- the stages of a write that a table shows
 shown_cases : (z : Stage) → IsWriterShown z → (z ≡ writer.W3) ⊎ ((z ≡ writer.W4) ⊎ (z ≡ writer.W5))
@@ -49,7 +49,7 @@ module _ {T : Type 0} (o : T) where
         under_way = λ _. omega arith;
         content = λ k. ⊎_elim
             (λ (e : k ≡ k0). ap (λ (j : Place). get_elem? (o ∷ ws') (number_in js' j)) e
-              ∙ (ap (get_elem? (o ∷ ws')) (number_here js k0) ∙ (at_last (o ∷ ws) x (length js + 1) there ∙ (ap some (sym (record_same c.records k0 x)) ∙ ap (λ (j : Place). some (record_in (with_record c.records k0 x) j)) (sym e)))))
+            ∙ (ap (get_elem? (o ∷ ws')) (number_here js k0) ∙ (at_last (o ∷ ws) x (length js + 1) there ∙ (ap some (sym (record_same c.records k0 x)) ∙ ap (λ (j : Place). some (record_in (with_record c.records k0 x) j)) (sym e)))))
             (λ (ne : k ≢ k0). ap (get_elem? (o ∷ ws')) (number_else js k0 k ne) ∙ (at_longer (o ∷ ws) (x ∷ []) (number_in js k) (record_in c.records k) (h.content k) ∙ ap some (sym (record_other c.records k0 k x ne))))
             (same_or_not k k0);
         newest = let e = number_here js k0 in omega arith;
@@ -107,32 +107,32 @@ module _ {T : Type 0} (o : T) where
 
   pub up_to_more : (ws xs hs : List T) (n m : ℕ) → n ≤ m → UpTo o ws xs hs n → UpTo o ws xs hs m
   up_to_more ws xs hs n m l u = let t = take_more n m ws l in (
-      subst (λ (zs : List T). Settled (o ∷ zs) xs) (sym t.1) (settled_more (o ∷ take n ws) t.0 xs u.0),
-      all_each (StandsBy n (o ∷ ws)) (StandsBy m (o ∷ ws)) (stands_more ws n m l) hs u.1,
-    )
+    subst (λ (zs : List T). Settled (o ∷ zs) xs) (sym t.1) (settled_more (o ∷ take n ws) t.0 xs u.0),
+    all_each (StandsBy n (o ∷ ws)) (StandsBy m (o ∷ ws)) (stands_more ws n m l) hs u.1,
+  )
 
   up_to_longer : (ws xs hs : List T) (x : T) (n : ℕ) → n ≤ length ws → UpTo o ws xs hs n → UpTo o (ws ++ x ∷ []) xs hs n
   up_to_longer ws xs hs x n l u = (
-      subst (λ (zs : List T). Settled (o ∷ zs) xs) (sym (take-append-le n ws (x ∷ []) l)) u.0,
-      all_each (StandsBy n (o ∷ ws)) (StandsBy n (o ∷ ws ++ x ∷ [])) (stands_longer ws (x ∷ []) n) hs u.1,
-    )
+    subst (λ (zs : List T). Settled (o ∷ zs) xs) (sym (take-append-le n ws (x ∷ []) l)) u.0,
+    all_each (StandsBy n (o ∷ ws)) (StandsBy n (o ∷ ws ++ x ∷ [])) (stands_longer ws (x ∷ []) n) hs u.1,
+  )
 
   -- W1
   pub settled_begins : (ws : List T) (js : List Place) (xs hs : List T) (c : Core T) (last x : T) → IsNumbered o ws js last c → IsSound c last → IsSettled o ws js xs hs c
       → IsSettled o (ws ++ x ∷ []) (js ++ free_place c ∷ []) xs hs (begun x c)
   settled_begins ws js xs hs c last x h sound s = let k0 : Place = free_place c in let same = h.counted in
       let longer : (q : Bool) → UpTo o ws xs hs (number_in js (named_place c q)) → UpTo o (ws ++ x ∷ []) xs hs (number_in (js ++ k0 ∷ []) (named_place c q)) =
-          λ q u. let b = number_bound js (named_place c q) in
-          subst (UpTo o (ws ++ x ∷ []) xs hs) (sym (number_else js k0 (named_place c q) (free_unnamed c last q sound))) (up_to_longer ws xs hs x (number_in js (named_place c q)) (omega arith) u) in
+      λ q u. let b = number_bound js (named_place c q) in
+      subst (UpTo o (ws ++ x ∷ []) xs hs) (sym (number_else js k0 (named_place c q) (free_unnamed c last q sound))) (up_to_longer ws xs hs x (number_in js (named_place c q)) (omega arith) u) in
       record { to_latest = longer c.latest s.to_latest; to_pair = λ b. longer c.read.pair (s.to_pair b) }
 
   -- W4: the slot that the writer's pair names is the newest, and the other pair names what it did
   number_grows : (ws : List T) (js : List Place) (c : Core T) (last x : T) (q : Bool) → IsNumbered o ws js last c → number_in js (named_place c q) ≤ number_in js (named_place (after_write writer.W3 x c) q)
   number_grows ws js c last x q h = let low = number_bound js (named_place c q) in let same = h.counted in let d : Core T = after_write writer.W3 x c in ⊎_elim
       (λ (e : q ≡ c.write.pair).
-        let there : number_in js (named_place d q) ≡ length ws =
-            ap (λ (z : Bool). number_in js (named_place d z)) e ∙ (ap (λ (z : Bool). number_in js (place_of c.write.pair z)) (side_same c.slot c.write.pair c.write.index) ∙ h.newest) in
-        omega arith)
+      let there : number_in js (named_place d q) ≡ length ws =
+      ap (λ (z : Bool). number_in js (named_place d z)) e ∙ (ap (λ (z : Bool). number_in js (place_of c.write.pair z)) (side_same c.slot c.write.pair c.write.index) ∙ h.newest) in
+      omega arith)
       (λ (ne : q ≢ c.write.pair). let e : number_in js (named_place d q) ≡ number_in js (named_place c q) = ap (λ (z : Bool). number_in js (place_of q z)) (side_other c.slot q c.write.pair c.write.index ne) in omega arith)
       (bit_cases q c.write.pair)
 
@@ -168,27 +168,27 @@ module _ {T : Type 0} (o : T) where
   number_below ws js c last h sound shown r = let q : Bool = c.read.pair in let same = h.counted in let low = number_bound js (named_place c q) in ⊎_elim
       (λ (e : q ≡ c.latest). let x : number_in js (named_place c q) ≡ number_in js (latest_place c) = ap (λ (z : Bool). number_in js (named_place c z)) e in omega arith)
       (λ (apart : q ≢ c.latest).
-        let here : c.reading ≡ q = sound.announced (subst IsAnnounced (sym r) tt) in
-        let in_latest : IsUnderWay c.writer → c.write.pair ≢ c.latest → ⊥ = λ u ne. apart (sym here ∙ sound.followed u ne) in
-        let older : IsUnderWay c.writer → (named_place c q ≢ c.write) → number_in js (named_place c q) < length ws = λ u ne. h.older (named_place c q) ne (h.under_way u) in
-        ⊎_elim
-        (λ (w : c.writer ≡ writer.W3).
-          let u : IsUnderWay c.writer = subst IsUnderWay (sym w) tt in
-          let lt = older u (not_named c c.write q (sound.opposite (subst HasSlot (sym w) tt))) in
-          let l : number_in js (latest_place c) ≡ length ws - 1 = h.latest (λ z. absurd (subst IsStored w z)) ∙ ap (λ (z : Stage). finished_number z (length ws)) w in
-          omega arith)
-        (λ (t : (c.writer ≡ writer.W4) ⊎ (c.writer ≡ writer.W5)). ⊎_elim
-          (λ (w : c.writer ≡ writer.W4).
-            let u : IsUnderWay c.writer = subst IsUnderWay (sym w) tt in
-            ⊎_elim
-            (λ (e : c.write.pair ≡ c.latest). let l : number_in js (latest_place c) ≡ length ws = ap (λ (z : Bool). number_in js (named_place c z)) (sym e) ∙ (ap (number_in js) (named_written c last sound w) ∙ h.newest) in omega arith)
-            (λ (ne : c.write.pair ≢ c.latest). absurd (in_latest u ne))
-            (bit_cases c.write.pair c.latest))
-          (λ (w : c.writer ≡ writer.W5).
-            let l : number_in js (latest_place c) ≡ length ws = h.latest (λ z. absurd (subst IsStored w z)) ∙ ap (λ (z : Stage). finished_number z (length ws)) w in
-            omega arith)
-          t)
-        (shown_cases c.writer shown))
+      let here : c.reading ≡ q = sound.announced (subst IsAnnounced (sym r) tt) in
+      let in_latest : IsUnderWay c.writer → c.write.pair ≢ c.latest → ⊥ = λ u ne. apart (sym here ∙ sound.followed u ne) in
+      let older : IsUnderWay c.writer → (named_place c q ≢ c.write) → number_in js (named_place c q) < length ws = λ u ne. h.older (named_place c q) ne (h.under_way u) in
+      ⊎_elim
+      (λ (w : c.writer ≡ writer.W3).
+      let u : IsUnderWay c.writer = subst IsUnderWay (sym w) tt in
+      let lt = older u (not_named c c.write q (sound.opposite (subst HasSlot (sym w) tt))) in
+      let l : number_in js (latest_place c) ≡ length ws - 1 = h.latest (λ z. absurd (subst IsStored w z)) ∙ ap (λ (z : Stage). finished_number z (length ws)) w in
+      omega arith)
+      (λ (t : (c.writer ≡ writer.W4) ⊎ (c.writer ≡ writer.W5)). ⊎_elim
+      (λ (w : c.writer ≡ writer.W4).
+      let u : IsUnderWay c.writer = subst IsUnderWay (sym w) tt in
+      ⊎_elim
+      (λ (e : c.write.pair ≡ c.latest). let l : number_in js (latest_place c) ≡ length ws = ap (λ (z : Bool). number_in js (named_place c z)) (sym e) ∙ (ap (number_in js) (named_written c last sound w) ∙ h.newest) in omega arith)
+      (λ (ne : c.write.pair ≢ c.latest). absurd (in_latest u ne))
+      (bit_cases c.write.pair c.latest))
+      (λ (w : c.writer ≡ writer.W5).
+      let l : number_in js (latest_place c) ≡ length ws = h.latest (λ z. absurd (subst IsStored w z)) ∙ ap (λ (z : Stage). finished_number z (length ws)) w in
+      omega arith)
+      t)
+      (shown_cases c.writer shown))
       (bit_cases q c.latest)
 
   pub settled_reads : (ws : List T) (js : List Place) (xs hs : List T) (c : Core T) (last : T) → IsNumbered o ws js last c → IsSound c last → IsWriterShown c.writer → c.reader ≡ reader.R2 → IsSettled o ws js xs hs c

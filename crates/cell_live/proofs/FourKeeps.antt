@@ -1,9 +1,9 @@
 -- Each step of the four-slot cell keeps its rule. The words and slots follow from FourClear, the numbers and the answers from FourFresh, the lists of events and the invariant from FourEvents.
-use Rattle.std.proofs.Common.{◌≡◌, ◌≢◌, ◌⊎◌, ℕ, zero, suc, ◌+◌, ◌*◌, ◌<◌, ◌≤◌, Bool, true, false, not, Option, None, Some, List, [], ◌∷◌, ◌++◌, length, map, take, All, get_or, set, sym, refl, ap, ◌∙◌, subst, ⊎_elim, inl, inr, arith}
+use Rattle.std.proofs.Common.{◌≡◌, ◌≢◌, ◌⊎◌, ℕ, zero, suc, ◌+◌, ◌*◌, ◌<◌, Bool, true, false, not, Option, None, Some, List, [], ◌∷◌, ◌++◌, length, map, take, get_or, set, sym, refl, ap, ◌∙◌, subst, ⊎_elim, inl, inr, arith}
 use mathlib.Core.Option.{none, some, some-injective, some-ne-none}
 use lib.ListN.{get_elem?}
 use lib.Seq.{set-get_or}
-use Rattle.atomic_table.specs.Table.{State, Me, step, Act, keeps, takes, gives, rest, put_back, stepped, carried_after, Allows, Valid, Splits, Joins, opening, Final, Seen}
+use Rattle.atomic_table.specs.Table.{State, Me, step, Act, keeps, takes, gives, rest, stepped, carried_after, Allows, Valid, Splits, Joins, opening, Final, Seen}
 use Rattle.atomic_table.proofs.Lists.{at_set, at_snoc}
 use Rattle.std.specs.declared.snapshot.Snapshot.{Snapshot}
 use Rattle.fourslot_core.specs.declared.state.Sides.{Sides}
@@ -16,17 +16,16 @@ use Rattle.fourslot_core.specs.Invariant.{latest_place, IsSound, IsStored}
 use Rattle.fourslot_core.specs.Freshness.{IsBegun}
 use Rattle.fourslot_core.proofs.Keeping.{opening_is_sound}
 use Rattle.fourslot_core.specs.Interleaving.Leads.{Stays}
-use Rattle.cell_live.specs.Running.{last_or, Settled, Rising, IsAnswer}
-use Rattle.cell_live.specs.Triple.{snap}
+use Rattle.cell_live.specs.Running.{last_or, Settled, IsAnswer}
 use Rattle.cell_live.specs.declared.four_slot.notes.WriterNotes.{WriterNotes}
 use Rattle.cell_live.specs.declared.four_slot.notes.ReaderNotes.{ReaderNotes}
 use Rattle.cell_live.specs.declared.four_slot.notes.Sight.{Sight}
 use Rattle.cell_live.specs.declared.four_slot.notes.Sight.TheVariants.{Spent, Told, Writer, Reader, Both}
-use Rattle.cell_live.specs.FourSlot.{number_in, named_place, StandsBy, InTable, InViews, UpTo, IsNumbered, IsSettled, Sees, FourSlotRule}
+use Rattle.cell_live.specs.FourSlot.{number_in, named_place, StandsBy, InTable, IsNumbered, IsSettled, Sees, FourSlotRule}
 use Rattle.cell_live.specs.FourSlotSteps.{begun_with, begins, stored_by, stores, finished_by, finishes, asked_by, asks, slot_of_choice, said_by, says, got_by, takes as takes_slot, first_writer, first_reader, first_sight, writer_part, reader_part, receipt_for, hears_of, whole_of, writer_or, reader_or}
 use Rattle.cell_live.proofs.ListLaws.{all_snoc, rising_snoc, settled_more}
 use Rattle.cell_live.proofs.FourClear.{free_place, begun, read_on, word_latest, word_reading, word_bit, free_at_home, table_begins, table_stores, table_finishes, table_asks, table_says, named_at_home, table_reads}
-use Rattle.cell_live.proofs.FourFresh.{numbered_begins, numbered_stores, numbered_finishes, numbered_read, stands_more, stands_longer, shown_same, latest_grows, shown_grows, up_to_more, settled_begins, settled_stores, settled_finishes, settled_asks, settled_says, settled_reads, answers_at}
+use Rattle.cell_live.proofs.FourFresh.{numbered_begins, numbered_stores, numbered_finishes, numbered_read, stands_more, stands_longer, shown_same, latest_grows, shown_grows, settled_begins, settled_stores, settled_finishes, settled_asks, settled_says, settled_reads, answers_at}
 use Rattle.cell_live.proofs.FourEvents.{leads_begins, leads_stores, leads_finishes, leads_asks, leads_says, leads_reads, sound_begins, sound_stores, sound_finishes, sound_asks, sound_says, sound_reads}
 
 module _ {T : Type 0} where
@@ -98,8 +97,7 @@ module _ {T : Type 0} (fits : T → Type 0) (rises : T → T → Type 0) (o : T)
       let homes' = set s.homes (slot_number k0) none in
       let shown' : ℕ = number_in p'.slots (latest_place d) in
       let same : number_in (p.slots ++ k0 ∷ []) (latest_place d) ≡ shown' = ap (λ (z : Place). number_in (p.slots ++ z ∷ []) (latest_place d)) place_is in
-      let steady : shown_number r ≡ shown' = sym (shown_same o c p.slots last x r.sound) ∙ same in
-      (
+      let steady : shown_number r ≡ shown' = sym (shown_same o c p.slots last x r.sound) ∙ same in (
         w,
         takes (slot_number k0) y,
         free_at_home s.words s.homes g.at_hand.value c last r.in_table r.sound idle,
@@ -119,6 +117,7 @@ module _ {T : Type 0} (fits : T → Type 0) (rises : T → T → Type 0) (o : T)
             read_is = r.in_views.read_is;
             chosen_is = r.in_views.chosen_is;
           };
+          noise = r.noise;
           shown = (tt, r.shown.1);
           sound = sound_begins c last x r.sound idle;
           numbered = subst (λ (z : Place). IsNumbered o (p.written ++ x ∷ []) (p.slots ++ z ∷ []) last d) place_is (numbered_begins o p.written p.slots c last x r.numbered r.sound idle);
@@ -128,11 +127,15 @@ module _ {T : Type 0} (fits : T → Type 0) (rises : T → T → Type 0) (o : T)
           leads = leads_begins p.events g.events (opening_state o o) c x r.leads idle;
           each_seat = seats_stay (Sees o p' g shown' r.writer r.reader) s.views id w (refl, own)
               (λ j v other e. sight_put o p p' g (shown_number r) shown' r.writer r.writer r.reader j (λ z. other (z ∙ sym own))
-                (λ z st. subst (λ n. StandsBy n (o ∷ p'.written) z) steady (stands_longer o p.written (x ∷ []) (shown_number r) z st)) v (r.each_seat j v e));
+              (λ z st. subst (λ n. StandsBy n (o ∷ p'.written) z) steady (stands_longer o p.written (x ∷ []) (shown_number r) z st)) v (r.each_seat j v e));
         },
-        λ q z is' item'. let also : p ≡ q = ap (writer_or p) (sym is ∙ is') in let one : x ≡ z = ap (last_or x) (sym item ∙ item') in
-            (b, y, found, (λ i. Writer (begun_with (also i) b (one i))),
-             ap (λ (cs : List (ℕ × T)). (slot_number k0, y) ∷ cs) bare ∙ (λ i. (slot_number ((place_is ∙ ap (λ (q : WriterNotes T). (begun_with q b x).place) also) i), y) ∷ [])),
+        λ q z is' item'. let also : p ≡ q = ap (writer_or p) (sym is ∙ is') in let one : x ≡ z = ap (last_or x) (sym item ∙ item') in (
+          b,
+          y,
+          found,
+          (λ i. Writer (begun_with (also i) b (one i))),
+          ap (λ (cs : List (ℕ × T)). (slot_number k0, y) ∷ cs) bare ∙ (λ i. (slot_number ((place_is ∙ ap (λ (q : WriterNotes T). (begun_with q b x).place) also) i), y) ∷ []),
+        ),
       )
 
   pub begins_ok : (slots id : ℕ) (me : M) (p : WriterNotes T) (items : List T) (x : T) → me.0 ≡ Writer p → me.1 ≡ [] → p.stage ≡ writer.W5 → items ≡ x ∷ [] → fits x → rises (last_or p.opening.value p.written) x
@@ -151,8 +154,7 @@ module _ {T : Type 0} (fits : T → Type 0) (rises : T → T → Type 0) (o : T)
       let cs0 : List (ℕ × T) = (slot_number c.write, c.item) ∷ [] in
       let holds' : me.1 ≡ cs0 = holds ∙ (λ j. (slot_number (sym place_is j), sym item_is j) ∷ []) in
       let shown' : ℕ = number_in p.slots (latest_place d) in
-      let grows = latest_grows o p.written p.slots c last c.item r.numbered in
-      (
+      let grows = latest_grows o p.written p.slots c last c.item r.numbered in (
         w,
         gives,
         tt,
@@ -172,6 +174,7 @@ module _ {T : Type 0} (fits : T → Type 0) (rises : T → T → Type 0) (o : T)
             read_is = r.in_views.read_is;
             chosen_is = r.in_views.chosen_is;
           };
+          noise = r.noise;
           shown = (tt, r.shown.1);
           sound = sound_stores c last r.sound filled;
           numbered = numbered_stores o p.written p.slots c last c.item r.numbered filled;
@@ -181,7 +184,7 @@ module _ {T : Type 0} (fits : T → Type 0) (rises : T → T → Type 0) (o : T)
           leads = leads_stores p.events g.events (opening_state o o) c r.leads filled;
           each_seat = seats_stay (Sees o p' g shown' r.writer r.reader) s.views id w (refl, own)
               (λ j v other e. sight_put o p p' g (shown_number r) shown' r.writer r.writer r.reader j (λ z. other (z ∙ sym own))
-                (λ z st. stands_more o p.written (shown_number r) shown' grows z st) v (r.each_seat j v e));
+              (λ z st. stands_more o p.written (shown_number r) shown' grows z st) v (r.each_seat j v e));
         },
         λ q is' holds''. let also : p ≡ q = ap (writer_or p) (sym is ∙ is') in ((λ j. Writer (stored_by (also j))), ap rest holds'),
       )
@@ -200,8 +203,7 @@ module _ {T : Type 0} (fits : T → Type 0) (rises : T → T → Type 0) (o : T)
       let p' : WriterNotes T = finished_by p in let w : V = Writer p' in let d : Core T = after_write writer.W4 c.item c in
       let place_is : c.write ≡ p.place = r.in_views.write_is in let item_is : c.item ≡ p.item.value = r.in_views.item_is in
       let shown' : ℕ = number_in p.slots (latest_place d) in
-      let grows = shown_grows o p.written p.slots c last c.item r.numbered r.sound stored in
-      (
+      let grows = shown_grows o p.written p.slots c last c.item r.numbered r.sound stored in (
         w,
         keeps,
         tt,
@@ -221,6 +223,7 @@ module _ {T : Type 0} (fits : T → Type 0) (rises : T → T → Type 0) (o : T)
             read_is = r.in_views.read_is;
             chosen_is = r.in_views.chosen_is;
           };
+          noise = r.noise;
           shown = (tt, r.shown.1);
           sound = subst (IsSound d) item_is (sound_finishes c last r.sound stored);
           numbered = subst (λ (z : T). IsNumbered o p.written p.slots z d) item_is (numbered_finishes o p.written p.slots c last c.item r.numbered r.sound stored);
@@ -230,7 +233,7 @@ module _ {T : Type 0} (fits : T → Type 0) (rises : T → T → Type 0) (o : T)
           leads = leads_finishes p.events g.events (opening_state o o) c r.leads stored;
           each_seat = seats_stay (Sees o p' g shown' r.writer r.reader) s.views id w (refl, own)
               (λ j v other e. sight_put o p p' g (shown_number r) shown' r.writer r.writer r.reader j (λ z. other (z ∙ sym own))
-                (λ z st. stands_more o p.written (shown_number r) shown' grows z st) v (r.each_seat j v e));
+              (λ z st. stands_more o p.written (shown_number r) shown' grows z st) v (r.each_seat j v e));
         },
         λ q is'. let also : p ≡ q = ap (writer_or p) (sym is ∙ is') in ((λ j. Writer (finished_by (also j))), refl),
       )
@@ -246,8 +249,7 @@ module _ {T : Type 0} (fits : T → Type 0) (rises : T → T → Type 0) (o : T)
       let p : WriterNotes T = r.put in let g : ReaderNotes T = r.get in let c : Core T = r.core in let last : T = p.finished.value in
       let idle : c.reader ≡ reader.R5 = r.in_views.reader_at ∙ stage in
       let b : Bool = c.latest in let found : get_or s.words 0 0 ≡ bit_number b = word_latest s.words s.homes g.at_hand.value c r.in_table in
-      let g' : ReaderNotes T = asked_by g b in let w : V = Reader g' in let d : Core T = after_read reader.R5 c in
-      (
+      let g' : ReaderNotes T = asked_by g b in let w : V = Reader g' in let d : Core T = after_read reader.R5 c in (
         w,
         keeps,
         tt,
@@ -267,6 +269,7 @@ module _ {T : Type 0} (fits : T → Type 0) (rises : T → T → Type 0) (o : T)
             read_is = ap (λ (z : Place). place_of b z.index) r.in_views.read_is;
             chosen_is = r.in_views.chosen_is;
           };
+          noise = r.noise;
           shown = (r.shown.0, tt);
           sound = sound_asks c last r.sound idle;
           numbered = numbered_read o p.written p.slots c d last refl refl refl refl refl r.numbered;
@@ -290,8 +293,7 @@ module _ {T : Type 0} (fits : T → Type 0) (rises : T → T → Type 0) (o : T)
   says_at s r slots id me new own is holds stage to =
       let p : WriterNotes T = r.put in let g : ReaderNotes T = r.get in let c : Core T = r.core in let last : T = p.finished.value in
       let loaded : c.reader ≡ reader.R1 = r.in_views.reader_at ∙ stage in
-      let g' : ReaderNotes T = said_by g in let w : V = Reader g' in let d : Core T = after_read reader.R1 c in
-      (
+      let g' : ReaderNotes T = said_by g in let w : V = Reader g' in let d : Core T = after_read reader.R1 c in (
         w,
         gives,
         tt,
@@ -311,6 +313,7 @@ module _ {T : Type 0} (fits : T → Type 0) (rises : T → T → Type 0) (o : T)
             read_is = r.in_views.read_is;
             chosen_is = r.in_views.chosen_is;
           };
+          noise = r.noise;
           shown = (r.shown.0, tt);
           sound = sound_says c last r.sound loaded;
           numbered = numbered_read o p.written p.slots c d last refl refl refl refl refl r.numbered;
@@ -341,8 +344,7 @@ module _ {T : Type 0} (fits : T → Type 0) (rises : T → T → Type 0) (o : T)
         let g' : ReaderNotes T = got_by g b x in let w : V = Reader g' in let d : Core T = read_on c in
         let homes' = set s.homes (slot_number k0) none in
         let place_is : k0 ≡ place_of g.place.pair b = ap (λ z. place_of z b) pair_is in
-        let answer : IsAnswer fits rises o g.answers g.told x = answers_at o fits rises same along p.written g.answers g.told (number_in p.slots k0) x r.lawful (r.settled.to_pair (subst IsBegun (sym said) tt)) (r.numbered.content k0) in
-        (
+        let answer : IsAnswer fits rises o g.answers g.told x = answers_at o fits rises same along p.written g.answers g.told (number_in p.slots k0) x r.lawful (r.settled.to_pair (subst IsBegun (sym said) tt)) (r.numbered.content k0) in (
           w,
           takes (slot_number k0) x,
           named_at_home s.words s.homes g.at_hand.value c last q0 r.in_table r.sound said,
@@ -362,6 +364,7 @@ module _ {T : Type 0} (fits : T → Type 0) (rises : T → T → Type 0) (o : T)
               read_is = place_is;
               chosen_is = ap (λ (z : Place). Some z) place_is;
             };
+            noise = r.noise;
             shown = (r.shown.0, tt);
             sound = sound_reads c last r.sound said;
             numbered = numbered_read o p.written p.slots c d last refl refl refl refl refl r.numbered;
@@ -372,10 +375,14 @@ module _ {T : Type 0} (fits : T → Type 0) (rises : T → T → Type 0) (o : T)
             each_seat = seats_stay (Sees o p g' (shown_number r) r.writer r.reader) s.views id w (refl, own)
                 (λ j v other e. sight_get o p g g' (shown_number r) r.writer r.reader r.reader j (λ z. other (z ∙ sym own)) v (r.each_seat j v e));
           },
-          λ q is'. let also : g ≡ q = ap (reader_or g) (sym is ∙ is') in
-              (b, x, found, (λ j. Reader (got_by (also j) b x)),
-               ap (λ (cs : List (ℕ × T)). (slot_number k0, x) ∷ cs) bare ∙ (λ j. (slot_number ((place_is ∙ ap (λ (z : ReaderNotes T). place_of z.place.pair b) also) j), x) ∷ []),
-               subst (λ (z : ReaderNotes T). IsAnswer fits rises z.opening.value z.answers z.told x) also (subst (λ (z : T). IsAnswer fits rises z g.answers g.told x) (sym r.openings.1) answer)),
+          λ q is'. let also : g ≡ q = ap (reader_or g) (sym is ∙ is') in (
+            b,
+            x,
+            found,
+            (λ j. Reader (got_by (also j) b x)),
+            ap (λ (cs : List (ℕ × T)). (slot_number k0, x) ∷ cs) bare ∙ (λ j. (slot_number ((place_is ∙ ap (λ (z : ReaderNotes T). place_of z.place.pair b) also) j), x) ∷ []),
+            subst (λ (z : ReaderNotes T). IsAnswer fits rises z.opening.value z.answers z.told x) also (subst (λ (z : T). IsAnswer fits rises z g.answers g.told x) (sym r.openings.1) answer),
+          ),
         )
 
     pub takes_ok : (slots id : ℕ) (me : M) (g : ReaderNotes T) (i : ℕ) → me.0 ≡ Reader g → me.1 ≡ [] → g.stage ≡ reader.R2 → i ≡ 2 + bit_number g.place.pair → Allows Rule slots id me i (λ n. n) (takes_slot fits rises (step slots i 0 0 none) me)
@@ -393,6 +400,7 @@ module _ {T : Type 0} (fits : T → Type 0) (rises : T → T → Type 0) (o : T)
     core = r.core;
     in_table = r.in_table;
     in_views = r.in_views;
+    noise = r.noise;
     shown = r.shown;
     sound = r.sound;
     numbered = r.numbered;
@@ -460,6 +468,7 @@ module _ {T : Type 0} (fits : T → Type 0) (rises : T → T → Type 0) (o : T)
           read_is = r.in_views.read_is;
           chosen_is = r.in_views.chosen_is;
         };
+        noise = r.noise;
         shown = r.shown;
         sound = r.sound;
         numbered = r.numbered;
@@ -472,7 +481,7 @@ module _ {T : Type 0} (fits : T → Type 0) (rises : T → T → Type 0) (o : T)
         leads = r.leads;
         each_seat = seats_stay (Sees o r.put g' m r.writer r.reader) (set s.views id both') other Spent tt
             (λ j d _ e. seats_stay (Sees o r.put g' m r.writer r.reader) s.views id both' ((λ i. record (known.0 i) { told = (known.0 i).told ++ x.value ∷ [] }), known.1)
-              (λ k d' apart' f. sight_get o r.put r.get g' m r.writer r.reader r.reader k (λ z. apart' (z ∙ sym known.1)) d' (r.each_seat k d' f)) j d e);
+            (λ k d' apart' f. sight_get o r.put r.get g' m r.writer r.reader r.reader k (λ z. apart' (z ∙ sym known.1)) d' (r.each_seat k d' f)) j d e);
       }
 
   pub hears_ok : (id other : ℕ) (v w : V) (g : ReaderNotes T) (x : Snapshot T) → v ≡ Reader g → w ≡ Told x → g.stage ≡ reader.R5 → Joins Rule id v other w (hears_of v w) Spent
@@ -518,6 +527,7 @@ module _ {T : Type 0} (fits : T → Type 0) (rises : T → T → Type 0) (o : T)
       in_reader = λ k u. let e : None ≡ Some k = u.1 in absurd (cc);
     };
     in_views = record { writer_at = refl; write_is = refl; item_is = refl; remembered_are = refl; reader_at = refl; read_is = refl; chosen_is = refl };
+    noise = refl;
     shown = (tt, tt);
     sound = opening_is_sound o o;
     numbered = record {

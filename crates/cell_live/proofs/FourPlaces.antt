@@ -1,13 +1,12 @@
 -- Places of four slots and their numbers: distinct places have distinct numbers, and the number of a slot's last write changes at a write into it alone.
-use Rattle.std.proofs.Common.{◌≡◌, ◌≢◌, ◌⊎◌, ℕ, ◌+◌, ◌*◌, ◌<◌, ◌≤◌, Bool, true, false, not, ◌&&◌, if◌then◌else◌, List, [], ◌∷◌, ◌++◌, length, sym, refl, ap, ◌∙◌, ⊎_elim, inl, inr, arith}
-use Rattle.fourslot_core.specs.declared.state.Sides.{Sides}
+use Rattle.std.proofs.Common.{◌≡◌, ◌≢◌, ◌⊎◌, ℕ, ◌+◌, ◌<◌, ◌≤◌, Bool, true, false, not, ◌&&◌, if◌then◌else◌, List, [], ◌∷◌, ◌++◌, length, sym, refl, ap, ◌∙◌, ⊎_elim, inl, inr, arith}
 use Rattle.fourslot_core.specs.declared.state.Place.{Place}
 use Rattle.fourslot_core.specs.declared.state.State.{State as Core}
-use Rattle.fourslot_core.specs.Events.{side, with_side, place_of, same_bit, same_place, bit_number, slot_number}
+use Rattle.fourslot_core.specs.Events.{side, same_bit, same_place, bit_number, slot_number}
 use Rattle.fourslot_core.proofs.TwoSides.{not_same, bit_cases, same_place_of}
 use Rattle.cell_live.specs.FourSlot.{number_from, number_in, named_place}
 
-bit_low : (b : Bool) → bit_number b ≤ 1
+pub bit_low : (b : Bool) → bit_number b ≤ 1
 bit_low true = omega arith
 bit_low false = omega arith
 
@@ -30,9 +29,9 @@ place_number j k e =
 pub same_or_not : (j k : Place) → (j ≡ k) ⊎ (j ≢ k)
 same_or_not j k = ⊎_elim
     (λ (p : j.pair ≡ k.pair). ⊎_elim
-        (λ (i : j.index ≡ k.index). inl (same_place_of j k.pair k.index p i))
-        (λ (i : j.index ≢ k.index). inr (λ e. i (ap (λ (z : Place). z.index) e)))
-        (bit_cases j.index k.index))
+    (λ (i : j.index ≡ k.index). inl (same_place_of j k.pair k.index p i))
+    (λ (i : j.index ≢ k.index). inr (λ e. i (ap (λ (z : Place). z.index) e)))
+    (bit_cases j.index k.index))
     (λ (p : j.pair ≢ k.pair). inr (λ e. p (ap (λ (z : Place). z.pair) e)))
     (bit_cases j.pair k.pair)
 

@@ -1,26 +1,21 @@
 -- The rule of the running four-slot cell: word 0 is `latest`, word 1 `reading`, words 2 and 3 are the bits of the pairs, and
 -- the slot of a place has the number 2 * pair + index. Its states are those of the register of H. Simpson, Four-slot fully
 -- asynchronous communication mechanism, 1990.
-use Rattle.std.specs.Prelude.{◌≡◌, ◌≢◌, ℕ, ◌+◌, ◌-◌, ◌<◌, ◌≤◌, Bool, true, false, not, Option, None, Some, List, [], ◌∷◌, ◌++◌, length, take, All, if◌then◌else◌}
+use Rattle.std.specs.Prelude.{◌≡◌, ◌≢◌, ℕ, ◌+◌, ◌-◌, ◌<◌, ◌≤◌, Bool, Some, List, [], ◌∷◌, length, take, All, if◌then◌else◌}
 use mathlib.Core.Option.{some, Option as Opt}
 use lib.ListN.{get_elem?}
-use Rattle.atomic_table.specs.Table.{State, Me, Step}
-use Rattle.std.specs.declared.snapshot.Snapshot.{Snapshot}
-use Rattle.fourslot_core.specs.declared.state.Sides.{Sides}
+use Rattle.atomic_table.specs.Table.{State}
 use Rattle.fourslot_core.specs.declared.state.Place.{Place}
 use Rattle.fourslot_core.specs.declared.state.State.{State as Core}
 use Rattle.fourslot_core.specs.declared.state.Stage.{Stage}
 use Rattle.fourslot_core.specs.declared.state.Stage.TheVariants as writer
 use Rattle.fourslot_core.specs.declared.state.ReaderStage.{ReaderStage}
 use Rattle.fourslot_core.specs.declared.state.ReaderStage.TheVariants as reader
-use Rattle.fourslot_core.specs.declared.event.WriteEvent.TheVariants.{W1, W2, W3, W4, W5}
-use Rattle.fourslot_core.specs.declared.event.ReadEvent.TheVariants.{R1, R2, R3, R4, R5}
-use Rattle.fourslot_core.specs.Events.{side, with_side, record_in, place_of, same_place, bit_number, slot_number, both, opening_state}
+use Rattle.fourslot_core.specs.Events.{side, record_in, place_of, same_place, bit_number, slot_number, opening_state}
 use Rattle.fourslot_core.specs.Invariant.{IsUnderWay, HasSlot, IsStored, IsKept, latest_place, IsSound}
 use Rattle.fourslot_core.specs.Freshness.{IsBegun}
 use Rattle.fourslot_core.specs.Interleaving.{Leads}
-use Rattle.cell_live.specs.Running.{last_or, Settled, Rising, IsAnswer}
-use Rattle.cell_live.specs.Triple.{snap}
+use Rattle.cell_live.specs.Running.{Settled, Rising}
 use Rattle.cell_live.specs.declared.four_slot.notes.WriterNotes.{WriterNotes}
 use Rattle.cell_live.specs.declared.four_slot.notes.ReaderNotes.{ReaderNotes}
 use Rattle.cell_live.specs.declared.four_slot.notes.Sight.{Sight}
@@ -129,6 +124,7 @@ pub record FourSlotRule {T : Type 0} (fits : T → Type 0) (rises : T → T → 
   pub core : Core T
   pub in_table : InTable s.words s.homes get.at_hand.value core
   pub in_views : InViews put get core
+  pub noise : core.noise ≡ o
   pub shown : IsWriterShown core.writer × IsReaderShown core.reader
   pub sound : IsSound core put.finished.value
   pub numbered : IsNumbered o put.written put.slots put.finished.value core

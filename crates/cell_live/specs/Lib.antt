@@ -3,3 +3,4 @@ pub mod Triple
 pub mod TripleWords
 pub mod FourSlot
 pub mod FourSlotSteps
+pub mod FourSlotWords

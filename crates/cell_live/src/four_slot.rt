@@ -1,2 +1,80 @@
 //! The four-slot cell: four words of one bit and four slots.
+//!
+//! Word 0 is `latest`, word 1 `reading`, words 2 and 3 are the bits of the pairs, and a slot's number is `2 * pair + index`. Its
+//! rule says that words, slots and views show a state of the four-slot register which keeps that register's invariant, and to
+//! which some interleaving of the two passes' events leads from the opening.
+ghost use Rattle.std.specs.Prelude.{◌≡◌, [], ◌∷◌};
+ghost use Rattle.fourslot_core.specs.declared.state.Stage.TheVariants.{W5};
+ghost use Rattle.fourslot_core.specs.declared.state.ReaderStage.TheVariants.{R5};
+ghost use Rattle.cell_live.specs.declared.four_slot.notes.Sight.TheVariants.{Writer, Reader, Told};
+ghost use Rattle.cell_live.specs.Running.{last_or};
+ghost use Rattle.cell_live.specs.Triple.{snap};
+ghost use Rattle.cell_live.specs.FourSlotSteps.{first_writer, first_reader, writer_or, reader_or, slot_of_choice};
+
+use crate::cell::Lawful;
+use atomic_table::{Seat, Table, TableRule};
+use fourslot_core::Sides;
+use notes::Sight;
+use std::alloc::Global;
+
+mod bits;
+mod calls;
 mod notes;
+mod plays;
+
+/// The rule of the table of a four-slot cell.
+pub struct FourSlot;
+
+impl<T: Lawful> TableRule<T, Sight<T>, T> for FourSlot {
+    ghost use Rattle.cell_live.specs.FourSlot.{FourSlotRule};
+    ghost use Rattle.cell_live.specs.FourSlotSteps.{first_sight};
+
+    ghost holds = { FourSlotRule T.fits T.rises };
+
+    ghost first = { first_sight };
+}
+
+pub(crate) type Slots<T> = Table<T, Sight<T>, T, FourSlot, Global>;
+
+pub(crate) type Place<T> = Seat<T, Sight<T>>;
+
+/// A cell of four slots. Each `write` and each `read` makes three control accesses, plain loads and stores.
+#[derive(Drop)]
+pub struct FourSlotCell<T: Lawful> {
+    pub slots: Slots<T>,
+    ghost sized: { slots.shared.table_id.words ≡ 4 },
+}
+
+/// The right to write into a four-slot cell.
+#[derive(Drop)]
+pub struct FourSlotPut<T: Copy> {
+    pub seat: Place<T>,
+    /// The pairs' bits, as this pass stored them last.
+    remembered: Sides<bool>,
+    /// The record written last.
+    pub last: T,
+    ghost known: { seat.me ≡ (Writer (writer_or (first_writer last) seat.me.0), []) },
+    ghost idle: { (writer_or (first_writer last) seat.me.0).stage ≡ W5 },
+    ghost bits: { (writer_or (first_writer last) seat.me.0).remembered ≡ remembered },
+    ghost newest: { let p = writer_or (first_writer last) seat.me.0 in (p.finished.value ≡ last) × (last_or p.opening.value p.written ≡ last) },
+}
+
+/// The right to read a four-slot cell. From its first read on it holds the slot of its last answer.
+#[derive(Drop)]
+pub struct FourSlotGet<T: Copy> {
+    pub seat: Place<T>,
+    /// The last answer.
+    pub last: T,
+    ghost known: { seat.me.0 ≡ Reader (reader_or (first_reader last) seat.me.0) },
+    ghost idle: { (reader_or (first_reader last) seat.me.0).stage ≡ R5 },
+    ghost holds: { let g = reader_or (first_reader last) seat.me.0 in seat.me.1 ≡ slot_of_choice g.chosen g.at_hand.value },
+}
+
+/// A receipt of a four-slot cell.
+#[derive(Drop)]
+pub struct FourSlotTold<T: Copy> {
+    pub seat: Place<T>,
+    /// The record that it names.
+    pub item: T,
+    ghost known: { seat.me ≡ (Told (snap item), []) },
+}

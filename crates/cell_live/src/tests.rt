@@ -3,11 +3,12 @@ ghost use Rattle.std.specs.Prelude.{◌≡◌, ◌≤◌, ◌<◌, ◌+◌, ◌^
 ghost use Rattle.std.proofs.Common.{le_refl, le_trans};
 ghost use Rattle.cell_live.specs.Running.{last_or};
 
-use crate::{Calls, Cell, Kept, Lawful, TripleCell};
+use crate::{Calls, Cell, FourSlotCell, Kept, Lawful, TripleCell};
 use std::alloc::{AllocError, Global};
 use std::test::Fail;
 use std::thread::{Threads, join_mut};
 
+mod beside;
 mod torn;
 
 #[derive(Clone, Copy)]
@@ -45,6 +46,15 @@ fn in_one_thread<C: Cell<Count>>(alloc: Global) -> Result<[u64; 5], AllocError> 
 fn triple_in_one_thread(rt: HostRuntime) -> Result<(), Fail> {
     assert_eq!(rt;
         in_one_thread::<TripleCell<Count>>(rt.alloc())?,
+        [0, 2, 2, 2, 3]
+    );
+    Ok(())
+}
+
+#[test]
+fn four_slots_in_one_thread(rt: HostRuntime) -> Result<(), Fail> {
+    assert_eq!(rt;
+        in_one_thread::<FourSlotCell<Count>>(rt.alloc())?,
         [0, 2, 2, 2, 3]
     );
     Ok(())
@@ -162,6 +172,15 @@ fn triple_in_two_threads(rt: HostRuntime) -> Result<(), Fail> {
     Ok(())
 }
 
+#[test]
+fn four_slots_in_two_threads(rt: HostRuntime) -> Result<(), Fail> {
+    assert_eq!(rt;
+        in_two_threads::<_, FourSlotCell<Count>>(&rt, rt.alloc())?,
+        (0, 1_000)
+    );
+    Ok(())
+}
+
 /// The reader's pass is dropped, and the writer goes on.
 fn without_reader<C: Cell<Count>>(alloc: Global) -> Result<u64, AllocError> {
     let (cell, mut put, mut get) = C::make(alloc, Count(0))?;
@@ -175,5 +194,11 @@ fn without_reader<C: Cell<Count>>(alloc: Global) -> Result<u64, AllocError> {
 #[test]
 fn dropped_reader_of_triple(rt: HostRuntime) -> Result<(), Fail> {
     assert_eq!(rt; without_reader::<TripleCell<Count>>(rt.alloc())?, 1);
+    Ok(())
+}
+
+#[test]
+fn dropped_reader_of_four_slots(rt: HostRuntime) -> Result<(), Fail> {
+    assert_eq!(rt; without_reader::<FourSlotCell<Count>>(rt.alloc())?, 1);
     Ok(())
 }

@@ -3,7 +3,7 @@ ghost use Rattle.std.specs.Prelude.{◌≡◌, ◌≤◌, ◌<◌, ◌+◌, ◌^
 ghost use Rattle.std.proofs.Common.{le_refl, le_trans};
 ghost use Rattle.cell_live.specs.Running.{last_or};
 
-use crate::{Calls, Cell, Kept, Lawful, TripleCell};
+use crate::{Calls, Cell, FourSlotCell, Kept, Lawful, TripleCell};
 use std::alloc::{AllocError, Global};
 use std::sync::Wait;
 use std::sync::atomic::{AtomicU64, Ordering};
@@ -189,10 +189,18 @@ where
     Ok(seen)
 }
 
+fn is_enough(seen: Seen) -> bool {
+    seen.torn == 0 && seen.older == 0 && seen.reads >= 1_000_000 && seen.changes >= 1_000
+}
+
 #[test]
 fn triple_is_never_torn(rt: HostRuntime) -> Result<(), Fail> {
-    let seen = under_way::<_, TripleCell<Three>>(&rt, rt.alloc())?;
-    assert_eq!(rt; (seen.torn, seen.older), (0, 0));
-    assert!(rt; seen.reads >= 1_000_000 && seen.changes >= 1_000);
+    assert!(rt; is_enough(under_way::<_, TripleCell<Three>>(&rt, rt.alloc())?));
+    Ok(())
+}
+
+#[test]
+fn four_slots_are_never_torn(rt: HostRuntime) -> Result<(), Fail> {
+    assert!(rt; is_enough(under_way::<_, FourSlotCell<Three>>(&rt, rt.alloc())?));
     Ok(())
 }

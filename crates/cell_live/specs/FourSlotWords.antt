@@ -1,0 +1,58 @@
+-- The words of the contract, of the passes of a four-slot cell.
+use Rattle.std.specs.Prelude.{◌≡◌, ℕ, List}
+use Rattle.fourslot_core.specs.declared.state.Place.{Place}
+use Rattle.fourslot_core.specs.declared.event.WriteEvent.{WriteEvent}
+use Rattle.fourslot_core.specs.declared.event.ReadEvent.{ReadEvent}
+use Rattle.cell_live.specs.Running.{Name, IsName}
+use Rattle.cell_live.specs.FourSlotSteps.{first_writer, first_reader, writer_or, reader_or}
+use Rattle.cell_live.specs.declared.four_slot.notes.WriterNotes.{WriterNotes}
+use Rattle.cell_live.specs.declared.four_slot.notes.ReaderNotes.{ReaderNotes}
+use Rattle.cell_live.specs.declared.four_slot.FourSlotCell.{FourSlotCell}
+use Rattle.cell_live.specs.declared.four_slot.FourSlotPut.{FourSlotPut}
+use Rattle.cell_live.specs.declared.four_slot.FourSlotGet.{FourSlotGet}
+use Rattle.cell_live.specs.declared.four_slot.FourSlotTold.{FourSlotTold}
+
+module _ {T : Type 0} where
+  abbrev pub cell_name : FourSlotCell T → Name T
+  cell_name c = record { table = c.slots.shared.table_id; opening = c.slots.shared.key }
+
+  abbrev pub put_notes : FourSlotPut T → WriterNotes T
+  put_notes p = writer_or (first_writer p.last) p.seat.me.0
+
+  abbrev pub get_notes : FourSlotGet T → ReaderNotes T
+  get_notes g = reader_or (first_reader g.last) g.seat.me.0
+
+  abbrev pub is_put_of : FourSlotCell T → FourSlotPut T → Type 0
+  is_put_of c p = IsName (record { table = p.seat.table_id; opening = (put_notes p).opening.value }) (cell_name c)
+
+  abbrev pub is_get_of : FourSlotCell T → FourSlotGet T → Type 0
+  is_get_of c g = IsName (record { table = g.seat.table_id; opening = (get_notes g).opening.value }) (cell_name c)
+
+  abbrev pub is_told_of : FourSlotCell T → FourSlotTold T → Type 0
+  is_told_of c t = t.seat.table_id ≡ c.slots.shared.table_id
+
+  abbrev pub written_by : FourSlotPut T → List T
+  written_by p = (put_notes p).written
+
+  abbrev pub answers_of : FourSlotGet T → List T
+  answers_of g = (get_notes g).answers
+
+  abbrev pub told_to : FourSlotGet T → List T
+  told_to g = (get_notes g).told
+
+  -- the events made with a pass, and the count of its control accesses
+  abbrev pub write_events : FourSlotPut T → List (WriteEvent T)
+  write_events p = (put_notes p).events
+
+  abbrev pub read_events : FourSlotGet T → List (ReadEvent T)
+  read_events g = (get_notes g).events
+
+  abbrev pub writer_accesses : FourSlotPut T → ℕ
+  writer_accesses p = (put_notes p).accesses
+
+  abbrev pub reader_accesses : FourSlotGet T → ℕ
+  reader_accesses g = (get_notes g).accesses
+
+  -- the slot that the last R3 took
+  abbrev pub IsChosen : FourSlotGet T → Place → Type 0
+  IsChosen g k = (get_notes g).place ≡ k

@@ -1,0 +1,76 @@
+//! The bits of a four-slot cell as words, and the first step of a write.
+ghost use Rattle.std.specs.Prelude.{◌≡◌, ◌+◌, ◌<◌, Bool, [], ◌∷◌};
+ghost use mathlib.Core.Option.{none};
+ghost use Rattle.atomic_table.specs.Table.{Allows, step};
+ghost use Rattle.fourslot_core.specs.Events.{side, with_side, place_of, bit_number, slot_number};
+ghost use Rattle.cell_live.specs.FourSlotSteps.{begins};
+
+use super::notes::Sight;
+use super::plays::{Begins, Item};
+use atomic_table::{Seat, Shared, TableRule};
+use fourslot_core::Sides;
+
+/// The first step of a write: loads `reading`, and takes the slot.
+pub(super) fn begin<T: Copy, P: TableRule<T, Sight<T>, T>, K: Item<T>>(
+    shared: &Shared<T, Sight<T>, T, P>,
+    seat: &mut Seat<T, Sight<T>>,
+    item: T,
+) -> u64
+    requires own { (seat.old.table_id ≡ shared.now.table_id) × (1 < shared.now.table_id.words) }
+    requires item { K.item ≡ item ∷ [] }
+    requires rule { Allows (P.holds shared.now.key) shared.now.table_id.slots seat.old.id seat.old.me 1 (λ n. n) (begins (item ∷ []) (step shared.now.table_id.slots 1 0 0 none) seat.old.me) }
+    ensures own { (seat.new.table_id ≡ seat.old.table_id) × (seat.new.id ≡ seat.old.id) }
+    ensures begun { begins (item ∷ []) (step shared.now.table_id.slots 1 0 0 none) seat.old.me result seat.new.me }
+{
+    shared.load::<Begins<K>>(seat, 1)
+}
+
+/// Whether the word of a bit is 1.
+pub(super) fn is_one(word: u64) -> bool
+    ensures { (b : Bool) → word ≡ bit_number b → result ≡ b }
+{
+    word != 0
+}
+
+pub(super) fn bit_of(bits: Sides<bool>, pair: bool) -> bool
+    ensures { result ≡ side bits pair }
+{
+    if pair { bits.one } else { bits.zero }
+}
+
+pub(super) fn with_bit(bits: Sides<bool>, pair: bool, bit: bool) -> Sides<bool>
+    ensures { result ≡ with_side bits pair bit }
+{
+    if pair {
+        Sides {
+            zero: bits.zero,
+            one: bit,
+        }
+    } else {
+        Sides {
+            zero: bit,
+            one: bits.one,
+        }
+    }
+}
+
+/// The number of a slot.
+pub(super) fn slot_of(pair: bool, index: bool) -> usize
+    ensures { result ≡ slot_number (place_of pair index) }
+{
+    2 * pair as usize + index as usize
+}
+
+/// The word of a pair's bit.
+pub(super) fn word_of(pair: bool) -> usize
+    ensures { result ≡ 2 + bit_number pair }
+{
+    2 + pair as usize
+}
+
+/// A bit as a word.
+pub(super) fn bit_word(bit: bool) -> u64
+    ensures { result ≡ bit_number bit }
+{
+    bit as u64
+}

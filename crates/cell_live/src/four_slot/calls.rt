@@ -1,0 +1,158 @@
+//! The calls of the four-slot cell.
+ghost use Rattle.std.specs.Prelude.{◌≡◌, ℕ, ◌+◌, [], ◌∷◌, ◌++◌, IfOk};
+ghost use Rattle.fourslot_core.specs.declared.event.WriteEvent.TheVariants.{W1, W2, W3, W4, W5};
+ghost use Rattle.fourslot_core.specs.declared.event.ReadEvent.TheVariants.{R1, R2, R3, R4, R5};
+ghost use Rattle.fourslot_core.specs.Events.{slot_number};
+ghost use Rattle.cell_live.specs.Running.{last_or, IsAnswer};
+ghost use Rattle.cell_live.specs.Triple.{snap};
+ghost use Rattle.cell_live.specs.FourSlotSteps.{first_sight};
+ghost use Rattle.cell_live.specs.FourSlotWords.{is_put_of, is_get_of, is_told_of, written_by, answers_of, told_to, write_events, read_events, writer_accesses, reader_accesses, get_notes};
+
+use super::bits::{begin, bit_of, bit_word, is_one, slot_of, with_bit, word_of};
+use super::plays::{Asks, Ends, Finishes, Hears, Parts, Says, Stores, Takes, Tells};
+use super::{FourSlot, FourSlotCell, FourSlotGet, FourSlotPut, FourSlotTold, Place, Slots};
+use crate::cell::{Calls, Cell, Kept, Lawful};
+use crate::moves::{copy_out, empty, fill};
+use atomic_table::Table;
+use fourslot_core::Sides;
+use std::alloc::{AllocError, Global};
+use std::marker::Brand;
+
+/// The table with the record in each slot, and its first seat.
+fn table_of<T: Lawful>(alloc: Global, first: T) -> Result<(Slots<T>, Place<T>), AllocError>
+    requires { T.fits first }
+    ensures table { IfOk result (λ r. (r.0.shared.table_id.words ≡ 4) × (r.0.shared.key ≡ first)) }
+    ensures seat { IfOk result (λ r. (r.1.table_id ≡ r.0.shared.table_id) × (r.1.me ≡ (first_sight first, []))) }
+{
+    let mut slots = Vec::new(alloc);
+    slots.push(first).map_err(|_| AllocError)?;
+    slots.push(first).map_err(|_| AllocError)?;
+    slots.push(first).map_err(|_| AllocError)?;
+    slots.push(first).map_err(|_| AllocError)?;
+    Table::new(alloc, &[0, 0, 0, 0], slots, &first).map_err(|_| AllocError)
+}
+
+impl<T: Lawful> Calls<T> for FourSlotCell<T> {
+    type Put = FourSlotPut<T>;
+
+    type Get = FourSlotGet<T>;
+
+    type Told = FourSlotTold<T>;
+
+    ghost opening = { λ c. c.slots.shared.key };
+
+    ghost is_put = { is_put_of };
+
+    ghost is_get = { is_get_of };
+
+    ghost is_told = { is_told_of };
+
+    ghost written = { written_by };
+
+    ghost answers = { answers_of };
+
+    ghost told = { told_to };
+
+    ghost named = { λ t. t.item };
+
+    ghost put_accesses = { writer_accesses };
+
+    ghost get_accesses = { reader_accesses };
+
+    fn make(alloc: Global, first: T) -> Result<(Self, FourSlotPut<T>, FourSlotGet<T>), AllocError> {
+        let (slots, mut put) = table_of(alloc, first)?;
+        let get = slots.shared.split_seat::<Parts>(&mut put);
+        Ok((
+            FourSlotCell { slots },
+            FourSlotPut {
+                seat: put,
+                remembered: Sides {
+                    zero: false,
+                    one: false,
+                },
+                last: first,
+            },
+            FourSlotGet {
+                seat: get,
+                last: first,
+            },
+        ))
+    }
+
+    fn write(&self, put: &mut FourSlotPut<T>, item: T)
+        requires own { is_put_of self.now put.old }
+        requires lawful { T.fits item × T.rises (last_or self.now.slots.shared.key (written_by put.old)) item }
+        ensures own { is_put_of self.now put.new }
+        ensures written { written_by put.new ≡ written_by put.old ++ item ∷ [] }
+        ensures accesses { writer_accesses put.new ≡ writer_accesses put.old + 3 }
+        ensures events { write_events put.new ≡ write_events put.old ++ W1 (snap item) ∷ W2 ∷ W3 ∷ W4 ∷ W5 ∷ [] }
+    {
+        let shared = &self.slots.shared;
+        let reading = begin::<T, FourSlot, Brand>(shared, &mut put.seat, item);
+        let pair = !is_one(reading);
+        let index = !bit_of(put.remembered, pair);
+        let slot = slot_of(pair, index);
+        fill(shared, &mut put.seat, slot, item);
+        let word = word_of(pair);
+        shared.store::<Stores>(&mut put.seat, word, bit_word(index));
+        shared.store::<Finishes>(&mut put.seat, 0, bit_word(pair));
+        put.remembered = with_bit(put.remembered, pair, index);
+        put.last = item;
+    }
+
+    fn read(&self, get: &mut FourSlotGet<T>) -> T
+        requires { is_get_of self.now get.old }
+        ensures own { is_get_of self.now get.new }
+        ensures answers { answers_of get.new ≡ answers_of get.old ++ result ∷ [] }
+        ensures told { told_to get.new ≡ told_to get.old }
+        ensures running { IsAnswer T.fits T.rises self.now.slots.shared.key (answers_of get.old) (told_to get.old) result }
+        ensures accesses { reader_accesses get.new ≡ reader_accesses get.old + 3 }
+        ensures events { read_events get.new ≡ read_events get.old ++ R1 ∷ R2 ∷ R3 ∷ R4 ∷ R5 (snap result) ∷ [] }
+        // The pass holds the slot that this call's R3 took, and the answer is the record with which it came.
+        ensures held { get.new.seat.me.1 ≡ (slot_number (get_notes get.new).place, result) ∷ [] }
+    {
+        let shared = &self.slots.shared;
+        let latest = shared.load::<Asks>(&mut get.seat, 0);
+        let pair = is_one(latest);
+        shared.store::<Says>(&mut get.seat, 1, latest);
+        let word = word_of(pair);
+        let bit = shared.load::<Takes>(&mut get.seat, word);
+        let index = is_one(bit);
+        let slot = slot_of(pair, index);
+        let answer = copy_out(shared, &mut get.seat, slot, get.last);
+        get.last = answer;
+        answer
+    }
+
+    fn tell(&self, put: &mut FourSlotPut<T>) -> FourSlotTold<T> {
+        let seat = self.slots.shared.split_seat::<Tells>(&mut put.seat);
+        FourSlotTold {
+            seat,
+            item: put.last,
+        }
+    }
+
+    fn learn(&self, get: &mut FourSlotGet<T>, receipt: FourSlotTold<T>) {
+        let FourSlotTold { seat, item: _ } = receipt;
+        self.slots.shared.join_seat::<Hears>(&mut get.seat, seat);
+    }
+
+    fn finish(self, put: FourSlotPut<T>, get: FourSlotGet<T>) {
+        let FourSlotCell { slots } = self;
+        let FourSlotPut {
+            seat: mut put,
+            remembered: _,
+            last: _,
+        } = put;
+        let FourSlotGet {
+            seat: mut get,
+            last: _,
+        } = get;
+        let pair = slots.shared.load::<Asks>(&mut get, 0);
+        slots.shared.store::<Says>(&mut get, 1, pair);
+        slots.shared.join_seat::<Ends>(&mut put, get);
+        empty(slots.close_with(put));
+    }
+}
+
+impl<T: Kept> Cell<T> for FourSlotCell<T> {}
