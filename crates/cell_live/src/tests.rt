@@ -9,6 +9,7 @@ use std::test::Fail;
 use std::thread::{Threads, join_mut};
 
 mod beside;
+mod control;
 mod torn;
 
 #[derive(Clone, Copy)]

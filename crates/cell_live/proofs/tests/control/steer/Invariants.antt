@@ -1,0 +1,4 @@
+use Rattle.cell_live.proofs.tests.control.steer.Given as goal
+
+abbrev pub invariant-loop : goal.invariant-loop
+invariant-loop g l = g.C.Calls.is_get l.cell l.task.get
