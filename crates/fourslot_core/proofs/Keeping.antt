@@ -243,12 +243,12 @@ clear_of_sound s last h hi hs = h.apart s.read (kept_with s.reader hi) (h.taken 
     kept_with R4 i = tt
     kept_with R5 i = tt
 
-same_bits : (a b : Bool) → same_bit a b ≡ true → a ≡ b
+pub same_bits : (a b : Bool) → same_bit a b ≡ true → a ≡ b
 same_bits true b h = sym h
 same_bits false true h = cc
 same_bits false false h = refl
 
-and_parts : (a b : Bool) → (a && b) ≡ true → (a ≡ true) × (b ≡ true)
+pub and_parts : (a b : Bool) → (a && b) ≡ true → (a ≡ true) × (b ≡ true)
 and_parts true b h = (refl, h)
 and_parts false b h = cc
 

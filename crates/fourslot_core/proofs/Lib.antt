@@ -16,3 +16,5 @@ pub mod TraceRecords
 pub mod TraceGood
 pub mod TraceMapped
 pub mod TraceLaws
+pub mod SlotRecords
+pub mod SlotSteps

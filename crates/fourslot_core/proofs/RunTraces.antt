@@ -1,15 +1,15 @@
 -- The player's run is the trace of the schedule's steps: by induction over the steps, what it shows is what the trace shows, and
 -- the trace's positions are the schedule's.
-use Rattle.std.proofs.Common.{◌≡◌, ℕ, ◌+◌, ◌*◌, ◌<◌, ◌≤◌, List, [], ◌∷◌, ◌++◌, length, map, get_or, slice_get, None, Some, zero, suc, refl, sym, subst, ◌∙◌, ap, arith, append_assoc, append-nil}
+use Rattle.std.proofs.Common.{◌≡◌, ℕ, ◌+◌, List, [], ◌∷◌, ◌++◌, map, zero, suc, refl, sym, ◌∙◌, ap, append_assoc, append-nil}
 use Rattle.std.specs.List.{fold}
-use Rattle.history_core.specs.Schedules.{positions, steps_of}
+use Rattle.history_core.specs.Schedules.{positions}
 use Rattle.fourslot_core.specs.declared.schedule.Turn.{Turn}
 use Rattle.fourslot_core.specs.declared.schedule.Turn.TheVariants.{Writer, Reader}
 use Rattle.fourslot_core.specs.declared.player.Numbered.{Numbered}
-use Rattle.fourslot_core.specs.Traces.{Moment, Trace, moments_from, then_step, trace, source_record}
+use Rattle.fourslot_core.specs.Traces.{Moment, Trace, moments_from, then_step, source_record}
 use Rattle.fourslot_core.specs.Play.{actor, item_of, run}
 use Rattle.fourslot_core.specs.Runs.{Log, log_of, step_of, numbered, opening_record, numbered_run, numbered_trace}
-use Rattle.fourslot_core.proofs.TraceGood.{IsNumbered, IsGood, trace_good}
+use Rattle.fourslot_core.proofs.TraceGood.{IsGood, trace_good}
 use Rattle.fourslot_core.proofs.TraceLaws.{moments_rise}
 use Rattle.fourslot_core.proofs.TraceMapped.{map_trace, trace_mapped}
 

@@ -8,4 +8,5 @@ pub mod Play
 pub mod Reports
 pub mod ReportOrders
 pub mod Runs
+pub mod SafeSlots
 pub mod Traces

@@ -7,10 +7,11 @@ ghost use Rattle.fourslot_core.specs.declared.event.ReadEvent.{ReadEvent};
 ghost use Rattle.fourslot_core.specs.declared.event.WriteEvent.{WriteEvent};
 ghost use Rattle.fourslot_core.specs.declared.schedule.Turn.{Turn};
 ghost use Rattle.fourslot_core.specs.Accesses.{IsClear, IsFreshRead};
-ghost use Rattle.fourslot_core.specs.Events.{after_read, after_write, opening_state, reader_state, slot_number};
+ghost use Rattle.fourslot_core.specs.Events.{after_read, after_write, opening_state, reader_state, record_in, slot_number};
 ghost use Rattle.fourslot_core.specs.Freshness.{floor_after, IsFresh, prev_after};
 ghost use Rattle.fourslot_core.specs.Interleaving.{Leads, Reads, Writes};
 ghost use Rattle.fourslot_core.specs.Invariant.{HasIndex, HasSlot, IsSound, IsUnmet, last_after};
+ghost use Rattle.fourslot_core.specs.SafeSlots.{IsMarked, IsSafe, slot_trace, slot_writes, SlotRead};
 ghost use Rattle.fourslot_core.specs.Traces.{Moment, moments_from, reads_of, RisesFrom, source_record, trace, writes_of};
 
 use crate::cell::CellCore;
@@ -25,85 +26,68 @@ pub fn reader_at<R: Copy>(opening: R, noise: R, slot: u8) -> CellCore<R>
     CellCore::with_reader(opening, noise, Place::numbered(slot))
 }
 
+/// A cell that is stepped from any state, also one with a reader and a writer in one slot, answers as safe slots do: each
+/// slot read that ends is judged by the intervals of the slot accesses alone.
+pub fn slots_are_safe<R>()
+    ensures { (s : State R) (items : ℕ → R) (moments : List Moment) → IsMarked s → RisesFrom 1 moments →
+        let t = slot_trace s items moments in
+        (m : ℕ) (read : SlotRead R) → slice_get t.reads m ≡ Some read →
+        IsSafe (λ slot. record_in s.records slot) s.noise (slot_writes t) read }
+{}
+
 /// The opening is sound, and each event leads from a sound state to a sound one.
 pub fn events_keep_soundness<R>()
     ensures opening { (opening noise : R) → IsSound (opening_state opening noise) opening }
-    ensures write {
-        (x : R) (s : State R) (last : R) → IsSound s last →
-        IsSound (after_write s.writer x s) (last_after s.writer s last)
-    }
+    ensures write { (x : R) (s : State R) (last : R) → IsSound s last →
+        IsSound (after_write s.writer x s) (last_after s.writer s last) }
     ensures read { (s : State R) (last : R) → IsSound s last → IsSound (after_read s.reader s) last }
 {}
 
 /// In a sound state a reader and a writer that have their slots have different ones, so no slot read meets a slot write.
 pub fn sound_slots_are_clear<R>()
-    ensures apart {
-        (s : State R) (last : R) → IsSound s last →
-        HasIndex s.reader → HasSlot s.writer → s.write ≢ s.read
-    }
+    ensures apart { (s : State R) (last : R) → IsSound s last →
+        HasIndex s.reader → HasSlot s.writer → s.write ≢ s.read }
     ensures opening { (opening noise : R) → IsUnmet (opening_state opening noise) }
-    ensures write {
-        (x : R) (s : State R) (last : R) → IsSound s last →
-        IsUnmet s → IsUnmet (after_write s.writer x s)
-    }
-    ensures read {
-        (s : State R) (last : R) → IsSound s last → IsUnmet s → IsUnmet (after_read s.reader s)
-    }
+    ensures write { (x : R) (s : State R) (last : R) → IsSound s last →
+        IsUnmet s → IsUnmet (after_write s.writer x s) }
+    ensures read { (s : State R) (last : R) → IsSound s last → IsUnmet s → IsUnmet (after_read s.reader s) }
 {}
 
 /// The numbers of the records in the slots stay fresh, for any numbering in which each write's is the next.
 pub fn events_keep_freshness<R>()
-    ensures opening {
-        (num : R → ℕ) (opening noise : R) → num opening ≡ 0 →
-        IsFresh num (opening_state opening noise) opening 0 0
-    }
-    ensures write {
-        (num : R → ℕ) (x : R) (s : State R) (last : R) (prev floor : ℕ) →
+    ensures opening { (num : R → ℕ) (opening noise : R) → num opening ≡ 0 →
+        IsFresh num (opening_state opening noise) opening 0 0 }
+    ensures write { (num : R → ℕ) (x : R) (s : State R) (last : R) (prev floor : ℕ) →
         (s.writer ≡ W5 → num x ≡ num last + 1) → IsSound s last → IsFresh num s last prev floor →
-        IsFresh num (after_write s.writer x s) (last_after s.writer s last) prev floor
-    }
-    ensures read {
-        (num : R → ℕ) (s : State R) (last : R) (prev floor : ℕ) →
+        IsFresh num (after_write s.writer x s) (last_after s.writer s last) prev floor }
+    ensures read { (num : R → ℕ) (s : State R) (last : R) (prev floor : ℕ) →
         IsSound s last → IsFresh num s last prev floor →
         let prev = prev_after s.reader num s prev in
         let floor = floor_after s.reader num last floor in
-        IsFresh num (after_read s.reader s) last prev floor
-    }
+        IsFresh num (after_read s.reader s) last prev floor }
 {}
 
 /// An interleaving grows at its end by an event of either side.
 pub fn interleavings_grow<R>()
-    ensures write {
-        (ws : List (WriteEvent R)) (rs : List (ReadEvent R)) (s t u : State R) (e : WriteEvent R) →
-        Leads ws rs s t → Writes e t u → Leads (ws ++ e ∷ []) rs s u
-    }
-    ensures read {
-        (ws : List (WriteEvent R)) (rs : List (ReadEvent R)) (s t u : State R) (e : ReadEvent R) →
-        Leads ws rs s t → Reads e t u → Leads ws (rs ++ e ∷ []) s u
-    }
+    ensures write { (ws : List (WriteEvent R)) (rs : List (ReadEvent R)) (s t u : State R) (e : WriteEvent R) →
+        Leads ws rs s t → Writes e t u → Leads (ws ++ e ∷ []) rs s u }
+    ensures read { (ws : List (WriteEvent R)) (rs : List (ReadEvent R)) (s t u : State R) (e : ReadEvent R) →
+        Leads ws rs s t → Reads e t u → Leads ws (rs ++ e ∷ []) s u }
 {}
 
 /// A cell that is stepped in any interleaving, at positions that rise, is clear; and each read that has ended is fresh and
 /// answers the record of its source. The first steps of such an interleaving are one too, so this holds after each step.
 pub fn interleavings_are_clear_and_fresh<R>()
-    ensures clear {
-        (opening noise : R) (items : ℕ → R) (moments : List Moment) → RisesFrom 0 moments →
-        let t = trace opening noise items moments in IsClear (writes_of t) (reads_of t)
-    }
-    ensures fresh {
-        (opening noise : R) (items : ℕ → R) (moments : List Moment) → RisesFrom 0 moments →
+    ensures clear { (opening noise : R) (items : ℕ → R) (moments : List Moment) → RisesFrom 0 moments →
+        let t = trace opening noise items moments in IsClear (writes_of t) (reads_of t) }
+    ensures fresh { (opening noise : R) (items : ℕ → R) (moments : List Moment) → RisesFrom 0 moments →
         let t = trace opening noise items moments in
         (m : ℕ) (answer : R) → slice_get t.answers m ≡ Some answer →
-        (n : ℕ) × IsFreshRead (writes_of t) (reads_of t) m n × (answer ≡ source_record opening items n)
-    }
-    ensures answered {
-        (opening noise : R) (items : ℕ → R) (moments : List Moment) → RisesFrom 0 moments →
+        (n : ℕ) × IsFreshRead (writes_of t) (reads_of t) m n × (answer ≡ source_record opening items n) }
+    ensures answered { (opening noise : R) (items : ℕ → R) (moments : List Moment) → RisesFrom 0 moments →
         let t = trace opening noise items moments in
-        (m : ℕ) → IsSome ((reads_of t).at m 4) → IsSome (slice_get t.answers m)
-    }
-    ensures first {
-        (next : ℕ) (moments more : List Moment) →
-        RisesFrom next (moments ++ more) → RisesFrom next moments
-    }
+        (m : ℕ) → IsSome ((reads_of t).at m 4) → IsSome (slice_get t.answers m) }
+    ensures first { (next : ℕ) (moments more : List Moment) →
+        RisesFrom next (moments ++ more) → RisesFrom next moments }
     ensures played { (n : ℕ) (turns : List Turn) → RisesFrom n (moments_from n turns) }
 {}
