@@ -1,2 +1,5 @@
 pub mod Lists
 pub mod Matrices
+pub mod ChoicesStamps
+pub mod ChoicesRise
+pub mod Choices

@@ -1,2 +1,4 @@
 pub mod Stamps
 pub mod Events
+pub mod Choices
+pub mod TermOrders

@@ -2,6 +2,7 @@
 //! of such a matrix with tags is credited to P. Vitányi and B. Awerbuch, FOCS 1986; the rules are this project's own.
 #![tactic(auto)]
 
+pub mod laws;
 mod matrix;
 mod schedule;
 mod stamp;
