@@ -3,3 +3,4 @@ pub mod Matrices
 pub mod ChoicesStamps
 pub mod ChoicesRise
 pub mod Choices
+pub mod TermOrders
