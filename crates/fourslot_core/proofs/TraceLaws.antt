@@ -1,11 +1,12 @@
 -- Each trace from the opening is one of numbered records, without the numbers; so it is clear and fresh.
-use Rattle.std.proofs.Common.{◌≡◌, ℕ, ◌+◌, ◌*◌, ◌<◌, ◌≤◌, List, [], ◌∷◌, ◌++◌, length, map, slice_get, Option, Some, None, IsSome, zero, suc, refl, sym, subst, ◌∙◌, ap, arith}
+use Rattle.std.proofs.Common.{◌≡◌, ℕ, ◌+◌, ◌*◌, ◌<◌, ◌≤◌, List, [], ◌∷◌, ◌++◌, length, map, slice_get, Option, Some, None, IsSome, zero, suc, refl, sym, subst, ◌∙◌, ap, arith, append-nil, append_assoc}
+use Rattle.std.proofs.lemmas.List.Sums.{fold-append}
 use Rattle.std.specs.Option.{option_map}
 use Rattle.std.proofs.lemmas.List.{length-map}
 use Rattle.std.proofs.lemmas.Option.{slice_get-map, slice_get_within}
 use Rattle.fourslot_core.specs.declared.schedule.Turn.{Turn}
 use Rattle.fourslot_core.specs.Accesses.{IsClear, IsFreshRead}
-use Rattle.fourslot_core.specs.Traces.{Moment, RisesFrom, moments_from, Trace, trace, writes_of, reads_of, source_record}
+use Rattle.fourslot_core.specs.Traces.{Moment, RisesFrom, moments_from, Trace, trace, writes_of, reads_of, source_record, moment_at, moments_of, then_step, trace_start}
 use Rattle.fourslot_core.proofs.Pushed.{some_of, get_within, is_some_of}
 use Rattle.fourslot_core.specs.declared.state.ReaderStage.{ReaderStage}
 use Rattle.fourslot_core.specs.declared.state.ReaderStage.TheVariants.{R1, R2, R3, R4, R5}
@@ -103,3 +104,28 @@ rises_first next (m ∷ ms) more h = (h.0, rises_first (m.at + 1) ms more h.1)
 pub moments_rise : (n : ℕ) (turns : List Turn) → RisesFrom n (moments_from n turns)
 moments_rise n [] = tt
 moments_rise n (turn ∷ turns) = (omega arith, moments_rise (n + 1) turns)
+
+rises_lower : (next : ℕ) (ms : List Moment) → RisesFrom (next + 1) ms → RisesFrom next ms
+rises_lower next [] h = tt
+rises_lower next (m ∷ ms) h = (omega (arith, h.0), h.1)
+
+-- the steps of one cell among other events rise too
+pub moments_of_rise : {E : Type 0} (turn : E → Option Turn) (n : ℕ) (es : List E) → RisesFrom n (moments_of turn n es)
+moments_of_rise turn n [] = tt
+moments_of_rise turn n (e ∷ es) = with_first (turn e) (moments_of turn (n + 1) es) (moments_of_rise turn (n + 1) es)
+  where
+    with_first : (o : Option Turn) (ms : List Moment) → RisesFrom (n + 1) ms → RisesFrom n (moment_at o n ++ ms)
+    with_first None ms h = rises_lower n ms h
+    with_first (Some t) ms h = (omega arith, h)
+
+-- one more event
+pub moments_of_more : {E : Type 0} (turn : E → Option Turn) (n : ℕ) (es : List E) (e : E) → moments_of turn n (es ++ e ∷ []) ≡ moments_of turn n es ++ moment_at (turn e) (n + length es)
+moments_of_more turn n [] e = append-nil (moment_at (turn e) n) ∙ ap (moment_at (turn e)) (omega arith)
+moments_of_more turn n (d ∷ es) e =
+    let k : (n + 1) + length es ≡ n + suc (length es) = omega arith in
+    ap (λ ms. moment_at (turn d) n ++ ms) (moments_of_more turn (n + 1) es e ∙ ap (λ m. moments_of turn (n + 1) es ++ moment_at (turn e) m) k)
+    ∙ sym (append_assoc (moment_at (turn d) n) (moments_of turn (n + 1) es) (moment_at (turn e) (n + suc (length es))))
+
+-- one more step
+pub trace_more : {R : Type 0} (opening noise : R) (items : ℕ → R) (ms : List Moment) (m : Moment) → trace opening noise items (ms ++ m ∷ []) ≡ then_step items (trace opening noise items ms) m.turn m.at
+trace_more {R} opening noise items ms m = fold-append {A = Moment} {B = Trace R} (λ t m. then_step items t m.turn m.at) (trace_start opening noise) ms (m ∷ [])

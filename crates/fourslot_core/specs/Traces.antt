@@ -1,6 +1,6 @@
 -- A cell that is stepped in any interleaving, at positions that rise: the positions of each side's steps, and what the
 -- events have shown so far.
-use Rattle.std.specs.Prelude.{ℕ, ◌+◌, ◌*◌, ◌≤◌, List, [], ◌∷◌, ◌++◌, length, slice_get, zero, suc}
+use Rattle.std.specs.Prelude.{ℕ, ◌+◌, ◌*◌, ◌≤◌, List, [], ◌∷◌, ◌++◌, length, slice_get, Option, None, Some, zero, suc}
 use Rattle.std.specs.List.{fold}
 use Rattle.fourslot_core.specs.declared.schedule.Turn.{Turn}
 use Rattle.fourslot_core.specs.declared.schedule.Turn.TheVariants.{Writer, Reader}
@@ -26,6 +26,15 @@ RisesFrom next (m ∷ ms) = (next ≤ m.at) × RisesFrom (m.at + 1) ms
 abbrev pub moments_from : ℕ → List Turn → List Moment
 moments_from n [] = []
 moments_from n (turn ∷ turns) = record { at = n; turn = turn } ∷ moments_from (n + 1) turns
+
+abbrev pub moment_at : Option Turn → ℕ → List Moment
+moment_at None n = []
+moment_at (Some turn) n = record { at = n; turn = turn } ∷ []
+
+-- the steps of one cell among other events, which keep their positions: `turn` says whose step of this cell an event is
+abbrev pub moments_of : {E : Type 0} → (E → Option Turn) → ℕ → List E → List Moment
+moments_of turn n [] = []
+moments_of turn n (e ∷ es) = moment_at (turn e) n ++ moments_of turn (n + 1) es
 
 -- a cell after some steps: the positions of the writer's and of the reader's, the slot of each write since its W1 and of each
 -- read since its R3, and the answer of each read that has ended

@@ -1,6 +1,6 @@
 //! Laws over the definitions.
 
-ghost use Rattle.std.specs.Prelude.{◌≡◌, ◌≢◌, ℕ, ◌+◌, ◌<◌, List, [], ◌∷◌, ◌++◌, slice_get, IsSome, false};
+ghost use Rattle.std.specs.Prelude.{◌≡◌, ◌≢◌, ℕ, ◌+◌, ◌<◌, List, [], ◌∷◌, ◌++◌, slice_get, IsSome, Option, false};
 ghost use Rattle.fourslot_core.specs.declared.state.State.{State};
 ghost use Rattle.fourslot_core.specs.declared.state.Stage.TheVariants.{W5};
 ghost use Rattle.fourslot_core.specs.declared.event.ReadEvent.{ReadEvent};
@@ -12,7 +12,7 @@ ghost use Rattle.fourslot_core.specs.Freshness.{floor_after, IsFresh, prev_after
 ghost use Rattle.fourslot_core.specs.Interleaving.{Leads, Reads, Writes};
 ghost use Rattle.fourslot_core.specs.Invariant.{HasIndex, HasSlot, IsSound, IsUnmet, last_after};
 ghost use Rattle.fourslot_core.specs.SafeSlots.{IsMarked, IsSafe, slot_trace, slot_writes, SlotRead};
-ghost use Rattle.fourslot_core.specs.Traces.{Moment, moments_from, reads_of, RisesFrom, source_record, trace, writes_of};
+ghost use Rattle.fourslot_core.specs.Traces.{Moment, moments_from, moments_of, reads_of, RisesFrom, source_record, trace, writes_of};
 
 use crate::cell::CellCore;
 use crate::state::Place;
@@ -67,12 +67,14 @@ pub fn events_keep_freshness<R>()
         IsFresh num (after_read s.reader s) last prev floor }
 {}
 
-/// An interleaving grows at its end by an event of either side.
+/// An interleaving grows at its end by an event of either side, and leads from a sound state to a sound one.
 pub fn interleavings_grow<R>()
     ensures write { (ws : List (WriteEvent R)) (rs : List (ReadEvent R)) (s t u : State R) (e : WriteEvent R) →
         Leads ws rs s t → Writes e t u → Leads (ws ++ e ∷ []) rs s u }
     ensures read { (ws : List (WriteEvent R)) (rs : List (ReadEvent R)) (s t u : State R) (e : ReadEvent R) →
         Leads ws rs s t → Reads e t u → Leads ws (rs ++ e ∷ []) s u }
+    ensures sound { (ws : List (WriteEvent R)) (rs : List (ReadEvent R)) (s t : State R) (last : R) →
+        Leads ws rs s t → IsSound s last → (after : R) × IsSound t after }
 {}
 
 /// A cell that is stepped in any interleaving, at positions that rise, is clear; and each read that has ended is fresh and
@@ -90,4 +92,10 @@ pub fn interleavings_are_clear_and_fresh<R>()
     ensures first { (next : ℕ) (moments more : List Moment) →
         RisesFrom next (moments ++ more) → RisesFrom next moments }
     ensures played { (n : ℕ) (turns : List Turn) → RisesFrom n (moments_from n turns) }
+{}
+
+/// The steps of one cell among other events, with the positions of the events, rise. So the laws hold of each of many cells
+/// that are stepped in one schedule.
+pub fn positions_rise<E>()
+    ensures { (turn : E → Option Turn) (n : ℕ) (events : List E) → RisesFrom n (moments_of turn n events) }
 {}

@@ -1,6 +1,6 @@
 //! Schedules stepped by hand. The expected bits, slots and answers are those of the worked traces.
 
-use crate::laws::reader_at;
+use crate::laws::{self, reader_at};
 use crate::{Bits, CellCore, InSlot, ReadStage, Stage};
 use history_core::Band;
 use std::process::Abort;
@@ -274,4 +274,16 @@ fn events_of_bands(rt: HostRuntime) {
         }
     );
     assert_eq!(rt; met.read_step(), ReadStage::R5(noise));
+}
+
+/// Laws have no effect; here they are called at a type.
+#[test]
+fn laws_of_numbers() {
+    laws::slots_are_safe::<u64>();
+    laws::events_keep_soundness::<u64>();
+    laws::sound_slots_are_clear::<u64>();
+    laws::events_keep_freshness::<u64>();
+    laws::interleavings_grow::<u64>();
+    laws::interleavings_are_clear_and_fresh::<u64>();
+    laws::positions_rise::<u64>();
 }

@@ -1,5 +1,5 @@
-use Rattle.fourslot_core.proofs.Interleaved.{then_writes, then_reads}
+use Rattle.fourslot_core.proofs.Interleaved.{leads_sound, then_writes, then_reads}
 use Rattle.fourslot_core.proofs.laws.interleavings_grow.Goals as goal
 
 pub returns : goal.returns
-returns g c = record { write = then_writes; read = then_reads }
+returns g c = record { write = then_writes; read = then_reads; sound = leads_sound }

@@ -1,0 +1,5 @@
+use Rattle.fourslot_core.proofs.TraceLaws.{moments_of_rise}
+use Rattle.fourslot_core.proofs.laws.positions_rise.Goals as goal
+
+pub returns : goal.returns
+returns g c = moments_of_rise
