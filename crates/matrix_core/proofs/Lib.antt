@@ -1,6 +1,9 @@
+pub mod Accesses
+pub mod Choices
+pub mod ChoicesRise
+pub mod ChoicesStamps
 pub mod Lists
 pub mod Matrices
-pub mod ChoicesStamps
-pub mod ChoicesRise
-pub mod Choices
+pub mod Plays
+pub mod Steps
 pub mod TermOrders

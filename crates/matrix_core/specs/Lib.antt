@@ -1,4 +1,5 @@
-pub mod Stamps
-pub mod Events
 pub mod Choices
+pub mod Events
+pub mod Runs
+pub mod Stamps
 pub mod TermOrders

@@ -4,6 +4,7 @@
 
 pub mod laws;
 mod matrix;
+mod play;
 mod schedule;
 mod stamp;
 #[cfg(test)]

@@ -85,6 +85,15 @@ impl<R: Copy> MatrixCore<R> {
         })
     }
 
+    /// How far a process is.
+    pub(crate) fn line(&self, process: usize) -> Progress<R>
+        requires { process < size self.now }
+        ensures at { slice_get self.now.lines process ≡ Some result }
+        ensures matrix { IsMatrix self.now }
+    {
+        self.lines[process]
+    }
+
     /// The next access of a process: it reads a cell of its column, or writes one of its row. The wish counts at the
     /// first access of an operation and has no effect at the others.
     pub fn step(&mut self, process: usize, wish: Wish<R>) -> MatrixStage<R>
@@ -148,7 +157,7 @@ fn cell_index(n: usize, writer: usize, reader: usize) -> usize
 }
 
 /// A list of `count` times the same item.
-fn filled<T: Copy + Drop>(alloc: Global, item: T, count: usize) -> Result<Vec<T>, AllocError>
+pub(crate) fn filled<T: Copy + Drop>(alloc: Global, item: T, count: usize) -> Result<Vec<T>, AllocError>
     requires { count ≤ 256 }
     ensures { IfOk result (λ v. v.items ≡ replicate count item) }
 {

@@ -1,0 +1,132 @@
+//! The player: a schedule over a matrix, step by step.
+
+ghost use Rattle.std.specs.Prelude.{◌≡◌, ◌+◌, ◌-◌, ◌*◌, ◌<◌, ◌≤◌, ◌^◌, ℕ, List, length, replicate, vec_len, IfOk, IsSome, OnOk, Some, slice_get, slice_set};
+ghost use Rattle.std.specs.List.{fold};
+ghost use Rattle.matrix_core.specs.Runs.{begun_op, chose, ended};
+
+use history_core::{Items, Kind, Op, Wish};
+use std::alloc::{AllocError, Global};
+use std::marker::Model;
+
+use crate::matrix::{MatrixCore, Outcome, Progress, filled};
+use crate::stamp::Stamp;
+
+/// Where a process is in its plan: the place of its newest operation, and how many operations it has begun.
+#[derive(Clone, Copy)]
+pub struct Seat {
+    pub place: usize,
+    pub begun: usize,
+}
+
+/// One term while it is played.
+#[derive(Drop)]
+pub struct Play<R> {
+    core: MatrixCore<R>,
+    now: u64,
+    seats: Vec<Seat>,
+    ops: Vec<Op<R>>,
+    stamps: Vec<Option<Stamp>>,
+}
+
+impl<R> Model for Play<R> {
+    ghost use Rattle.matrix_core.specs.Runs.{Run};
+
+    ghost Value = { Run R };
+
+    ghost view = { λ p. record { matrix = p.core; now = p.now; seats = p.seats.items; ops = p.ops.items; stamps = p.stamps.items } };
+}
+
+impl<R: Copy> Play<R> {
+    ghost use Rattle.matrix_core.specs.Events.{size};
+    ghost use Rattle.matrix_core.specs.Runs.{accesses, after_step, began, CanAccess, IsReady, next_wish, opening_run, seat_of};
+
+    fn new(alloc: Global, n: usize, limit: u64, opening: R, now: u64) -> Result<Play<R>, AllocError>
+        requires processes { 2 ≤ n × n ≤ 16 }
+        requires limit { 1 ≤ limit × limit ≤ 18446744073709551614 }
+        ensures { IfOk result (λ play. play ≡ opening_run n limit opening now) }
+    {
+        Ok(Play {
+            core: MatrixCore::new(alloc, n, limit, opening)?,
+            now,
+            seats: filled(alloc, Seat { place: 0, begun: 0 }, n)?,
+            ops: Vec::new(alloc),
+            stamps: Vec::new(alloc),
+        })
+    }
+
+    /// The next step, which is one of process `who`.
+    fn step(&mut self, plans: &[Items<Wish<R>>], who: usize) -> Result<(), AllocError>
+        requires { IsReady plans.now self.old who }
+        ensures { OnOk result (self.new ≡ after_step plans.now self.old who) }
+    {
+        let line = self.core.line(who);
+        let wish = if line.done == 0 { self.begin(plans, who)? } else { Wish::Read };
+        self.access(who, wish, line);
+        Ok(())
+    }
+
+    /// Begins the next operation of a process, and tells what it is to do.
+    fn begin(&mut self, plans: &[Items<Wish<R>>], who: usize) -> Result<Wish<R>, AllocError>
+        requires seats { who < length self.old.seats }
+        requires plan { IsSome (next_wish plans.now self.old who) }
+        requires small { (seat_of self.old who).begun + 1 < 2 ^ 64 }
+        ensures { IfOk result (λ wish. (next_wish plans.now self.old who ≡ Some wish) × (self.new ≡ began self.old who wish)) }
+    {
+        let seat = self.seats[who];
+        let wish = plans[who].as_slice()[seat.begun];
+        let place = self.ops.len();
+        self.ops.push(begun_op(who, self.now, wish))?;
+        self.stamps.push(None)?;
+        self.seats[who] = Seat { place, begun: seat.begun + 1 };
+        Ok(wish)
+    }
+
+    /// The access that stands next for a process, whose progress before it is `line`.
+    fn access(&mut self, who: usize, wish: Wish<R>, line: Progress<R>)
+        requires { CanAccess self.old who line }
+        ensures { self.new ≡ accesses self.old who wish line }
+    {
+        let n = self.seats.len();
+        let now = self.now;
+        let place = self.seats[who].place;
+        self.core.step(who, wish);
+        self.now += 1;
+        if line.done + 2 == n {
+            let line = self.core.line(who);
+            self.ops[place] = chose(line.outcome, self.ops[place]);
+            self.stamps[place] = Some(line.own.stamp);
+        } else if line.done + 3 == 2 * n {
+            self.ops[place] = ended(now, line.outcome, self.ops[place]);
+        }
+    }
+}
+
+fn begun_op<R: Copy>(who: usize, now: u64, wish: Wish<R>) -> Op<R>
+    ensures { result ≡ begun_op who now wish }
+{
+    match wish {
+        Wish::Write(item) => Op { who, kind: Kind::Write, starts: now, ends: None, item: Some(item) },
+        Wish::Read => Op { who, kind: Kind::Read, starts: now, ends: None, item: None },
+    }
+}
+
+/// What its choice makes of an operation: a write that is refused has no item until it ends.
+fn chose<R: Copy>(outcome: Outcome<R>, op: Op<R>) -> Op<R>
+    ensures { result ≡ chose outcome op }
+{
+    match outcome {
+        Outcome::Written(_) | Outcome::Seen(_) => op,
+        Outcome::Ended(_) => Op { kind: Kind::Refused, item: None, ..op },
+    }
+}
+
+/// What its last access makes of an operation, at the position `now`.
+fn ended<R: Copy>(now: u64, outcome: Outcome<R>, op: Op<R>) -> Op<R>
+    ensures { result ≡ ended now outcome op }
+{
+    match outcome {
+        Outcome::Written(_) => Op { ends: Some(now), ..op },
+        Outcome::Seen(answer) => Op { ends: Some(now), item: Some(answer.item), ..op },
+        Outcome::Ended(last) => Op { ends: Some(now), item: Some(last.item), ..op },
+    }
+}
