@@ -11,7 +11,7 @@ use Rattle.matrix_core.specs.declared.matrix.MatrixStage.TheVariants.{Got, Put, 
 use Rattle.history_core.specs.declared.play.Wish.{Wish}
 use Rattle.history_core.specs.declared.play.Wish.TheVariants.{Write, Read}
 use Rattle.matrix_core.specs.Events.{Matrix, IsMatrix, size, cell_place, cell_of, other, after_access, stage_of, after_read, after_write, choice, chosen, begun, gathered, opening_matrix, opening_line, first_record}
-use Rattle.matrix_core.proofs.Lists.{get_set}
+use Rattle.matrix_core.proofs.Lists.{get_set, get_replicate}
 
 pub place_inside : (n i j : ℕ) → i < n → j < n → cell_place n i j < n * n
 place_inside n i j li lj = let m : (i + 1) * n ≤ n * n = mul-le-mul_right n (omega arith) in omega arith
@@ -68,11 +68,6 @@ read_done n limit i wish line answer = let g = gathered answer (begun wish line)
 
 pub write_done : {R : Type 0} (n : ℕ) (line : Progress R) → line.done + 3 ≤ 2 * n → 2 ≤ n → (after_write n line).done + 3 ≤ 2 * n
 write_done n line h two = grind (arith, nat_tests)
-
-get_replicate : {X : Type 0} (n i : ℕ) (x y : X) → slice_get (replicate n x) i ≡ Some y → y ≡ x
-get_replicate n i x y h =
-    let lt : i < n = omega (arith, slice_get_within (replicate n x) i y h, length-replicate n x) in
-    sym (get_or_from_slice_get (replicate n x) i y x h) ∙ get_or-replicate n i x x lt
 
 -- the opening has the shape of a matrix
 pub opens : {R : Type 0} (n limit : ℕ) (opening : R) → 2 ≤ n → n ≤ 16 → IsMatrix (opening_matrix n limit opening)

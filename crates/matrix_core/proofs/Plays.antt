@@ -1,9 +1,11 @@
 -- A run so far: its operations are those that its steps have begun, and each process stands in its operation where the
 -- number of its steps says. Each step keeps this.
-use Rattle.std.proofs.Common.{◌≡◌, ◌≢◌, ℕ, zero, suc, ◌+◌, ◌-◌, ◌*◌, ◌<◌, ◌≤◌, List, [], ◌∷◌, ◌++◌, length, set, Bool, true, false, refl, sym, ◌∙◌, ap, subst, arith, ◌⊎◌, inl, inr, ⊎_elim}
+use Rattle.std.proofs.Common.{◌≡◌, ◌≢◌, ℕ, zero, suc, ◌+◌, ◌-◌, ◌*◌, ◌<◌, ◌≤◌, List, [], ◌∷◌, ◌++◌, length, take, drop, replicate, set, Bool, true, false, refl, sym, ◌∙◌, ap, subst, arith, ◌⊎◌, inl, inr, ⊎_elim}
 use Rattle.std.specs.Prelude.{slice_get, Option, Some, None, slice_index_or, nat_eq, if◌then◌else◌}
 use Rattle.std.proofs.lemmas.Bool.{cases_lt, cases_eq}
-use Rattle.std.proofs.lemmas.List.{length-set, length_push, get_or-set_same, get_or-set_other}
+use Rattle.std.proofs.lemmas.List.{length-set, length_push, length-append, length-replicate, get_or-replicate, get_or-set_same, get_or-set_other}
+use Rattle.std.proofs.Math.Nat.{mul-le-mul_left}
+use Rattle.std.proofs.lemmas.List.Sums.{count_by-le-length}
 use Rattle.std.specs.Option.{option_and_then}
 use Rattle.std.proofs.lemmas.Option.{slice_get_within, same_Some, get_or_from_slice_get, none-some}
 use Rattle.history_core.specs.declared.history.Op.{Op}
@@ -21,11 +23,15 @@ use Rattle.matrix_core.specs.declared.matrix.Progress.{Progress}
 use Rattle.matrix_core.specs.declared.matrix.Outcome.{Outcome}
 use Rattle.matrix_core.specs.declared.matrix.Outcome.TheVariants.{Written, Seen, Ended}
 use Rattle.matrix_core.specs.declared.play.Seat.{Seat}
-use Rattle.matrix_core.specs.Events.{Matrix, IsMatrix, size, begun, after_access, after_write}
-use Rattle.matrix_core.specs.Runs.{Run, began, begun_op, chose, ended, place_of, seat_of, first_seat, accesses, after_step, next_wish}
+use Rattle.matrix_core.specs.declared.schedule.MatrixTerm.{MatrixTerm}
+use Rattle.std.specs.List.{fold}
+use Rattle.std.proofs.lemmas.List.{length-take-le}
+use Rattle.history_core.proofs.Folds.{fold_keeps_all}
+use Rattle.matrix_core.specs.Events.{Matrix, IsMatrix, size, begun, after_access, after_write, opening_line}
+use Rattle.matrix_core.specs.Runs.{Run, began, begun_op, chose, ended, place_of, seat_of, first_seat, accesses, after_step, next_wish, opening_run, IsReady, IsTerm, span_of, run_of}
 use Rattle.matrix_core.proofs.Accesses.{IsAccess, IsRead, IsWrite, access_of, Fits, read_wish, last_read_fits, begun_first, begun_later}
-use Rattle.matrix_core.proofs.Lists.{get_set, same_or_not}
-use Rattle.matrix_core.proofs.Matrices.{read_done}
+use Rattle.matrix_core.proofs.Lists.{get_set, get_replicate, get_middle, same_or_not, split_at, take_next, fold_more}
+use Rattle.matrix_core.proofs.Matrices.{read_done, opens}
 use Rattle.matrix_core.proofs.Steps.{same, not_same, get_exists, access_chooses, access_finishes, access_moves, step_begins, step_goes_on}
 
 -- a term of 2 or more processes, as a matrix plays it
@@ -428,3 +434,103 @@ module _ {R : Type 0} where
           (λ (l : line.done + 1 ≢ span.accesses). step_under at span done run who p.operation Read line sp (goes_on_ready at span done run who line g here pos (omega arith)))
           (same_or_not (line.done + 1) span.accesses)))
       (same_or_not line.done 0)
+
+  -- the run before its first step
+  pub opening_so_far : (at : ℕ) (span : Span R) (opening : R) → IsSpan span → IsRunSoFar at span [] (opening_run (length span.plans) span.limit opening at)
+  opening_so_far at span opening sp =
+    let n : ℕ = length span.plans in
+    let e : length (replicate n (opening_line opening)) ≡ n = length-replicate n (opening_line opening) in
+    record {
+      matrix = opens n span.limit opening sp.at_least sp.at_most;
+      processes = e;
+      limit = refl;
+      seats = length-replicate n first_seat;
+      stamps = refl;
+      now = omega arith;
+      played = nothing_played at span (place_of (opening_run n span.limit opening at));
+      each = λ who line h.
+        let d : line.done ≡ 0 = ap (λ l. l.done) (get_replicate n who (opening_line opening) line h) in
+        let lt : who < n = omega (arith, slice_get_within (replicate n (opening_line opening)) who line h) in
+        let seat : (seat_of (opening_run n span.limit opening at) who).begun ≡ 0 = ap (λ (s : Seat). s.begun) (get_or-replicate n who first_seat first_seat lt) in
+        let two : 2 ≤ n = sp.at_least in
+        record {
+          operation = 0;
+          steps = let z : steps_of who [] ≡ 0 = refl in omega arith;
+          between = λ z. seat;
+          inside = λ z. absurd (omega arith);
+          wish = λ z. absurd (omega arith);
+          outcome = λ z o y. absurd (omega arith);
+        };
+    }
+
+  -- the next step can be made
+  pub ready : (at : ℕ) (span : Span R) (done rest : List ℕ) (run : Run R) (who : ℕ) → IsSpan span → who < length span.plans → span.steps ≡ done ++ who ∷ rest → ¬ Overruns span (length done)
+      → at + length span.steps + 1 < 18446744073709551616 → IsRunSoFar at span done run → IsReady span.plans run who
+  ready at span done rest run who sp lw whole left room g =
+    let pr : size run.matrix ≡ length span.plans = g.processes in
+    let se : length run.seats ≡ length span.plans = g.seats in
+    let at_who : (l : Progress R) × (slice_get run.matrix.lines who ≡ Some l) = get_exists run.matrix.lines who (omega arith) in
+    let p : IsProcess span done run who at_who.0 = g.each who at_who.0 at_who.1 in
+    let sp1 : 2 ≤ length span.plans = sp.at_least in
+    let acs : span.accesses ≡ 2 * (length span.plans - 1) = sp.accesses in
+    let long : length span.steps ≡ length done + suc (length rest) = ap length whole ∙ length-append done (who ∷ rest) in
+    let few : steps_of who done ≤ length done = count_by-le-length (λ s. nat_eq s who) done in
+    let times : p.operation * 1 ≤ p.operation * span.accesses = mul-le-mul_left p.operation (omega arith) in
+    let st : steps_of who done ≡ p.operation * span.accesses + at_who.0.done = p.steps in
+    let n : run.now ≡ at + length done = g.now in
+    record {
+      processes = se ∙ sym pr;
+      inside = omega arith;
+      stamps = g.stamps;
+      room = omega arith;
+      count = ⊎_elim
+        (λ (z : at_who.0.done ≡ 0). let b : (seat_of run who).begun ≡ p.operation = p.between z in omega arith)
+        (λ (z : at_who.0.done ≢ 0). let b : (seat_of run who).begun ≡ p.operation + 1 = p.inside (omega arith) in omega arith) (same_or_not at_who.0.done 0);
+      next = λ line h z.
+        let q : IsProcess span done run who line = g.each who line h in
+        let w : (wish : Wish R) × (planned span who q.operation ≡ Some wish) = planned_next span done rest who q.operation line.done whole left q.steps (omega arith) in
+        rw (next_is_planned at span done run who line g h z ∙ w.1) refl;
+      place = λ line h z.
+        let q : IsProcess span done run who line = g.each who line h in
+        let inn : line.done + 3 ≤ 2 * size run.matrix = g.matrix.inside who line h in
+        let way = g.played.under_way who q.operation line.done q.steps z (omega arith) in
+        slice_get_within run.ops (place_of run who) way.op way.there;
+    }
+
+-- a term's run after its first i steps
+pub record IsTermSoFar {R : Type 0} (at : ℕ) (opening : R) (term : MatrixTerm R) (i : ℕ) (run : Run R) : Type 0 where
+  pub is : run ≡ fold (after_step term.plans) (opening_run (length term.plans) term.limit opening at) (take i term.steps)
+  pub so_far : IsRunSoFar at (span_of term) (take i term.steps) run
+
+module _ {R : Type 0} (at : ℕ) (opening : R) (term : MatrixTerm R) where
+  pub term_span : IsTerm term → IsSpan (span_of term)
+  term_span t = record { at_least = t.at_least; at_most = t.at_most; accesses = refl }
+
+  pub term_begins : IsTerm term → IsTermSoFar at opening term 0 (opening_run (length term.plans) term.limit opening at)
+  term_begins t = record { is = refl; so_far = opening_so_far at (span_of term) opening (term_span t) }
+
+  length_take : (i who : ℕ) → slice_get term.steps i ≡ Some who → length (take i term.steps) ≡ i
+  length_take i who h = let l : i < length term.steps = slice_get_within term.steps i who h in length-take-le i term.steps (omega arith)
+
+  pub term_ready : (i who : ℕ) (run : Run R) → IsTerm term → ((step : ℕ) → ¬ Overruns (span_of term) step) → at + length term.steps + 1 < 18446744073709551616 → slice_get term.steps i ≡ Some who
+      → IsTermSoFar at opening term i run → IsReady term.plans run who
+  term_ready i who run t left room h s = ready at (span_of term) (take i term.steps) (drop (i + 1) term.steps) run who (term_span t) (t.steps i who h) (split_at term.steps i who h) (left (length (take i term.steps))) room s.so_far
+
+  pub term_step : (i who : ℕ) (run : Run R) → IsTerm term → ((step : ℕ) → ¬ Overruns (span_of term) step) → slice_get term.steps i ≡ Some who
+      → IsTermSoFar at opening term i run → IsTermSoFar at opening term (i + 1) (after_step term.plans run who)
+  term_step i who run t left h s =
+    let next : take (i + 1) term.steps ≡ take i term.steps ++ who ∷ [] = take_next term.steps i who h in
+    record {
+      is = ap (λ r. after_step term.plans r who) s.is
+        ∙ (sym (fold_more (after_step term.plans) (opening_run (length term.plans) term.limit opening at) (take i term.steps) who)
+        ∙ ap (fold (after_step term.plans) (opening_run (length term.plans) term.limit opening at)) (sym next));
+      so_far = rw next (one_step at (span_of term) (take i term.steps) (drop (i + 1) term.steps) run who (term_span t) (t.steps i who h) (split_at term.steps i who h) (left (length (take i term.steps))) s.so_far);
+    }
+
+  -- the run of the whole term
+  pub term_played : IsTerm term → ((step : ℕ) → ¬ Overruns (span_of term) step) → IsRunSoFar at (span_of term) term.steps (run_of at opening term)
+  term_played t left = fold_keeps_all (λ done run. IsRunSoFar at (span_of term) done run) (after_step term.plans) (opening_run (length term.plans) term.limit opening at) term.steps
+    (opening_so_far at (span_of term) opening (term_span t))
+    (λ done rest run who whole g.
+      let h : slice_get term.steps (length done) ≡ Some who = ap (λ xs. slice_get xs (length done)) whole ∙ get_middle done who rest in
+      one_step at (span_of term) done rest run who (term_span t) (t.steps (length done) who h) whole (left (length done)) g)

@@ -1,14 +1,17 @@
 //! The player: a schedule over a matrix, step by step.
 
-ghost use Rattle.std.specs.Prelude.{◌≡◌, ◌+◌, ◌-◌, ◌*◌, ◌<◌, ◌≤◌, ◌^◌, ℕ, List, length, replicate, vec_len, IfOk, IsSome, OnOk, Some, slice_get, slice_set};
+ghost use Rattle.std.specs.Prelude.{◌≡◌, ◌+◌, ◌-◌, ◌*◌, ◌<◌, ◌≤◌, ◌^◌, ℕ, List, length, replicate, vec_len, IfNone, IfOk, IfSome, IsSome, OnOk, Some, slice_get, slice_set};
 ghost use Rattle.std.specs.List.{fold};
-ghost use Rattle.matrix_core.specs.Runs.{begun_op, chose, ended};
+ghost use Rattle.history_core.specs.Schedules.{HasOperations, IsFirstOverrun, Overruns};
+ghost use Rattle.matrix_core.specs.declared.schedule.MatrixTerm.{MatrixTerm};
+ghost use Rattle.matrix_core.specs.Runs.{begun_op, chose, ended, IsTerm, run_of, span_of, spans_of, step_count};
 
 use history_core::{Items, Kind, Op, Wish};
 use std::alloc::{AllocError, Global};
 use std::marker::Model;
 
 use crate::matrix::{MatrixCore, Outcome, Progress, filled};
+use crate::schedule::MatrixTerm;
 use crate::stamp::Stamp;
 
 /// Where a process is in its plan: the place of its newest operation, and how many operations it has begun.
@@ -129,4 +132,55 @@ fn ended<R: Copy>(now: u64, outcome: Outcome<R>, op: Op<R>) -> Op<R>
         Outcome::Seen(answer) => Op { ends: Some(now), item: Some(answer.item), ..op },
         Outcome::Ended(last) => Op { ends: Some(now), item: Some(last.item), ..op },
     }
+}
+
+/// Plays one term, which begins at the position `now`.
+fn play_term<R: Copy>(alloc: Global, opening: R, term: &MatrixTerm<R>, now: u64) -> Result<Play<R>, AllocError>
+    requires term { IsTerm term.now }
+    requires left { (step : ℕ) → ¬ Overruns (span_of term.now) step }
+    requires room { now + length term.now.steps + 1 < 2 ^ 64 }
+    ensures { IfOk result (λ play. play ≡ run_of now opening term.now) }
+{
+    let plans = term.plans.as_slice();
+    let mut play = Play::new(alloc, plans.len(), term.limit, opening, now)?;
+    for who in term.steps.as_slice() {
+        play.step(plans, *who)?;
+    }
+    Ok(play)
+}
+
+/// The first step of a process that has no operation left in its term, counted through all terms.
+fn first_overrun<R>(terms: &[MatrixTerm<R>]) -> Option<u64>
+    requires each { (k : ℕ) (term : MatrixTerm R) → slice_get terms.now k ≡ Some term → IsTerm term }
+    requires steps { step_count terms.now < 18446744073709551615 }
+    ensures none { IfNone result (HasOperations (spans_of terms.now)) }
+    ensures first { IfSome result (IsFirstOverrun (spans_of terms.now)) }
+{
+    let mut before: u64 = 0;
+    for term in terms {
+        if let Some(step) = overrun_of(term) {
+            return Some(before + step);
+        }
+        before += term.steps.as_slice().len() as u64;
+    }
+    None
+}
+
+/// The same in one term, counted from its first step.
+fn overrun_of<R>(term: &MatrixTerm<R>) -> Option<u64>
+    requires { IsTerm term.now }
+    ensures none { IfNone result ((step : ℕ) → ¬ Overruns (span_of term.now) step) }
+    ensures first { IfSome result (λ step. Overruns (span_of term.now) step × ((q : ℕ) → q < step → ¬ Overruns (span_of term.now) q)) }
+    ensures inside { IfSome result (λ step. step < length term.now.steps) }
+{
+    let plans = term.plans.as_slice();
+    let accesses = 2 * (plans.len() - 1);
+    let mut made = [0usize; 16];
+    for (step, who) in term.steps.as_slice().iter().enumerate() {
+        if made[*who] / accesses >= plans[*who].as_slice().len() {
+            return Some(step as u64);
+        }
+        made[*who] += 1;
+    }
+    None
 }
