@@ -4,6 +4,7 @@ pub mod ChoicesRise
 pub mod ChoicesStamps
 pub mod Lists
 pub mod Matrices
+pub mod Overruns
 pub mod Plays
 pub mod Steps
 pub mod TermOrders

@@ -158,10 +158,10 @@ fn first_overrun<R>(terms: &[MatrixTerm<R>]) -> Option<u64>
 {
     let mut before: u64 = 0;
     for term in terms {
-        if let Some(step) = overrun_of(term) {
-            return Some(before + step);
+        match overrun_of(term) {
+            Some(step) => return Some(before + step),
+            None => before += term.steps.as_slice().len() as u64,
         }
-        before += term.steps.as_slice().len() as u64;
     }
     None
 }

@@ -1,0 +1,11 @@
+use Rattle.std.proofs.Common.{ℕ, ◌<◌}
+use Rattle.history_core.specs.Schedules.{Overruns}
+use Rattle.matrix_core.specs.Runs.{span_of}
+use Rattle.matrix_core.proofs.Overruns.{IsCount}
+use Rattle.matrix_core.proofs.play.overrun_of.Given as goal
+
+abbrev pub invariant-loop-step : goal.invariant-loop-step
+invariant-loop-step g l = record {
+  count : IsCount l.term.steps l.step l.made;
+  before : (q : ℕ) → q < l.step → ¬ Overruns (span_of l.term) q;
+}
