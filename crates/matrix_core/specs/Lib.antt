@@ -1,5 +1,6 @@
 pub mod Choices
 pub mod Events
+pub mod Listings
 pub mod Runs
 pub mod Stamps
 pub mod TermOrders

@@ -4,6 +4,7 @@
 
 pub mod laws;
 mod matrix;
+mod order;
 mod play;
 mod schedule;
 mod stamp;

@@ -2,7 +2,7 @@
 
 ghost use Rattle.std.specs.Prelude.{◌≡◌, ◌+◌, ◌-◌, ◌*◌, ◌<◌, ◌≤◌, ◌^◌, ℕ, length, replicate, vec_len, IfOk, Some, slice_get, slice_set};
 ghost use Rattle.matrix_core.specs.declared.matrix.Progress.{Progress};
-ghost use Rattle.matrix_core.specs.Events.{Matrix, after_access, after_read, after_write, cell_place, chosen, IsMatrix, opening_matrix, other, size, stage_of};
+ghost use Rattle.matrix_core.specs.Events.{Matrix, after_access, after_read, after_write, cell_place, chosen, first_record, IsMatrix, opening_matrix, other, size, stage_of};
 
 use crate::stamp::{Stamp, Stamped};
 use history_core::{MAX_LIMIT, Wish};
@@ -60,6 +60,8 @@ impl<R> Model for MatrixCore<R> {
 }
 
 impl<R: Copy> MatrixCore<R> {
+    ghost use Rattle.matrix_core.specs.Runs.{greatest_own};
+
     /// The matrix of `n` processes in which every record is the opening, with tag 0 of writer 0.
     pub fn new(alloc: Global, n: usize, limit: u64, opening: R) -> Result<MatrixCore<R>, AllocError>
         requires processes { 2 ≤ n × n ≤ 16 }
@@ -92,6 +94,18 @@ impl<R: Copy> MatrixCore<R> {
         ensures matrix { IsMatrix self.now }
     {
         self.lines[process]
+    }
+
+    /// The greatest record that a process has, of equal stamps that of the smaller process number, where all began with
+    /// the opening.
+    pub(crate) fn greatest(&self, opening: R) -> R
+        ensures { result ≡ (greatest_own (first_record opening) self.now.lines).item }
+    {
+        let mut greatest = Stamped { stamp: Stamp { tag: 0, writer: 0 }, item: opening };
+        for line in &self.lines {
+            greatest = greatest.or_greater(line.own);
+        }
+        greatest.item
     }
 
     /// The next access of a process: it reads a cell of its column, or writes one of its row. The wish counts at the
