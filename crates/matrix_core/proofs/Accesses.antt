@@ -1,6 +1,6 @@
 -- An access changes the progress of one process, and a row write also the record of one cell: what it leaves, in one record.
-use Rattle.std.proofs.Common.{◌≡◌, ◌≢◌, ℕ, zero, suc, ◌+◌, ◌-◌, ◌*◌, ◌<◌, ◌≤◌, List, length, set, Bool, true, false, refl, sym, ◌∙◌, ap, arith, ◌⊎◌, inl, inr, ⊎_elim}
-use Rattle.std.specs.Prelude.{slice_get, Option, Some, None, nat_lt, nat_eq, if◌then◌else◌}
+use Rattle.std.proofs.Common.{◌≡◌, ◌≢◌, ℕ, ◌+◌, ◌-◌, ◌*◌, ◌<◌, ◌≤◌, length, set, Bool, true, false, refl, arith, ◌⊎◌, inl, inr, ⊎_elim}
+use Rattle.std.specs.Prelude.{slice_get, Some, nat_lt, nat_eq, if◌then◌else◌}
 use Rattle.std.proofs.lemmas.Bool.{cases_lt}
 use Rattle.std.proofs.lemmas.Bool.Decides.{nat_tests}
 use Rattle.std.proofs.lemmas.List.{length-set}
@@ -11,7 +11,6 @@ use Rattle.matrix_core.specs.declared.stamp.Stamped.{Stamped}
 use Rattle.matrix_core.specs.declared.matrix.Progress.{Progress}
 use Rattle.matrix_core.specs.declared.matrix.Outcome.{Outcome}
 use Rattle.matrix_core.specs.declared.matrix.Outcome.TheVariants.{Written, Seen, Ended}
-use Rattle.matrix_core.specs.Stamps.{greater}
 use Rattle.matrix_core.specs.Events.{Matrix, IsMatrix, size, cell_place, cell_of, other, after_access, after_read, after_write, choice, chosen, begun, gathered}
 use Rattle.matrix_core.proofs.Lists.{get_set_same}
 use Rattle.matrix_core.proofs.Matrices.{place_inside, keeps_line, keeps_cell, read_is, write_is, read_done, write_done}
@@ -27,20 +26,20 @@ other_above i k l = let b : nat_lt k i ≡ false = grind (arith, nat_tests) in r
 -- it is one of the processes, and another one
 pub other_inside : (n i k : ℕ) → i < n → k + 1 < n → other i k < n
 other_inside n i k li lk = ⊎_elim
-  (λ (l : k < i). let e : other i k ≡ k = other_below i k l in omega arith)
-  (λ (l : i ≤ k). let e : other i k ≡ k + 1 = other_above i k l in omega arith) (cases_lt k i)
+    (λ (l : k < i). let e : other i k ≡ k = other_below i k l in omega arith)
+    (λ (l : i ≤ k). let e : other i k ≡ k + 1 = other_above i k l in omega arith) (cases_lt k i)
 
 pub other_differs : (i k : ℕ) → other i k ≢ i
 other_differs i k same = ⊎_elim
-  (λ (l : k < i). let e : other i k ≡ k = other_below i k l in let z : other i k ≡ i = same in omega arith)
-  (λ (l : i ≤ k). let e : other i k ≡ k + 1 = other_above i k l in let z : other i k ≡ i = same in omega arith) (cases_lt k i)
+    (λ (l : k < i). let e : other i k ≡ k = other_below i k l in let z : other i k ≡ i = same in omega arith)
+    (λ (l : i ≤ k). let e : other i k ≡ k + 1 = other_above i k l in let z : other i k ≡ i = same in omega arith) (cases_lt k i)
 
 -- every other process has its number among the others
 pub other_reached : (n i j : ℕ) → i < n → j < n → j ≢ i → (k : ℕ) × (k + 1 < n) × (other i k ≡ j)
 other_reached n i j li lj ne = ⊎_elim
-  (λ (l : j < i). (j, omega arith, other_below i j l))
-  (λ (l : i ≤ j). let e : other i (j - 1) ≡ j - 1 + 1 = other_above i (j - 1) (omega arith) in (j - 1, omega arith, omega arith))
-  (cases_lt j i)
+    (λ (l : j < i). (j, omega arith, other_below i j l))
+    (λ (l : i ≤ j). let e : other i (j - 1) ≡ j - 1 + 1 = other_above i (j - 1) (omega arith) in (j - 1, omega arith, omega arith))
+    (cases_lt j i)
 
 module _ {R : Type 0} where
   -- a read of the next cell of the column
@@ -68,43 +67,43 @@ module _ {R : Type 0} where
   read_access : (m : Matrix R) (who : ℕ) (wish : Wish R) (line : Progress R) → IsMatrix m → slice_get m.lines who ≡ Some line → line.done + 1 < size m
       → (next : Progress R) × IsAccess m (after_access m who wish) who wish line next
   read_access m who wish line im at ph =
-    let lw : who < size m = slice_get_within m.lines who line at in
-    let lo : other who line.done < size m = other_inside (size m) who line.done lw ph in
-    let pl : cell_place (size m) (other who line.done) who < length m.cells = let z = place_inside (size m) (other who line.done) who lo lw in let e = im.cells in omega arith in
-    let x : (a : Stamped R) × (cell_of m (other who line.done) who ≡ Some a) = get_exists m.cells (cell_place (size m) (other who line.done) who) pl in
-    let next : Progress R = after_read (size m) m.limit who wish line x.0 in
-    let m' : Matrix R = record m { lines = set m.lines who next } in
-    let e : after_access m who wish ≡ m' = read_is m who wish line x.0 at ph x.1 in
-    let d : next.done ≡ line.done + 1 = read_done (size m) m.limit who wish line x.0 in
-    let r : IsAccess m m' who wish line next = record {
-      matrix = keeps_line m who next im (let a = im.at_least in omega arith);
-      same_size = length-set m.lines who next;
-      limit = refl;
-      lines = refl;
-      here = get_set_same m.lines who next lw;
-      kind = inl (record { phase = ph; answer = x.0; of_cell = x.1; cells = refl; after = refl });
-    } in
-    (next, rw e r)
+      let lw : who < size m = slice_get_within m.lines who line at in
+      let lo : other who line.done < size m = other_inside (size m) who line.done lw ph in
+      let pl : cell_place (size m) (other who line.done) who < length m.cells = let z = place_inside (size m) (other who line.done) who lo lw in let e = im.cells in omega arith in
+      let x : (a : Stamped R) × (cell_of m (other who line.done) who ≡ Some a) = get_exists m.cells (cell_place (size m) (other who line.done) who) pl in
+      let next : Progress R = after_read (size m) m.limit who wish line x.0 in
+      let m' : Matrix R = record m { lines = set m.lines who next } in
+      let e : after_access m who wish ≡ m' = read_is m who wish line x.0 at ph x.1 in
+      let d : next.done ≡ line.done + 1 = read_done (size m) m.limit who wish line x.0 in
+      let r : IsAccess m m' who wish line next = record {
+        matrix = keeps_line m who next im (let a = im.at_least in omega arith);
+        same_size = length-set m.lines who next;
+        limit = refl;
+        lines = refl;
+        here = get_set_same m.lines who next lw;
+        kind = inl (record { phase = ph; answer = x.0; of_cell = x.1; cells = refl; after = refl });
+      } in
+      (next, rw e r)
 
   write_access : (m : Matrix R) (who : ℕ) (wish : Wish R) (line : Progress R) → IsMatrix m → slice_get m.lines who ≡ Some line → size m ≤ line.done + 1
       → (next : Progress R) × IsAccess m (after_access m who wish) who wish line next
   write_access m who wish line im at ph =
-    let lw : who < size m = slice_get_within m.lines who line at in
-    let next : Progress R = after_write (size m) line in
-    let k : ℕ = cell_place (size m) who (other who (line.done + 1 - size m)) in
-    let m' : Matrix R = record m { cells = set m.cells k line.own; lines = set m.lines who next } in
-    let m0 : Matrix R = record m { cells = set m.cells k line.own } in
-    let e : after_access m who wish ≡ m' = write_is m who wish line at ph in
-    let d : next.done + 3 ≤ 2 * size m = write_done (size m) line (im.inside who line at) im.at_least in
-    let r : IsAccess m m' who wish line next = record {
-      matrix = keeps_line m0 who next (keeps_cell m k line.own im) d;
-      same_size = length-set m.lines who next;
-      limit = refl;
-      lines = refl;
-      here = get_set_same m.lines who next lw;
-      kind = inr (record { phase = ph; cells = refl; after = refl });
-    } in
-    (next, rw e r)
+      let lw : who < size m = slice_get_within m.lines who line at in
+      let next : Progress R = after_write (size m) line in
+      let k : ℕ = cell_place (size m) who (other who (line.done + 1 - size m)) in
+      let m' : Matrix R = record m { cells = set m.cells k line.own; lines = set m.lines who next } in
+      let m0 : Matrix R = record m { cells = set m.cells k line.own } in
+      let e : after_access m who wish ≡ m' = write_is m who wish line at ph in
+      let d : next.done + 3 ≤ 2 * size m = write_done (size m) line (im.inside who line at) im.at_least in
+      let r : IsAccess m m' who wish line next = record {
+        matrix = keeps_line m0 who next (keeps_cell m k line.own im) d;
+        same_size = length-set m.lines who next;
+        limit = refl;
+        lines = refl;
+        here = get_set_same m.lines who next lw;
+        kind = inr (record { phase = ph; cells = refl; after = refl });
+      } in
+      (next, rw e r)
 
   pub access_of : (m : Matrix R) (who : ℕ) (wish : Wish R) (line : Progress R) → IsMatrix m → slice_get m.lines who ≡ Some line → (next : Progress R) × IsAccess m (after_access m who wish) who wish line next
   access_of m who wish line im at = ⊎_elim (λ l. read_access m who wish line im at l) (λ l. write_access m who wish line im at l) (cases_lt (line.done + 1) (size m))

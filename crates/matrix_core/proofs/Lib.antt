@@ -7,5 +7,7 @@ pub mod Lists
 pub mod Matrices
 pub mod Overruns
 pub mod Plays
+pub mod Reports
+pub mod Shapes
 pub mod Steps
 pub mod TermOrders

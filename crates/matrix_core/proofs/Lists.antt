@@ -65,8 +65,8 @@ fold_join f b (x ∷ xs) ys = fold_join f (f b x) xs ys
 
 pub get_replicate : {X : Type 0} (n i : ℕ) (x y : X) → slice_get (replicate n x) i ≡ Some y → y ≡ x
 get_replicate n i x y h =
-  let lt : i < n = omega (arith, slice_get_within (replicate n x) i y h, length-replicate n x) in
-  sym (get_or_from_slice_get (replicate n x) i y x h) ∙ get_or-replicate n i x x lt
+    let lt : i < n = omega (arith, slice_get_within (replicate n x) i y h, length-replicate n x) in
+    sym (get_or_from_slice_get (replicate n x) i y x h) ∙ get_or-replicate n i x x lt
 
 pub get_middle : {X : Type 0} (xs : List X) (x : X) (ys : List X) → slice_get (xs ++ x ∷ ys) (length xs) ≡ Some x
 get_middle [] x ys = refl

@@ -7,7 +7,9 @@ use Rattle.history_core.specs.declared.history.Kind.TheVariants.{Write as WriteK
 use Rattle.history_core.specs.declared.history.Term.{Term}
 use Rattle.history_core.specs.declared.play.Wish.{Wish}
 use Rattle.history_core.specs.declared.play.Wish.TheVariants.{Write, Read}
-use Rattle.history_core.specs.Schedules.{Span, matrix_accesses}
+use Rattle.history_core.specs.declared.play.PlayError.{PlayError}
+use Rattle.history_core.specs.declared.play.PlayError.TheVariants.{NoMemory, TooManySteps}
+use Rattle.history_core.specs.Schedules.{Span, matrix_accesses, HasOperations, IsFirstOverrun}
 use Rattle.matrix_core.specs.declared.stamp.Stamp.{Stamp}
 use Rattle.matrix_core.specs.declared.stamp.Stamped.{Stamped}
 use Rattle.matrix_core.specs.declared.matrix.Progress.{Progress}
@@ -91,8 +93,8 @@ module _ {R : Type 0} where
   -- an access of a process whose progress before it is `line`
   abbrev pub accesses : Run R → ℕ → Wish R → Progress R → Run R
   accesses run who wish line = if nat_eq (line.done + 2) (size run.matrix)
-    then chooses (moved run who wish) who (slice_get (after_access run.matrix who wish).lines who)
-    else (if nat_eq (line.done + 3) (2 * size run.matrix) then finishes (moved run who wish) who run.now line.outcome else moved run who wish)
+      then chooses (moved run who wish) who (slice_get (after_access run.matrix who wish).lines who)
+      else (if nat_eq (line.done + 3) (2 * size run.matrix) then finishes (moved run who wish) who run.now line.outcome else moved run who wish)
 
   abbrev pub begins_with : Run R → ℕ → Progress R → Option (Wish R) → Run R
   begins_with run who line None = run
@@ -105,8 +107,8 @@ module _ {R : Type 0} where
   abbrev pub stepped : List (List (Wish R)) → Run R → ℕ → Option (Progress R) → Run R
   stepped plans run who None = run
   stepped plans run who (Some line) = if nat_eq line.done 0
-    then begins_with run who line (next_wish plans run who)
-    else accesses run who Read line
+      then begins_with run who line (next_wish plans run who)
+      else accesses run who Read line
 
   -- a step of process `who`
   abbrev pub after_step : List (List (Wish R)) → Run R → ℕ → Run R
@@ -188,3 +190,9 @@ module _ {R : Type 0} where
     pub some : 1 ≤ length terms
     pub each : (k : ℕ) (term : MatrixTerm R) → slice_get terms k ≡ Some term → IsTerm term
     pub steps : step_count terms < 18446744073709551615
+
+  -- a schedule is refused at the first step of a process that has no operation left, or, where each step has one, for
+  -- want of memory
+  abbrev pub IsRefusedRightly : List (MatrixTerm R) → PlayError → Type 0
+  IsRefusedRightly terms NoMemory = HasOperations (spans_of terms)
+  IsRefusedRightly terms (TooManySteps position) = IsFirstOverrun (spans_of terms) position

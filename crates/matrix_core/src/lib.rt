@@ -6,6 +6,7 @@ pub mod laws;
 mod matrix;
 mod order;
 mod play;
+mod report;
 mod schedule;
 mod stamp;
 #[cfg(test)]
@@ -13,5 +14,6 @@ mod tests;
 
 pub use history_core::Wish;
 pub use matrix::{MatrixCore, MatrixStage, Outcome};
+pub use report::play_matrix;
 pub use schedule::{MatrixReport, MatrixSchedule, MatrixTerm};
 pub use stamp::{Stamp, Stamped};

@@ -101,7 +101,10 @@ impl<R: Copy> MatrixCore<R> {
     pub(crate) fn greatest(&self, opening: R) -> R
         ensures { result ≡ (greatest_own (first_record opening) self.now.lines).item }
     {
-        let mut greatest = Stamped { stamp: Stamp { tag: 0, writer: 0 }, item: opening };
+        let mut greatest = Stamped {
+            stamp: Stamp { tag: 0, writer: 0 },
+            item: opening,
+        };
         for line in &self.lines {
             greatest = greatest.or_greater(line.own);
         }
@@ -171,7 +174,11 @@ fn cell_index(n: usize, writer: usize, reader: usize) -> usize
 }
 
 /// A list of `count` times the same item.
-pub(crate) fn filled<T: Copy + Drop>(alloc: Global, item: T, count: usize) -> Result<Vec<T>, AllocError>
+pub(crate) fn filled<T: Copy + Drop>(
+    alloc: Global,
+    item: T,
+    count: usize,
+) -> Result<Vec<T>, AllocError>
     requires { count ≤ 256 }
     ensures { IfOk result (λ v. v.items ≡ replicate count item) }
 {

@@ -1,18 +1,17 @@
 //! The player: a schedule over a matrix, step by step.
 
-ghost use Rattle.std.specs.Prelude.{◌≡◌, ◌+◌, ◌-◌, ◌*◌, ◌<◌, ◌≤◌, ◌^◌, ℕ, List, length, replicate, vec_len, IfNone, IfOk, IfSome, IsSome, OnOk, Some, slice_get, slice_set};
+ghost use Rattle.std.specs.Prelude.{◌≡◌, ◌+◌, ◌-◌, ◌*◌, ◌<◌, ◌≤◌, ◌^◌, ◌++◌, ℕ, List, length, replicate, vec_len, IfNone, IfOk, IfSome, IsSome, OnOk, Some, slice_get, slice_set};
 ghost use Rattle.std.specs.List.{fold};
 ghost use Rattle.history_core.specs.Schedules.{HasOperations, IsFirstOverrun, Overruns};
 ghost use Rattle.matrix_core.specs.declared.schedule.MatrixTerm.{MatrixTerm};
 ghost use Rattle.matrix_core.specs.Runs.{begun_op, chose, ended, IsTerm, run_of, span_of, spans_of, step_count};
 
-use history_core::{Items, Kind, Op, Wish};
-use std::alloc::{AllocError, Global};
-use std::marker::Model;
-
 use crate::matrix::{MatrixCore, Outcome, Progress, filled};
 use crate::schedule::MatrixTerm;
 use crate::stamp::Stamp;
+use history_core::{Items, Kind, Op, Wish};
+use std::alloc::{AllocError, Global};
+use std::marker::Model;
 
 /// Where a process is in its plan: the place of its newest operation, and how many operations it has begun.
 #[derive(Clone, Copy)]
@@ -41,7 +40,7 @@ impl<R> Model for Play<R> {
 
 impl<R: Copy> Play<R> {
     ghost use Rattle.matrix_core.specs.Events.{size};
-    ghost use Rattle.matrix_core.specs.Runs.{accesses, after_step, began, CanAccess, IsReady, next_wish, opening_run, seat_of};
+    ghost use Rattle.matrix_core.specs.Runs.{accesses, after_step, began, CanAccess, IsReady, next_opening, next_wish, opening_run, seat_of};
 
     fn new(alloc: Global, n: usize, limit: u64, opening: R, now: u64) -> Result<Play<R>, AllocError>
         requires processes { 2 ≤ n × n ≤ 16 }
@@ -57,13 +56,39 @@ impl<R: Copy> Play<R> {
         })
     }
 
+    /// The greatest record that a process has, of equal stamps that of the smaller process number.
+    pub(crate) fn greatest(&self, opening: R) -> R
+        ensures { result ≡ next_opening opening self.entry.now }
+    {
+        self.core.greatest(opening)
+    }
+
+    /// Gives the operations with their stamps to the end of those of the terms before.
+    pub(crate) fn give(
+        self,
+        ops: &mut Vec<Op<R>>,
+        stamps: &mut Vec<Option<Stamp>>,
+    ) -> Result<(), AllocError>
+        ensures ops { OnOk result (ops.new.items ≡ ops.old.items ++ self.ops) }
+        ensures stamps { OnOk result (stamps.new.items ≡ stamps.old.items ++ self.stamps) }
+    {
+        let mut play = self;
+        ops.append(&mut play.ops)?;
+        stamps.append(&mut play.stamps)?;
+        Ok(())
+    }
+
     /// The next step, which is one of process `who`.
     fn step(&mut self, plans: &[Items<Wish<R>>], who: usize) -> Result<(), AllocError>
         requires { IsReady plans.now self.old who }
         ensures { OnOk result (self.new ≡ after_step plans.now self.old who) }
     {
         let line = self.core.line(who);
-        let wish = if line.done == 0 { self.begin(plans, who)? } else { Wish::Read };
+        let wish = if line.done == 0 {
+            self.begin(plans, who)?
+        } else {
+            Wish::Read
+        };
         self.access(who, wish, line);
         Ok(())
     }
@@ -80,7 +105,10 @@ impl<R: Copy> Play<R> {
         let place = self.ops.len();
         self.ops.push(begun_op(who, self.now, wish))?;
         self.stamps.push(None)?;
-        self.seats[who] = Seat { place, begun: seat.begun + 1 };
+        self.seats[who] = Seat {
+            place,
+            begun: seat.begun + 1,
+        };
         Ok(wish)
     }
 
@@ -108,8 +136,20 @@ fn begun_op<R: Copy>(who: usize, now: u64, wish: Wish<R>) -> Op<R>
     ensures { result ≡ begun_op who now wish }
 {
     match wish {
-        Wish::Write(item) => Op { who, kind: Kind::Write, starts: now, ends: None, item: Some(item) },
-        Wish::Read => Op { who, kind: Kind::Read, starts: now, ends: None, item: None },
+        Wish::Write(item) => Op {
+            who,
+            kind: Kind::Write,
+            starts: now,
+            ends: None,
+            item: Some(item),
+        },
+        Wish::Read => Op {
+            who,
+            kind: Kind::Read,
+            starts: now,
+            ends: None,
+            item: None,
+        },
     }
 }
 
@@ -119,7 +159,11 @@ fn chose<R: Copy>(outcome: Outcome<R>, op: Op<R>) -> Op<R>
 {
     match outcome {
         Outcome::Written(_) | Outcome::Seen(_) => op,
-        Outcome::Ended(_) => Op { kind: Kind::Refused, item: None, ..op },
+        Outcome::Ended(_) => Op {
+            kind: Kind::Refused,
+            item: None,
+            ..op
+        },
     }
 }
 
@@ -128,14 +172,30 @@ fn ended<R: Copy>(now: u64, outcome: Outcome<R>, op: Op<R>) -> Op<R>
     ensures { result ≡ ended now outcome op }
 {
     match outcome {
-        Outcome::Written(_) => Op { ends: Some(now), ..op },
-        Outcome::Seen(answer) => Op { ends: Some(now), item: Some(answer.item), ..op },
-        Outcome::Ended(last) => Op { ends: Some(now), item: Some(last.item), ..op },
+        Outcome::Written(_) => Op {
+            ends: Some(now),
+            ..op
+        },
+        Outcome::Seen(answer) => Op {
+            ends: Some(now),
+            item: Some(answer.item),
+            ..op
+        },
+        Outcome::Ended(last) => Op {
+            ends: Some(now),
+            item: Some(last.item),
+            ..op
+        },
     }
 }
 
 /// Plays one term, which begins at the position `now`.
-fn play_term<R: Copy>(alloc: Global, opening: R, term: &MatrixTerm<R>, now: u64) -> Result<Play<R>, AllocError>
+pub(crate) fn play_term<R: Copy>(
+    alloc: Global,
+    opening: R,
+    term: &MatrixTerm<R>,
+    now: u64,
+) -> Result<Play<R>, AllocError>
     requires term { IsTerm term.now }
     requires left { (step : ℕ) → ¬ Overruns (span_of term.now) step }
     requires room { now + length term.now.steps + 1 < 2 ^ 64 }
@@ -150,7 +210,7 @@ fn play_term<R: Copy>(alloc: Global, opening: R, term: &MatrixTerm<R>, now: u64)
 }
 
 /// The first step of a process that has no operation left in its term, counted through all terms.
-fn first_overrun<R>(terms: &[MatrixTerm<R>]) -> Option<u64>
+pub(crate) fn first_overrun<R>(terms: &[MatrixTerm<R>]) -> Option<u64>
     requires each { (k : ℕ) (term : MatrixTerm R) → slice_get terms.now k ≡ Some term → IsTerm term }
     requires steps { step_count terms.now < 18446744073709551615 }
     ensures none { IfNone result (HasOperations (spans_of terms.now)) }

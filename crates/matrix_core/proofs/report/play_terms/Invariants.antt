@@ -1,0 +1,5 @@
+use Rattle.matrix_core.proofs.Reports.{IsReportSoFar}
+use Rattle.matrix_core.proofs.report.play_terms.Given as goal
+
+abbrev pub invariant-loop-term : goal.invariant-loop-term
+invariant-loop-term g l = IsReportSoFar l.schedule.terms l.schedule.opening l.term-index l.opening l.now l.terms.items l.ops.items l.stamps.items l.order.items
