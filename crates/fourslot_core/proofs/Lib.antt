@@ -6,6 +6,9 @@ pub mod Mapped
 pub mod Operations
 pub mod RunTraces
 pub mod ReportAccesses
+pub mod Weaving
+pub mod Placing
+pub mod RunNumbers
 pub mod Steps
 pub mod Pushed
 pub mod TraceCounts

@@ -48,7 +48,7 @@ made_is done made Reader h = h.reader
 pub few_steps : (who : ℕ) (done : List ℕ) → steps_of who done ≤ length done
 few_steps who done = count_by-le-length (λ s. nat_eq s who) done
 
-same_actor : (a b : Turn) → actor a ≡ actor b → a ≡ b
+pub same_actor : (a b : Turn) → actor a ≡ actor b → a ≡ b
 same_actor Writer Writer e = refl
 same_actor Writer Reader e = cc
 same_actor Reader Writer e = cc

@@ -10,3 +10,4 @@ pub mod ReportOrders
 pub mod Runs
 pub mod SafeSlots
 pub mod Traces
+pub mod Weaves

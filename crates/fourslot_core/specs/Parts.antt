@@ -34,8 +34,8 @@ pub record IsPartsOf (steps : List ℕ) (parts : List Part) : Type 0 where
   pub all : (turn : Turn) (k begin : ℕ) → slice_get (positions 0 (actor turn) steps) (k * 5 + 0) ≡ Some begin → (p : ℕ) × (slice_get parts p ≡ Some (part_of turn k begin))
   pub rising : (p q : ℕ) (a b : Part) → slice_get parts p ≡ Some a → slice_get parts q ≡ Some b → p < q → a.starts < b.starts
 
-abbrev pub noted : Bool → ℕ → List ℕ
-noted here position = if here then position ∷ [] else []
+abbrev pub noted : {T : Type 0} → Bool → T → List T
+noted here item = if here then item ∷ [] else []
 
 -- the position of this access of each operation of an actor that makes it
 pub record IsAccessesOf (who access : ℕ) (steps all : List ℕ) : Type 0 where

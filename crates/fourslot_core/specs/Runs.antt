@@ -14,6 +14,7 @@ use Rattle.fourslot_core.specs.Events.{after_read, after_write, answer, slot_num
 use Rattle.fourslot_core.specs.Traces.{Trace, answered_by_read, moments_from, shown_by_read, shown_by_write, trace, trace_start}
 use Rattle.fourslot_core.specs.Play.{actor, item_of}
 use Rattle.fourslot_core.specs.Parts.{IsPartsOf, IsAccessesOf, op_of, slot_of}
+use Rattle.fourslot_core.specs.Weaves.{IsOrdered}
 
 -- what a run has shown so far
 pub record Log (R : Type 0) : Type 0 where
@@ -72,3 +73,4 @@ pub record IsAssembled {R : Type 0} (log : Log (Numbered R)) (steps : List Turn)
   pub terms_are : terms ≡ record { first = 0; limit = MAX_LIMIT } ∷ []
   pub ops_are : ops ≡ map (op_of writes writer_ends reader_ends log.answers) parts
   pub slots_are : slots ≡ map (slot_of log.write_slots log.read_slots) parts
+  pub ordered : IsOrdered parts (length stores) log.answers order

@@ -7,6 +7,8 @@ ghost use Rattle.fourslot_core.specs.Play.{actor, IsRefusal, run, span_of};
 ghost use Rattle.fourslot_core.specs.Accesses.{IsClear};
 ghost use Rattle.fourslot_core.specs.Reports.{IsFreshReport, IsOfRun, reader_of, writer_of};
 ghost use Rattle.history_core.specs.Orders.{RefusesLawfully};
+ghost use Rattle.fourslot_core.specs.declared.schedule.Turn.TheVariants.{Reader, Writer};
+ghost use Rattle.fourslot_core.specs.Weaves.{HasFirst, IsInTurn, IsOrdered, IsPlacesOf, IsWeave, NumbersBelow, NumbersRise};
 ghost use Rattle.fourslot_core.specs.Runs.{after_reader, after_writer, IsAssembled, numbered, numbered_run, numbered_trace, shown, step_of};
 ghost use Rattle.fourslot_core.specs.Parts.{begun_by, counted, IsAccessesOf, IsPartsOf, made_by, noted, op_of, plan_of, slot_of};
 
@@ -153,11 +155,11 @@ fn is_access(turn: Turn, side: Turn, made: usize, access: usize) -> bool
     is_by(turn, side) && made % ACCESSES == access
 }
 
-fn note(positions: &mut Vec<u64>, here: bool, position: u64) -> Result<(), AllocError>
-    ensures { OnOk result (positions.new.items ≡ positions.old.items ++ noted here position) }
+fn note<T: Copy>(list: &mut Vec<T>, here: bool, item: T) -> Result<(), AllocError>
+    ensures { OnOk result (list.new.items ≡ list.old.items ++ noted here item) }
 {
     if here {
-        positions.push(position)?;
+        list.push(item)?;
     }
     Ok(())
 }
@@ -317,40 +319,66 @@ impl<R: Copy> Played<R> {
         Ok(slots)
     }
 
-    /// The order: the finished reads by the number of their answer, each before the writes with a greater number.
-    fn order(&self, alloc: Global, parts: &[Part]) -> Result<Vec<usize>, AllocError> {
+    /// The order: each finished read after the write with its number and before the next one.
+    fn order(&self, alloc: Global, parts: &[Part]) -> Result<Vec<usize>, AllocError>
+        requires in_turn { IsInTurn parts.now }
+        requires writes { HasFirst Writer (length self.now.stores.items) parts.now }
+        requires reads { HasFirst Reader (length self.now.run.answers.items) parts.now }
+        requires rising { NumbersRise self.now.run.answers.items }
+        requires below { NumbersBelow (length self.now.stores.items) self.now.run.answers.items }
+        ensures { IfOk result (λ order. IsOrdered parts.now (length self.now.stores.items) self.now.run.answers.items order.items) }
+    {
         let writes = places(alloc, parts, Turn::Writer, self.stores.len())?;
         let reads = places(alloc, parts, Turn::Reader, self.run.answers.len())?;
-        let mut order = Vec::new(alloc);
-        let mut next = 0;
-        for (read, answer) in reads.iter().zip(&self.run.answers) {
-            if let Some(more) = writes.get(next..answer.number) {
-                order.extend_from_slice(more)?;
-            }
-            order.push(*read)?;
-            next = answer.number;
-        }
-        if let Some(more) = writes.get(next..) {
-            order.extend_from_slice(more)?;
-        }
-        Ok(order)
+        weave(alloc, &writes, &reads, &self.run.answers)
     }
 }
 
-/// The places of the first `count` operations of a side.
+/// The places of the first operations of a side, so many of them.
 fn places(
     alloc: Global,
     parts: &[Part],
     side: Turn,
     count: usize,
-) -> Result<Vec<usize>, AllocError> {
+) -> Result<Vec<usize>, AllocError>
+    requires { IsInTurn parts.now }
+    ensures { IfOk result (λ places. IsPlacesOf side count parts.now places.items) }
+{
     let mut places = Vec::new(alloc);
     for (place, part) in parts.iter().enumerate() {
-        if is_by(part.turn, side) && part.number < count {
-            places.push(place)?;
-        }
+        note(&mut places, is_among(part, side, count), place)?;
     }
     Ok(places)
+}
+
+fn is_among(part: &Part, side: Turn, count: usize) -> bool
+    ensures { IsTrue result ↔ ((actor part.now.turn ≡ actor side) × (part.now.number < count)) }
+{
+    is_by(part.turn, side) && part.number < count
+}
+
+/// Puts each read after the writes whose numbers are not above its own; write k has the number k + 1.
+fn weave<R: Copy>(
+    alloc: Global,
+    writes: &[usize],
+    reads: &[usize],
+    answers: &[Numbered<R>],
+) -> Result<Vec<usize>, AllocError>
+    requires same { length reads.now ≡ length answers.now }
+    requires rising { NumbersRise answers.now }
+    requires below { NumbersBelow (length writes.now) answers.now }
+    ensures { IfOk result (λ order. IsWeave writes.now reads.now answers.now (length writes.now) (length reads.now) order.items) }
+{
+    let mut order = Vec::new(alloc);
+    let mut next = 0;
+    for (number, read) in reads.iter().enumerate() {
+        let upto = answers[number].number;
+        order.extend_from_slice(&writes[next..upto])?;
+        order.push(*read)?;
+        next = upto;
+    }
+    order.extend_from_slice(&writes[next..])?;
+    Ok(order)
 }
 
 /// Plays steps of which each has an operation left.

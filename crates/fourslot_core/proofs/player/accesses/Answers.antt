@@ -22,5 +22,5 @@ loop-position-preserved c =
     let count = c.by.ensures ∙ made_is (actors n c.args.steps.now) c.loop-position.made c.args.side c.loop-position.invariant.made in
     record {
       made = subst (λ done. IsMade done c.count.new.self) (sym e) (rw c.count.ensures (made_more (actors n c.args.steps.now) c.loop-position.made t c.loop-position.invariant.made));
-      all = subst (λ done. IsAccessesOf (actor c.args.side) c.args.access done c.note.new.positions.items) (sym e) (rw c.in_ok-note.ensures (accesses_more (actor c.args.side) c.args.access (actor t) (actors n c.args.steps.now) c.loop-position.all.items c.is_access.result c.by.result n c.is_access.ensures count (sym (actors_long n c.args.steps.now (omega arith))) c.loop-position.invariant.all));
+      all = subst (λ done. IsAccessesOf (actor c.args.side) c.args.access done c.note.new.list.items) (sym e) (rw c.in_ok-note.ensures (accesses_more (actor c.args.side) c.args.access (actor t) (actors n c.args.steps.now) c.loop-position.all.items c.is_access.result c.by.result n c.is_access.ensures count (sym (actors_long n c.args.steps.now (omega arith))) c.loop-position.invariant.all));
     }

@@ -1,0 +1,5 @@
+use Rattle.fourslot_core.proofs.Placing.{IsPlacesBefore}
+use Rattle.fourslot_core.proofs.player.places.Given as goal
+
+abbrev pub invariant-loop-place : goal.invariant-loop-place
+invariant-loop-place l = IsPlacesBefore l.place l.side l.count l.parts l.places.items
