@@ -9,6 +9,8 @@ pub mod ReportAccesses
 pub mod Weaving
 pub mod Placing
 pub mod RunNumbers
+pub mod EntryOrder
+pub mod ReportOrder
 pub mod Steps
 pub mod Pushed
 pub mod TraceCounts

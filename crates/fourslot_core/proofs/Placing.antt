@@ -18,16 +18,16 @@ use Rattle.fourslot_core.proofs.Steps.{same_actor}
 -- the operations of a schedule are in turn
 pub parts_in_turn : (steps : List ℕ) (parts : List Part) → IsPartsOf steps parts → IsInTurn parts
 parts_in_turn steps parts h = record {
-    once = λ turn k p q s t ps qt.
+  once = λ turn k p q s t ps qt.
       let e : s ≡ t = same_Some s t (sym (h.each p (part_of turn k s) ps) ∙ h.each q (part_of turn k t) qt) in
       place_of p q (part_of turn k s) (part_of turn k t) ps qt e;
-    earlier = λ turn j k p s ps lt.
+  earlier = λ turn j k p s ps lt.
       let here : slice_get (positions 0 (actor turn) steps) (k * 5 + 0) ≡ Some s = h.each p (part_of turn k s) ps in
       let was = position_exists 0 (actor turn) steps (j * 5 + 0) (let m = position_made 0 (actor turn) steps (k * 5 + 0) s here in omega arith) in
       let there = h.all turn j was.0 was.1 in
       let l : was.0 < s = positions_rise 0 (actor turn) steps (j * 5 + 0) (k * 5 + 0) was.0 s was.1 here (omega arith) in
       (there.0, was.0, before there.0 p (part_of turn j was.0) (part_of turn k s) there.1 ps l, there.1);
-  }
+}
   where
     place_of : (p q : ℕ) (a b : Part) → slice_get parts p ≡ Some a → slice_get parts q ≡ Some b → a.starts ≡ b.starts → p ≡ q
     place_of p q a b pa qb e = elim (cases_order p q) [

@@ -41,13 +41,13 @@ module _ {R : Type 0} (answers : List (Numbered R)) where
     ];
     sorted = λ x y a b xa yb lt. elim (get_pushed_cases entries (entry Writer i) y b yb) [
       | inl oldb ↦ elim (get_pushed_cases entries (entry Writer i) x a xa) [
-          | inl olda ↦ h.sorted x y a b olda oldb lt
-          | inr w ↦ absurd (omega (arith, w.0, slice_get_within entries y b oldb))
-        ]
+        | inl olda ↦ h.sorted x y a b olda oldb lt
+        | inr w ↦ absurd (omega (arith, w.0, slice_get_within entries y b oldb))
+      ]
       | inr v ↦ elim (get_pushed_cases entries (entry Writer i) x a xa) [
-          | inl olda ↦ subst (λ (z : Entry). Goes answers a z) v.1 (before_write i j a.turn a.number low (h.each x a olda))
-          | inr w ↦ absurd (omega (arith, w.0, v.0))
-        ]
+        | inl olda ↦ subst (λ (z : Entry). Goes answers a z) v.1 (before_write i j a.turn a.number low (h.each x a olda))
+        | inr w ↦ absurd (omega (arith, w.0, v.0))
+      ]
     ];
   }
 
@@ -76,13 +76,13 @@ module _ {R : Type 0} (answers : List (Numbered R)) where
     ];
     sorted = λ x y a b xa yb lt. elim (get_pushed_cases entries (entry Reader j) y b yb) [
       | inl oldb ↦ elim (get_pushed_cases entries (entry Reader j) x a xa) [
-          | inl olda ↦ h.sorted x y a b olda oldb lt
-          | inr w ↦ absurd (omega (arith, w.0, slice_get_within entries y b oldb))
-        ]
+        | inl olda ↦ h.sorted x y a b olda oldb lt
+        | inr w ↦ absurd (omega (arith, w.0, slice_get_within entries y b oldb))
+      ]
       | inr v ↦ elim (get_pushed_cases entries (entry Reader j) x a xa) [
-          | inl olda ↦ subst (λ (z : Entry). Goes answers a z) v.1 (before_read i j a.turn a.number high (h.each x a olda))
-          | inr w ↦ absurd (omega (arith, w.0, v.0))
-        ]
+        | inl olda ↦ subst (λ (z : Entry). Goes answers a z) v.1 (before_read i j a.turn a.number high (h.each x a olda))
+        | inr w ↦ absurd (omega (arith, w.0, v.0))
+      ]
     ];
   }
 
@@ -144,13 +144,13 @@ module _ {R : Type 0} (answers : List (Numbered R)) where
   -- by their places among the parts
   pub weave_ordered : (parts : List Part) (writes reads order : List ℕ) (count : ℕ) → length writes ≡ count → length reads ≡ length answers → IsPlacesOf Writer count parts writes → IsPlacesOf Reader (length answers) parts reads → IsWeave writes reads answers (length writes) (length reads) order → IsOrdered parts count answers order
   weave_ordered parts writes reads order count wl rl ws rs h = record {
-      entries = h.entries;
-      long = h.long;
-      places = λ x e at.
-          let w = place_in e.turn e.number (h.woven.each x e at) in
-          (w.0, w.1, h.places x e at ∙ w.2, w.3);
-      woven = subst (λ i. IsWoven answers i (length answers) h.entries) wl (subst (λ j. IsWoven answers (length writes) j h.entries) rl h.woven);
-    }
+    entries = h.entries;
+    long = h.long;
+    places = λ x e at.
+        let w = place_in e.turn e.number (h.woven.each x e at) in
+        (w.0, w.1, h.places x e at ∙ w.2, w.3);
+    woven = subst (λ i. IsWoven answers i (length answers) h.entries) wl (subst (λ j. IsWoven answers (length writes) j h.entries) rl h.woven);
+  }
     where
       place_in : (turn : Turn) (k : ℕ) → IsAmongBy (length writes) (length reads) turn k → (p : ℕ) × (s : ℕ) × (slice_get (list_of writes reads turn) k ≡ Some p) × (slice_get parts p ≡ Some (part_of turn k s))
       place_in Writer k l = let p = get_within writes k l in let w = ws.each k p.0 p.1 in (p.0, w.0, p.1, w.1)

@@ -6,7 +6,8 @@ ghost use Rattle.history_core.specs.Schedules.{HasOperations, HasShape, IsFirstO
 ghost use Rattle.fourslot_core.specs.Play.{actor, IsRefusal, run, span_of};
 ghost use Rattle.fourslot_core.specs.Accesses.{IsClear};
 ghost use Rattle.fourslot_core.specs.Reports.{IsFreshReport, IsOfRun, reader_of, writer_of};
-ghost use Rattle.history_core.specs.Orders.{RefusesLawfully};
+ghost use Rattle.history_core.specs.Orders.{IsAtomicOrder, RefusesLawfully};
+ghost use Rattle.fourslot_core.specs.ReportOrders.{IsReportOrder};
 ghost use Rattle.fourslot_core.specs.declared.schedule.Turn.TheVariants.{Reader, Writer};
 ghost use Rattle.fourslot_core.specs.Weaves.{HasFirst, IsInTurn, IsOrdered, IsPlacesOf, IsWeave, NumbersBelow, NumbersRise};
 ghost use Rattle.fourslot_core.specs.Runs.{after_reader, after_writer, IsAssembled, numbered, numbered_run, numbered_trace, shown, step_of};
@@ -15,6 +16,7 @@ ghost use Rattle.fourslot_core.specs.Parts.{begun_by, counted, IsAccessesOf, IsP
 use crate::cell::CellCore;
 use crate::schedule::{CellReport, CellSchedule, Turn};
 use crate::state::{ReadStage, Stage};
+use history_core::laws::order_by_number;
 use history_core::{History, Items, Kind, MAX_LIMIT, Op, PlayError, Term};
 use std::alloc::{AllocError, Global};
 
@@ -335,12 +337,7 @@ impl<R: Copy> Played<R> {
 }
 
 /// The places of the first operations of a side, so many of them.
-fn places(
-    alloc: Global,
-    parts: &[Part],
-    side: Turn,
-    count: usize,
-) -> Result<Vec<usize>, AllocError>
+fn places(alloc: Global, parts: &[Part], side: Turn, count: usize) -> Result<Vec<usize>, AllocError>
     requires { IsInTurn parts.now }
     ensures { IfOk result (λ places. IsPlacesOf side count parts.now places.items) }
 {
@@ -427,6 +424,8 @@ pub fn play_cell<R: Copy>(alloc: Global, s: &CellSchedule<R>) -> Result<CellRepo
     ensures run { IfOk result (λ r. IsOfRun (span_of s.now.steps s.now.writes s.now.reads) (run s.now.opening s.now.noise s.now.writes s.now.steps) r.history.ops r.slots) }
     ensures clear { IfOk result (λ r. let span = span_of s.now.steps s.now.writes s.now.reads in IsClear (writer_of span r.history.ops r.slots) (reader_of span r.history.ops r.slots)) }
     ensures fresh { IfOk result (λ r. let span = span_of s.now.steps s.now.writes s.now.reads in IsFreshReport (writer_of span r.history.ops r.slots) (reader_of span r.history.ops r.slots)) }
+    ensures order { IfOk result (λ r. let span = span_of s.now.steps s.now.writes s.now.reads in IsReportOrder (writer_of span r.history.ops r.slots) (reader_of span r.history.ops r.slots) r.history.ops r.order) }
+    ensures atomic { IfOk result (λ r. IsAtomicOrder (λ x y. x ≡ y) s.now.opening r.history.ops r.order) }
     ensures refuses { IfOk result (λ r. RefusesLawfully r.history.terms r.history.ops r.order) }
 {
     let steps = s.steps.as_slice();
@@ -434,6 +433,7 @@ pub fn play_cell<R: Copy>(alloc: Global, s: &CellSchedule<R>) -> Result<CellRepo
     if let Some(position) = first_overrun(steps, writes, s.reads) {
         return Err(PlayError::TooManySteps { position });
     }
+    order_by_number::<R>();
     match report(alloc, s.opening, s.noise, steps, writes) {
         Ok(report) => Ok(report),
         Err(_) => Err(PlayError::NoMemory),

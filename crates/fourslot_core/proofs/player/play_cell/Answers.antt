@@ -5,10 +5,12 @@ use Rattle.fourslot_core.specs.declared.schedule.Turn.{Turn}
 use Rattle.history_core.specs.Orders.{RefusesLawfully}
 use Rattle.fourslot_core.specs.Accesses.{IsClear}
 use Rattle.fourslot_core.specs.Play.{run, span_of}
+use Rattle.fourslot_core.specs.ReportOrders.{IsReportOrder}
 use Rattle.fourslot_core.specs.Reports.{IsFreshReport, IsOfRun, reader_of, writer_of}
 use Rattle.fourslot_core.specs.Runs.{IsAssembled, numbered_run}
 use Rattle.fourslot_core.proofs.Operations.{assembled_shape}
 use Rattle.fourslot_core.proofs.ReportAccesses.{of_trace, is_of_run, is_clear, is_fresh, refuses}
+use Rattle.fourslot_core.proofs.ReportOrder.{atomic, by_number, is_report_order, number}
 use Rattle.fourslot_core.proofs.player.play_cell.Goals as goal
 
 -- a fact of the two slices is one of the schedule's lists
@@ -65,6 +67,30 @@ returns-in-Ok-clause-fresh g c =
     let reads = c.args.s.now.reads in
     along (λ s w. IsFreshReport (writer_of (span_of s w reads) r.history.ops r.slots) (reader_of (span_of s w reads) r.history.ops r.slots)) _ _ _ _ c.as_slice-steps.ensures c.as_slice-writes.ensures
     (is_fresh o n steps writes reads r.history.terms r.history.ops r.slots r.order (of_trace o n steps writes reads r.history.terms r.history.ops r.slots r.order c.in-Ok.ensures.assembled))
+
+pub returns-in-Ok-clause-order : goal.returns-in-Ok-clause-order
+returns-in-Ok-clause-order g c =
+    let r = c.in-Ok.report in
+    let steps = c.as_slice-steps.result.now in
+    let writes = c.as_slice-writes.result.now in
+    let o = c.args.s.now.opening in
+    let n = c.args.s.now.noise in
+    let reads = c.args.s.now.reads in
+    along (λ s w. IsReportOrder (writer_of (span_of s w reads) r.history.ops r.slots) (reader_of (span_of s w reads) r.history.ops r.slots) r.history.ops r.order) _ _ _ _ c.as_slice-steps.ensures c.as_slice-writes.ensures
+    (is_report_order o n steps writes reads r.history.terms r.history.ops r.slots r.order (of_trace o n steps writes reads r.history.terms r.history.ops r.slots r.order c.in-Ok.ensures.assembled))
+
+pub returns-in-Ok-clause-atomic : goal.returns-in-Ok-clause-atomic
+returns-in-Ok-clause-atomic g c =
+    let r = c.in-Ok.report in
+    let steps = c.as_slice-steps.result.now in
+    let writes = c.as_slice-writes.result.now in
+    let o = c.args.s.now.opening in
+    let n = c.args.s.now.noise in
+    let reads = c.args.s.now.reads in
+    let a = of_trace o n steps writes reads r.history.terms r.history.ops r.slots r.order c.in-Ok.ensures.assembled in
+    let by = by_number o n steps writes reads r.history.terms r.history.ops r.slots r.order a in
+    atomic o n steps writes reads r.history.terms r.history.ops r.slots r.order a c.in_default.ensures.none
+    (c.order_by_number.ensures (number o n steps writes reads r.history.terms r.history.ops r.slots r.order a) r.history.ops r.order by)
 
 pub returns-in-Ok-clause-refuses : goal.returns-in-Ok-clause-refuses
 returns-in-Ok-clause-refuses g c =
