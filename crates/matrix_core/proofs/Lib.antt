@@ -10,4 +10,5 @@ pub mod Plays
 pub mod Reports
 pub mod Shapes
 pub mod Steps
+pub mod TermOrderPlaces
 pub mod TermOrders

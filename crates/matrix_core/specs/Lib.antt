@@ -3,4 +3,3 @@ pub mod Events
 pub mod Listings
 pub mod Runs
 pub mod Stamps
-pub mod TermOrders
