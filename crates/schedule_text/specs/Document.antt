@@ -10,7 +10,8 @@ use Rattle.schedule_text.specs.declared.document.Document.{Document}
 use Rattle.schedule_text.specs.declared.document.DocError.{DocError}
 use Rattle.schedule_text.specs.declared.document.DocError.TheVariants.{Long, NotJson, Kind}
 use Rattle.schedule_text.specs.declared.document.Want.{Want}
-use Rattle.schedule_text.specs.declared.document.Want.TheVariants.{Check}
+use Rattle.schedule_text.specs.declared.document.Want.TheVariants.{Check, Play}
+use Rattle.schedule_text.specs.Cell.{cell_in}
 use Rattle.schedule_text.specs.Check.{check_in}
 use Rattle.schedule_text.specs.Refusals.{◌>>=◌, must, some_or}
 
@@ -27,6 +28,7 @@ is_kind name d = option_map_or (bytes_eq name) (kind_in d) false
 -- a document of a kind that the command takes
 abbrev pub document_in : Want → Data → Result Document DocError
 document_in Check d = if is_kind (codes "check") d then check_in d else Err Kind
+document_in Play d = if is_kind (codes "cell") d then cell_in d else Err Kind
 
 abbrev pub max_bytes : ℕ
 max_bytes = 1048576

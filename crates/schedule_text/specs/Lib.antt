@@ -1,3 +1,4 @@
+pub mod Cell
 pub mod Check
 pub mod Document
 pub mod Keys

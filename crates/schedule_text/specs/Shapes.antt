@@ -1,8 +1,10 @@
 -- The shapes of a document's values: what a value stands for, or nothing where it has another shape (this project's own).
-use Rattle.std.specs.Prelude.{ℕ, List, [], ◌∷◌, codes, if◌then◌else◌, Option, Some, None, option_map, option_and_then}
+use Rattle.std.specs.Prelude.{ℕ, ◌==◌, List, [], ◌∷◌, codes, if◌then◌else◌, Option, Some, None, option_map, option_and_then}
 use Rattle.std.specs.Str.{bytes_eq}
 use Rattle.serde_json.specs.Data.{Data, null, Items, no_items, item}
 use Rattle.serde_json.specs.Find.{get, as_number, as_str, as_array, as_u64}
+use Rattle.fourslot_core.specs.declared.schedule.Turn.{Turn}
+use Rattle.fourslot_core.specs.declared.schedule.Turn.TheVariants.{Writer, Reader}
 use Rattle.history_core.specs.declared.band.Band.{Band}
 use Rattle.history_core.specs.declared.history.Kind.{Kind}
 use Rattle.history_core.specs.declared.history.Kind.TheVariants.{Write, Read, Refused}
@@ -31,6 +33,13 @@ as_items d = option_map list_of (as_array d)
 
 abbrev pub as_list : {A : Type 0} → (Data → Option A) → Data → Option (List A)
 as_list f d = option_and_then (all_of f) (as_items d)
+
+-- the sides' steps, as the letters w and r
+abbrev pub turn_named : ℕ → Option Turn
+turn_named letter = if letter == 119 then Some Writer else (if letter == 114 then Some Reader else None)
+
+abbrev pub as_turns : Data → Option (List Turn)
+as_turns d = option_and_then (all_of turn_named) (as_str d)
 
 -- lo, now, hi
 abbrev pub as_three : List Data → Option Band

@@ -2,6 +2,7 @@ ghost use Rattle.std.specs.Prelude.{◌≡◌};
 ghost use Rattle.schedule_text.specs.declared.document.DocError.TheVariants.{NoMemory};
 
 use crate::Key;
+use fourslot_core::CellSchedule;
 use history_core::{Band, History, Items};
 use std::alloc::AllocError;
 use thiserror::Error;
@@ -10,6 +11,7 @@ use thiserror::Error;
 #[derive(Clone, Copy, Debug, PartialEq, Eq)]
 pub enum Want {
     Check,
+    Play,
 }
 
 /// What a document stands for.
@@ -20,6 +22,8 @@ pub enum Document {
         history: History<Band>,
         order: Items<usize>,
     },
+    /// A schedule of a four-slot register.
+    Cell(CellSchedule<Band>),
 }
 
 /// Why a document is refused. The refusals are tested in this order, each over the whole document before the next one, but

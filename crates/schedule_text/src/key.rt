@@ -9,6 +9,10 @@ pub enum Key {
     Limit,
     Ops,
     Order,
+    Noise,
+    Writes,
+    Reads,
+    Steps,
 }
 
 impl Key {
@@ -23,6 +27,10 @@ impl Key {
             Key::Limit => "limit",
             Key::Ops => "ops",
             Key::Order => "order",
+            Key::Noise => "noise",
+            Key::Writes => "writes",
+            Key::Reads => "reads",
+            Key::Steps => "steps",
         }
     }
 }

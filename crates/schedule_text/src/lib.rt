@@ -1,10 +1,12 @@
 //! The documents that `fsr` reads and the reports that it prints: JSON text to values, and values to lines.
 #![tactic(auto)]
 
+mod cell;
 mod check;
 mod document;
 mod fields;
 mod key;
+mod lines;
 mod read;
 mod report;
 mod shape;

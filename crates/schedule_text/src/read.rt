@@ -3,6 +3,7 @@ ghost use Rattle.serde_json.specs.View.{view};
 ghost use Rattle.schedule_text.specs.Document.{document_in, document_of, is_kind, value_of};
 ghost use Rattle.schedule_text.specs.Refusals.{Gives, some_or};
 
+use crate::cell::cell_in;
 use crate::check::check_in;
 use crate::fields::must;
 use crate::{DocError, Document, Want};
@@ -37,7 +38,8 @@ fn document_in(alloc: Global, want: Want, value: &Value) -> Result<Document, Doc
 {
     match want {
         Want::Check if is_kind(value, "check") => check_in(alloc, value),
-        Want::Check => Err(DocError::Kind),
+        Want::Play if is_kind(value, "cell") => cell_in(alloc, value),
+        _ => Err(DocError::Kind),
     }
 }
 

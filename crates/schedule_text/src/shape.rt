@@ -1,9 +1,10 @@
 ghost use Rattle.std.specs.Prelude.{◌≡◌, Option, map, option_map, IfOk};
 ghost use Rattle.serde_json.specs.Data.{Data};
 ghost use Rattle.serde_json.specs.View.{view};
-ghost use Rattle.schedule_text.specs.Shapes.{as_whole, as_band, as_three, as_items, all_of, as_list, as_op, kind_named, optional};
+ghost use Rattle.schedule_text.specs.Shapes.{as_whole, as_band, as_three, as_items, all_of, as_list, as_op, as_turns, kind_named, optional, turn_named};
 
-use history_core::{Band, Kind, Op};
+use fourslot_core::Turn;
+use history_core::{Band, Items, Kind, Op};
 use serde_json::Value;
 use std::alloc::{AllocError, Global};
 
@@ -36,6 +37,41 @@ impl Shape for Band {
 
     fn read(_alloc: Global, value: &Value) -> Result<Option<Band>, AllocError> {
         Ok(band_in(value))
+    }
+}
+
+impl Shape for Items<Turn> {
+    ghost shape = { as_turns };
+
+    fn read(alloc: Global, value: &Value) -> Result<Option<Items<Turn>>, AllocError> {
+        match value.as_str() {
+            Some(letters) => turns_in(alloc, letters.as_bytes()),
+            None => Ok(None),
+        }
+    }
+}
+
+/// The sides' steps, as the letters `w` and `r`.
+fn turns_in(alloc: Global, letters: &[u8]) -> Result<Option<Items<Turn>>, AllocError>
+    ensures { IfOk result (λ found. found ≡ all_of turn_named letters.now) }
+{
+    let mut turns = Vec::with_capacity(alloc, letters.len())?;
+    for letter in letters {
+        let Some(turn) = turn_named(*letter) else {
+            return Ok(None);
+        };
+        turns.push(turn)?;
+    }
+    Ok(Some(Items::new(turns)))
+}
+
+fn turn_named(letter: u8) -> Option<Turn>
+    ensures { result ≡ turn_named letter }
+{
+    match letter {
+        b'w' => Some(Turn::Writer),
+        b'r' => Some(Turn::Reader),
+        _ => None,
     }
 }
 

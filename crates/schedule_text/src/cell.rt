@@ -1,0 +1,67 @@
+//! Documents of kind `cell`.
+ghost use Rattle.std.specs.Prelude.{◌≡◌, ◌+◌, ◌≤◌, length};
+ghost use Rattle.std.specs.List.{list_all};
+ghost use Rattle.history_core.specs.Band.{fits};
+ghost use Rattle.serde_json.specs.View.{view};
+ghost use Rattle.schedule_text.specs.Cell.{cell_in, operations_in_range};
+ghost use Rattle.schedule_text.specs.Refusals.{Gives};
+
+use crate::fields::{field, list_field, must, required};
+use crate::{DocError, Document, Key};
+use fourslot_core::{CellSchedule, Turn};
+use history_core::{Band, Items};
+use serde_json::Value;
+use std::alloc::Global;
+
+const MAX_OPERATIONS: usize = 10_000;
+
+const MAX_STEPS: usize = 100_000;
+
+#[tactic(auto, unfolding(crate::specs::Cell::cell_in))]
+pub fn cell_in(alloc: Global, value: &Value) -> Result<Document, DocError>
+    ensures { Gives (λ d. d) result (cell_in (view value.now)) }
+{
+    required(
+        value,
+        &[
+            Key::Opening,
+            Key::Noise,
+            Key::Writes,
+            Key::Reads,
+            Key::Steps,
+        ],
+    )?;
+    let opening: Band = field(alloc, value, Key::Opening)?;
+    let noise: Band = field(alloc, value, Key::Noise)?;
+    let writes: Vec<Band> = list_field(alloc, value, Key::Writes)?;
+    let reads: u64 = field(alloc, value, Key::Reads)?;
+    let steps: Items<Turn> = field(alloc, value, Key::Steps)?;
+    must(writes.len() <= MAX_OPERATIONS, DocError::Range(Key::Writes))?;
+    must(has_room(writes.len(), reads), DocError::Range(Key::Reads))?;
+    must(
+        steps.as_slice().len() <= MAX_STEPS,
+        DocError::Range(Key::Steps),
+    )?;
+    must(opening.fits(), DocError::Law(Key::Opening))?;
+    must(all_fit(writes.as_slice()), DocError::Law(Key::Writes))?;
+    Ok(Document::Cell(CellSchedule {
+        opening,
+        noise,
+        steps,
+        writes: Items::new(writes),
+        reads,
+    }))
+}
+
+/// Whether there may be so many reads beside the writes.
+fn has_room(writes: usize, reads: u64) -> bool
+    ensures { result ≡ operations_in_range (writes + reads) }
+{
+    writes <= MAX_OPERATIONS && reads <= (MAX_OPERATIONS - writes) as u64
+}
+
+fn all_fit(records: &[Band]) -> bool
+    ensures { result ≡ list_all fits records.now }
+{
+    records.iter().all(|record| record.fits())
+}
