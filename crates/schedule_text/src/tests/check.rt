@@ -1,0 +1,368 @@
+use super::{A, ZERO, copies, document, refusal};
+use crate::{DocError, Document, Key, Want, read_document};
+use history_core::{Kind, Term};
+use std::alloc::{AllocError, Global};
+use std::test::Fail;
+
+/// A write and then a read of its record.
+const WRITE_AND_READ: &str = r#"{"kind":"check","opening":[0,0,0],"limit":9,"ops":[
+ {"who":0,"kind":"write","begin":0,"end":4,"record":[1,1,1]},
+ {"who":1,"kind":"read","begin":5,"end":9,"record":[1,1,1]}],
+ "order":[0,1]}"#;
+
+#[test]
+fn reads_the_first_document(rt: HostRuntime) -> Result<(), Fail> {
+    let Document::Check { history, order } = read_document(
+        rt.alloc(),
+        Want::Check,
+        WRITE_AND_READ.as_bytes(),
+    )?
+    else {
+        panic!(&rt; "another kind");
+    };
+    assert_eq!(rt; history.opening, ZERO);
+    assert_eq!(rt;
+        history.terms.as_slice(),
+        [Term { first: 0, limit: 9 }].as_slice()
+    );
+    assert_eq!(rt; order.as_slice(), [0, 1].as_slice());
+    let ops = history.ops.as_slice();
+    assert_eq!(rt; ops.len(), 2);
+    let (write, read) = (ops[0], ops[1]);
+    assert_eq!(rt; (write.who, write.kind, write.starts), (0, Kind::Write, 0));
+    assert_eq!(rt; (write.ends, write.item), (Some(4), Some(A)));
+    assert_eq!(rt; (read.who, read.kind, read.starts), (1, Kind::Read, 5));
+    assert_eq!(rt; (read.ends, read.item), (Some(9), Some(A)));
+    Ok(())
+}
+
+#[test]
+fn refuses_in_order(rt: HostRuntime) -> Result<(), Fail> {
+    let alloc = rt.alloc();
+    for (keys, refused) in [
+        (["[0,0,0]", "9", "[]", "[]"], None),
+        (
+            ["[2,1,3]", "0", "[]", "[]"],
+            Some(DocError::Range(Key::Limit)),
+        ),
+        (
+            ["[2,1,3]", "1", "[]", "[]"],
+            Some(DocError::Law(Key::Opening)),
+        ),
+        (["[1,2,3]", "18446744073709551614", "[]", "[]"], None),
+        (
+            ["[0,0,0]", "18446744073709551615", "[]", "[]"],
+            Some(DocError::Range(Key::Limit)),
+        ),
+        (
+            ["[0,0,0]", "18446744073709551616", "[]", "[]"],
+            Some(DocError::Shape(Key::Limit)),
+        ),
+        (
+            ["[0,0,0]", "-1", "[]", "[]"],
+            Some(DocError::Shape(Key::Limit)),
+        ),
+        (
+            ["[0,0,0]", "1.0", "[]", "[]"],
+            Some(DocError::Shape(Key::Limit)),
+        ),
+        (
+            ["[0,0,0]", "1e2", "[]", "[]"],
+            Some(DocError::Shape(Key::Limit)),
+        ),
+        (
+            ["[0,0,0]", "null", "[]", "[]"],
+            Some(DocError::Shape(Key::Limit)),
+        ),
+        (
+            ["[0,0]", "0", "[]", "[]"],
+            Some(DocError::Shape(Key::Opening)),
+        ),
+        (
+            ["[0,0,0,0]", "null", "[]", "[]"],
+            Some(DocError::Shape(Key::Opening)),
+        ),
+        (
+            ["[0,0,-0]", "9", "[]", "[]"],
+            Some(DocError::Shape(Key::Opening)),
+        ),
+        (
+            ["null", "9", "{}", "[]"],
+            Some(DocError::Shape(Key::Opening)),
+        ),
+        (
+            ["[0,0,0]", "0", "{}", "{}"],
+            Some(DocError::Shape(Key::Ops)),
+        ),
+        (
+            ["[0,0,0]", "0", "[]", "[-1]"],
+            Some(DocError::Shape(Key::Order)),
+        ),
+        (
+            ["[0,0,0]", "9", "[]", "null"],
+            Some(DocError::Shape(Key::Order)),
+        ),
+        (["[0,0,0]", "9", "[]", "[9999]"], None),
+        (
+            ["[3,2,1]", "9", "[]", "[10000]"],
+            Some(DocError::Range(Key::Order)),
+        ),
+        (
+            ["[3,2,1]", "0", "[]", "[10000]"],
+            Some(DocError::Range(Key::Limit)),
+        ),
+    ] {
+        let [opening, limit, ops, order] = keys;
+        let text = document(
+            alloc,
+            "check",
+            &[
+                ("opening", opening),
+                ("limit", limit),
+                ("ops", ops),
+                ("order", order),
+            ],
+        )?;
+        assert_eq!(rt;
+            refusal(alloc, Want::Check, text.as_bytes()),
+            refused,
+            "{text}"
+        );
+    }
+    Ok(())
+}
+
+/// A document with these operations and entries.
+fn check_document(
+    alloc: Global,
+    opening: &str,
+    limit: &str,
+    ops: &str,
+    order: &str,
+) -> Result<String, AllocError> {
+    let ops = format!(in alloc; "[{ops}]")?;
+    let order = format!(in alloc; "[{order}]")?;
+    document(
+        alloc,
+        "check",
+        &[
+            ("opening", opening),
+            ("limit", limit),
+            ("ops", ops.as_str()),
+            ("order", order.as_str()),
+        ],
+    )
+}
+
+#[test]
+fn reads_operations(rt: HostRuntime) -> Result<(), Fail> {
+    let alloc = rt.alloc();
+    let shape = Some(DocError::Shape(Key::Ops));
+    let range = Some(DocError::Range(Key::Ops));
+    let law = Some(DocError::Law(Key::Ops));
+    for (ops, refused) in [
+        (
+            r#"{"who":15,"kind":"write","begin":4,"end":4,"record":[1,2,3]}"#,
+            None,
+        ),
+        (
+            r#"{"who":16,"kind":"write","begin":4,"end":4,"record":[1,2,3]}"#,
+            range,
+        ),
+        (
+            r#"{"who":16,"kind":"write","begin":4,"end":3,"record":[3,2,1]}"#,
+            range,
+        ),
+        (
+            r#"{"who":0,"kind":"write","begin":4,"end":3,"record":[1,2,3]}"#,
+            law,
+        ),
+        (
+            r#"{"who":0,"kind":"read","begin":4,"end":3,"record":[1,2,3]}"#,
+            law,
+        ),
+        (
+            r#"{"who":0,"kind":"write","begin":4,"record":[1,2,3]}"#,
+            None,
+        ),
+        (
+            r#"{"who":0,"kind":"write","begin":4,"end":null,"record":[1,2,3],"x":[]}"#,
+            None,
+        ),
+        (
+            r#"{"who":0,"kind":"write","begin":4,"record":[3,2,1]}"#,
+            law,
+        ),
+        (r#"{"who":0,"kind":"write","begin":4,"end":5}"#, law),
+        (r#"{"who":0,"kind":"write","begin":4}"#, law),
+        (r#"{"who":0,"kind":"write","begin":4,"record":null}"#, law),
+        (
+            r#"{"who":0,"kind":"read","begin":4,"end":5,"record":[3,2,1]}"#,
+            None,
+        ),
+        (r#"{"who":0,"kind":"read","begin":4,"end":5}"#, law),
+        (r#"{"who":0,"kind":"read","begin":4,"record":null}"#, None),
+        (
+            r#"{"who":0,"kind":"refused","begin":4,"end":5,"record":[3,2,1]}"#,
+            None,
+        ),
+        (
+            r#"{"who":0,"kind":"refused","begin":4,"end":5,"record":null}"#,
+            law,
+        ),
+        (r#"{"who":0,"kind":"refused","begin":4}"#, None),
+        (r#"{"kind":"read","begin":4}"#, shape),
+        (r#"{"who":0,"begin":4}"#, shape),
+        (r#"{"who":0,"kind":"read"}"#, shape),
+        (r#"{"who":null,"kind":"read","begin":4}"#, shape),
+        (r#"{"who":0,"kind":null,"begin":4}"#, shape),
+        (r#"{"who":0,"kind":"read","begin":null}"#, shape),
+        (r#"{"who":0,"kind":"reads","begin":4}"#, shape),
+        (r#"{"who":0,"kind":"read","begin":4,"end":"5"}"#, shape),
+        (r#"{"who":0,"kind":"read","begin":4,"record":[1,2]}"#, shape),
+        (
+            r#"{"who":16,"kind":"read","begin":4},{"who":0,"kind":"read"}"#,
+            shape,
+        ),
+        (
+            r#"{"who":0,"kind":"write","begin":4},{"who":16,"kind":"read","begin":4}"#,
+            range,
+        ),
+        ("[]", shape),
+    ] {
+        let text = check_document(alloc, "[0,0,0]", "9", ops, "")?;
+        assert_eq!(rt;
+            refusal(alloc, Want::Check, text.as_bytes()),
+            refused,
+            "{ops}"
+        );
+    }
+    Ok(())
+}
+
+#[test]
+fn reads_at_most_10000(rt: HostRuntime) -> Result<(), Fail> {
+    let alloc = rt.alloc();
+    let op = r#"{"who":0,"kind":"read","begin":4}"#;
+    for (ops, order, refused) in [
+        (10_000, 10_000, None),
+        (10_001, 10_001, Some(DocError::Range(Key::Ops))),
+        (10_000, 10_001, Some(DocError::Range(Key::Order))),
+    ] {
+        let ops = copies(alloc, op, ops, ",")?;
+        let order = copies(alloc, "0", order, ",")?;
+        let text = check_document(alloc, "[0,0,0]", "9", ops.as_str(), order.as_str())?;
+        assert_eq!(rt; refusal(alloc, Want::Check, text.as_bytes()), refused);
+    }
+    Ok(())
+}
+
+#[test]
+fn refuses_the_top(rt: HostRuntime) -> Result<(), Fail> {
+    let alloc = rt.alloc();
+    for (text, refused) in [
+        ("", DocError::NotJson),
+        ("{", DocError::NotJson),
+        ("{} {}", DocError::NotJson),
+        ("\u{feff}{}", DocError::NotJson),
+        (r#"{"kind":"\ud800"}"#, DocError::NotJson),
+        (r#"{"kind":"check","limit":1e999}"#, DocError::NotJson),
+        ("[]", DocError::Kind),
+        ("null", DocError::Kind),
+        ("\"check\"", DocError::Kind),
+        ("{}", DocError::Kind),
+        (r#"{"kind":["check"]}"#, DocError::Kind),
+        (r#"{"kind":"checks"}"#, DocError::Kind),
+        (r#"{"kind":"matrix"}"#, DocError::Kind),
+        (r#"{"kind":"check","kind":"Check"}"#, DocError::Kind),
+        (r#"{"kind":"check"}"#, DocError::Missing(Key::Opening)),
+        (
+            r#"{"kind":"cell","kind":"\u0063heck"}"#,
+            DocError::Missing(Key::Opening),
+        ),
+        (
+            r#"{"kind":"check","opening":0}"#,
+            DocError::Missing(Key::Limit),
+        ),
+        (
+            r#"{"kind":"check","opening":0,"limit":0}"#,
+            DocError::Missing(Key::Ops),
+        ),
+        (
+            r#"{"kind":"check","opening":0,"limit":0,"ops":null}"#,
+            DocError::Missing(Key::Order),
+        ),
+    ] {
+        assert_eq!(rt;
+            refusal(alloc, Want::Check, text.as_bytes()),
+            Some(refused),
+            "{text}"
+        );
+    }
+    assert_eq!(rt;
+        refusal(alloc, Want::Check, &[0xff]),
+        Some(DocError::NotJson)
+    );
+    Ok(())
+}
+
+#[test]
+fn reads_each_byte(rt: HostRuntime) -> Result<(), Fail> {
+    let alloc = rt.alloc();
+    let bytes = WRITE_AND_READ.as_bytes();
+    for end in 0..bytes.len() {
+        assert_eq!(rt;
+            refusal(alloc, Want::Check, &bytes[..end]),
+            Some(DocError::NotJson),
+            "cut at {end}"
+        );
+    }
+    let mut text = String::new(alloc);
+    text.push_str(WRITE_AND_READ)?;
+    for _ in text.len()..1_048_576 {
+        text.push_str(" ")?;
+    }
+    assert_eq!(rt; text.len(), 1_048_576);
+    assert_eq!(rt; refusal(alloc, Want::Check, text.as_bytes()), None);
+    text.push_str(" ")?;
+    assert_eq!(rt;
+        refusal(alloc, Want::Check, text.as_bytes()),
+        Some(DocError::Long)
+    );
+    Ok(())
+}
+
+/// A document with a key `x` of so many arrays in each other, and keys of other kinds.
+fn nested(alloc: Global, depth: usize) -> Result<String, AllocError> {
+    let open = copies(alloc, "[", depth, "")?;
+    let close = copies(alloc, "]", depth, "")?;
+    let arrays = format!(in alloc; "{open}{close}")?;
+    document(
+        alloc,
+        "check",
+        &[
+            ("noise", "0"),
+            ("terms", "null"),
+            ("limit", "0"),
+            ("limit", "9"),
+            ("opening", "[0,0,0]"),
+            ("ops", "[]"),
+            ("order", "[]"),
+            ("x", arrays.as_str()),
+        ],
+    )
+}
+
+#[test]
+fn nests_at_most_127(rt: HostRuntime) -> Result<(), Fail> {
+    let alloc = rt.alloc();
+    assert_eq!(rt;
+        refusal(alloc, Want::Check, nested(alloc, 126)?.as_bytes()),
+        None
+    );
+    assert_eq!(rt;
+        refusal(alloc, Want::Check, nested(alloc, 127)?.as_bytes()),
+        Some(DocError::NotJson)
+    );
+    Ok(())
+}
