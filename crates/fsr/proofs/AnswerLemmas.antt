@@ -20,7 +20,7 @@ pub answers_check : (history : History Band) (order given : List ℕ) (v : Verdi
 answers_check history order given v status a same_order is_verdict is_status is_printed =
     let verdict = verdict_by_fields history.opening history.terms history.ops order v (subst (λ o. IsVerdict HaveSameFields history.opening history.terms history.ops o v) same_order is_verdict) in
     let told : a ≡ printed (report.Verdict v) (status_of v) = is_printed ∙ ap (printed (report.Verdict v)) is_status in
-    (v, verdict, ap Ok told)
+    (v, verdict, told)
 
 -- the answer to the document that the bytes stand for
 pub answers_document : (want : Want) (bytes : List ℕ) (document known : Document) (r : Result Answer Fault) → document_of want bytes ≡ Ok document → Gives (Answers known) r → document ≡ known

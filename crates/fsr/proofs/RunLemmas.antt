@@ -1,12 +1,13 @@
 -- The ends of a run: each says what was taken and what went out, and why the status tells it.
-use Rattle.std.proofs.Common.{rules, ◌≡◌, ◌⊎◌, inl, inr, ◌≤◌, ℕ, List, [], Option, Some, None, Result, Ok, Err, refl, ap, arith, subst}
+use Rattle.std.proofs.Common.{rules, ◌≡◌, ◌⊎◌, inl, inr, ◌≤◌, ℕ, List, [], length, Option, Some, None, Result, Ok, Err, refl, ap, arith, subst}
+use Rattle.std.proofs.lemmas.List.{take_all}
 use Rattle.std.proofs.KnownBytes.{Consumes-nil, Appends-nil}
 use Rattle.std.specs.Io.{StartsWith}
 use Rattle.std.specs.Io.KnownBytes.{Appends}
 use Rattle.history_core.specs.declared.history.Verdict.{Verdict}
 use Rattle.history_core.specs.declared.history.Verdict.TheVariants.{Lawful, Listing, Precedence, Reading, Limit}
 use Rattle.schedule_text.specs.declared.document.Document.{Document}
-use Rattle.schedule_text.specs.declared.document.Document.TheVariants.{Check}
+use Rattle.schedule_text.specs.declared.document.Document.TheVariants.{Check, Cell}
 use Rattle.schedule_text.specs.declared.document.DocError.{DocError}
 use Rattle.schedule_text.specs.declared.document.Want.{Want}
 use Rattle.schedule_text.specs.Document.{document_of}
@@ -100,8 +101,9 @@ verdict_is_low Limit = search rules
 -- an answer has status 0 or 1
 status_is_low : (r : Result Document DocError) (a : Answer) → AnswersReading r (Ok a) → a.status ≤ 1
 status_is_low (Ok (Check history order)) a answered =
-    let same : a.status ≡ status_of answered.0 = ap (λ r. (told_by r).status) answered.2 in
+    let same : a.status ≡ status_of answered.0 = ap (λ b. b.status) answered.2 in
     rw same (verdict_is_low answered.0)
+status_is_low (Ok (Cell schedule)) a answered = let same : a.status ≡ 0 = ap (λ b. b.status) answered.2 in omega (arith, same)
 status_is_low (Err refusal) a answered = absurd (cc)
 
 -- the text went out whole
@@ -116,7 +118,7 @@ ends_told want in_old in_new out_old out_new taken given text a takes whole same
       takes = takes.0;
       at_most = takes.1;
       sends = subst (Appends out_old out_new) same_text sends;
-      front = inr (a, (Ok a, answer, refl), search rules);
+      front = inr (a, (Ok a, answer, refl), take_all (length a.text) a.text (omega arith));
       silent = λ two four. absurd (omega arith);
       told = λ not_four not_five. (Ok a, answer, refl);
       whole = λ not_two not_four not_five. whole;

@@ -1,6 +1,9 @@
 -- The answer to a document: what is printed with which status, or the fault (this project's own).
-use Rattle.std.specs.Prelude.{◌≡◌, ◌≢◌, ℕ, List, Result, Ok, Err}
+use Rattle.std.specs.Prelude.{◌≡◌, ◌≢◌, ℕ, List, [], ◌∷◌, Result, Ok, Err}
+use Rattle.fourslot_core.specs.declared.schedule.CellReport.{CellReport}
+use Rattle.fourslot_core.specs.declared.schedule.CellSchedule.{CellSchedule}
 use Rattle.history_core.specs.Orders.{IsVerdict}
+use Rattle.history_core.specs.Schedules.{IsFirstOverrun}
 use Rattle.history_core.specs.declared.history.History.{History}
 use Rattle.history_core.specs.declared.history.Verdict.{Verdict}
 use Rattle.history_core.specs.declared.history.Verdict.TheVariants.{Lawful, Listing, Precedence, Reading, Limit}
@@ -9,10 +12,11 @@ use Rattle.schedule_text.specs.Document.{document_of}
 use Rattle.schedule_text.specs.Text.{text_of}
 use Rattle.schedule_text.specs.declared.document.Want.{Want}
 use Rattle.schedule_text.specs.declared.document.Document.{Document}
-use Rattle.schedule_text.specs.declared.document.Document.TheVariants.{Check}
+use Rattle.schedule_text.specs.declared.document.Document.TheVariants.{Check, Cell}
 use Rattle.schedule_text.specs.declared.document.DocError.{DocError}
 use Rattle.schedule_text.specs.declared.report.Report.{Report}
 use Rattle.schedule_text.specs.declared.report.Report.TheVariants as report
+use Rattle.fsr.specs.Plays.{IsCellReport, cell_span}
 use Rattle.fsr.specs.declared.fault.Answer.{Answer}
 use Rattle.fsr.specs.declared.fault.Fault.{Fault}
 use Rattle.fsr.specs.declared.fault.Fault.TheVariants as fault
@@ -35,12 +39,22 @@ IsVerdictOn history order v = IsVerdict (λ x y. x ≡ y) history.opening histor
 
 -- the answer to a history and an order of it: the text of the verdict
 abbrev pub AnswersCheck : History Band → List ℕ → Result Answer Fault → Type 0
-AnswersCheck history order reply =
-    (v : Verdict) × IsVerdictOn history order v × (reply ≡ Ok (printed (report.Verdict v) (status_of v)))
+AnswersCheck history order (Ok answer) =
+    (v : Verdict) × IsVerdictOn history order v × (answer ≡ printed (report.Verdict v) (status_of v))
+AnswersCheck history order (Err fault) = ⊥
+
+-- the answer to the schedule of a cell: the text of the report of its run, or the first step that has no operation
+abbrev pub AnswersCell : CellSchedule Band → Result Answer Fault → Type 0
+AnswersCell schedule (Ok answer) =
+    (r : CellReport Band) × IsCellReport schedule r × (answer ≡ printed (report.Cell r) 0)
+AnswersCell schedule (Err (fault.Document refusal)) = ⊥
+AnswersCell schedule (Err (fault.Schedule position)) = IsFirstOverrun (cell_span schedule ∷ []) position
+AnswersCell schedule (Err fault.NoMemory) = ⊥
 
 -- the answer to what a document stands for
 abbrev pub Answers : Document → Result Answer Fault → Type 0
 Answers (Check history order) reply = AnswersCheck history order reply
+Answers (Cell schedule) reply = AnswersCell schedule reply
 
 -- the same where a document may be refused, which is the fault then
 abbrev pub AnswersReading : Result Document DocError → Result Answer Fault → Type 0

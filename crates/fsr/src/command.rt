@@ -23,10 +23,12 @@ fn command_line<'a>(alloc: Global) -> Result<Command<'a>, AllocError>
     ensures { IfOk result (λ c. app_of c ≡ fsr) }
 {
     let check = Command::new(alloc, "check").about("Checks that an order of a history is atomic");
+    let play = Command::new(alloc, "play").about("Plays a schedule and reports its history");
     Command::new(alloc, "fsr")
         .about("Reads a document on standard input")
         .subcommand_required(true)
-        .subcommand(check)
+        .subcommand(check)?
+        .subcommand(play)
 }
 
 /// The command that the words name. The first word is the program's name.
@@ -40,6 +42,7 @@ pub fn command_of<'a, S: AsStr>(alloc: Global, words: &'a [S]) -> Result<Want, N
     match line.try_get_matches_from(words) {
         Ok(matches) => match matches.subcommand_name() {
             Some("check") => Ok(Want::Check),
+            Some("play") => Ok(Want::Play),
             _ => Err(NoCommand::Unknown),
         },
         Err(e) => {

@@ -1,5 +1,10 @@
-use history_core::Items;
+ghost use Rattle.std.specs.Prelude.{◌≡◌};
+ghost use Rattle.fsr.specs.Faults.{play_fault, refusal_fault};
+ghost use Rattle.fsr.specs.declared.fault.Fault.TheVariants.{NoMemory};
+
+use history_core::{Items, PlayError};
 use schedule_text::DocError;
+use std::alloc::AllocError;
 use thiserror::Error;
 
 /// What goes to standard output, and the status that the program ends with.
@@ -32,6 +37,36 @@ impl Fault {
         match self {
             Fault::Document(_) | Fault::Schedule { .. } => 3,
             Fault::NoMemory => 4,
+        }
+    }
+}
+
+impl From<AllocError> for Fault {
+    ghost from_gives = { λ _ fault. fault ≡ NoMemory };
+
+    fn from(_e: AllocError) -> Fault {
+        Fault::NoMemory
+    }
+}
+
+impl From<DocError> for Fault {
+    ghost from_gives = { λ refusal fault. fault ≡ refusal_fault refusal };
+
+    fn from(refusal: DocError) -> Fault {
+        match refusal {
+            DocError::NoMemory => Fault::NoMemory,
+            _ => Fault::Document(refusal),
+        }
+    }
+}
+
+impl From<PlayError> for Fault {
+    ghost from_gives = { λ error fault. fault ≡ play_fault error };
+
+    fn from(error: PlayError) -> Fault {
+        match error {
+            PlayError::NoMemory => Fault::NoMemory,
+            PlayError::TooManySteps { position } => Fault::Schedule { position },
         }
     }
 }

@@ -1,22 +1,19 @@
 ghost use Rattle.std.specs.Prelude.{◌≡◌, IfOk};
-ghost use Rattle.fsr.specs.Answers.{AnswersCheck, Gives, IsAnswer, printed, status_of};
+ghost use Rattle.fsr.specs.Answers.{AnswersCell, AnswersCheck, Gives, IsAnswer, printed, status_of};
 
 use crate::fault::{Answer, Fault};
+use fourslot_core::{CellSchedule, play_cell};
 use history_core::{Band, History, Items, Verdict, check_order};
-use schedule_text::{DocError, Document, Report, Want, read_document, report_text};
+use schedule_text::{Document, Report, Want, read_document, report_text};
 use std::alloc::{AllocError, Global};
 
 /// The answer of a command to the bytes of a document.
 pub fn answer(alloc: Global, want: Want, bytes: &[u8]) -> Result<Answer, Fault>
     ensures { Gives (IsAnswer want bytes.now) result }
 {
-    let document = match read_document(alloc, want, bytes) {
-        Ok(document) => document,
-        Err(DocError::NoMemory) => return Err(Fault::NoMemory),
-        Err(refusal) => return Err(Fault::Document(refusal)),
-    };
-    match document {
+    match read_document(alloc, want, bytes)? {
         Document::Check { history, order } => check(alloc, &history, &order),
+        Document::Cell(schedule) => cell(alloc, &schedule),
     }
 }
 
@@ -25,10 +22,17 @@ fn check(alloc: Global, history: &History<Band>, order: &Items<usize>) -> Result
     ensures { Gives (AnswersCheck history.now order.now) result }
 {
     let verdict = check_order(history, order.as_slice());
-    match print(alloc, &Report::Verdict(verdict), status_of(verdict)) {
-        Ok(answer) => Ok(answer),
-        Err(AllocError) => Err(Fault::NoMemory),
-    }
+    let answer = print(alloc, &Report::Verdict(verdict), status_of(verdict))?;
+    Ok(answer)
+}
+
+/// The report of a cell's schedule.
+fn cell(alloc: Global, schedule: &CellSchedule<Band>) -> Result<Answer, Fault>
+    ensures { Gives (AnswersCell schedule.now) result }
+{
+    let report = play_cell(alloc, schedule)?;
+    let answer = print(alloc, &Report::Cell(report), 0)?;
+    Ok(answer)
 }
 
 /// The text of a report, with this status.

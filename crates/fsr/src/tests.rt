@@ -1,3 +1,4 @@
+mod cells;
 mod long;
 mod refusals;
 mod runs;

@@ -9,10 +9,27 @@ pub const AMPLE: usize = 2_000_000;
 
 /// Runs `fsr check` on a document, and sees that it ends with this status, prints this text and tells this fault.
 pub fn check(rt: &impl Abort, alloc: Global, document: &[u8], status: u8, text: &str, fault: &str) {
+    sees(rt, alloc, "check", document, status, text, fault);
+}
+
+/// The same of `fsr play`.
+pub fn play(rt: &impl Abort, alloc: Global, document: &[u8], status: u8, text: &str, fault: &str) {
+    sees(rt, alloc, "play", document, status, text, fault);
+}
+
+fn sees(
+    rt: &impl Abort,
+    alloc: Global,
+    command: &str,
+    document: &[u8],
+    status: u8,
+    text: &str,
+    fault: &str,
+) {
     let mut input = Over::new(Pieces::new(document, 4096, AMPLE));
     let mut out = Over::new(Kept::new(alloc, AMPLE, Full::Fails));
     let mut faults = Over::new(Kept::new(alloc, AMPLE, Full::Fails));
-    let ended = run(alloc, &["fsr", "check"], &mut input, &mut out, &mut faults);
+    let ended = run(alloc, &["fsr", command], &mut input, &mut out, &mut faults);
     assert_eq!(rt; ended, status);
     assert!(rt; out.stream().as_slice() == text.as_bytes());
     assert!(rt; faults.stream().as_slice() == fault.as_bytes());

@@ -25,6 +25,7 @@ fn refuses_words_that_are_no_command(rt: HostRuntime) {
     refuses(&rt, rt.alloc(), &["fsr", "--version"], "error:");
     refuses(&rt, rt.alloc(), &["fsr", "check", "check"], "error:");
     refuses(&rt, rt.alloc(), &["fsr", "check", "-x"], "error:");
+    refuses(&rt, rt.alloc(), &["fsr", "play", "w"], "error:");
     refuses(&rt, rt.alloc(), &["fsr", "help"], "Reads a document");
     refuses(&rt, rt.alloc(), &["fsr", "-h"], "Reads a document");
     refuses(&rt, rt.alloc(), &["fsr", "--help"], "Reads a document");

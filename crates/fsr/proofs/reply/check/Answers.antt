@@ -1,5 +1,5 @@
 use Rattle.fsr.proofs.AnswerLemmas.{answers_check}
 use Rattle.fsr.proofs.reply.check.Goals as goal
 
-pub returns-in-Ok : goal.returns-in-Ok
-returns-in-Ok c = answers_check _ _ _ _ _ _ c.as_slice.ensures c.check_order-verdict.ensures c.status_of.ensures c.in-Ok.ensures
+pub returns : goal.returns
+returns c = answers_check _ _ _ _ _ _ c.as_slice.ensures c.check_order-verdict.ensures c.status_of.ensures c.in_ok-answer.ensures
