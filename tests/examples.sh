@@ -1,18 +1,17 @@
-# Each document of examples/ against the text that it prints, NAME.txt (of a refused one the line on standard error), and
-# the status that is wanted, NAME.status (none: 0).
+# Each document of examples/ and tests/schedules/ against the text that it prints, NAME.txt (of a refused one the line on
+# standard error), and the status that is wanted, NAME.status (none: 0).
 
-# The command that takes documents of a kind.
-command_of() {
-    case $1 in
+# The command that takes a document, by the document's kind.
+command_for() {
+    case $(sed -n '1s/^{"kind":"\([a-z]*\)".*/\1/p' "$1") in
     check) echo check ;;
     race) echo race ;;
     *) echo play ;;
     esac
 }
 
-for document in examples/*.json; do
+for document in examples/*.json tests/schedules/*.json; do
     name=${document%.json}
-    kind=$(sed -n 's/.*"kind":"\([a-z]*\)","opening".*/\1/p' "$document" | head -n 1)
     wanted=0
     if [ -f "$name.status" ]; then
         wanted=$(cat "$name.status")
@@ -21,7 +20,7 @@ for document in examples/*.json; do
         fail "$document" "fsr wasn't built"
         continue
     fi
-    crates/fsr/out/fsr "$(command_of "$kind")" <"$document" >"$room/out" 2>&1
+    crates/fsr/out/fsr "$(command_for "$document")" <"$document" >"$room/out" 2>&1
     status=$?
     if [ "$status" != "$wanted" ]; then
         fail "$document" "status $status and not $wanted"

@@ -23,7 +23,7 @@ is_refusal() {
 refuse_each() {
     program=$1 input=$2
     shift 2
-    title="$program $* with each request for memory refused"
+    title="$program $* < $input with each request for memory refused"
     if ! has_program "$program"; then
         fail "$title" "$program wasn't built"
         return
@@ -62,14 +62,15 @@ if [ -z "$compiler" ]; then
 elif ! "$compiler" -O1 -shared -fPIC -o "$room/refuse.so" tests/refuse.c -ldl; then
     fail "refused growth" "tests/refuse.c wasn't compiled"
 else
-    for name in lawful; do
+    for name in lawful cell; do
+        document=examples/$name.json
         cp "examples/$name.txt" "$room/wanted"
-        refuse_each fsr "examples/$name.json" check
+        refuse_each fsr "$document" "$(command_for "$document")"
     done
-    for on in check; do
-        cp "tests/growths/read_document.$on.txt" "$room/wanted"
-        refuse_each growths /dev/null read_document "$on"
-        cp "tests/growths/report_text.$on.txt" "$room/wanted"
-        refuse_each growths /dev/null report_text "$on"
+    for wanted in tests/growths/*.txt; do
+        name=${wanted##*/}
+        name=${name%.txt}
+        cp "$wanted" "$room/wanted"
+        refuse_each growths /dev/null "${name%.*}" "${name#*.}"
     done
 fi

@@ -2,10 +2,11 @@
 //! on. The tests run it again and again, with each of its requests for memory refused in turn.
 #![tactic(auto)]
 
+mod calls;
 mod documents;
 mod print;
-mod text;
 
+use crate::documents::Stopped;
 use std::alloc::Global;
 use std::io;
 use std::io::ErrorKind;
@@ -14,21 +15,24 @@ fn main(rt: HostRuntime) -> io::Result<()> {
     let words: Vec<String> = match std::env::args(&rt) {
         Ok(all) => match all.collect(rt.alloc()) {
             Ok(words) => words,
-            Err(_) => return print::no_memory(&rt),
+            Err(_) => return print::stopped(&rt, Stopped::NoMemory),
         },
-        Err(e) if e.kind() == ErrorKind::OutOfMemory => return print::no_memory(&rt),
+        Err(e) if e.kind() == ErrorKind::OutOfMemory => {
+            return print::stopped(&rt, Stopped::NoMemory);
+        }
         Err(e) => return Err(e),
     };
     match words.as_slice() {
         [_, call, on] => make(&rt, rt.alloc(), call.as_str(), on.as_str()),
-        _ => print::no_such_call(&rt),
+        _ => print::stopped(&rt, Stopped::NoSuchCall),
     }
 }
 
 fn make(rt: &impl Print, alloc: Global, call: &str, on: &str) -> io::Result<()> {
     match call {
-        "read_document" => text::read(rt, alloc, on),
-        "report_text" => text::print(rt, alloc, on),
-        _ => print::no_such_call(rt),
+        "read_document" => calls::read(rt, alloc, on),
+        "report_text" => calls::text(rt, alloc, on),
+        "play_cell" => calls::play(rt, alloc, on),
+        _ => print::stopped(rt, Stopped::NoSuchCall),
     }
 }

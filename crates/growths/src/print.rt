@@ -1,15 +1,40 @@
+use crate::documents::Stopped;
+use fourslot_core::CellReport;
 use history_core::{Band, History};
+use schedule_text::Document;
 use std::io;
 
-pub fn no_memory(rt: &impl Print) -> io::Result<()> {
-    println!(rt; "out of memory")
+pub fn stopped(rt: &impl Print, why: Stopped) -> io::Result<()> {
+    match why {
+        Stopped::NoSuchCall => println!(rt; "no such call"),
+        Stopped::NoMemory => println!(rt; "out of memory"),
+    }
 }
 
-pub fn no_such_call(rt: &impl Print) -> io::Result<()> {
-    println!(rt; "no such call")
+pub fn document(rt: &impl Print, document: &Document) -> io::Result<()> {
+    match document {
+        Document::Check {
+            history: ops,
+            order,
+        } => {
+            history(rt, ops)?;
+            println!(rt; "{:?}", order.as_slice())
+        }
+        Document::Cell(schedule) => {
+            println!(rt; "{:?} {:?}", schedule.opening, schedule.noise)?;
+            println!(rt; "{:?} {}", schedule.writes.as_slice(), schedule.reads)?;
+            println!(rt; "{:?}", schedule.steps.as_slice())
+        }
+    }
 }
 
-pub fn history(rt: &impl Print, history: &History<Band>) -> io::Result<()> {
+pub fn cell_report(rt: &impl Print, report: &CellReport<Band>) -> io::Result<()> {
+    history(rt, &report.history)?;
+    println!(rt; "{:?}", report.slots.as_slice())?;
+    println!(rt; "{:?}", report.order.as_slice())
+}
+
+fn history(rt: &impl Print, history: &History<Band>) -> io::Result<()> {
     println!(rt; "{:?}", history.opening)?;
     for term in history.terms.as_slice() {
         println!(rt; "{term:?}")?;
@@ -18,10 +43,6 @@ pub fn history(rt: &impl Print, history: &History<Band>) -> io::Result<()> {
         println!(rt; "{op:?}")?;
     }
     Ok(())
-}
-
-pub fn order(rt: &impl Print, order: &[usize]) -> io::Result<()> {
-    println!(rt; "{order:?}")
 }
 
 pub fn lines(rt: &impl Print, text: &[u8]) -> io::Result<()> {
