@@ -1,10 +1,11 @@
 -- What the players promise of their reports.
 use Rattle.std.specs.Prelude.{◌≡◌, [], ◌∷◌}
-use Rattle.history_core.specs.Orders.{RefusesLawfully}
+use Rattle.history_core.specs.Orders.{IsAtomicOrder, RefusesLawfully}
 use Rattle.history_core.specs.Schedules.{HasOperations, HasShape, Span}
 use Rattle.history_core.specs.declared.band.Band.{Band}
 use Rattle.fourslot_core.specs.Accesses.{IsClear}
 use Rattle.fourslot_core.specs.Play.{run, span_of}
+use Rattle.fourslot_core.specs.ReportOrders.{IsReportOrder}
 use Rattle.fourslot_core.specs.Reports.{IsFreshReport, IsOfRun, reader_of, writer_of}
 use Rattle.fourslot_core.specs.declared.schedule.CellReport.{CellReport}
 use Rattle.fourslot_core.specs.declared.schedule.CellSchedule.{CellSchedule}
@@ -12,7 +13,8 @@ use Rattle.fourslot_core.specs.declared.schedule.CellSchedule.{CellSchedule}
 abbrev pub cell_span : CellSchedule Band → Span Band
 cell_span s = span_of s.steps s.writes s.reads
 
--- a report of a cell's schedule: of its operations with their intervals, of what they saw in its run
+-- a report of a cell's schedule: it lists the schedule's operations with their intervals and what they saw in its run, no slot
+-- is written while the reader is in it, and the order is atomic
 pub record IsCellReport (s : CellSchedule Band) (r : CellReport Band) : Type 0 where
   pub played : HasOperations (cell_span s ∷ [])
   pub opening : r.history.opening ≡ s.opening
@@ -20,4 +22,6 @@ pub record IsCellReport (s : CellSchedule Band) (r : CellReport Band) : Type 0 w
   pub run : IsOfRun (cell_span s) (run s.opening s.noise s.writes s.steps) r.history.ops r.slots
   pub clear : IsClear (writer_of (cell_span s) r.history.ops r.slots) (reader_of (cell_span s) r.history.ops r.slots)
   pub fresh : IsFreshReport (writer_of (cell_span s) r.history.ops r.slots) (reader_of (cell_span s) r.history.ops r.slots)
+  pub order : IsReportOrder (writer_of (cell_span s) r.history.ops r.slots) (reader_of (cell_span s) r.history.ops r.slots) r.history.ops r.order
+  pub atomic : IsAtomicOrder (λ x y. x ≡ y) s.opening r.history.ops r.order
   pub refuses : RefusesLawfully r.history.terms r.history.ops r.order
