@@ -28,7 +28,7 @@ use Rattle.fourslot_core.specs.Accesses.{Accesses, IsSource}
 use Rattle.fourslot_core.specs.Traces.{source_record, trace_start, writes_of, reads_of}
 use Rattle.fourslot_core.specs.Parts.{part_of, op_by, op_of}
 use Rattle.fourslot_core.specs.Play.{actor, item_of, span_of}
-use Rattle.fourslot_core.specs.Reports.{reader_of, writer_of}
+use Rattle.fourslot_core.specs.Reports.{AnswersSources, reader_of, writer_of}
 use Rattle.fourslot_core.specs.ReportOrders.{ComesFirst, HasNumber, IsListed, IsReportOrder, IsStoredWrite}
 use Rattle.fourslot_core.specs.Runs.{IsAssembled, log_of, numbered, opening_record}
 use Rattle.fourslot_core.specs.Weaves.{Entry, entry, GoesBy, IsAmongBy, IsInTurn}
@@ -436,3 +436,28 @@ module _ {R : Type 0} (opening noise : R) (steps : List Turn) (writes : List R) 
   is_report_order =
       subst (λ w. IsReportOrder w (reader_of (span_of steps writes reads) ops slots) ops order) (sym (writes_are opening noise steps writes reads terms ops slots order a))
       (subst (λ r. IsReportOrder writer r ops order) (sym (reads_are opening noise steps writes reads terms ops slots order a)) trace_order)
+
+  -- a finished read answers its source
+  answers_by : (t : Turn) (k s m n : ℕ) → (make t k s).who ≡ 1 → Begins opening noise steps writes t k s → reader.at m 0 ≡ Some s → IsSome (make t k s).ends → IsSource writer reader m n → (make t k s).item ≡ Some (source_record opening (item_of opening writes) n)
+  answers_by Writer k s m n who begins at ended source = cc
+  answers_by Reader k s m n who begins at ended source =
+      let e = some_of (make Reader k s).ends ended in
+      let among : Among Reader k = ended_among Reader k e.0 (sym (ends_by Reader k s) ∙ e.1) in
+      let x = answer_at opening noise steps writes k among in
+      let number_is : n ≡ x.0.number = has_number_by Reader k s n among begins (m, at, source) ∙ x.2 in
+      read_item k s x.0 x.1 ∙ ap (λ z. Some (source_record opening (item_of opening writes) z)) (sym number_is)
+
+  trace_answers : AnswersSources writer reader opening writes ops
+  trace_answers p m n op at who begins ended source =
+      let w = part_at_place p op at in
+      let part : Part = w.0 in
+      let starts = begins_at part.turn part.number part.starts op w.2 in
+      let P : Op R → Type 0 = λ z. z.who ≡ 1 in
+      let Q : Op R → Type 0 = λ z. IsSome z.ends in
+      ap (λ (z : Op R). z.item) (sym w.2)
+      ∙ answers_by part.turn part.number part.starts m n (subst P (sym w.2) who) (a.are_parts.each p part w.1) (begins ∙ ap Some starts) (subst Q (sym w.2) ended) source
+
+  pub answers_sources : AnswersSources (writer_of (span_of steps writes reads) ops slots) (reader_of (span_of steps writes reads) ops slots) opening writes ops
+  answers_sources =
+      subst (λ w. AnswersSources w (reader_of (span_of steps writes reads) ops slots) opening writes ops) (sym (writes_are opening noise steps writes reads terms ops slots order a))
+      (subst (λ r. AnswersSources writer r opening writes ops) (sym (reads_are opening noise steps writes reads terms ops slots order a)) trace_answers)

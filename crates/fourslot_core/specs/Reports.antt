@@ -3,8 +3,9 @@ use Rattle.std.specs.Prelude.{◌≡◌, ℕ, List, [], ◌∷◌, length, slice
 use Rattle.std.specs.Option.{option_and_then}
 use Rattle.history_core.specs.declared.history.Op.{Op}
 use Rattle.history_core.specs.Schedules.{Span, access_at}
-use Rattle.fourslot_core.specs.Accesses.{Accesses, IsFreshRead}
-use Rattle.fourslot_core.specs.Traces.{Trace}
+use Rattle.fourslot_core.specs.Accesses.{Accesses, IsFreshRead, IsSource}
+use Rattle.fourslot_core.specs.Play.{item_of}
+use Rattle.fourslot_core.specs.Traces.{Trace, source_record}
 
 -- the slot that a report gives the operation with this beginning
 abbrev pub slot_from : {R : Type 0} → ℕ → List (Op R) → List (Option ℕ) → Option ℕ
@@ -36,3 +37,9 @@ pub record IsOfRun {R : Type 0} (span : Span R) (run : Trace R) (ops : List (Op 
 -- fresh: each finished read is
 abbrev pub IsFreshReport : Accesses → Accesses → Type 0
 IsFreshReport writer reader = (m : ℕ) → IsSome (reader.at m 4) → (n : ℕ) × IsFreshRead writer reader m n
+
+-- a finished read answers the record of its source: the opening, or that write's
+abbrev pub AnswersSources : {R : Type 0} → Accesses → Accesses → R → List R → List (Op R) → Type 0
+AnswersSources {R} writer reader opening writes ops =
+    (p m n : ℕ) (op : Op R) → slice_get ops p ≡ Some op → op.who ≡ 1 → reader.at m 0 ≡ Some op.starts → IsSome op.ends →
+    IsSource writer reader m n → op.item ≡ Some (source_record opening (item_of opening writes) n)

@@ -6,11 +6,11 @@ use Rattle.history_core.specs.Orders.{RefusesLawfully}
 use Rattle.fourslot_core.specs.Accesses.{IsClear}
 use Rattle.fourslot_core.specs.Play.{run, span_of}
 use Rattle.fourslot_core.specs.ReportOrders.{IsReportOrder}
-use Rattle.fourslot_core.specs.Reports.{IsFreshReport, IsOfRun, reader_of, writer_of}
+use Rattle.fourslot_core.specs.Reports.{AnswersSources, IsFreshReport, IsOfRun, reader_of, writer_of}
 use Rattle.fourslot_core.specs.Runs.{IsAssembled, numbered_run}
 use Rattle.fourslot_core.proofs.Operations.{assembled_shape}
 use Rattle.fourslot_core.proofs.ReportAccesses.{of_trace, is_of_run, is_clear, is_fresh, refuses}
-use Rattle.fourslot_core.proofs.ReportOrder.{atomic, by_number, is_report_order, number}
+use Rattle.fourslot_core.proofs.ReportOrder.{answers_sources, atomic, by_number, is_report_order, number}
 use Rattle.fourslot_core.proofs.player.play_cell.Goals as goal
 
 -- a fact of the two slices is one of the schedule's lists
@@ -101,3 +101,14 @@ returns-in-Ok-clause-refuses g c =
     let n = c.args.s.now.noise in
     let reads = c.args.s.now.reads in
     (refuses o n steps writes reads r.history.terms r.history.ops r.slots r.order (of_trace o n steps writes reads r.history.terms r.history.ops r.slots r.order c.in-Ok.ensures.assembled))
+
+pub returns-in-Ok-clause-answers : goal.returns-in-Ok-clause-answers
+returns-in-Ok-clause-answers g c =
+    let r = c.in-Ok.report in
+    let steps = c.as_slice-steps.result.now in
+    let writes = c.as_slice-writes.result.now in
+    let o = c.args.s.now.opening in
+    let n = c.args.s.now.noise in
+    let reads = c.args.s.now.reads in
+    along (λ s w. AnswersSources (writer_of (span_of s w reads) r.history.ops r.slots) (reader_of (span_of s w reads) r.history.ops r.slots) o w r.history.ops) _ _ _ _ c.as_slice-steps.ensures c.as_slice-writes.ensures
+      (answers_sources o n steps writes reads r.history.terms r.history.ops r.slots r.order (of_trace o n steps writes reads r.history.terms r.history.ops r.slots r.order c.in-Ok.ensures.assembled))
