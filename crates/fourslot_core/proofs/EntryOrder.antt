@@ -1,9 +1,8 @@
 -- Entries of the order by their numbers: a write has its own, from 1 on, and a read that of its answer. The numbers rise along
 -- precedence, since each finished read is fresh, and along the order, as it is woven.
-use Rattle.std.proofs.Common.{◌≡◌, ℕ, ◌+◌, ◌*◌, ◌<◌, ◌≤◌, List, length, map, slice_get, Option, None, Some, zero, suc, ◌⊎◌, inl, inr, refl, sym, subst, ◌∙◌, ap, arith}
-use Rattle.std.proofs.lemmas.Bool.{cases_lt}
+use Rattle.std.proofs.Common.{◌≡◌, ℕ, ◌+◌, ◌*◌, ◌<◌, ◌≤◌, List, length, map, slice_get, Option, None, Some, zero, suc, ◌⊎◌, inl, inr, refl, sym, ◌∙◌, ap, arith}
 use Rattle.std.proofs.lemmas.Option.{same_Some}
-use Rattle.history_core.specs.Schedules.{positions, steps_of}
+use Rattle.history_core.specs.Schedules.{positions}
 use Rattle.history_core.proofs.Positions.{positions_order, positions_rise}
 use Rattle.fourslot_core.specs.declared.schedule.Turn.{Turn}
 use Rattle.fourslot_core.specs.declared.schedule.Turn.TheVariants.{Writer, Reader}

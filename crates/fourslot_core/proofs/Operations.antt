@@ -1,13 +1,13 @@
 -- The operations that the player makes of its parts are those of the schedule: each stands where its beginning is played, ends
 -- where its last step is, and does what was planned, since no step of the schedule is without an operation.
-use Rattle.std.proofs.Common.{◌≡◌, ℕ, ◌+◌, ◌*◌, ◌<◌, List, [], ◌∷◌, length, map, replicate, slice_get, Option, None, Some, ◌⊎◌, inl, inr, zero, suc, refl, sym, subst, ◌∙◌, ap, arith}
+use Rattle.std.proofs.Common.{◌≡◌, ℕ, ◌+◌, ◌*◌, List, [], ◌∷◌, map, replicate, slice_get, Option, Some, inl, zero, suc, refl, sym, subst, ◌∙◌, ap, arith}
 use Rattle.std.specs.Option.{option_map}
 use Rattle.std.proofs.lemmas.Option.{same_Some, slice_get-map}
 use Rattle.history_core.specs.declared.history.Op.{Op}
 use Rattle.history_core.specs.declared.history.Term.{Term}
 use Rattle.history_core.specs.declared.play.Wish.{Wish}
 use Rattle.history_core.specs.declared.play.Wish.TheVariants.{Write, Read}
-use Rattle.history_core.specs.Schedules.{Span, positions, access_at, planned, Follows, IsOperation, IsPlayed, HasOperations, HasShape}
+use Rattle.history_core.specs.Schedules.{positions, access_at, planned, Follows, IsOperation, IsPlayed, HasOperations, HasShape}
 use Rattle.history_core.proofs.Positions.{position_step}
 use Rattle.history_core.proofs.Overruns.{planned_here}
 use Rattle.history_core.proofs.Terms.{one_term, term_at}

@@ -1,10 +1,10 @@
 -- The places of a side's operations, in order: its operations begin in turn, so the next one of the side has the next number.
-use Rattle.std.proofs.Common.{◌≡◌, ◌≢◌, ℕ, ◌+◌, ◌*◌, ◌<◌, ◌≤◌, Bool, true, false, List, [], ◌∷◌, ◌++◌, length, slice_get, None, Some, ◌⊎◌, inl, inr, refl, sym, subst, ◌∙◌, ap, arith, append-nil}
+use Rattle.std.proofs.Common.{◌≡◌, ℕ, ◌+◌, ◌*◌, ◌<◌, ◌≤◌, Bool, true, false, List, [], ◌∷◌, ◌++◌, length, slice_get, Some, inl, inr, refl, sym, subst, ◌∙◌, ap, arith, append-nil}
 use Rattle.std.specs.Prelude.{IsTrue, ◌↔◌}
-use Rattle.std.proofs.lemmas.Bool.{cases_lt, cases_eq, cases_order}
+use Rattle.std.proofs.lemmas.Bool.{cases_lt, cases_order}
 use Rattle.std.proofs.lemmas.List.{length_push}
 use Rattle.std.proofs.lemmas.Option.{same_Some, slice_get_within}
-use Rattle.history_core.specs.Schedules.{positions, steps_of}
+use Rattle.history_core.specs.Schedules.{positions}
 use Rattle.history_core.proofs.Places.{get_pushed_cases}
 use Rattle.history_core.proofs.Positions.{positions_rise, position_made, position_exists}
 use Rattle.fourslot_core.specs.declared.schedule.Turn.{Turn}

@@ -1,6 +1,6 @@
 -- The accesses of the report are those of the trace: their positions are the schedule's, and the slot of an operation stands in
 -- the report beside the operation with its beginning. So the report is clear and fresh as the trace is.
-use Rattle.std.proofs.Common.{◌≡◌, ◌≢◌, ℕ, ◌+◌, ◌*◌, ◌<◌, ◌≤◌, Bool, true, false, nat_eq, List, [], ◌∷◌, length, map, slice_get, Option, None, Some, IsSome, zero, suc, ◌⊎◌, inl, inr, refl, sym, subst, ◌∙◌, ap, arith}
+use Rattle.std.proofs.Common.{◌≡◌, ℕ, ◌+◌, ◌*◌, ◌<◌, ◌≤◌, true, false, nat_eq, List, [], ◌∷◌, length, map, slice_get, Option, None, Some, IsSome, zero, suc, refl, sym, subst, ◌∙◌, ap, arith}
 use Rattle.std.specs.Prelude.{if◌then◌else◌}
 use Rattle.std.specs.Option.{option_and_then, option_map}
 use Rattle.std.proofs.lemmas.Bool.Decides.{nat_tests}
@@ -20,17 +20,16 @@ use Rattle.fourslot_core.specs.declared.state.Stage.{Stage}
 use Rattle.fourslot_core.specs.declared.state.Stage.TheVariants as writer
 use Rattle.fourslot_core.specs.declared.state.ReaderStage.{ReaderStage}
 use Rattle.fourslot_core.specs.declared.state.ReaderStage.TheVariants.{R1, R2, R3, R4, R5}
-use Rattle.fourslot_core.specs.Accesses.{Accesses, IsClear, IsFreshRead}
+use Rattle.fourslot_core.specs.Accesses.{Accesses, IsClear}
 use Rattle.fourslot_core.specs.Traces.{Trace, writes_of, reads_of}
-use Rattle.fourslot_core.specs.Parts.{part_of, op_by, op_of, slot_by, slot_of, IsPartsOf, IsAccessesOf}
+use Rattle.fourslot_core.specs.Parts.{part_of, op_by, op_of, slot_by, slot_of}
 use Rattle.fourslot_core.specs.Play.{actor, span_of, run}
 use Rattle.fourslot_core.specs.Runs.{Log, log_of, opening_record, numbered, numbered_run, numbered_trace, IsAssembled}
 use Rattle.fourslot_core.specs.Reports.{slot_from, accesses_of, IsOfRun, IsFreshReport}
 use Rattle.fourslot_core.proofs.Pushed.{some_of, get_within}
-use Rattle.fourslot_core.proofs.TraceCounts.{left, made, has_chosen, IsCounted}
+use Rattle.fourslot_core.proofs.TraceCounts.{left, made, has_chosen}
 use Rattle.fourslot_core.proofs.TraceGood.{IsGood, numbered_read_fresh}
-use Rattle.fourslot_core.proofs.TraceMapped.{map_trace}
-use Rattle.fourslot_core.proofs.Operations.{mapped_from, mapped_to, starts_of, who_of}
+use Rattle.fourslot_core.proofs.Operations.{mapped_from, starts_of}
 use Rattle.fourslot_core.proofs.RunTraces.{number_of, record_of, run_shown, run_good, run_mapped, writer_positions, reader_positions}
 
 -- the slot beside the first operation with a beginning that no earlier one has

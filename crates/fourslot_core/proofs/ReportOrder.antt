@@ -1,10 +1,9 @@
 -- The report's order lists the woven entries: it is the order by the numbers of *fresh*, it is atomic but for precedence, which
 -- the law of numbered orders adds, and it is the order that a report prints.
-use Rattle.std.proofs.Common.{◌≡◌, ◌≢◌, ℕ, ◌+◌, ◌*◌, ◌<◌, ◌≤◌, Bool, true, false, List, [], ◌∷◌, length, map, get_or, slice_get, Option, None, Some, IsSome, zero, suc, ◌⊎◌, inl, inr, refl, sym, subst, ◌∙◌, ap, arith}
+use Rattle.std.proofs.Common.{◌≡◌, ℕ, ◌+◌, ◌*◌, ◌<◌, ◌≤◌, true, false, List, [], ◌∷◌, length, map, slice_get, Option, None, Some, IsSome, zero, suc, ◌⊎◌, inl, inr, refl, sym, subst, ◌∙◌, ap, arith}
 use Rattle.std.specs.Prelude.{IfSome}
 use Rattle.std.specs.Option.{option_map}
 use Rattle.std.proofs.lemmas.Bool.{cases_lt, cases_order}
-use Rattle.std.proofs.lemmas.List.{length-map}
 use Rattle.std.proofs.lemmas.Option.{same_Some, slice_get_within, get_or_from_slice_get}
 use Rattle.history_core.specs.declared.history.Op.{Op}
 use Rattle.history_core.specs.declared.history.Term.{Term}
@@ -31,9 +30,9 @@ use Rattle.fourslot_core.specs.Play.{actor, item_of, span_of}
 use Rattle.fourslot_core.specs.Reports.{AnswersSources, reader_of, writer_of}
 use Rattle.fourslot_core.specs.ReportOrders.{ComesFirst, HasNumber, IsListed, IsReportOrder, IsStoredWrite}
 use Rattle.fourslot_core.specs.Runs.{IsAssembled, log_of, numbered, opening_record}
-use Rattle.fourslot_core.specs.Weaves.{Entry, entry, GoesBy, IsAmongBy, IsInTurn}
-use Rattle.fourslot_core.proofs.EntryOrder.{Begins, Ends, acts, answer_at, entry_after_write, entry_by_beginning, entry_rises, entry_sorted, entry_write_first, number_at, number_by, played}
-use Rattle.fourslot_core.proofs.Operations.{mapped_from, mapped_to, parts_are_played, starts_of, who_of}
+use Rattle.fourslot_core.specs.Weaves.{Entry, entry, GoesBy, IsAmongBy}
+use Rattle.fourslot_core.proofs.EntryOrder.{Begins, Ends, acts, answer_at, entry_after_write, entry_by_beginning, entry_rises, entry_sorted, entry_write_first, number_by, played}
+use Rattle.fourslot_core.proofs.Operations.{mapped_from, mapped_to, parts_are_played, starts_of}
 use Rattle.fourslot_core.proofs.Placing.{parts_in_turn}
 use Rattle.fourslot_core.proofs.Pushed.{get_within, is_some_of, some_of}
 use Rattle.fourslot_core.proofs.ReportAccesses.{reads_are, writes_are}

@@ -1,9 +1,9 @@
 -- The numbers of a run's answers rise, and each is that of a write that has made W4: the slot that a pair's bit names has the
 -- record of such a write.
-use Rattle.std.proofs.Common.{◌≡◌, ℕ, ◌+◌, ◌*◌, ◌/◌, ◌<◌, ◌≤◌, List, length, map, slice_get, Some, ◌⊎◌, inl, inr, refl, sym, subst, ◌∙◌, ap, arith}
+use Rattle.std.proofs.Common.{◌≡◌, ℕ, ◌+◌, ◌*◌, ◌/◌, ◌<◌, ◌≤◌, List, length, map, slice_get, inl, inr, sym, ◌∙◌, ap, arith}
 use Rattle.std.proofs.lemmas.Bool.{cases_eq}
-use Rattle.std.proofs.lemmas.Option.{same_Some, slice_get_within}
-use Rattle.history_core.specs.Schedules.{positions, steps_of}
+use Rattle.std.proofs.lemmas.Option.{same_Some}
+use Rattle.history_core.specs.Schedules.{steps_of}
 use Rattle.history_core.proofs.Positions.{position_made, position_exists, positions_length}
 use Rattle.fourslot_core.specs.declared.schedule.Turn.{Turn}
 use Rattle.fourslot_core.specs.declared.schedule.Turn.TheVariants.{Writer, Reader}
@@ -16,7 +16,7 @@ use Rattle.fourslot_core.specs.declared.state.ReaderStage.{ReaderStage}
 use Rattle.fourslot_core.specs.Freshness.{IsFreshAt, named}
 use Rattle.fourslot_core.specs.Invariant.{IsSoundAt}
 use Rattle.fourslot_core.specs.Traces.{Trace, trace_start}
-use Rattle.fourslot_core.specs.Parts.{part_of, IsPartsOf, IsAccessesOf}
+use Rattle.fourslot_core.specs.Parts.{IsPartsOf, IsAccessesOf}
 use Rattle.fourslot_core.specs.Play.{actor}
 use Rattle.fourslot_core.specs.Runs.{numbered, opening_record, numbered_trace}
 use Rattle.fourslot_core.specs.Weaves.{HasPart, HasFirst, NumbersRise, NumbersBelow}

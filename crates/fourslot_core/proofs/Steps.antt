@@ -1,16 +1,16 @@
 -- The operations of a schedule, read off its steps: one more step begins an operation, ends one, or neither, by its number on
 -- its side; and no position changes that was there.
-use Rattle.std.proofs.Common.{◌≡◌, ◌≢◌, ℕ, ◌+◌, ◌-◌, ◌*◌, ◌/◌, ◌%◌, ◌<◌, ◌≤◌, Bool, true, false, cond, nat_eq, List, [], ◌∷◌, ◌++◌, length, map, take, get_or, slice_get, None, Some, ◌⊎◌, inl, inr, refl, sym, subst, ◌∙◌, ap, arith, append-nil}
+use Rattle.std.proofs.Common.{◌≡◌, ◌≢◌, ℕ, ◌+◌, ◌-◌, ◌*◌, ◌/◌, ◌%◌, ◌<◌, ◌≤◌, Bool, true, false, nat_eq, List, [], ◌∷◌, ◌++◌, length, map, take, get_or, slice_get, Some, inl, inr, refl, sym, subst, ◌∙◌, ap, arith, append-nil}
 use Rattle.std.specs.Prelude.{if◌then◌else◌, IsTrue, ◌↔◌}
 use Rattle.std.specs.Option.{option_map}
-use Rattle.std.proofs.lemmas.Bool.{cases_Bool, cases_lt, cases_eq}
+use Rattle.std.proofs.lemmas.Bool.{cases_eq}
 use Rattle.std.proofs.lemmas.Bool.Decides.{nat_tests}
-use Rattle.std.proofs.lemmas.List.{map-append, take_more, take-map, length_push, length-map, length-replicate, length-take-le}
+use Rattle.std.proofs.lemmas.List.{map-append, take_more, take-map, length_push, length-map, length-take-le}
 use Rattle.std.proofs.lemmas.List.Sums.{count_by-le-length}
-use Rattle.std.proofs.lemmas.Option.{same_Some, slice_get_within, slice_get-get_or, slice_get-map}
+use Rattle.std.proofs.lemmas.Option.{slice_get_within, slice_get-get_or, slice_get-map}
 use Rattle.history_core.specs.Schedules.{positions, steps_of, Overruns}
 use Rattle.history_core.proofs.Places.{get_pushed, get_last, get_stays, get_pushed_cases}
-use Rattle.history_core.proofs.Positions.{steps_mine, steps_other, position_below, position_new, position_same, position_stays, position_cases, positions_length}
+use Rattle.history_core.proofs.Positions.{steps_mine, steps_other, position_below, position_new, position_same, position_stays, position_cases}
 use Rattle.fourslot_core.specs.declared.schedule.Turn.{Turn}
 use Rattle.fourslot_core.specs.declared.schedule.Turn.TheVariants.{Writer, Reader}
 use Rattle.fourslot_core.specs.declared.player.Made.{Made}

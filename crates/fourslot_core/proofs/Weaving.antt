@@ -1,18 +1,15 @@
 -- The order is woven one entry at a time: an entry that every entry so far goes before is put at the end.
-use Rattle.std.proofs.Common.{◌≡◌, ◌≢◌, ℕ, ◌+◌, ◌-◌, ◌*◌, ◌<◌, ◌≤◌, List, [], ◌∷◌, ◌++◌, length, take, drop, get_or, slice_get, None, Some, zero, suc, ◌⊎◌, inl, inr, refl, sym, subst, ◌∙◌, ap, arith, append-nil, append_assoc}
-use Rattle.std.proofs.lemmas.Bool.{cases_lt, cases_eq, cases_order}
-use Rattle.std.proofs.lemmas.List.{take_more, length_push, length-drop, get_or-drop, length-append}
-use Rattle.std.proofs.lemmas.Option.{same_Some, slice_get_within, slice_get-get_or, slice_get_past}
+use Rattle.std.proofs.Common.{◌≡◌, ℕ, ◌+◌, ◌-◌, ◌<◌, ◌≤◌, List, [], ◌∷◌, ◌++◌, length, take, drop, get_or, slice_get, Some, zero, suc, ◌⊎◌, inl, inr, refl, sym, subst, ◌∙◌, ap, arith, append-nil, append_assoc}
+use Rattle.std.proofs.lemmas.Bool.{cases_lt}
+use Rattle.std.proofs.lemmas.List.{take_more, length_push, length-drop, get_or-drop}
+use Rattle.std.proofs.lemmas.Option.{slice_get_within, slice_get-get_or}
 use Rattle.history_core.proofs.Places.{get_pushed, get_last, get_stays, get_pushed_cases}
-use Rattle.history_core.specs.Schedules.{positions, steps_of}
-use Rattle.history_core.proofs.Positions.{position_once, positions_rise, position_made, position_exists}
 use Rattle.fourslot_core.specs.declared.schedule.Turn.{Turn}
 use Rattle.fourslot_core.specs.declared.schedule.Turn.TheVariants.{Writer, Reader}
 use Rattle.fourslot_core.specs.declared.player.Numbered.{Numbered}
 use Rattle.fourslot_core.specs.declared.player.Part.{Part}
-use Rattle.fourslot_core.specs.Play.{actor}
-use Rattle.fourslot_core.specs.Parts.{part_of, IsPartsOf}
-use Rattle.fourslot_core.specs.Weaves.{HasPart, HasFirst, IsInTurn, IsPlacesOf, NumbersRise, NumbersBelow, Entry, entry, GoesBy, Goes, IsAmongBy, IsAmong, IsWoven, list_of, IsWeave, IsOrdered}
+use Rattle.fourslot_core.specs.Parts.{part_of}
+use Rattle.fourslot_core.specs.Weaves.{IsPlacesOf, Entry, entry, GoesBy, Goes, IsAmongBy, IsAmong, IsWoven, list_of, IsWeave, IsOrdered}
 use Rattle.fourslot_core.proofs.Pushed.{get_within}
 
 module _ {R : Type 0} (answers : List (Numbered R)) where

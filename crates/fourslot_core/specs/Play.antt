@@ -3,7 +3,6 @@ use Rattle.std.specs.Prelude.{ℕ, List, [], ◌∷◌, map, replicate, get_or}
 use Rattle.history_core.specs.declared.play.TheConstants.{MAX_LIMIT}
 use Rattle.history_core.specs.declared.play.PlayError.{PlayError}
 use Rattle.history_core.specs.declared.play.PlayError.TheVariants.{NoMemory, TooManySteps}
-use Rattle.history_core.specs.declared.play.Wish.{Wish}
 use Rattle.history_core.specs.declared.play.Wish.TheVariants.{Write, Read}
 use Rattle.history_core.specs.Schedules.{Span, cell_accesses, HasOperations, IsFirstOverrun}
 use Rattle.fourslot_core.specs.declared.schedule.Turn.{Turn}

@@ -1,5 +1,5 @@
 -- This step's access follows those of the steps before.
-use Rattle.std.proofs.Common.{◌≡◌, [], get_or, arith, refl, sym, subst, ◌∙◌}
+use Rattle.std.proofs.Common.{[], get_or, arith, refl, sym, subst, ◌∙◌}
 use Rattle.std.proofs.lemmas.List.{get_or_default}
 use Rattle.fourslot_core.specs.declared.schedule.Turn.{Turn}
 use Rattle.fourslot_core.specs.declared.schedule.Turn.TheVariants.{Writer}

@@ -1,9 +1,8 @@
 -- A step has no operation left exactly where its side has made as many steps as its plan has.
-use Rattle.std.proofs.Common.{◌≡◌, ℕ, ◌<◌, length, get_or, arith, sym, subst, ◌∙◌, ap, inl, inr}
+use Rattle.std.proofs.Common.{length, get_or, arith, sym, subst, ◌∙◌, inl, inr}
 use Rattle.std.proofs.Common.{below_more}
 use Rattle.std.proofs.lemmas.Bool.{cases_lt}
 use Rattle.std.proofs.lemmas.List.{get_or_default}
-use Rattle.history_core.specs.Schedules.{Overruns}
 use Rattle.history_core.proofs.Overruns.{one_term_first_overrun, one_term_has_operations}
 use Rattle.fourslot_core.specs.declared.schedule.Turn.{Turn}
 use Rattle.fourslot_core.specs.declared.schedule.Turn.TheVariants.{Writer}

@@ -1,10 +1,10 @@
 -- The next part is of the side, with the next number, or is left out.
-use Rattle.std.proofs.Common.{◌≡◌, get_or, length, arith}
+use Rattle.std.proofs.Common.{get_or, arith}
 use Rattle.std.proofs.lemmas.Option.{slice_get-get_or}
 use Rattle.fourslot_core.specs.declared.schedule.Turn.TheVariants.{Writer}
 use Rattle.fourslot_core.specs.declared.player.Part.{Part}
 use Rattle.fourslot_core.specs.Parts.{part_of}
-use Rattle.fourslot_core.proofs.Placing.{IsPlacesBefore, no_places, places_more, places_all}
+use Rattle.fourslot_core.proofs.Placing.{places_more, places_all}
 use Rattle.fourslot_core.proofs.player.places.Goals as goal
 
 pub loop-place-preserved : goal.loop-place-preserved

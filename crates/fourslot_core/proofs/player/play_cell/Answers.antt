@@ -1,13 +1,11 @@
 -- What the slices have is what the schedule's lists have.
-use Rattle.std.proofs.Common.{◌≡◌, ℕ, List, [], ◌∷◌, subst}
+use Rattle.std.proofs.Common.{◌≡◌, List, [], ◌∷◌, subst}
 use Rattle.history_core.specs.Schedules.{HasOperations, HasShape, IsFirstOverrun}
 use Rattle.fourslot_core.specs.declared.schedule.Turn.{Turn}
-use Rattle.history_core.specs.Orders.{RefusesLawfully}
 use Rattle.fourslot_core.specs.Accesses.{IsClear}
 use Rattle.fourslot_core.specs.Play.{run, span_of}
 use Rattle.fourslot_core.specs.ReportOrders.{IsReportOrder}
 use Rattle.fourslot_core.specs.Reports.{AnswersSources, IsFreshReport, IsOfRun, reader_of, writer_of}
-use Rattle.fourslot_core.specs.Runs.{IsAssembled, numbered_run}
 use Rattle.fourslot_core.proofs.Operations.{assembled_shape}
 use Rattle.fourslot_core.proofs.ReportAccesses.{of_trace, is_of_run, is_clear, is_fresh, refuses}
 use Rattle.fourslot_core.proofs.ReportOrder.{answers_sources, atomic, by_number, is_report_order, number}
@@ -111,4 +109,4 @@ returns-in-Ok-clause-answers g c =
     let n = c.args.s.now.noise in
     let reads = c.args.s.now.reads in
     along (λ s w. AnswersSources (writer_of (span_of s w reads) r.history.ops r.slots) (reader_of (span_of s w reads) r.history.ops r.slots) o w r.history.ops) _ _ _ _ c.as_slice-steps.ensures c.as_slice-writes.ensures
-      (answers_sources o n steps writes reads r.history.terms r.history.ops r.slots r.order (of_trace o n steps writes reads r.history.terms r.history.ops r.slots r.order c.in-Ok.ensures.assembled))
+    (answers_sources o n steps writes reads r.history.terms r.history.ops r.slots r.order (of_trace o n steps writes reads r.history.terms r.history.ops r.slots r.order c.in-Ok.ensures.assembled))

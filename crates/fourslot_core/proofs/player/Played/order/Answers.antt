@@ -1,5 +1,5 @@
 -- The woven places are those of the parts.
-use Rattle.std.proofs.Common.{◌≡◌, ℕ, List, arith, length, sym, subst, ◌∙◌, ap}
+use Rattle.std.proofs.Common.{◌≡◌, ℕ, List, arith, length, subst, ◌∙◌}
 use Rattle.std.proofs.lemmas.Result.{IfOk-weaker}
 use Rattle.fourslot_core.specs.declared.schedule.Turn.TheVariants.{Writer, Reader}
 use Rattle.fourslot_core.specs.declared.player.Numbered.{Numbered}
