@@ -2,6 +2,7 @@ pub mod Accesses
 pub mod Choices
 pub mod ChoicesRise
 pub mod ChoicesStamps
+pub mod Kept
 pub mod Listing
 pub mod Lists
 pub mod Matrices
