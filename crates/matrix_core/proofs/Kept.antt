@@ -2,7 +2,7 @@
 -- a cell is at least what its writer chose in the operations that it has ended; and a process that reads its column has
 -- gathered what was chosen by operations that ended before it began.
 use Rattle.std.proofs.Common.{◌≡◌, ◌≢◌, ℕ, zero, suc, ◌+◌, ◌-◌, ◌*◌, ◌<◌, ◌≤◌, List, [], ◌∷◌, ◌++◌, length, set, Bool, true, false, refl, sym, ◌∙◌, ap, subst, arith, ◌⊎◌, inl, inr, ⊎_elim}
-use Rattle.std.specs.Prelude.{slice_get, Option, Some, None}
+use Rattle.std.specs.Prelude.{slice_get, Option, Some, None, nat_lt, if◌then◌else◌}
 use Rattle.history_core.specs.declared.history.Op.{Op}
 use Rattle.history_core.specs.declared.history.Kind.{Kind}
 use Rattle.history_core.specs.declared.history.Kind.TheVariants.{Write as WriteKind, Read as ReadKind, Refused as RefusedKind}
@@ -16,12 +16,20 @@ use Rattle.matrix_core.specs.declared.matrix.Outcome.TheVariants.{Written, Seen,
 use Rattle.std.proofs.lemmas.Option.{slice_get_within, same_Some, none-some}
 use Rattle.matrix_core.proofs.Accesses.{IsAccess, IsRead, IsWrite, after_other_read, after_last_read, begun_first, begun_later, other_differs, other_reached}
 use Rattle.matrix_core.proofs.ChoicesStamps.{at_most_refl, at_most_trans, greater_is, greater_first, greater_second}
-use Rattle.matrix_core.proofs.Lists.{get_set, same_or_not}
+use Rattle.matrix_core.proofs.Lists.{get_set, get_set_same, get_unset, same_or_not}
+use Rattle.matrix_core.proofs.ChoicesRise.{chosen_at_least, from_more}
 use Rattle.matrix_core.proofs.Matrices.{read_done}
 use Rattle.matrix_core.specs.Stamps.{greater}
-use Rattle.matrix_core.specs.Choices.{Choice, HasChoices, IsAtMost, IsFrom, IsIn}
-use Rattle.matrix_core.specs.Events.{Matrix, IsMatrix, size, begun, gathered, cell_place, other}
-use Rattle.matrix_core.specs.Runs.{Run, place_of}
+use Rattle.matrix_core.specs.Choices.{Choice, HasChoices, IsAtMost, IsChosen, IsFrom, IsIn}
+use Rattle.matrix_core.specs.Events.{Matrix, IsMatrix, size, begun, choice, gathered, cell_place, other}
+use Rattle.std.proofs.lemmas.Bool.{cases_lt}
+use Rattle.std.proofs.lemmas.Bool.Decides.{nat_tests}
+use Rattle.history_core.proofs.Places.{get_pushed}
+use Rattle.history_core.proofs.Played.{replaced_by_set}
+use Rattle.matrix_core.specs.declared.play.Seat.{Seat}
+use Rattle.matrix_core.specs.Runs.{Run, place_of, began, begun_op, chose, ended}
+use Rattle.matrix_core.proofs.Choices.{IsMade, choices_begun, choices_made, choices_ended, no_choices}
+use Rattle.matrix_core.proofs.Plays.{began_other, chose_who, chose_starts, chose_ends, ended_who, ended_starts, ended_ends}
 
 module _ {R : Type 0} where
   -- an operation does what is wished
@@ -183,4 +191,174 @@ module _ {R : Type 0} where
       chosen_now = λ i l h phase. ⊎_elim
         (λ (q : (i ≡ who) × (l ≡ next)). let z : l.done ≡ next.done = ap (λ (y : Progress R). y.done) q.1 in absurd (omega arith))
         (λ (q : (i ≢ who) × (slice_get run.matrix.lines i ≡ Some l)). k.chosen_now i l q.1 phase) (split i l h);
+    }
+
+  wish_of_begun : (who now : ℕ) (wish : Wish R) → WishIs wish (begun_op who now wish)
+  wish_of_begun who now (Write item) = (refl, refl)
+  wish_of_begun who now Read = refl
+
+  unfinished_begun : (who now : ℕ) (wish : Wish R) → (begun_op who now wish).ends ≡ None
+  unfinished_begun who now (Write item) = refl
+  unfinished_begun who now Read = refl
+
+  -- an operation begins
+  pub keeps_begin : (opening : R) (limit n : ℕ) (run : Run R) (choices : List (Choice R)) (who : ℕ) (wish : Wish R) (line : Progress R) → 2 ≤ n → line.done ≡ 0 → slice_get run.matrix.lines who ≡ Some line
+      → ((j : ℕ) (l : Progress R) → slice_get run.matrix.lines j ≡ Some l → 0 < l.done → place_of run j < length run.ops)
+      → IsKept opening limit n run choices → IsKept opening limit n (began run who wish) choices
+  keeps_begin opening limit n run choices who wish line two z here inside k =
+    let new : Op R = begun_op who run.now wish in
+    let same_place : (j : ℕ) → j ≢ who → place_of (began run who wish) j ≡ place_of run j = λ j ne. ap (λ (s : Seat). s.place) (began_other run who j wish ne) in
+    let busy : (j : ℕ) (l : Progress R) → slice_get run.matrix.lines j ≡ Some l → 0 < l.done → j ≢ who = λ j l h pos e. let y : l ≡ line = same_Some l line (sym h ∙ (ap (slice_get run.matrix.lines) e ∙ here)) in let d : l.done ≡ line.done = ap (λ (x : Progress R). x.done) y in omega arith in
+    let old_op : (c : Choice R) (op : Op R) → IsIn c choices → slice_get (run.ops ++ new ∷ []) c.place ≡ Some op → slice_get run.ops c.place ≡ Some op = λ c op m o.
+      let t = (k.has.each c m).there in let lt : c.place < length run.ops = slice_get_within run.ops c.place (k.has.each c m).op t in sym (get_pushed run.ops new c.place (λ e. omega arith)) ∙ o in
+    let old_now : (j : ℕ) (l : Progress R) (op : Op R) → slice_get run.matrix.lines j ≡ Some l → 0 < l.done → slice_get (run.ops ++ new ∷ []) (place_of (began run who wish) j) ≡ Some op → slice_get run.ops (place_of run j) ≡ Some op = λ j l op h pos o.
+      let lt : place_of run j < length run.ops = inside j l h pos in
+      sym (get_pushed run.ops new (place_of run j) (λ e. omega arith)) ∙ (ap (slice_get (run.ops ++ new ∷ [])) (sym (same_place j (busy j l h pos))) ∙ o) in
+    record {
+      has = choices_begun opening limit run.ops run.stamps choices new (unfinished_begun who run.now wish) k.has;
+      inside = k.inside;
+      own = k.own;
+      own_from = k.own_from;
+      seen_from = k.seen_from;
+      cell_from = k.cell_from;
+      current = λ c op l m o u h. let x = k.current c op l m (old_op c op m o) u h in let ph : n ≤ l.done + 1 = x.0 in
+        (x.0, x.1 ∙ sym (same_place c.who (busy c.who l h (omega arith))));
+      cells = λ c op end j x m o e l ne h. k.cells c op end j x m (old_op c op m o) e l ne h;
+      rows = k.rows;
+      gathered = λ j l op h pos phase o. let x = k.gathered j l op h pos phase (old_now j l op h pos o) in
+        (x.0, λ i c a end lt m e s f t. x.1 i c a end lt m e (old_op c a m s) f t);
+      wishes = λ j l op h pos phase o. k.wishes j l op h pos phase (old_now j l op h pos o);
+      chosen_now = λ i l h phase. let x = k.chosen_now i l h phase in (x.0, x.1, x.2 ∙ sym (same_place i (busy i l h (omega arith))), x.3, x.4);
+    }
+
+  -- what the last read of a column chooses
+  abbrev pub kind_of : Outcome R → Kind
+  kind_of (Written stamp) = WriteKind
+  kind_of (Seen answer) = ReadKind
+  kind_of (Ended last) = RefusedKind
+
+  abbrev pub choice_by : ℕ → ℕ → Progress R → Choice R
+  choice_by place who line = record { place = place; who = who; kind = kind_of line.outcome; stamp = line.own.stamp; item = line.own.item }
+
+  record IsChoiceBy (limit place who : ℕ) (before : Progress R) (current : Op R) (after : Progress R) : Type 0 where
+    chosen : IsChosen limit (choice_by place who after) (kind_of after.outcome) before.seen.stamp before.seen.item
+    kind : (chose after.outcome current).kind ≡ kind_of after.outcome
+    written : kind_of after.outcome ≡ WriteKind → (chose after.outcome current).item ≡ Some after.own.item
+    outcome : OutcomeIs after.outcome (choice_by place who after)
+
+  choice_is : (limit place who : ℕ) (wish : Wish R) (before : Progress R) (current : Op R) → WishIs wish current → IsChoiceBy limit place who before current (choice limit who wish before)
+  choice_is limit place who Read before current w = record { chosen = (refl, refl); kind = w; written = λ e. cc; outcome = refl }
+  choice_is limit place who (Write item) before current w = ⊎_elim
+    (λ (l : before.seen.stamp.tag < limit). let t : nat_lt before.seen.stamp.tag limit ≡ true = grind (arith, nat_tests) in
+      let x : IsChoiceBy limit place who before current (record before { own = record { stamp = record { tag = before.seen.stamp.tag + 1; writer = who }; item = item }; outcome = Written (record { tag = before.seen.stamp.tag + 1; writer = who }) })
+        = record { chosen = (l, refl); kind = w.0; written = λ e. w.1; outcome = refl } in rw t x)
+    (λ (l : limit ≤ before.seen.stamp.tag). let t : nat_lt before.seen.stamp.tag limit ≡ false = grind (arith, nat_tests) in
+      let x : IsChoiceBy limit place who before current (record before { own = before.seen; outcome = Ended before.seen })
+        = record { chosen = (l, refl, refl); kind = refl; written = λ e. cc; outcome = refl } in rw t x)
+    (cases_lt before.seen.stamp.tag limit)
+
+  -- the last read of a column, which chooses
+  pub keeps_choice : (opening : R) (limit n : ℕ) (run : Run R) (choices : List (Choice R)) (m' : Matrix R) (who : ℕ) (wish : Wish R) (line next : Progress R) (current : Op R) → IsAtWork limit n run who line current
+      → IsKept opening limit n run choices → IsSeeing opening run choices who wish line current → IsAccess run.matrix m' who wish line next → IsRead run.matrix m' who wish line next → line.done + 2 ≡ n
+      → IsKept opening limit n (record run {
+          matrix = m'; now = run.now + 1;
+          ops = set run.ops (place_of run who) (chose next.outcome current);
+          stamps = set run.stamps (place_of run who) (Some next.own.stamp) }) (choice_by (place_of run who) who next ∷ choices)
+  keeps_choice opening limit n run choices m' who wish line next current w k s a r last =
+    let p : ℕ = place_of run who in
+    let op' : Op R = chose next.outcome current in
+    let c : Choice R = choice_by p who next in
+    let pr : size run.matrix ≡ n = w.processes in
+    let ph : line.done + 1 < n = omega arith in
+    let lw : who < n = let l = slice_get_within run.matrix.lines who line w.here in omega arith in
+    let cell : slice_get run.matrix.cells (cell_place n (other who line.done) who) ≡ Some r.answer = ap (λ z. slice_get run.matrix.cells (cell_place z (other who line.done) who)) (sym pr) ∙ r.of_cell in
+    let seen : Stamped R = greater (begun wish line).seen r.answer in
+    let sees : HasSeen opening run choices who line current seen = sees_next opening limit n run choices who wish line current r.answer lw ph cell k s in
+    let before : Progress R = gathered r.answer (begun wish line) in
+    let is : next ≡ choice limit who (begun wish line).wish before = r.after ∙ (after_last_read (size run.matrix) run.matrix.limit who wish line r.answer (last ∙ sym pr) ∙ ap (λ z. choice z who (begun wish line).wish before) w.same_limit) in
+    let by : IsChoiceBy limit p who before current next = subst (λ (z : Progress R). IsChoiceBy limit p who before current z) (sym is) (choice_is limit p who (begun wish line).wish before current s.does) in
+    let nd : next.done ≡ line.done + 1 = ap (λ (l : Progress R). l.done) r.after ∙ read_done (size run.matrix) run.matrix.limit who wish line r.answer in
+    let up : IsAtMost seen.stamp next.own.stamp = chosen_at_least limit c seen.stamp seen.item by.chosen in
+    let lp : p < length run.ops = slice_get_within run.ops p current w.there in
+    let ls : p < length run.stamps = let e = w.long in omega arith in
+    let here_op : slice_get (set run.ops p op') p ≡ Some op' = get_set_same run.ops p op' lp in
+    let unfinished : op'.ends ≡ None = chose_ends next.outcome current ∙ w.unfinished in
+    let split = λ (j : ℕ) (l : Progress R) (h : slice_get m'.lines j ≡ Some l). get_set run.matrix.lines who j next l (rw a.lines at h) in
+    let mine : (d : Choice R) → IsIn d choices → d.place ≡ p → d.who ≡ who = λ d m e.
+      let x = k.has.each d m in let o : x.op ≡ current = same_Some x.op current (sym x.there ∙ (ap (slice_get run.ops) e ∙ w.there)) in sym x.actor ∙ (ap (λ (z : Op R). z.who) o ∙ w.actor) in
+    let first : (d : Choice R) → IsIn d choices → d.place ≢ p = λ d m e.
+      let v : d.who ≡ who = mine d m e in
+      let z : n ≤ line.done + 1 = (k.current d current line m (ap (slice_get run.ops) e ∙ w.there) w.unfinished (ap (slice_get run.matrix.lines) v ∙ w.here)).0 in omega arith in
+    let old_op : (d : Choice R) (o : Op R) → IsIn d choices → slice_get (set run.ops p op') d.place ≡ Some o → slice_get run.ops d.place ≡ Some o = λ d o m e. ⊎_elim
+      (λ (q : (d.place ≡ p) × (o ≡ op')). absurd (first d m q.0)) (λ (q : (d.place ≢ p) × (slice_get run.ops d.place ≡ Some o)). q.1) (get_set run.ops p d.place op' o e) in
+    let old_now : (j : ℕ) (l : Progress R) (o : Op R) → j ≢ who → slice_get run.matrix.lines j ≡ Some l → 0 < l.done → slice_get (set run.ops p op') (place_of run j) ≡ Some o → slice_get run.ops (place_of run j) ≡ Some o = λ j l o ne h pos e. ⊎_elim
+      (λ (q : (place_of run j ≡ p) × (o ≡ op')). absurd (w.apart j l ne h pos q.0)) (λ (q : (place_of run j ≢ p) × (slice_get run.ops (place_of run j) ≡ Some o)). q.1) (get_set run.ops p (place_of run j) op' o e) in
+    let new_op : (d : Choice R) (o : Op R) → d ≡ c → slice_get (set run.ops p op') d.place ≡ Some o → o ≡ op' = λ d o e g. same_Some o op' (sym g ∙ (ap (λ (z : Choice R). slice_get (set run.ops p op') z.place) e ∙ here_op)) in
+    let no_end : (d : Choice R) (o : Op R) (end : ℕ) → d ≡ c → slice_get (set run.ops p op') d.place ≡ Some o → o.ends ≢ Some end = λ d o end e g f. none-some end (sym unfinished ∙ (ap (λ (z : Op R). z.ends) (sym (new_op d o e g)) ∙ f)) in
+    let made : IsMade opening limit run.ops choices op' c = record {
+      seen = seen.stamp;
+      seen_item = seen.item;
+      from = sees.from;
+      own = λ d m e. at_most_trans d.stamp line.own.stamp seen.stamp (k.own d line m (ap (slice_get run.matrix.lines) e ∙ w.here)) sees.own;
+      earlier = λ d o end m g f t. ⊎_elim
+        (λ (e : d.who ≡ who). at_most_trans d.stamp line.own.stamp seen.stamp (k.own d line m (ap (slice_get run.matrix.lines) e ∙ w.here)) sees.own)
+        (λ (ne : d.who ≢ who).
+          let x : (i : ℕ) × (i + 1 < n) × (other who i ≡ d.who) = other_reached n who d.who lw (k.inside d m) ne in
+          let li : x.0 + 1 < n = x.1 in
+          let t' : end < current.starts = rw (chose_starts next.outcome current) at t in
+          sees.gathered x.0 d o end (omega arith) m (sym x.2) g f t')
+        (same_or_not d.who who);
+      chosen = by.chosen;
+      writer = let small : size run.matrix ≤ 16 = w.matrix.at_most in omega arith;
+      actor = chose_who next.outcome current ∙ w.actor;
+      same_kind = by.kind;
+      written = by.written;
+      unfinished = unfinished;
+      first = first;
+    } in
+    record {
+      has = choices_made opening limit run.ops (set run.ops p op') run.stamps (set run.stamps p (Some next.own.stamp)) choices op' c
+        (replaced_by_set run.ops p current op' w.there (chose_who next.outcome current) (chose_starts next.outcome current))
+        (get_set_same run.stamps p (Some next.own.stamp) ls) (λ q ne. get_unset run.stamps p q (Some next.own.stamp) ne) made k.has;
+      inside = λ d m. ⊎_elim (λ (e : d ≡ c). let x : d.who ≡ who = ap (λ (z : Choice R). z.who) e in omega arith) (λ (o : IsIn d choices). k.inside d o) m;
+      own = λ d l m h. ⊎_elim
+        (λ (q : (d.who ≡ who) × (l ≡ next)).
+          let x : IsAtMost d.stamp next.own.stamp = ⊎_elim
+            (λ (e : d ≡ c). inl (ap (λ (z : Choice R). z.stamp) e))
+            (λ (o : IsIn d choices). at_most_trans d.stamp seen.stamp next.own.stamp (at_most_trans d.stamp line.own.stamp seen.stamp (k.own d line o (ap (slice_get run.matrix.lines) q.0 ∙ w.here)) sees.own) up) m in
+          rw q.1 x)
+        (λ (q : (d.who ≢ who) × (slice_get run.matrix.lines d.who ≡ Some l)). ⊎_elim
+          (λ (e : d ≡ c). absurd (q.0 (ap (λ (z : Choice R). z.who) e))) (λ (o : IsIn d choices). k.own d l o q.1) m) (split d.who l h);
+      own_from = λ i l h. ⊎_elim
+        (λ (q : (i ≡ who) × (l ≡ next)). let x : IsFrom opening (c ∷ choices) next.own.stamp next.own.item = inr (c, inl refl, refl, refl) in rw q.1 x)
+        (λ (q : (i ≢ who) × (slice_get run.matrix.lines i ≡ Some l)). from_more opening choices c l.own.stamp l.own.item (k.own_from i l q.1)) (split i l h);
+      seen_from = λ i l h pos phase. ⊎_elim
+        (λ (q : (i ≡ who) × (l ≡ next)). let z : l.done ≡ next.done = ap (λ (y : Progress R). y.done) q.1 in absurd (omega arith))
+        (λ (q : (i ≢ who) × (slice_get run.matrix.lines i ≡ Some l)). from_more opening choices c l.seen.stamp l.seen.item (k.seen_from i l q.1 pos phase)) (split i l h);
+      cell_from = λ i x h. from_more opening choices c x.stamp x.item (k.cell_from i x (rw r.cells at h));
+      current = λ d o l m g u h. ⊎_elim
+        (λ (q : (d.who ≡ who) × (l ≡ next)). ⊎_elim
+          (λ (e : d ≡ c). let z : l.done ≡ next.done = ap (λ (y : Progress R). y.done) q.1 in (omega arith, ap (λ (z : Choice R). z.place) e ∙ ap (place_of run) (sym q.0)))
+          (λ (i : IsIn d choices). let z : n ≤ line.done + 1 = (k.current d o line i (old_op d o i g) u (ap (slice_get run.matrix.lines) q.0 ∙ w.here)).0 in absurd (omega arith)) m)
+        (λ (q : (d.who ≢ who) × (slice_get run.matrix.lines d.who ≡ Some l)). ⊎_elim
+          (λ (e : d ≡ c). absurd (q.0 (ap (λ (z : Choice R). z.who) e)))
+          (λ (i : IsIn d choices). k.current d o l i (old_op d o i g) u q.1) m) (split d.who l h);
+      cells = λ d o end j x m g f l ne h. ⊎_elim
+        (λ (e : d ≡ c). absurd (no_end d o end e g f))
+        (λ (i : IsIn d choices). k.cells d o end j x i (old_op d o i g) f l ne (rw r.cells at h)) m;
+      rows = λ i l i2 x h phase lt cx. ⊎_elim
+        (λ (q : (i ≡ who) × (l ≡ next)). let z : l.done ≡ next.done = ap (λ (y : Progress R). y.done) q.1 in absurd (omega arith))
+        (λ (q : (i ≢ who) × (slice_get run.matrix.lines i ≡ Some l)). k.rows i l i2 x q.1 phase lt (rw r.cells at cx)) (split i l h);
+      gathered = λ j l o h pos phase g. ⊎_elim
+        (λ (q : (j ≡ who) × (l ≡ next)). let z : l.done ≡ next.done = ap (λ (y : Progress R). y.done) q.1 in absurd (omega arith))
+        (λ (q : (j ≢ who) × (slice_get run.matrix.lines j ≡ Some l)).
+          let x = k.gathered j l o q.1 pos phase (old_now j l o q.0 q.1 pos g) in
+          (x.0, λ i d b end lt m e v f t. ⊎_elim (λ (y : d ≡ c). absurd (no_end d b end y v f)) (λ (y : IsIn d choices). x.1 i d b end lt y e (old_op d b y v) f t) m)) (split j l h);
+      wishes = λ j l o h pos phase g. ⊎_elim
+        (λ (q : (j ≡ who) × (l ≡ next)). let z : l.done ≡ next.done = ap (λ (y : Progress R). y.done) q.1 in absurd (omega arith))
+        (λ (q : (j ≢ who) × (slice_get run.matrix.lines j ≡ Some l)). k.wishes j l o q.1 pos phase (old_now j l o q.0 q.1 pos g)) (split j l h);
+      chosen_now = λ i l h phase. ⊎_elim
+        (λ (q : (i ≡ who) × (l ≡ next)).
+          (c, inl refl, ap (place_of run) (sym q.0), sym q.0, subst (λ (y : Progress R). OutcomeIs y.outcome c) (sym q.1) by.outcome))
+        (λ (q : (i ≢ who) × (slice_get run.matrix.lines i ≡ Some l)). let x = k.chosen_now i l q.1 phase in (x.0, inr x.1, x.2, x.3, x.4)) (split i l h);
     }

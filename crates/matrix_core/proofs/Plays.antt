@@ -83,7 +83,7 @@ module _ {R : Type 0} where
     pub played : IsPlayedSoFar at span (done ++ who ∷ []) run.ops (place_of run)
 
   -- two processes inside operations have them at different places
-  apart : (at : ℕ) (span : Span R) (done : List ℕ) (ops : List (Op R)) (place : ℕ → ℕ) (v w k j r s : ℕ) → IsPlayedSoFar at span done ops place
+  pub apart : (at : ℕ) (span : Span R) (done : List ℕ) (ops : List (Op R)) (place : ℕ → ℕ) (v w k j r s : ℕ) → IsPlayedSoFar at span done ops place
       → steps_of v done ≡ k * span.accesses + r → 0 < r → r < span.accesses → steps_of w done ≡ j * span.accesses + s → 0 < s → s < span.accesses → w ≢ v → place w ≢ place v
   apart at span done ops place v w k j r s h cv pv lv cw pw lw ne e =
       let uv = h.under_way v k r cv pv lv in
@@ -105,17 +105,17 @@ module _ {R : Type 0} where
   }
 
   -- what a choice and an end leave of an operation
-  chose_who : (outcome : Outcome R) (op : Op R) → (chose outcome op).who ≡ op.who
+  pub chose_who : (outcome : Outcome R) (op : Op R) → (chose outcome op).who ≡ op.who
   chose_who (Written stamp) op = refl
   chose_who (Seen answer) op = refl
   chose_who (Ended last) op = refl
 
-  chose_starts : (outcome : Outcome R) (op : Op R) → (chose outcome op).starts ≡ op.starts
+  pub chose_starts : (outcome : Outcome R) (op : Op R) → (chose outcome op).starts ≡ op.starts
   chose_starts (Written stamp) op = refl
   chose_starts (Seen answer) op = refl
   chose_starts (Ended last) op = refl
 
-  chose_ends : (outcome : Outcome R) (op : Op R) → (chose outcome op).ends ≡ op.ends
+  pub chose_ends : (outcome : Outcome R) (op : Op R) → (chose outcome op).ends ≡ op.ends
   chose_ends (Written stamp) op = refl
   chose_ends (Seen answer) op = refl
   chose_ends (Ended last) op = refl
@@ -130,17 +130,17 @@ module _ {R : Type 0} where
   chose_suits (Seen answer) wish op f = f
   chose_suits (Ended last) wish op f = refl
 
-  ended_who : (now : ℕ) (outcome : Outcome R) (op : Op R) → (ended now outcome op).who ≡ op.who
+  pub ended_who : (now : ℕ) (outcome : Outcome R) (op : Op R) → (ended now outcome op).who ≡ op.who
   ended_who now (Written stamp) op = refl
   ended_who now (Seen answer) op = refl
   ended_who now (Ended last) op = refl
 
-  ended_starts : (now : ℕ) (outcome : Outcome R) (op : Op R) → (ended now outcome op).starts ≡ op.starts
+  pub ended_starts : (now : ℕ) (outcome : Outcome R) (op : Op R) → (ended now outcome op).starts ≡ op.starts
   ended_starts now (Written stamp) op = refl
   ended_starts now (Seen answer) op = refl
   ended_starts now (Ended last) op = refl
 
-  ended_ends : (now : ℕ) (outcome : Outcome R) (op : Op R) → (ended now outcome op).ends ≡ Some now
+  pub ended_ends : (now : ℕ) (outcome : Outcome R) (op : Op R) → (ended now outcome op).ends ≡ Some now
   ended_ends now (Written stamp) op = refl
   ended_ends now (Seen answer) op = refl
   ended_ends now (Ended last) op = refl
@@ -347,7 +347,7 @@ module _ {R : Type 0} where
   began_seat : (run : Run R) (who : ℕ) (wish : Wish R) → who < length run.seats → seat_of (began run who wish) who ≡ record { place = length run.ops; begun = (seat_of run who).begun + 1 }
   began_seat run who wish l = get_or-set_same run.seats who (record { place = length run.ops; begun = (seat_of run who).begun + 1 }) first_seat l
 
-  began_other : (run : Run R) (who w : ℕ) (wish : Wish R) → w ≢ who → seat_of (began run who wish) w ≡ seat_of run w
+  pub began_other : (run : Run R) (who w : ℕ) (wish : Wish R) → w ≢ who → seat_of (began run who wish) w ≡ seat_of run w
   began_other run who w wish ne = get_or-set_other run.seats who w (record { place = length run.ops; begun = (seat_of run who).begun + 1 }) first_seat ne
 
   begin_played : (at : ℕ) (span : Span R) (done : List ℕ) (run : Run R) (who k : ℕ) (wish : Wish R) → 1 < span.accesses → steps_of who done ≡ k * span.accesses → run.now ≡ at + length done
