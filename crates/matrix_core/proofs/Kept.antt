@@ -14,22 +14,22 @@ use Rattle.matrix_core.specs.declared.matrix.Progress.{Progress}
 use Rattle.matrix_core.specs.declared.matrix.Outcome.{Outcome}
 use Rattle.matrix_core.specs.declared.matrix.Outcome.TheVariants.{Written, Seen, Ended}
 use Rattle.std.proofs.lemmas.Option.{slice_get_within, same_Some, none-some}
-use Rattle.matrix_core.proofs.Accesses.{IsAccess, IsRead, IsWrite, after_other_read, after_last_read, begun_first, begun_later, other_differs, other_reached}
+use Rattle.matrix_core.proofs.Accesses.{IsAccess, IsRead, IsWrite, after_other_read, after_last_read, begun_first, begun_later, other_differs, other_inside, other_reached}
 use Rattle.matrix_core.proofs.ChoicesStamps.{at_most_refl, at_most_trans, greater_is, greater_first, greater_second}
 use Rattle.matrix_core.proofs.Lists.{get_set, get_set_same, get_unset, same_or_not}
 use Rattle.matrix_core.proofs.ChoicesRise.{chosen_at_least, from_more}
-use Rattle.matrix_core.proofs.Matrices.{read_done}
+use Rattle.matrix_core.proofs.Matrices.{read_done, same_writer}
 use Rattle.matrix_core.specs.Stamps.{greater}
 use Rattle.matrix_core.specs.Choices.{Choice, HasChoices, IsAtMost, IsChosen, IsFrom, IsIn}
 use Rattle.matrix_core.specs.Events.{Matrix, IsMatrix, size, begun, choice, gathered, cell_place, other}
 use Rattle.std.proofs.lemmas.Bool.{cases_lt}
 use Rattle.std.proofs.lemmas.Bool.Decides.{nat_tests}
 use Rattle.history_core.proofs.Places.{get_pushed}
-use Rattle.history_core.proofs.Played.{replaced_by_set}
+use Rattle.history_core.proofs.Played.{IsReplaced, replaced_by_set}
 use Rattle.matrix_core.specs.declared.play.Seat.{Seat}
 use Rattle.matrix_core.specs.Runs.{Run, place_of, began, begun_op, chose, ended}
 use Rattle.matrix_core.proofs.Choices.{IsMade, choices_begun, choices_made, choices_ended, no_choices}
-use Rattle.matrix_core.proofs.Plays.{began_other, chose_who, chose_starts, chose_ends, ended_who, ended_starts, ended_ends}
+use Rattle.matrix_core.proofs.Plays.{began_other, write_goes_on, write_ends, chose_who, chose_starts, chose_ends, ended_who, ended_starts, ended_ends}
 
 module _ {R : Type 0} where
   -- an operation does what is wished
@@ -361,4 +361,188 @@ module _ {R : Type 0} where
         (λ (q : (i ≡ who) × (l ≡ next)).
           (c, inl refl, ap (place_of run) (sym q.0), sym q.0, subst (λ (y : Progress R). OutcomeIs y.outcome c) (sym q.1) by.outcome))
         (λ (q : (i ≢ who) × (slice_get run.matrix.lines i ≡ Some l)). let x = k.chosen_now i l q.1 phase in (x.0, inr x.1, x.2, x.3, x.4)) (split i l h);
+    }
+
+  -- the cells after a row write: each is as it was or has the writer's own record, and no cell of its row is less than that
+  -- up to the one written
+  record HasWritten (opening : R) (limit n : ℕ) (run : Run R) (choices : List (Choice R)) (m' : Matrix R) (who : ℕ) (line : Progress R) : Type 0 where
+    from : (k : ℕ) (x : Stamped R) → slice_get m'.cells k ≡ Some x → IsFrom opening choices x.stamp x.item
+    cells : (c : Choice R) (j : ℕ) (x : Stamped R) → IsIn c choices → j < n → j ≢ c.who → slice_get m'.cells (cell_place n c.who j) ≡ Some x
+        → ((y : Stamped R) → slice_get run.matrix.cells (cell_place n c.who j) ≡ Some y → IsAtMost c.stamp y.stamp) → IsAtMost c.stamp x.stamp
+    others : (i j : ℕ) (x : Stamped R) → i ≢ who → j < n → slice_get m'.cells (cell_place n i j) ≡ Some x → slice_get run.matrix.cells (cell_place n i j) ≡ Some x
+    row : (k : ℕ) (x : Stamped R) → k + n < line.done + 2 → slice_get m'.cells (cell_place n who (other who k)) ≡ Some x → IsAtMost line.own.stamp x.stamp
+
+  has_written : (opening : R) (limit n : ℕ) (run : Run R) (choices : List (Choice R)) (m' : Matrix R) (who : ℕ) (line next : Progress R) (current : Op R) → IsAtWork limit n run who line current
+      → IsKept opening limit n run choices → IsWrite run.matrix m' who line next → HasWritten opening limit n run choices m' who line
+  has_written opening limit n run choices m' who line next current w k r =
+    let pr : size run.matrix ≡ n = w.processes in
+    let inn : line.done + 3 ≤ 2 * size run.matrix = w.matrix.inside who line w.here in
+    let lw : who < n = let l = slice_get_within run.matrix.lines who line w.here in omega arith in
+    let ph : n ≤ line.done + 1 = let p : size run.matrix ≤ line.done + 1 = r.phase in omega arith in
+    let o : ℕ = other who (line.done + 1 - n) in
+    let lo : o < n = other_inside n who (line.done + 1 - n) lw (omega arith) in
+    let at : ℕ = cell_place n who o in
+    let set_is : m'.cells ≡ set run.matrix.cells at line.own = r.cells ∙ ap (λ z. set run.matrix.cells (cell_place z who (other who (line.done + 1 - z))) line.own) pr in
+    let split : (q : ℕ) (x : Stamped R) → slice_get m'.cells q ≡ Some x → ((q ≡ at) × (x ≡ line.own)) ⊎ ((q ≢ at) × (slice_get run.matrix.cells q ≡ Some x))
+      = λ q x h. get_set run.matrix.cells at q line.own x (ap (λ z. slice_get z q) (sym set_is) ∙ h) in
+    record {
+      from = λ q x h. ⊎_elim
+        (λ (e : (q ≡ at) × (x ≡ line.own)). subst (λ (z : Stamped R). IsFrom opening choices z.stamp z.item) (sym e.1) (k.own_from who line w.here))
+        (λ (e : (q ≢ at) × (slice_get run.matrix.cells q ≡ Some x)). k.cell_from q x e.1) (split q x h);
+      cells = λ c j x m lj ne h old. ⊎_elim
+        (λ (e : (cell_place n c.who j ≡ at) × (x ≡ line.own)).
+          let v : c.who ≡ who = same_writer n c.who j who o lj lo e.0 in
+          subst (λ (z : Stamped R). IsAtMost c.stamp z.stamp) (sym e.1) (k.own c line m (ap (slice_get run.matrix.lines) v ∙ w.here)))
+        (λ (e : (cell_place n c.who j ≢ at) × (slice_get run.matrix.cells (cell_place n c.who j) ≡ Some x)). old x e.1) (split (cell_place n c.who j) x h);
+      others = λ i j x ne lj h. ⊎_elim
+        (λ (e : (cell_place n i j ≡ at) × (x ≡ line.own)). absurd (ne (same_writer n i j who o lj lo e.0)))
+        (λ (e : (cell_place n i j ≢ at) × (slice_get run.matrix.cells (cell_place n i j) ≡ Some x)). e.1) (split (cell_place n i j) x h);
+      row = λ i x lt h. ⊎_elim
+        (λ (e : (cell_place n who (other who i) ≡ at) × (x ≡ line.own)). inl (ap (λ (z : Stamped R). z.stamp) (sym e.1)))
+        (λ (e : (cell_place n who (other who i) ≢ at) × (slice_get run.matrix.cells (cell_place n who (other who i)) ≡ Some x)). ⊎_elim
+          (λ (z : i ≡ line.done + 1 - n). absurd (e.0 (ap (λ y. cell_place n who (other who y)) z)))
+          (λ (z : i ≢ line.done + 1 - n). k.rows who line i x w.here ph (omega arith) e.1) (same_or_not i (line.done + 1 - n)))
+        (split (cell_place n who (other who i)) x h);
+    }
+
+  -- a row write that isn't the last
+  pub keeps_write : (opening : R) (limit n : ℕ) (run : Run R) (choices : List (Choice R)) (m' : Matrix R) (who : ℕ) (wish : Wish R) (line next : Progress R) (current : Op R) → IsAtWork limit n run who line current
+      → IsKept opening limit n run choices → IsAccess run.matrix m' who wish line next → IsWrite run.matrix m' who line next → line.done + 3 ≢ 2 * n
+      → IsKept opening limit n (record run { matrix = m'; now = run.now + 1 }) choices
+  keeps_write opening limit n run choices m' who wish line next current w k a r early =
+    let pr : size run.matrix ≡ n = w.processes in
+    let ph : n ≤ line.done + 1 = let p : size run.matrix ≤ line.done + 1 = r.phase in omega arith in
+    let lw : who < n = let l = slice_get_within run.matrix.lines who line w.here in omega arith in
+    let hw : HasWritten opening limit n run choices m' who line = has_written opening limit n run choices m' who line next current w k r in
+    let nd : next.done ≡ line.done + 1 = ap (λ (l : Progress R). l.done) r.after ∙ write_goes_on (size run.matrix) line (λ e. early (e ∙ ap (λ z. 2 * z) pr)) in
+    let no : next.own ≡ line.own = ap (λ (l : Progress R). l.own) r.after in
+    let nt : next.outcome ≡ line.outcome = ap (λ (l : Progress R). l.outcome) r.after in
+    let split = λ (j : ℕ) (l : Progress R) (h : slice_get m'.lines j ≡ Some l). get_set run.matrix.lines who j next l (rw a.lines at h) in
+    record {
+      has = k.has;
+      inside = k.inside;
+      own = λ c l m h. ⊎_elim
+        (λ (q : (c.who ≡ who) × (l ≡ next)). subst (λ (x : Stamped R). IsAtMost c.stamp x.stamp) (sym (ap (λ (y : Progress R). y.own) q.1 ∙ no)) (k.own c line m (ap (slice_get run.matrix.lines) q.0 ∙ w.here)))
+        (λ (q : (c.who ≢ who) × (slice_get run.matrix.lines c.who ≡ Some l)). k.own c l m q.1) (split c.who l h);
+      own_from = λ i l h. ⊎_elim
+        (λ (q : (i ≡ who) × (l ≡ next)). subst (λ (x : Stamped R). IsFrom opening choices x.stamp x.item) (sym (ap (λ (y : Progress R). y.own) q.1 ∙ no)) (k.own_from who line w.here))
+        (λ (q : (i ≢ who) × (slice_get run.matrix.lines i ≡ Some l)). k.own_from i l q.1) (split i l h);
+      seen_from = λ i l h pos phase. ⊎_elim
+        (λ (q : (i ≡ who) × (l ≡ next)). let z : l.done ≡ next.done = ap (λ (y : Progress R). y.done) q.1 in absurd (omega arith))
+        (λ (q : (i ≢ who) × (slice_get run.matrix.lines i ≡ Some l)). k.seen_from i l q.1 pos phase) (split i l h);
+      cell_from = hw.from;
+      current = λ c op l m o u h. ⊎_elim
+        (λ (q : (c.who ≡ who) × (l ≡ next)). let z : l.done ≡ next.done = ap (λ (y : Progress R). y.done) q.1 in let x = k.current c op line m o u (ap (slice_get run.matrix.lines) q.0 ∙ w.here) in (omega arith, x.1))
+        (λ (q : (c.who ≢ who) × (slice_get run.matrix.lines c.who ≡ Some l)). k.current c op l m o u q.1) (split c.who l h);
+      cells = λ c op end j x m o e l ne h. hw.cells c j x m l ne h (λ y g. k.cells c op end j y m o e l ne g);
+      rows = λ i l i2 x h phase lt cx. ⊎_elim
+        (λ (q : (i ≡ who) × (l ≡ next)).
+          let z : l.done ≡ next.done = ap (λ (y : Progress R). y.done) q.1 in
+          let own : l.own ≡ line.own = ap (λ (y : Progress R). y.own) q.1 ∙ no in
+          subst (λ (y : Stamped R). IsAtMost y.stamp x.stamp) (sym own) (hw.row i2 x (omega arith) (ap (λ v. slice_get m'.cells (cell_place n v (other v i2))) (sym q.0) ∙ cx)))
+        (λ (q : (i ≢ who) × (slice_get run.matrix.lines i ≡ Some l)).
+          let li : i < n = let y = slice_get_within run.matrix.lines i l q.1 in omega arith in
+          let inn : l.done + 3 ≤ 2 * size run.matrix = w.matrix.inside i l q.1 in
+          k.rows i l i2 x q.1 phase lt (hw.others i (other i i2) x q.0 (other_inside n i i2 li (omega arith)) cx)) (split i l h);
+      gathered = λ j l op h pos phase o. ⊎_elim
+        (λ (q : (j ≡ who) × (l ≡ next)). let z : l.done ≡ next.done = ap (λ (y : Progress R). y.done) q.1 in absurd (omega arith))
+        (λ (q : (j ≢ who) × (slice_get run.matrix.lines j ≡ Some l)). k.gathered j l op q.1 pos phase o) (split j l h);
+      wishes = λ j l op h pos phase o. ⊎_elim
+        (λ (q : (j ≡ who) × (l ≡ next)). let z : l.done ≡ next.done = ap (λ (y : Progress R). y.done) q.1 in absurd (omega arith))
+        (λ (q : (j ≢ who) × (slice_get run.matrix.lines j ≡ Some l)). k.wishes j l op q.1 pos phase o) (split j l h);
+      chosen_now = λ i l h phase. ⊎_elim
+        (λ (q : (i ≡ who) × (l ≡ next)). let x = k.chosen_now who line w.here ph in
+          (x.0, x.1, x.2 ∙ ap (place_of run) (sym q.0), x.3 ∙ sym q.0, subst (λ (y : Outcome R). OutcomeIs y x.0) (sym (ap (λ (y : Progress R). y.outcome) q.1 ∙ nt)) x.4))
+        (λ (q : (i ≢ who) × (slice_get run.matrix.lines i ≡ Some l)). k.chosen_now i l q.1 phase) (split i l h);
+    }
+
+  ended_kind : (now : ℕ) (outcome : Outcome R) (op : Op R) → (ended now outcome op).kind ≡ op.kind
+  ended_kind now (Written stamp) op = refl
+  ended_kind now (Seen answer) op = refl
+  ended_kind now (Ended last) op = refl
+
+  ended_item : (now : ℕ) (outcome : Outcome R) (op : Op R) (c : Choice R) → OutcomeIs outcome c → (c.kind ≡ WriteKind → op.item ≡ Some c.item) → (ended now outcome op).item ≡ Some c.item
+  ended_item now (Written stamp) op c is written = written is
+  ended_item now (Seen answer) op c is written = ap Some (sym is)
+  ended_item now (Ended last) op c is written = ap Some (sym is)
+
+  -- the last row write, which ends the operation
+  pub keeps_end : (opening : R) (limit n : ℕ) (run : Run R) (choices : List (Choice R)) (m' : Matrix R) (who : ℕ) (wish : Wish R) (line next : Progress R) (current : Op R) → 2 ≤ n → IsAtWork limit n run who line current
+      → IsKept opening limit n run choices → IsAccess run.matrix m' who wish line next → IsWrite run.matrix m' who line next → line.done + 3 ≡ 2 * n
+      → IsKept opening limit n (record run { matrix = m'; now = run.now + 1; ops = set run.ops (place_of run who) (ended run.now line.outcome current) }) choices
+  keeps_end opening limit n run choices m' who wish line next current two w k a r last =
+    let p : ℕ = place_of run who in
+    let op' : Op R = ended run.now line.outcome current in
+    let pr : size run.matrix ≡ n = w.processes in
+    let ph : n ≤ line.done + 1 = let p : size run.matrix ≤ line.done + 1 = r.phase in omega arith in
+    let lw : who < n = let l = slice_get_within run.matrix.lines who line w.here in omega arith in
+    let hw : HasWritten opening limit n run choices m' who line = has_written opening limit n run choices m' who line next current w k r in
+    let nd : next.done ≡ 0 = ap (λ (l : Progress R). l.done) r.after ∙ write_ends (size run.matrix) line (last ∙ ap (λ z. 2 * z) (sym pr)) in
+    let no : next.own ≡ line.own = ap (λ (l : Progress R). l.own) r.after in
+    let made = k.chosen_now who line w.here ph in
+    let c : Choice R = made.0 in
+    let mine = k.has.each c made.1 in
+    let cop : mine.op ≡ current = same_Some mine.op current (sym mine.there ∙ (ap (slice_get run.ops) made.2 ∙ w.there)) in
+    let lp : p < length run.ops = slice_get_within run.ops p current w.there in
+    let here_op : slice_get (set run.ops p op') p ≡ Some op' = get_set_same run.ops p op' lp in
+    let ends : op'.ends ≡ Some run.now = ended_ends run.now line.outcome current in
+    let split = λ (j : ℕ) (l : Progress R) (h : slice_get m'.lines j ≡ Some l). get_set run.matrix.lines who j next l (rw a.lines at h) in
+    let split_op = λ (q : ℕ) (o : Op R) (h : slice_get (set run.ops p op') q ≡ Some o). get_set run.ops p q op' o h in
+    let old_now : (j : ℕ) (l : Progress R) (o : Op R) → j ≢ who → slice_get run.matrix.lines j ≡ Some l → 0 < l.done → slice_get (set run.ops p op') (place_of run j) ≡ Some o → slice_get run.ops (place_of run j) ≡ Some o = λ j l o ne h pos e. ⊎_elim
+      (λ (q : (place_of run j ≡ p) × (o ≡ op')). absurd (w.apart j l ne h pos q.0)) (λ (q : (place_of run j ≢ p) × (slice_get run.ops (place_of run j) ≡ Some o)). q.1) (split_op (place_of run j) o e) in
+    let replaced = replaced_by_set run.ops p current op' w.there (ended_who run.now line.outcome current) (ended_starts run.now line.outcome current) in
+    record {
+      has = choices_ended opening limit run.ops (set run.ops p op') run.stamps choices op' c run.now
+        (subst (λ z. IsReplaced run.ops (set run.ops p op') z op') (sym made.2) replaced) ends
+        (ended_kind run.now line.outcome current ∙ (ap (λ (z : Op R). z.kind) (sym cop) ∙ mine.same_kind))
+        (ended_item run.now line.outcome current c made.4 (λ e. ap (λ (z : Op R). z.item) (sym cop) ∙ mine.written e)) made.1 w.started k.has;
+      inside = k.inside;
+      own = λ d l m h. ⊎_elim
+        (λ (q : (d.who ≡ who) × (l ≡ next)). subst (λ (x : Stamped R). IsAtMost d.stamp x.stamp) (sym (ap (λ (y : Progress R). y.own) q.1 ∙ no)) (k.own d line m (ap (slice_get run.matrix.lines) q.0 ∙ w.here)))
+        (λ (q : (d.who ≢ who) × (slice_get run.matrix.lines d.who ≡ Some l)). k.own d l m q.1) (split d.who l h);
+      own_from = λ i l h. ⊎_elim
+        (λ (q : (i ≡ who) × (l ≡ next)). subst (λ (x : Stamped R). IsFrom opening choices x.stamp x.item) (sym (ap (λ (y : Progress R). y.own) q.1 ∙ no)) (k.own_from who line w.here))
+        (λ (q : (i ≢ who) × (slice_get run.matrix.lines i ≡ Some l)). k.own_from i l q.1) (split i l h);
+      seen_from = λ i l h pos phase. ⊎_elim
+        (λ (q : (i ≡ who) × (l ≡ next)). let z : l.done ≡ next.done = ap (λ (y : Progress R). y.done) q.1 in absurd (omega arith))
+        (λ (q : (i ≢ who) × (slice_get run.matrix.lines i ≡ Some l)). k.seen_from i l q.1 pos phase) (split i l h);
+      cell_from = hw.from;
+      current = λ d o l m g u h. ⊎_elim
+        (λ (y : (d.place ≡ p) × (o ≡ op')). absurd (none-some run.now (sym u ∙ (ap (λ (z : Op R). z.ends) y.1 ∙ ends))))
+        (λ (y : (d.place ≢ p) × (slice_get run.ops d.place ≡ Some o)). ⊎_elim
+          (λ (q : (d.who ≡ who) × (l ≡ next)). let x = k.current d o line m y.1 u (ap (slice_get run.matrix.lines) q.0 ∙ w.here) in absurd (y.0 (x.1 ∙ ap (place_of run) q.0)))
+          (λ (q : (d.who ≢ who) × (slice_get run.matrix.lines d.who ≡ Some l)). k.current d o l m y.1 u q.1) (split d.who l h))
+        (split_op d.place o g);
+      cells = λ d o end j x m g f l ne h. ⊎_elim
+        (λ (y : (d.place ≡ p) × (o ≡ op')).
+          let same_c : d ≡ c = k.has.once d c m made.1 (y.0 ∙ sym made.2) in
+          let v : d.who ≡ who = ap (λ (z : Choice R). z.who) same_c ∙ made.3 in
+          let i : (i : ℕ) × (i + 1 < n) × (other who i ≡ j) = other_reached n who j lw l (λ e. ne (e ∙ sym v)) in
+          let li : i.0 + 1 < n = i.1 in
+          let cx : slice_get m'.cells (cell_place n who (other who i.0)) ≡ Some x = ap (λ z. slice_get m'.cells (cell_place n who z)) i.2 ∙ (ap (λ z. slice_get m'.cells (cell_place n z j)) (sym v) ∙ h) in
+          at_most_trans d.stamp line.own.stamp x.stamp (k.own d line m (ap (slice_get run.matrix.lines) v ∙ w.here)) (hw.row i.0 x (omega arith) cx))
+        (λ (y : (d.place ≢ p) × (slice_get run.ops d.place ≡ Some o)). hw.cells d j x m l ne h (λ z b. k.cells d o end j z m y.1 f l ne b))
+        (split_op d.place o g);
+      rows = λ i l i2 x h phase lt cx. ⊎_elim
+        (λ (q : (i ≡ who) × (l ≡ next)). let z : l.done ≡ next.done = ap (λ (y : Progress R). y.done) q.1 in absurd (omega arith))
+        (λ (q : (i ≢ who) × (slice_get run.matrix.lines i ≡ Some l)).
+          let li : i < n = let y = slice_get_within run.matrix.lines i l q.1 in omega arith in
+          let inn : l.done + 3 ≤ 2 * size run.matrix = w.matrix.inside i l q.1 in
+          k.rows i l i2 x q.1 phase lt (hw.others i (other i i2) x q.0 (other_inside n i i2 li (omega arith)) cx)) (split i l h);
+      gathered = λ j l o h pos phase g. ⊎_elim
+        (λ (q : (j ≡ who) × (l ≡ next)). let z : l.done ≡ next.done = ap (λ (y : Progress R). y.done) q.1 in absurd (omega arith))
+        (λ (q : (j ≢ who) × (slice_get run.matrix.lines j ≡ Some l)).
+          let now_op = old_now j l o q.0 q.1 pos g in
+          let x = k.gathered j l o q.1 pos phase now_op in
+          (x.0, λ i d b end lt m e v f t. ⊎_elim
+            (λ (y : (d.place ≡ p) × (b ≡ op')).
+              let e2 : end ≡ run.now = same_Some end run.now (sym f ∙ (ap (λ (z : Op R). z.ends) y.1 ∙ ends)) in
+              let st : o.starts ≤ run.now = w.started (place_of run j) o now_op in absurd (omega arith))
+            (λ (y : (d.place ≢ p) × (slice_get run.ops d.place ≡ Some b)). x.1 i d b end lt m e y.1 f t) (split_op d.place b v))) (split j l h);
+      wishes = λ j l o h pos phase g. ⊎_elim
+        (λ (q : (j ≡ who) × (l ≡ next)). let z : l.done ≡ next.done = ap (λ (y : Progress R). y.done) q.1 in absurd (omega arith))
+        (λ (q : (j ≢ who) × (slice_get run.matrix.lines j ≡ Some l)). k.wishes j l o q.1 pos phase (old_now j l o q.0 q.1 pos g)) (split j l h);
+      chosen_now = λ i l h phase. ⊎_elim
+        (λ (q : (i ≡ who) × (l ≡ next)). let z : l.done ≡ next.done = ap (λ (y : Progress R). y.done) q.1 in absurd (omega arith))
+        (λ (q : (i ≢ who) × (slice_get run.matrix.lines i ≡ Some l)). k.chosen_now i l q.1 phase) (split i l h);
     }

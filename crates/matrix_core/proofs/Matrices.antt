@@ -4,6 +4,7 @@ use Rattle.std.specs.Prelude.{slice_get, Some, nat_lt, nat_eq, if◌then◌else�
 use Rattle.std.proofs.lemmas.Bool.Decides.{nat_tests}
 use Rattle.std.proofs.lemmas.List.{length-set, length-replicate}
 use Rattle.std.proofs.Math.Nat.{mul-le-mul_right}
+use Rattle.std.proofs.lemmas.Bool.{cases_order}
 use Rattle.matrix_core.specs.declared.stamp.Stamped.{Stamped}
 use Rattle.matrix_core.specs.declared.matrix.Progress.{Progress}
 use Rattle.matrix_core.specs.declared.matrix.MatrixStage.TheVariants.{Got, Put, Done}
@@ -76,3 +77,12 @@ opens n limit opening two small = let e : length (replicate n (opening_line open
   cells = length-replicate (n * n) (first_record opening) ∙ rw e refl;
   inside = λ i line h. let d : line.done ≡ 0 = ap (λ l. l.done) (get_replicate n i (opening_line opening) line h) in omega arith;
 }
+
+-- two cells at one place have one writer
+pub same_writer : (n i j v w : ℕ) → j < n → w < n → cell_place n i j ≡ cell_place n v w → i ≡ v
+same_writer n i j v w lj lw e = ⊎_elim
+  (λ (q : i ≡ v). q)
+  (λ q. absurd (⊎_elim
+    (λ (l : i < v). let m : (i + 1) * n ≤ v * n = mul-le-mul_right n (omega arith) in omega arith)
+    (λ (l : v < i). let m : (v + 1) * n ≤ i * n = mul-le-mul_right n (omega arith) in omega arith) q))
+  (cases_order i v)

@@ -159,10 +159,10 @@ module _ {R : Type 0} where
       let g : planned span op.who k ≡ Some wish = ap (λ v. planned span v k) e ∙ p in
       let F : Option (Wish R) → Type 0 = λ o. Follows o op in subst F g f
 
-  write_ends : (n : ℕ) (line : Progress R) → line.done + 3 ≡ 2 * n → (after_write n line).done ≡ 0
+  pub write_ends : (n : ℕ) (line : Progress R) → line.done + 3 ≡ 2 * n → (after_write n line).done ≡ 0
   write_ends n line e = let b : nat_eq (line.done + 3) (2 * n) ≡ true = same _ _ e in rw b refl
 
-  write_goes_on : (n : ℕ) (line : Progress R) → line.done + 3 ≢ 2 * n → (after_write n line).done ≡ line.done + 1
+  pub write_goes_on : (n : ℕ) (line : Progress R) → line.done + 3 ≢ 2 * n → (after_write n line).done ≡ line.done + 1
   write_goes_on n line ne = let b : nat_eq (line.done + 3) (2 * n) ≡ false = not_same _ _ ne in rw b refl
 
   -- the progress after an access that doesn't end its operation
