@@ -193,7 +193,7 @@ module _ {R : Type 0} where
         (λ (q : (i ≢ who) × (slice_get run.matrix.lines i ≡ Some l)). k.chosen_now i l q.1 phase) (split i l h);
     }
 
-  wish_of_begun : (who now : ℕ) (wish : Wish R) → WishIs wish (begun_op who now wish)
+  pub wish_of_begun : (who now : ℕ) (wish : Wish R) → WishIs wish (begun_op who now wish)
   wish_of_begun who now (Write item) = (refl, refl)
   wish_of_begun who now Read = refl
 

@@ -3,6 +3,7 @@ pub mod Choices
 pub mod ChoicesRise
 pub mod ChoicesStamps
 pub mod Kept
+pub mod KeptRuns
 pub mod Listing
 pub mod Lists
 pub mod Matrices
