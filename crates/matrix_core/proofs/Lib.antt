@@ -14,3 +14,4 @@ pub mod Shapes
 pub mod Steps
 pub mod TermOrderPlaces
 pub mod TermOrders
+pub mod Turns

@@ -81,8 +81,8 @@ opens n limit opening two small = let e : length (replicate n (opening_line open
 -- two cells at one place have one writer
 pub same_writer : (n i j v w : ℕ) → j < n → w < n → cell_place n i j ≡ cell_place n v w → i ≡ v
 same_writer n i j v w lj lw e = ⊎_elim
-  (λ (q : i ≡ v). q)
-  (λ q. absurd (⊎_elim
+    (λ (q : i ≡ v). q)
+    (λ q. absurd (⊎_elim
     (λ (l : i < v). let m : (i + 1) * n ≤ v * n = mul-le-mul_right n (omega arith) in omega arith)
     (λ (l : v < i). let m : (v + 1) * n ≤ i * n = mul-le-mul_right n (omega arith) in omega arith) q))
-  (cases_order i v)
+    (cases_order i v)

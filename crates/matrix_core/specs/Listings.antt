@@ -1,5 +1,5 @@
--- The order of a report: by chosen stamp, and within one stamp the write first and then the others by beginning; the
--- orders of the terms stand one after the other.
+-- The report of a schedule's run: what the runs of its terms gave, and the orders of the terms one after the other. This is
+-- this project's own.
 use Rattle.std.specs.Prelude.{◌≡◌, ℕ, ◌+◌, ◌<◌, ◌≤◌, ◌⊎◌, Bool, true, false, ◌||◌, List, [], ◌∷◌, ◌++◌, length, map, slice_get, Option, None, Some, is_some, if◌then◌else◌}
 use Rattle.history_core.specs.declared.history.Op.{Op}
 use Rattle.history_core.specs.Numbers.{StandsAt}
@@ -8,6 +8,7 @@ use Rattle.matrix_core.specs.declared.stamp.Stamp.{Stamp}
 use Rattle.matrix_core.specs.declared.schedule.MatrixSchedule.{MatrixSchedule}
 use Rattle.matrix_core.specs.declared.schedule.MatrixReport.{MatrixReport}
 use Rattle.matrix_core.specs.Stamps.{IsBelow}
+use Rattle.matrix_core.specs.TermOrders.{IsTermOrder}
 use Rattle.matrix_core.specs.Runs.{Run, runs_of, ops_of, stamps_of, terms_of}
 
 module _ {R : Type 0} where
@@ -20,7 +21,7 @@ module _ {R : Type 0} where
   abbrev pub MayPrecede : Stamp → Op R → ℕ → Stamp → Op R → ℕ → Type 0
   MayPrecede s a p t b q = IsBelow s t ⊎ ((s ≡ t) × (((is_write a.kind ≡ true) × (is_write b.kind ≡ false)) ⊎ ((is_write a.kind ≡ is_write b.kind) × (p ≤ q))))
 
-  -- the order of one term
+  -- an order of one term in which each operation stands as often as it is listed, by stamp, kind and place
   pub record IsInOrder (ops : List (Op R)) (stamps : List (Option Stamp)) (order : List ℕ) : Type 0 where
     pub places : ListsPlaces ops order
     pub listed : (p : ℕ) (op : Op R) (stamp : Option Stamp) → slice_get ops p ≡ Some op → slice_get stamps p ≡ Some stamp → times_of p order ≡ (if is_listed op stamp then 1 else 0)
@@ -32,7 +33,7 @@ module _ {R : Type 0} where
   HasOrders place [] order = order ≡ []
   HasOrders place (run ∷ runs) order =
       (mine : List ℕ) × (later : List ℕ) × (order ≡ map (λ p. place + p) mine ++ later)
-      × IsInOrder run.ops run.stamps mine × HasOrders (place + length run.ops) runs later
+      × IsTermOrder run.ops run.stamps mine × HasOrders (place + length run.ops) runs later
 
   -- the report of a schedule's run
   pub record IsReport (schedule : MatrixSchedule R) (report : MatrixReport R) : Type 0 where

@@ -2,6 +2,7 @@
 
 ghost use Rattle.std.specs.Prelude.{◌≡◌, ◌+◌, ◌<◌, ◌^◌, ◌++◌, ◌↔◌, ℕ, List, drop, length, map, vec_len, Err, IfErr, IfOk, OnOk, Some, slice_get};
 ghost use Rattle.history_core.specs.declared.history.Op.{Op};
+ghost use Rattle.history_core.specs.Orders.{IsAtomicOrder, RefusesLawfully};
 ghost use Rattle.history_core.specs.Schedules.{HasOperations, HasShape};
 ghost use Rattle.matrix_core.specs.declared.stamp.Stamp.{Stamp};
 ghost use Rattle.matrix_core.specs.Listings.{IsInOrder, IsReport};
@@ -22,6 +23,8 @@ pub fn play_matrix<R: Copy>(
     requires { CanPlay schedule.now.terms }
     ensures shape { IfOk result (λ report. HasShape (spans_of schedule.now.terms) report.history.terms report.history.ops) }
     ensures run { IfOk result (IsReport schedule.now) }
+    ensures atomic { IfOk result (λ report. IsAtomicOrder (λ x y. x ≡ y) schedule.now.opening report.history.ops report.order) }
+    ensures refusals { IfOk result (λ report. RefusesLawfully report.history.terms report.history.ops report.order) }
     ensures played { IfOk result (λ _. HasOperations (spans_of schedule.now.terms)) }
     ensures too_many { IfErr result (IsRefusedRightly schedule.now.terms) }
 {
