@@ -35,16 +35,8 @@ fn cell_document(
     reads: &str,
     steps: &str,
 ) -> Result<String, AllocError> {
-    document(
-        alloc,
-        "cell",
-        &[
-            ("opening", "[0,0,0]"),
-            ("noise", "[9,8,7]"),
-            ("writes", writes),
-            ("reads", reads),
-            ("steps", steps),
-        ],
+    format!(in alloc;
+        "{{\"kind\":\"cell\",\"opening\":[0,0,0],\"noise\":[9,8,7],\"writes\":{writes},\"reads\":{reads},\"steps\":{steps}}}"
     )
 }
 

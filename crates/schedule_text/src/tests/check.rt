@@ -140,17 +140,8 @@ fn check_document(
     ops: &str,
     order: &str,
 ) -> Result<String, AllocError> {
-    let ops = format!(in alloc; "[{ops}]")?;
-    let order = format!(in alloc; "[{order}]")?;
-    document(
-        alloc,
-        "check",
-        &[
-            ("opening", opening),
-            ("limit", limit),
-            ("ops", ops.as_str()),
-            ("order", order.as_str()),
-        ],
+    format!(in alloc;
+        "{{\"kind\":\"check\",\"opening\":{opening},\"limit\":{limit},\"ops\":[{ops}],\"order\":[{order}]}}"
     )
 }
 
