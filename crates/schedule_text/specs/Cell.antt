@@ -1,5 +1,5 @@
 -- Documents of kind `cell`: a schedule of a four-slot register (this project's own).
-use Rattle.std.specs.Prelude.{ℕ, ◌+◌, List, [], ◌∷◌, length, Bool, nat_le, Result, Ok}
+use Rattle.std.specs.Prelude.{ℕ, ◌+◌, [], ◌∷◌, length, Bool, nat_le, Result, Ok}
 use Rattle.std.specs.List.{list_all}
 use Rattle.serde_json.specs.Data.{Data}
 use Rattle.history_core.specs.Band.{fits}

@@ -6,6 +6,7 @@ mod check;
 mod document;
 mod fields;
 mod key;
+mod line;
 mod lines;
 mod read;
 mod report;

@@ -1,118 +1,163 @@
 //! The lines of played reports.
-ghost use Rattle.std.specs.Prelude.{◌≡◌, ◌++◌, ℕ, List, OnOk, string_bytes};
-ghost use Rattle.schedule_text.specs.Text.{item_text, kind_text, number_text, op_head, op_line, op_lines, op_tail, order_text, slot_mark};
+ghost use Rattle.std.specs.Prelude.{◌≡◌, ◌+◌, ◌≤◌, ◌++◌, ℕ, List, OnOk, codes, length};
+ghost use Rattle.schedule_text.specs.Text.{entry_at, interval_text, item_text, kind_text, lines_from, number_text, op_head, op_line, op_tail, order_text, slot_mark};
 
+use crate::line::Line;
 use fourslot_core::CellReport;
 use history_core::{Band, Kind, Op};
 use std::alloc::AllocError;
-use std::fmt::Write;
 
 /// What a player tells of each operation besides its history.
 pub trait Marks {
     ghost mark: { Self → ℕ → List ℕ };
 
-    fn push_mark(&self, text: &mut String, place: usize) -> Result<(), AllocError>
-        ensures { OnOk result (string_bytes text.new ≡ string_bytes text.old ++ mark self.now place) };
+    fn put_mark(&self, line: &mut Line, place: usize)
+        requires { length line.old + 50 ≤ 256 }
+        ensures text { line.new ≡ mark self.now place ++ line.old }
+        ensures len { length line.new ≤ length line.old + 50 };
 }
 
 impl Marks for CellReport<Band> {
     ghost mark = { λ report. slot_mark report.slots };
 
-    fn push_mark(&self, text: &mut String, place: usize) -> Result<(), AllocError> {
-        text.push_str("slot ")?;
-        push_slot(text, self.slots.as_slice().get(place).copied().flatten())
+    fn put_mark(&self, line: &mut Line, place: usize) {
+        put_slot(line, slot_at(self.slots.as_slice(), place));
+        line.put(b"slot ");
     }
 }
 
-/// A line for each operation.
-pub fn push_op_lines<M: Marks>(
-    text: &mut String,
+/// A line for each operation from a place on.
+pub fn push_lines_from<M: Marks>(
+    text: &mut Vec<u8>,
     marks: &M,
     ops: &[Op<Band>],
+    from: usize,
 ) -> Result<(), AllocError>
-    ensures { OnOk result (string_bytes text.new ≡ string_bytes text.old ++ op_lines (M.mark marks.now) 0 ops.now) }
+    ensures { OnOk result (text.new.items ≡ text.old.items ++ lines_from (M.mark marks.now) ops.now from) }
 {
-    for place in 0..ops.len() {
-        push_op_line(text, marks, place, &ops[place])?;
+    let mut line = Line::new();
+    for place in from..ops.len() {
+        put_op_line(&mut line, marks, place, &ops[place]);
+        text.extend_from_slice(line.as_bytes())?;
     }
     Ok(())
 }
 
-fn push_op_line<M: Marks>(
-    text: &mut String,
-    marks: &M,
-    place: usize,
-    op: &Op<Band>,
-) -> Result<(), AllocError>
-    ensures { OnOk result (string_bytes text.new
-        ≡ string_bytes text.old ++ op_line place op.now (M.mark marks.now place)) }
+fn put_op_line<M: Marks>(line: &mut Line, marks: &M, place: usize, op: &Op<Band>)
+    ensures { line.new ≡ op_line place op.now (M.mark marks.now place) }
 {
-    push_op_head(text, place, op)?;
-    marks.push_mark(text, place)?;
-    push_op_tail(text, op)
+    line.clear();
+    put_op_tail(line, op);
+    marks.put_mark(line, place);
+    put_op_head(line, place, op);
 }
 
 #[tactic(auto, unfolding(crate::specs::Text::op_head), using(std::proofs::Common::append_assoc))]
-fn push_op_head(text: &mut String, place: usize, op: &Op<Band>) -> Result<(), AllocError>
-    ensures { OnOk result (string_bytes text.new ≡ string_bytes text.old ++ op_head place op.now) }
+fn put_op_head(line: &mut Line, place: usize, op: &Op<Band>)
+    requires { length line.old + 110 ≤ 256 }
+    ensures { line.new ≡ op_head place op.now ++ line.old }
 {
-    let kind = kind_text(op.kind);
-    write!(text, "op {place}: {kind} by {}, {}..", op.who, op.starts)?;
-    push_number(text, op.ends)?;
-    write!(text, ", ")
+    put_interval(line, op);
+    line.put_number(op.who as u64);
+    put_kind(line, op.kind);
+    line.put_number(place as u64);
+    line.put(b"op ");
+}
+
+#[tactic(auto, unfolding(crate::specs::Text::interval_text), using(std::proofs::Common::append_assoc))]
+fn put_interval(line: &mut Line, op: &Op<Band>)
+    requires { length line.old + 50 ≤ 256 }
+    ensures text { line.new ≡ interval_text op.now ++ line.old }
+    ensures len { length line.new ≤ length line.old + 50 }
+{
+    line.put(b", ");
+    put_number(line, op.ends);
+    line.put(b"..");
+    line.put_number(op.starts);
+    line.put(b", ");
 }
 
 #[tactic(auto, unfolding(crate::specs::Text::op_tail), using(std::proofs::Common::append_assoc))]
-fn push_op_tail(text: &mut String, op: &Op<Band>) -> Result<(), AllocError>
-    ensures { OnOk result (string_bytes text.new ≡ string_bytes text.old ++ op_tail op.now) }
+fn put_op_tail(line: &mut Line, op: &Op<Band>)
+    requires { length line.old + 80 ≤ 256 }
+    ensures text { line.new ≡ op_tail op.now ++ line.old }
+    ensures len { length line.new ≤ length line.old + 80 }
 {
-    write!(text, ", ")?;
-    push_item(text, op.item)?;
-    writeln!(text)
+    line.put(b"\n");
+    put_item(line, op.item);
+    line.put(b", ");
 }
 
-fn kind_text(kind: Kind) -> &'static str
-    ensures { result.now ≡ kind_text kind }
+/// The kind between the place and the actor.
+fn put_kind(line: &mut Line, kind: Kind)
+    requires { length line.old + 13 ≤ 256 }
+    ensures text { line.new ≡ codes ": " ++ kind_text kind ++ codes " by " ++ line.old }
+    ensures len { length line.new ≤ length line.old + 13 }
 {
     match kind {
-        Kind::Write => "write",
-        Kind::Read => "read",
-        Kind::Refused => "refused",
+        Kind::Write => line.put(b": write by "),
+        Kind::Read => line.put(b": read by "),
+        Kind::Refused => line.put(b": refused by "),
     }
 }
 
-fn push_number(text: &mut String, number: Option<u64>) -> Result<(), AllocError>
-    ensures { OnOk result (string_bytes text.new ≡ string_bytes text.old ++ number_text number) }
-{
-    match number {
-        Some(number) => write!(text, "{number}"),
-        None => write!(text, "-"),
-    }
-}
-
-fn push_slot(text: &mut String, slot: Option<u8>) -> Result<(), AllocError>
-    ensures { OnOk result (string_bytes text.new ≡ string_bytes text.old ++ number_text slot) }
-{
-    push_number(text, slot.map(|slot| slot as u64))
-}
-
-fn push_item(text: &mut String, item: Option<Band>) -> Result<(), AllocError>
-    ensures { OnOk result (string_bytes text.new ≡ string_bytes text.old ++ item_text item) }
+#[tactic(auto, using(std::proofs::Common::append_assoc))]
+fn put_item(line: &mut Line, item: Option<Band>)
+    requires { length line.old + 70 ≤ 256 }
+    ensures text { line.new ≡ item_text item ++ line.old }
+    ensures len { length line.new ≤ length line.old + 70 }
 {
     match item {
-        Some(Band { lo, now, hi }) => write!(text, "[{lo},{now},{hi}]"),
-        None => write!(text, "-"),
+        Some(Band { lo, now, hi }) => {
+            line.put(b"]");
+            line.put_number(hi);
+            line.put(b",");
+            line.put_number(now);
+            line.put(b",");
+            line.put_number(lo);
+            line.put(b"[");
+        }
+        None => line.put(b"-"),
     }
+}
+
+/// A number, or a dash for none.
+fn put_number(line: &mut Line, number: Option<u64>)
+    requires { length line.old + 20 ≤ 256 }
+    ensures text { line.new ≡ number_text number ++ line.old }
+    ensures len { length line.new ≤ length line.old + 20 }
+{
+    match number {
+        Some(number) => line.put_number(number),
+        None => line.put(b"-"),
+    }
+}
+
+fn put_slot(line: &mut Line, slot: Option<u8>)
+    requires { length line.old + 20 ≤ 256 }
+    ensures text { line.new ≡ number_text slot ++ line.old }
+    ensures len { length line.new ≤ length line.old + 20 }
+{
+    put_number(line, slot.map(|slot| slot as u64))
+}
+
+fn slot_at(slots: &[Option<u8>], place: usize) -> Option<u8>
+    ensures { result ≡ entry_at slots.now place }
+{
+    *slots.get(place)?
 }
 
 /// The line of an order.
-pub fn push_order(text: &mut String, order: &[usize]) -> Result<(), AllocError>
-    ensures { OnOk result (string_bytes text.new ≡ string_bytes text.old ++ order_text order.now) }
+pub fn push_order(text: &mut Vec<u8>, order: &[usize]) -> Result<(), AllocError>
+    ensures { OnOk result (text.new.items ≡ text.old.items ++ order_text order.now) }
 {
-    text.push_str("order:")?;
+    text.extend_from_slice(b"order:")?;
+    let mut line = Line::new();
     for place in order {
-        write!(text, " {place}")?;
+        line.clear();
+        line.put_number(*place as u64);
+        line.put(b" ");
+        text.extend_from_slice(line.as_bytes())?;
     }
-    text.push_str("\n")?;
-    Ok(())
+    text.extend_from_slice(b"\n")
 }

@@ -1,25 +1,43 @@
-ghost use Rattle.std.specs.Prelude.{◌≡◌, ◌++◌, IfOk, OnOk, string_bytes};
-ghost use Rattle.schedule_text.specs.Text.{text_of, verdict_text};
+ghost use Rattle.std.specs.Prelude.{◌≡◌, [], IfOk};
+ghost use Rattle.schedule_text.specs.Text.{cell_text, text_of, verdict_text};
 
 use crate::Report;
-use crate::lines::{push_op_lines, push_order};
-use history_core::Verdict;
+use crate::lines::{push_lines_from, push_order};
+use fourslot_core::CellReport;
+use history_core::{Band, Verdict};
 use std::alloc::{AllocError, Global};
+
+/// The greatest number of operations for which room is made before they are printed.
+const MOST_ROOM: usize = 100_000;
 
 /// The printed lines of a report. Where a played report has no entry for an operation, as no report of a player has it,
 /// a dash stands in its place.
 pub fn report_text(alloc: Global, report: &Report) -> Result<Vec<u8>, AllocError>
     ensures { IfOk result (λ v. v.items ≡ text_of report.now) }
 {
-    let mut text = String::new(alloc);
     match report {
-        Report::Verdict(verdict) => text.push_str(verdict_text(*verdict))?,
-        Report::Cell(cell) => {
-            push_op_lines(&mut text, cell, cell.history.ops.as_slice())?;
-            push_order(&mut text, cell.order.as_slice())?;
-        }
+        Report::Verdict(verdict) => Vec::from_slice(alloc, verdict_text(*verdict).as_bytes()),
+        Report::Cell(report) => cell_text(alloc, report),
     }
-    Ok(text.into_bytes())
+}
+
+fn cell_text(alloc: Global, report: &CellReport<Band>) -> Result<Vec<u8>, AllocError>
+    ensures { IfOk result (λ v. v.items ≡ cell_text report.now) }
+{
+    let ops = report.history.ops.as_slice();
+    let order = report.order.as_slice();
+    let mut text = with_room(alloc, ops.len(), order.len())?;
+    push_lines_from(&mut text, report, ops, 0)?;
+    push_order(&mut text, order)?;
+    Ok(text)
+}
+
+/// No text yet, with room for the lines of most reports of this size.
+fn with_room(alloc: Global, operations: usize, listed: usize) -> Result<Vec<u8>, AllocError>
+    ensures { IfOk result (λ v. v.items ≡ []) }
+{
+    let lines = 64 * operations.min(MOST_ROOM);
+    Vec::with_capacity(alloc, lines + 6 * listed.min(MOST_ROOM))
 }
 
 fn verdict_text(verdict: Verdict) -> &'static str
