@@ -118,16 +118,16 @@ ends_told want in_old in_new out_old out_new taken given text a takes whole same
       takes = takes.0;
       at_most = takes.1;
       sends = subst (Appends out_old out_new) same_text sends;
-      front = inr (a, (Ok a, answer, refl), take_all (length a.text) a.text (omega arith));
+      front = inr ((a, (Ok a, answer, refl), take_all (length a.text) a.text (omega arith)), whole);
       silent = λ two four. absurd (omega arith);
       told = λ not_four not_five. (Ok a, answer, refl);
       whole = λ not_two not_four not_five. whole;
     }
 
 -- a write failed after a front of the text
-pub ends_cut : (want : Want) (in_old in_new out_old out_new : Option (List ℕ)) (taken given text sent : List ℕ) (a : Answer) → TakesBytes in_old in_new taken
+pub ends_cut : (want : Want) (in_old in_new out_old out_new : Option (List ℕ)) (taken given text sent : List ℕ) (a : Answer) → TakesBytes in_old in_new taken → IsWhole taken in_new
     → given ≡ taken → IsAnswer want given (Ok a) → text ≡ a.text → StartsWith text sent → Appends out_old out_new sent → Runs (Some want) in_old in_new out_old out_new 5
-ends_cut want in_old in_new out_old out_new taken given text sent a takes same_bytes answered same_text front sends =
+ends_cut want in_old in_new out_old out_new taken given text sent a takes whole same_bytes answered same_text front sends =
     let answer : IsAnswer want taken (Ok a) = subst (λ b. IsAnswer want b (Ok a)) same_bytes answered in
     record {
       taken = taken;
@@ -135,7 +135,7 @@ ends_cut want in_old in_new out_old out_new taken given text sent a takes same_b
       takes = takes.0;
       at_most = takes.1;
       sends = sends;
-      front = inr (a, (Ok a, answer, refl), subst (λ t. StartsWith t sent) same_text front);
+      front = inr ((a, (Ok a, answer, refl), subst (λ t. StartsWith t sent) same_text front), whole);
       silent = λ two four. absurd (omega arith);
       told = λ not_four not_five. absurd (not_five refl);
       whole = λ not_two not_four not_five. absurd (not_five refl);

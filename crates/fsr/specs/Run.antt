@@ -43,8 +43,8 @@ pub record Runs (command : Option Want) (in_old in_new out_old out_new : Option 
   pub takes : Consumes in_old in_new taken
   pub at_most : length taken ≤ most_taken
   pub sends : Appends out_old out_new sent
-  -- what went out is a front of the text, also after a failed write
-  pub front : (sent ≡ []) ⊎ IsFront command taken sent
+  -- what went out is a front of the text for the whole input, also after a failed write
+  pub front : (sent ≡ []) ⊎ (IsFront command taken sent × IsWhole taken in_new)
   -- with statuses 2 to 4 nothing goes out
   pub silent : 2 ≤ status → status ≤ 4 → sent ≡ []
   -- but for want of memory and failed streams, the text goes out whole, with its status
