@@ -16,8 +16,6 @@ use Rattle.std.proofs.lemmas.Option.{slice_get_within, slice_get-get_or, slice_g
 use Rattle.history_core.specs.declared.history.Op.{Op}
 use Rattle.history_core.specs.Orders.{times_of, is_write}
 use Rattle.history_core.proofs.Places.{get_pushed_cases}
-use Rattle.history_core.proofs.Listing.{times_cases, times_cons}
-use Rattle.matrix_core.specs.TermOrders.{IsTermOrder}
 use Rattle.matrix_core.specs.declared.stamp.Stamp.{Stamp}
 use Rattle.matrix_core.specs.declared.order.Listed.{Listed}
 use Rattle.matrix_core.specs.Stamps.{IsBelow}
@@ -198,74 +196,3 @@ module _ {R : Type 0} (ops : List (Op R)) (stamps : List (Option Stamp)) where
 
   pub entry_inside : (entries : List Listed) (i : ℕ) (d : Listed) → i < length entries → IsInOrder ops stamps (map (λ (e : Listed). e.place) entries) → (get_or entries i d).place < length ops
   entry_inside entries i d l h = h.places i (get_or entries i d).place (slice_get-map (λ (e : Listed). e.place) entries i ∙ ap (option_map (λ (e : Listed). e.place)) (slice_get-get_or entries i d l))
-
--- an entry counts, and one that stands twice counts twice
-times_some : (p i : ℕ) (xs : List ℕ) → slice_get xs i ≡ Some p → 1 ≤ times_of p xs
-times_some p i [] h = absurd (none-some p h)
-times_some p zero (x ∷ xs) h = let b : nat_eq x p ≡ true = same x p (same_Some x p h) in let e : times_of p (x ∷ xs) ≡ 1 + times_of p xs = times_cons p x xs ∙ ap (λ z. cond z 1 0 + times_of p xs) b in omega arith
-times_some p (suc i) (x ∷ xs) h = let r : 1 ≤ times_of p xs = times_some p i xs h in let e = times_cons p x xs in omega arith
-
-times_twice : (p i j : ℕ) (xs : List ℕ) → i < j → slice_get xs i ≡ Some p → slice_get xs j ≡ Some p → 2 ≤ times_of p xs
-times_twice p i j [] l h g = absurd (none-some p h)
-times_twice p i zero (x ∷ xs) l h g = absurd (omega arith)
-times_twice p zero (suc j) (x ∷ xs) l h g = let r : 1 ≤ times_of p xs = times_some p j xs g in let b : nat_eq x p ≡ true = same x p (same_Some x p h) in let e : times_of p (x ∷ xs) ≡ 1 + times_of p xs = times_cons p x xs ∙ ap (λ z. cond z 1 0 + times_of p xs) b in omega arith
-times_twice p (suc i) (suc j) (x ∷ xs) l h g = let r : 2 ≤ times_of p xs = times_twice p i j xs (omega arith) h g in let e = times_cons p x xs in omega arith
-
--- operations stand in order of beginning
-abbrev pub HasRising : {R : Type 0} → List (Op R) → Type 0
-HasRising {R} ops = (p q : ℕ) (a b : Op R) → slice_get ops p ≡ Some a → slice_get ops q ≡ Some b → p < q → a.starts < b.starts
-
-module _ {R : Type 0} (ops : List (Op R)) (stamps : List (Option Stamp)) (order : List ℕ) where
-  kept_by : (op : Op R) (ends : Option ℕ) → op.ends ≡ ends → (w : Bool) → is_write op.kind ≡ w → is_some ends || w ≡ true → (is_write op.kind ≡ true) ⊎ IsSome op.ends
-  kept_by op ends e true f h = inl f
-  kept_by op (Some end) e false f h = inr (rw e refl)
-  kept_by op None e false f h = cc
-
-  stamp_of : (op : Op R) (stamp : Option Stamp) → is_listed op stamp ≡ true → (s : Stamp) × (stamp ≡ Some s) × ((is_write op.kind ≡ true) ⊎ IsSome op.ends)
-  stamp_of op None h = cc
-  stamp_of op (Some s) h = (s, refl, kept_by op op.ends refl (is_write op.kind) refl h)
-
-  listed_true : (op : Op R) (s : Stamp) → (is_write op.kind ≡ true) ⊎ IsSome op.ends → is_listed op (Some s) ≡ true
-  listed_true op s (inl w) = or_right (is_some op.ends) (is_write op.kind) w
-    where
-      or_right : (a b : Bool) → b ≡ true → a || b ≡ true
-      or_right true b e = refl
-      or_right false b e = e
-  listed_true op s (inr w) = or_left (is_some op.ends) (is_write op.kind) w
-    where
-      or_left : (a b : Bool) → a ≡ true → a || b ≡ true
-      or_left true b e = refl
-      or_left false b e = cc
-
-  at_most_once : (p : ℕ) (op : Op R) → slice_get ops p ≡ Some op → length stamps ≡ length ops → IsInOrder ops stamps order → times_of p order ≤ 1
-  at_most_once p op h long o =
-      let st = get_exists stamps p (let l = slice_get_within ops p op h in omega arith) in
-      ⊎_elim (λ (b : is_listed op st.0 ≡ true). let e : times_of p order ≡ 1 = o.listed p op st.0 h st.1 ∙ ap (λ z. if z then 1 else 0) b in omega arith)
-      (λ (b : is_listed op st.0 ≡ false). let e : times_of p order ≡ 0 = o.listed p op st.0 h st.1 ∙ ap (λ z. if z then 1 else 0) b in omega arith) (cases_Bool (is_listed op st.0))
-
-  -- by beginning in place of by place
-  pub term_order : length stamps ≡ length ops → HasRising ops → IsInOrder ops stamps order → IsTermOrder ops stamps order
-  term_order long rising o = record {
-    listed = λ i p h.
-        let op = get_exists ops p (o.places i p h) in
-        let st = get_exists stamps p (let l = o.places i p h in omega arith) in
-        let once : 1 ≤ times_of p order = times_some p i order h in
-        let b : is_listed op.0 st.0 ≡ true = ⊎_elim (λ (b : is_listed op.0 st.0 ≡ true). b)
-        (λ (b : is_listed op.0 st.0 ≡ false). let e : times_of p order ≡ 0 = o.listed p op.0 st.0 op.1 st.1 ∙ ap (λ z. if z then 1 else 0) b in absurd (omega arith)) (cases_Bool (is_listed op.0 st.0)) in
-        let s = stamp_of op.0 st.0 b in
-        record { op = op.0; there = op.1; stamp = s.0; chosen = st.1 ∙ ap Some s.1; kept = s.2 };
-    all = λ p l.
-        let e : times_of p order ≡ 1 = o.listed p l.op (Some l.stamp) l.there l.chosen ∙ ap (λ z. if z then 1 else 0) (listed_true l.op l.stamp l.kept) in
-        ⊎_elim (λ (w : (i : ℕ) × (slice_get order i ≡ Some p)). w) (λ (z : times_of p order ≡ 0). absurd (omega arith)) (times_cases p order);
-    sorted = λ i j p q a b s t si sj ss st l. ⊎_elim
-        (λ (u : IsBelow s t). inl u)
-        (λ (u : (s ≡ t) × (((is_write a.kind ≡ true) × (is_write b.kind ≡ false)) ⊎ ((is_write a.kind ≡ is_write b.kind) × (p ≤ q)))). ⊎_elim
-        (λ (v : (is_write a.kind ≡ true) × (is_write b.kind ≡ false)). inr (inl (u.0, v.0, v.1)))
-        (λ (v : (is_write a.kind ≡ is_write b.kind) × (p ≤ q)).
-        let le : p ≤ q = v.1 in
-        let ne : p ≢ q = λ e.
-        let two : 2 ≤ times_of p order = times_twice p i j order l si.0 (sj.0 ∙ ap Some (sym e)) in
-        let one : times_of p order ≤ 1 = at_most_once p a si.1 long o in omega arith in
-        inr (inr (u.0, v.0, rising p q a b si.1 sj.1 (omega arith)))) u.1)
-        (o.sorted i j p q a b s t l si sj ss st);
-  }

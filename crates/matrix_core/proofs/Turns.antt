@@ -91,9 +91,9 @@ module _ {R : Type 0} where
           next,
           refl,
           g.played.played,
-          term_atomic opening term.limit run.ops run.stamps kept.0 mine kept.1.has h.3,
-          term_lawful opening term.limit run.ops run.stamps kept.0 mine kept.1.has h.3,
-          term_last opening term.limit run.ops run.stamps kept.0 mine kept.1.has h.3 (greatest_own (first_record opening) run.matrix.lines).stamp (greatest_own (first_record opening) run.matrix.lines).item
+          term_atomic opening term.limit run.ops run.stamps kept.0 mine kept.1.has h.3 g.stamps g.played.played.rising,
+          term_lawful opening term.limit run.ops run.stamps kept.0 mine kept.1.has h.3 g.stamps g.played.played.rising,
+          term_last opening term.limit run.ops run.stamps kept.0 mine kept.1.has h.3 g.stamps g.played.played.rising (greatest_own (first_record opening) run.matrix.lines).stamp (greatest_own (first_record opening) run.matrix.lines).item
               (greatest_held opening term.limit (length term.plans) run kept.0 g.processes kept.1),
           rest.turn,
         );

@@ -8,7 +8,6 @@ use Rattle.matrix_core.specs.declared.stamp.Stamp.{Stamp}
 use Rattle.matrix_core.specs.declared.schedule.MatrixSchedule.{MatrixSchedule}
 use Rattle.matrix_core.specs.declared.schedule.MatrixReport.{MatrixReport}
 use Rattle.matrix_core.specs.Stamps.{IsBelow}
-use Rattle.matrix_core.specs.TermOrders.{IsTermOrder}
 use Rattle.matrix_core.specs.Runs.{Run, runs_of, ops_of, stamps_of, terms_of}
 
 module _ {R : Type 0} where
@@ -21,7 +20,7 @@ module _ {R : Type 0} where
   abbrev pub MayPrecede : Stamp → Op R → ℕ → Stamp → Op R → ℕ → Type 0
   MayPrecede s a p t b q = IsBelow s t ⊎ ((s ≡ t) × (((is_write a.kind ≡ true) × (is_write b.kind ≡ false)) ⊎ ((is_write a.kind ≡ is_write b.kind) × (p ≤ q))))
 
-  -- an order of one term in which each operation stands as often as it is listed, by stamp, kind and place
+  -- the order of one term, whose operations stand in order of beginning
   pub record IsInOrder (ops : List (Op R)) (stamps : List (Option Stamp)) (order : List ℕ) : Type 0 where
     pub places : ListsPlaces ops order
     pub listed : (p : ℕ) (op : Op R) (stamp : Option Stamp) → slice_get ops p ≡ Some op → slice_get stamps p ≡ Some stamp → times_of p order ≡ (if is_listed op stamp then 1 else 0)
@@ -33,7 +32,7 @@ module _ {R : Type 0} where
   HasOrders place [] order = order ≡ []
   HasOrders place (run ∷ runs) order =
       (mine : List ℕ) × (later : List ℕ) × (order ≡ map (λ p. place + p) mine ++ later)
-      × IsTermOrder run.ops run.stamps mine × HasOrders (place + length run.ops) runs later
+      × IsInOrder run.ops run.stamps mine × HasOrders (place + length run.ops) runs later
 
   -- the report of a schedule's run
   pub record IsReport (schedule : MatrixSchedule R) (report : MatrixReport R) : Type 0 where
