@@ -1,6 +1,6 @@
 -- The accesses of the report are those of the trace: their positions are the schedule's, and the slot of an operation stands in
 -- the report beside the operation with its beginning. So the report is clear and fresh as the trace is.
-use Rattle.std.proofs.Common.{◌≡◌, ℕ, ◌+◌, ◌*◌, ◌<◌, ◌≤◌, true, false, nat_eq, List, [], ◌∷◌, length, map, slice_get, Option, None, Some, IsSome, zero, suc, refl, sym, subst, ◌∙◌, ap, arith}
+use Rattle.std.proofs.Common.{◌≡◌, ◌≢◌, ℕ, ◌+◌, ◌*◌, ◌<◌, ◌≤◌, true, false, nat_eq, List, [], ◌∷◌, length, map, slice_get, Option, None, Some, IsSome, zero, suc, refl, sym, subst, ◌∙◌, ap, arith}
 use Rattle.std.specs.Prelude.{if◌then◌else◌}
 use Rattle.std.specs.Option.{option_and_then, option_map}
 use Rattle.std.proofs.lemmas.Bool.Decides.{nat_tests}
@@ -153,11 +153,23 @@ module _ {R : Type 0} (opening noise : R) (steps : List Turn) (writes : List R) 
       let same : number * 5 + 0 ≡ m * 5 + 0 = position_once 0 1 acts (number * 5 + 0) (m * 5 + 0) starts here begins in
       ap (λ n. option_map record_of (slice_get played.answers n)) (let e : number ≡ m = omega arith in e) ∙ sym (slice_get-map record_of played.answers m)
 
+  not_refused : (turn : Turn) (number starts : ℕ) (writer_ends reader_ends : List ℕ) → (op_by turn number starts writes writer_ends reader_ends played.answers).kind ≡ Refused → ⊥
+  not_refused Writer number starts writer_ends reader_ends e = cc
+  not_refused Reader number starts writer_ends reader_ends e = cc
+
+  -- no operation of a cell is refused
+  unrefused : Assembled → (p : ℕ) (op : Op R) → slice_get ops p ≡ Some op → op.kind ≢ Refused
+  unrefused a p op at is =
+      let w = mapped_from (op_of writes a.writer_ends a.reader_ends played.answers) a.parts p op (ap (λ list. slice_get list p) (sym a.ops_are) ∙ at) in
+      let part : Part = w.0 in
+      not_refused part.turn part.number part.starts a.writer_ends a.reader_ends (ap (λ (o : Op R). o.kind) w.2 ∙ is)
+
   pub is_of_run : Assembled → IsOfRun span (run opening noise writes steps) ops slots
   is_of_run a = record {
     each_slot = ap length a.slots_are ∙ length-map a.parts (slot_of played.write_slots played.read_slots) ∙ sym (length-map a.parts (op_of writes a.writer_ends a.reader_ends played.answers)) ∙ ap length (sym a.ops_are);
     write_slots = λ k. ap (λ (w : Accesses). w.slot k) (writes_are a) ∙ ap (λ (t : Trace R). slice_get t.write_slots k) (sym (run_mapped opening noise writes steps));
     read_slots = λ k. ap (λ (w : Accesses). w.slot k) (reads_are a) ∙ ap (λ (t : Trace R). slice_get t.read_slots k) (sym (run_mapped opening noise writes steps));
+    unrefused = unrefused a;
     answers = λ p m op at who begins.
         let w = mapped_from (op_of writes a.writer_ends a.reader_ends played.answers) a.parts p op (ap (λ list. slice_get list p) (sym a.ops_are) ∙ at) in
         let part : Part = w.0 in
@@ -173,13 +185,6 @@ module _ {R : Type 0} (opening noise : R) (steps : List Turn) (writes : List R) 
       let P : Log (Numbered R) → Type 0 = λ l. IsAssembled l steps writes terms ops slots order in
       subst P (sym (run_shown opening noise writes steps)) a
 
-  not_refused : (turn : Turn) (number starts : ℕ) (writer_ends reader_ends : List ℕ) → (op_by turn number starts writes writer_ends reader_ends played.answers).kind ≡ Refused → ⊥
-  not_refused Writer number starts writer_ends reader_ends e = cc
-  not_refused Reader number starts writer_ends reader_ends e = cc
-
-  -- no operation of a cell is refused
+  -- none of the report's is refused, so refusals are lawful
   pub refuses : Assembled → RefusesLawfully terms ops order
-  refuses a k t at i p o ip po is within =
-      let w = mapped_from (op_of writes a.writer_ends a.reader_ends played.answers) a.parts p o (ap (λ list. slice_get list p) (sym a.ops_are) ∙ po) in
-      let part : Part = w.0 in
-      absurd (not_refused part.turn part.number part.starts a.writer_ends a.reader_ends (ap (λ (op : Op R). op.kind) w.2 ∙ is))
+  refuses a k t at i p o ip po is within = absurd (unrefused a p o po is)

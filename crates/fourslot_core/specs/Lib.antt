@@ -1,4 +1,5 @@
 pub mod Accesses
+pub mod CellReports
 pub mod Events
 pub mod Freshness
 pub mod Interleaving

@@ -5,7 +5,8 @@ ghost use Rattle.std.specs.Prelude.{◌≡◌, ◌+◌, ◌<◌, ◌^◌, ◌++�
 ghost use Rattle.history_core.specs.Schedules.{HasOperations, HasShape, IsFirstOverrun, positions};
 ghost use Rattle.fourslot_core.specs.Play.{actor, IsRefusal, run, span_of};
 ghost use Rattle.fourslot_core.specs.Accesses.{IsClear};
-ghost use Rattle.fourslot_core.specs.Reports.{AnswersSources, IsFreshReport, IsOfRun, reader_of, writer_of};
+ghost use Rattle.fourslot_core.specs.CellReports.{cell_span, reader_in, writer_in};
+ghost use Rattle.fourslot_core.specs.Reports.{AnswersSources, IsFreshReport, IsOfRun};
 ghost use Rattle.history_core.specs.Orders.{IsAtomicOrder, RefusesLawfully};
 ghost use Rattle.fourslot_core.specs.ReportOrders.{IsReportOrder};
 ghost use Rattle.fourslot_core.specs.declared.schedule.Turn.TheVariants.{Reader, Writer};
@@ -418,15 +419,18 @@ fn report<R: Copy>(
 /// Plays a schedule of a cell, in time and memory proportional to its steps. A schedule with a step that no operation is left
 /// for is refused before any memory is taken, by the position of the first such step.
 pub fn play_cell<R: Copy>(alloc: Global, s: &CellSchedule<R>) -> Result<CellReport<R>, PlayError>
-    ensures refused { IfErr result (λ e. IsRefusal (span_of s.now.steps s.now.writes s.now.reads) e) }
-    ensures played { IfOk result (λ r. HasOperations (span_of s.now.steps s.now.writes s.now.reads ∷ [])) }
+    ensures refused { IfErr result (λ e. IsRefusal (cell_span s.now) e) }
+    ensures played { IfOk result (λ r. HasOperations (cell_span s.now ∷ [])) }
     ensures opening { IfOk result (λ r. r.history.opening ≡ s.now.opening) }
-    ensures shape { IfOk result (λ r. HasShape (span_of s.now.steps s.now.writes s.now.reads ∷ []) r.history.terms r.history.ops) }
-    ensures run { IfOk result (λ r. IsOfRun (span_of s.now.steps s.now.writes s.now.reads) (run s.now.opening s.now.noise s.now.writes s.now.steps) r.history.ops r.slots) }
-    ensures answers { IfOk result (λ r. let span = span_of s.now.steps s.now.writes s.now.reads in AnswersSources (writer_of span r.history.ops r.slots) (reader_of span r.history.ops r.slots) s.now.opening s.now.writes r.history.ops) }
-    ensures clear { IfOk result (λ r. let span = span_of s.now.steps s.now.writes s.now.reads in IsClear (writer_of span r.history.ops r.slots) (reader_of span r.history.ops r.slots)) }
-    ensures fresh { IfOk result (λ r. let span = span_of s.now.steps s.now.writes s.now.reads in IsFreshReport (writer_of span r.history.ops r.slots) (reader_of span r.history.ops r.slots)) }
-    ensures order { IfOk result (λ r. let span = span_of s.now.steps s.now.writes s.now.reads in IsReportOrder (writer_of span r.history.ops r.slots) (reader_of span r.history.ops r.slots) r.history.ops r.order) }
+    ensures shape { IfOk result (λ r. HasShape (cell_span s.now ∷ []) r.history.terms r.history.ops) }
+    ensures run { IfOk result (λ r. IsOfRun (cell_span s.now)
+        (run s.now.opening s.now.noise s.now.writes s.now.steps) r.history.ops r.slots) }
+    ensures answers { IfOk result (λ r. AnswersSources (writer_in s.now r) (reader_in s.now r)
+        s.now.opening s.now.writes r.history.ops) }
+    ensures clear { IfOk result (λ r. IsClear (writer_in s.now r) (reader_in s.now r)) }
+    ensures fresh { IfOk result (λ r. IsFreshReport (writer_in s.now r) (reader_in s.now r)) }
+    ensures order { IfOk result (λ r. IsReportOrder (writer_in s.now r) (reader_in s.now r)
+        r.history.ops r.order) }
     ensures atomic { IfOk result (λ r. IsAtomicOrder (λ x y. x ≡ y) s.now.opening r.history.ops r.order) }
     ensures refuses { IfOk result (λ r. RefusesLawfully r.history.terms r.history.ops r.order) }
 {

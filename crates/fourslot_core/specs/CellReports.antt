@@ -1,0 +1,37 @@
+-- What a report of a cell's schedule is, in one word: everything that `play_cell` promises of it. Histories and orders are those
+-- of L. Lamport, On Interprocess Communication, 1986; the report is this project's own.
+use Rattle.std.specs.Prelude.{◌≡◌, [], ◌∷◌}
+use Rattle.history_core.specs.Orders.{IsAtomicOrder, RefusesLawfully}
+use Rattle.history_core.specs.Schedules.{HasOperations, HasShape, Span}
+use Rattle.fourslot_core.specs.Accesses.{Accesses, IsClear}
+use Rattle.fourslot_core.specs.Play.{run, span_of}
+use Rattle.fourslot_core.specs.ReportOrders.{IsReportOrder}
+use Rattle.fourslot_core.specs.Reports.{AnswersSources, IsFreshReport, IsOfRun, reader_of, writer_of}
+use Rattle.fourslot_core.specs.declared.schedule.CellReport.{CellReport}
+use Rattle.fourslot_core.specs.declared.schedule.CellSchedule.{CellSchedule}
+
+module _ {R : Type 0} where
+  -- the schedule as one term
+  abbrev pub cell_span : CellSchedule R → Span R
+  cell_span s = span_of s.steps s.writes s.reads
+
+  -- the report's writes and reads as accesses of the cell
+  abbrev pub writer_in : CellSchedule R → CellReport R → Accesses
+  writer_in s r = writer_of (cell_span s) r.history.ops r.slots
+
+  abbrev pub reader_in : CellSchedule R → CellReport R → Accesses
+  reader_in s r = reader_of (cell_span s) r.history.ops r.slots
+
+  -- it lists the schedule's operations with their intervals and what they saw in its run, no slot is written while the reader
+  -- is in it, and the order is atomic
+  pub record IsCellReport (s : CellSchedule R) (r : CellReport R) : Type 0 where
+    pub played : HasOperations (cell_span s ∷ [])
+    pub opening : r.history.opening ≡ s.opening
+    pub shape : HasShape (cell_span s ∷ []) r.history.terms r.history.ops
+    pub run : IsOfRun (cell_span s) (run s.opening s.noise s.writes s.steps) r.history.ops r.slots
+    pub answers : AnswersSources (writer_in s r) (reader_in s r) s.opening s.writes r.history.ops
+    pub clear : IsClear (writer_in s r) (reader_in s r)
+    pub fresh : IsFreshReport (writer_in s r) (reader_in s r)
+    pub order : IsReportOrder (writer_in s r) (reader_in s r) r.history.ops r.order
+    pub atomic : IsAtomicOrder (λ x y. x ≡ y) s.opening r.history.ops r.order
+    pub refuses : RefusesLawfully r.history.terms r.history.ops r.order
