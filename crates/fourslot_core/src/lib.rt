@@ -6,12 +6,12 @@ mod cell;
 mod event;
 pub mod laws;
 mod player;
-#[cfg(test)]
-mod rows;
 mod schedule;
 mod state;
 #[cfg(test)]
 mod tests;
+#[cfg(test)]
+mod worked;
 
 pub use cell::CellCore;
 pub use event::{ReadEvent, WriteEvent};

@@ -78,7 +78,7 @@ fn follows(rt: &impl Abort, cell: &mut CellCore<u64>, sights: &[Sight]) {
 const NONE: (Option<u8>, Option<u8>) = (None, None);
 
 #[test]
-fn row_8(rt: HostRuntime) {
+fn read_after_a_write(rt: HostRuntime) {
     let mut cell = CellCore::new(0, 987);
     let sights = [
         shows(1, "w", [0, 0, 0, 0], NONE),
@@ -96,7 +96,7 @@ fn row_8(rt: HostRuntime) {
 }
 
 #[test]
-fn row_9(rt: HostRuntime) {
+fn read_begun_before_the_write(rt: HostRuntime) {
     let mut cell = CellCore::new(0, 987);
     let sights = [
         shows(0, "r", [0, 0, 0, 0], NONE),
@@ -111,7 +111,7 @@ fn row_9(rt: HostRuntime) {
 }
 
 #[test]
-fn row_10(rt: HostRuntime) {
+fn read_of_an_unfinished_write(rt: HostRuntime) {
     let mut cell = CellCore::new(0, 987);
     let sights = [
         shows(1, "wwwww", [1, 0, 0, 1], NONE),
@@ -125,7 +125,7 @@ fn row_10(rt: HostRuntime) {
 }
 
 #[test]
-fn row_11(rt: HostRuntime) {
+fn two_slots_of_one_pair(rt: HostRuntime) {
     let mut cell = CellCore::new(0, 987);
     let sights = [
         shows(1, "wwwww", [1, 0, 0, 1], NONE),
@@ -141,7 +141,7 @@ fn row_11(rt: HostRuntime) {
 }
 
 #[test]
-fn row_12(rt: HostRuntime) {
+fn stalled_reader(rt: HostRuntime) {
     let mut cell = CellCore::new(0, 987);
     let sights = [
         shows(1, "wwwww", [1, 0, 0, 1], NONE),
@@ -158,7 +158,7 @@ fn row_12(rt: HostRuntime) {
 }
 
 #[test]
-fn row_13(rt: HostRuntime) {
+fn read_between_the_stores_of_a_write(rt: HostRuntime) {
     let mut cell = CellCore::new(0, 987);
     let sights = [
         shows(1, "wwwww", [1, 0, 0, 1], NONE),

@@ -96,41 +96,41 @@ fn shows(
 }
 
 #[test]
-fn row_7(rt: HostRuntime) {
+fn nothing_to_play(rt: HostRuntime) {
     let report = played(&rt, rt.alloc(), "", &[], 0);
     shows(&rt, &report, &[], &[], &[]);
 }
 
 #[test]
-fn row_8(rt: HostRuntime) {
+fn read_after_a_write(rt: HostRuntime) {
     let report = played(&rt, rt.alloc(), "wwwwwrrrrr", &[1], 1);
     let ops = [write(0, Some(4), 1), read(5, 9, 1)];
     shows(&rt, &report, &ops, &[Some(3), Some(3)], &[0, 1]);
 }
 
 #[test]
-fn row_9(rt: HostRuntime) {
+fn read_begun_before_the_write(rt: HostRuntime) {
     let report = played(&rt, rt.alloc(), "rwwwwwrrrr", &[1], 1);
     let ops = [read(0, 9, 0), write(1, Some(5), 1)];
     shows(&rt, &report, &ops, &[Some(0), Some(3)], &[0, 1]);
 }
 
 #[test]
-fn row_10(rt: HostRuntime) {
+fn read_of_an_unfinished_write(rt: HostRuntime) {
     let report = played(&rt, rt.alloc(), "wwwwwwwwwrrrrr", &[1, 2], 1);
     let ops = [write(0, Some(4), 1), write(5, None, 2), read(9, 13, 2)];
     shows(&rt, &report, &ops, &[Some(3), Some(2), Some(2)], &[0, 1, 2]);
 }
 
 #[test]
-fn row_11(rt: HostRuntime) {
+fn two_slots_of_one_pair(rt: HostRuntime) {
     let report = played(&rt, rt.alloc(), "wwwwwwwrrrrwrww", &[1, 2], 1);
     let ops = [write(0, Some(4), 1), write(5, Some(14), 2), read(7, 12, 1)];
     shows(&rt, &report, &ops, &[Some(3), Some(2), Some(3)], &[0, 2, 1]);
 }
 
 #[test]
-fn row_12(rt: HostRuntime) {
+fn stalled_reader(rt: HostRuntime) {
     let report = played(&rt, rt.alloc(), "wwwwwrrrrwwwwwwwwwwrrrrrr", &[1, 2, 3], 2);
     let ops = [
         write(0, Some(4), 1),
@@ -144,7 +144,7 @@ fn row_12(rt: HostRuntime) {
 }
 
 #[test]
-fn row_13(rt: HostRuntime) {
+fn read_between_the_stores_of_a_write(rt: HostRuntime) {
     let report = played(&rt, rt.alloc(), "wwwwwrrrrrwwwwrrrrrw", &[1, 2], 2);
     let ops = [
         write(0, Some(4), 1),
@@ -157,7 +157,7 @@ fn row_13(rt: HostRuntime) {
 }
 
 #[test]
-fn row_14(rt: HostRuntime) {
+fn step_without_an_operation(rt: HostRuntime) {
     let schedule = schedule(rt.alloc(), "wwwwww", &[1], 0).expect(&rt, "memory");
     match play_cell(rt.alloc(), &schedule) {
         Err(e) => assert!(&rt; e == PlayError::TooManySteps { position: 5 }),
