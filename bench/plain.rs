@@ -1,0 +1,272 @@
+//! Plain registers of one writer and one reader, written for comparison with the proved cells: H. Simpson's four slots, the
+//! triple buffer, and the locks of Rust's library. `plain list`, `plain run` and `plain count IMPL BYTES OP N`, as `cells_bench`.
+use std::cell::UnsafeCell;
+use std::hint::black_box;
+use std::sync::atomic::{AtomicU64, Ordering::SeqCst};
+use std::sync::{Mutex, RwLock};
+use std::thread;
+use std::time::Instant;
+
+type Record<const N: usize> = [u64; N];
+
+trait Register<const N: usize>: Sync {
+    /// What a side remembers.
+    type Put: Send + Default;
+    type Get: Send + Default;
+    fn make() -> Self;
+    fn write(&self, put: &mut Self::Put, item: Record<N>);
+    fn read(&self, get: &mut Self::Get) -> Record<N>;
+}
+
+struct Slots<const N: usize, const S: usize>([UnsafeCell<Record<N>>; S]);
+
+// Each register below lets one side at a time into a slot.
+unsafe impl<const N: usize, const S: usize> Sync for Slots<N, S> {}
+
+impl<const N: usize, const S: usize> Slots<N, S> {
+    fn new() -> Self {
+        Slots(std::array::from_fn(|_| UnsafeCell::new([0; N])))
+    }
+    fn put(&self, slot: usize, item: Record<N>) {
+        unsafe { *self.0[slot].get() = item }
+    }
+    fn get(&self, slot: usize) -> Record<N> {
+        unsafe { *self.0[slot].get() }
+    }
+}
+
+/// Words 0 to 3 are `latest`, `reading` and the bits of the pairs.
+struct FourSlot<const N: usize> {
+    words: [AtomicU64; 4],
+    slots: Slots<N, 4>,
+}
+
+impl<const N: usize> Register<N> for FourSlot<N> {
+    type Put = [u64; 2];
+    type Get = ();
+    fn make() -> Self {
+        FourSlot { words: [const { AtomicU64::new(0) }; 4], slots: Slots::new() }
+    }
+    fn write(&self, bits: &mut [u64; 2], item: Record<N>) {
+        let pair = 1 - (self.words[1].load(SeqCst) & 1);
+        let index = 1 - (bits[pair as usize] & 1);
+        self.slots.put((2 * pair + index) as usize, item);
+        self.words[2 + pair as usize].store(index, SeqCst);
+        self.words[0].store(pair, SeqCst);
+        bits[pair as usize] = index;
+    }
+    fn read(&self, _: &mut ()) -> Record<N> {
+        let pair = self.words[0].load(SeqCst) & 1;
+        self.words[1].store(pair, SeqCst);
+        let index = self.words[2 + pair as usize].load(SeqCst) & 1;
+        self.slots.get((2 * pair + index) as usize)
+    }
+}
+
+/// The word is the middle slot, plus 4 where it has a record not read yet.
+struct Triple<const N: usize> {
+    word: AtomicU64,
+    slots: Slots<N, 3>,
+}
+
+struct TriplePut(usize);
+struct TripleGet(usize);
+
+impl Default for TriplePut {
+    fn default() -> Self {
+        TriplePut(0)
+    }
+}
+
+impl Default for TripleGet {
+    fn default() -> Self {
+        TripleGet(2)
+    }
+}
+
+impl<const N: usize> Register<N> for Triple<N> {
+    type Put = TriplePut;
+    type Get = TripleGet;
+    fn make() -> Self {
+        Triple { word: AtomicU64::new(1), slots: Slots::new() }
+    }
+    fn write(&self, put: &mut TriplePut, item: Record<N>) {
+        self.slots.put(put.0, item);
+        put.0 = (self.word.swap(put.0 as u64 + 4, SeqCst) % 4) as usize;
+    }
+    fn read(&self, get: &mut TripleGet) -> Record<N> {
+        if self.word.load(SeqCst) >= 4 {
+            get.0 = (self.word.swap(get.0 as u64, SeqCst) % 4) as usize;
+        }
+        self.slots.get(get.0)
+    }
+}
+
+impl<const N: usize> Register<N> for Mutex<Record<N>> {
+    type Put = ();
+    type Get = ();
+    fn make() -> Self {
+        Mutex::new([0; N])
+    }
+    fn write(&self, _: &mut (), item: Record<N>) {
+        *self.lock().unwrap() = item
+    }
+    fn read(&self, _: &mut ()) -> Record<N> {
+        *self.lock().unwrap()
+    }
+}
+
+impl<const N: usize> Register<N> for RwLock<Record<N>> {
+    type Put = ();
+    type Get = ();
+    fn make() -> Self {
+        RwLock::new([0; N])
+    }
+    fn write(&self, _: &mut (), item: Record<N>) {
+        *self.write().unwrap() = item
+    }
+    fn read(&self, _: &mut ()) -> Record<N> {
+        *self.read().unwrap()
+    }
+}
+
+fn mark<const N: usize>(item: &mut Record<N>, number: u64) {
+    item[0] = number;
+    item[N - 1] = number;
+}
+
+fn batch<const N: usize, R: Register<N>>(cell: &R, put: &mut R::Put, get: &mut R::Get, op: &str, calls: u64) -> u64 {
+    let (mut item, mut sum) = ([0; N], 0);
+    for number in 0..calls {
+        if op != "read" {
+            mark(&mut item, number);
+            cell.write(put, black_box(item));
+        }
+        if op != "write" {
+            let answer = black_box(cell.read(get));
+            sum |= answer[0] ^ answer[N - 1];
+        }
+    }
+    sum
+}
+
+fn say(name: &str, words: usize, mode: &str, metric: &str, value: f64) {
+    println!("{name},{},{mode},{metric},{value:.3}", 8 * words)
+}
+
+fn per_call<const N: usize, R: Register<N>>(op: &str) -> f64 {
+    let (cell, mut put, mut get) = (R::make(), R::Put::default(), R::Get::default());
+    let mut size = 16;
+    for _ in 0..16 {
+        let start = Instant::now();
+        batch(&cell, &mut put, &mut get, op, size);
+        if start.elapsed().as_nanos() > 100_000 {
+            break;
+        }
+        size *= 2;
+    }
+    let mut times: Vec<f64> = (0..61)
+        .map(|_| {
+            let start = Instant::now();
+            batch(&cell, &mut put, &mut get, op, size);
+            start.elapsed().as_nanos() as f64 / size as f64
+        })
+        .collect();
+    times.sort_by(f64::total_cmp);
+    times[30]
+}
+
+#[repr(align(128))]
+struct Beat(AtomicU64);
+
+/// One side of the paced run: a call at each beat, timed where the other side made one since the last.
+fn side(start: Instant, step: u64, mine: &Beat, theirs: &Beat, mut call: impl FnMut(u64)) -> Vec<u64> {
+    let now = || start.elapsed().as_nanos() as u64;
+    let (mut times, mut next, mut seen) = (Vec::with_capacity(40_000), 0, 0);
+    for number in 0..40_000 {
+        next = now().max(next + step);
+        while now() < next {}
+        let before = now();
+        call(number);
+        let after = now();
+        mine.0.fetch_add(1, SeqCst);
+        let other = theirs.0.load(SeqCst);
+        if other != seen {
+            times.push(after - before);
+        }
+        seen = other;
+    }
+    times.sort();
+    times
+}
+
+fn paced<const N: usize, R: Register<N>>(name: &str) {
+    let (cell, start) = (R::make(), Instant::now());
+    let now = || start.elapsed().as_nanos() as u64;
+    let cost = (0..20_000).map(|_| { let t = now(); now() - t }).min().unwrap();
+    let (a, b) = (Beat(AtomicU64::new(0)), Beat(AtomicU64::new(0)));
+    let (writes, reads) = thread::scope(|s| {
+        let (cell, a, b) = (&cell, &a, &b);
+        let writer = s.spawn(move || {
+            let (mut put, mut item) = (R::Put::default(), [0; N]);
+            side(start, 1_000, a, b, |number| {
+                mark(&mut item, number);
+                cell.write(&mut put, black_box(item))
+            })
+        });
+        let mut get = R::Get::default();
+        let reads = side(start, 1_037, b, a, |_| { black_box(cell.read(&mut get)); });
+        (writer.join().unwrap(), reads)
+    });
+    for (times, op) in [(writes, "write"), (reads, "read")] {
+        for (share, metric) in [(500, "p50"), (990, "p99"), (999, "p99.9")] {
+            let time = times.get(times.len() * share / 1000).copied().unwrap_or(0).saturating_sub(cost);
+            say(name, N, "paced", &format!("{op}_{metric}_ns"), time as f64);
+        }
+    }
+}
+
+fn one<const N: usize, R: Register<N>>(name: &str) {
+    say(name, N, "solo", "write_ns", per_call::<N, R>("write"));
+    say(name, N, "solo", "read_ns", per_call::<N, R>("read"));
+    say(name, N, "solo", "write_read_ns", per_call::<N, R>("both"));
+    paced::<N, R>(name);
+}
+
+fn count<const N: usize, R: Register<N>>(op: &str, calls: u64) {
+    println!("# {}", batch(&R::make(), &mut R::Put::default(), &mut R::Get::default(), op, calls));
+}
+
+macro_rules! each {
+    ($word:expr, $bytes:expr, $do:ident $(, $more:expr)*) => {
+        match ($word, $bytes) {
+            ("plain_four_slot", 24) => $do::<3, FourSlot<3>>($($more),*),
+            ("plain_four_slot", 256) => $do::<32, FourSlot<32>>($($more),*),
+            ("plain_four_slot", 4096) => $do::<512, FourSlot<512>>($($more),*),
+            ("plain_triple", 24) => $do::<3, Triple<3>>($($more),*),
+            ("plain_triple", 256) => $do::<32, Triple<32>>($($more),*),
+            ("plain_triple", 4096) => $do::<512, Triple<512>>($($more),*),
+            ("std_mutex", 24) => $do::<3, Mutex<Record<3>>>($($more),*),
+            ("std_mutex", 256) => $do::<32, Mutex<Record<32>>>($($more),*),
+            ("std_mutex", 4096) => $do::<512, Mutex<Record<512>>>($($more),*),
+            ("std_rwlock", 24) => $do::<3, RwLock<Record<3>>>($($more),*),
+            ("std_rwlock", 256) => $do::<32, RwLock<Record<32>>>($($more),*),
+            ("std_rwlock", 4096) => $do::<512, RwLock<Record<512>>>($($more),*),
+            _ => eprintln!("no such register"),
+        }
+    };
+}
+
+fn main() {
+    let words: Vec<String> = std::env::args().collect();
+    let words: Vec<&str> = words.iter().map(String::as_str).collect();
+    let names = ["plain_four_slot", "plain_triple", "std_mutex", "std_rwlock"];
+    match words[..] {
+        [_, "list"] => names.iter().for_each(|name| [24, 256, 4096].iter().for_each(|bytes| println!("{name},{bytes}"))),
+        [_, "run"] => names.iter().for_each(|name| [24, 256, 4096].iter().for_each(|bytes| each!(*name, *bytes, one, name))),
+        [_, "count", name, bytes, op, calls] => {
+            each!(name, bytes.parse::<u64>().unwrap_or(0), count, op, calls.parse().unwrap_or(0))
+        }
+        _ => eprintln!("plain list | run | count IMPL BYTES OP N"),
+    }
+}

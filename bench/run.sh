@@ -1,0 +1,62 @@
+#!/bin/sh
+# Measures the proved cells beside plain registers and the locks of Rust's library, in one run, and prints ratios.
+#   bench/run.sh [ROUNDS]      5 rounds where none are named. The programs take turns; each figure is a median of the rounds.
+# It needs rustc; with valgrind it counts instructions too. Numbers are noisy on a busy machine: compare ratios of one run.
+top=$(cd "$(dirname "$0")/.." && pwd) || exit 1
+rounds=${1:-5}
+room=$(mktemp -d) || exit 1
+trap 'rm -rf "$room"' EXIT
+proved=$top/crates/cells_bench/out/cells_bench
+if ! command -v rustc >/dev/null 2>&1; then
+    echo "bench: there is no rustc, so the plain registers can't be built"
+    exit 1
+fi
+rustc -O -C target-cpu=x86-64-v2 -C panic=abort -o "$room/plain" "$top/bench/plain.rs" || exit 1
+if [ ! -x "$proved" ] || [ -n "$(find "$top/crates.txt" "$top"/crates/*/src -newer "$proved" -print -quit)" ]; then
+    (. "$top/tests/build.sh" && build cells_bench) </dev/null >&2 || exit 1
+fi
+for round in $(seq "$rounds"); do
+    for program in "$proved" "$room/plain"; do
+        "$program" run | grep -v '^#' >>"$room/lines"
+    done
+    echo "# round $round of $rounds" >&2
+done
+
+# The instructions of one call: what 2,000 calls more cost.
+instructions() {
+    few=$(valgrind --tool=callgrind --callgrind-out-file=/dev/null "$1" count "$2" "$3" "$4" 500 2>&1 | sed -n 's/.*Collected : *//p')
+    many=$(valgrind --tool=callgrind --callgrind-out-file=/dev/null "$1" count "$2" "$3" "$4" 2500 2>&1 | sed -n 's/.*Collected : *//p')
+    [ -n "$few" ] && [ -n "$many" ] && echo "$2,$3,solo,$4_insn,$(((many - few) / 2000))"
+}
+if command -v valgrind >/dev/null 2>&1; then
+    for program in "$proved" "$room/plain"; do
+        "$program" list | grep -v '^#' | while IFS=, read -r name bytes; do
+            instructions "$program" "$name" "$bytes" write
+            instructions "$program" "$name" "$bytes" read
+        done
+    done >>"$room/lines"
+fi
+
+# Medians, each with its ratio to the plain register of its kind; the locks beside the plain four slots.
+sort -t, -k1,1 -k2,2n -k3,3 -k4,4 -k5,5g "$room/lines" | awk -F, '
+    function close_group() { if (n) { m[key] = v[int((n + 1) / 2)]; if (!(name "," bytes in seen)) { seen[name "," bytes] = 1; order[++count] = name "," bytes } } }
+    { k = $1 "," $2 "," $3 "," $4; if (k != key) { close_group(); n = 0; key = k; name = $1; bytes = $2 } v[++n] = $5 }
+    END {
+        close_group()
+        split("solo,write_ns solo,read_ns solo,write_read_ns solo,write_insn solo,read_insn paced,write_p50_ns paced,read_p50_ns paced,write_p99_ns paced,read_p99_ns", what, " ")
+        printf "%-18s %5s", "register", "bytes"
+        split("write ns|read ns|wr+rd ns|write insn|read insn|paced w p50|paced r p50|paced w p99|paced r p99", head, "|")
+        for (i = 1; i <= 9; i++) printf " | %-16s", head[i]
+        print ""
+        for (j = 1; j <= count; j++) {
+            split(order[j], part, ",")
+            base = part[1] ~ /triple/ ? "plain_triple" : "plain_four_slot"
+            printf "%-18s %5d", part[1], part[2]
+            for (i = 1; i <= 9; i++) {
+                x = m[order[j] "," what[i]]; y = m[base "," part[2] "," what[i]]
+                if (x == "") printf " | %-16s", "-"
+                else printf " | %8.1f %6.2fx", x, (y > 0 ? x / y : 0)
+            }
+            print ""
+        }
+    }'

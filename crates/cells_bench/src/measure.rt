@@ -1,0 +1,56 @@
+//! Times, and the lines that are printed.
+use std::io;
+use std::rt::Clock;
+use std::time::Instant;
+
+#[derive(Clone, Copy)]
+pub enum Op {
+    Write,
+    Read,
+    Both,
+}
+
+/// The nanoseconds since then, 0 where the clock can't be read.
+pub fn since(rt: &impl Clock, start: Instant) -> u64 {
+    match start.elapsed(rt) {
+        Ok(time) => time
+            .as_secs()
+            .saturating_mul(1_000_000_000)
+            .saturating_add(u64::from(time.subsec_nanos())),
+        Err(_) => 0,
+    }
+}
+
+/// What one reading of the clock costs, in nanoseconds.
+pub fn clock_cost(rt: &impl Clock, start: Instant) -> u64 {
+    let mut least = u64::MAX;
+    for _ in 0..20_000 {
+        let before = since(rt, start);
+        let after = since(rt, start);
+        least = least.min(after.saturating_sub(before));
+    }
+    least
+}
+
+/// The element of the sorted times at so many thousandths.
+pub fn quantile(sorted: &[u64], thousandths: usize) -> u64 {
+    let at = sorted.len().saturating_mul(thousandths) / 1_000;
+    match sorted.get(at) {
+        Some(time) => *time,
+        None => 0,
+    }
+}
+
+/// Prints a value that is given in thousandths.
+pub fn say(
+    rt: &impl Print,
+    name: &str,
+    bytes: u64,
+    mode: &str,
+    metric: &str,
+    thousandths: u64,
+) -> io::Result<()> {
+    let whole = thousandths / 1_000;
+    let rest = thousandths % 1_000;
+    println!(rt; "{name},{bytes},{mode},{metric},{whole}.{rest:03}")
+}

@@ -1,0 +1,105 @@
+//! Records of some words, with no law.
+use cell_live::{Kept, Lawful};
+
+/// The words of a record.
+pub trait Words: Copy {
+    fn zero() -> Self;
+
+    fn all(&self) -> &[u64];
+
+    fn all_mut(&mut self) -> &mut [u64];
+}
+
+impl Words for [u64; 3] {
+    fn zero() -> Self {
+        [0; 3]
+    }
+
+    fn all(&self) -> &[u64] {
+        self
+    }
+
+    fn all_mut(&mut self) -> &mut [u64] {
+        self
+    }
+}
+
+impl Words for [u64; 32] {
+    fn zero() -> Self {
+        [0; 32]
+    }
+
+    fn all(&self) -> &[u64] {
+        self
+    }
+
+    fn all_mut(&mut self) -> &mut [u64] {
+        self
+    }
+}
+
+impl Words for [u64; 512] {
+    fn zero() -> Self {
+        [0; 512]
+    }
+
+    fn all(&self) -> &[u64] {
+        self
+    }
+
+    fn all_mut(&mut self) -> &mut [u64] {
+        self
+    }
+}
+
+/// Words that threads can share.
+pub trait Shared: Words + Send + Sync {}
+
+impl Shared for [u64; 3] {}
+
+impl Shared for [u64; 32] {}
+
+impl Shared for [u64; 512] {}
+
+#[derive(Clone, Copy)]
+pub struct Record<W> {
+    words: W,
+}
+
+impl<W: Copy> Lawful for Record<W> {
+    ghost fits = { λ _. Unit {0} };
+
+    ghost rises = { λ _ _. Unit {0} };
+
+    ghost reflexive = { λ _. tt };
+
+    ghost transitive = { λ _ _ _ _ _. tt };
+}
+
+impl<W: Shared> Kept for Record<W> {}
+
+impl<W: Words> Record<W> {
+    pub fn zero() -> Record<W> {
+        Record { words: W::zero() }
+    }
+
+    /// Puts the number into the first word and the last.
+    pub fn mark(&mut self, number: u64) {
+        let words = self.words.all_mut();
+        if let Some(word) = words.first_mut() {
+            *word = number;
+        }
+        if let Some(word) = words.last_mut() {
+            *word = number;
+        }
+    }
+
+    /// The difference of the first word and the last: 0 in a whole record.
+    pub fn ends(&self) -> u64 {
+        let words = self.words.all();
+        match (words.first(), words.last()) {
+            (Some(first), Some(last)) => *first ^ *last,
+            _ => 0,
+        }
+    }
+}
