@@ -155,3 +155,8 @@ module _ {T : Type 0} where
   reader_or d (Reader g) = g
   reader_or d (Both p g) = g
   reader_or d _ = d
+
+  -- the record of a receipt's view
+  abbrev pub receipt_or : T → Sight T → T
+  receipt_or x (Told y) = y.value
+  receipt_or x _ = x

@@ -4,7 +4,7 @@ use Rattle.fourslot_core.specs.declared.state.Place.{Place}
 use Rattle.fourslot_core.specs.declared.event.WriteEvent.{WriteEvent}
 use Rattle.fourslot_core.specs.declared.event.ReadEvent.{ReadEvent}
 use Rattle.cell_live.specs.Running.{Name, IsName}
-use Rattle.cell_live.specs.FourSlotSteps.{first_writer, first_reader, writer_or, reader_or}
+use Rattle.cell_live.specs.FourSlotSteps.{first_writer, first_reader, writer_or, reader_or, receipt_or}
 use Rattle.cell_live.specs.declared.four_slot.notes.WriterNotes.{WriterNotes}
 use Rattle.cell_live.specs.declared.four_slot.notes.ReaderNotes.{ReaderNotes}
 use Rattle.cell_live.specs.declared.four_slot.FourSlotCell.{FourSlotCell}
@@ -17,10 +17,10 @@ module _ {T : Type 0} where
   cell_name c = record { table = c.slots.shared.table_id; opening = c.slots.shared.key }
 
   abbrev pub put_notes : FourSlotPut T → WriterNotes T
-  put_notes p = writer_or (first_writer p.last) p.seat.me.0
+  put_notes p = writer_or (first_writer p.spare) p.seat.me.0
 
   abbrev pub get_notes : FourSlotGet T → ReaderNotes T
-  get_notes g = reader_or (first_reader g.last) g.seat.me.0
+  get_notes g = reader_or (first_reader g.spare) g.seat.me.0
 
   abbrev pub is_put_of : FourSlotCell T → FourSlotPut T → Type 0
   is_put_of c p = IsName (record { table = p.seat.table_id; opening = (put_notes p).opening.value }) (cell_name c)
@@ -39,6 +39,10 @@ module _ {T : Type 0} where
 
   abbrev pub told_to : FourSlotGet T → List T
   told_to g = (get_notes g).told
+
+  -- the record that a receipt names
+  abbrev pub named_by : FourSlotTold T → T
+  named_by t = receipt_or t.spare t.seat.me.0
 
   -- the events made with a pass, and the count of its control accesses
   abbrev pub write_events : FourSlotPut T → List (WriteEvent T)

@@ -35,6 +35,10 @@ module _ {T : Type 0} where
   get_or d (Both p g) = g
   get_or d _ = d
 
+  abbrev pub told_or : T → View T → T
+  told_or x (Told y) = y.value
+  told_or x _ = x
+
   -- what a seat's view says, where the writer's notes are p and the reader's g
   module _ (o : T) (p : PutNotes T) (g : GetNotes T) (writer reader seat : ℕ) where
     abbrev pub Knows : View T → Type 0

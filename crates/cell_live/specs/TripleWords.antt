@@ -1,7 +1,7 @@
 -- The words of the contract, of the passes of a triple buffer.
 use Rattle.std.specs.Prelude.{◌≡◌, ℕ, List}
 use Rattle.cell_live.specs.Running.{Name, IsName}
-use Rattle.cell_live.specs.Triple.{first_put, first_get, put_or, get_or}
+use Rattle.cell_live.specs.Triple.{first_put, first_get, put_or, get_or, told_or}
 use Rattle.cell_live.specs.declared.triple.notes.PutNotes.{PutNotes}
 use Rattle.cell_live.specs.declared.triple.notes.GetNotes.{GetNotes}
 use Rattle.cell_live.specs.declared.triple.TripleCell.{TripleCell}
@@ -14,10 +14,10 @@ module _ {T : Type 0} where
   cell_name c = record { table = c.slots.shared.table_id; opening = c.slots.shared.key }
 
   abbrev pub put_notes : TriplePut T → PutNotes T
-  put_notes p = put_or (first_put p.last) p.seat.me.0
+  put_notes p = put_or (first_put p.spare) p.seat.me.0
 
   abbrev pub get_notes : TripleGet T → GetNotes T
-  get_notes g = get_or (first_get g.last) g.seat.me.0
+  get_notes g = get_or (first_get g.spare) g.seat.me.0
 
   abbrev pub is_put_of : TripleCell T → TriplePut T → Type 0
   is_put_of c p = IsName (record { table = p.seat.table_id; opening = (put_notes p).opening.value }) (cell_name c)
@@ -36,6 +36,10 @@ module _ {T : Type 0} where
 
   abbrev pub told_to : TripleGet T → List T
   told_to g = (get_notes g).told
+
+  -- the record that a receipt names
+  abbrev pub named_by : TripleTold T → T
+  named_by t = told_or t.spare t.seat.me.0
 
   abbrev pub swaps_of_put : TriplePut T → ℕ
   swaps_of_put p = (put_notes p).swaps

@@ -9,7 +9,7 @@ ghost use Rattle.fourslot_core.specs.declared.state.ReaderStage.TheVariants.{R5}
 ghost use Rattle.cell_live.specs.declared.four_slot.notes.Sight.TheVariants.{Writer, Reader, Told};
 ghost use Rattle.cell_live.specs.Running.{last_or};
 ghost use Rattle.cell_live.specs.Triple.{snap};
-ghost use Rattle.cell_live.specs.FourSlotSteps.{first_writer, first_reader, writer_or, reader_or, slot_of_choice};
+ghost use Rattle.cell_live.specs.FourSlotSteps.{first_writer, first_reader, writer_or, reader_or, receipt_or, slot_of_choice};
 
 use crate::cell::Lawful;
 use atomic_table::{Seat, Table, TableRule};
@@ -51,30 +51,28 @@ pub struct FourSlotPut<T: Copy> {
     pub seat: Place<T>,
     /// The pairs' bits, as this pass stored them last.
     remembered: Sides<bool>,
-    /// The record written last.
-    pub last: T,
-    ghost known: { seat.me ≡ (Writer (writer_or (first_writer last) seat.me.0), []) },
-    ghost idle: { (writer_or (first_writer last) seat.me.0).stage ≡ W5 },
-    ghost bits: { (writer_or (first_writer last) seat.me.0).remembered ≡ remembered },
-    ghost newest: { let p = writer_or (first_writer last) seat.me.0 in (p.finished.value ≡ last) × (last_or p.opening.value p.written ≡ last) },
+    spare: T,
+    ghost known: { seat.me ≡ (Writer (writer_or (first_writer spare) seat.me.0), []) },
+    ghost idle: { (writer_or (first_writer spare) seat.me.0).stage ≡ W5 },
+    ghost bits: { (writer_or (first_writer spare) seat.me.0).remembered ≡ remembered },
+    ghost newest: { let p = writer_or (first_writer spare) seat.me.0 in p.finished.value ≡ last_or p.opening.value p.written },
 }
 
 /// The right to read a four-slot cell. From its first read on it holds the slot of its last answer.
 #[derive(Drop)]
 pub struct FourSlotGet<T: Copy> {
     pub seat: Place<T>,
-    /// The last answer.
-    pub last: T,
-    ghost known: { seat.me.0 ≡ Reader (reader_or (first_reader last) seat.me.0) },
-    ghost idle: { (reader_or (first_reader last) seat.me.0).stage ≡ R5 },
-    ghost holds: { let g = reader_or (first_reader last) seat.me.0 in seat.me.1 ≡ slot_of_choice g.chosen g.at_hand.value },
+    /// What lies in the slot while its record is out.
+    spare: T,
+    ghost known: { seat.me.0 ≡ Reader (reader_or (first_reader spare) seat.me.0) },
+    ghost idle: { (reader_or (first_reader spare) seat.me.0).stage ≡ R5 },
+    ghost holds: { let g = reader_or (first_reader spare) seat.me.0 in seat.me.1 ≡ slot_of_choice g.chosen g.at_hand.value },
 }
 
 /// A receipt of a four-slot cell.
 #[derive(Drop)]
 pub struct FourSlotTold<T: Copy> {
     pub seat: Place<T>,
-    /// The record that it names.
-    pub item: T,
-    ghost known: { seat.me ≡ (Told (snap item), []) },
+    spare: T,
+    ghost known: { seat.me ≡ (Told (snap (receipt_or spare seat.me.0)), []) },
 }

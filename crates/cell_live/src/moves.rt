@@ -7,6 +7,7 @@ use atomic_table::{Closed, Seat, Shared, TableRule};
 use std::alloc::Allocator;
 
 /// Puts a record into the slot.
+#[inline]
 pub(crate) fn fill<S: Copy, V, K, P: TableRule<S, V, K>>(
     shared: &Shared<S, V, K, P>,
     seat: &mut Seat<S, V>,
@@ -22,6 +23,7 @@ pub(crate) fn fill<S: Copy, V, K, P: TableRule<S, V, K>>(
 }
 
 /// Takes the record out, copies it and puts it back. Meanwhile the slot has `other`.
+#[inline]
 pub(crate) fn copy_out<S: Copy, V, K, P: TableRule<S, V, K>>(
     shared: &Shared<S, V, K, P>,
     seat: &mut Seat<S, V>,
@@ -49,4 +51,20 @@ pub(crate) fn empty<S: Copy, A: Allocator>(mut closed: Closed<S, A>)
         i += 1;
     }
     closed.free();
+}
+
+/// Copies the record, which stays in the slot.
+#[inline]
+pub(crate) fn copy_held<S: Copy, V, K, P: TableRule<S, V, K>>(
+    shared: &Shared<S, V, K, P>,
+    seat: &mut Seat<S, V>,
+    slot: usize,
+) -> S
+    requires own { seat.old.table_id ≡ shared.now.table_id }
+    requires held { held_slots seat.old.me.1 ≡ slot ∷ [] }
+    ensures own { (seat.new.table_id ≡ seat.old.table_id) × (seat.new.id ≡ seat.old.id) }
+    ensures same { seat.new.me ≡ seat.old.me }
+    ensures copied { seat.old.me.1 ≡ (slot, result) ∷ [] }
+{
+    *seat.slot_mut(shared, slot)
 }

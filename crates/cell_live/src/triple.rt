@@ -1,8 +1,11 @@
-//! The triple buffer: one word and three slots.
+//! The triple buffer: one word and three slots. It is a technique in common use.
+//!
+//! The word is `middle + 4 * mark`. A write fills the writer's slot and swaps it with the middle, with a mark. A read loads the
+//! word and, where it has the mark, swaps its own slot with the middle, without one; the answer is the record of its slot.
 ghost use Rattle.std.specs.Prelude.{◌≡◌, ℕ, ◌<◌, [], ◌∷◌};
 ghost use Rattle.cell_live.specs.declared.triple.notes.View.TheVariants.{Put, Get, Told};
-ghost use Rattle.cell_live.specs.Running.{last_or, held_slots};
-ghost use Rattle.cell_live.specs.Triple.{first_put, first_get, put_or, get_or, snap};
+ghost use Rattle.cell_live.specs.Running.{held_slots};
+ghost use Rattle.cell_live.specs.Triple.{first_put, first_get, put_or, get_or, told_or, snap};
 
 use crate::cell::Lawful;
 use atomic_table::{Seat, Table, TableRule};
@@ -13,6 +16,7 @@ mod calls;
 mod notes;
 mod plays;
 
+/// The rule of the table of a triple buffer.
 pub struct Triple;
 
 impl<T: Lawful> TableRule<T, View<T>, T> for Triple {
@@ -27,37 +31,41 @@ pub(crate) type Slots<T> = Table<T, View<T>, T, Triple, Global>;
 
 pub(crate) type Place<T> = Seat<T, View<T>>;
 
+/// A cell of three slots. A `write` makes one control access, a `read` one or two.
 #[derive(Drop)]
 pub struct TripleCell<T: Lawful> {
     pub slots: Slots<T>,
     ghost sized: { slots.shared.table_id.words ≡ 1 },
 }
 
+/// The right to write into a triple buffer. It holds a slot.
 #[derive(Drop)]
 pub struct TriplePut<T: Copy> {
     pub seat: Place<T>,
     slot: usize,
-    pub last: T,
-    ghost known: { seat.me.0 ≡ Put (put_or (first_put last) seat.me.0) },
-    ghost ready: { let p = put_or (first_put last) seat.me.0 in (p.has ≡ 1) × (p.slot ≡ slot) × (last_or p.opening.value p.written ≡ last) },
+    spare: T,
+    ghost known: { seat.me.0 ≡ Put (put_or (first_put spare) seat.me.0) },
+    ghost ready: { let p = put_or (first_put spare) seat.me.0 in (p.has ≡ 1) × (p.slot ≡ slot) },
     ghost held: { held_slots seat.me.1 ≡ slot ∷ [] },
     ghost low: { slot < 3 },
 }
 
+/// The right to read a triple buffer. It holds the slot of its last answer.
 #[derive(Drop)]
 pub struct TripleGet<T: Copy> {
     pub seat: Place<T>,
     slot: usize,
-    pub last: T,
-    ghost known: { seat.me.0 ≡ Get (get_or (first_get last) seat.me.0) },
-    ghost ready: { let g = get_or (first_get last) seat.me.0 in (g.has ≡ 1) × (g.slot ≡ slot) × (g.asked ≡ 0) },
-    ghost held: { seat.me.1 ≡ (slot, (get_or (first_get last) seat.me.0).at_hand.value) ∷ [] },
+    spare: T,
+    ghost known: { seat.me.0 ≡ Get (get_or (first_get spare) seat.me.0) },
+    ghost ready: { let g = get_or (first_get spare) seat.me.0 in (g.has ≡ 1) × (g.slot ≡ slot) × (g.asked ≡ 0) },
+    ghost held: { seat.me.1 ≡ (slot, (get_or (first_get spare) seat.me.0).at_hand.value) ∷ [] },
     ghost low: { slot < 3 },
 }
 
+/// A receipt of a triple buffer.
 #[derive(Drop)]
 pub struct TripleTold<T: Copy> {
     pub seat: Place<T>,
-    pub item: T,
-    ghost known: { seat.me ≡ (Told (snap item), []) },
+    spare: T,
+    ghost known: { seat.me ≡ (Told (snap (told_or spare seat.me.0)), []) },
 }

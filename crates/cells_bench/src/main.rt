@@ -7,15 +7,16 @@ mod paced;
 mod record;
 mod solo;
 
+use cell_live::{Cell, FourSlotCell, TripleCell};
 use measure::Op;
 use record::{Record, Shared};
-use cell_live::{Cell, FourSlotCell, TripleCell};
-use std::io;
 use std::alloc::Global;
+use std::io;
 use std::rt::Clock;
 use std::thread::Threads;
 
 const FOUR_SLOT: &str = "proved_four_slot";
+
 const TRIPLE: &str = "proved_triple";
 
 fn main(rt: HostRuntime) -> io::Result<()> {
@@ -82,12 +83,24 @@ fn count(
     calls: u64,
 ) -> io::Result<()> {
     let sum = match (name, bytes) {
-        ("proved_four_slot", "24") => solo::calls::<[u64; 3], FourSlotCell<Record<[u64; 3]>>>(alloc, op, calls)?,
-        ("proved_four_slot", "256") => solo::calls::<[u64; 32], FourSlotCell<Record<[u64; 32]>>>(alloc, op, calls)?,
-        ("proved_four_slot", "4096") => solo::calls::<[u64; 512], FourSlotCell<Record<[u64; 512]>>>(alloc, op, calls)?,
-        ("proved_triple", "24") => solo::calls::<[u64; 3], TripleCell<Record<[u64; 3]>>>(alloc, op, calls)?,
-        ("proved_triple", "256") => solo::calls::<[u64; 32], TripleCell<Record<[u64; 32]>>>(alloc, op, calls)?,
-        ("proved_triple", "4096") => solo::calls::<[u64; 512], TripleCell<Record<[u64; 512]>>>(alloc, op, calls)?,
+        ("proved_four_slot", "24") => solo::calls::<[u64; 3], FourSlotCell<Record<[u64; 3]>>>(
+            alloc, op, calls,
+        )?,
+        ("proved_four_slot", "256") => solo::calls::<[u64; 32], FourSlotCell<Record<[u64; 32]>>>(
+            alloc, op, calls,
+        )?,
+        ("proved_four_slot", "4096") => solo::calls::<[u64; 512], FourSlotCell<Record<[u64; 512]>>>(
+            alloc, op, calls,
+        )?,
+        ("proved_triple", "24") => solo::calls::<[u64; 3], TripleCell<Record<[u64; 3]>>>(
+            alloc, op, calls,
+        )?,
+        ("proved_triple", "256") => solo::calls::<[u64; 32], TripleCell<Record<[u64; 32]>>>(
+            alloc, op, calls,
+        )?,
+        ("proved_triple", "4096") => solo::calls::<[u64; 512], TripleCell<Record<[u64; 512]>>>(
+            alloc, op, calls,
+        )?,
         _ => return println!(rt; "# no such cell"),
     };
     println!(rt; "# {sum}")

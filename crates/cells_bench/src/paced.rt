@@ -106,7 +106,11 @@ impl<'a, W: Shared, C: Cell<Record<W>>> Side for Writer<'a, W, C> {
             let before = since(rt, bench.start);
             self.cell.write(&mut self.put, self.item);
             let after = since(rt, bench.start);
-            self.times.keep(&bench.write_beat, &bench.read_beat, after.saturating_sub(before));
+            self.times.keep(
+                &bench.write_beat,
+                &bench.read_beat,
+                after.saturating_sub(before),
+            );
         }
     }
 }
@@ -129,7 +133,11 @@ impl<'a, W: Shared, C: Cell<Record<W>>> Side for Reader<'a, W, C> {
             let before = since(rt, bench.start);
             self.answer = self.cell.read(&mut self.get);
             let after = since(rt, bench.start);
-            self.times.keep(&bench.read_beat, &bench.write_beat, after.saturating_sub(before));
+            self.times.keep(
+                &bench.read_beat,
+                &bench.write_beat,
+                after.saturating_sub(before),
+            );
         }
     }
 }
@@ -206,6 +214,20 @@ where
     at_once(rt, &bench, &mut writer, &mut reader);
     let writes = writer.times;
     let reads = reader.times;
-    say_times(rt, name, bytes, ["write_p50_ns", "write_p99_ns", "write_p99.9_ns"], cost, writes)?;
-    say_times(rt, name, bytes, ["read_p50_ns", "read_p99_ns", "read_p99.9_ns"], cost, reads)
+    say_times(
+        rt,
+        name,
+        bytes,
+        ["write_p50_ns", "write_p99_ns", "write_p99.9_ns"],
+        cost,
+        writes,
+    )?;
+    say_times(
+        rt,
+        name,
+        bytes,
+        ["read_p50_ns", "read_p99_ns", "read_p99.9_ns"],
+        cost,
+        reads,
+    )
 }

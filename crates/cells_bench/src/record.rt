@@ -94,12 +94,11 @@ impl<W: Words> Record<W> {
         }
     }
 
-    /// The difference of the first word and the last: 0 in a whole record.
-    pub fn ends(&self) -> u64 {
-        let words = self.words.all();
-        match (words.first(), words.last()) {
-            (Some(first), Some(last)) => *first ^ *last,
-            _ => 0,
+    /// One of the first two words, as the number says: the whole record has to be there.
+    pub fn word(&self, number: u64) -> u64 {
+        match self.words.all().get((number % 2) as usize) {
+            Some(word) => *word,
+            None => 0,
         }
     }
 }

@@ -44,8 +44,8 @@ fn read<W: Shared, C: Cell<Record<W>>>(cell: &C, get: &mut C::Get, calls: u64) -
     ensures { C.is_get cell.now get.new }
 {
     let mut sum = 0;
-    for _ in 0..calls {
-        sum |= cell.read(get).ends();
+    for number in 0..calls {
+        sum |= cell.read(get).word(number);
     }
     sum
 }
@@ -64,7 +64,7 @@ fn both<W: Shared, C: Cell<Record<W>>>(
     for number in 0..calls {
         item.mark(number);
         cell.write(put, item);
-        sum |= cell.read(get).ends();
+        sum |= cell.read(get).word(number);
     }
     sum
 }

@@ -6,7 +6,7 @@ ghost use Rattle.fourslot_core.specs.Events.{slot_number};
 ghost use Rattle.cell_live.specs.Running.{last_or, IsAnswer};
 ghost use Rattle.cell_live.specs.Triple.{snap};
 ghost use Rattle.cell_live.specs.FourSlotSteps.{first_sight};
-ghost use Rattle.cell_live.specs.FourSlotWords.{is_put_of, is_get_of, is_told_of, written_by, answers_of, told_to, write_events, read_events, writer_accesses, reader_accesses, get_notes};
+ghost use Rattle.cell_live.specs.FourSlotWords.{is_put_of, is_get_of, is_told_of, written_by, answers_of, told_to, named_by, write_events, read_events, writer_accesses, reader_accesses, get_notes};
 
 use super::bits::{begin, bit_of, bit_word, is_one, slot_of, with_bit, word_of};
 use super::plays::{Asks, Ends, Finishes, Hears, Parts, Says, Stores, Takes, Tells};
@@ -17,6 +17,7 @@ use atomic_table::Table;
 use fourslot_core::Sides;
 use std::alloc::{AllocError, Global};
 use std::marker::Brand;
+use std::snapshot::Snapshot;
 
 /// The table with the record in each slot, and its first seat.
 fn table_of<T: Lawful>(alloc: Global, first: T) -> Result<(Slots<T>, Place<T>), AllocError>
@@ -53,7 +54,7 @@ impl<T: Lawful> Calls<T> for FourSlotCell<T> {
 
     ghost told = { told_to };
 
-    ghost named = { λ t. t.item };
+    ghost named = { named_by };
 
     ghost put_accesses = { writer_accesses };
 
@@ -70,15 +71,16 @@ impl<T: Lawful> Calls<T> for FourSlotCell<T> {
                     zero: false,
                     one: false,
                 },
-                last: first,
+                spare: first,
             },
             FourSlotGet {
                 seat: get,
-                last: first,
+                spare: first,
             },
         ))
     }
 
+    #[inline]
     fn write(&self, put: &mut FourSlotPut<T>, item: T)
         requires own { is_put_of self.now put.old }
         requires lawful { T.fits item × T.rises (last_or self.now.slots.shared.key (written_by put.old)) item }
@@ -88,7 +90,8 @@ impl<T: Lawful> Calls<T> for FourSlotCell<T> {
         ensures events { write_events put.new ≡ write_events put.old ++ W1 (snap item) ∷ W2 ∷ W3 ∷ W4 ∷ W5 ∷ [] }
     {
         let shared = &self.slots.shared;
-        let reading = begin::<T, FourSlot, Brand>(shared, &mut put.seat, item);
+        let named = Snapshot::of(&item);
+        let reading = begin::<T, FourSlot, Brand>(shared, &mut put.seat, named);
         let pair = !is_one(reading);
         let index = !bit_of(put.remembered, pair);
         let slot = slot_of(pair, index);
@@ -97,9 +100,9 @@ impl<T: Lawful> Calls<T> for FourSlotCell<T> {
         shared.store::<Stores>(&mut put.seat, word, bit_word(index));
         shared.store::<Finishes>(&mut put.seat, 0, bit_word(pair));
         put.remembered = with_bit(put.remembered, pair, index);
-        put.last = item;
     }
 
+    #[inline]
     fn read(&self, get: &mut FourSlotGet<T>) -> T
         requires { is_get_of self.now get.old }
         ensures own { is_get_of self.now get.new }
@@ -119,21 +122,19 @@ impl<T: Lawful> Calls<T> for FourSlotCell<T> {
         let bit = shared.load::<Takes>(&mut get.seat, word);
         let index = is_one(bit);
         let slot = slot_of(pair, index);
-        let answer = copy_out(shared, &mut get.seat, slot, get.last);
-        get.last = answer;
-        answer
+        copy_out(shared, &mut get.seat, slot, get.spare)
     }
 
     fn tell(&self, put: &mut FourSlotPut<T>) -> FourSlotTold<T> {
         let seat = self.slots.shared.split_seat::<Tells>(&mut put.seat);
         FourSlotTold {
             seat,
-            item: put.last,
+            spare: put.spare,
         }
     }
 
     fn learn(&self, get: &mut FourSlotGet<T>, receipt: FourSlotTold<T>) {
-        let FourSlotTold { seat, item: _ } = receipt;
+        let FourSlotTold { seat, spare: _ } = receipt;
         self.slots.shared.join_seat::<Hears>(&mut get.seat, seat);
     }
 
@@ -142,11 +143,11 @@ impl<T: Lawful> Calls<T> for FourSlotCell<T> {
         let FourSlotPut {
             seat: mut put,
             remembered: _,
-            last: _,
+            spare: _,
         } = put;
         let FourSlotGet {
             seat: mut get,
-            last: _,
+            spare: _,
         } = get;
         let pair = slots.shared.load::<Asks>(&mut get, 0);
         slots.shared.store::<Says>(&mut get, 1, pair);

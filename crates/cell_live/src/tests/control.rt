@@ -130,12 +130,18 @@ where
 
 #[test]
 fn told_through_four_slots(rt: HostRuntime) -> Result<(), Fail> {
-    assert_eq!(rt; told::<_, FourSlotCell<Sample>>(&rt, rt.alloc())?.number, 1_000);
+    assert_eq!(rt;
+        told::<_, FourSlotCell<Sample>>(&rt, rt.alloc())?.number,
+        1_000
+    );
     Ok(())
 }
 
 #[test]
 fn told_through_triple(rt: HostRuntime) -> Result<(), Fail> {
-    assert_eq!(rt; told::<_, TripleCell<Sample>>(&rt, rt.alloc())?.number, 1_000);
+    assert_eq!(rt;
+        told::<_, TripleCell<Sample>>(&rt, rt.alloc())?.number,
+        1_000
+    );
     Ok(())
 }

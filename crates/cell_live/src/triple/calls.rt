@@ -1,14 +1,14 @@
 //! The calls of the triple buffer.
 ghost use Rattle.std.specs.Prelude.{◌≡◌, ℕ, ◌+◌, ◌<◌, ◌≤◌, [], ◌∷◌, ◌++◌};
 ghost use Rattle.cell_live.specs.Running.{IsAnswer};
-ghost use Rattle.cell_live.specs.TripleWords.{is_put_of, is_get_of, is_told_of, written_by, answers_of, told_to, swaps_of_put, loads_of, swaps_of, found_by};
+ghost use Rattle.cell_live.specs.TripleWords.{is_put_of, is_get_of, is_told_of, written_by, answers_of, told_to, named_by, swaps_of_put, loads_of, swaps_of, found_by};
 
 use super::plays::{
     Ends, GetSwaps, GetTakes, Hears, Looks, Parts, PutSwaps, PutTakes, Tells, Yields,
 };
 use super::{TripleCell, TripleGet, TriplePut, TripleTold};
 use crate::cell::{Calls, Cell, Kept, Lawful};
-use crate::moves::{copy_out, empty, fill};
+use crate::moves::{copy_held, empty, fill};
 use atomic_table::Table;
 use std::alloc::{AllocError, Global};
 
@@ -33,7 +33,7 @@ impl<T: Lawful> Calls<T> for TripleCell<T> {
 
     ghost told = { told_to };
 
-    ghost named = { λ t. t.item };
+    ghost named = { named_by };
 
     ghost put_accesses = { swaps_of_put };
 
@@ -53,16 +53,17 @@ impl<T: Lawful> Calls<T> for TripleCell<T> {
             TriplePut {
                 seat: put,
                 slot: 0,
-                last: first,
+                spare: first,
             },
             TripleGet {
                 seat: get,
                 slot: 2,
-                last: first,
+                spare: first,
             },
         ))
     }
 
+    #[inline]
     fn write(&self, put: &mut TriplePut<T>, item: T) {
         fill(&self.slots.shared, &mut put.seat, put.slot, item);
         let found = self
@@ -70,9 +71,9 @@ impl<T: Lawful> Calls<T> for TripleCell<T> {
             .shared
             .swap::<PutSwaps>(&mut put.seat, 0, put.slot as u64 + 4);
         put.slot = (found % 4) as usize;
-        put.last = item;
     }
 
+    #[inline]
     fn read(&self, get: &mut TripleGet<T>) -> T
         requires { is_get_of self.now get.old }
         ensures own { is_get_of self.now get.new }
@@ -89,30 +90,26 @@ impl<T: Lawful> Calls<T> for TripleCell<T> {
     {
         let found = self.slots.shared.load::<Looks>(&mut get.seat, 0);
         if found < 4 {
-            let answer = copy_out(&self.slots.shared, &mut get.seat, get.slot, get.last);
-            get.last = answer;
-            return answer;
+            return copy_held(&self.slots.shared, &mut get.seat, get.slot);
         }
         let taken = self
             .slots
             .shared
             .swap::<GetSwaps>(&mut get.seat, 0, get.slot as u64);
         get.slot = (taken % 4) as usize;
-        let answer = copy_out(&self.slots.shared, &mut get.seat, get.slot, get.last);
-        get.last = answer;
-        answer
+        copy_held(&self.slots.shared, &mut get.seat, get.slot)
     }
 
     fn tell(&self, put: &mut TriplePut<T>) -> TripleTold<T> {
         let seat = self.slots.shared.split_seat::<Tells>(&mut put.seat);
         TripleTold {
             seat,
-            item: put.last,
+            spare: put.spare,
         }
     }
 
     fn learn(&self, get: &mut TripleGet<T>, receipt: TripleTold<T>) {
-        let TripleTold { seat, item: _ } = receipt;
+        let TripleTold { seat, spare: _ } = receipt;
         self.slots.shared.join_seat::<Hears>(&mut get.seat, seat);
     }
 
@@ -121,12 +118,12 @@ impl<T: Lawful> Calls<T> for TripleCell<T> {
         let TriplePut {
             seat: mut put,
             slot: _,
-            last: _,
+            spare: _,
         } = put;
         let TripleGet {
             seat: mut get,
             slot: _,
-            last: _,
+            spare: _,
         } = get;
         let whole = slots.shared.split_seat::<Yields>(&mut put);
         slots.shared.join_seat::<Ends>(&mut get, whole);

@@ -1,4 +1,4 @@
 use Rattle.cells_bench.proofs.solo.read.Given as goal
 
-abbrev pub invariant-loop : goal.invariant-loop
-invariant-loop g l = g.C.Calls.is_get l.cell l.get
+abbrev pub invariant-loop-number : goal.invariant-loop-number
+invariant-loop-number g l = g.C.Calls.is_get l.cell l.get

@@ -1,4 +1,4 @@
-use Rattle.std.proofs.Common.{◌+◌, List, ◌∙◌, ap}
+use Rattle.std.proofs.Common.{List, ◌∙◌, ap}
 use Rattle.cell_live.specs.declared.tests.control.Sample.{Sample}
 use Rattle.cell_live.specs.Running.{last_or}
 use Rattle.cell_live.proofs.ListLaws.{last_snoc}
@@ -6,6 +6,7 @@ use Rattle.cell_live.proofs.tests.control.publish.Goals as goal
 
 pub loop-i-preserved : goal.loop-i-preserved
 loop-i-preserved g c =
-    let o = g.C.Calls.opening c.args.cell.now in
-    (c.write.ensures.own,
-     ap (λ (xs : List Sample). (last_or o xs).number) c.write.ensures.written ∙ ap (λ (x : Sample). x.number) (last_snoc o (g.C.Calls.written c.loop-i.task.put) c.measured.result) ∙ c.measured.ensures.0)
+    let o = g.C.Calls.opening c.args.cell.now in (
+      c.write.ensures.own,
+      ap (λ (xs : List Sample). (last_or o xs).number) c.write.ensures.written ∙ ap (λ (x : Sample). x.number) (last_snoc o (g.C.Calls.written c.loop-i.task.put) c.measured.result) ∙ c.measured.ensures.0,
+    )

@@ -15,7 +15,7 @@ invariant_of-result-2 g c = let d : WriterNotes g.row.T.Denot = first_writer c.a
   known = is ∙ (λ i. (Writer (writer_or d (sym is i).0), []));
   idle = ap (λ m. (writer_or d m.0).stage) is;
   bits = ap (λ m. (writer_or d m.0).remembered) is;
-  newest = (ap (λ m. (writer_or d m.0).finished.value) is, ap (λ m. last_or {T = g.row.T.Denot} (writer_or d m.0).opening.value (writer_or d m.0).written) is);
+  newest = ap (λ m. (writer_or d m.0).finished.value) is ∙ sym (ap (λ m. last_or {T = g.row.T.Denot} (writer_or d m.0).opening.value (writer_or d m.0).written) is);
 }
 
 pub invariant_of-result-3 : goal.invariant_of-result-3

@@ -13,24 +13,24 @@ use Rattle.cell_live.proofs.TripleKeeps.{record_or}
 use Rattle.cell_live.proofs.four_slot.calls.FourSlotCellCalls.read.Goals as goal
 
 pub load-latest-requires : goal.load-latest-requires
-load-latest-requires g c = let get = c.args.get.now in let n : ReaderNotes g.row.T.Denot = reader_or (first_reader get.last) get.seat.me.0 in
+load-latest-requires g c = let get = c.args.get.now in let n : ReaderNotes g.row.T.Denot = reader_or (first_reader get.spare) get.seat.me.0 in
     (search rules, search rules, asks_ok g.T.Lawful.fits g.T.Lawful.rises _ _ _ _ n get.known get.idle)
 
 pub store-requires : goal.store-requires
-store-requires g c = let get = c.args.get.now in let n : ReaderNotes g.row.T.Denot = reader_or (first_reader get.last) get.seat.me.0 in
+store-requires g c = let get = c.args.get.now in let n : ReaderNotes g.row.T.Denot = reader_or (first_reader get.spare) get.seat.me.0 in
     let a = c.load-latest.ensures.2 n get.known in let n1 : ReaderNotes g.row.T.Denot = asked_by n a.0 in
     (search rules, search rules, says_ok g.T.Lawful.fits g.T.Lawful.rises _ _ _ _ n1 _ a.2 (a.3 ∙ get.holds) refl a.1)
 
 pub load-bit-requires : goal.load-bit-requires
-load-bit-requires g c = let get = c.args.get.now in let n : ReaderNotes g.row.T.Denot = reader_or (first_reader get.last) get.seat.me.0 in
+load-bit-requires g c = let get = c.args.get.now in let n : ReaderNotes g.row.T.Denot = reader_or (first_reader get.spare) get.seat.me.0 in
     let a = c.load-latest.ensures.2 n get.known in let n1 : ReaderNotes g.row.T.Denot = asked_by n a.0 in
     let b = c.store.ensures.2 n1 a.2 (a.3 ∙ get.holds) in let n2 : ReaderNotes g.row.T.Denot = said_by n1 in
     let pair : c.is_one-pair.result ≡ a.0 = c.is_one-pair.ensures a.0 a.1 in
     let word : c.word_of-word.result ≡ 2 + bit_number a.0 = c.word_of-word.ensures ∙ ap (λ z. 2 + bit_number z) pair in
     (search rules, (let l = bit_low a.0 in let s = c.args.self.now.sized in omega arith), takes_ok g.T.Lawful.fits g.T.Lawful.rises _ g.T.Lawful.reflexive g.T.Lawful.transitive _ _ _ n2 _ b.0 b.1 refl word)
 
-pub copy_out-answer-requires-clause-held : goal.copy_out-answer-requires-clause-held
-copy_out-answer-requires-clause-held g c = let get = c.args.get.now in let n : ReaderNotes g.row.T.Denot = reader_or (first_reader get.last) get.seat.me.0 in
+pub copy_out-requires-clause-held : goal.copy_out-requires-clause-held
+copy_out-requires-clause-held g c = let get = c.args.get.now in let n : ReaderNotes g.row.T.Denot = reader_or (first_reader get.spare) get.seat.me.0 in
     let a = c.load-latest.ensures.2 n get.known in let n1 : ReaderNotes g.row.T.Denot = asked_by n a.0 in
     let b = c.store.ensures.2 n1 a.2 (a.3 ∙ get.holds) in let n2 : ReaderNotes g.row.T.Denot = said_by n1 in
     let pair : c.is_one-pair.result ≡ a.0 = c.is_one-pair.ensures a.0 a.1 in
@@ -41,85 +41,85 @@ copy_out-answer-requires-clause-held g c = let get = c.args.get.now in let n : R
     ap held_slots t.4 ∙ ap (λ z. z ∷ []) (sym slot)
 
 pub invariant_of-get : goal.invariant_of-get
-invariant_of-get g c = let get = c.args.get.now in let n : ReaderNotes g.row.T.Denot = reader_or (first_reader get.last) get.seat.me.0 in
+invariant_of-get g c = let get = c.args.get.now in let n : ReaderNotes g.row.T.Denot = reader_or (first_reader get.spare) get.seat.me.0 in
     let a = c.load-latest.ensures.2 n get.known in let n1 : ReaderNotes g.row.T.Denot = asked_by n a.0 in
     let b = c.store.ensures.2 n1 a.2 (a.3 ∙ get.holds) in let n2 : ReaderNotes g.row.T.Denot = said_by n1 in
     let pair : c.is_one-pair.result ≡ a.0 = c.is_one-pair.ensures a.0 a.1 in
     let word : c.word_of-word.result ≡ 2 + bit_number a.0 = c.word_of-word.ensures ∙ ap (λ z. 2 + bit_number z) pair in
     let t = c.load-bit.ensures.2 n2 b.0 in
-    let d : ReaderNotes g.row.T.Denot = first_reader c.copy_out-answer.result in let v = ap (λ m. m.0) c.copy_out-answer.ensures.same ∙ t.3 in let e : c.copy_out-answer.result ≡ t.1 = ap (record_or c.copy_out-answer.result) (sym c.copy_out-answer.ensures.copied ∙ t.4) in
+    let d : ReaderNotes g.row.T.Denot = first_reader get.spare in let v = ap (λ m. m.0) c.copy_out.ensures.same ∙ t.3 in let e : c.copy_out.result ≡ t.1 = ap (record_or c.copy_out.result) (sym c.copy_out.ensures.copied ∙ t.4) in
     record {
       known = v ∙ ap (λ z. Reader (reader_or d z)) (sym v);
       idle = ap (λ z. (reader_or d z).stage) v;
-      holds = ap (λ m. m.1) c.copy_out-answer.ensures.same ∙ (t.4 ∙ (λ i. slot_of_choice {T = g.row.T.Denot} (reader_or d (sym v i)).chosen (reader_or d (sym v i)).at_hand.value));
+      holds = ap (λ m. m.1) c.copy_out.ensures.same ∙ (t.4 ∙ (λ i. slot_of_choice {T = g.row.T.Denot} (reader_or d (sym v i)).chosen (reader_or d (sym v i)).at_hand.value));
     }
 
 pub returns-clause-own : goal.returns-clause-own
-returns-clause-own g c = let get = c.args.get.now in let n : ReaderNotes g.row.T.Denot = reader_or (first_reader get.last) get.seat.me.0 in
+returns-clause-own g c = let get = c.args.get.now in let n : ReaderNotes g.row.T.Denot = reader_or (first_reader get.spare) get.seat.me.0 in
     let a = c.load-latest.ensures.2 n get.known in let n1 : ReaderNotes g.row.T.Denot = asked_by n a.0 in
     let b = c.store.ensures.2 n1 a.2 (a.3 ∙ get.holds) in let n2 : ReaderNotes g.row.T.Denot = said_by n1 in
     let pair : c.is_one-pair.result ≡ a.0 = c.is_one-pair.ensures a.0 a.1 in
     let word : c.word_of-word.result ≡ 2 + bit_number a.0 = c.word_of-word.ensures ∙ ap (λ z. 2 + bit_number z) pair in
     let t = c.load-bit.ensures.2 n2 b.0 in
-    let d : ReaderNotes g.row.T.Denot = first_reader c.copy_out-answer.result in let v = ap (λ m. m.0) c.copy_out-answer.ensures.same ∙ t.3 in let e : c.copy_out-answer.result ≡ t.1 = ap (record_or c.copy_out-answer.result) (sym c.copy_out-answer.ensures.copied ∙ t.4) in
-    let same : c.copy_out-answer.new.seat.table_id ≡ get.seat.table_id = search rules in (λ i. record { table = same i; opening = (reader_or d (v i)).opening.value }) ∙ c.requires
+    let d : ReaderNotes g.row.T.Denot = first_reader get.spare in let v = ap (λ m. m.0) c.copy_out.ensures.same ∙ t.3 in let e : c.copy_out.result ≡ t.1 = ap (record_or c.copy_out.result) (sym c.copy_out.ensures.copied ∙ t.4) in
+    let same : c.copy_out.new.seat.table_id ≡ get.seat.table_id = search rules in (λ i. record { table = same i; opening = (reader_or d (v i)).opening.value }) ∙ c.requires
 
 pub returns-clause-answers : goal.returns-clause-answers
-returns-clause-answers g c = let get = c.args.get.now in let n : ReaderNotes g.row.T.Denot = reader_or (first_reader get.last) get.seat.me.0 in
+returns-clause-answers g c = let get = c.args.get.now in let n : ReaderNotes g.row.T.Denot = reader_or (first_reader get.spare) get.seat.me.0 in
     let a = c.load-latest.ensures.2 n get.known in let n1 : ReaderNotes g.row.T.Denot = asked_by n a.0 in
     let b = c.store.ensures.2 n1 a.2 (a.3 ∙ get.holds) in let n2 : ReaderNotes g.row.T.Denot = said_by n1 in
     let pair : c.is_one-pair.result ≡ a.0 = c.is_one-pair.ensures a.0 a.1 in
     let word : c.word_of-word.result ≡ 2 + bit_number a.0 = c.word_of-word.ensures ∙ ap (λ z. 2 + bit_number z) pair in
     let t = c.load-bit.ensures.2 n2 b.0 in
-    let d : ReaderNotes g.row.T.Denot = first_reader c.copy_out-answer.result in let v = ap (λ m. m.0) c.copy_out-answer.ensures.same ∙ t.3 in let e : c.copy_out-answer.result ≡ t.1 = ap (record_or c.copy_out-answer.result) (sym c.copy_out-answer.ensures.copied ∙ t.4) in
+    let d : ReaderNotes g.row.T.Denot = first_reader get.spare in let v = ap (λ m. m.0) c.copy_out.ensures.same ∙ t.3 in let e : c.copy_out.result ≡ t.1 = ap (record_or c.copy_out.result) (sym c.copy_out.ensures.copied ∙ t.4) in
     ap (λ z. (reader_or d z).answers) v ∙ (λ i. n.answers ++ sym e i ∷ [])
 
 pub returns-clause-told : goal.returns-clause-told
-returns-clause-told g c = let get = c.args.get.now in let n : ReaderNotes g.row.T.Denot = reader_or (first_reader get.last) get.seat.me.0 in
+returns-clause-told g c = let get = c.args.get.now in let n : ReaderNotes g.row.T.Denot = reader_or (first_reader get.spare) get.seat.me.0 in
     let a = c.load-latest.ensures.2 n get.known in let n1 : ReaderNotes g.row.T.Denot = asked_by n a.0 in
     let b = c.store.ensures.2 n1 a.2 (a.3 ∙ get.holds) in let n2 : ReaderNotes g.row.T.Denot = said_by n1 in
     let pair : c.is_one-pair.result ≡ a.0 = c.is_one-pair.ensures a.0 a.1 in
     let word : c.word_of-word.result ≡ 2 + bit_number a.0 = c.word_of-word.ensures ∙ ap (λ z. 2 + bit_number z) pair in
     let t = c.load-bit.ensures.2 n2 b.0 in
-    let d : ReaderNotes g.row.T.Denot = first_reader c.copy_out-answer.result in let v = ap (λ m. m.0) c.copy_out-answer.ensures.same ∙ t.3 in let e : c.copy_out-answer.result ≡ t.1 = ap (record_or c.copy_out-answer.result) (sym c.copy_out-answer.ensures.copied ∙ t.4) in
+    let d : ReaderNotes g.row.T.Denot = first_reader get.spare in let v = ap (λ m. m.0) c.copy_out.ensures.same ∙ t.3 in let e : c.copy_out.result ≡ t.1 = ap (record_or c.copy_out.result) (sym c.copy_out.ensures.copied ∙ t.4) in
     ap (λ z. (reader_or d z).told) v
 
 pub returns-clause-running : goal.returns-clause-running
-returns-clause-running g c = let get = c.args.get.now in let n : ReaderNotes g.row.T.Denot = reader_or (first_reader get.last) get.seat.me.0 in
+returns-clause-running g c = let get = c.args.get.now in let n : ReaderNotes g.row.T.Denot = reader_or (first_reader get.spare) get.seat.me.0 in
     let a = c.load-latest.ensures.2 n get.known in let n1 : ReaderNotes g.row.T.Denot = asked_by n a.0 in
     let b = c.store.ensures.2 n1 a.2 (a.3 ∙ get.holds) in let n2 : ReaderNotes g.row.T.Denot = said_by n1 in
     let pair : c.is_one-pair.result ≡ a.0 = c.is_one-pair.ensures a.0 a.1 in
     let word : c.word_of-word.result ≡ 2 + bit_number a.0 = c.word_of-word.ensures ∙ ap (λ z. 2 + bit_number z) pair in
     let t = c.load-bit.ensures.2 n2 b.0 in
-    let d : ReaderNotes g.row.T.Denot = first_reader c.copy_out-answer.result in let v = ap (λ m. m.0) c.copy_out-answer.ensures.same ∙ t.3 in let e : c.copy_out-answer.result ≡ t.1 = ap (record_or c.copy_out-answer.result) (sym c.copy_out-answer.ensures.copied ∙ t.4) in
+    let d : ReaderNotes g.row.T.Denot = first_reader get.spare in let v = ap (λ m. m.0) c.copy_out.ensures.same ∙ t.3 in let e : c.copy_out.result ≡ t.1 = ap (record_or c.copy_out.result) (sym c.copy_out.ensures.copied ∙ t.4) in
     subst (λ (z : g.row.T.Denot × g.row.T.Denot). IsAnswer g.T.Lawful.fits g.T.Lawful.rises z.0 n.answers n.told z.1) (λ i. ((c.requires i).opening, sym e i)) t.5
 
 pub returns-clause-accesses : goal.returns-clause-accesses
-returns-clause-accesses g c = let get = c.args.get.now in let n : ReaderNotes g.row.T.Denot = reader_or (first_reader get.last) get.seat.me.0 in
+returns-clause-accesses g c = let get = c.args.get.now in let n : ReaderNotes g.row.T.Denot = reader_or (first_reader get.spare) get.seat.me.0 in
     let a = c.load-latest.ensures.2 n get.known in let n1 : ReaderNotes g.row.T.Denot = asked_by n a.0 in
     let b = c.store.ensures.2 n1 a.2 (a.3 ∙ get.holds) in let n2 : ReaderNotes g.row.T.Denot = said_by n1 in
     let pair : c.is_one-pair.result ≡ a.0 = c.is_one-pair.ensures a.0 a.1 in
     let word : c.word_of-word.result ≡ 2 + bit_number a.0 = c.word_of-word.ensures ∙ ap (λ z. 2 + bit_number z) pair in
     let t = c.load-bit.ensures.2 n2 b.0 in
-    let d : ReaderNotes g.row.T.Denot = first_reader c.copy_out-answer.result in let v = ap (λ m. m.0) c.copy_out-answer.ensures.same ∙ t.3 in let e : c.copy_out-answer.result ≡ t.1 = ap (record_or c.copy_out-answer.result) (sym c.copy_out-answer.ensures.copied ∙ t.4) in
+    let d : ReaderNotes g.row.T.Denot = first_reader get.spare in let v = ap (λ m. m.0) c.copy_out.ensures.same ∙ t.3 in let e : c.copy_out.result ≡ t.1 = ap (record_or c.copy_out.result) (sym c.copy_out.ensures.copied ∙ t.4) in
     ap (λ z. (reader_or d z).accesses) v ∙ (let f : n.accesses + 1 + 1 + 1 ≡ n.accesses + 3 = omega arith in f)
 
 pub returns-clause-events : goal.returns-clause-events
-returns-clause-events g c = let get = c.args.get.now in let n : ReaderNotes g.row.T.Denot = reader_or (first_reader get.last) get.seat.me.0 in
+returns-clause-events g c = let get = c.args.get.now in let n : ReaderNotes g.row.T.Denot = reader_or (first_reader get.spare) get.seat.me.0 in
     let a = c.load-latest.ensures.2 n get.known in let n1 : ReaderNotes g.row.T.Denot = asked_by n a.0 in
     let b = c.store.ensures.2 n1 a.2 (a.3 ∙ get.holds) in let n2 : ReaderNotes g.row.T.Denot = said_by n1 in
     let pair : c.is_one-pair.result ≡ a.0 = c.is_one-pair.ensures a.0 a.1 in
     let word : c.word_of-word.result ≡ 2 + bit_number a.0 = c.word_of-word.ensures ∙ ap (λ z. 2 + bit_number z) pair in
     let t = c.load-bit.ensures.2 n2 b.0 in
-    let d : ReaderNotes g.row.T.Denot = first_reader c.copy_out-answer.result in let v = ap (λ m. m.0) c.copy_out-answer.ensures.same ∙ t.3 in let e : c.copy_out-answer.result ≡ t.1 = ap (record_or c.copy_out-answer.result) (sym c.copy_out-answer.ensures.copied ∙ t.4) in
-    ap (λ z. (reader_or d z).events) v ∙ ((λ i. ((n.events ++ R1 ∷ []) ++ R2 ∷ []) ++ R3 ∷ R4 ∷ R5 (snap (sym e i)) ∷ []) ∙ read_joined n.events R1 R2 R3 R4 (R5 (snap c.copy_out-answer.result)))
+    let d : ReaderNotes g.row.T.Denot = first_reader get.spare in let v = ap (λ m. m.0) c.copy_out.ensures.same ∙ t.3 in let e : c.copy_out.result ≡ t.1 = ap (record_or c.copy_out.result) (sym c.copy_out.ensures.copied ∙ t.4) in
+    ap (λ z. (reader_or d z).events) v ∙ ((λ i. ((n.events ++ R1 ∷ []) ++ R2 ∷ []) ++ R3 ∷ R4 ∷ R5 (snap (sym e i)) ∷ []) ∙ read_joined n.events R1 R2 R3 R4 (R5 (snap c.copy_out.result)))
 
 pub returns-clause-held : goal.returns-clause-held
-returns-clause-held g c = let get = c.args.get.now in let n : ReaderNotes g.row.T.Denot = reader_or (first_reader get.last) get.seat.me.0 in
+returns-clause-held g c = let get = c.args.get.now in let n : ReaderNotes g.row.T.Denot = reader_or (first_reader get.spare) get.seat.me.0 in
     let a = c.load-latest.ensures.2 n get.known in let n1 : ReaderNotes g.row.T.Denot = asked_by n a.0 in
     let b = c.store.ensures.2 n1 a.2 (a.3 ∙ get.holds) in let n2 : ReaderNotes g.row.T.Denot = said_by n1 in
     let pair : c.is_one-pair.result ≡ a.0 = c.is_one-pair.ensures a.0 a.1 in
     let word : c.word_of-word.result ≡ 2 + bit_number a.0 = c.word_of-word.ensures ∙ ap (λ z. 2 + bit_number z) pair in
     let t = c.load-bit.ensures.2 n2 b.0 in
-    let d : ReaderNotes g.row.T.Denot = first_reader c.copy_out-answer.result in let v = ap (λ m. m.0) c.copy_out-answer.ensures.same ∙ t.3 in let e : c.copy_out-answer.result ≡ t.1 = ap (record_or c.copy_out-answer.result) (sym c.copy_out-answer.ensures.copied ∙ t.4) in
-    ap (λ m. m.1) c.copy_out-answer.ensures.same ∙ (t.4 ∙ (λ i. (slot_number (reader_or d (sym v i)).place, sym e i) ∷ []))
+    let d : ReaderNotes g.row.T.Denot = first_reader get.spare in let v = ap (λ m. m.0) c.copy_out.ensures.same ∙ t.3 in let e : c.copy_out.result ≡ t.1 = ap (record_or c.copy_out.result) (sym c.copy_out.ensures.copied ∙ t.4) in
+    ap (λ m. m.1) c.copy_out.ensures.same ∙ (t.4 ∙ (λ i. (slot_number (reader_or d (sym v i)).place, sym e i) ∷ []))

@@ -2,7 +2,7 @@ use Rattle.std.proofs.Common.{rules, arith, refl, ap, ◌≡◌, ◌∙◌, sym,
 use Rattle.cell_live.proofs.TripleKeeps.{parts_at, put_takes, get_takes, starts}
 use Rattle.atomic_table.specs.Table.{opening}
 use Rattle.cell_live.specs.Triple.{first_put, first_get, first_view, put_or, get_or, TripleRule}
-use Rattle.cell_live.specs.Running.{last_or, held_slots}
+use Rattle.cell_live.specs.Running.{held_slots}
 use Rattle.cell_live.specs.declared.triple.notes.PutNotes.{PutNotes}
 use Rattle.cell_live.specs.declared.triple.notes.GetNotes.{GetNotes}
 use Rattle.cell_live.specs.declared.triple.notes.View.TheVariants.{Put, Get}
@@ -23,7 +23,7 @@ load-requires-2 g c = (search rules, search rules, get_takes g.T.Lawful.fits g.T
 pub invariant_of-result-2 : goal.invariant_of-result-2
 invariant_of-result-2 g c = let d : PutNotes g.row.T.Denot = first_put c.args.first in let is : c.split_seat-get.new.seat.me.0 ≡ Put d = search rules in let t = c.load.ensures.2 d is in record {
   known = t.0 ∙ ap (λ v. Put (put_or d v)) (sym t.0);
-  ready = (ap (λ v. (put_or d v).has) t.0, ap (λ v. (put_or d v).slot) t.0, ap (λ v. last_or (put_or d v).opening.value (put_or d v).written) t.0);
+  ready = (ap (λ v. (put_or d v).has) t.0, ap (λ v. (put_or d v).slot) t.0);
   held = ap held_slots t.1;
   low = omega arith;
 }

@@ -1,6 +1,20 @@
-use Rattle.std.proofs.Common.{rules, ap}
+use Rattle.std.proofs.Common.{rules, ◌≡◌, ap, sym, ◌∙◌, []}
+use Rattle.cell_live.specs.Running.{last_or}
+use Rattle.cell_live.specs.Triple.{snap, receipt_of, told_or, first_put, put_or}
+use Rattle.cell_live.specs.declared.triple.notes.PutNotes.{PutNotes}
+use Rattle.cell_live.specs.declared.triple.notes.View.TheVariants.{Told}
 use Rattle.cell_live.proofs.TripleKeeps.{tells_at}
 use Rattle.cell_live.proofs.triple.calls.TripleCellCalls.tell.Goals as goal
 
 pub split_seat-seat-requires : goal.split_seat-seat-requires
 split_seat-seat-requires g c = (ap (λ n. n.table) c.requires, search rules, tells_at g.T.Lawful.fits g.T.Lawful.rises _ _ _ _ c.args.put.now.known)
+
+pub invariant_of-result : goal.invariant_of-result
+invariant_of-result g c = let put = c.args.put.now in let p : PutNotes g.row.T.Denot = put_or (first_put put.spare) put.seat.me.0 in
+    let e : c.split_seat-seat.result.me ≡ (Told (snap (last_or p.opening.value p.written)), []) = c.split_seat-seat.ensures.4 ∙ (λ i. (receipt_of (put.known i), [])) in
+    record { known = e ∙ (λ i. (Told (snap (told_or put.spare (sym e i).0)), [])) }
+
+pub returns-clause-named : goal.returns-clause-named
+returns-clause-named g c = let put = c.args.put.now in let p : PutNotes g.row.T.Denot = put_or (first_put put.spare) put.seat.me.0 in
+    let e : c.split_seat-seat.result.me ≡ (Told (snap (last_or p.opening.value p.written)), []) = c.split_seat-seat.ensures.4 ∙ (λ i. (receipt_of (put.known i), [])) in
+    ap (λ m. told_or put.spare m.0) e ∙ ap (λ n. last_or {T = g.row.T.Denot} n.opening p.written) c.requires

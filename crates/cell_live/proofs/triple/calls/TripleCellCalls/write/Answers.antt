@@ -3,12 +3,11 @@ use Rattle.cell_live.specs.Running.{last_or, held_slots}
 use Rattle.cell_live.specs.Triple.{first_put, put_or}
 use Rattle.cell_live.specs.declared.triple.notes.PutNotes.{PutNotes}
 use Rattle.cell_live.specs.declared.triple.notes.View.TheVariants.{Put}
-use Rattle.cell_live.proofs.ListLaws.{last_snoc}
 use Rattle.cell_live.proofs.TripleKeeps.{puts}
 use Rattle.cell_live.proofs.triple.calls.TripleCellCalls.write.Goals as goal
 
 pub swap-found-requires : goal.swap-found-requires
-swap-found-requires g c = let put = c.args.put.now in let p : PutNotes g.row.T.Denot = put_or (first_put put.last) put.seat.me.0 in let now = c.fill.ensures.filled in (
+swap-found-requires g c = let put = c.args.put.now in let p : PutNotes g.row.T.Denot = put_or (first_put put.spare) put.seat.me.0 in let now = c.fill.ensures.filled in (
   search rules,
   search rules,
   puts g.T.Lawful.fits g.T.Lawful.rises _ _ _ _ p c.args.item _ (ap (λ m. m.0) now ∙ put.known) (ap (λ m. m.1) now ∙ (λ i. (sym put.ready.1 i, c.args.item) ∷ [])) put.ready.0
@@ -16,11 +15,11 @@ swap-found-requires g c = let put = c.args.put.now in let p : PutNotes g.row.T.D
 )
 
 pub invariant_of-put : goal.invariant_of-put
-invariant_of-put g c = let put = c.args.put.now in let d : PutNotes g.row.T.Denot = first_put put.last in let p : PutNotes g.row.T.Denot = put_or d put.seat.me.0 in let now = c.fill.ensures.filled in
+invariant_of-put g c = let put = c.args.put.now in let d : PutNotes g.row.T.Denot = first_put put.spare in let p : PutNotes g.row.T.Denot = put_or d put.seat.me.0 in let now = c.fill.ensures.filled in
     let t = c.swap-found.ensures.2 p c.args.item (ap (λ m. m.0) now ∙ put.known) (ap (λ m. m.1) now ∙ (λ i. (sym put.ready.1 i, c.args.item) ∷ [])) in
-    let d' : PutNotes g.row.T.Denot = first_put c.args.item in record {
+    let d' : PutNotes g.row.T.Denot = first_put put.spare in record {
       known = t.2 ∙ ap (λ v. Put (put_or d' v)) (sym t.2);
-      ready = (ap (λ v. (put_or d' v).has) t.2 ∙ put.ready.0, ap (λ v. (put_or d' v).slot) t.2, ap (λ v. last_or (put_or d' v).opening.value (put_or d' v).written) t.2 ∙ last_snoc p.opening.value p.written c.args.item);
+      ready = (ap (λ v. (put_or d' v).has) t.2 ∙ put.ready.0, ap (λ v. (put_or d' v).slot) t.2);
       held = ap held_slots t.3;
       low = t.1;
     }
