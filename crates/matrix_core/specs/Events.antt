@@ -1,4 +1,4 @@
--- The matrix and its events. Cell (i, j) is written by process i and read by process j; an operation of process i reads
+-- The matrix and its events, which are this project's own. Cell (i, j) is written by process i and read by process j; an operation of process i reads
 -- cell (j, i) for each other j, rising, chooses at the last one, and then writes cell (i, j) for each other j, rising.
 use Rattle.std.specs.Prelude.{◌≡◌, ℕ, ◌+◌, ◌-◌, ◌*◌, ◌≤◌, List, length, replicate, slice_get, slice_set, Option, None, Some, nat_lt, nat_eq, if◌then◌else◌}
 use Rattle.history_core.specs.declared.play.Wish.{Wish}

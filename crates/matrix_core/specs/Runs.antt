@@ -1,4 +1,5 @@
--- What a schedule's run gives, step by step: the operations with what they answered, and the stamp that each chose.
+-- What a schedule's run gives, step by step: the operations with what they answered, and the stamp that each chose. This is
+-- this project's own.
 use Rattle.std.specs.Prelude.{◌≡◌, ℕ, zero, suc, ◌+◌, ◌*◌, ◌<◌, ◌≤◌, List, [], ◌∷◌, ◌++◌, length, replicate, slice_get, slice_set, slice_index_or, Option, None, Some, IsSome, nat_eq, if◌then◌else◌}
 use Rattle.std.specs.List.{fold}
 use Rattle.std.specs.Option.{option_and_then}

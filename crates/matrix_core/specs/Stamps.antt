@@ -1,4 +1,5 @@
--- Stamps and their order: by tag, and then by writer.
+-- Stamps and their order: by tag, and then by writer. Tags are credited to P. Vitányi and B. Awerbuch, FOCS 1986; the rules are
+-- this project's own.
 use Rattle.std.specs.Prelude.{◌≡◌, ℕ, ◌+◌, ◌*◌, ◌<◌, ◌⊎◌, Bool, ◌&&◌, ◌||◌, nat_lt, nat_eq, if◌then◌else◌}
 use Rattle.matrix_core.specs.declared.stamp.Stamp.{Stamp}
 use Rattle.matrix_core.specs.declared.stamp.Stamped.{Stamped}

@@ -23,11 +23,11 @@ pub enum Outcome<R> {
 /// One event of a matrix.
 #[derive(Clone, Copy, Debug, PartialEq, Eq)]
 pub enum MatrixStage<R> {
-    /// The cell that this process writes was read.
+    /// A cell of the process's column was read: the one that process `from` writes.
     Got { from: usize },
-    /// The cell that this process reads was written.
+    /// A cell of the process's row was written: the one that process `to` reads.
     Put { to: usize },
-    /// The last cell was written, which ends the operation.
+    /// The last cell of the row was written, which ends the operation.
     Done(Outcome<R>),
 }
 

@@ -6,7 +6,6 @@ use Rattle.matrix_core.specs.declared.schedule.MatrixTerm.{MatrixTerm}
 use Rattle.matrix_core.specs.Runs.{Run, run_of}
 use Rattle.matrix_core.proofs.Plays.{term_played}
 use Rattle.matrix_core.proofs.Reports.{report_step, report_ends, rest_is, term_left}
-use Rattle.matrix_core.proofs.Shapes.{report_shape}
 use Rattle.matrix_core.proofs.report.play_terms.Goals as goal
 
 pub play_term-requires-clause-term : goal.play_term-requires-clause-term
@@ -48,14 +47,14 @@ loop-term-preserved g c =
     let place : c.len-first.result ≡ length c.loop-term.ops.items = search rules in
     let ops : c.deref.result.now ≡ c.loop-term.ops.items ++ run.ops = c.deref.ensures.value ∙ c.in_ok-give.ensures.ops in
     let stamps : c.deref-in-loop-term.result.now ≡ c.loop-term.stamps.items ++ run.stamps = c.deref-in-loop-term.ensures.value ∙ c.in_ok-give.ensures.stamps in
-      let listed = c.in_ok-list_term.ensures in
+    let listed = c.in_ok-list_term.ensures in
     report_step c.args.schedule.now.terms c.args.schedule.now.opening i c.loop-term.opening c.greatest-opening.result c.loop-term.now (c.loop-term.now + length c.as_slice.result.now)
     c.loop-term.terms.items c.push.new.self.items c.loop-term.ops.items c.give.new.ops.items c.loop-term.stamps.items c.give.new.stamps.items c.loop-term.order.items c.list_term.new.order.items listed.0 term run c.len-first.result
     at is long place c.greatest-opening.ensures (ap (λ z. c.loop-term.now + length z) c.as_slice.ensures) c.in_ok-push.ensures.items c.in_ok-give.ensures.ops c.in_ok-give.ensures.stamps
     (rw (c.deref.ensures.value, c.deref-in-loop-term.ensures.value) at listed.1) listed.2 c.loop-term.invariant
 
-pub returns-clause-run : goal.returns-clause-run
-returns-clause-run g c =
+pub returns : goal.returns
+returns g c =
     let done : length c.args.schedule.now.terms ≤ c.loop-term.term-index = rw c.as_slice-term-items.ensures at c.loop-term-test.false in
     let e = report_ends c.args.schedule.now.terms c.args.schedule.now.opening c.loop-term.term-index c.loop-term.opening c.loop-term.now c.loop-term.terms.items c.loop-term.ops.items c.loop-term.stamps.items c.loop-term.order.items done c.loop-term.invariant in
     record {
@@ -65,6 +64,3 @@ returns-clause-run g c =
       stamps = c.new-3.ensures ∙ e.2;
       order = rw c.new-4.ensures e.3;
     }
-
-pub returns-clause-shape : goal.returns-clause-shape
-returns-clause-shape g c = report_shape c.args.schedule.now _ c.requires.can c.requires.left (returns-clause-run g c)
