@@ -21,6 +21,13 @@ use Rattle.matrix_core.specs.declared.play.Seat.{Seat}
 use Rattle.matrix_core.specs.Stamps.{greater}
 use Rattle.matrix_core.specs.Events.{Matrix, IsMatrix, size, after_access, opening_matrix, first_record}
 
+-- the greatest limit of a term, and the greatest number of a position
+abbrev pub max_limit : ℕ
+max_limit = 18446744073709551614
+
+abbrev pub max_position : ℕ
+max_position = 18446744073709551615
+
 -- the element at a place becomes its value under f
 abbrev pub changed : {X : Type 0} → (X → X) → ℕ → List X → List X
 changed f place [] = []
@@ -123,15 +130,15 @@ module _ {R : Type 0} where
     pub at : slice_get run.matrix.lines who ≡ Some line
     pub place : place_of run who < length run.ops
     pub stamps : length run.stamps ≡ length run.ops
-    pub room : run.now + 1 < 18446744073709551616
+    pub room : run.now < max_position
 
   -- a process can make its next step: where it begins an operation its plan has one
   pub record IsReady (plans : List (List (Wish R))) (run : Run R) (who : ℕ) : Type 0 where
     pub processes : length run.seats ≡ size run.matrix
     pub inside : who < length run.seats
     pub stamps : length run.stamps ≡ length run.ops
-    pub room : run.now + 1 < 18446744073709551616
-    pub count : (seat_of run who).begun + 1 < 18446744073709551616
+    pub room : run.now < max_position
+    pub count : (seat_of run who).begun < max_position
     pub next : (line : Progress R) → slice_get run.matrix.lines who ≡ Some line → line.done ≡ 0 → IsSome (next_wish plans run who)
     pub place : (line : Progress R) → slice_get run.matrix.lines who ≡ Some line → 0 < line.done → place_of run who < length run.ops
 
@@ -179,7 +186,7 @@ module _ {R : Type 0} where
     pub at_least : 2 ≤ length term.plans
     pub at_most : length term.plans ≤ 16
     pub limit_least : 1 ≤ term.limit
-    pub limit_most : term.limit ≤ 18446744073709551614
+    pub limit_most : term.limit ≤ max_limit
     pub steps : (step who : ℕ) → slice_get term.steps step ≡ Some who → who < length term.plans
 
   abbrev pub step_count : List (MatrixTerm R) → ℕ
@@ -190,7 +197,7 @@ module _ {R : Type 0} where
   pub record CanPlay (terms : List (MatrixTerm R)) : Type 0 where
     pub some : 1 ≤ length terms
     pub each : (k : ℕ) (term : MatrixTerm R) → slice_get terms k ≡ Some term → IsTerm term
-    pub steps : step_count terms < 18446744073709551615
+    pub steps : step_count terms < max_position
 
   -- a schedule is refused at the first step of a process that has no operation left, or, where each step has one, for
   -- want of memory

@@ -4,7 +4,7 @@ ghost use Rattle.std.specs.Prelude.{◌≡◌, ◌+◌, ◌-◌, ◌*◌, ◌<�
 ghost use Rattle.std.specs.List.{fold};
 ghost use Rattle.history_core.specs.Schedules.{HasOperations, IsFirstOverrun, Overruns};
 ghost use Rattle.matrix_core.specs.declared.schedule.MatrixTerm.{MatrixTerm};
-ghost use Rattle.matrix_core.specs.Runs.{begun_op, chose, ended, IsTerm, run_of, span_of, spans_of, step_count};
+ghost use Rattle.matrix_core.specs.Runs.{begun_op, chose, ended, IsTerm, max_limit, max_position, run_of, span_of, spans_of, step_count};
 
 use crate::matrix::{MatrixCore, Outcome, Progress, filled};
 use crate::schedule::MatrixTerm;
@@ -44,7 +44,7 @@ impl<R: Copy> Play<R> {
 
     fn new(alloc: Global, n: usize, limit: u64, opening: R, now: u64) -> Result<Play<R>, AllocError>
         requires processes { 2 ≤ n × n ≤ 16 }
-        requires limit { 1 ≤ limit × limit ≤ 18446744073709551614 }
+        requires limit { 1 ≤ limit × limit ≤ max_limit }
         ensures { IfOk result (λ play. play ≡ opening_run n limit opening now) }
     {
         Ok(Play {
@@ -212,7 +212,7 @@ pub(crate) fn play_term<R: Copy>(
 /// The first step of a process that has no operation left in its term, counted through all terms.
 pub(crate) fn first_overrun<R>(terms: &[MatrixTerm<R>]) -> Option<u64>
     requires each { (k : ℕ) (term : MatrixTerm R) → slice_get terms.now k ≡ Some term → IsTerm term }
-    requires steps { step_count terms.now < 18446744073709551615 }
+    requires steps { step_count terms.now < max_position }
     ensures none { IfNone result (HasOperations (spans_of terms.now)) }
     ensures first { IfSome result (IsFirstOverrun (spans_of terms.now)) }
 {
