@@ -1,9 +1,9 @@
 -- The operations of a schedule, read off its steps: one more step begins an operation, ends one, or neither, by its number on
 -- its side; and no position changes that was there.
 use Rattle.std.proofs.Common.{◌≡◌, ◌≢◌, ℕ, ◌+◌, ◌-◌, ◌*◌, ◌/◌, ◌%◌, ◌<◌, ◌≤◌, Bool, true, false, nat_eq, List, [], ◌∷◌, ◌++◌, length, map, take, get_or, slice_get, Some, inl, inr, refl, sym, subst, ◌∙◌, ap, arith, append-nil}
-use Rattle.std.specs.Prelude.{if◌then◌else◌, IsTrue, ◌↔◌}
+use Rattle.std.specs.Prelude.{if◌then◌else◌, ◌&&◌}
 use Rattle.std.specs.Option.{option_map}
-use Rattle.std.proofs.lemmas.Bool.{cases_eq}
+use Rattle.std.proofs.lemmas.Bool.{cases_Bool, cases_eq}
 use Rattle.std.proofs.lemmas.Bool.Decides.{nat_tests}
 use Rattle.std.proofs.lemmas.List.{map-append, take_more, take-map, length_push, length-map, length-take-le}
 use Rattle.std.proofs.lemmas.List.Sums.{count_by-le-length}
@@ -17,7 +17,8 @@ use Rattle.fourslot_core.specs.declared.player.Made.{Made}
 use Rattle.fourslot_core.specs.declared.player.Part.{Part}
 use Rattle.history_core.proofs.Overruns.{has_left, has_none_left}
 use Rattle.fourslot_core.specs.Play.{actor, span_of}
-use Rattle.fourslot_core.specs.Parts.{plan_of, made_by, counted, part_of, begun_by, IsPartsOf, noted, IsAccessesOf}
+use Rattle.fourslot_core.specs.Parts.{plan_of, made_by, counted, part_of, begun_by, IsPartsOf, noted, makes, IsAccessesOf, IsOperationsOf}
+use Rattle.fourslot_core.proofs.Keeping.{and_parts}
 
 -- the actors of the first steps
 abbrev pub actors : ℕ → List Turn → List ℕ
@@ -145,15 +146,54 @@ access_stays who access s done all ne h = record {
   ];
 }
 
-pub accesses_more : (who access s : ℕ) (done all : List ℕ) (here : Bool) (c n : ℕ) → (IsTrue here ↔ ((s ≡ who) × (c % 5 ≡ access))) → c ≡ steps_of who done → n ≡ length done → IsAccessesOf who access done all → IsAccessesOf who access (done ++ s ∷ []) (all ++ noted here n)
-accesses_more who access s done all false c n is count now h =
-    subst (λ list. IsAccessesOf who access (done ++ s ∷ []) list) (sym (append-nil all)) (access_stays who access s done all (λ e m. let no : IsTrue false = is.1 (e, ap (λ k. k % 5) count ∙ m) in cc) h)
-accesses_more who access s done all true c n is count now h =
-    let w = is.0 refl in
-    subst (λ u. IsAccessesOf who access (done ++ u ∷ []) (all ++ n ∷ [])) (sym w.0) (subst (λ m. IsAccessesOf who access (done ++ who ∷ []) (all ++ m ∷ [])) (sym now) (access_made who access done all (ap (λ k. k % 5) (sym count) ∙ w.1) h))
+-- a step makes an access or not
+makes_true : (turn : Turn) (c : ℕ) (side : Turn) (access : ℕ) → makes turn c side access ≡ true → (actor turn ≡ actor side) × (c % 5 ≡ access)
+makes_true turn c side access h =
+    let w = and_parts (nat_eq (actor turn) (actor side)) (nat_eq (c % 5) access) h in
+    let same : actor turn ≡ actor side = let t = w.0 in grind (arith, nat_tests) in
+    let here : c % 5 ≡ access = let t = w.1 in grind (arith, nat_tests) in
+    (same, here)
+
+makes_false : (turn : Turn) (c : ℕ) (side : Turn) (access : ℕ) → makes turn c side access ≡ false → actor turn ≡ actor side → c % 5 ≢ access
+makes_false turn c side access h same here =
+    let s : nat_eq (actor turn) (actor side) ≡ true = grind (arith, nat_tests) in
+    let t : nat_eq (c % 5) access ≡ true = grind (arith, nat_tests) in
+    let yes_it_does : makes turn c side access ≡ true = ap (λ b. b && nat_eq (c % 5) access) s ∙ t in
+    cc
+
+pub accesses_more : (turn side : Turn) (access : ℕ) (done all : List ℕ) (c n : ℕ) → c ≡ steps_of (actor turn) done → n ≡ length done → IsAccessesOf (actor side) access done all → IsAccessesOf (actor side) access (done ++ actor turn ∷ []) (all ++ noted (makes turn c side access) n)
+accesses_more turn side access done all c n count now h = elim (cases_Bool (makes turn c side access)) [
+  | inl t ↦
+      let w = makes_true turn c side access t in
+      let mine : steps_of (actor side) done ≡ c = sym (count ∙ ap (λ u. steps_of u done) w.0) in
+      let made : IsAccessesOf (actor side) access (done ++ actor side ∷ []) (all ++ length done ∷ []) = access_made (actor side) access done all (ap (λ m. m % 5) mine ∙ w.1) h in
+      let is : noted (makes turn c side access) n ≡ length done ∷ [] = ap (λ b. noted b n) t ∙ ap (λ m. m ∷ []) now in
+      subst (λ more. IsAccessesOf (actor side) access (done ++ actor turn ∷ []) (all ++ more)) (sym is) (subst (λ u. IsAccessesOf (actor side) access (done ++ u ∷ []) (all ++ length done ∷ [])) (sym w.0) made)
+  | inr f ↦
+      let stays : IsAccessesOf (actor side) access (done ++ actor turn ∷ []) all = access_stays (actor side) access (actor turn) done all (λ e m. makes_false turn c side access f e (ap (λ k. k % 5) (count ∙ ap (λ u. steps_of u done) e) ∙ m)) h in
+      let is : all ++ noted (makes turn c side access) n ≡ all = ap (λ b. all ++ noted b n) f ∙ append-nil all in
+      subst (λ list. IsAccessesOf (actor side) access (done ++ actor turn ∷ []) list) (sym is) stays
+]
 
 pub no_accesses : (who access : ℕ) → access < 5 → IsAccessesOf who access [] []
 no_accesses who access l = record { each = λ k. refl; rest = 4 - access; last = omega arith; long = let z : (0 + (4 - access)) / 5 ≡ 0 = omega arith in sym z }
+
+-- what one more step says
+pub operations_more : (turn : Turn) (done : List ℕ) (parts : List Part) (writer_ends reader_ends stores : List ℕ) (c n : ℕ) → c ≡ steps_of (actor turn) done → n ≡ length done → IsOperationsOf done parts writer_ends reader_ends stores → IsOperationsOf (done ++ actor turn ∷ []) (parts ++ begun_by turn c n) (writer_ends ++ noted (makes turn c Writer 4) n) (reader_ends ++ noted (makes turn c Reader 4) n) (stores ++ noted (makes turn c Writer 3) n)
+operations_more turn done parts writer_ends reader_ends stores c n count now h = record {
+  are_parts = parts_more done parts turn c n count now h.are_parts;
+  are_writer_ends = accesses_more turn Writer 4 done writer_ends c n count now h.are_writer_ends;
+  are_reader_ends = accesses_more turn Reader 4 done reader_ends c n count now h.are_reader_ends;
+  are_stores = accesses_more turn Writer 3 done stores c n count now h.are_stores;
+}
+
+pub no_operations : IsOperationsOf [] [] [] [] []
+no_operations = record {
+  are_parts = no_parts;
+  are_writer_ends = no_accesses 0 4 (omega arith);
+  are_reader_ends = no_accesses 1 4 (omega arith);
+  are_stores = no_accesses 0 3 (omega arith);
+}
 
 -- the number of positions before one
 pub actors_long : (n : ℕ) (steps : List Turn) → n ≤ length steps → length (actors n steps) ≡ n

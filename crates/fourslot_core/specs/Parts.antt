@@ -1,5 +1,5 @@
 -- What the player holds: the operations that the steps begin, the ends of those that end, and a run over numbered records.
-use Rattle.std.specs.Prelude.{◌≡◌, ℕ, ◌+◌, ◌*◌, ◌/◌, ◌%◌, ◌<◌, Bool, nat_eq, if◌then◌else◌, List, [], ◌∷◌, length, map, replicate, slice_get, Option, Some}
+use Rattle.std.specs.Prelude.{◌≡◌, ℕ, ◌+◌, ◌*◌, ◌/◌, ◌%◌, ◌<◌, Bool, ◌&&◌, nat_eq, if◌then◌else◌, List, [], ◌∷◌, length, map, replicate, slice_get, Option, Some}
 use Rattle.std.specs.Option.{option_map}
 use Rattle.history_core.specs.declared.history.Op.{Op}
 use Rattle.history_core.specs.declared.history.Kind.TheVariants.{Write as WriteKind, Read as ReadKind}
@@ -43,6 +43,17 @@ pub record IsAccessesOf (who access : ℕ) (steps all : List ℕ) : Type 0 where
   pub rest : ℕ
   pub last : access + rest ≡ 4
   pub long : length all ≡ (steps_of who steps + rest) / 5
+
+-- step number `step` of this turn is this access of an operation of the side
+abbrev pub makes : Turn → ℕ → Turn → ℕ → Bool
+makes turn step side access = nat_eq (actor turn) (actor side) && nat_eq (step % 5) access
+
+-- what the steps of these actors say of the operations
+pub record IsOperationsOf (steps : List ℕ) (parts : List Part) (writer_ends reader_ends stores : List ℕ) : Type 0 where
+  pub are_parts : IsPartsOf steps parts
+  pub are_writer_ends : IsAccessesOf 0 4 steps writer_ends
+  pub are_reader_ends : IsAccessesOf 1 4 steps reader_ends
+  pub are_stores : IsAccessesOf 0 3 steps stores
 
 -- what a side is to do
 abbrev pub plan_of : {R : Type 0} → Turn → List R → ℕ → List (Wish R)

@@ -12,7 +12,7 @@ ghost use Rattle.fourslot_core.specs.ReportOrders.{IsReportOrder};
 ghost use Rattle.fourslot_core.specs.declared.schedule.Turn.TheVariants.{Reader, Writer};
 ghost use Rattle.fourslot_core.specs.Weaves.{HasFirst, IsInTurn, IsOrdered, IsPlacesOf, IsWeave, NumbersBelow, NumbersRise};
 ghost use Rattle.fourslot_core.specs.Runs.{after_reader, after_writer, IsAssembled, numbered, numbered_run, numbered_trace, shown, step_of};
-ghost use Rattle.fourslot_core.specs.Parts.{begun_by, counted, IsAccessesOf, IsPartsOf, made_by, noted, op_of, plan_of, slot_of};
+ghost use Rattle.fourslot_core.specs.Parts.{begun_by, counted, IsOperationsOf, made_by, makes, noted, op_of, plan_of, slot_of};
 
 use crate::cell::CellCore;
 use crate::schedule::{CellReport, CellSchedule, Turn};
@@ -89,34 +89,58 @@ struct Part {
     starts: u64,
 }
 
-/// The operations that the steps begin, in order of beginning.
-fn operations(alloc: Global, steps: &[Turn]) -> Result<Vec<Part>, AllocError>
-    ensures { IfOk result (λ parts. IsPartsOf (map actor steps.now) parts.items) }
+/// What the steps say of the operations: those that begin, in order of beginning; the end of each that ends, by side; and W4 of
+/// each write that makes it.
+#[derive(Drop)]
+struct Operations {
+    parts: Vec<Part>,
+    writer_ends: Vec<u64>,
+    reader_ends: Vec<u64>,
+    stores: Vec<u64>,
+}
+
+impl Operations {
+    /// Takes the step of this number of a side.
+    fn take(&mut self, turn: Turn, step: usize, position: u64) -> Result<(), AllocError>
+        ensures parts { OnOk result (self.new.parts.items ≡ self.old.parts.items ++ begun_by turn step position) }
+        ensures writer_ends { OnOk result (self.new.writer_ends.items ≡ self.old.writer_ends.items ++ noted (makes turn step Writer 4) position) }
+        ensures reader_ends { OnOk result (self.new.reader_ends.items ≡ self.old.reader_ends.items ++ noted (makes turn step Reader 4) position) }
+        ensures stores { OnOk result (self.new.stores.items ≡ self.old.stores.items ++ noted (makes turn step Writer 3) position) }
+    {
+        match (turn, step % ACCESSES) {
+            (_, 0) => self.parts.push(Part {
+                turn,
+                number: step / ACCESSES,
+                starts: position,
+            })?,
+            (Turn::Writer, 3) => self.stores.push(position)?,
+            (Turn::Writer, 4) => self.writer_ends.push(position)?,
+            (Turn::Reader, 4) => self.reader_ends.push(position)?,
+            _ => {}
+        }
+        Ok(())
+    }
+}
+
+/// Reads the operations off the steps.
+fn read_steps(alloc: Global, steps: &[Turn]) -> Result<Operations, AllocError>
+    ensures { IfOk result (λ all. IsOperationsOf (map actor steps.now) all.parts.items all.writer_ends.items all.reader_ends.items all.stores.items) }
 {
-    let mut parts = Vec::new(alloc);
+    let mut all = Operations {
+        parts: Vec::new(alloc),
+        writer_ends: Vec::new(alloc),
+        reader_ends: Vec::new(alloc),
+        stores: Vec::new(alloc),
+    };
     let mut made = Made {
         writer: 0,
         reader: 0,
     };
     for (position, turn) in steps.iter().enumerate() {
-        begin(&mut parts, *turn, made.by(*turn), position as u64)?;
+        all.take(*turn, made.by(*turn), position as u64)?;
         made.count(*turn);
     }
-    Ok(parts)
-}
-
-/// Adds the operation that this step of a side begins, if it begins one.
-fn begin(parts: &mut Vec<Part>, turn: Turn, step: usize, position: u64) -> Result<(), AllocError>
-    ensures { OnOk result (parts.new.items ≡ parts.old.items ++ begun_by turn step position) }
-{
-    if step % ACCESSES == 0 {
-        parts.push(Part {
-            turn,
-            number: step / ACCESSES,
-            starts: position,
-        })?;
-    }
-    Ok(())
+    Ok(all)
 }
 
 fn is_by(turn: Turn, side: Turn) -> bool
@@ -125,39 +149,7 @@ fn is_by(turn: Turn, side: Turn) -> bool
     turn == side
 }
 
-/// The position of this access, counted from 0, of each operation of a side that makes it.
-fn accesses(
-    alloc: Global,
-    steps: &[Turn],
-    side: Turn,
-    access: usize,
-) -> Result<Vec<u64>, AllocError>
-    requires { access < 5 }
-    ensures { IfOk result (λ all. IsAccessesOf (actor side) access (map actor steps.now) all.items) }
-{
-    let mut all = Vec::new(alloc);
-    let mut made = Made {
-        writer: 0,
-        reader: 0,
-    };
-    for (position, turn) in steps.iter().enumerate() {
-        note(
-            &mut all,
-            is_access(*turn, side, made.by(side), access),
-            position as u64,
-        )?;
-        made.count(*turn);
-    }
-    Ok(all)
-}
-
-/// Whether a step of a turn is this access of an operation of the side, which has made so many steps.
-fn is_access(turn: Turn, side: Turn, made: usize, access: usize) -> bool
-    ensures { IsTrue result ↔ ((actor turn ≡ actor side) × (made % 5 ≡ access)) }
-{
-    is_by(turn, side) && made % ACCESSES == access
-}
-
+/// Adds an item to a list where it is to stand there.
 fn note<T: Copy>(list: &mut Vec<T>, here: bool, item: T) -> Result<(), AllocError>
     ensures { OnOk result (list.new.items ≡ list.old.items ++ noted here item) }
 {
@@ -257,32 +249,30 @@ fn take_turn<R: Copy>(
     }
 }
 
-/// A schedule that was played: its run, the end of each operation that ends, and W4 of each write that makes it.
+/// A schedule that was played.
 #[derive(Drop)]
 struct Played<R> {
+    all: Operations,
     run: Run<R>,
-    writer_ends: Vec<u64>,
-    reader_ends: Vec<u64>,
-    stores: Vec<u64>,
 }
 
 impl<R: Copy> Played<R> {
     fn operation(&self, part: &Part, writes: &[R]) -> Op<R>
-        ensures { result ≡ op_of writes.now self.now.writer_ends.items self.now.reader_ends.items self.now.run.answers.items part.now }
+        ensures { result ≡ op_of writes.now self.now.all.writer_ends.items self.now.all.reader_ends.items self.now.run.answers.items part.now }
     {
         match part.turn {
             Turn::Writer => Op {
                 who: 0,
                 kind: Kind::Write,
                 starts: part.starts,
-                ends: self.writer_ends.get(part.number).copied(),
+                ends: self.all.writer_ends.get(part.number).copied(),
                 item: writes.get(part.number).copied(),
             },
             Turn::Reader => Op {
                 who: 1,
                 kind: Kind::Read,
                 starts: part.starts,
-                ends: self.reader_ends.get(part.number).copied(),
+                ends: self.all.reader_ends.get(part.number).copied(),
                 item: self.run.answers.get(part.number).map(|answer| answer.item),
             },
         }
@@ -303,9 +293,9 @@ impl<R: Copy> Played<R> {
         parts: &[Part],
         writes: &[R],
     ) -> Result<Vec<Op<R>>, AllocError>
-        ensures { IfOk result (λ ops. ops.items ≡ map (op_of writes.now self.now.writer_ends.items self.now.reader_ends.items self.now.run.answers.items) parts.now) }
+        ensures { IfOk result (λ ops. ops.items ≡ map (op_of writes.now self.now.all.writer_ends.items self.now.all.reader_ends.items self.now.run.answers.items) parts.now) }
     {
-        let mut ops = Vec::new(alloc);
+        let mut ops = Vec::with_capacity(alloc, parts.len())?;
         for part in parts {
             ops.push(self.operation(part, writes))?;
         }
@@ -315,7 +305,7 @@ impl<R: Copy> Played<R> {
     fn slots(&self, alloc: Global, parts: &[Part]) -> Result<Vec<Option<u8>>, AllocError>
         ensures { IfOk result (λ slots. slots.items ≡ map (slot_of self.now.run.write_slots.items self.now.run.read_slots.items) parts.now) }
     {
-        let mut slots = Vec::new(alloc);
+        let mut slots = Vec::with_capacity(alloc, parts.len())?;
         for part in parts {
             slots.push(self.slot(part))?;
         }
@@ -325,13 +315,13 @@ impl<R: Copy> Played<R> {
     /// The order: each finished read after the write with its number and before the next one.
     fn order(&self, alloc: Global, parts: &[Part]) -> Result<Vec<usize>, AllocError>
         requires in_turn { IsInTurn parts.now }
-        requires writes { HasFirst Writer (length self.now.stores.items) parts.now }
+        requires writes { HasFirst Writer (length self.now.all.stores.items) parts.now }
         requires reads { HasFirst Reader (length self.now.run.answers.items) parts.now }
         requires rising { NumbersRise self.now.run.answers.items }
-        requires below { NumbersBelow (length self.now.stores.items) self.now.run.answers.items }
-        ensures { IfOk result (λ order. IsOrdered parts.now (length self.now.stores.items) self.now.run.answers.items order.items) }
+        requires below { NumbersBelow (length self.now.all.stores.items) self.now.run.answers.items }
+        ensures { IfOk result (λ order. IsOrdered parts.now (length self.now.all.stores.items) self.now.run.answers.items order.items) }
     {
-        let writes = places(alloc, parts, Turn::Writer, self.stores.len())?;
+        let writes = places(alloc, parts, Turn::Writer, self.all.stores.len())?;
         let reads = places(alloc, parts, Turn::Reader, self.run.answers.len())?;
         weave(alloc, &writes, &reads, &self.run.answers)
     }
@@ -390,21 +380,19 @@ fn report<R: Copy>(
     ensures opening { IfOk result (λ r. r.history.opening ≡ opening) }
     ensures assembled { IfOk result (λ r. IsAssembled (numbered_run opening noise writes.now steps.now) steps.now writes.now r.history.terms r.history.ops r.slots r.order) }
 {
-    let parts = operations(alloc, steps)?;
     let played = Played {
+        all: read_steps(alloc, steps)?,
         run: play(alloc, opening, noise, steps, writes)?,
-        writer_ends: accesses(alloc, steps, Turn::Writer, ACCESSES - 1)?,
-        reader_ends: accesses(alloc, steps, Turn::Reader, ACCESSES - 1)?,
-        stores: accesses(alloc, steps, Turn::Writer, ACCESSES - 2)?,
     };
+    let parts = played.all.parts.as_slice();
     let mut terms = Vec::new(alloc);
     terms.push(Term {
         first: 0,
         limit: MAX_LIMIT,
     })?;
-    let ops = played.operations(alloc, &parts, writes)?;
-    let slots = played.slots(alloc, &parts)?;
-    let order = played.order(alloc, &parts)?;
+    let ops = played.operations(alloc, parts, writes)?;
+    let slots = played.slots(alloc, parts)?;
+    let order = played.order(alloc, parts)?;
     Ok(CellReport {
         history: History {
             opening,
@@ -439,6 +427,7 @@ pub fn play_cell<R: Copy>(alloc: Global, s: &CellSchedule<R>) -> Result<CellRepo
     if let Some(position) = first_overrun(steps, writes, s.reads) {
         return Err(PlayError::TooManySteps { position });
     }
+    // By this law the order keeps precedence.
     order_by_number::<R>();
     match report(alloc, s.opening, s.noise, steps, writes) {
         Ok(report) => Ok(report),

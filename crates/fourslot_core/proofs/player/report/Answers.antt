@@ -35,38 +35,38 @@ answers_are {R} opening noise writes steps r is = ap (λ (l : Log (Numbered R)).
 pub returns-clause-assembled : goal.returns-clause-assembled
 returns-clause-assembled g c =
     let run = c.in_ok-play.field-0 in
-    let writer_ends = c.in_ok-accesses.field-0.items in
-    let reader_ends = c.in_ok-accesses-2.field-0.items in
+    let writer_ends = c.in_ok-read_steps.field-0.writer_ends.items in
+    let reader_ends = c.in_ok-read_steps.field-0.reader_ends.items in
     record {
-      parts = c.in_ok-parts.parts.items;
+      parts = c.in_ok-read_steps.field-0.parts.items;
       writer_ends = writer_ends;
       reader_ends = reader_ends;
-      stores = c.in_ok-accesses-3.field-0.items;
-      are_parts = c.in_ok-parts.ensures;
-      are_writer_ends = c.in_ok-accesses.ensures;
-      are_reader_ends = c.in_ok-accesses-2.ensures;
-      are_stores = c.in_ok-accesses-3.ensures;
+      stores = c.in_ok-read_steps.field-0.stores.items;
+      are_parts = c.in_ok-read_steps.ensures.are_parts;
+      are_writer_ends = c.in_ok-read_steps.ensures.are_writer_ends;
+      are_reader_ends = c.in_ok-read_steps.ensures.are_reader_ends;
+      are_stores = c.in_ok-read_steps.ensures.are_stores;
       terms_are =
           c.new.ensures ∙ c.in_ok-push.ensures.items
           ∙ ap (λ (terms : List Term). terms ++ record { first = 0; limit = MAX_LIMIT } ∷ []) c.new-terms.ensures.items;
-      ops_are = ops_along {R = g.row.R.Denot} c.args.writes.now writer_ends reader_ends c.in_ok-parts.parts.items c.deref.result.now c.new-2.result c.in_ok-ops.ops.items (shown run) (numbered_run c.args.opening c.args.noise c.args.writes.now c.args.steps.now) c.deref.ensures.value c.new-2.ensures c.in_ok-ops.ensures c.in_ok-play.ensures;
-      ordered = ordered_along {R = g.row.R.Denot} c.in_ok-parts.parts.items c.deref-3.result.now (length c.in_ok-accesses-3.field-0.items) c.new-4.result c.in_ok-order.order.items (shown run) (numbered_run c.args.opening c.args.noise c.args.writes.now c.args.steps.now) c.deref-3.ensures.value c.new-4.ensures c.in_ok-order.ensures c.in_ok-play.ensures;
-      slots_are = slots_along {R = g.row.R.Denot} c.in_ok-parts.parts.items c.deref-2.result.now c.new-3.result c.in_ok-slots.slots.items (shown run) (numbered_run c.args.opening c.args.noise c.args.writes.now c.args.steps.now) c.deref-2.ensures.value c.new-3.ensures c.in_ok-slots.ensures c.in_ok-play.ensures;
+      ops_are = ops_along {R = g.row.R.Denot} c.args.writes.now writer_ends reader_ends c.in_ok-read_steps.field-0.parts.items c.as_slice-parts.result.now c.new-2.result c.in_ok-ops.ops.items (shown run) (numbered_run c.args.opening c.args.noise c.args.writes.now c.args.steps.now) c.as_slice-parts.ensures.value c.new-2.ensures c.in_ok-ops.ensures c.in_ok-play.ensures;
+      ordered = ordered_along {R = g.row.R.Denot} c.in_ok-read_steps.field-0.parts.items c.as_slice-parts.result.now (length c.in_ok-read_steps.field-0.stores.items) c.new-4.result c.in_ok-order.order.items (shown run) (numbered_run c.args.opening c.args.noise c.args.writes.now c.args.steps.now) c.as_slice-parts.ensures.value c.new-4.ensures c.in_ok-order.ensures c.in_ok-play.ensures;
+      slots_are = slots_along {R = g.row.R.Denot} c.in_ok-read_steps.field-0.parts.items c.as_slice-parts.result.now c.new-3.result c.in_ok-slots.slots.items (shown run) (numbered_run c.args.opening c.args.noise c.args.writes.now c.args.steps.now) c.as_slice-parts.ensures.value c.new-3.ensures c.in_ok-slots.ensures c.in_ok-play.ensures;
     }
 
 pub order-requires-clause-in_turn : goal.order-requires-clause-in_turn
-order-requires-clause-in_turn g c = subst IsInTurn (sym c.deref-3.ensures.value) (parts_in_turn (map actor c.args.steps.now) c.in_ok-parts.parts.items c.in_ok-parts.ensures)
+order-requires-clause-in_turn g c = subst IsInTurn (sym c.as_slice-parts.ensures.value) (parts_in_turn (map actor c.args.steps.now) c.in_ok-read_steps.field-0.parts.items c.in_ok-read_steps.ensures.are_parts)
 
 pub order-requires-clause-writes : goal.order-requires-clause-writes
 order-requires-clause-writes g c =
-    subst (HasFirst Writer (length c.in_ok-accesses-3.field-0.items)) (sym c.deref-3.ensures.value)
-    (first_writes (map actor c.args.steps.now) c.in_ok-accesses-3.field-0.items c.in_ok-parts.parts.items c.in_ok-parts.ensures c.in_ok-accesses-3.ensures)
+    subst (HasFirst Writer (length c.in_ok-read_steps.field-0.stores.items)) (sym c.as_slice-parts.ensures.value)
+    (first_writes (map actor c.args.steps.now) c.in_ok-read_steps.field-0.stores.items c.in_ok-read_steps.field-0.parts.items c.in_ok-read_steps.ensures.are_parts c.in_ok-read_steps.ensures.are_stores)
 
 pub order-requires-clause-reads : goal.order-requires-clause-reads
 order-requires-clause-reads g c =
     let answers = answers_are {R = g.row.R.Denot} c.args.opening c.args.noise c.args.writes.now c.args.steps.now c.in_ok-play.field-0 c.in_ok-play.ensures in
-    subst (HasFirst Reader (length c.in_ok-play.field-0.answers.items)) (sym c.deref-3.ensures.value)
-    (subst (λ (a : List (Numbered g.row.R.Denot)). HasFirst Reader (length a) c.in_ok-parts.parts.items) answers (first_reads c.args.opening c.args.noise c.args.steps.now c.args.writes.now c.in_ok-parts.parts.items c.in_ok-parts.ensures))
+    subst (HasFirst Reader (length c.in_ok-play.field-0.answers.items)) (sym c.as_slice-parts.ensures.value)
+    (subst (λ (a : List (Numbered g.row.R.Denot)). HasFirst Reader (length a) c.in_ok-read_steps.field-0.parts.items) answers (first_reads c.args.opening c.args.noise c.args.steps.now c.args.writes.now c.in_ok-read_steps.field-0.parts.items c.in_ok-read_steps.ensures.are_parts))
 
 pub order-requires-clause-rising : goal.order-requires-clause-rising
 order-requires-clause-rising g c =
@@ -74,4 +74,4 @@ order-requires-clause-rising g c =
 
 pub order-requires-clause-below : goal.order-requires-clause-below
 order-requires-clause-below g c =
-    subst (λ (a : List (Numbered g.row.R.Denot)). NumbersBelow (length c.in_ok-accesses-3.field-0.items) a) (answers_are {R = g.row.R.Denot} c.args.opening c.args.noise c.args.writes.now c.args.steps.now c.in_ok-play.field-0 c.in_ok-play.ensures) (numbers_below c.args.opening c.args.noise c.args.steps.now c.args.writes.now c.in_ok-accesses-3.field-0.items c.in_ok-accesses-3.ensures)
+    subst (λ (a : List (Numbered g.row.R.Denot)). NumbersBelow (length c.in_ok-read_steps.field-0.stores.items) a) (answers_are {R = g.row.R.Denot} c.args.opening c.args.noise c.args.writes.now c.args.steps.now c.in_ok-play.field-0 c.in_ok-play.ensures) (numbers_below c.args.opening c.args.noise c.args.steps.now c.args.writes.now c.in_ok-read_steps.field-0.stores.items c.in_ok-read_steps.ensures.are_stores)

@@ -3,4 +3,4 @@ use Rattle.fourslot_core.specs.Parts.{op_of}
 use Rattle.fourslot_core.proofs.player.Played.operations.Given as goal
 
 abbrev pub invariant-loop-part : goal.invariant-loop-part
-invariant-loop-part g l = l.ops.items ≡ map (op_of l.writes l.self.writer_ends.items l.self.reader_ends.items l.self.run.answers.items) (take l.part-index l.parts)
+invariant-loop-part g l = l.ops.items ≡ map (op_of l.writes l.self.all.writer_ends.items l.self.all.reader_ends.items l.self.run.answers.items) (take l.part-index l.parts)

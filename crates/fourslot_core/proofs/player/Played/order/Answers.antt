@@ -19,10 +19,10 @@ ordered_along {R} parts count writes w reads r answers a order ew er ea has_writ
 pub returns : goal.returns
 returns g c =
     let s = c.args.self.now in
-    let stores : s.stores.len ≡ length s.stores.items = omega (arith, s.stores.ok.0) in
+    let stores : s.all.stores.len ≡ length s.all.stores.items = omega (arith, s.all.stores.ok.0) in
     let answers : s.run.answers.len ≡ length s.run.answers.items = omega (arith, s.run.answers.ok.0) in
     IfOk-weaker c.weave.result _ _
-    (λ o h. ordered_along {R = g.row.R.Denot} c.args.parts.now (length s.stores.items) c.in_ok-writes.writes.items c.deref.result.now c.in_ok-reads.reads.items c.deref-2.result.now s.run.answers.items c.deref-3.result.now o.items c.deref.ensures.value c.deref-2.ensures.value c.deref-3.ensures.value c.requires.writes c.requires.reads
+    (λ o h. ordered_along {R = g.row.R.Denot} c.args.parts.now (length s.all.stores.items) c.in_ok-writes.writes.items c.deref.result.now c.in_ok-reads.reads.items c.deref-2.result.now s.run.answers.items c.deref-3.result.now o.items c.deref.ensures.value c.deref-2.ensures.value c.deref-3.ensures.value c.requires.writes c.requires.reads
     (subst (λ n. IsPlacesOf Writer n c.args.parts.now c.in_ok-writes.writes.items) (c.len.ensures ∙ stores) c.in_ok-writes.ensures)
     (subst (λ n. IsPlacesOf Reader n c.args.parts.now c.in_ok-reads.reads.items) (c.len-2.ensures ∙ answers) c.in_ok-reads.ensures)
     h)
