@@ -1,5 +1,5 @@
 -- What this step says follows what the steps before said.
-use Rattle.std.proofs.Common.{◌≡◌, get_or, arith, sym, subst, ◌∙◌}
+use Rattle.std.proofs.Common.{get_or, arith, sym, subst, ◌∙◌}
 use Rattle.std.proofs.lemmas.List.{get_or_default}
 use Rattle.fourslot_core.specs.declared.schedule.Turn.{Turn}
 use Rattle.fourslot_core.specs.declared.schedule.Turn.TheVariants.{Writer}
