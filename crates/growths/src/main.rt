@@ -3,6 +3,7 @@
 #![tactic(auto)]
 
 mod calls;
+mod cells;
 mod documents;
 mod print;
 
@@ -33,6 +34,7 @@ fn make(rt: &impl Print, alloc: Global, call: &str, on: &str) -> io::Result<()> 
         "read_document" => calls::read(rt, alloc, on),
         "report_text" => calls::text(rt, alloc, on),
         "play_cell" => calls::play(rt, alloc, on),
+        "make_cell" => cells::make(rt, alloc, on),
         _ => print::stopped(rt, Stopped::NoSuchCall),
     }
 }
