@@ -1,6 +1,6 @@
 -- The words of the contract, of the passes of a four-slot cell.
 use Rattle.std.specs.Prelude.{◌≡◌, ℕ, List}
-use Rattle.fourslot_core.specs.declared.state.Place.{Place}
+use Rattle.fourslot_core.specs.Events.{slot_number}
 use Rattle.fourslot_core.specs.declared.event.WriteEvent.{WriteEvent}
 use Rattle.fourslot_core.specs.declared.event.ReadEvent.{ReadEvent}
 use Rattle.cell_live.specs.Running.{Name, IsName}
@@ -15,6 +15,9 @@ use Rattle.cell_live.specs.declared.four_slot.FourSlotTold.{FourSlotTold}
 module _ {T : Type 0} where
   abbrev pub cell_name : FourSlotCell T → Name T
   cell_name c = record { table = c.slots.shared.table_id; opening = c.slots.shared.key }
+
+  abbrev pub opening_of : FourSlotCell T → T
+  opening_of c = c.slots.shared.key
 
   abbrev pub put_notes : FourSlotPut T → WriterNotes T
   put_notes p = writer_or (first_writer p.spare) p.seat.me.0
@@ -57,6 +60,9 @@ module _ {T : Type 0} where
   abbrev pub reader_accesses : FourSlotGet T → ℕ
   reader_accesses g = (get_notes g).accesses
 
-  -- the slot that the last R3 took
-  abbrev pub IsChosen : FourSlotGet T → Place → Type 0
-  IsChosen g k = (get_notes g).place ≡ k
+  -- the slot that the last R3 took, and the slots that the pass holds, each with its record
+  abbrev pub chosen_slot : FourSlotGet T → ℕ
+  chosen_slot g = slot_number (get_notes g).place
+
+  abbrev pub held_by : FourSlotGet T → List (ℕ × T)
+  held_by g = g.seat.me.1

@@ -13,6 +13,9 @@ module _ {T : Type 0} where
   abbrev pub cell_name : TripleCell T → Name T
   cell_name c = record { table = c.slots.shared.table_id; opening = c.slots.shared.key }
 
+  abbrev pub opening_of : TripleCell T → T
+  opening_of c = c.slots.shared.key
+
   abbrev pub put_notes : TriplePut T → PutNotes T
   put_notes p = put_or (first_put p.spare) p.seat.me.0
 
@@ -49,6 +52,10 @@ module _ {T : Type 0} where
 
   abbrev pub swaps_of : TripleGet T → ℕ
   swaps_of g = (get_notes g).swaps
+
+  -- the slots that the pass holds, each with its record
+  abbrev pub held_by : TripleGet T → List (ℕ × T)
+  held_by g = g.seat.me.1
 
   -- the word that the last load found
   abbrev pub found_by : TripleGet T → ℕ

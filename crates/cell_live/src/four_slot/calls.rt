@@ -2,11 +2,10 @@
 ghost use Rattle.std.specs.Prelude.{◌≡◌, ℕ, ◌+◌, [], ◌∷◌, ◌++◌, IfOk};
 ghost use Rattle.fourslot_core.specs.declared.event.WriteEvent.TheVariants.{W1, W2, W3, W4, W5};
 ghost use Rattle.fourslot_core.specs.declared.event.ReadEvent.TheVariants.{R1, R2, R3, R4, R5};
-ghost use Rattle.fourslot_core.specs.Events.{slot_number};
 ghost use Rattle.cell_live.specs.Running.{last_or, IsAnswer};
 ghost use Rattle.cell_live.specs.Triple.{snap};
 ghost use Rattle.cell_live.specs.FourSlotSteps.{first_sight};
-ghost use Rattle.cell_live.specs.FourSlotWords.{is_put_of, is_get_of, is_told_of, written_by, answers_of, told_to, named_by, write_events, read_events, writer_accesses, reader_accesses, get_notes};
+ghost use Rattle.cell_live.specs.FourSlotWords.{opening_of, is_put_of, is_get_of, is_told_of, written_by, answers_of, told_to, named_by, write_events, read_events, writer_accesses, reader_accesses, chosen_slot, held_by};
 
 use super::bits::{begin, bit_of, bit_word, is_one, slot_of, with_bit, word_of};
 use super::plays::{Asks, Ends, Finishes, Hears, Parts, Says, Stores, Takes, Tells};
@@ -40,7 +39,7 @@ impl<T: Lawful> Calls<T> for FourSlotCell<T> {
 
     type Told = FourSlotTold<T>;
 
-    ghost opening = { λ c. c.slots.shared.key };
+    ghost opening = { opening_of };
 
     ghost is_put = { is_put_of };
 
@@ -83,7 +82,7 @@ impl<T: Lawful> Calls<T> for FourSlotCell<T> {
     #[inline]
     fn write(&self, put: &mut FourSlotPut<T>, item: T)
         requires own { is_put_of self.now put.old }
-        requires lawful { T.fits item × T.rises (last_or self.now.slots.shared.key (written_by put.old)) item }
+        requires lawful { T.fits item × T.rises (last_or (opening_of self.now) (written_by put.old)) item }
         ensures own { is_put_of self.now put.new }
         ensures written { written_by put.new ≡ written_by put.old ++ item ∷ [] }
         ensures accesses { writer_accesses put.new ≡ writer_accesses put.old + 3 }
@@ -108,11 +107,11 @@ impl<T: Lawful> Calls<T> for FourSlotCell<T> {
         ensures own { is_get_of self.now get.new }
         ensures answers { answers_of get.new ≡ answers_of get.old ++ result ∷ [] }
         ensures told { told_to get.new ≡ told_to get.old }
-        ensures running { IsAnswer T.fits T.rises self.now.slots.shared.key (answers_of get.old) (told_to get.old) result }
+        ensures running { IsAnswer T.fits T.rises (opening_of self.now) (answers_of get.old) (told_to get.old) result }
         ensures accesses { reader_accesses get.new ≡ reader_accesses get.old + 3 }
         ensures events { read_events get.new ≡ read_events get.old ++ R1 ∷ R2 ∷ R3 ∷ R4 ∷ R5 (snap result) ∷ [] }
         // The pass holds the slot that this call's R3 took, and the answer is the record with which it came.
-        ensures held { get.new.seat.me.1 ≡ (slot_number (get_notes get.new).place, result) ∷ [] }
+        ensures held { held_by get.new ≡ (chosen_slot get.new, result) ∷ [] }
     {
         let shared = &self.slots.shared;
         let latest = shared.load::<Asks>(&mut get.seat, 0);

@@ -1,7 +1,7 @@
 //! The calls of the triple buffer.
 ghost use Rattle.std.specs.Prelude.{◌≡◌, ℕ, ◌+◌, ◌<◌, ◌≤◌, [], ◌∷◌, ◌++◌};
 ghost use Rattle.cell_live.specs.Running.{IsAnswer};
-ghost use Rattle.cell_live.specs.TripleWords.{is_put_of, is_get_of, is_told_of, written_by, answers_of, told_to, named_by, swaps_of_put, loads_of, swaps_of, found_by};
+ghost use Rattle.cell_live.specs.TripleWords.{opening_of, is_put_of, is_get_of, is_told_of, written_by, answers_of, told_to, named_by, swaps_of_put, loads_of, swaps_of, held_by, found_by};
 
 use super::plays::{
     Ends, GetSwaps, GetTakes, Hears, Looks, Parts, PutSwaps, PutTakes, Tells, Yields,
@@ -19,7 +19,7 @@ impl<T: Lawful> Calls<T> for TripleCell<T> {
 
     type Told = TripleTold<T>;
 
-    ghost opening = { λ c. c.slots.shared.key };
+    ghost opening = { opening_of };
 
     ghost is_put = { is_put_of };
 
@@ -79,14 +79,14 @@ impl<T: Lawful> Calls<T> for TripleCell<T> {
         ensures own { is_get_of self.now get.new }
         ensures answers { answers_of get.new ≡ answers_of get.old ++ result ∷ [] }
         ensures told { told_to get.new ≡ told_to get.old }
-        ensures running { IsAnswer T.fits T.rises self.now.slots.shared.key (answers_of get.old) (told_to get.old) result }
+        ensures running { IsAnswer T.fits T.rises (opening_of self.now) (answers_of get.old) (told_to get.old) result }
         ensures accesses { loads_of get.new + swaps_of get.new ≤ loads_of get.old + swaps_of get.old + 3 }
         // One load, and a swap exactly where the word that it found has the mark.
         ensures loaded { loads_of get.new ≡ loads_of get.old + 1 }
         ensures unmarked { found_by get.new < 4 → swaps_of get.new ≡ swaps_of get.old }
         ensures marked { 4 ≤ found_by get.new → swaps_of get.new ≡ swaps_of get.old + 1 }
         // The answer is the record of the slot that the pass then holds.
-        ensures held { get.new.seat.me.1 ≡ (get.new.slot, result) ∷ [] }
+        ensures held { held_by get.new ≡ (get.new.slot, result) ∷ [] }
     {
         let found = self.slots.shared.load::<Looks>(&mut get.seat, 0);
         if found < 4 {
