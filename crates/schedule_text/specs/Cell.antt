@@ -1,5 +1,5 @@
 -- Documents of kind `cell`: a schedule of a four-slot register (this project's own).
-use Rattle.std.specs.Prelude.{ℕ, ◌+◌, [], ◌∷◌, length, Bool, nat_le, Result, Ok}
+use Rattle.std.specs.Prelude.{◌+◌, [], ◌∷◌, length, Result, Ok}
 use Rattle.std.specs.List.{list_all}
 use Rattle.serde_json.specs.Data.{Data}
 use Rattle.history_core.specs.Band.{fits}
@@ -8,15 +8,9 @@ use Rattle.schedule_text.specs.declared.document.Document.TheVariants as documen
 use Rattle.schedule_text.specs.declared.document.DocError.{DocError}
 use Rattle.schedule_text.specs.declared.document.DocError.TheVariants.{Range, Law}
 use Rattle.schedule_text.specs.declared.key.Key.TheVariants.{Opening, Noise, Writes, Reads, Steps}
+use Rattle.schedule_text.specs.Ranges.{count_in_range, steps_in_range}
 use Rattle.schedule_text.specs.Refusals.{◌>>=◌, field, must, required}
 use Rattle.schedule_text.specs.Shapes.{as_whole, as_band, as_list, as_turns}
-
--- A document has at most this many operations.
-abbrev pub operations_in_range : ℕ → Bool
-operations_in_range count = nat_le count 10000
-
-abbrev pub steps_in_range : ℕ → Bool
-steps_in_range count = nat_le count 100000
 
 unfoldable pub cell_in : Data → Result Document DocError
 cell_in d = do
@@ -26,8 +20,8 @@ cell_in d = do
   writes ← field Writes (as_list as_band) d
   reads ← field Reads as_whole d
   steps ← field Steps as_turns d
-  writes_ok ← must (operations_in_range (length writes)) (Range Writes)
-  reads_ok ← must (operations_in_range (length writes + reads)) (Range Reads)
+  writes_ok ← must (count_in_range (length writes)) (Range Writes)
+  reads_ok ← must (count_in_range (length writes + reads)) (Range Reads)
   steps_ok ← must (steps_in_range (length steps)) (Range Steps)
   opening_fits ← must (fits opening) (Law Opening)
   writes_fit ← must (list_all fits writes) (Law Writes)

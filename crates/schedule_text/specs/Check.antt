@@ -14,6 +14,7 @@ use Rattle.schedule_text.specs.declared.document.Document.TheVariants as documen
 use Rattle.schedule_text.specs.declared.document.DocError.{DocError}
 use Rattle.schedule_text.specs.declared.document.DocError.TheVariants.{Range, Law}
 use Rattle.schedule_text.specs.declared.key.Key.TheVariants.{Opening, Limit, Ops, Order}
+use Rattle.schedule_text.specs.Ranges.{count_in_range, limit_in_range}
 use Rattle.schedule_text.specs.Refusals.{◌>>=◌, field, must, required}
 use Rattle.schedule_text.specs.Shapes.{as_whole, as_band, as_op, as_list}
 
@@ -40,13 +41,10 @@ abbrev pub is_place : ℕ → Bool
 is_place place = nat_le place 9999
 
 abbrev pub ops_in_range : List (Op Band) → Bool
-ops_in_range ops = nat_le (length ops) 10000 && list_all is_actor ops
+ops_in_range ops = count_in_range (length ops) && list_all is_actor ops
 
 abbrev pub order_in_range : List ℕ → Bool
-order_in_range order = nat_le (length order) 10000 && list_all is_place order
-
-abbrev pub limit_in_range : ℕ → Bool
-limit_in_range limit = nat_le 1 limit && nat_le limit 18446744073709551614
+order_in_range order = count_in_range (length order) && list_all is_place order
 
 -- the terms of a history under one limit
 abbrev pub one_term : ℕ → List Term

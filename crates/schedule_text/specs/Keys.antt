@@ -1,7 +1,7 @@
 -- The keys of a document.
 use Rattle.std.specs.Prelude.{ℕ, List, codes}
 use Rattle.schedule_text.specs.declared.key.Key.{Key}
-use Rattle.schedule_text.specs.declared.key.Key.TheVariants.{Opening, Limit, Ops, Order, Noise, Writes, Reads, Steps}
+use Rattle.schedule_text.specs.declared.key.Key.TheVariants.{Opening, Limit, Ops, Order, Noise, Writes, Reads, Steps, Plans, Terms}
 
 abbrev pub name_of : Key → List ℕ
 name_of Opening = codes "opening"
@@ -12,3 +12,5 @@ name_of Noise = codes "noise"
 name_of Writes = codes "writes"
 name_of Reads = codes "reads"
 name_of Steps = codes "steps"
+name_of Plans = codes "plans"
+name_of Terms = codes "terms"

@@ -2,6 +2,9 @@ pub mod Cell
 pub mod Check
 pub mod Document
 pub mod Keys
+pub mod Matrix
+pub mod Plans
+pub mod Ranges
 pub mod Refusals
 pub mod Shapes
 pub mod Text

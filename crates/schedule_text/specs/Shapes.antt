@@ -9,6 +9,9 @@ use Rattle.history_core.specs.declared.band.Band.{Band}
 use Rattle.history_core.specs.declared.history.Kind.{Kind}
 use Rattle.history_core.specs.declared.history.Kind.TheVariants.{Write, Read, Refused}
 use Rattle.history_core.specs.declared.history.Op.{Op}
+use Rattle.history_core.specs.declared.play.Wish.{Wish}
+use Rattle.history_core.specs.declared.play.Wish.TheVariants as wish
+use Rattle.matrix_core.specs.declared.schedule.MatrixTerm.{MatrixTerm}
 
 infixl 10 ◌>>=◌
 abbrev pub ◌>>=◌ : {A B : Type 0} → Option A → (A → Option B) → Option B
@@ -70,3 +73,24 @@ as_op d = do
   ends ← optional as_whole (get (codes "end") d)
   seen ← optional as_band (get (codes "record") d)
   Some (record { who = who; kind = kind; starts = begin; ends = ends; item = seen })
+
+-- the text `read`, or a record to write
+abbrev pub wish_named : List ℕ → Option (Wish Band)
+wish_named s = if bytes_eq s (codes "read") then Some wish.Read else None
+
+abbrev pub as_wish_of : Option (List ℕ) → Data → Option (Wish Band)
+as_wish_of None d = option_map wish.Write (as_band d)
+as_wish_of (Some s) d = wish_named s
+
+abbrev pub as_wish : Data → Option (Wish Band)
+as_wish d = as_wish_of (as_str d) d
+
+abbrev pub as_plan : Data → Option (List (Wish Band))
+as_plan d = as_list as_wish d
+
+abbrev pub as_term : Data → Option (MatrixTerm Band)
+as_term d = do
+  limit ← option_and_then as_whole (get (codes "limit") d)
+  plans ← option_and_then (as_list as_plan) (get (codes "plans") d)
+  steps ← option_and_then (as_list as_whole) (get (codes "steps") d)
+  Some (record { limit = limit; plans = plans; steps = steps })

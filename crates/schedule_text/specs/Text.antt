@@ -1,5 +1,5 @@
 -- The printed lines of a report (this project's own).
-use Rattle.std.specs.Prelude.{ℕ, ◌+◌, ◌++◌, List, [], ◌∷◌, drop, codes, Option, Some, None, slice_get, option_and_then}
+use Rattle.std.specs.Prelude.{ℕ, ◌+◌, ◌++◌, List, [], ◌∷◌, take, drop, codes, Bool, true, false, Option, Some, None, slice_get, option_and_then}
 use Rattle.std.specs.Fmt.{decimal}
 use Rattle.std.specs.List.{flat_map}
 use Rattle.fourslot_core.specs.declared.schedule.CellReport.{CellReport}
@@ -7,10 +7,13 @@ use Rattle.history_core.specs.declared.band.Band.{Band}
 use Rattle.history_core.specs.declared.history.Kind.{Kind}
 use Rattle.history_core.specs.declared.history.Kind.TheVariants.{Write, Read, Refused}
 use Rattle.history_core.specs.declared.history.Op.{Op}
+use Rattle.history_core.specs.declared.history.Term.{Term}
 use Rattle.history_core.specs.declared.history.Verdict as verdict
 use Rattle.history_core.specs.declared.history.Verdict.TheVariants.{Lawful, Listing, Precedence, Reading, Limit}
+use Rattle.matrix_core.specs.declared.schedule.MatrixReport.{MatrixReport}
+use Rattle.matrix_core.specs.declared.stamp.Stamp.{Stamp}
 use Rattle.schedule_text.specs.declared.report.Report.{Report}
-use Rattle.schedule_text.specs.declared.report.Report.TheVariants.{Verdict, Cell}
+use Rattle.schedule_text.specs.declared.report.Report.TheVariants.{Verdict, Cell, Matrix}
 
 abbrev pub line_feed : ℕ
 line_feed = 10
@@ -60,6 +63,14 @@ op_lines mark place (op ∷ ops) = op_line place op (mark place) ++ op_lines mar
 abbrev pub lines_from : (ℕ → List ℕ) → List (Op Band) → ℕ → List ℕ
 lines_from mark ops place = op_lines mark place (drop place ops)
 
+abbrev pub term_line : ℕ → List ℕ
+term_line number = codes "term " ++ decimal number ++ line_feed ∷ []
+
+-- The lines of the operations from a place on; before the first operation of each term stands the term's line.
+abbrev pub titled_lines : (ℕ → List ℕ) → List (Op Band) → ℕ → ℕ → List Term → List ℕ
+titled_lines mark ops number place [] = lines_from mark ops place
+titled_lines mark ops number place (term ∷ terms) = lines_from mark (take term.first ops) place ++ term_line number ++ titled_lines mark ops (number + 1) term.first terms
+
 abbrev pub order_text : List ℕ → List ℕ
 order_text order = codes "order:" ++ flat_map (λ place. codes " " ++ decimal place) order ++ line_feed ∷ []
 
@@ -73,6 +84,19 @@ slot_mark slots place = codes "slot " ++ number_text (entry_at slots place)
 abbrev pub cell_text : CellReport Band → List ℕ
 cell_text r = op_lines (slot_mark r.slots) 0 r.history.ops ++ order_text r.order
 
+-- tag and writer, or a dash for none
+abbrev pub stamp_text : Option Stamp → List ℕ
+stamp_text None = codes "-"
+stamp_text (Some s) = decimal s.tag ++ codes "." ++ decimal s.writer
+
+abbrev pub stamp_mark : List (Option Stamp) → ℕ → List ℕ
+stamp_mark stamps place = codes "stamp " ++ stamp_text (entry_at stamps place)
+
+abbrev pub matrix_text : MatrixReport Band → Bool → List ℕ
+matrix_text r false = op_lines (stamp_mark r.stamps) 0 r.history.ops ++ order_text r.order
+matrix_text r true = titled_lines (stamp_mark r.stamps) r.history.ops 1 0 r.history.terms ++ order_text r.order
+
 abbrev pub text_of : Report → List ℕ
 text_of (Verdict v) = verdict_text v
 text_of (Cell r) = cell_text r
+text_of (Matrix r titled) = matrix_text r titled

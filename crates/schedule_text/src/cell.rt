@@ -3,19 +3,17 @@ ghost use Rattle.std.specs.Prelude.{◌≡◌, ◌+◌, ◌≤◌, length};
 ghost use Rattle.std.specs.List.{list_all};
 ghost use Rattle.history_core.specs.Band.{fits};
 ghost use Rattle.serde_json.specs.View.{view};
-ghost use Rattle.schedule_text.specs.Cell.{cell_in, operations_in_range};
+ghost use Rattle.schedule_text.specs.Cell.{cell_in};
+ghost use Rattle.schedule_text.specs.Ranges.{count_in_range};
 ghost use Rattle.schedule_text.specs.Refusals.{Gives};
 
 use crate::fields::{field, list_field, must, required};
+use crate::ranges::{MAX_OPERATIONS, count_in_range, steps_in_range};
 use crate::{DocError, Document, Key};
 use fourslot_core::{CellSchedule, Turn};
 use history_core::{Band, Items};
 use serde_json::Value;
 use std::alloc::Global;
-
-const MAX_OPERATIONS: usize = 10_000;
-
-const MAX_STEPS: usize = 100_000;
 
 #[tactic(auto, unfolding(crate::specs::Cell::cell_in))]
 pub fn cell_in(alloc: Global, value: &Value) -> Result<Document, DocError>
@@ -36,10 +34,10 @@ pub fn cell_in(alloc: Global, value: &Value) -> Result<Document, DocError>
     let writes: Vec<Band> = list_field(alloc, value, Key::Writes)?;
     let reads: u64 = field(alloc, value, Key::Reads)?;
     let steps: Items<Turn> = field(alloc, value, Key::Steps)?;
-    must(writes.len() <= MAX_OPERATIONS, DocError::Range(Key::Writes))?;
+    must(count_in_range(writes.len()), DocError::Range(Key::Writes))?;
     must(has_room(writes.len(), reads), DocError::Range(Key::Reads))?;
     must(
-        steps.as_slice().len() <= MAX_STEPS,
+        steps_in_range(steps.as_slice().len()),
         DocError::Range(Key::Steps),
     )?;
     must(opening.fits(), DocError::Law(Key::Opening))?;
@@ -55,7 +53,7 @@ pub fn cell_in(alloc: Global, value: &Value) -> Result<Document, DocError>
 
 /// Whether there may be so many reads beside the writes.
 fn has_room(writes: usize, reads: u64) -> bool
-    ensures { result ≡ operations_in_range (writes + reads) }
+    ensures { result ≡ count_in_range (writes + reads) }
 {
     writes <= MAX_OPERATIONS && reads <= (MAX_OPERATIONS - writes) as u64
 }

@@ -3,16 +3,15 @@ ghost use Rattle.std.specs.Prelude.{◌≡◌, IfOk};
 ghost use Rattle.std.specs.List.{list_all};
 ghost use Rattle.history_core.specs.Band.{fits};
 ghost use Rattle.serde_json.specs.View.{view};
-ghost use Rattle.schedule_text.specs.Check.{check_in, has_item, is_actor, is_lawful, is_place, limit_in_range, one_term, ops_in_range, order_in_range};
+ghost use Rattle.schedule_text.specs.Check.{check_in, has_item, is_actor, is_lawful, is_place, one_term, ops_in_range, order_in_range};
 ghost use Rattle.schedule_text.specs.Refusals.{Gives};
 
 use crate::fields::{field, list_field, must, required};
+use crate::ranges::{count_in_range, limit_in_range};
 use crate::{DocError, Document, Key};
-use history_core::{Band, History, Items, Kind, MAX_LIMIT, Op, Term};
+use history_core::{Band, History, Items, Kind, Op, Term};
 use serde_json::Value;
 use std::alloc::{AllocError, Global};
-
-const MAX_OPS: usize = 10_000;
 
 const LAST_PLACE: usize = 9_999;
 
@@ -27,7 +26,7 @@ pub fn check_in(alloc: Global, value: &Value) -> Result<Document, DocError>
     let limit: u64 = field(alloc, value, Key::Limit)?;
     let ops: Vec<Op<Band>> = list_field(alloc, value, Key::Ops)?;
     let order: Vec<usize> = list_field(alloc, value, Key::Order)?;
-    must(is_limit(limit), DocError::Range(Key::Limit))?;
+    must(limit_in_range(limit), DocError::Range(Key::Limit))?;
     must(ops_in_range(ops.as_slice()), DocError::Range(Key::Ops))?;
     must(
         order_in_range(order.as_slice()),
@@ -56,16 +55,10 @@ fn one_term(alloc: Global, limit: u64) -> Result<Items<Term>, AllocError>
     Ok(Items::new(terms))
 }
 
-fn is_limit(limit: u64) -> bool
-    ensures { result ≡ limit_in_range limit }
-{
-    1 <= limit && limit <= MAX_LIMIT
-}
-
 fn ops_in_range(ops: &[Op<Band>]) -> bool
     ensures { result ≡ ops_in_range ops.now }
 {
-    ops.len() <= MAX_OPS && are_actors(ops)
+    count_in_range(ops.len()) && are_actors(ops)
 }
 
 fn are_actors(ops: &[Op<Band>]) -> bool
@@ -77,7 +70,7 @@ fn are_actors(ops: &[Op<Band>]) -> bool
 fn order_in_range(order: &[usize]) -> bool
     ensures { result ≡ order_in_range order.now }
 {
-    order.len() <= MAX_OPS && are_places(order)
+    count_in_range(order.len()) && are_places(order)
 }
 
 fn are_places(order: &[usize]) -> bool

@@ -4,6 +4,7 @@ ghost use Rattle.schedule_text.specs.declared.document.DocError.TheVariants.{NoM
 use crate::Key;
 use fourslot_core::CellSchedule;
 use history_core::{Band, History, Items};
+use matrix_core::MatrixSchedule;
 use std::alloc::AllocError;
 use thiserror::Error;
 
@@ -24,6 +25,11 @@ pub enum Document {
     },
     /// A schedule of a four-slot register.
     Cell(CellSchedule<Band>),
+    /// A schedule of a matrix; titled where its terms stand under the key `terms`.
+    Matrix {
+        schedule: MatrixSchedule<Band>,
+        titled: bool,
+    },
 }
 
 /// Why a document is refused. The refusals are tested in this order, each over the whole document before the next one, but

@@ -13,6 +13,8 @@ pub enum Key {
     Writes,
     Reads,
     Steps,
+    Plans,
+    Terms,
 }
 
 impl Key {
@@ -31,6 +33,8 @@ impl Key {
             Key::Writes => "writes",
             Key::Reads => "reads",
             Key::Steps => "steps",
+            Key::Plans => "plans",
+            Key::Terms => "terms",
         }
     }
 }

@@ -1,10 +1,11 @@
 //! The lines of played reports.
-ghost use Rattle.std.specs.Prelude.{◌≡◌, ◌+◌, ◌≤◌, ◌++◌, ℕ, List, OnOk, codes, length};
-ghost use Rattle.schedule_text.specs.Text.{entry_at, interval_text, item_text, kind_text, lines_from, number_text, op_head, op_line, op_tail, order_text, slot_mark};
+ghost use Rattle.std.specs.Prelude.{◌≡◌, ◌+◌, ◌≤◌, ◌++◌, ℕ, List, OnOk, codes, length, take};
+ghost use Rattle.schedule_text.specs.Text.{entry_at, interval_text, item_text, kind_text, lines_from, number_text, op_head, op_line, op_tail, order_text, slot_mark, stamp_mark, stamp_text, term_line, titled_lines};
 
 use crate::line::Line;
 use fourslot_core::CellReport;
-use history_core::{Band, Kind, Op};
+use history_core::{Band, Kind, Op, Term};
+use matrix_core::{MatrixReport, Stamp};
 use std::alloc::AllocError;
 
 /// What a player tells of each operation besides its history.
@@ -24,6 +25,50 @@ impl Marks for CellReport<Band> {
         put_slot(line, slot_at(self.slots.as_slice(), place));
         line.put(b"slot ");
     }
+}
+
+impl Marks for MatrixReport<Band> {
+    ghost mark = { λ report. stamp_mark report.stamps };
+
+    fn put_mark(&self, line: &mut Line, place: usize) {
+        put_stamp(line, stamp_at(self.stamps.as_slice(), place));
+        line.put(b"stamp ");
+    }
+}
+
+/// A line for each operation, and before the first operation of each term the term's line.
+pub fn push_titled_lines<M: Marks>(
+    text: &mut Vec<u8>,
+    marks: &M,
+    ops: &[Op<Band>],
+    terms: &[Term],
+) -> Result<(), AllocError>
+    ensures { OnOk result (text.new.items ≡ text.old.items ++ titled_lines (M.mark marks.now) ops.now 1 0 terms.now) }
+{
+    let mut place = 0;
+    for k in 0..terms.len() {
+        push_lines_from(text, marks, below(ops, terms[k].first), place)?;
+        push_term_line(text, k + 1)?;
+        place = terms[k].first;
+    }
+    push_lines_from(text, marks, ops, place)
+}
+
+fn push_term_line(text: &mut Vec<u8>, number: usize) -> Result<(), AllocError>
+    ensures { OnOk result (text.new.items ≡ text.old.items ++ term_line number) }
+{
+    let mut line = Line::new();
+    line.put(b"\n");
+    line.put_number(number as u64);
+    line.put(b"term ");
+    text.extend_from_slice(line.as_bytes())
+}
+
+/// The operations at places below `end`.
+fn below(ops: &[Op<Band>], end: usize) -> &[Op<Band>]
+    ensures { result.now ≡ take end ops.now }
+{
+    if end < ops.len() { &ops[..end] } else { ops }
 }
 
 /// A line for each operation from a place on.
@@ -141,10 +186,31 @@ fn put_slot(line: &mut Line, slot: Option<u8>)
     put_number(line, slot.map(|slot| slot as u64))
 }
 
+fn put_stamp(line: &mut Line, stamp: Option<Stamp>)
+    requires { length line.old + 41 ≤ 256 }
+    ensures text { line.new ≡ stamp_text stamp ++ line.old }
+    ensures len { length line.new ≤ length line.old + 41 }
+{
+    match stamp {
+        Some(Stamp { tag, writer }) => {
+            line.put_number(writer as u64);
+            line.put(b".");
+            line.put_number(tag);
+        }
+        None => line.put(b"-"),
+    }
+}
+
 fn slot_at(slots: &[Option<u8>], place: usize) -> Option<u8>
     ensures { result ≡ entry_at slots.now place }
 {
     *slots.get(place)?
+}
+
+fn stamp_at(stamps: &[Option<Stamp>], place: usize) -> Option<Stamp>
+    ensures { result ≡ entry_at stamps.now place }
+{
+    *stamps.get(place)?
 }
 
 /// The line of an order.

@@ -6,6 +6,7 @@ ghost use Rattle.schedule_text.specs.Refusals.{Gives, some_or};
 use crate::cell::cell_in;
 use crate::check::check_in;
 use crate::fields::must;
+use crate::matrix::matrix_in;
 use crate::{DocError, Document, Want};
 use serde_json::Value;
 use std::alloc::Global;
@@ -39,6 +40,7 @@ fn document_in(alloc: Global, want: Want, value: &Value) -> Result<Document, Doc
     match want {
         Want::Check if is_kind(value, "check") => check_in(alloc, value),
         Want::Play if is_kind(value, "cell") => cell_in(alloc, value),
+        Want::Play if is_kind(value, "matrix") => matrix_in(alloc, value),
         _ => Err(DocError::Kind),
     }
 }

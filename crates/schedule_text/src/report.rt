@@ -1,5 +1,6 @@
 use fourslot_core::CellReport;
 use history_core::{Band, Verdict};
+use matrix_core::MatrixReport;
 
 /// What a command prints.
 #[derive(Drop)]
@@ -7,4 +8,9 @@ pub enum Report {
     Verdict(Verdict),
     /// A played schedule of a four-slot register.
     Cell(CellReport<Band>),
+    /// A played schedule of a matrix; where it is titled, a line stands before the operations of each term.
+    Matrix {
+        report: MatrixReport<Band>,
+        titled: bool,
+    },
 }

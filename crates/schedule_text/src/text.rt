@@ -1,10 +1,11 @@
 ghost use Rattle.std.specs.Prelude.{◌≡◌, [], IfOk};
-ghost use Rattle.schedule_text.specs.Text.{cell_text, text_of, verdict_text};
+ghost use Rattle.schedule_text.specs.Text.{cell_text, matrix_text, text_of, verdict_text};
 
 use crate::Report;
-use crate::lines::{push_lines_from, push_order};
+use crate::lines::{push_lines_from, push_order, push_titled_lines};
 use fourslot_core::CellReport;
 use history_core::{Band, Verdict};
+use matrix_core::MatrixReport;
 use std::alloc::{AllocError, Global};
 
 /// The greatest number of operations for which room is made before they are printed.
@@ -18,6 +19,7 @@ pub fn report_text(alloc: Global, report: &Report) -> Result<Vec<u8>, AllocError
     match report {
         Report::Verdict(verdict) => Vec::from_slice(alloc, verdict_text(*verdict).as_bytes()),
         Report::Cell(report) => cell_text(alloc, report),
+        Report::Matrix { report, titled } => matrix_text(alloc, report, *titled),
     }
 }
 
@@ -28,6 +30,25 @@ fn cell_text(alloc: Global, report: &CellReport<Band>) -> Result<Vec<u8>, AllocE
     let order = report.order.as_slice();
     let mut text = with_room(alloc, ops.len(), order.len())?;
     push_lines_from(&mut text, report, ops, 0)?;
+    push_order(&mut text, order)?;
+    Ok(text)
+}
+
+fn matrix_text(
+    alloc: Global,
+    report: &MatrixReport<Band>,
+    titled: bool,
+) -> Result<Vec<u8>, AllocError>
+    ensures { IfOk result (λ v. v.items ≡ matrix_text report.now titled) }
+{
+    let ops = report.history.ops.as_slice();
+    let order = report.order.as_slice();
+    let mut text = with_room(alloc, ops.len(), order.len())?;
+    if titled {
+        push_titled_lines(&mut text, report, ops, report.history.terms.as_slice())?;
+    } else {
+        push_lines_from(&mut text, report, ops, 0)?;
+    }
     push_order(&mut text, order)?;
     Ok(text)
 }
