@@ -2,6 +2,7 @@
 
 mod cell;
 mod check;
+mod matrix;
 
 use crate::{DocError, Key, Report, Want, read_document, report_text};
 use history_core::{Band, Verdict};
