@@ -1,14 +1,14 @@
 -- The keys of a document.
 use Rattle.std.specs.Prelude.{ℕ, List, codes}
 use Rattle.schedule_text.specs.declared.key.Key.{Key}
-use Rattle.schedule_text.specs.declared.key.Key.TheVariants.{Opening, Limit, Ops, Order, Noise, Writes, Reads, Steps, Plans, Terms}
+use Rattle.schedule_text.specs.declared.key.Key.TheVariants.{Opening, Noise, Limit, Ops, Order, Writes, Reads, Steps, Plans, Terms}
 
 abbrev pub name_of : Key → List ℕ
 name_of Opening = codes "opening"
+name_of Noise = codes "noise"
 name_of Limit = codes "limit"
 name_of Ops = codes "ops"
 name_of Order = codes "order"
-name_of Noise = codes "noise"
 name_of Writes = codes "writes"
 name_of Reads = codes "reads"
 name_of Steps = codes "steps"

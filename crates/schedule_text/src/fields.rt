@@ -9,6 +9,7 @@ use crate::{DocError, Key};
 use serde_json::Value;
 use std::alloc::Global;
 
+/// The test holds, or else the fault.
 pub fn must(test: bool, fault: DocError) -> Result<(), DocError>
     ensures { result ≡ must test fault }
 {

@@ -6,10 +6,10 @@ use std::fmt;
 #[derive(Clone, Copy, Debug, PartialEq, Eq)]
 pub enum Key {
     Opening,
+    Noise,
     Limit,
     Ops,
     Order,
-    Noise,
     Writes,
     Reads,
     Steps,
@@ -26,10 +26,10 @@ impl Key {
     {
         match self {
             Key::Opening => "opening",
+            Key::Noise => "noise",
             Key::Limit => "limit",
             Key::Ops => "ops",
             Key::Order => "order",
-            Key::Noise => "noise",
             Key::Writes => "writes",
             Key::Reads => "reads",
             Key::Steps => "steps",

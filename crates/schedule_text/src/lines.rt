@@ -1,4 +1,5 @@
-//! The lines of played reports.
+//! The lines of played reports. A line is put together from its end, in a buffer of 256 bytes; each function that puts a
+//! piece asks for as much room as the longest such piece needs.
 ghost use Rattle.std.specs.Prelude.{◌≡◌, ◌+◌, ◌≤◌, ◌++◌, ℕ, List, OnOk, codes, length, take};
 ghost use Rattle.schedule_text.specs.Text.{entry_at, interval_text, item_text, kind_text, lines_from, number_text, op_head, op_line, op_tail, order_text, slot_mark, stamp_mark, stamp_text, term_line, titled_lines};
 
