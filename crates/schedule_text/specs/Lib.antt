@@ -4,6 +4,7 @@ pub mod Document
 pub mod Keys
 pub mod Matrix
 pub mod Plans
+pub mod Players
 pub mod Ranges
 pub mod Refusals
 pub mod Shapes

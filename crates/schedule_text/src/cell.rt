@@ -1,10 +1,11 @@
 //! Documents of kind `cell`.
-ghost use Rattle.std.specs.Prelude.{◌≡◌, ◌+◌, ◌≤◌, length};
+ghost use Rattle.std.specs.Prelude.{◌≡◌, IfOk, ◌+◌, ◌≤◌, length};
 ghost use Rattle.std.specs.List.{list_all};
 ghost use Rattle.history_core.specs.Band.{fits};
 ghost use Rattle.serde_json.specs.View.{view};
 ghost use Rattle.schedule_text.specs.Cell.{cell_in};
 ghost use Rattle.schedule_text.specs.Ranges.{count_in_range};
+ghost use Rattle.schedule_text.specs.Players.{CanBePlayed};
 ghost use Rattle.schedule_text.specs.Refusals.{Gives};
 
 use crate::fields::{field, list_field, must, required};
@@ -17,7 +18,8 @@ use std::alloc::Global;
 
 #[tactic(auto, unfolding(crate::specs::Cell::cell_in))]
 pub fn cell_in(alloc: Global, value: &Value) -> Result<Document, DocError>
-    ensures { Gives (λ d. d) result (cell_in (view value.now)) }
+    ensures document { Gives (λ d. d) result (cell_in (view value.now)) }
+    ensures playable { IfOk result CanBePlayed }
 {
     required(
         value,

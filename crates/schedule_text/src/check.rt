@@ -4,6 +4,7 @@ ghost use Rattle.std.specs.List.{list_all};
 ghost use Rattle.history_core.specs.Band.{fits};
 ghost use Rattle.serde_json.specs.View.{view};
 ghost use Rattle.schedule_text.specs.Check.{check_in, has_item, is_actor, is_lawful, is_place, one_term, ops_in_range, order_in_range};
+ghost use Rattle.schedule_text.specs.Players.{CanBePlayed};
 ghost use Rattle.schedule_text.specs.Refusals.{Gives};
 
 use crate::fields::{field, list_field, must, required};
@@ -19,7 +20,8 @@ const LAST_ACTOR: usize = 15;
 
 #[tactic(auto, unfolding(crate::specs::Check::check_in))]
 pub fn check_in(alloc: Global, value: &Value) -> Result<Document, DocError>
-    ensures { Gives (λ d. d) result (check_in (view value.now)) }
+    ensures document { Gives (λ d. d) result (check_in (view value.now)) }
+    ensures playable { IfOk result CanBePlayed }
 {
     required(value, &[Key::Opening, Key::Limit, Key::Ops, Key::Order])?;
     let opening: Band = field(alloc, value, Key::Opening)?;

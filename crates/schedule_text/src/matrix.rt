@@ -2,6 +2,7 @@
 ghost use Rattle.std.specs.Prelude.{◌≡◌, IfOk};
 ghost use Rattle.serde_json.specs.View.{view};
 ghost use Rattle.schedule_text.specs.Matrix.{matrix_in, single, titled_in, untitled_in};
+ghost use Rattle.schedule_text.specs.Players.{CanBePlayed};
 ghost use Rattle.schedule_text.specs.Refusals.{Gives};
 
 use crate::fields::{field, list_field, must, required};
@@ -14,7 +15,8 @@ use serde_json::Value;
 use std::alloc::{AllocError, Global};
 
 pub fn matrix_in(alloc: Global, value: &Value) -> Result<Document, DocError>
-    ensures { Gives (λ d. d) result (matrix_in (view value.now)) }
+    ensures document { Gives (λ d. d) result (matrix_in (view value.now)) }
+    ensures playable { IfOk result CanBePlayed }
 {
     if value.get(Key::Terms.name()).is_some() {
         titled_in(alloc, value)
@@ -26,7 +28,8 @@ pub fn matrix_in(alloc: Global, value: &Value) -> Result<Document, DocError>
 /// One term, its keys at the top.
 #[tactic(auto, unfolding(crate::specs::Matrix::untitled_in))]
 fn untitled_in(alloc: Global, value: &Value) -> Result<Document, DocError>
-    ensures { Gives (λ d. d) result (untitled_in (view value.now)) }
+    ensures document { Gives (λ d. d) result (untitled_in (view value.now)) }
+    ensures playable { IfOk result CanBePlayed }
 {
     required(value, &[Key::Opening, Key::Limit, Key::Plans, Key::Steps])?;
     let opening: Band = field(alloc, value, Key::Opening)?;
@@ -71,7 +74,8 @@ fn single(
 /// Several terms.
 #[tactic(auto, unfolding(crate::specs::Matrix::titled_in))]
 fn titled_in(alloc: Global, value: &Value) -> Result<Document, DocError>
-    ensures { Gives (λ d. d) result (titled_in (view value.now)) }
+    ensures document { Gives (λ d. d) result (titled_in (view value.now)) }
+    ensures playable { IfOk result CanBePlayed }
 {
     required(value, &[Key::Opening, Key::Terms])?;
     let opening: Band = field(alloc, value, Key::Opening)?;

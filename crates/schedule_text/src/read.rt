@@ -1,6 +1,7 @@
-ghost use Rattle.std.specs.Prelude.{◌≡◌};
+ghost use Rattle.std.specs.Prelude.{◌≡◌, IfOk};
 ghost use Rattle.serde_json.specs.View.{view};
 ghost use Rattle.schedule_text.specs.Document.{document_in, document_of, is_kind, value_of};
+ghost use Rattle.schedule_text.specs.Players.{CanBePlayed};
 ghost use Rattle.schedule_text.specs.Refusals.{Gives, some_or};
 
 use crate::cell::cell_in;
@@ -16,7 +17,8 @@ const MAX_BYTES: usize = 1_048_576;
 /// The document that the bytes stand for, or the first refusal with its first key.
 #[tactic(auto, unfolding(crate::specs::Document::document_of))]
 pub fn read_document(alloc: Global, want: Want, bytes: &[u8]) -> Result<Document, DocError>
-    ensures { Gives (λ d. d) result (document_of want bytes.now) }
+    ensures document { Gives (λ d. d) result (document_of want bytes.now) }
+    ensures playable { IfOk result CanBePlayed }
 {
     must(bytes.len() <= MAX_BYTES, DocError::Long)?;
     let value = value_of(alloc, bytes)?;
@@ -35,7 +37,8 @@ fn value_of(alloc: Global, bytes: &[u8]) -> Result<Value, DocError>
 }
 
 fn document_in(alloc: Global, want: Want, value: &Value) -> Result<Document, DocError>
-    ensures { Gives (λ d. d) result (document_in want (view value.now)) }
+    ensures document { Gives (λ d. d) result (document_in want (view value.now)) }
+    ensures playable { IfOk result CanBePlayed }
 {
     match want {
         Want::Check if is_kind(value, "check") => check_in(alloc, value),
