@@ -1,4 +1,4 @@
--- The keys of a document.
+-- The keys of a document (this project's own).
 use Rattle.std.specs.Prelude.{ℕ, List, codes}
 use Rattle.schedule_text.specs.declared.key.Key.{Key}
 use Rattle.schedule_text.specs.declared.key.Key.TheVariants.{Opening, Noise, Limit, Ops, Order, Writes, Reads, Steps, Plans, Terms}

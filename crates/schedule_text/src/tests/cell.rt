@@ -40,46 +40,48 @@ fn cell_document(
     )
 }
 
+const REFUSALS_IN_ORDER: [(&str, &str, &str, Option<DocError>); 15] = [
+    ("[]", "0", "\"\"", None),
+    (
+        "[[3,2,1]]",
+        "0",
+        "\"wx\"",
+        Some(DocError::Shape(Key::Steps)),
+    ),
+    ("[[3,2,1]]", "0", "\"w\"", Some(DocError::Law(Key::Writes))),
+    (
+        "[[1,2]]",
+        "-1",
+        "\"wx\"",
+        Some(DocError::Shape(Key::Writes)),
+    ),
+    ("{}", "0", "[]", Some(DocError::Shape(Key::Writes))),
+    ("[]", "-1", "[]", Some(DocError::Shape(Key::Reads))),
+    ("[]", "null", "\"\"", Some(DocError::Shape(Key::Reads))),
+    ("[]", "10001", "[\"w\"]", Some(DocError::Shape(Key::Steps))),
+    ("[]", "0", "\"W\"", Some(DocError::Shape(Key::Steps))),
+    ("[]", "0", "\"\\u0077r\"", None),
+    ("[]", "10000", "\"\"", None),
+    ("[]", "10001", "\"\"", Some(DocError::Range(Key::Reads))),
+    ("[[1,2,3]]", "9999", "\"\"", None),
+    (
+        "[[1,2,3]]",
+        "10000",
+        "\"\"",
+        Some(DocError::Range(Key::Reads)),
+    ),
+    (
+        "[[3,2,1]]",
+        "18446744073709551615",
+        "\"\"",
+        Some(DocError::Range(Key::Reads)),
+    ),
+];
+
 #[test]
 fn refuses_in_order(rt: HostRuntime) -> Result<(), Fail> {
     let alloc = rt.alloc();
-    for (writes, reads, steps, refused) in [
-        ("[]", "0", "\"\"", None),
-        (
-            "[[3,2,1]]",
-            "0",
-            "\"wx\"",
-            Some(DocError::Shape(Key::Steps)),
-        ),
-        ("[[3,2,1]]", "0", "\"w\"", Some(DocError::Law(Key::Writes))),
-        (
-            "[[1,2]]",
-            "-1",
-            "\"wx\"",
-            Some(DocError::Shape(Key::Writes)),
-        ),
-        ("{}", "0", "[]", Some(DocError::Shape(Key::Writes))),
-        ("[]", "-1", "[]", Some(DocError::Shape(Key::Reads))),
-        ("[]", "null", "\"\"", Some(DocError::Shape(Key::Reads))),
-        ("[]", "10001", "[\"w\"]", Some(DocError::Shape(Key::Steps))),
-        ("[]", "0", "\"W\"", Some(DocError::Shape(Key::Steps))),
-        ("[]", "0", "\"\\u0077r\"", None),
-        ("[]", "10000", "\"\"", None),
-        ("[]", "10001", "\"\"", Some(DocError::Range(Key::Reads))),
-        ("[[1,2,3]]", "9999", "\"\"", None),
-        (
-            "[[1,2,3]]",
-            "10000",
-            "\"\"",
-            Some(DocError::Range(Key::Reads)),
-        ),
-        (
-            "[[3,2,1]]",
-            "18446744073709551615",
-            "\"\"",
-            Some(DocError::Range(Key::Reads)),
-        ),
-    ] {
+    for (writes, reads, steps, refused) in REFUSALS_IN_ORDER {
         let text = cell_document(alloc, writes, reads, steps)?;
         assert_eq!(rt;
             refusal(alloc, Want::Play, text.as_bytes()),
@@ -90,15 +92,31 @@ fn refuses_in_order(rt: HostRuntime) -> Result<(), Fail> {
     Ok(())
 }
 
+const REFUSALS_OF_RECORDS: [(&str, &str, Option<DocError>); 4] = [
+    ("[3,2,1]", "[3,2,1]", Some(DocError::Law(Key::Opening))),
+    ("[1,2,3]", "[3,2,1]", None),
+    ("[3,2,1]", "[3,2]", Some(DocError::Shape(Key::Noise))),
+    ("[3,2]", "null", Some(DocError::Shape(Key::Opening))),
+];
+
+const MISSING_KEYS: [(&str, Key); 5] = [
+    (r#"{"kind":"cell"}"#, Key::Opening),
+    (r#"{"kind":"cell","opening":0}"#, Key::Noise),
+    (r#"{"kind":"cell","opening":0,"noise":0}"#, Key::Writes),
+    (
+        r#"{"kind":"cell","opening":0,"noise":0,"writes":0}"#,
+        Key::Reads,
+    ),
+    (
+        r#"{"kind":"cell","opening":0,"noise":0,"writes":0,"reads":0}"#,
+        Key::Steps,
+    ),
+];
+
 #[test]
 fn refuses_other_values(rt: HostRuntime) -> Result<(), Fail> {
     let alloc = rt.alloc();
-    for (opening, noise, refused) in [
-        ("[3,2,1]", "[3,2,1]", Some(DocError::Law(Key::Opening))),
-        ("[1,2,3]", "[3,2,1]", None),
-        ("[3,2,1]", "[3,2]", Some(DocError::Shape(Key::Noise))),
-        ("[3,2]", "null", Some(DocError::Shape(Key::Opening))),
-    ] {
+    for (opening, noise, refused) in REFUSALS_OF_RECORDS {
         let text = document(
             alloc,
             "cell",
@@ -122,19 +140,7 @@ fn refuses_other_values(rt: HostRuntime) -> Result<(), Fail> {
             Some(DocError::Kind)
         );
     }
-    for (text, key) in [
-        (r#"{"kind":"cell"}"#, Key::Opening),
-        (r#"{"kind":"cell","opening":0}"#, Key::Noise),
-        (r#"{"kind":"cell","opening":0,"noise":0}"#, Key::Writes),
-        (
-            r#"{"kind":"cell","opening":0,"noise":0,"writes":0}"#,
-            Key::Reads,
-        ),
-        (
-            r#"{"kind":"cell","opening":0,"noise":0,"writes":0,"reads":0}"#,
-            Key::Steps,
-        ),
-    ] {
+    for (text, key) in MISSING_KEYS {
         assert_eq!(rt;
             refusal(alloc, Want::Play, text.as_bytes()),
             Some(DocError::Missing(key)),
@@ -173,9 +179,8 @@ fn reads_at_most_10000(rt: HostRuntime) -> Result<(), Fail> {
     Ok(())
 }
 
-#[test]
-fn prints_a_report(rt: HostRuntime) -> Result<(), Fail> {
-    let alloc = rt.alloc();
+/// The report of three operations.
+fn report(alloc: Global) -> Result<CellReport<Band>, AllocError> {
     let write = Op {
         who: 0,
         kind: Kind::Write,
@@ -194,25 +199,29 @@ fn prints_a_report(rt: HostRuntime) -> Result<(), Fail> {
         who: 1,
         kind: Kind::Refused,
         starts: 7,
-        ends: Some(18446744073709551615),
+        ends: Some(u64::MAX),
         item: Some(NOISE),
     };
-    let ops = [write, read, refused].to_vec(alloc)?;
     let terms = [Term {
         first: 0,
         limit: MAX_LIMIT,
     }]
     .to_vec(alloc)?;
-    let report = CellReport {
+    Ok(CellReport {
         history: History {
             opening: ZERO,
             terms: Items::new(terms),
-            ops: Items::new(ops),
+            ops: Items::new([write, read, refused].to_vec(alloc)?),
         },
         slots: Items::new([Some(2), None, Some(3)].to_vec(alloc)?),
         order: Items::new([2, 0].to_vec(alloc)?),
-    };
-    let text = report_text(alloc, &Report::Cell(report))?;
+    })
+}
+
+#[test]
+fn prints_a_report(rt: HostRuntime) -> Result<(), Fail> {
+    let alloc = rt.alloc();
+    let text = report_text(alloc, &Report::Cell(report(alloc)?))?;
     let lines =
         "op 0: write by 0, 5..-, slot 2, [2,2,2]\nop 1: read by 1, 6..-, slot -, -\nop 2: refused by 1, 7..18446744073709551615, slot 3, [9,8,7]\norder: 2 0\n";
     assert_eq!(rt; text.as_slice(), lines.as_bytes());

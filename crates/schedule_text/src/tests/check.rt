@@ -36,82 +36,84 @@ fn reads_the_first_document(rt: HostRuntime) -> Result<(), Fail> {
     Ok(())
 }
 
+const REFUSALS_OF_KEYS: [([&str; 4], Option<DocError>); 20] = [
+    (["[0,0,0]", "9", "[]", "[]"], None),
+    (
+        ["[2,1,3]", "0", "[]", "[]"],
+        Some(DocError::Range(Key::Limit)),
+    ),
+    (
+        ["[2,1,3]", "1", "[]", "[]"],
+        Some(DocError::Law(Key::Opening)),
+    ),
+    (["[1,2,3]", "18446744073709551614", "[]", "[]"], None),
+    (
+        ["[0,0,0]", "18446744073709551615", "[]", "[]"],
+        Some(DocError::Range(Key::Limit)),
+    ),
+    (
+        ["[0,0,0]", "18446744073709551616", "[]", "[]"],
+        Some(DocError::Shape(Key::Limit)),
+    ),
+    (
+        ["[0,0,0]", "-1", "[]", "[]"],
+        Some(DocError::Shape(Key::Limit)),
+    ),
+    (
+        ["[0,0,0]", "1.0", "[]", "[]"],
+        Some(DocError::Shape(Key::Limit)),
+    ),
+    (
+        ["[0,0,0]", "1e2", "[]", "[]"],
+        Some(DocError::Shape(Key::Limit)),
+    ),
+    (
+        ["[0,0,0]", "null", "[]", "[]"],
+        Some(DocError::Shape(Key::Limit)),
+    ),
+    (
+        ["[0,0]", "0", "[]", "[]"],
+        Some(DocError::Shape(Key::Opening)),
+    ),
+    (
+        ["[0,0,0,0]", "null", "[]", "[]"],
+        Some(DocError::Shape(Key::Opening)),
+    ),
+    (
+        ["[0,0,-0]", "9", "[]", "[]"],
+        Some(DocError::Shape(Key::Opening)),
+    ),
+    (
+        ["null", "9", "{}", "[]"],
+        Some(DocError::Shape(Key::Opening)),
+    ),
+    (
+        ["[0,0,0]", "0", "{}", "{}"],
+        Some(DocError::Shape(Key::Ops)),
+    ),
+    (
+        ["[0,0,0]", "0", "[]", "[-1]"],
+        Some(DocError::Shape(Key::Order)),
+    ),
+    (
+        ["[0,0,0]", "9", "[]", "null"],
+        Some(DocError::Shape(Key::Order)),
+    ),
+    (["[0,0,0]", "9", "[]", "[9999]"], None),
+    (
+        ["[3,2,1]", "9", "[]", "[10000]"],
+        Some(DocError::Range(Key::Order)),
+    ),
+    (
+        ["[3,2,1]", "0", "[]", "[10000]"],
+        Some(DocError::Range(Key::Limit)),
+    ),
+];
+
 #[test]
 fn refuses_in_order(rt: HostRuntime) -> Result<(), Fail> {
     let alloc = rt.alloc();
-    for (keys, refused) in [
-        (["[0,0,0]", "9", "[]", "[]"], None),
-        (
-            ["[2,1,3]", "0", "[]", "[]"],
-            Some(DocError::Range(Key::Limit)),
-        ),
-        (
-            ["[2,1,3]", "1", "[]", "[]"],
-            Some(DocError::Law(Key::Opening)),
-        ),
-        (["[1,2,3]", "18446744073709551614", "[]", "[]"], None),
-        (
-            ["[0,0,0]", "18446744073709551615", "[]", "[]"],
-            Some(DocError::Range(Key::Limit)),
-        ),
-        (
-            ["[0,0,0]", "18446744073709551616", "[]", "[]"],
-            Some(DocError::Shape(Key::Limit)),
-        ),
-        (
-            ["[0,0,0]", "-1", "[]", "[]"],
-            Some(DocError::Shape(Key::Limit)),
-        ),
-        (
-            ["[0,0,0]", "1.0", "[]", "[]"],
-            Some(DocError::Shape(Key::Limit)),
-        ),
-        (
-            ["[0,0,0]", "1e2", "[]", "[]"],
-            Some(DocError::Shape(Key::Limit)),
-        ),
-        (
-            ["[0,0,0]", "null", "[]", "[]"],
-            Some(DocError::Shape(Key::Limit)),
-        ),
-        (
-            ["[0,0]", "0", "[]", "[]"],
-            Some(DocError::Shape(Key::Opening)),
-        ),
-        (
-            ["[0,0,0,0]", "null", "[]", "[]"],
-            Some(DocError::Shape(Key::Opening)),
-        ),
-        (
-            ["[0,0,-0]", "9", "[]", "[]"],
-            Some(DocError::Shape(Key::Opening)),
-        ),
-        (
-            ["null", "9", "{}", "[]"],
-            Some(DocError::Shape(Key::Opening)),
-        ),
-        (
-            ["[0,0,0]", "0", "{}", "{}"],
-            Some(DocError::Shape(Key::Ops)),
-        ),
-        (
-            ["[0,0,0]", "0", "[]", "[-1]"],
-            Some(DocError::Shape(Key::Order)),
-        ),
-        (
-            ["[0,0,0]", "9", "[]", "null"],
-            Some(DocError::Shape(Key::Order)),
-        ),
-        (["[0,0,0]", "9", "[]", "[9999]"], None),
-        (
-            ["[3,2,1]", "9", "[]", "[10000]"],
-            Some(DocError::Range(Key::Order)),
-        ),
-        (
-            ["[3,2,1]", "0", "[]", "[10000]"],
-            Some(DocError::Range(Key::Limit)),
-        ),
-    ] {
+    for (keys, refused) in REFUSALS_OF_KEYS {
         let [opening, limit, ops, order] = keys;
         let text = document(
             alloc,
@@ -145,82 +147,87 @@ fn check_document(
     )
 }
 
+const SHAPE: Option<DocError> = Some(DocError::Shape(Key::Ops));
+
+const RANGE: Option<DocError> = Some(DocError::Range(Key::Ops));
+
+const LAW: Option<DocError> = Some(DocError::Law(Key::Ops));
+
+const REFUSALS_OF_OPERATIONS: [(&str, Option<DocError>); 29] = [
+    (
+        r#"{"who":15,"kind":"write","begin":4,"end":4,"record":[1,2,3]}"#,
+        None,
+    ),
+    (
+        r#"{"who":16,"kind":"write","begin":4,"end":4,"record":[1,2,3]}"#,
+        RANGE,
+    ),
+    (
+        r#"{"who":16,"kind":"write","begin":4,"end":3,"record":[3,2,1]}"#,
+        RANGE,
+    ),
+    (
+        r#"{"who":0,"kind":"write","begin":4,"end":3,"record":[1,2,3]}"#,
+        LAW,
+    ),
+    (
+        r#"{"who":0,"kind":"read","begin":4,"end":3,"record":[1,2,3]}"#,
+        LAW,
+    ),
+    (
+        r#"{"who":0,"kind":"write","begin":4,"record":[1,2,3]}"#,
+        None,
+    ),
+    (
+        r#"{"who":0,"kind":"write","begin":4,"end":null,"record":[1,2,3],"x":[]}"#,
+        None,
+    ),
+    (
+        r#"{"who":0,"kind":"write","begin":4,"record":[3,2,1]}"#,
+        LAW,
+    ),
+    (r#"{"who":0,"kind":"write","begin":4,"end":5}"#, LAW),
+    (r#"{"who":0,"kind":"write","begin":4}"#, LAW),
+    (r#"{"who":0,"kind":"write","begin":4,"record":null}"#, LAW),
+    (
+        r#"{"who":0,"kind":"read","begin":4,"end":5,"record":[3,2,1]}"#,
+        None,
+    ),
+    (r#"{"who":0,"kind":"read","begin":4,"end":5}"#, LAW),
+    (r#"{"who":0,"kind":"read","begin":4,"record":null}"#, None),
+    (
+        r#"{"who":0,"kind":"refused","begin":4,"end":5,"record":[3,2,1]}"#,
+        None,
+    ),
+    (
+        r#"{"who":0,"kind":"refused","begin":4,"end":5,"record":null}"#,
+        LAW,
+    ),
+    (r#"{"who":0,"kind":"refused","begin":4}"#, None),
+    (r#"{"kind":"read","begin":4}"#, SHAPE),
+    (r#"{"who":0,"begin":4}"#, SHAPE),
+    (r#"{"who":0,"kind":"read"}"#, SHAPE),
+    (r#"{"who":null,"kind":"read","begin":4}"#, SHAPE),
+    (r#"{"who":0,"kind":null,"begin":4}"#, SHAPE),
+    (r#"{"who":0,"kind":"read","begin":null}"#, SHAPE),
+    (r#"{"who":0,"kind":"reads","begin":4}"#, SHAPE),
+    (r#"{"who":0,"kind":"read","begin":4,"end":"5"}"#, SHAPE),
+    (r#"{"who":0,"kind":"read","begin":4,"record":[1,2]}"#, SHAPE),
+    (
+        r#"{"who":16,"kind":"read","begin":4},{"who":0,"kind":"read"}"#,
+        SHAPE,
+    ),
+    (
+        r#"{"who":0,"kind":"write","begin":4},{"who":16,"kind":"read","begin":4}"#,
+        RANGE,
+    ),
+    ("[]", SHAPE),
+];
+
 #[test]
 fn reads_operations(rt: HostRuntime) -> Result<(), Fail> {
     let alloc = rt.alloc();
-    let shape = Some(DocError::Shape(Key::Ops));
-    let range = Some(DocError::Range(Key::Ops));
-    let law = Some(DocError::Law(Key::Ops));
-    for (ops, refused) in [
-        (
-            r#"{"who":15,"kind":"write","begin":4,"end":4,"record":[1,2,3]}"#,
-            None,
-        ),
-        (
-            r#"{"who":16,"kind":"write","begin":4,"end":4,"record":[1,2,3]}"#,
-            range,
-        ),
-        (
-            r#"{"who":16,"kind":"write","begin":4,"end":3,"record":[3,2,1]}"#,
-            range,
-        ),
-        (
-            r#"{"who":0,"kind":"write","begin":4,"end":3,"record":[1,2,3]}"#,
-            law,
-        ),
-        (
-            r#"{"who":0,"kind":"read","begin":4,"end":3,"record":[1,2,3]}"#,
-            law,
-        ),
-        (
-            r#"{"who":0,"kind":"write","begin":4,"record":[1,2,3]}"#,
-            None,
-        ),
-        (
-            r#"{"who":0,"kind":"write","begin":4,"end":null,"record":[1,2,3],"x":[]}"#,
-            None,
-        ),
-        (
-            r#"{"who":0,"kind":"write","begin":4,"record":[3,2,1]}"#,
-            law,
-        ),
-        (r#"{"who":0,"kind":"write","begin":4,"end":5}"#, law),
-        (r#"{"who":0,"kind":"write","begin":4}"#, law),
-        (r#"{"who":0,"kind":"write","begin":4,"record":null}"#, law),
-        (
-            r#"{"who":0,"kind":"read","begin":4,"end":5,"record":[3,2,1]}"#,
-            None,
-        ),
-        (r#"{"who":0,"kind":"read","begin":4,"end":5}"#, law),
-        (r#"{"who":0,"kind":"read","begin":4,"record":null}"#, None),
-        (
-            r#"{"who":0,"kind":"refused","begin":4,"end":5,"record":[3,2,1]}"#,
-            None,
-        ),
-        (
-            r#"{"who":0,"kind":"refused","begin":4,"end":5,"record":null}"#,
-            law,
-        ),
-        (r#"{"who":0,"kind":"refused","begin":4}"#, None),
-        (r#"{"kind":"read","begin":4}"#, shape),
-        (r#"{"who":0,"begin":4}"#, shape),
-        (r#"{"who":0,"kind":"read"}"#, shape),
-        (r#"{"who":null,"kind":"read","begin":4}"#, shape),
-        (r#"{"who":0,"kind":null,"begin":4}"#, shape),
-        (r#"{"who":0,"kind":"read","begin":null}"#, shape),
-        (r#"{"who":0,"kind":"reads","begin":4}"#, shape),
-        (r#"{"who":0,"kind":"read","begin":4,"end":"5"}"#, shape),
-        (r#"{"who":0,"kind":"read","begin":4,"record":[1,2]}"#, shape),
-        (
-            r#"{"who":16,"kind":"read","begin":4},{"who":0,"kind":"read"}"#,
-            shape,
-        ),
-        (
-            r#"{"who":0,"kind":"write","begin":4},{"who":16,"kind":"read","begin":4}"#,
-            range,
-        ),
-        ("[]", shape),
-    ] {
+    for (ops, refused) in REFUSALS_OF_OPERATIONS {
         let text = check_document(alloc, "[0,0,0]", "9", ops, "")?;
         assert_eq!(rt;
             refusal(alloc, Want::Check, text.as_bytes()),
@@ -248,42 +255,44 @@ fn reads_at_most_10000(rt: HostRuntime) -> Result<(), Fail> {
     Ok(())
 }
 
+const REFUSALS_OF_THE_TOP: [(&str, DocError); 19] = [
+    ("", DocError::NotJson),
+    ("{", DocError::NotJson),
+    ("{} {}", DocError::NotJson),
+    ("\u{feff}{}", DocError::NotJson),
+    (r#"{"kind":"\ud800"}"#, DocError::NotJson),
+    (r#"{"kind":"check","limit":1e999}"#, DocError::NotJson),
+    ("[]", DocError::Kind),
+    ("null", DocError::Kind),
+    ("\"check\"", DocError::Kind),
+    ("{}", DocError::Kind),
+    (r#"{"kind":["check"]}"#, DocError::Kind),
+    (r#"{"kind":"checks"}"#, DocError::Kind),
+    (r#"{"kind":"matrix"}"#, DocError::Kind),
+    (r#"{"kind":"check","kind":"Check"}"#, DocError::Kind),
+    (r#"{"kind":"check"}"#, DocError::Missing(Key::Opening)),
+    (
+        r#"{"kind":"cell","kind":"\u0063heck"}"#,
+        DocError::Missing(Key::Opening),
+    ),
+    (
+        r#"{"kind":"check","opening":0}"#,
+        DocError::Missing(Key::Limit),
+    ),
+    (
+        r#"{"kind":"check","opening":0,"limit":0}"#,
+        DocError::Missing(Key::Ops),
+    ),
+    (
+        r#"{"kind":"check","opening":0,"limit":0,"ops":null}"#,
+        DocError::Missing(Key::Order),
+    ),
+];
+
 #[test]
 fn refuses_the_top(rt: HostRuntime) -> Result<(), Fail> {
     let alloc = rt.alloc();
-    for (text, refused) in [
-        ("", DocError::NotJson),
-        ("{", DocError::NotJson),
-        ("{} {}", DocError::NotJson),
-        ("\u{feff}{}", DocError::NotJson),
-        (r#"{"kind":"\ud800"}"#, DocError::NotJson),
-        (r#"{"kind":"check","limit":1e999}"#, DocError::NotJson),
-        ("[]", DocError::Kind),
-        ("null", DocError::Kind),
-        ("\"check\"", DocError::Kind),
-        ("{}", DocError::Kind),
-        (r#"{"kind":["check"]}"#, DocError::Kind),
-        (r#"{"kind":"checks"}"#, DocError::Kind),
-        (r#"{"kind":"matrix"}"#, DocError::Kind),
-        (r#"{"kind":"check","kind":"Check"}"#, DocError::Kind),
-        (r#"{"kind":"check"}"#, DocError::Missing(Key::Opening)),
-        (
-            r#"{"kind":"cell","kind":"\u0063heck"}"#,
-            DocError::Missing(Key::Opening),
-        ),
-        (
-            r#"{"kind":"check","opening":0}"#,
-            DocError::Missing(Key::Limit),
-        ),
-        (
-            r#"{"kind":"check","opening":0,"limit":0}"#,
-            DocError::Missing(Key::Ops),
-        ),
-        (
-            r#"{"kind":"check","opening":0,"limit":0,"ops":null}"#,
-            DocError::Missing(Key::Order),
-        ),
-    ] {
+    for (text, refused) in REFUSALS_OF_THE_TOP {
         assert_eq!(rt;
             refusal(alloc, Want::Check, text.as_bytes()),
             Some(refused),

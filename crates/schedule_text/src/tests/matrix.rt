@@ -76,106 +76,119 @@ fn titled(alloc: Global, opening: &str, terms: &str) -> Result<String, AllocErro
     format!(in alloc; "{{\"kind\":\"matrix\",\"opening\":{opening},\"limit\":0,\"terms\":{terms}}}")
 }
 
+const REFUSALS_OF_KEYS: [(&str, &str, &str, &str, Option<DocError>); 17] = [
+    ("[0,0,0]", "18446744073709551614", "[],[]", "0,1", None),
+    (
+        "[0,0,0]",
+        "18446744073709551615",
+        "[],[]",
+        "0,1",
+        Some(DocError::Range(Key::Limit)),
+    ),
+    ("[2,1,3]", "0", "[]", "1", Some(DocError::Range(Key::Limit))),
+    ("[2,1,3]", "9", "[]", "1", Some(DocError::Range(Key::Plans))),
+    (
+        "[2,1,3]",
+        "9",
+        "[[3,2,1]],[]",
+        "2",
+        Some(DocError::Range(Key::Steps)),
+    ),
+    (
+        "[2,1,3]",
+        "9",
+        "[[3,2,1]],[]",
+        "1",
+        Some(DocError::Law(Key::Opening)),
+    ),
+    (
+        "[1,1,3]",
+        "9",
+        "[[3,2,1]],[]",
+        "1",
+        Some(DocError::Law(Key::Plans)),
+    ),
+    (
+        "[1,1,3]",
+        "9",
+        "[],[\"read\",[3,2,1]]",
+        "1",
+        Some(DocError::Law(Key::Plans)),
+    ),
+    ("[1,1,3]", "9", "[\"read\",[1,2,3]],[]", "", None),
+    (
+        "[1,1,3]",
+        "0",
+        "[\"reads\"],[]",
+        "",
+        Some(DocError::Shape(Key::Plans)),
+    ),
+    (
+        "[1,1,3]",
+        "0",
+        "[[1,2]],[]",
+        "",
+        Some(DocError::Shape(Key::Plans)),
+    ),
+    (
+        "[1,1,3]",
+        "0",
+        "[null],[]",
+        "",
+        Some(DocError::Shape(Key::Plans)),
+    ),
+    (
+        "[1,1,3]",
+        "0",
+        "[],{}",
+        "-1",
+        Some(DocError::Shape(Key::Plans)),
+    ),
+    (
+        "[1,1,3]",
+        "0",
+        "[],[]",
+        "-1",
+        Some(DocError::Shape(Key::Steps)),
+    ),
+    (
+        "[1,1,3]",
+        "0",
+        "[],[]",
+        "\"0\"",
+        Some(DocError::Shape(Key::Steps)),
+    ),
+    (
+        "[1,1]",
+        "null",
+        "[],[]",
+        "0",
+        Some(DocError::Shape(Key::Opening)),
+    ),
+    (
+        "[1,1,1]",
+        "null",
+        "[],0",
+        "0",
+        Some(DocError::Shape(Key::Limit)),
+    ),
+];
+
+const MISSING_KEYS: [(&str, Key); 5] = [
+    (r#"{"kind":"matrix","noise":0}"#, Key::Opening),
+    (r#"{"kind":"matrix","terms":null}"#, Key::Opening),
+    (r#"{"kind":"matrix","opening":0}"#, Key::Limit),
+    (r#"{"kind":"matrix","opening":0,"limit":0}"#, Key::Plans),
+    (
+        r#"{"kind":"matrix","opening":[0,0],"limit":0,"plans":[["read"],[]]}"#,
+        Key::Steps,
+    ),
+];
+
 #[test]
 fn refuses_in_order(rt: HostRuntime) -> Result<(), Fail> {
     let alloc = rt.alloc();
-    for (opening, limit, plans, steps, refused) in [
-        ("[0,0,0]", "18446744073709551614", "[],[]", "0,1", None),
-        (
-            "[0,0,0]",
-            "18446744073709551615",
-            "[],[]",
-            "0,1",
-            Some(DocError::Range(Key::Limit)),
-        ),
-        ("[2,1,3]", "0", "[]", "1", Some(DocError::Range(Key::Limit))),
-        ("[2,1,3]", "9", "[]", "1", Some(DocError::Range(Key::Plans))),
-        (
-            "[2,1,3]",
-            "9",
-            "[[3,2,1]],[]",
-            "2",
-            Some(DocError::Range(Key::Steps)),
-        ),
-        (
-            "[2,1,3]",
-            "9",
-            "[[3,2,1]],[]",
-            "1",
-            Some(DocError::Law(Key::Opening)),
-        ),
-        (
-            "[1,1,3]",
-            "9",
-            "[[3,2,1]],[]",
-            "1",
-            Some(DocError::Law(Key::Plans)),
-        ),
-        (
-            "[1,1,3]",
-            "9",
-            "[],[\"read\",[3,2,1]]",
-            "1",
-            Some(DocError::Law(Key::Plans)),
-        ),
-        ("[1,1,3]", "9", "[\"read\",[1,2,3]],[]", "", None),
-        (
-            "[1,1,3]",
-            "0",
-            "[\"reads\"],[]",
-            "",
-            Some(DocError::Shape(Key::Plans)),
-        ),
-        (
-            "[1,1,3]",
-            "0",
-            "[[1,2]],[]",
-            "",
-            Some(DocError::Shape(Key::Plans)),
-        ),
-        (
-            "[1,1,3]",
-            "0",
-            "[null],[]",
-            "",
-            Some(DocError::Shape(Key::Plans)),
-        ),
-        (
-            "[1,1,3]",
-            "0",
-            "[],{}",
-            "-1",
-            Some(DocError::Shape(Key::Plans)),
-        ),
-        (
-            "[1,1,3]",
-            "0",
-            "[],[]",
-            "-1",
-            Some(DocError::Shape(Key::Steps)),
-        ),
-        (
-            "[1,1,3]",
-            "0",
-            "[],[]",
-            "\"0\"",
-            Some(DocError::Shape(Key::Steps)),
-        ),
-        (
-            "[1,1]",
-            "null",
-            "[],[]",
-            "0",
-            Some(DocError::Shape(Key::Opening)),
-        ),
-        (
-            "[1,1,1]",
-            "null",
-            "[],0",
-            "0",
-            Some(DocError::Shape(Key::Limit)),
-        ),
-    ] {
+    for (opening, limit, plans, steps, refused) in REFUSALS_OF_KEYS {
         let text = untitled(alloc, opening, limit, plans, steps)?;
         assert_eq!(rt;
             refusal(alloc, Want::Play, text.as_bytes()),
@@ -183,16 +196,7 @@ fn refuses_in_order(rt: HostRuntime) -> Result<(), Fail> {
             "{text}"
         );
     }
-    for (text, key) in [
-        (r#"{"kind":"matrix","noise":0}"#, Key::Opening),
-        (r#"{"kind":"matrix","terms":null}"#, Key::Opening),
-        (r#"{"kind":"matrix","opening":0}"#, Key::Limit),
-        (r#"{"kind":"matrix","opening":0,"limit":0}"#, Key::Plans),
-        (
-            r#"{"kind":"matrix","opening":[0,0],"limit":0,"plans":[["read"],[]]}"#,
-            Key::Steps,
-        ),
-    ] {
+    for (text, key) in MISSING_KEYS {
         assert_eq!(rt;
             refusal(alloc, Want::Play, text.as_bytes()),
             Some(DocError::Missing(key)),
@@ -202,52 +206,59 @@ fn refuses_in_order(rt: HostRuntime) -> Result<(), Fail> {
     Ok(())
 }
 
+const SHAPE: Option<DocError> = Some(DocError::Shape(Key::Terms));
+
+const RANGE: Option<DocError> = Some(DocError::Range(Key::Terms));
+
+const LAW: Option<DocError> = Some(DocError::Law(Key::Terms));
+
+const REFUSALS_OF_TERMS: [(&str, Option<DocError>); 18] = [
+    ("null", SHAPE),
+    ("{}", SHAPE),
+    ("[]", RANGE),
+    ("[[]]", SHAPE),
+    (r#"[{"plans":[[],[]],"steps":[]}]"#, SHAPE),
+    (r#"[{"limit":1,"steps":[]}]"#, SHAPE),
+    (r#"[{"limit":1,"plans":[[],[]]}]"#, SHAPE),
+    (r#"[{"limit":1,"plans":[[],[]],"steps":null}]"#, SHAPE),
+    (r#"[{"limit":1,"plans":[[],[]],"steps":[]}]"#, None),
+    (r#"[{"limit":0,"plans":[[],[]],"steps":[]}]"#, RANGE),
+    (
+        r#"[{"limit":18446744073709551615,"plans":[[],[]],"steps":[]}]"#,
+        RANGE,
+    ),
+    (r#"[{"limit":1,"plans":[[]],"steps":[]}]"#, RANGE),
+    (r#"[{"limit":1,"plans":[[],[]],"steps":[2]}]"#, RANGE),
+    (r#"[{"limit":1,"plans":[[[3,2,1]],[]],"steps":[]}]"#, LAW),
+    (r#"[{"limit":1,"plans":[[[3,2,1]],[]],"steps":[2]}]"#, RANGE),
+    (
+        r#"[{"limit":1,"plans":[[],[]],"steps":[2]},{"limit":1,"plans":[[],[]]}]"#,
+        SHAPE,
+    ),
+    (
+        r#"[{"limit":1,"plans":[[[3,2,1]],[]],"steps":[]},{"limit":0,"plans":[[],[]],"steps":[]}]"#,
+        RANGE,
+    ),
+    (
+        r#"[{"limit":1,"plans":[[],[],[]],"steps":[2]},{"limit":1,"plans":[["read"],[]],"steps":[1]}]"#,
+        None,
+    ),
+];
+
+const REFUSALS_BESIDE_TERMS: [(&str, &str, Option<DocError>); 3] = [
+    ("[0,0]", "null", Some(DocError::Shape(Key::Opening))),
+    ("[3,2,1]", "[]", RANGE),
+    (
+        "[3,2,1]",
+        r#"[{"limit":1,"plans":[[[3,2,1]],[]],"steps":[]}]"#,
+        Some(DocError::Law(Key::Opening)),
+    ),
+];
+
 #[test]
 fn refuses_terms_in_order(rt: HostRuntime) -> Result<(), Fail> {
     let alloc = rt.alloc();
-    let (shape, range, law) = (
-        DocError::Shape(Key::Terms),
-        DocError::Range(Key::Terms),
-        DocError::Law(Key::Terms),
-    );
-    for (terms, refused) in [
-        ("null", Some(shape)),
-        ("{}", Some(shape)),
-        ("[]", Some(range)),
-        ("[[]]", Some(shape)),
-        (r#"[{"plans":[[],[]],"steps":[]}]"#, Some(shape)),
-        (r#"[{"limit":1,"steps":[]}]"#, Some(shape)),
-        (r#"[{"limit":1,"plans":[[],[]]}]"#, Some(shape)),
-        (r#"[{"limit":1,"plans":[[],[]],"steps":null}]"#, Some(shape)),
-        (r#"[{"limit":1,"plans":[[],[]],"steps":[]}]"#, None),
-        (r#"[{"limit":0,"plans":[[],[]],"steps":[]}]"#, Some(range)),
-        (
-            r#"[{"limit":18446744073709551615,"plans":[[],[]],"steps":[]}]"#,
-            Some(range),
-        ),
-        (r#"[{"limit":1,"plans":[[]],"steps":[]}]"#, Some(range)),
-        (r#"[{"limit":1,"plans":[[],[]],"steps":[2]}]"#, Some(range)),
-        (
-            r#"[{"limit":1,"plans":[[[3,2,1]],[]],"steps":[]}]"#,
-            Some(law),
-        ),
-        (
-            r#"[{"limit":1,"plans":[[[3,2,1]],[]],"steps":[2]}]"#,
-            Some(range),
-        ),
-        (
-            r#"[{"limit":1,"plans":[[],[]],"steps":[2]},{"limit":1,"plans":[[],[]]}]"#,
-            Some(shape),
-        ),
-        (
-            r#"[{"limit":1,"plans":[[[3,2,1]],[]],"steps":[]},{"limit":0,"plans":[[],[]],"steps":[]}]"#,
-            Some(range),
-        ),
-        (
-            r#"[{"limit":1,"plans":[[],[],[]],"steps":[2]},{"limit":1,"plans":[["read"],[]],"steps":[1]}]"#,
-            None,
-        ),
-    ] {
+    for (terms, refused) in REFUSALS_OF_TERMS {
         let text = titled(alloc, "[0,0,0]", terms)?;
         assert_eq!(rt;
             refusal(alloc, Want::Play, text.as_bytes()),
@@ -255,15 +266,7 @@ fn refuses_terms_in_order(rt: HostRuntime) -> Result<(), Fail> {
             "{text}"
         );
     }
-    for (opening, terms, refused) in [
-        ("[0,0]", "null", Some(DocError::Shape(Key::Opening))),
-        ("[3,2,1]", "[]", Some(range)),
-        (
-            "[3,2,1]",
-            r#"[{"limit":1,"plans":[[[3,2,1]],[]],"steps":[]}]"#,
-            Some(DocError::Law(Key::Opening)),
-        ),
-    ] {
+    for (opening, terms, refused) in REFUSALS_BESIDE_TERMS {
         let text = titled(alloc, opening, terms)?;
         assert_eq!(rt;
             refusal(alloc, Want::Play, text.as_bytes()),

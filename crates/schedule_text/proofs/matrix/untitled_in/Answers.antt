@@ -15,5 +15,6 @@ returns-clause-playable c =
     let plans_ok : plans_in_range c.in_ok-plans.plans.items ≡ true = (cc) in
     let processes : c.len.result ≡ length c.in_ok-plans.plans.items = c.len.ensures ∙ c.in_ok-plans.plans.ok.0 in
     let steps_ok : are_of (length c.in_ok-plans.plans.items) c.in_ok-steps.steps.items ≡ true =
-        ap (λ n. are_of n c.in_ok-steps.steps.items) (sym processes) ∙ ap (are_of c.len.result) (sym c.as_slice-2.ensures.value) ∙ sym c.are_of.ensures ∙ steps_passed in
-    subst CanPlay (sym c.in_ok-terms.ensures) (single_can_play c.in_ok-limit.limit c.in_ok-plans.plans.items c.in_ok-steps.steps.items limit_ok plans_ok steps_ok)
+    ap (λ n. are_of n c.in_ok-steps.steps.items) (sym processes) ∙ ap (are_of c.len.result) (sym c.as_slice-2.ensures.value) ∙ sym c.are_of.ensures ∙ steps_passed in
+    let can = single_can_play c.in_ok-limit.limit c.in_ok-plans.plans.items c.in_ok-steps.steps.items limit_ok plans_ok steps_ok in
+    subst CanPlay (sym c.in_ok-terms.ensures) (rw (c.new.ensures, c.new-2.ensures) can)
