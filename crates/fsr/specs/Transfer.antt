@@ -1,7 +1,8 @@
--- What reading the input does (this project's own).
-use Rattle.std.specs.Prelude.{◌≡◌, ◌≤◌, ◌+◌, ◌++◌, ℕ, List, length, Option, Result, Ok, Err, Vec}
+-- What reading the input and telling a line do (this project's own).
+use Rattle.std.specs.Prelude.{◌≡◌, ◌≤◌, ◌+◌, ◌++◌, ◌⊎◌, ℕ, List, length, Option, Result, Ok, Err, Vec}
 use Rattle.std.specs.declared.alloc.Global.{Global}
-use Rattle.std.specs.Io.KnownBytes.{Consumes, IsAtEnd}
+use Rattle.std.specs.Io.{StartsWith}
+use Rattle.std.specs.Io.KnownBytes.{Appends, Consumes, IsAtEnd}
 use Rattle.fsr.specs.Run.{IsWhole, most_taken}
 use Rattle.fsr.specs.declared.transfer.InputFault.{InputFault}
 use Rattle.fsr.specs.declared.transfer.InputFault.TheVariants.{Failed, NoMemory}
@@ -23,3 +24,7 @@ CountsFailure old new (Err NoMemory) = new ≡ old
 abbrev pub TakesMore : Option (List ℕ) → Option (List ℕ) → List ℕ → List ℕ → Result ℕ InputFault → Type 0
 TakesMore old new before after (Ok n) = (taken : List ℕ) × Consumes old new taken × (after ≡ before ++ taken) × (length after ≤ most_taken) × (length taken ≡ n) × (n ≡ 0 → IsAtEnd new)
 TakesMore old new before after (Err e) = (taken : List ℕ) × Consumes old new taken × (length before + length taken ≤ most_taken)
+
+-- the line went out, or the stream failed after a front of it
+abbrev pub Tells : Option (List ℕ) → Option (List ℕ) → ℕ → ℕ → List ℕ → Type 0
+Tells old new failed_old failed_new line = (Appends old new line × (failed_new ≡ failed_old)) ⊎ (((sent : List ℕ) × StartsWith line sent × Appends old new sent) × (failed_new ≡ failed_old + 1))

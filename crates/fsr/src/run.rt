@@ -2,6 +2,7 @@ ghost use Rattle.std.specs.Prelude.{◌≡◌, ◌≤◌, ◌+◌, ◌⊎◌, So
 ghost use Rattle.fsr.specs.Command.{command_of};
 ghost use Rattle.fsr.specs.Run.{Fails, Runs};
 ghost use Rattle.fsr.specs.Stream.{HasRoom};
+ghost use Rattle.fsr.specs.Transfer.{Tells};
 
 use crate::command::{NoCommand, command_of};
 use crate::fault::Fault;
@@ -112,10 +113,11 @@ fn tell_fault<E: Sink>(alloc: Global, faults: &mut E, fault: &Fault) -> u8
     }
 }
 
-/// Tells a line. A failure changes nothing.
+/// Tells a line. A failure changes nothing else.
 pub fn tell<E: Sink>(faults: &mut E, line: &str)
     requires { HasRoom (E.failed faults.old) }
-    ensures { E.failed faults.new ≤ E.failed faults.old + 1 }
+    ensures told { Tells (E.contents faults.old) (E.contents faults.new) (E.failed faults.old) (E.failed faults.new) line.now }
+    ensures once { E.failed faults.new ≤ E.failed faults.old + 1 }
 {
     let _ = write_text(faults, line.as_bytes());
 }
