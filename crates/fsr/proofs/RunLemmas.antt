@@ -7,7 +7,7 @@ use Rattle.std.specs.Io.KnownBytes.{Appends}
 use Rattle.history_core.specs.declared.history.Verdict.{Verdict}
 use Rattle.history_core.specs.declared.history.Verdict.TheVariants.{Lawful, Listing, Precedence, Reading, Limit}
 use Rattle.schedule_text.specs.declared.document.Document.{Document}
-use Rattle.schedule_text.specs.declared.document.Document.TheVariants.{Check, Cell}
+use Rattle.schedule_text.specs.declared.document.Document.TheVariants.{Check, Cell, Matrix}
 use Rattle.schedule_text.specs.declared.document.DocError.{DocError}
 use Rattle.schedule_text.specs.declared.document.Want.{Want}
 use Rattle.schedule_text.specs.Document.{document_of}
@@ -104,6 +104,7 @@ status_is_low (Ok (Check history order)) a answered =
     let same : a.status ≡ status_of answered.0 = ap (λ b. b.status) answered.2 in
     rw same (verdict_is_low answered.0)
 status_is_low (Ok (Cell schedule)) a answered = let same : a.status ≡ 0 = ap (λ b. b.status) answered.2 in omega (arith, same)
+status_is_low (Ok (Matrix schedule titled)) a answered = let same : a.status ≡ 0 = ap (λ b. b.status) answered.2 in omega (arith, same)
 status_is_low (Err refusal) a answered = absurd (cc)
 
 -- the text went out whole

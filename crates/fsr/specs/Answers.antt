@@ -1,5 +1,5 @@
 -- The answer to a document: what is printed with which status, or the fault (this project's own).
-use Rattle.std.specs.Prelude.{◌≡◌, ◌≢◌, ℕ, List, [], ◌∷◌, Result, Ok, Err}
+use Rattle.std.specs.Prelude.{◌≡◌, ◌≢◌, ℕ, Bool, List, [], ◌∷◌, Result, Ok, Err}
 use Rattle.fourslot_core.specs.declared.schedule.CellReport.{CellReport}
 use Rattle.fourslot_core.specs.declared.schedule.CellSchedule.{CellSchedule}
 use Rattle.history_core.specs.Orders.{IsVerdict}
@@ -8,15 +8,18 @@ use Rattle.history_core.specs.declared.history.History.{History}
 use Rattle.history_core.specs.declared.history.Verdict.{Verdict}
 use Rattle.history_core.specs.declared.history.Verdict.TheVariants.{Lawful, Listing, Precedence, Reading, Limit}
 use Rattle.history_core.specs.declared.band.Band.{Band}
+use Rattle.matrix_core.specs.Runs.{spans_of}
+use Rattle.matrix_core.specs.declared.schedule.MatrixReport.{MatrixReport}
+use Rattle.matrix_core.specs.declared.schedule.MatrixSchedule.{MatrixSchedule}
 use Rattle.schedule_text.specs.Document.{document_of}
 use Rattle.schedule_text.specs.Text.{text_of}
 use Rattle.schedule_text.specs.declared.document.Want.{Want}
 use Rattle.schedule_text.specs.declared.document.Document.{Document}
-use Rattle.schedule_text.specs.declared.document.Document.TheVariants.{Check, Cell}
+use Rattle.schedule_text.specs.declared.document.Document.TheVariants.{Check, Cell, Matrix}
 use Rattle.schedule_text.specs.declared.document.DocError.{DocError}
 use Rattle.schedule_text.specs.declared.report.Report.{Report}
 use Rattle.schedule_text.specs.declared.report.Report.TheVariants as report
-use Rattle.fsr.specs.Plays.{IsCellReport, cell_span}
+use Rattle.fsr.specs.Plays.{IsCellReport, IsMatrixReport, cell_span}
 use Rattle.fsr.specs.declared.fault.Answer.{Answer}
 use Rattle.fsr.specs.declared.fault.Fault.{Fault}
 use Rattle.fsr.specs.declared.fault.Fault.TheVariants as fault
@@ -51,10 +54,19 @@ AnswersCell schedule (Err (fault.Document refusal)) = ⊥
 AnswersCell schedule (Err (fault.Schedule position)) = IsFirstOverrun (cell_span schedule ∷ []) position
 AnswersCell schedule (Err fault.NoMemory) = ⊥
 
+-- the answer to the schedule of a matrix, likewise; titled, where its terms are told
+abbrev pub AnswersMatrix : MatrixSchedule Band → Bool → Result Answer Fault → Type 0
+AnswersMatrix schedule titled (Ok answer) =
+    (r : MatrixReport Band) × IsMatrixReport schedule r × (answer ≡ printed (report.Matrix r titled) 0)
+AnswersMatrix schedule titled (Err (fault.Document refusal)) = ⊥
+AnswersMatrix schedule titled (Err (fault.Schedule position)) = IsFirstOverrun (spans_of schedule.terms) position
+AnswersMatrix schedule titled (Err fault.NoMemory) = ⊥
+
 -- the answer to what a document stands for
 abbrev pub Answers : Document → Result Answer Fault → Type 0
 Answers (Check history order) reply = AnswersCheck history order reply
 Answers (Cell schedule) reply = AnswersCell schedule reply
+Answers (Matrix schedule titled) reply = AnswersMatrix schedule titled reply
 
 -- the same where a document may be refused, which is the fault then
 abbrev pub AnswersReading : Result Document DocError → Result Answer Fault → Type 0

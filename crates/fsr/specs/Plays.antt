@@ -9,6 +9,10 @@ use Rattle.fourslot_core.specs.ReportOrders.{IsReportOrder}
 use Rattle.fourslot_core.specs.Reports.{IsFreshReport, IsOfRun, reader_of, writer_of}
 use Rattle.fourslot_core.specs.declared.schedule.CellReport.{CellReport}
 use Rattle.fourslot_core.specs.declared.schedule.CellSchedule.{CellSchedule}
+use Rattle.matrix_core.specs.Listings.{IsReport}
+use Rattle.matrix_core.specs.Runs.{spans_of}
+use Rattle.matrix_core.specs.declared.schedule.MatrixReport.{MatrixReport}
+use Rattle.matrix_core.specs.declared.schedule.MatrixSchedule.{MatrixSchedule}
 
 abbrev pub cell_span : CellSchedule Band → Span Band
 cell_span s = span_of s.steps s.writes s.reads
@@ -23,5 +27,14 @@ pub record IsCellReport (s : CellSchedule Band) (r : CellReport Band) : Type 0 w
   pub clear : IsClear (writer_of (cell_span s) r.history.ops r.slots) (reader_of (cell_span s) r.history.ops r.slots)
   pub fresh : IsFreshReport (writer_of (cell_span s) r.history.ops r.slots) (reader_of (cell_span s) r.history.ops r.slots)
   pub order : IsReportOrder (writer_of (cell_span s) r.history.ops r.slots) (reader_of (cell_span s) r.history.ops r.slots) r.history.ops r.order
+  pub atomic : IsAtomicOrder (λ x y. x ≡ y) s.opening r.history.ops r.order
+  pub refuses : RefusesLawfully r.history.terms r.history.ops r.order
+
+-- a report of a matrix's schedule: it lists the operations of its terms with their intervals and what they saw in its run,
+-- and the order is atomic and refuses lawfully
+pub record IsMatrixReport (s : MatrixSchedule Band) (r : MatrixReport Band) : Type 0 where
+  pub played : HasOperations (spans_of s.terms)
+  pub shape : HasShape (spans_of s.terms) r.history.terms r.history.ops
+  pub run : IsReport s r
   pub atomic : IsAtomicOrder (λ x y. x ≡ y) s.opening r.history.ops r.order
   pub refuses : RefusesLawfully r.history.terms r.history.ops r.order

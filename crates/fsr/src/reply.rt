@@ -1,9 +1,11 @@
 ghost use Rattle.std.specs.Prelude.{◌≡◌, IfOk};
-ghost use Rattle.fsr.specs.Answers.{AnswersCell, AnswersCheck, Gives, IsAnswer, printed, status_of};
+ghost use Rattle.matrix_core.specs.Runs.{CanPlay};
+ghost use Rattle.fsr.specs.Answers.{AnswersCell, AnswersCheck, AnswersMatrix, Gives, IsAnswer, printed, status_of};
 
 use crate::fault::{Answer, Fault};
 use fourslot_core::{CellSchedule, play_cell};
 use history_core::{Band, History, Items, Verdict, check_order};
+use matrix_core::{MatrixSchedule, play_matrix};
 use schedule_text::{Document, Report, Want, read_document, report_text};
 use std::alloc::{AllocError, Global};
 
@@ -14,6 +16,7 @@ pub fn answer(alloc: Global, want: Want, bytes: &[u8]) -> Result<Answer, Fault>
     match read_document(alloc, want, bytes)? {
         Document::Check { history, order } => check(alloc, &history, &order),
         Document::Cell(schedule) => cell(alloc, &schedule),
+        Document::Matrix { schedule, titled } => matrix(alloc, &schedule, titled),
     }
 }
 
@@ -32,6 +35,16 @@ fn cell(alloc: Global, schedule: &CellSchedule<Band>) -> Result<Answer, Fault>
 {
     let report = play_cell(alloc, schedule)?;
     let answer = print(alloc, &Report::Cell(report), 0)?;
+    Ok(answer)
+}
+
+/// The report of a matrix's schedule, with the terms told where it is titled.
+fn matrix(alloc: Global, schedule: &MatrixSchedule<Band>, titled: bool) -> Result<Answer, Fault>
+    requires { CanPlay schedule.now.terms }
+    ensures { Gives (AnswersMatrix schedule.now titled) result }
+{
+    let report = play_matrix(alloc, schedule)?;
+    let answer = print(alloc, &Report::Matrix { report, titled }, 0)?;
     Ok(answer)
 }
 
