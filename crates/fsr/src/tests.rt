@@ -1,5 +1,6 @@
 mod cells;
 mod long;
+mod matrices;
 mod refusals;
 mod runs;
 mod streams;
