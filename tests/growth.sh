@@ -62,7 +62,7 @@ if [ -z "$compiler" ]; then
 elif ! "$compiler" -O1 -shared -fPIC -o "$room/refuse.so" tests/refuse.c -ldl; then
     fail "refused growth" "tests/refuse.c wasn't compiled"
 else
-    for name in lawful cell; do
+    for name in lawful cell matrix refused_write terms; do
         document=examples/$name.json
         cp "examples/$name.txt" "$room/wanted"
         refuse_each fsr "$document" "$(command_for "$document")"

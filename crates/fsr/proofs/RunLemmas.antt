@@ -104,7 +104,7 @@ status_is_low (Ok (Check history order)) a answered =
     let same : a.status ≡ status_of answered.0 = ap (λ b. b.status) answered.2 in
     rw same (verdict_is_low answered.0)
 status_is_low (Ok (Cell schedule)) a answered = let same : a.status ≡ 0 = ap (λ b. b.status) answered.2 in omega (arith, same)
-status_is_low (Ok (Matrix schedule titled)) a answered = let same : a.status ≡ 0 = ap (λ b. b.status) answered.2 in omega (arith, same)
+status_is_low (Ok (Matrix schedule titled)) a answered = let same : a.status ≡ 0 = ap (λ b. b.status) answered.3 in omega (arith, same)
 status_is_low (Err refusal) a answered = absurd (cc)
 
 -- the text went out whole

@@ -3,11 +3,12 @@ use Rattle.std.specs.Prelude.{◌≡◌, ◌≢◌, ℕ, Bool, List, [], ◌∷�
 use Rattle.fourslot_core.specs.declared.schedule.CellReport.{CellReport}
 use Rattle.fourslot_core.specs.declared.schedule.CellSchedule.{CellSchedule}
 use Rattle.history_core.specs.Orders.{IsVerdict}
-use Rattle.history_core.specs.Schedules.{IsFirstOverrun}
+use Rattle.history_core.specs.Schedules.{HasOperations, IsFirstOverrun}
 use Rattle.history_core.specs.declared.history.History.{History}
 use Rattle.history_core.specs.declared.history.Verdict.{Verdict}
 use Rattle.history_core.specs.declared.history.Verdict.TheVariants.{Lawful, Listing, Precedence, Reading, Limit}
 use Rattle.history_core.specs.declared.band.Band.{Band}
+use Rattle.matrix_core.specs.Listings.{IsMatrixReport}
 use Rattle.matrix_core.specs.Runs.{spans_of}
 use Rattle.matrix_core.specs.declared.schedule.MatrixReport.{MatrixReport}
 use Rattle.matrix_core.specs.declared.schedule.MatrixSchedule.{MatrixSchedule}
@@ -19,7 +20,7 @@ use Rattle.schedule_text.specs.declared.document.Document.TheVariants.{Check, Ce
 use Rattle.schedule_text.specs.declared.document.DocError.{DocError}
 use Rattle.schedule_text.specs.declared.report.Report.{Report}
 use Rattle.schedule_text.specs.declared.report.Report.TheVariants as report
-use Rattle.fsr.specs.Plays.{IsCellReport, IsMatrixReport, cell_span}
+use Rattle.fourslot_core.specs.CellReports.{IsCellReport, cell_span}
 use Rattle.fsr.specs.declared.fault.Answer.{Answer}
 use Rattle.fsr.specs.declared.fault.Fault.{Fault}
 use Rattle.fsr.specs.declared.fault.Fault.TheVariants as fault
@@ -57,7 +58,8 @@ AnswersCell schedule (Err fault.NoMemory) = ⊥
 -- the answer to the schedule of a matrix, likewise; titled, where its terms are told
 abbrev pub AnswersMatrix : MatrixSchedule Band → Bool → Result Answer Fault → Type 0
 AnswersMatrix schedule titled (Ok answer) =
-    (r : MatrixReport Band) × IsMatrixReport schedule r × (answer ≡ printed (report.Matrix r titled) 0)
+    (r : MatrixReport Band) × HasOperations (spans_of schedule.terms) × IsMatrixReport schedule r
+    × (answer ≡ printed (report.Matrix r titled) 0)
 AnswersMatrix schedule titled (Err (fault.Document refusal)) = ⊥
 AnswersMatrix schedule titled (Err (fault.Schedule position)) = IsFirstOverrun (spans_of schedule.terms) position
 AnswersMatrix schedule titled (Err fault.NoMemory) = ⊥

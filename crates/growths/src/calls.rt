@@ -1,8 +1,9 @@
-use crate::documents::{Stopped, cell, document};
+use crate::documents::{Stopped, document};
 use crate::print;
-use fourslot_core::{CellReport, play_cell};
-use history_core::{Band, PlayError, Verdict};
-use schedule_text::{Report, report_text};
+use fourslot_core::play_cell;
+use history_core::Verdict;
+use matrix_core::{MatrixCore, play_matrix};
+use schedule_text::{Document, Report, report_text};
 use std::alloc::Global;
 use std::io;
 
@@ -15,8 +16,23 @@ pub fn read(rt: &impl Print, alloc: Global, on: &str) -> io::Result<()> {
 
 pub fn play(rt: &impl Print, alloc: Global, on: &str) -> io::Result<()> {
     match played(alloc, on) {
-        Ok(report) => print::cell_report(rt, &report),
+        Ok(Report::Cell(report)) => print::cell_report(rt, &report),
+        Ok(Report::Matrix { report, .. }) => print::matrix_report(rt, &report),
+        Ok(Report::Verdict(verdict)) => println!(rt; "{verdict:?}"),
         Err(why) => print::stopped(rt, why),
+    }
+}
+
+/// A matrix of so many processes.
+pub fn new_matrix(rt: &impl Print, alloc: Global, on: &str) -> io::Result<()> {
+    let n = match on {
+        "2" => 2,
+        "16" => 16,
+        _ => return print::stopped(rt, Stopped::NoSuchCall),
+    };
+    match MatrixCore::new(alloc, n, 9, 0u64) {
+        Ok(_) => println!(rt; "made"),
+        Err(_) => print::stopped(rt, Stopped::NoMemory),
     }
 }
 
@@ -27,19 +43,25 @@ pub fn text(rt: &impl Print, alloc: Global, on: &str) -> io::Result<()> {
     }
 }
 
-fn played(alloc: Global, on: &str) -> Result<CellReport<Band>, Stopped> {
-    let schedule = cell(alloc, on)?;
-    match play_cell(alloc, &schedule) {
-        Ok(report) => Ok(report),
-        Err(PlayError::NoMemory) => Err(Stopped::NoMemory),
-        Err(_) => Err(Stopped::NoSuchCall),
+/// What the document of this name prints: a played schedule's report, or else the verdict of a lawful order.
+fn played(alloc: Global, on: &str) -> Result<Report, Stopped> {
+    match document(alloc, on)? {
+        Document::Check {
+            history: _history,
+            order: _order,
+        } => Ok(Report::Verdict(Verdict::Lawful)),
+        Document::Cell(schedule) => {
+            let report = play_cell(alloc, &schedule)?;
+            Ok(Report::Cell(report))
+        }
+        Document::Matrix { schedule, titled } => {
+            let report = play_matrix(alloc, &schedule)?;
+            Ok(Report::Matrix { report, titled })
+        }
     }
 }
 
 fn text_of(alloc: Global, on: &str) -> Result<Vec<u8>, Stopped> {
-    let report = match on {
-        "check" => Report::Verdict(Verdict::Lawful),
-        _ => Report::Cell(played(alloc, on)?),
-    };
+    let report = played(alloc, on)?;
     report_text(alloc, &report).map_err(|_| Stopped::NoMemory)
 }

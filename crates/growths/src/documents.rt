@@ -1,5 +1,7 @@
-use fourslot_core::CellSchedule;
-use history_core::Band;
+ghost use Rattle.std.specs.Prelude.{IfOk};
+ghost use Rattle.schedule_text.specs.Players.{CanBePlayed};
+
+use history_core::PlayError;
 use schedule_text::{DocError, Document, Want, read_document};
 use std::alloc::Global;
 
@@ -15,6 +17,18 @@ const CELL: &str =
 const STALLED: &str =
     r#"{"kind":"cell","opening":[0,0,0],"noise":[9,8,7],"writes":[[1,1,1],[2,2,2],[3,3,3]],"reads":2,"steps":"wwwwwrrrrwwwwwwwwwwrrrrrr"}"#;
 
+/// Two writes that meet, and then a read.
+const MEETING: &str =
+    r#"{"kind":"matrix","opening":[0,0,0],"limit":9,"plans":[[[1,1,1],"read"],[[2,2,2]]],"steps":[0,1,0,1,0,0]}"#;
+
+/// A write that reached one process of three, and two reads that hand it on.
+const HANDED_ON: &str =
+    r#"{"kind":"matrix","opening":[0,0,0],"limit":9,"plans":[[[1,1,1]],["read"],["read"]],"steps":[0,0,0,1,1,1,1,2,2,2,2]}"#;
+
+/// A write after the last tag.
+const REFUSED: &str =
+    r#"{"kind":"matrix","opening":[0,0,0],"limit":1,"plans":[[[1,1,1]],[[2,2,2]]],"steps":[0,0,1,1]}"#;
+
 /// Why a call has no answer.
 #[derive(Clone, Copy, Debug, PartialEq, Eq)]
 pub enum Stopped {
@@ -22,25 +36,31 @@ pub enum Stopped {
     NoMemory,
 }
 
-/// The document of this name.
-pub fn document(alloc: Global, name: &str) -> Result<Document, Stopped> {
+impl From<PlayError> for Stopped {
+    fn from(error: PlayError) -> Stopped {
+        match error {
+            PlayError::NoMemory => Stopped::NoMemory,
+            PlayError::TooManySteps { .. } => Stopped::NoSuchCall,
+        }
+    }
+}
+
+/// The document of this name. Its schedule can be played.
+pub fn document(alloc: Global, name: &str) -> Result<Document, Stopped>
+    ensures { IfOk result CanBePlayed }
+{
     let (want, text) = match name {
         "check" => (Want::Check, CHECK),
         "cell" => (Want::Play, CELL),
         "stalled" => (Want::Play, STALLED),
+        "meeting" => (Want::Play, MEETING),
+        "handed_on" => (Want::Play, HANDED_ON),
+        "refused" => (Want::Play, REFUSED),
         _ => return Err(Stopped::NoSuchCall),
     };
     match read_document(alloc, want, text.as_bytes()) {
         Ok(document) => Ok(document),
         Err(DocError::NoMemory) => Err(Stopped::NoMemory),
         Err(_) => Err(Stopped::NoSuchCall),
-    }
-}
-
-/// The schedule of the cell's document of this name.
-pub fn cell(alloc: Global, name: &str) -> Result<CellSchedule<Band>, Stopped> {
-    match document(alloc, name)? {
-        Document::Cell(schedule) => Ok(schedule),
-        _ => Err(Stopped::NoSuchCall),
     }
 }

@@ -1,6 +1,7 @@
 use crate::documents::Stopped;
 use fourslot_core::CellReport;
 use history_core::{Band, History};
+use matrix_core::MatrixReport;
 use schedule_text::Document;
 use std::io;
 
@@ -25,12 +26,29 @@ pub fn document(rt: &impl Print, document: &Document) -> io::Result<()> {
             println!(rt; "{:?} {}", schedule.writes.as_slice(), schedule.reads)?;
             println!(rt; "{:?}", schedule.steps.as_slice())
         }
+        Document::Matrix { schedule, titled } => {
+            println!(rt; "{:?}", schedule.opening)?;
+            for term in schedule.terms.as_slice() {
+                print!(rt; "{}", term.limit)?;
+                for plan in term.plans.as_slice() {
+                    print!(rt; " {:?}", plan.as_slice())?;
+                }
+                println!(rt; " {:?}", term.steps.as_slice())?;
+            }
+            println!(rt; "{titled}")
+        }
     }
 }
 
 pub fn cell_report(rt: &impl Print, report: &CellReport<Band>) -> io::Result<()> {
     history(rt, &report.history)?;
     println!(rt; "{:?}", report.slots.as_slice())?;
+    println!(rt; "{:?}", report.order.as_slice())
+}
+
+pub fn matrix_report(rt: &impl Print, report: &MatrixReport<Band>) -> io::Result<()> {
+    history(rt, &report.history)?;
+    println!(rt; "{:?}", report.stamps.as_slice())?;
     println!(rt; "{:?}", report.order.as_slice())
 }
 
