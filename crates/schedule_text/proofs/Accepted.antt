@@ -1,5 +1,5 @@
 -- An accepted schedule meets the condition of its player, since each part of that condition is a range that is tested.
-use Rattle.std.proofs.Common.{◌≡◌, ℕ, ◌+◌, ◌<◌, ◌≤◌, List, [], ◌∷◌, length, refl, ap, sym, ◌∙◌, arith, Bool, true, false, ◌&&◌, Option, Some, None, Result, Ok, Err, IfOk, sum_by, subst, suc, zero, nat_lt, nat_le, slice_get}
+use Rattle.std.proofs.Common.{◌≡◌, ℕ, ◌+◌, List, [], ◌∷◌, length, refl, ap, sym, ◌∙◌, arith, Bool, true, false, ◌&&◌, Some, Ok, sum_by, subst, suc, zero, nat_lt, slice_get}
 use Rattle.std.proofs.lemmas.Bool.{leb-true, ltb-true}
 use Rattle.std.proofs.lemmas.List.Sums.{sum_by-cons}
 use Rattle.std.specs.List.{list_all}
@@ -10,7 +10,7 @@ use Rattle.matrix_core.specs.Runs.{CanPlay, IsTerm, step_count}
 use Rattle.matrix_core.specs.declared.schedule.MatrixTerm.{MatrixTerm}
 use Rattle.schedule_text.specs.Matrix.{single}
 use Rattle.schedule_text.specs.Plans.{are_of, plans_in_range, term_in_range, terms_in_range}
-use Rattle.schedule_text.specs.Ranges.{limit_in_range, steps_in_range}
+use Rattle.schedule_text.specs.Ranges.{limit_in_range}
 use Rattle.schedule_text.specs.Refusals.{must}
 use Rattle.schedule_text.specs.declared.document.DocError.{DocError}
 

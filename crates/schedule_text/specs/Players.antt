@@ -1,5 +1,4 @@
 -- What the schedule of an accepted document has for its player (this project's own).
-use Rattle.std.specs.Prelude.{Result, Ok, Err}
 use Rattle.matrix_core.specs.Runs.{CanPlay}
 use Rattle.schedule_text.specs.declared.document.Document.{Document}
 use Rattle.schedule_text.specs.declared.document.Document.TheVariants.{Check, Cell, Matrix}

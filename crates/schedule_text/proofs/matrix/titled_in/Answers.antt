@@ -1,6 +1,5 @@
 -- The schedule can be played, as its terms passed their range.
-use Rattle.std.proofs.Common.{◌≡◌, ◌∙◌, sym, subst, ap, true}
-use Rattle.matrix_core.specs.Runs.{CanPlay}
+use Rattle.std.proofs.Common.{◌≡◌, ◌∙◌, sym, true}
 use Rattle.schedule_text.specs.Plans.{terms_in_range}
 use Rattle.schedule_text.proofs.Accepted.{must_holds, terms_can_play}
 use Rattle.schedule_text.proofs.matrix.titled_in.Goals as goal
