@@ -51,6 +51,7 @@ pub struct FourSlotPut<T: Copy> {
     pub seat: Place<T>,
     /// The pairs' bits, as this pass stored them last.
     remembered: Sides<bool>,
+    /// The opening: the notes' default in proofs.
     spare: T,
     ghost known: { seat.me ≡ (Writer (writer_or (first_writer spare) seat.me.0), []) },
     ghost idle: { (writer_or (first_writer spare) seat.me.0).stage ≡ W5 },
@@ -73,6 +74,7 @@ pub struct FourSlotGet<T: Copy> {
 #[derive(Drop)]
 pub struct FourSlotTold<T: Copy> {
     pub seat: Place<T>,
+    /// The opening: the record's default in proofs.
     spare: T,
     ghost known: { seat.me ≡ (Told (snap (receipt_or spare seat.me.0)), []) },
 }

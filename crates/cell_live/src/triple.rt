@@ -43,6 +43,7 @@ pub struct TripleCell<T: Lawful> {
 pub struct TriplePut<T: Copy> {
     pub seat: Place<T>,
     slot: usize,
+    /// The opening: the notes' default in proofs.
     spare: T,
     ghost known: { seat.me.0 ≡ Put (put_or (first_put spare) seat.me.0) },
     ghost ready: { let p = put_or (first_put spare) seat.me.0 in (p.has ≡ 1) × (p.slot ≡ slot) },
@@ -55,6 +56,7 @@ pub struct TriplePut<T: Copy> {
 pub struct TripleGet<T: Copy> {
     pub seat: Place<T>,
     slot: usize,
+    /// The opening: the notes' default in proofs.
     spare: T,
     ghost known: { seat.me.0 ≡ Get (get_or (first_get spare) seat.me.0) },
     ghost ready: { let g = get_or (first_get spare) seat.me.0 in (g.has ≡ 1) × (g.slot ≡ slot) × (g.asked ≡ 0) },
@@ -66,6 +68,7 @@ pub struct TripleGet<T: Copy> {
 #[derive(Drop)]
 pub struct TripleTold<T: Copy> {
     pub seat: Place<T>,
+    /// The opening: the record's default in proofs.
     spare: T,
     ghost known: { seat.me ≡ (Told (snap (told_or spare seat.me.0)), []) },
 }
