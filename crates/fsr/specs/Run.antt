@@ -51,8 +51,8 @@ pub record Runs (command : Option Want) (in_old in_new out_old out_new : Option 
   pub told : status ≢ 4 → status ≢ 5 → IsOutcome command taken (record { text = sent; status = status })
   pub whole : status ≢ 2 → status ≢ 4 → status ≢ 5 → IsWhole taken in_new
 
--- The failures of the input and of the output before and after: status 5 is answered exactly where one more was counted,
--- no stream is used after its first failure, and the output isn't used after a failure of the input.
+-- The failures of the input and of the output before and after: status 5 is answered exactly where one more was counted, and
+-- both together count one more at most.
 pub record Fails (in_old in_new out_old out_new status : ℕ) : Type 0 where
   pub five : (status ≡ 5) ↔ ((in_old < in_new) ⊎ (out_old < out_new))
   pub once : in_new + out_new ≤ in_old + out_old + 1

@@ -1,4 +1,4 @@
-//! `fsr`: checks a history that comes as a document on standard input.
+//! `fsr`: checks a history, or plays a schedule, that comes as a document on standard input.
 #![tactic(auto)]
 
 mod command;

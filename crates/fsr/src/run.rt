@@ -1,6 +1,6 @@
 ghost use Rattle.std.specs.Prelude.{◌≡◌, ◌≤◌, ◌+◌, ◌⊎◌, Some, map};
 ghost use Rattle.fsr.specs.Command.{command_of};
-ghost use Rattle.fsr.specs.Run.{Fails, Runs};
+ghost use Rattle.fsr.specs.Run.{Fails, Runs, fault_status};
 ghost use Rattle.fsr.specs.Stream.{HasRoom};
 ghost use Rattle.fsr.specs.Transfer.{Tells};
 
@@ -92,8 +92,6 @@ fn run_command<I: Source, O: Sink, E: Sink>(
         Err(fault) => tell_fault(alloc, faults, &fault),
     }
 }
-
-ghost use Rattle.fsr.specs.Run.{fault_status};
 
 /// Tells the fault, and gives its status, or that of want of memory where its line found none.
 fn tell_fault<E: Sink>(alloc: Global, faults: &mut E, fault: &Fault) -> u8
