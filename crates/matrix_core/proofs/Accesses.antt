@@ -1,10 +1,10 @@
 -- An access changes the progress of one process, and a row write also the record of one cell: what it leaves, in one record.
-use Rattle.std.proofs.Common.{◌≡◌, ◌≢◌, ℕ, ◌+◌, ◌-◌, ◌*◌, ◌<◌, ◌≤◌, length, set, Bool, true, false, refl, arith, ◌⊎◌, inl, inr, ⊎_elim}
+use Rattle.std.proofs.Common.{◌≡◌, ◌≢◌, ℕ, ◌+◌, ◌-◌, ◌*◌, ◌<◌, ◌≤◌, length, set, Bool, true, false, refl, sym, ◌∙◌, ap, arith, ◌⊎◌, inl, inr, ⊎_elim}
 use Rattle.std.specs.Prelude.{slice_get, Some, nat_lt, nat_eq, if◌then◌else◌}
 use Rattle.std.proofs.lemmas.Bool.{cases_lt}
 use Rattle.std.proofs.lemmas.Bool.Decides.{nat_tests}
 use Rattle.std.proofs.lemmas.List.{length-set}
-use Rattle.std.proofs.lemmas.Option.{slice_get_within}
+use Rattle.std.proofs.lemmas.Option.{slice_get_within, same_Some}
 use Rattle.history_core.specs.declared.play.Wish.{Wish}
 use Rattle.history_core.specs.declared.play.Wish.TheVariants.{Write, Read}
 use Rattle.matrix_core.specs.declared.stamp.Stamped.{Stamped}
@@ -154,3 +154,14 @@ module _ {R : Type 0} where
 
   pub last_read_fits : (n limit i : ℕ) (wish : Wish R) (line : Progress R) (answer : Stamped R) → line.done + 2 ≡ n → Fits (after_read n limit i wish line answer).outcome (begun wish line).wish
   last_read_fits n limit i wish line answer e = rw (after_last_read n limit i wish line answer e) (choice_fits limit i (begun wish line).wish (gathered answer (begun wish line)))
+
+  -- the last access of an operation leaves what the operation answers
+  pub last_access : (m m' : Matrix R) (who : ℕ) (wish : Wish R) (line next : Progress R) → IsMatrix m → m' ≡ after_access m who wish → slice_get m.lines who ≡ Some line → line.done + 3 ≡ 2 * size m
+      → slice_get m'.lines who ≡ Some next → next.outcome ≡ line.outcome
+  last_access m m' who wish line next im e at last here =
+    let acc = access_of m who wish line im at in
+    let same_next : next ≡ acc.0 = same_Some next acc.0 (sym here ∙ (ap (λ (z : Matrix R). slice_get z.lines who) e ∙ acc.1.here)) in
+    let two : 2 ≤ size m = im.at_least in
+    ap (λ (l : Progress R). l.outcome) same_next ∙ ⊎_elim
+      (λ (r : IsRead m (after_access m who wish) who wish line acc.0). let ph : line.done + 1 < size m = r.phase in absurd (omega arith))
+      (λ (r : IsWrite m (after_access m who wish) who line acc.0). ap (λ (l : Progress R). l.outcome) r.after) acc.1.kind

@@ -122,12 +122,11 @@ module _ {R : Type 0} where
   abbrev pub after_step : List (List (Wish R)) → Run R → ℕ → Run R
   after_step plans run who = stepped plans run who (slice_get run.matrix.lines who)
 
-  -- a process whose progress is `line` can make an access: where that is not its first one, its operation has its place
-  pub record CanAccess (run : Run R) (who : ℕ) (line : Progress R) : Type 0 where
+  -- a process can make an access: its operation has its place
+  pub record CanAccess (run : Run R) (who : ℕ) : Type 0 where
     pub matrix : IsMatrix run.matrix
     pub processes : length run.seats ≡ size run.matrix
     pub inside : who < length run.seats
-    pub at : slice_get run.matrix.lines who ≡ Some line
     pub place : place_of run who < length run.ops
     pub stamps : length run.stamps ≡ length run.ops
     pub room : run.now < max_position

@@ -88,12 +88,12 @@ impl<R: Copy> MatrixCore<R> {
     }
 
     /// How far a process is.
-    pub(crate) fn line(&self, process: usize) -> Progress<R>
+    pub(crate) fn line(&self, process: usize) -> &Progress<R>
         requires { process < size self.now }
-        ensures at { slice_get self.now.lines process ≡ Some result }
+        ensures at { slice_get self.now.lines process ≡ Some result.now }
         ensures matrix { IsMatrix self.now }
     {
-        self.lines[process]
+        &self.lines[process]
     }
 
     /// The greatest record that a process has, of equal stamps that of the smaller process number, where all began with
@@ -120,33 +120,35 @@ impl<R: Copy> MatrixCore<R> {
         ensures size { size self.new ≡ size self.old }
     {
         let n = self.lines.len();
-        let line = line_at(&self.lines, process);
-        if line.done + 1 < n {
-            let from = other(process, line.done);
+        let done = done_at(&self.lines, process);
+        if done + 1 < n {
+            let from = other(process, done);
             let answer = cell_at(&self.cells, cell_index(n, from, process));
-            self.lines[process] = read_line(n, self.limit, process, line, wish, answer);
+            read_line(n, self.limit, process, &mut self.lines[process], wish, answer);
             return MatrixStage::Got { from };
         }
-        let to = other(process, line.done + 1 - n);
-        put_cell(&mut self.cells, cell_index(n, process, to), line.own);
-        self.lines[process] = write_line(n, line);
-        if line.done + 3 == 2 * n {
-            MatrixStage::Done(line.outcome)
+        let to = other(process, done + 1 - n);
+        put_cell(&mut self.cells, cell_index(n, process, to), self.lines[process].own);
+        let stage = if done + 3 == 2 * n {
+            MatrixStage::Done(self.lines[process].outcome)
         } else {
             MatrixStage::Put { to }
-        }
+        };
+        write_line(n, &mut self.lines[process]);
+        stage
     }
 }
 
-fn line_at<R: Copy>(lines: &[Progress<R>], process: usize) -> Progress<R>
+/// The accesses that a process's operation has made.
+fn done_at<R: Copy>(lines: &[Progress<R>], process: usize) -> usize
     requires process { process < length lines.now }
     requires small { length lines.now ≤ 16 }
     requires inside { (i : ℕ) (line : Progress R) → slice_get lines.now i ≡ Some line → line.done + 3 ≤ 2 * length lines.now }
-    ensures at { slice_get lines.now process ≡ Some result }
-    ensures inside { result.done + 3 ≤ 2 * length lines.now }
+    ensures at { (line : Progress R) × (slice_get lines.now process ≡ Some line) × (result ≡ line.done) }
+    ensures inside { result + 3 ≤ 2 * length lines.now }
     ensures small { length lines.now ≤ 16 }
 {
-    lines[process]
+    lines[process].done
 }
 
 fn cell_at<R: Copy>(cells: &[Stamped<R>], index: usize) -> Stamped<R>
@@ -197,18 +199,10 @@ fn other(process: usize, k: usize) -> usize
     if k < process { k } else { k + 1 }
 }
 
-fn read_line<R: Copy>(
-    n: usize,
-    limit: u64,
-    process: usize,
-    line: Progress<R>,
-    wish: Wish<R>,
-    answer: Stamped<R>,
-) -> Progress<R>
-    requires { line.done + 1 < n }
-    ensures { result ≡ after_read n limit process wish line answer }
+fn read_line<R: Copy>(n: usize, limit: u64, process: usize, line: &mut Progress<R>, wish: Wish<R>, answer: Stamped<R>)
+    requires { line.old.done + 1 < n }
+    ensures { line.new ≡ after_read n limit process wish line.old answer }
 {
-    let mut line = line;
     if line.done == 0 {
         line.wish = wish;
         line.seen = line.own;
@@ -216,16 +210,13 @@ fn read_line<R: Copy>(
     line.seen = line.seen.or_greater(answer);
     line.done += 1;
     if line.done + 1 == n {
-        choose(limit, process, line)
-    } else {
-        line
+        choose(limit, process, line);
     }
 }
 
-fn choose<R: Copy>(limit: u64, process: usize, line: Progress<R>) -> Progress<R>
-    ensures { result ≡ chosen limit process line }
+fn choose<R: Copy>(limit: u64, process: usize, line: &mut Progress<R>)
+    ensures { line.new ≡ chosen limit process line.old }
 {
-    let mut line = line;
     match line.wish {
         Wish::Read => {
             line.own = line.seen;
@@ -242,19 +233,12 @@ fn choose<R: Copy>(limit: u64, process: usize, line: Progress<R>) -> Progress<R>
             }
         },
     }
-    line
 }
 
-fn write_line<R: Copy>(n: usize, line: Progress<R>) -> Progress<R>
-    requires inside { line.done + 3 ≤ 2 * n }
+fn write_line<R: Copy>(n: usize, line: &mut Progress<R>)
+    requires inside { line.old.done + 3 ≤ 2 * n }
     requires small { n ≤ 16 }
-    ensures { result ≡ after_write n line }
+    ensures { line.new ≡ after_write n line.old }
 {
-    let mut line = line;
-    line.done = if line.done + 3 == 2 * n {
-        0
-    } else {
-        line.done + 1
-    };
-    line
+    line.done = if line.done + 3 == 2 * n { 0 } else { line.done + 1 };
 }

@@ -4,9 +4,10 @@ ghost use Rattle.std.specs.Prelude.{◌≡◌, ◌+◌, ◌-◌, ◌*◌, ◌<�
 ghost use Rattle.std.specs.List.{fold};
 ghost use Rattle.history_core.specs.Schedules.{HasOperations, IsFirstOverrun, Overruns};
 ghost use Rattle.matrix_core.specs.declared.schedule.MatrixTerm.{MatrixTerm};
+ghost use Rattle.matrix_core.specs.declared.matrix.Progress.{Progress};
 ghost use Rattle.matrix_core.specs.Runs.{begun_op, chose, ended, IsTerm, max_limit, max_position, run_of, span_of, spans_of, step_count};
 
-use crate::matrix::{MatrixCore, Outcome, Progress, filled};
+use crate::matrix::{MatrixCore, Outcome, filled};
 use crate::schedule::MatrixTerm;
 use crate::stamp::Stamp;
 use history_core::{Items, Kind, Op, Wish};
@@ -83,13 +84,12 @@ impl<R: Copy> Play<R> {
         requires { IsReady plans.now self.old who }
         ensures { OnOk result (self.new ≡ after_step plans.now self.old who) }
     {
-        let line = self.core.line(who);
-        let wish = if line.done == 0 {
+        let wish = if self.core.line(who).done == 0 {
             self.begin(plans, who)?
         } else {
             Wish::Read
         };
-        self.access(who, wish, line);
+        self.access(who, wish);
         Ok(())
     }
 
@@ -112,22 +112,23 @@ impl<R: Copy> Play<R> {
         Ok(wish)
     }
 
-    /// The access that stands next for a process, whose progress before it is `line`.
-    fn access(&mut self, who: usize, wish: Wish<R>, line: Progress<R>)
-        requires { CanAccess self.old who line }
-        ensures { self.new ≡ accesses self.old who wish line }
+    /// The access that stands next for a process.
+    fn access(&mut self, who: usize, wish: Wish<R>)
+        requires { CanAccess self.old who }
+        ensures { (line : Progress R) × (slice_get self.old.matrix.lines who ≡ Some line) × (self.new ≡ accesses self.old who wish line) }
     {
         let n = self.seats.len();
         let now = self.now;
         let place = self.seats[who].place;
+        let done = self.core.line(who).done;
         self.core.step(who, wish);
         self.now += 1;
-        if line.done + 2 == n {
+        if done + 2 == n {
             let line = self.core.line(who);
             self.ops[place] = chose(line.outcome, self.ops[place]);
             self.stamps[place] = Some(line.own.stamp);
-        } else if line.done + 3 == 2 * n {
-            self.ops[place] = ended(now, line.outcome, self.ops[place]);
+        } else if done + 3 == 2 * n {
+            self.ops[place] = ended(now, self.core.line(who).outcome, self.ops[place]);
         }
     }
 }

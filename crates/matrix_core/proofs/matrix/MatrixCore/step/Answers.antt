@@ -1,89 +1,172 @@
 -- A column read is the first kind of access and a row write the second; the fields that the code changes are those of the event.
-use Rattle.std.proofs.Common.{rules, arith, sym, ◌∙◌, ap, ◌<◌, ◌≤◌, ◌+◌, ◌*◌, length, ◌≡◌}
+use Rattle.matrix_core.proofs.Steps.{same as same_numbers, not_same}
+use Rattle.std.proofs.Common.{Bool, true, false, rules, refl, arith, sym, ◌∙◌, ap, subst, ◌<◌, ◌≤◌, ◌+◌, ◌*◌, length, ◌≡◌}
 use Rattle.std.specs.Prelude.{slice_get, Some, slice_set, ◌-◌, nat_eq, if◌then◌else◌}
 use Rattle.std.proofs.lemmas.Bool.Decides.{nat_tests}
 use Rattle.std.proofs.lemmas.List.{length-set}
+use Rattle.std.proofs.lemmas.Option.{same_Some, slice_get_read, slice_get_within}
 use Rattle.matrix_core.specs.declared.matrix.MatrixStage.{MatrixStage}
 use Rattle.matrix_core.specs.declared.matrix.MatrixStage.TheVariants.{Done, Put, Got}
+use Rattle.matrix_core.specs.declared.matrix.Progress.{Progress}
 use Rattle.matrix_core.specs.Events.{Matrix, cell_of, cell_place, other, after_access, stage_of, after_write}
 use Rattle.matrix_core.proofs.Matrices.{keeps_line, keeps_cell, read_is, write_is, got_is, put_is, read_done, write_done}
 use Rattle.matrix_core.proofs.matrix.MatrixCore.step.Goals as goal
-use Rattle.matrix_core.proofs.matrix.MatrixCore.step.Goals.{then-line-n-2, else-line-n-2}
+use Rattle.matrix_core.proofs.matrix.MatrixCore.step.Goals.{then-done-n-2, else-done-n-2}
 
-pub line_at-line-requires-clause-inside : goal.line_at-line-requires-clause-inside
-line_at-line-requires-clause-inside g c = rw c.deref.ensures.value c.self.invariant.inside
+pub done_at-done-requires-clause-inside : goal.done_at-done-requires-clause-inside
+done_at-done-requires-clause-inside g c = rw c.deref.ensures.value c.self.invariant.inside
+
+pub read_line-requires : goal.read_line-requires
+read_line-requires g c =
+    let n : c.len-n.result ≡ length c.self.inside.lines.items = search rules in
+    let m : Matrix g.row.R.Denot = record { limit = c.self.inside.limit; cells = c.self.inside.cells.items; lines = c.self.inside.lines.items } in
+    let was = c.done_at-done.ensures.at in
+    let at_was : slice_get m.lines c.args.process ≡ Some was.0 = rw c.deref.ensures.value at was.1 in
+    let lt : c.args.process < length m.lines = slice_get_within m.lines c.args.process was.0 at_was in
+    let line : Progress g.row.R.Denot = c.index_mut.result.now in
+    let at : slice_get m.lines c.args.process ≡ Some line = slice_get_read m.lines _ c.args.process line refl lt c.index_mut.ensures.value in
+    let same : was.0 ≡ line = same_Some was.0 line (sym at_was ∙ at) in
+    let done : c.done_at-done.result ≡ line.done = was.2 ∙ ap (λ (l : Progress g.row.R.Denot). l.done) same in
+    subst (λ d. d + 1 < c.len-n.result) done c.if-done-n.true
 
 pub invariant_of-self : goal.invariant_of-self
 invariant_of-self g c =
     let n : c.len-n.result ≡ length c.self.inside.lines.items = search rules in
     let m : Matrix g.row.R.Denot = record { limit = c.self.inside.limit; cells = c.self.inside.cells.items; lines = c.self.inside.lines.items } in
-    let line = rw n at c.read_line.ensures in
-    let d = read_done (length m.lines) m.limit c.args.process c.args.wish c.line_at-line.result c.cell_at-answer.result in
-    let e : c.read_line.result.done ≡ c.line_at-line.result.done + 1 = ap (λ z. z.done) line ∙ d in
-    let t : c.line_at-line.result.done + 1 < length m.lines = rw n at c.if-line-n.true in
-    keeps_line m c.args.process c.read_line.result c.self.invariant (let a = c.self.invariant.at_least in omega arith)
+    let was = c.done_at-done.ensures.at in
+    let at_was : slice_get m.lines c.args.process ≡ Some was.0 = rw c.deref.ensures.value at was.1 in
+    let lt : c.args.process < length m.lines = slice_get_within m.lines c.args.process was.0 at_was in
+    let line : Progress g.row.R.Denot = c.index_mut.result.now in
+    let at : slice_get m.lines c.args.process ≡ Some line = slice_get_read m.lines _ c.args.process line refl lt c.index_mut.ensures.value in
+    let same : was.0 ≡ line = same_Some was.0 line (sym at_was ∙ at) in
+    let done : c.done_at-done.result ≡ line.done = was.2 ∙ ap (λ (l : Progress g.row.R.Denot). l.done) same in
+    let t : line.done + 1 < length m.lines = subst (λ d. d + 1 < length m.lines) done (rw n at c.if-done-n.true) in
+    let is = rw n at c.read_line.ensures in
+    let e : c.read_line.new.line.done ≡ line.done + 1 = ap (λ (z : Progress g.row.R.Denot). z.done) is ∙ read_done (length m.lines) m.limit c.args.process c.args.wish line c.cell_at-answer.result in
+    keeps_line m c.args.process c.read_line.new.line c.self.invariant (let a = c.self.invariant.at_least in omega arith)
 
-pub returns-then-line-n-clause-matrix : goal.returns-then-line-n-clause-matrix
-returns-then-line-n-clause-matrix g c =
+pub returns-then-done-n-clause-matrix : goal.returns-then-done-n-clause-matrix
+returns-then-done-n-clause-matrix g c =
     let n : c.len-n.result ≡ length c.self.inside.lines.items = search rules in
     let m : Matrix g.row.R.Denot = record { limit = c.self.inside.limit; cells = c.self.inside.cells.items; lines = c.self.inside.lines.items } in
-    let at : slice_get m.lines c.args.process ≡ Some c.line_at-line.result = rw c.deref.ensures.value at c.line_at-line.ensures.at in
-    let t : c.line_at-line.result.done + 1 < length m.lines = rw n at c.if-line-n.true in
-    let line = rw n at c.read_line.ensures in
-    let answer : cell_of m (other c.args.process c.line_at-line.result.done) c.args.process ≡ Some c.cell_at-answer.result
-    = rw (c.deref-then-line-n.ensures.value, c.cell_index.ensures.place, c.other-from.ensures, n) at c.cell_at-answer.ensures in
-    ap (λ z. let r : Matrix g.row.R.Denot = record m { lines = slice_set m.lines c.args.process z } in r) line
-    ∙ (sym (read_is m c.args.process c.args.wish c.line_at-line.result c.cell_at-answer.result at t answer)
+    let was = c.done_at-done.ensures.at in
+    let at_was : slice_get m.lines c.args.process ≡ Some was.0 = rw c.deref.ensures.value at was.1 in
+    let lt : c.args.process < length m.lines = slice_get_within m.lines c.args.process was.0 at_was in
+    let line : Progress g.row.R.Denot = c.index_mut.result.now in
+    let at : slice_get m.lines c.args.process ≡ Some line = slice_get_read m.lines _ c.args.process line refl lt c.index_mut.ensures.value in
+    let same : was.0 ≡ line = same_Some was.0 line (sym at_was ∙ at) in
+    let done : c.done_at-done.result ≡ line.done = was.2 ∙ ap (λ (l : Progress g.row.R.Denot). l.done) same in
+    let t : line.done + 1 < length m.lines = subst (λ d. d + 1 < length m.lines) done (rw n at c.if-done-n.true) in
+    let is = rw n at c.read_line.ensures in
+    let answer : cell_of m (other c.args.process line.done) c.args.process ≡ Some c.cell_at-answer.result
+    = subst (λ d. cell_of m (other c.args.process d) c.args.process ≡ Some c.cell_at-answer.result) done (rw (c.deref-then-done-n.ensures.value, c.cell_index.ensures.place, c.other-from.ensures, n) at c.cell_at-answer.ensures) in
+    ap (λ z. let r : Matrix g.row.R.Denot = record m { lines = slice_set m.lines c.args.process z } in r) is
+    ∙ (sym (read_is m c.args.process c.args.wish line c.cell_at-answer.result at t answer)
     ∙ ap (λ (z : Matrix g.row.R.Denot). after_access z c.args.process c.args.wish) c.self.view_is)
 
-pub returns-then-line-n-clause-stage : goal.returns-then-line-n-clause-stage
-returns-then-line-n-clause-stage g c =
+pub returns-then-done-n-clause-stage : goal.returns-then-done-n-clause-stage
+returns-then-done-n-clause-stage g c =
     let n : c.len-n.result ≡ length c.self.inside.lines.items = search rules in
     let m : Matrix g.row.R.Denot = record { limit = c.self.inside.limit; cells = c.self.inside.cells.items; lines = c.self.inside.lines.items } in
-    let at : slice_get m.lines c.args.process ≡ Some c.line_at-line.result = rw c.deref.ensures.value at c.line_at-line.ensures.at in
-    let t : c.line_at-line.result.done + 1 < length m.lines = rw n at c.if-line-n.true in
-    ap (λ k. let r : MatrixStage g.row.R.Denot = Got k in r) c.other-from.ensures
-    ∙ (sym (got_is m c.args.process c.line_at-line.result at t)
+    let was = c.done_at-done.ensures.at in
+    let at_was : slice_get m.lines c.args.process ≡ Some was.0 = rw c.deref.ensures.value at was.1 in
+    let lt : c.args.process < length m.lines = slice_get_within m.lines c.args.process was.0 at_was in
+    let line : Progress g.row.R.Denot = c.index_mut.result.now in
+    let at : slice_get m.lines c.args.process ≡ Some line = slice_get_read m.lines _ c.args.process line refl lt c.index_mut.ensures.value in
+    let same : was.0 ≡ line = same_Some was.0 line (sym at_was ∙ at) in
+    let done : c.done_at-done.result ≡ line.done = was.2 ∙ ap (λ (l : Progress g.row.R.Denot). l.done) same in
+    let t : line.done + 1 < length m.lines = subst (λ d. d + 1 < length m.lines) done (rw n at c.if-done-n.true) in
+    let is = rw n at c.read_line.ensures in
+    ap (λ k. let r : MatrixStage g.row.R.Denot = Got k in r) (c.other-from.ensures ∙ ap (other c.args.process) done)
+    ∙ (sym (got_is m c.args.process line at t)
     ∙ ap (λ (z : Matrix g.row.R.Denot). stage_of z c.args.process) c.self.view_is)
+
+pub write_line-requires-clause-inside : goal.write_line-requires-clause-inside
+write_line-requires-clause-inside g c =
+    let n : c.len-n.result ≡ length c.self.inside.lines.items = search rules in
+    let m : Matrix g.row.R.Denot = record { limit = c.self.inside.limit; cells = c.self.inside.cells.items; lines = c.self.inside.lines.items } in
+    let was = c.done_at-done.ensures.at in
+    let at_was : slice_get m.lines c.args.process ≡ Some was.0 = rw c.deref.ensures.value at was.1 in
+    let lt : c.args.process < length m.lines = slice_get_within m.lines c.args.process was.0 at_was in
+    let line : Progress g.row.R.Denot = c.index_mut-2.result.now in
+    let at : slice_get m.lines c.args.process ≡ Some line = slice_get_read m.lines _ c.args.process line refl lt c.index_mut-2.ensures.value in
+    let same : was.0 ≡ line = same_Some was.0 line (sym at_was ∙ at) in
+    let done : c.done_at-done.result ≡ line.done = was.2 ∙ ap (λ (l : Progress g.row.R.Denot). l.done) same in
+    rw n (c.self.invariant.inside c.args.process line at)
 
 pub invariant_of-self-2 : goal.invariant_of-self-2
 invariant_of-self-2 g c =
     let n : c.len-n.result ≡ length c.self.inside.lines.items = search rules in
     let m : Matrix g.row.R.Denot = record { limit = c.self.inside.limit; cells = c.self.inside.cells.items; lines = c.self.inside.lines.items } in
-    let line = rw n at c.write_line.ensures in
-    let at : slice_get m.lines c.args.process ≡ Some c.line_at-line.result = rw c.deref.ensures.value at c.line_at-line.ensures.at in
-    let inside : c.line_at-line.result.done + 3 ≤ 2 * length m.lines = c.self.invariant.inside c.args.process c.line_at-line.result at in
-    let d : (after_write (length m.lines) c.line_at-line.result).done + 3 ≤ 2 * length m.lines = write_done (length m.lines) c.line_at-line.result inside c.self.invariant.at_least in
-    let e : c.write_line.result.done ≡ (after_write (length m.lines) c.line_at-line.result).done = ap (λ z. z.done) line in
-    let m' : Matrix g.row.R.Denot = record m { cells = slice_set m.cells c.cell_index-2.result c.line_at-line.result.own } in
-    rw c.put_cell.ensures (keeps_line m' c.args.process c.write_line.result (keeps_cell m c.cell_index-2.result c.line_at-line.result.own c.self.invariant) (rw e d))
+    let was = c.done_at-done.ensures.at in
+    let at_was : slice_get m.lines c.args.process ≡ Some was.0 = rw c.deref.ensures.value at was.1 in
+    let lt : c.args.process < length m.lines = slice_get_within m.lines c.args.process was.0 at_was in
+    let line : Progress g.row.R.Denot = c.index_mut-2.result.now in
+    let at : slice_get m.lines c.args.process ≡ Some line = slice_get_read m.lines _ c.args.process line refl lt c.index_mut-2.ensures.value in
+    let same : was.0 ≡ line = same_Some was.0 line (sym at_was ∙ at) in
+    let done : c.done_at-done.result ≡ line.done = was.2 ∙ ap (λ (l : Progress g.row.R.Denot). l.done) same in
+    let t : length m.lines ≤ line.done + 1 = subst (λ d. length m.lines ≤ d + 1) done (rw n at c.if-done-n.false) in
+    let is = rw n at c.write_line.ensures in
+    let at_own : slice_get m.lines c.args.process ≡ Some c.index.result.now = slice_get_read m.lines _ c.args.process c.index.result.now refl lt c.index.ensures in
+    let own : c.index.result.now.own ≡ line.own = ap (λ (l : Progress g.row.R.Denot). l.own) (same_Some c.index.result.now line (sym at_own ∙ at)) in
+    let inside : line.done + 3 ≤ 2 * length m.lines = c.self.invariant.inside c.args.process line at in
+    let d : (after_write (length m.lines) line).done + 3 ≤ 2 * length m.lines = write_done (length m.lines) line inside c.self.invariant.at_least in
+    let e : c.write_line.new.line.done ≡ (after_write (length m.lines) line).done = ap (λ (z : Progress g.row.R.Denot). z.done) is in
+    let m' : Matrix g.row.R.Denot = record m { cells = slice_set m.cells c.cell_index-2.result c.index.result.now.own } in
+    rw c.put_cell.ensures (keeps_line m' c.args.process c.write_line.new.line (keeps_cell m c.cell_index-2.result c.index.result.now.own c.self.invariant) (rw e d))
 
 pub returns-clause-matrix : goal.returns-clause-matrix
 returns-clause-matrix g c =
     let n : c.len-n.result ≡ length c.self.inside.lines.items = search rules in
     let m : Matrix g.row.R.Denot = record { limit = c.self.inside.limit; cells = c.self.inside.cells.items; lines = c.self.inside.lines.items } in
-    let at : slice_get m.lines c.args.process ≡ Some c.line_at-line.result = rw c.deref.ensures.value at c.line_at-line.ensures.at in
-    let t : length m.lines ≤ c.line_at-line.result.done + 1 = rw n at c.if-line-n.false in
-    let line = rw n at c.write_line.ensures in
-    let cells : c.put_cell.new.cells.items ≡ slice_set m.cells (cell_place (length m.lines) c.args.process (other c.args.process (c.line_at-line.result.done + 1 - length m.lines))) c.line_at-line.result.own
-    = rw (c.cell_index-2.ensures.place, c.other-to.ensures, n) at c.put_cell.ensures in
-    rw cells (ap (λ z. let r : Matrix g.row.R.Denot = record m { cells = slice_set m.cells (cell_place (length m.lines) c.args.process (other c.args.process (c.line_at-line.result.done + 1 - length m.lines))) c.line_at-line.result.own; lines = slice_set m.lines c.args.process z } in r) line
-    ∙ (sym (write_is m c.args.process c.args.wish c.line_at-line.result at t)
+    let was = c.done_at-done.ensures.at in
+    let at_was : slice_get m.lines c.args.process ≡ Some was.0 = rw c.deref.ensures.value at was.1 in
+    let lt : c.args.process < length m.lines = slice_get_within m.lines c.args.process was.0 at_was in
+    let line : Progress g.row.R.Denot = c.index_mut-2.result.now in
+    let at : slice_get m.lines c.args.process ≡ Some line = slice_get_read m.lines _ c.args.process line refl lt c.index_mut-2.ensures.value in
+    let same : was.0 ≡ line = same_Some was.0 line (sym at_was ∙ at) in
+    let done : c.done_at-done.result ≡ line.done = was.2 ∙ ap (λ (l : Progress g.row.R.Denot). l.done) same in
+    let t : length m.lines ≤ line.done + 1 = subst (λ d. length m.lines ≤ d + 1) done (rw n at c.if-done-n.false) in
+    let is = rw n at c.write_line.ensures in
+    let at_own : slice_get m.lines c.args.process ≡ Some c.index.result.now = slice_get_read m.lines _ c.args.process c.index.result.now refl lt c.index.ensures in
+    let own : c.index.result.now.own ≡ line.own = ap (λ (l : Progress g.row.R.Denot). l.own) (same_Some c.index.result.now line (sym at_own ∙ at)) in
+    let to : c.other-to.result ≡ other c.args.process (line.done + 1 - length m.lines) = (rw n at c.other-to.ensures) ∙ ap (λ d. other c.args.process (d + 1 - length m.lines)) done in
+    let index : c.cell_index-2.result ≡ cell_place (length m.lines) c.args.process (other c.args.process (line.done + 1 - length m.lines)) = (rw n at c.cell_index-2.ensures.place) ∙ ap (cell_place (length m.lines) c.args.process) to in
+    let cells : c.put_cell.new.cells.items ≡ slice_set m.cells (cell_place (length m.lines) c.args.process (other c.args.process (line.done + 1 - length m.lines))) line.own
+    = c.put_cell.ensures ∙ (ap (λ i. slice_set m.cells i c.index.result.now.own) index ∙ ap (slice_set m.cells (cell_place (length m.lines) c.args.process (other c.args.process (line.done + 1 - length m.lines)))) own) in
+    rw cells (ap (λ z. let r : Matrix g.row.R.Denot = record m { cells = slice_set m.cells (cell_place (length m.lines) c.args.process (other c.args.process (line.done + 1 - length m.lines))) line.own; lines = slice_set m.lines c.args.process z } in r) is
+    ∙ (sym (write_is m c.args.process c.args.wish line at t)
     ∙ ap (λ (z : Matrix g.row.R.Denot). after_access z c.args.process c.args.wish) c.self.view_is))
 
 pub returns-clause-stage : goal.returns-clause-stage
 returns-clause-stage g c =
     let n : c.len-n.result ≡ length c.self.inside.lines.items = search rules in
     let m : Matrix g.row.R.Denot = record { limit = c.self.inside.limit; cells = c.self.inside.cells.items; lines = c.self.inside.lines.items } in
-    let at : slice_get m.lines c.args.process ≡ Some c.line_at-line.result = rw c.deref.ensures.value at c.line_at-line.ensures.at in
-    let t : length m.lines ≤ c.line_at-line.result.done + 1 = rw n at c.if-line-n.false in
-    let p = put_is m c.args.process c.line_at-line.result at t in
-    let s : c.if-line-n-2.result ≡ (if nat_eq (c.line_at-line.result.done + 3) (2 * length m.lines) then Done c.line_at-line.result.outcome else Put (other c.args.process (c.line_at-line.result.done + 1 - length m.lines)))
-    = rw (← n, ← c.other-to.ensures) elim c.if-line-n-2.branch [ then-line-n-2 w ↦ grind (arith, nat_tests) | else-line-n-2 w ↦ grind (arith, nat_tests) ] in
-    s ∙ (sym p ∙ ap (λ (z : Matrix g.row.R.Denot). stage_of z c.args.process) c.self.view_is)
+    let was = c.done_at-done.ensures.at in
+    let at_was : slice_get m.lines c.args.process ≡ Some was.0 = rw c.deref.ensures.value at was.1 in
+    let lt : c.args.process < length m.lines = slice_get_within m.lines c.args.process was.0 at_was in
+    let line : Progress g.row.R.Denot = c.index_mut-2.result.now in
+    let at : slice_get m.lines c.args.process ≡ Some line = slice_get_read m.lines _ c.args.process line refl lt c.index_mut-2.ensures.value in
+    let same : was.0 ≡ line = same_Some was.0 line (sym at_was ∙ at) in
+    let done : c.done_at-done.result ≡ line.done = was.2 ∙ ap (λ (l : Progress g.row.R.Denot). l.done) same in
+    let t : length m.lines ≤ line.done + 1 = subst (λ d. length m.lines ≤ d + 1) done (rw n at c.if-done-n.false) in
+    let is = rw n at c.write_line.ensures in
+    let three : (c.done_at-done.result + 3) ≡ (line.done + 3) = ap (λ d. d + 3) done in
+    let to : c.other-to.result ≡ other c.args.process (line.done + 1 - length m.lines) = (rw n at c.other-to.ensures) ∙ ap (λ d. other c.args.process (d + 1 - length m.lines)) done in
+    let s : c.if-done-n-2.stage ≡ (if nat_eq (line.done + 3) (2 * length m.lines) then Done line.outcome else Put (other c.args.process (line.done + 1 - length m.lines)))
+    = elim c.if-done-n-2.branch [
+        then-done-n-2 w ↦
+          let same_now : w.index-then-done-n-2.result.now ≡ line = same_Some w.index-then-done-n-2.result.now line (sym (slice_get_read m.lines _ c.args.process w.index-then-done-n-2.result.now refl lt w.index-then-done-n-2.ensures) ∙ at) in
+          let b : nat_eq (line.done + 3) (2 * length m.lines) ≡ true = same_numbers _ _ (sym three ∙ (w.if-done-n-2.true ∙ ap (λ k. 2 * k) n)) in
+          w.stage-is ∙ (ap (λ (l : Progress g.row.R.Denot). let r : MatrixStage g.row.R.Denot = Done l.outcome in r) same_now ∙ ap (λ (z : Bool). if z then (let r : MatrixStage g.row.R.Denot = Done line.outcome in r) else Put (other c.args.process (line.done + 1 - length m.lines))) (sym b))
+      | else-done-n-2 w ↦
+          let b : nat_eq (line.done + 3) (2 * length m.lines) ≡ false = not_same _ _ (λ e. w.if-done-n-2.false (three ∙ (e ∙ ap (λ k. 2 * k) (sym n)))) in
+          w.stage-is ∙ (ap (λ k. let r : MatrixStage g.row.R.Denot = Put k in r) to ∙ ap (λ (z : Bool). if z then (let r : MatrixStage g.row.R.Denot = Done line.outcome in r) else Put (other c.args.process (line.done + 1 - length m.lines))) (sym b))
+      ] in
+    s ∙ (sym (put_is m c.args.process line at t) ∙ ap (λ (z : Matrix g.row.R.Denot). stage_of z c.args.process) c.self.view_is)
 
-pub returns-then-line-n-clause-size : goal.returns-then-line-n-clause-size
-returns-then-line-n-clause-size g c = length-set c.self.inside.lines.items c.args.process c.read_line.result ∙ ap (λ (z : Matrix g.row.R.Denot). length z.lines) c.self.view_is
+pub returns-then-done-n-clause-size : goal.returns-then-done-n-clause-size
+returns-then-done-n-clause-size g c = length-set c.self.inside.lines.items c.args.process c.read_line.new.line ∙ ap (λ (z : Matrix g.row.R.Denot). length z.lines) c.self.view_is
 
 pub returns-clause-size : goal.returns-clause-size
-returns-clause-size g c = length-set c.self.inside.lines.items c.args.process c.write_line.result ∙ ap (λ (z : Matrix g.row.R.Denot). length z.lines) c.self.view_is
+returns-clause-size g c = length-set c.self.inside.lines.items c.args.process c.write_line.new.line ∙ ap (λ (z : Matrix g.row.R.Denot). length z.lines) c.self.view_is
