@@ -124,11 +124,22 @@ impl<R: Copy> MatrixCore<R> {
         if done + 1 < n {
             let from = other(process, done);
             let answer = cell_at(&self.cells, cell_index(n, from, process));
-            read_line(n, self.limit, process, &mut self.lines[process], wish, answer);
+            read_line(
+                n,
+                self.limit,
+                process,
+                &mut self.lines[process],
+                wish,
+                answer,
+            );
             return MatrixStage::Got { from };
         }
         let to = other(process, done + 1 - n);
-        put_cell(&mut self.cells, cell_index(n, process, to), self.lines[process].own);
+        put_cell(
+            &mut self.cells,
+            cell_index(n, process, to),
+            self.lines[process].own,
+        );
         let stage = if done + 3 == 2 * n {
             MatrixStage::Done(self.lines[process].outcome)
         } else {
@@ -199,7 +210,14 @@ fn other(process: usize, k: usize) -> usize
     if k < process { k } else { k + 1 }
 }
 
-fn read_line<R: Copy>(n: usize, limit: u64, process: usize, line: &mut Progress<R>, wish: Wish<R>, answer: Stamped<R>)
+fn read_line<R: Copy>(
+    n: usize,
+    limit: u64,
+    process: usize,
+    line: &mut Progress<R>,
+    wish: Wish<R>,
+    answer: Stamped<R>,
+)
     requires { line.old.done + 1 < n }
     ensures { line.new ≡ after_read n limit process wish line.old answer }
 {
@@ -240,5 +258,9 @@ fn write_line<R: Copy>(n: usize, line: &mut Progress<R>)
     requires small { n ≤ 16 }
     ensures { line.new ≡ after_write n line.old }
 {
-    line.done = if line.done + 3 == 2 * n { 0 } else { line.done + 1 };
+    line.done = if line.done + 3 == 2 * n {
+        0
+    } else {
+        line.done + 1
+    };
 }

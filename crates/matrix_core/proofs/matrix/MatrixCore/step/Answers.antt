@@ -2,7 +2,6 @@
 use Rattle.matrix_core.proofs.Steps.{same as same_numbers, not_same}
 use Rattle.std.proofs.Common.{Bool, true, false, rules, refl, arith, sym, ◌∙◌, ap, subst, ◌<◌, ◌≤◌, ◌+◌, ◌*◌, length, ◌≡◌}
 use Rattle.std.specs.Prelude.{slice_get, Some, slice_set, ◌-◌, nat_eq, if◌then◌else◌}
-use Rattle.std.proofs.lemmas.Bool.Decides.{nat_tests}
 use Rattle.std.proofs.lemmas.List.{length-set}
 use Rattle.std.proofs.lemmas.Option.{same_Some, slice_get_read, slice_get_within}
 use Rattle.matrix_core.specs.declared.matrix.MatrixStage.{MatrixStage}
@@ -155,14 +154,14 @@ returns-clause-stage g c =
     let to : c.other-to.result ≡ other c.args.process (line.done + 1 - length m.lines) = (rw n at c.other-to.ensures) ∙ ap (λ d. other c.args.process (d + 1 - length m.lines)) done in
     let s : c.if-done-n-2.stage ≡ (if nat_eq (line.done + 3) (2 * length m.lines) then Done line.outcome else Put (other c.args.process (line.done + 1 - length m.lines)))
     = elim c.if-done-n-2.branch [
-        then-done-n-2 w ↦
+      | then-done-n-2 w ↦
           let same_now : w.index-then-done-n-2.result.now ≡ line = same_Some w.index-then-done-n-2.result.now line (sym (slice_get_read m.lines _ c.args.process w.index-then-done-n-2.result.now refl lt w.index-then-done-n-2.ensures) ∙ at) in
           let b : nat_eq (line.done + 3) (2 * length m.lines) ≡ true = same_numbers _ _ (sym three ∙ (w.if-done-n-2.true ∙ ap (λ k. 2 * k) n)) in
           w.stage-is ∙ (ap (λ (l : Progress g.row.R.Denot). let r : MatrixStage g.row.R.Denot = Done l.outcome in r) same_now ∙ ap (λ (z : Bool). if z then (let r : MatrixStage g.row.R.Denot = Done line.outcome in r) else Put (other c.args.process (line.done + 1 - length m.lines))) (sym b))
       | else-done-n-2 w ↦
           let b : nat_eq (line.done + 3) (2 * length m.lines) ≡ false = not_same _ _ (λ e. w.if-done-n-2.false (three ∙ (e ∙ ap (λ k. 2 * k) (sym n)))) in
           w.stage-is ∙ (ap (λ k. let r : MatrixStage g.row.R.Denot = Put k in r) to ∙ ap (λ (z : Bool). if z then (let r : MatrixStage g.row.R.Denot = Done line.outcome in r) else Put (other c.args.process (line.done + 1 - length m.lines))) (sym b))
-      ] in
+    ] in
     s ∙ (sym (put_is m c.args.process line at t) ∙ ap (λ (z : Matrix g.row.R.Denot). stage_of z c.args.process) c.self.view_is)
 
 pub returns-then-done-n-clause-size : goal.returns-then-done-n-clause-size
