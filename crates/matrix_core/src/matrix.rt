@@ -106,7 +106,7 @@ impl<R: Copy> MatrixCore<R> {
             item: opening,
         };
         for line in &self.lines {
-            greatest = greatest.or_greater(line.own);
+            greatest.raise(&line.own);
         }
         greatest.item
     }
@@ -162,11 +162,11 @@ fn done_at<R: Copy>(lines: &[Progress<R>], process: usize) -> usize
     lines[process].done
 }
 
-fn cell_at<R: Copy>(cells: &[Stamped<R>], index: usize) -> Stamped<R>
+fn cell_at<R: Copy>(cells: &[Stamped<R>], index: usize) -> &Stamped<R>
     requires { index < length cells.now }
-    ensures { slice_get cells.now index ≡ Some result }
+    ensures { slice_get cells.now index ≡ Some result.now }
 {
-    cells[index]
+    &cells[index]
 }
 
 fn put_cell<R: Copy>(cells: &mut Vec<Stamped<R>>, index: usize, item: Stamped<R>)
@@ -216,16 +216,16 @@ fn read_line<R: Copy>(
     process: usize,
     line: &mut Progress<R>,
     wish: Wish<R>,
-    answer: Stamped<R>,
+    answer: &Stamped<R>,
 )
     requires { line.old.done + 1 < n }
-    ensures { line.new ≡ after_read n limit process wish line.old answer }
+    ensures { line.new ≡ after_read n limit process wish line.old answer.now }
 {
     if line.done == 0 {
         line.wish = wish;
         line.seen = line.own;
     }
-    line.seen = line.seen.or_greater(answer);
+    line.seen.raise(answer);
     line.done += 1;
     if line.done + 1 == n {
         choose(limit, process, line);
