@@ -29,6 +29,10 @@ const HANDED_ON: &str =
 const REFUSED: &str =
     r#"{"kind":"matrix","opening":[0,0,0],"limit":1,"plans":[[[1,1,1]],[[2,2,2]]],"steps":[0,0,1,1]}"#;
 
+/// A term of one write, and then another.
+const TERMS: &str =
+    r#"{"kind":"matrix","opening":[0,0,0],"terms":[{"limit":1,"plans":[[[1,1,1]],[]],"steps":[0,0]},{"limit":1,"plans":[[],[[2,2,2]]],"steps":[1,1]}]}"#;
+
 /// Why a call has no answer.
 #[derive(Clone, Copy, Debug, PartialEq, Eq)]
 pub enum Stopped {
@@ -56,6 +60,7 @@ pub fn document(alloc: Global, name: &str) -> Result<Document, Stopped>
         "meeting" => (Want::Play, MEETING),
         "handed_on" => (Want::Play, HANDED_ON),
         "refused" => (Want::Play, REFUSED),
+        "terms" => (Want::Play, TERMS),
         _ => return Err(Stopped::NoSuchCall),
     };
     match read_document(alloc, want, text.as_bytes()) {
