@@ -44,3 +44,11 @@ pub data Leads {R : Type 0} : List (WriteEvent R) → List (ReadEvent R) → Sta
   Stays : (s t : State R) → s ≡ t → Leads [] [] s t
   WriterFirst : (e : WriteEvent R) (ws : List (WriteEvent R)) (rs : List (ReadEvent R)) (s m t : State R) → Writes e s m → Leads ws rs m t → Leads (e ∷ ws) rs s t
   ReaderFirst : (e : ReadEvent R) (ws : List (WriteEvent R)) (rs : List (ReadEvent R)) (s m t : State R) → Reads e s m → Leads ws rs m t → Leads ws (e ∷ rs) s t
+
+-- the record of the last finished write after these events of the writer, from the item of the write in progress and the
+-- record of the last finished write before them: W1 takes an item, and W5 finishes the write
+abbrev pub last_finished : {R : Type 0} → List (WriteEvent R) → R → R → R
+last_finished [] item last = last
+last_finished (W1 x ∷ ws) item last = last_finished ws x.value last
+last_finished (W5 ∷ ws) item last = last_finished ws item item
+last_finished (_ ∷ ws) item last = last_finished ws item last

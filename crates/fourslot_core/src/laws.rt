@@ -9,7 +9,7 @@ ghost use Rattle.fourslot_core.specs.declared.schedule.Turn.{Turn};
 ghost use Rattle.fourslot_core.specs.Accesses.{IsClear, IsFreshRead};
 ghost use Rattle.fourslot_core.specs.Events.{after_read, after_write, opening_state, reader_state, record_in, slot_number};
 ghost use Rattle.fourslot_core.specs.Freshness.{floor_after, IsFresh, prev_after};
-ghost use Rattle.fourslot_core.specs.Interleaving.{Leads, Reads, Writes};
+ghost use Rattle.fourslot_core.specs.Interleaving.{last_finished, Leads, Reads, Writes};
 ghost use Rattle.fourslot_core.specs.Invariant.{HasIndex, HasSlot, IsSound, IsUnmet, last_after};
 ghost use Rattle.fourslot_core.specs.SafeSlots.{IsMarked, IsSafe, slot_trace, slot_writes, SlotRead};
 ghost use Rattle.fourslot_core.specs.Traces.{Moment, moments_from, moments_of, reads_of, RisesFrom, source_record, trace, writes_of};
@@ -67,14 +67,15 @@ pub fn events_keep_freshness<R>()
         IsFresh num (after_read s.reader s) last prev floor }
 {}
 
-/// An interleaving grows at its end by an event of either side, and leads from a sound state to a sound one.
+/// An interleaving grows at its end by an event of either side. It leads from a sound state to one that is sound with the last
+/// write that the writer's events finished.
 pub fn interleavings_grow<R>()
     ensures write { (ws : List (WriteEvent R)) (rs : List (ReadEvent R)) (s t u : State R) (e : WriteEvent R) →
         Leads ws rs s t → Writes e t u → Leads (ws ++ e ∷ []) rs s u }
     ensures read { (ws : List (WriteEvent R)) (rs : List (ReadEvent R)) (s t u : State R) (e : ReadEvent R) →
         Leads ws rs s t → Reads e t u → Leads ws (rs ++ e ∷ []) s u }
     ensures sound { (ws : List (WriteEvent R)) (rs : List (ReadEvent R)) (s t : State R) (last : R) →
-        Leads ws rs s t → IsSound s last → (after : R) × IsSound t after }
+        Leads ws rs s t → IsSound s last → IsSound t (last_finished ws s.item last) }
 {}
 
 /// A cell that is stepped in any interleaving, at positions that rise, is clear; and each read that has ended is fresh and
