@@ -1,3 +1,4 @@
+-- A read leaves the pass one of this cell.
 use Rattle.cell_live.proofs.tests.read_often.Given as goal
 
 abbrev pub invariant-loop : goal.invariant-loop

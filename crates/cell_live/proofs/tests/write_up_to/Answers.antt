@@ -1,3 +1,4 @@
+-- The last count is the one just written, which is that of the turn.
 use Rattle.std.proofs.Common.{◌+◌, ◌≡◌, List, ◌∙◌, ap, arith}
 use Rattle.cell_live.specs.declared.tests.Count.{Count}
 use Rattle.cell_live.specs.Running.{last_or}

@@ -1,3 +1,4 @@
+-- The last count written is at most the next one, so the next one rises from it.
 use Rattle.std.proofs.Common.{◌≤◌, ◌+◌}
 use Rattle.cell_live.specs.Running.{last_or}
 use Rattle.cell_live.proofs.tests.write_up_to.Given as goal

@@ -1,3 +1,4 @@
+-- The events are numbered in turn, and leaving out those of other cells leaves the order of the rest.
 use Rattle.fourslot_core.proofs.TraceLaws.{moments_of_rise}
 use Rattle.fourslot_core.proofs.laws.positions_rise.Goals as goal
 

@@ -1,3 +1,4 @@
+-- The counts are those of the steps passed, and each of these had an operation left.
 use Rattle.std.proofs.Common.{ℕ, ◌<◌}
 use Rattle.history_core.specs.Schedules.{Overruns}
 use Rattle.fourslot_core.specs.Play.{span_of}

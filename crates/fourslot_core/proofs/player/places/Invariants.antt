@@ -1,3 +1,4 @@
+-- The places so far are those of the side's first operations among the parts passed.
 use Rattle.fourslot_core.proofs.Placing.{IsPlacesBefore}
 use Rattle.fourslot_core.proofs.player.places.Given as goal
 

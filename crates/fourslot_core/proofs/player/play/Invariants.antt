@@ -1,3 +1,4 @@
+-- What the run shows is the fold of the events over the steps passed, and each step makes the next event.
 use Rattle.std.proofs.Common.{◌≡◌, take}
 use Rattle.fourslot_core.specs.Runs.{numbered_run, shown}
 use Rattle.fourslot_core.proofs.player.play.Given as goal

@@ -1,3 +1,4 @@
+-- The counts are those of the steps passed, and the lists say what these steps begin, end and store.
 use Rattle.fourslot_core.specs.Parts.{IsOperationsOf}
 use Rattle.fourslot_core.proofs.Steps.{actors, IsMade}
 use Rattle.fourslot_core.proofs.player.read_steps.Given as goal

@@ -1,3 +1,4 @@
+-- The order so far has the reads passed and the writes up to the last read's number; the numbers of the reads never fall.
 use Rattle.std.proofs.Common.{◌≡◌, ℕ, ◌<◌, ◌≤◌, length, slice_get, Some}
 use Rattle.fourslot_core.specs.declared.player.Numbered.{Numbered}
 use Rattle.fourslot_core.specs.Weaves.{IsWeave}

@@ -1,3 +1,4 @@
+-- The verdict by the bands' own comparison is the verdict by their values, from which text and status follow.
 use Rattle.fsr.proofs.AnswerLemmas.{answers_check}
 use Rattle.fsr.proofs.reply.check.Goals as goal
 

@@ -1,3 +1,4 @@
+-- Where no answer came the input was taken and nothing printed; the status is the fault's, or that of want of memory.
 use Rattle.fsr.proofs.RunLemmas.{ends_refused}
 use Rattle.fsr.proofs.run.run_command.Goals as goal
 

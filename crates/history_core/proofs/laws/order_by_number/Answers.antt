@@ -1,3 +1,4 @@
+-- Where the listed numbers never fall, and rise along precedence, an operation stands before all that it precedes.
 use Rattle.history_core.proofs.Numbered.{keeps_by_number}
 use Rattle.history_core.proofs.laws.order_by_number.Goals as goal
 

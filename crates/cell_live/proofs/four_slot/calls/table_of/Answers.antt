@@ -1,3 +1,4 @@
+-- Four slots with the same record and four zeros are the opening state, in which the rule holds.
 use Rattle.std.proofs.Common.{rules, ◌≡◌, [], ◌∷◌, List, sym, subst}
 use Rattle.atomic_table.specs.Table.{opening}
 use Rattle.cell_live.specs.FourSlot.{FourSlotRule}

@@ -1,3 +1,4 @@
+-- The last sample is the one just written, so its number is that of the turn.
 use Rattle.std.proofs.Common.{List, ◌∙◌, ap}
 use Rattle.cell_live.specs.declared.tests.control.Sample.{Sample}
 use Rattle.cell_live.specs.Running.{last_or}

@@ -1,3 +1,4 @@
+-- The last sample written has the number of turns passed, so the next one rises from it.
 use Rattle.std.proofs.Common.{◌≡◌}
 use Rattle.cell_live.specs.Running.{last_or}
 use Rattle.cell_live.proofs.tests.control.publish.Given as goal

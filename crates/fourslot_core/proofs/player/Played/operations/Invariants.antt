@@ -1,3 +1,4 @@
+-- Each part gives one operation, so what is listed so far are the operations of the parts passed.
 use Rattle.std.proofs.Common.{◌≡◌, map, take}
 use Rattle.fourslot_core.specs.Parts.{op_of}
 use Rattle.fourslot_core.proofs.player.Played.operations.Given as goal

@@ -1,3 +1,4 @@
+-- Each part gives one entry, so what is listed so far are the slots of the parts passed.
 use Rattle.std.proofs.Common.{◌≡◌, map, take}
 use Rattle.fourslot_core.specs.Parts.{slot_of}
 use Rattle.fourslot_core.proofs.player.Played.slots.Given as goal

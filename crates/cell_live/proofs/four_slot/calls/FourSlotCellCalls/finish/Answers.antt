@@ -1,3 +1,4 @@
+-- The reader makes R1 and R2 and so gives its slot back; then its seat is joined into the writer's, where both lists meet.
 use Rattle.std.proofs.Common.{rules, ap, ◌∙◌, refl}
 use Rattle.cell_live.specs.FourSlotSteps.{first_writer, first_reader, writer_or, reader_or, asked_by, said_by, whole_of}
 use Rattle.cell_live.specs.declared.four_slot.notes.ReaderNotes.{ReaderNotes}

@@ -1,3 +1,4 @@
+-- A receipt's record is one that the rule bounds, so the seat that takes it in keeps the rule.
 use Rattle.std.proofs.Common.{rules, ap}
 use Rattle.cell_live.proofs.FourKeeps.{hears_ok}
 use Rattle.cell_live.proofs.four_slot.calls.FourSlotCellCalls.learn.Goals as goal

@@ -1,3 +1,4 @@
+-- The first seat has made no event, so the two seats that it is split into stand at the opening state.
 use Rattle.std.proofs.Common.{rules, ◌≡◌, [], sym, ap, ◌∙◌}
 use Rattle.cell_live.specs.Running.{last_or}
 use Rattle.cell_live.specs.FourSlotSteps.{first_writer, first_reader, writer_or, reader_or, slot_of_choice}

@@ -1,3 +1,4 @@
+-- Each clause is read off the view that the three accesses leave, one after the other; copying the slot leaves the view as it is.
 use Rattle.std.proofs.Common.{rules, arith, ◌≡◌, ◌+◌, ◌∷◌, ◌++◌, [], sym, ap, ◌∙◌, subst, refl}
 use Rattle.fourslot_core.specs.Events.{place_of, bit_number, slot_number}
 use Rattle.cell_live.specs.Running.{held_slots, IsAnswer}

@@ -1,3 +1,4 @@
+-- Between two writes the last finished record is the last one written, and the seat parted off names it.
 use Rattle.std.proofs.Common.{rules, ◌≡◌, ap, sym, ◌∙◌, []}
 use Rattle.cell_live.specs.Running.{last_or}
 use Rattle.cell_live.specs.Triple.{snap}

@@ -1,3 +1,4 @@
+-- Each clause is read off the view that the three accesses leave, one after the other; filling the slot leaves the view as it is.
 use Rattle.std.proofs.Common.{rules, arith, ◌≡◌, ◌+◌, ◌∷◌, [], not, Bool, sym, ap, ◌∙◌, subst, refl}
 use Rattle.fourslot_core.specs.Events.{side, with_side, place_of, bit_number, slot_number}
 use Rattle.cell_live.specs.Running.{last_or, held_slots}

@@ -1,3 +1,4 @@
+-- The writer's whole view is joined into the reader's seat, where both lists meet, and the rule says that they are settled.
 use Rattle.std.proofs.Common.{rules, ap, ◌∙◌}
 use Rattle.cell_live.specs.Triple.{ending, first_put, put_or, first_get, get_or}
 use Rattle.cell_live.proofs.TripleKeeps.{yields_at, ends_at, told_at_end}

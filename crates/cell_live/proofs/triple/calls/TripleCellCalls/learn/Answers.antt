@@ -1,3 +1,4 @@
+-- A receipt's record is one that the rule bounds, so the seat that takes it in keeps the rule.
 use Rattle.std.proofs.Common.{rules, ap}
 use Rattle.cell_live.proofs.TripleKeeps.{hears_at}
 use Rattle.cell_live.proofs.triple.calls.TripleCellCalls.learn.Goals as goal

@@ -1,3 +1,4 @@
+-- The opening table keeps the rule, and each side's first load takes the slot that nobody else has.
 use Rattle.std.proofs.Common.{rules, arith, refl, ap, ◌≡◌, ◌∙◌, sym, subst, List, [], ◌∷◌}
 use Rattle.cell_live.proofs.TripleKeeps.{parts_at, put_takes, get_takes, starts}
 use Rattle.atomic_table.specs.Table.{opening}

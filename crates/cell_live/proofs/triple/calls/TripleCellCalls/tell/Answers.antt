@@ -1,3 +1,4 @@
+-- The seat that is parted off names the last record of the writer's list.
 use Rattle.std.proofs.Common.{rules, ◌≡◌, ap, sym, ◌∙◌, []}
 use Rattle.cell_live.specs.Running.{last_or}
 use Rattle.cell_live.specs.Triple.{snap, receipt_of, told_or, first_put, put_or}

@@ -1,3 +1,4 @@
+-- The swap puts the filled slot in the middle and takes the old middle, which nobody holds; the list grows by the record.
 use Rattle.std.proofs.Common.{rules, ◌∷◌, [], sym, ap, ◌∙◌, subst}
 use Rattle.cell_live.specs.Running.{last_or, held_slots}
 use Rattle.cell_live.specs.Triple.{first_put, put_or}
