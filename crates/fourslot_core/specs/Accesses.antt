@@ -1,5 +1,6 @@
--- The accesses of one cell as intervals of positions (L. Lamport, On Interprocess Communication, 1986): when the slot accesses
--- are clear of each other, and which reads are fresh. Only the order of the positions counts.
+-- The accesses of one cell as intervals of positions (L. Lamport, On Interprocess Communication, Parts I and II, Distributed
+-- Computing 1, 1986): when the slot accesses are clear of each other, and which reads are fresh. Only the order of the positions
+-- counts.
 use Rattle.std.specs.Prelude.{◌≡◌, ℕ, ◌+◌, ◌<◌, ◌≤◌, Option, None, Some, IsSome, ◌⊎◌}
 
 -- the accesses of one side: the position of each event of each access (W1 and R1 are event 0), none where it isn't made; and

@@ -1,5 +1,5 @@
 -- What a report of a cell's schedule is, in one word: everything that `play_cell` promises of it. Histories and orders are those
--- of L. Lamport, On Interprocess Communication, 1986; the report is this project's own.
+-- of L. Lamport, On Interprocess Communication, Parts I and II, Distributed Computing 1, 1986; the report is this project's own.
 use Rattle.std.specs.Prelude.{◌≡◌, [], ◌∷◌}
 use Rattle.history_core.specs.Orders.{IsAtomicOrder, RefusesLawfully}
 use Rattle.history_core.specs.Schedules.{HasOperations, HasShape, Span}

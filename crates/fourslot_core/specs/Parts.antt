@@ -1,4 +1,5 @@
--- What the player holds: the operations that the steps begin, the ends of those that end, and a run over numbered records.
+-- What the player holds: the operations that the steps begin, the ends of those that end, and a run over numbered records. Only
+-- the player's private functions cite this, which is this project's own; what `play_cell` promises stands in CellReports.
 use Rattle.std.specs.Prelude.{◌≡◌, ℕ, ◌+◌, ◌*◌, ◌/◌, ◌%◌, ◌<◌, Bool, ◌&&◌, nat_eq, if◌then◌else◌, List, [], ◌∷◌, length, map, replicate, slice_get, Option, Some}
 use Rattle.std.specs.Option.{option_map}
 use Rattle.history_core.specs.declared.history.Op.{Op}

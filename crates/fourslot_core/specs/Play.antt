@@ -1,4 +1,4 @@
--- Schedules of one cell, and the run of one.
+-- Schedules of one cell, and the run of one (this project's own).
 use Rattle.std.specs.Prelude.{ℕ, List, [], ◌∷◌, map, replicate, get_or}
 use Rattle.history_core.specs.declared.play.TheConstants.{MAX_LIMIT}
 use Rattle.history_core.specs.declared.play.PlayError.{PlayError}

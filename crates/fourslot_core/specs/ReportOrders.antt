@@ -1,4 +1,4 @@
--- The order that a cell's report prints.
+-- The order that a cell's report prints (this project's own).
 use Rattle.std.specs.Prelude.{◌≡◌, ℕ, ◌+◌, ◌<◌, List, slice_get, Some, IsSome, ◌⊎◌}
 use Rattle.history_core.specs.declared.history.Op.{Op}
 use Rattle.history_core.specs.declared.history.Kind.{Kind}

@@ -1,4 +1,5 @@
--- The report of a cell as accesses, positions being the schedule's and slots the report's; and what it has of the run.
+-- The report of a cell as accesses, positions being the schedule's and slots the report's; and what it has of the run (this
+-- project's own).
 use Rattle.std.specs.Prelude.{◌≡◌, ◌≢◌, ℕ, List, [], ◌∷◌, length, slice_get, Option, None, Some, IsSome, nat_eq, if◌then◌else◌}
 use Rattle.std.specs.Option.{option_and_then}
 use Rattle.history_core.specs.declared.history.Op.{Op}

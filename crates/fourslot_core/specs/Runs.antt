@@ -1,4 +1,5 @@
--- What the player makes of a schedule: the run over numbered records, and the report from it and from the steps alone.
+-- What the player makes of a schedule: the run over numbered records, and the report from it and from the steps alone. Only the
+-- player's private functions cite this, which is this project's own; what `play_cell` promises stands in CellReports.
 use Rattle.std.specs.Prelude.{◌≡◌, ℕ, ◌+◌, List, [], ◌∷◌, length, map, Option}
 use Rattle.std.specs.List.{fold}
 use Rattle.history_core.specs.declared.history.Op.{Op}

@@ -1,5 +1,5 @@
--- Safe slots (L. Lamport, On Interprocess Communication, 1986): what a slot read gives, by the intervals of the slot accesses
--- alone; and the slot accesses of a cell that is stepped from any state.
+-- Safe slots (L. Lamport, On Interprocess Communication, Parts I and II, Distributed Computing 1, 1986): what a slot read gives,
+-- by the intervals of the slot accesses alone; and the slot accesses of a cell that is stepped from any state.
 use Rattle.std.specs.Prelude.{◌≡◌, ℕ, ◌<◌, ◌≤◌, ◌&&◌, List, [], ◌∷◌, ◌++◌, slice_get, Option, None, Some, ◌⊎◌}
 use Rattle.std.specs.List.{fold}
 use Rattle.fourslot_core.specs.declared.schedule.Turn.{Turn}

@@ -1,5 +1,5 @@
 -- A cell that is stepped in any interleaving, at positions that rise: the positions of each side's steps, and what the
--- events have shown so far.
+-- events have shown so far (this project's own).
 use Rattle.std.specs.Prelude.{ℕ, ◌+◌, ◌*◌, ◌≤◌, List, [], ◌∷◌, ◌++◌, length, slice_get, Option, None, Some, zero, suc}
 use Rattle.std.specs.List.{fold}
 use Rattle.fourslot_core.specs.declared.schedule.Turn.{Turn}

@@ -1,4 +1,5 @@
--- How the player makes the order: the places of the listed writes and of the finished reads, woven by their numbers.
+-- How the player makes the order: the places of the listed writes and of the finished reads, woven by their numbers. Only its
+-- private functions cite this, which is this project's own; the meaning of a report's order stands in ReportOrders.
 use Rattle.std.specs.Prelude.{◌≡◌, ℕ, ◌<◌, ◌≤◌, List, slice_get, length, Some}
 use Rattle.fourslot_core.specs.declared.schedule.Turn.{Turn}
 use Rattle.fourslot_core.specs.declared.schedule.Turn.TheVariants.{Writer, Reader}

@@ -1,4 +1,4 @@
--- The command that the words name, as clap matches them.
+-- The command that the words name, as clap matches them (this project's own).
 use Rattle.std.specs.Prelude.{◌≡◌, List, codes, true, Option, Some, None, option_and_then, if◌then◌else◌}
 use Rattle.std.specs.Str.{bytes_eq}
 use Rattle.clap.specs.Words.{App, Text, new_app, with_subcommand, fault_of, subcommand_of}

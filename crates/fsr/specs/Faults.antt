@@ -1,4 +1,4 @@
--- The faults that the refusals of the crates below become.
+-- The faults that the refusals of the crates below become (this project's own).
 use Rattle.history_core.specs.declared.play.PlayError.{PlayError}
 use Rattle.history_core.specs.declared.play.PlayError.TheVariants as play
 use Rattle.schedule_text.specs.declared.document.DocError.{DocError}

@@ -1,4 +1,5 @@
--- What reading the input and telling a line do (this project's own).
+-- What reading the input and telling a line do (this project's own). What `run` promises doesn't cite this: only the functions
+-- below it do.
 use Rattle.std.specs.Prelude.{◌≡◌, ◌≤◌, ◌+◌, ◌++◌, ◌⊎◌, ℕ, List, length, Option, Result, Ok, Err, Vec}
 use Rattle.std.specs.declared.alloc.Global.{Global}
 use Rattle.std.specs.Io.{StartsWith}

@@ -1,4 +1,5 @@
--- Places from a first one up to a next one, and the writes among them: the check of the limit.
+-- Places from a first one up to a next one, and the writes among them: the check of the limit. Only its private functions cite
+-- this, which is this project's own; the meaning of a lawful refusal stands in Orders.
 use Rattle.std.specs.Prelude.{◌≡◌, ℕ, ◌+◌, ◌≤◌, Bool, true, ◌&&◌, nat_le, nat_lt, if◌then◌else◌}
 use Rattle.history_core.specs.declared.history.Kind.{Kind}
 use Rattle.history_core.specs.declared.history.Kind.TheVariants.{Refused}
