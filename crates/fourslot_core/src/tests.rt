@@ -222,24 +222,14 @@ fn reader_at_each_slot(rt: HostRuntime) {
     }
 }
 
+fn band(lo: u64, now: u64, hi: u64) -> Band {
+    Band { lo, now, hi }
+}
+
 /// The events by their names, at bands; the item of a write is that of its first event.
 #[test]
 fn events_of_bands(rt: HostRuntime) {
-    let opening = Band {
-        lo: 0,
-        now: 0,
-        hi: 0,
-    };
-    let noise = Band {
-        lo: 9,
-        now: 8,
-        hi: 7,
-    };
-    let a = Band {
-        lo: 1,
-        now: 1,
-        hi: 1,
-    };
+    let (opening, noise, a) = (band(0, 0, 0), band(9, 8, 7), band(1, 1, 1));
     let mut cell = CellCore::new(opening, noise);
     assert_eq!(rt; cell.write_step(a), Stage::W1);
     for stage in [Stage::W2, Stage::W3, Stage::W4, Stage::W5] {
@@ -262,6 +252,12 @@ fn events_of_bands(rt: HostRuntime) {
             slot: [false, true]
         }
     );
+}
+
+/// A read of a band that meets a write gives the noise.
+#[test]
+fn noise_of_bands(rt: HostRuntime) {
+    let (opening, noise, a) = (band(0, 0, 0), band(9, 8, 7), band(1, 1, 1));
     let mut met = reader_at(opening, noise, 3);
     met.read_step();
     met.write_step(a);

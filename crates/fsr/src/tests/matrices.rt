@@ -41,51 +41,64 @@ fn plays_matrices(rt: HostRuntime) {
     }
 }
 
+const REFUSED_DOCUMENTS: [(&str, &str); 8] = [
+    (
+        r#"{"kind":"matrix","opening":[0,0,0],"terms":[]}"#,
+        "range of terms",
+    ),
+    (
+        r#"{"kind":"matrix","opening":[0,0,0],"terms":null}"#,
+        "shape of terms",
+    ),
+    (
+        r#"{"kind":"matrix","opening":[0,0,0],"terms":[{"plans":[[],[]],"steps":[]}]}"#,
+        "shape of terms",
+    ),
+    (
+        r#"{"kind":"matrix","opening":[0,0],"limit":0,"plans":[["read"],[]]}"#,
+        "missing steps",
+    ),
+    (
+        r#"{"kind":"matrix","opening":[0,0,0],"limit":9,"plans":[[]],"steps":[1]}"#,
+        "range of plans",
+    ),
+    (
+        r#"{"kind":"matrix","opening":[0,0,0],"limit":9,"plans":[[],[]],"steps":[2]}"#,
+        "range of steps",
+    ),
+    (
+        r#"{"kind":"matrix","opening":[0,0,0],"limit":18446744073709551615,"plans":[[],[]],"steps":[]}"#,
+        "range of limit",
+    ),
+    (
+        r#"{"kind":"matrix","opening":[0,0,0],"limit":9,"plans":[[[1,1,0]],[]],"steps":[]}"#,
+        "law of plans",
+    ),
+];
+
 #[test]
 fn refuses_matrices(rt: HostRuntime) -> Result<(), Fail> {
-    for (document, fault) in [
+    for (document, fault) in REFUSED_DOCUMENTS {
+        let line = format!(in rt.alloc(); "fsr: document: {fault}\n")?;
+        play(&rt, rt.alloc(), document.as_bytes(), 3, "", line.as_str());
+    }
+    Ok(())
+}
+
+/// Schedules with a step that no operation is left for, and its position.
+#[test]
+fn refuses_steps(rt: HostRuntime) -> Result<(), Fail> {
+    for (document, step) in [
         (
             r#"{"kind":"matrix","opening":[0,0,0],"limit":9,"plans":[["read"],[]],"steps":[1]}"#,
-            "schedule: no operation left at step 0",
+            "0",
         ),
         (
             r#"{"kind":"matrix","opening":[0,0,0],"terms":[{"limit":1,"plans":[[[1,1,1]],[]],"steps":[0,0]},{"limit":1,"plans":[["read"],[[2,2,2]],[[3,3,3]]],"steps":[0,0,0,0,0]}]}"#,
-            "schedule: no operation left at step 6",
-        ),
-        (
-            r#"{"kind":"matrix","opening":[0,0,0],"terms":[]}"#,
-            "document: range of terms",
-        ),
-        (
-            r#"{"kind":"matrix","opening":[0,0,0],"terms":null}"#,
-            "document: shape of terms",
-        ),
-        (
-            r#"{"kind":"matrix","opening":[0,0,0],"terms":[{"plans":[[],[]],"steps":[]}]}"#,
-            "document: shape of terms",
-        ),
-        (
-            r#"{"kind":"matrix","opening":[0,0],"limit":0,"plans":[["read"],[]]}"#,
-            "document: missing steps",
-        ),
-        (
-            r#"{"kind":"matrix","opening":[0,0,0],"limit":9,"plans":[[]],"steps":[1]}"#,
-            "document: range of plans",
-        ),
-        (
-            r#"{"kind":"matrix","opening":[0,0,0],"limit":9,"plans":[[],[]],"steps":[2]}"#,
-            "document: range of steps",
-        ),
-        (
-            r#"{"kind":"matrix","opening":[0,0,0],"limit":18446744073709551615,"plans":[[],[]],"steps":[]}"#,
-            "document: range of limit",
-        ),
-        (
-            r#"{"kind":"matrix","opening":[0,0,0],"limit":9,"plans":[[[1,1,0]],[]],"steps":[]}"#,
-            "document: law of plans",
+            "6",
         ),
     ] {
-        let line = format!(in rt.alloc(); "fsr: {fault}\n")?;
+        let line = format!(in rt.alloc(); "fsr: schedule: no operation left at step {step}\n")?;
         play(&rt, rt.alloc(), document.as_bytes(), 3, "", line.as_str());
     }
     Ok(())

@@ -5,43 +5,23 @@ use crate::tests::runs::{AMPLE, ROW};
 use crate::tests::streams::{Full, Kept, Pieces};
 use std::test::Fail;
 
+const READ_FAILED: &str = "fsr: read failed\n";
+
+const WRITE_FAILED: &str = "fsr: write failed\n";
+
 #[test]
 fn runs_over_hostile_streams(rt: HostRuntime) {
     // the most bytes of a read, where reading fails, the room of the output and what follows, and what comes of it
     for (most, fails_at, room, full, status, text, fault) in [
         (4096, AMPLE, 7, Full::Fails, 0, "lawful\n", ""),
         (1, AMPLE, AMPLE, Full::Fails, 0, "lawful\n", ""),
-        (4096, 10, AMPLE, Full::Fails, 5, "", "fsr: read failed\n"),
-        (1, 10, AMPLE, Full::Fails, 5, "", "fsr: read failed\n"),
-        (
-            4096,
-            ROW.len(),
-            AMPLE,
-            Full::Fails,
-            5,
-            "",
-            "fsr: read failed\n",
-        ),
-        (4096, 0, 0, Full::Fails, 5, "", "fsr: read failed\n"),
-        (4096, AMPLE, 3, Full::Fails, 5, "law", "fsr: write failed\n"),
-        (
-            1,
-            AMPLE,
-            6,
-            Full::TakesNothing,
-            5,
-            "lawful",
-            "fsr: write failed\n",
-        ),
-        (
-            4096,
-            AMPLE,
-            0,
-            Full::TakesNothing,
-            5,
-            "",
-            "fsr: write failed\n",
-        ),
+        (4096, 10, AMPLE, Full::Fails, 5, "", READ_FAILED),
+        (1, 10, AMPLE, Full::Fails, 5, "", READ_FAILED),
+        (4096, ROW.len(), AMPLE, Full::Fails, 5, "", READ_FAILED),
+        (4096, 0, 0, Full::Fails, 5, "", READ_FAILED),
+        (4096, AMPLE, 3, Full::Fails, 5, "law", WRITE_FAILED),
+        (1, AMPLE, 6, Full::TakesNothing, 5, "lawful", WRITE_FAILED),
+        (4096, AMPLE, 0, Full::TakesNothing, 5, "", WRITE_FAILED),
     ] {
         let mut input = Over::new(Pieces::new(ROW.as_bytes(), most, fails_at));
         let mut out = Over::new(Kept::new(rt.alloc(), room, full));

@@ -36,78 +36,45 @@ fn reads_the_first_document(rt: HostRuntime) -> Result<(), Fail> {
     Ok(())
 }
 
+const SHAPE: Option<DocError> = Some(DocError::Shape(Key::Ops));
+
+const RANGE: Option<DocError> = Some(DocError::Range(Key::Ops));
+
+const LAW: Option<DocError> = Some(DocError::Law(Key::Ops));
+
+const NO_OPENING: Option<DocError> = Some(DocError::Shape(Key::Opening));
+
+const NO_LIMIT: Option<DocError> = Some(DocError::Shape(Key::Limit));
+
+const NO_ORDER: Option<DocError> = Some(DocError::Shape(Key::Order));
+
+const FAR_LIMIT: Option<DocError> = Some(DocError::Range(Key::Limit));
+
+const FAR_ORDER: Option<DocError> = Some(DocError::Range(Key::Order));
+
+const UNLAWFUL_OPENING: Option<DocError> = Some(DocError::Law(Key::Opening));
+
 const REFUSALS_OF_KEYS: [([&str; 4], Option<DocError>); 20] = [
     (["[0,0,0]", "9", "[]", "[]"], None),
-    (
-        ["[2,1,3]", "0", "[]", "[]"],
-        Some(DocError::Range(Key::Limit)),
-    ),
-    (
-        ["[2,1,3]", "1", "[]", "[]"],
-        Some(DocError::Law(Key::Opening)),
-    ),
+    (["[2,1,3]", "0", "[]", "[]"], FAR_LIMIT),
+    (["[2,1,3]", "1", "[]", "[]"], UNLAWFUL_OPENING),
     (["[1,2,3]", "18446744073709551614", "[]", "[]"], None),
-    (
-        ["[0,0,0]", "18446744073709551615", "[]", "[]"],
-        Some(DocError::Range(Key::Limit)),
-    ),
-    (
-        ["[0,0,0]", "18446744073709551616", "[]", "[]"],
-        Some(DocError::Shape(Key::Limit)),
-    ),
-    (
-        ["[0,0,0]", "-1", "[]", "[]"],
-        Some(DocError::Shape(Key::Limit)),
-    ),
-    (
-        ["[0,0,0]", "1.0", "[]", "[]"],
-        Some(DocError::Shape(Key::Limit)),
-    ),
-    (
-        ["[0,0,0]", "1e2", "[]", "[]"],
-        Some(DocError::Shape(Key::Limit)),
-    ),
-    (
-        ["[0,0,0]", "null", "[]", "[]"],
-        Some(DocError::Shape(Key::Limit)),
-    ),
-    (
-        ["[0,0]", "0", "[]", "[]"],
-        Some(DocError::Shape(Key::Opening)),
-    ),
-    (
-        ["[0,0,0,0]", "null", "[]", "[]"],
-        Some(DocError::Shape(Key::Opening)),
-    ),
-    (
-        ["[0,0,-0]", "9", "[]", "[]"],
-        Some(DocError::Shape(Key::Opening)),
-    ),
-    (
-        ["null", "9", "{}", "[]"],
-        Some(DocError::Shape(Key::Opening)),
-    ),
-    (
-        ["[0,0,0]", "0", "{}", "{}"],
-        Some(DocError::Shape(Key::Ops)),
-    ),
-    (
-        ["[0,0,0]", "0", "[]", "[-1]"],
-        Some(DocError::Shape(Key::Order)),
-    ),
-    (
-        ["[0,0,0]", "9", "[]", "null"],
-        Some(DocError::Shape(Key::Order)),
-    ),
+    (["[0,0,0]", "18446744073709551615", "[]", "[]"], FAR_LIMIT),
+    (["[0,0,0]", "18446744073709551616", "[]", "[]"], NO_LIMIT),
+    (["[0,0,0]", "-1", "[]", "[]"], NO_LIMIT),
+    (["[0,0,0]", "1.0", "[]", "[]"], NO_LIMIT),
+    (["[0,0,0]", "1e2", "[]", "[]"], NO_LIMIT),
+    (["[0,0,0]", "null", "[]", "[]"], NO_LIMIT),
+    (["[0,0]", "0", "[]", "[]"], NO_OPENING),
+    (["[0,0,0,0]", "null", "[]", "[]"], NO_OPENING),
+    (["[0,0,-0]", "9", "[]", "[]"], NO_OPENING),
+    (["null", "9", "{}", "[]"], NO_OPENING),
+    (["[0,0,0]", "0", "{}", "{}"], SHAPE),
+    (["[0,0,0]", "0", "[]", "[-1]"], NO_ORDER),
+    (["[0,0,0]", "9", "[]", "null"], NO_ORDER),
     (["[0,0,0]", "9", "[]", "[9999]"], None),
-    (
-        ["[3,2,1]", "9", "[]", "[10000]"],
-        Some(DocError::Range(Key::Order)),
-    ),
-    (
-        ["[3,2,1]", "0", "[]", "[10000]"],
-        Some(DocError::Range(Key::Limit)),
-    ),
+    (["[3,2,1]", "9", "[]", "[10000]"], FAR_ORDER),
+    (["[3,2,1]", "0", "[]", "[10000]"], FAR_LIMIT),
 ];
 
 #[test]
@@ -147,17 +114,34 @@ fn check_document(
     )
 }
 
-const SHAPE: Option<DocError> = Some(DocError::Shape(Key::Ops));
+/// Operations that are read.
+const OPERATIONS: [&str; 7] = [
+    r#"{"who":15,"kind":"write","begin":4,"end":4,"record":[1,2,3]}"#,
+    r#"{"who":0,"kind":"write","begin":4,"record":[1,2,3]}"#,
+    r#"{"who":0,"kind":"write","begin":4,"end":null,"record":[1,2,3],"x":[]}"#,
+    r#"{"who":0,"kind":"read","begin":4,"end":5,"record":[3,2,1]}"#,
+    r#"{"who":0,"kind":"read","begin":4,"record":null}"#,
+    r#"{"who":0,"kind":"refused","begin":4,"end":5,"record":[3,2,1]}"#,
+    r#"{"who":0,"kind":"refused","begin":4}"#,
+];
 
-const RANGE: Option<DocError> = Some(DocError::Range(Key::Ops));
+/// Texts that have the shape of no operation.
+const SHAPES_OF_OPERATIONS: [&str; 11] = [
+    r#"{"kind":"read","begin":4}"#,
+    r#"{"who":0,"begin":4}"#,
+    r#"{"who":0,"kind":"read"}"#,
+    r#"{"who":null,"kind":"read","begin":4}"#,
+    r#"{"who":0,"kind":null,"begin":4}"#,
+    r#"{"who":0,"kind":"read","begin":null}"#,
+    r#"{"who":0,"kind":"reads","begin":4}"#,
+    r#"{"who":0,"kind":"read","begin":4,"end":"5"}"#,
+    r#"{"who":0,"kind":"read","begin":4,"record":[1,2]}"#,
+    r#"{"who":16,"kind":"read","begin":4},{"who":0,"kind":"read"}"#,
+    "[]",
+];
 
-const LAW: Option<DocError> = Some(DocError::Law(Key::Ops));
-
-const REFUSALS_OF_OPERATIONS: [(&str, Option<DocError>); 29] = [
-    (
-        r#"{"who":15,"kind":"write","begin":4,"end":4,"record":[1,2,3]}"#,
-        None,
-    ),
+/// Operations out of their ranges, or against their law.
+const REFUSED_OPERATIONS: [(&str, Option<DocError>); 11] = [
     (
         r#"{"who":16,"kind":"write","begin":4,"end":4,"record":[1,2,3]}"#,
         RANGE,
@@ -175,65 +159,39 @@ const REFUSALS_OF_OPERATIONS: [(&str, Option<DocError>); 29] = [
         LAW,
     ),
     (
-        r#"{"who":0,"kind":"write","begin":4,"record":[1,2,3]}"#,
-        None,
-    ),
-    (
-        r#"{"who":0,"kind":"write","begin":4,"end":null,"record":[1,2,3],"x":[]}"#,
-        None,
-    ),
-    (
         r#"{"who":0,"kind":"write","begin":4,"record":[3,2,1]}"#,
         LAW,
     ),
     (r#"{"who":0,"kind":"write","begin":4,"end":5}"#, LAW),
     (r#"{"who":0,"kind":"write","begin":4}"#, LAW),
     (r#"{"who":0,"kind":"write","begin":4,"record":null}"#, LAW),
-    (
-        r#"{"who":0,"kind":"read","begin":4,"end":5,"record":[3,2,1]}"#,
-        None,
-    ),
     (r#"{"who":0,"kind":"read","begin":4,"end":5}"#, LAW),
-    (r#"{"who":0,"kind":"read","begin":4,"record":null}"#, None),
-    (
-        r#"{"who":0,"kind":"refused","begin":4,"end":5,"record":[3,2,1]}"#,
-        None,
-    ),
     (
         r#"{"who":0,"kind":"refused","begin":4,"end":5,"record":null}"#,
         LAW,
-    ),
-    (r#"{"who":0,"kind":"refused","begin":4}"#, None),
-    (r#"{"kind":"read","begin":4}"#, SHAPE),
-    (r#"{"who":0,"begin":4}"#, SHAPE),
-    (r#"{"who":0,"kind":"read"}"#, SHAPE),
-    (r#"{"who":null,"kind":"read","begin":4}"#, SHAPE),
-    (r#"{"who":0,"kind":null,"begin":4}"#, SHAPE),
-    (r#"{"who":0,"kind":"read","begin":null}"#, SHAPE),
-    (r#"{"who":0,"kind":"reads","begin":4}"#, SHAPE),
-    (r#"{"who":0,"kind":"read","begin":4,"end":"5"}"#, SHAPE),
-    (r#"{"who":0,"kind":"read","begin":4,"record":[1,2]}"#, SHAPE),
-    (
-        r#"{"who":16,"kind":"read","begin":4},{"who":0,"kind":"read"}"#,
-        SHAPE,
     ),
     (
         r#"{"who":0,"kind":"write","begin":4},{"who":16,"kind":"read","begin":4}"#,
         RANGE,
     ),
-    ("[]", SHAPE),
 ];
+
+/// The refusal of a document with these operations.
+fn refusal_of(alloc: Global, ops: &str) -> Result<Option<DocError>, AllocError> {
+    let text = check_document(alloc, "[0,0,0]", "9", ops, "")?;
+    Ok(refusal(alloc, Want::Check, text.as_bytes()))
+}
 
 #[test]
 fn reads_operations(rt: HostRuntime) -> Result<(), Fail> {
-    let alloc = rt.alloc();
-    for (ops, refused) in REFUSALS_OF_OPERATIONS {
-        let text = check_document(alloc, "[0,0,0]", "9", ops, "")?;
-        assert_eq!(rt;
-            refusal(alloc, Want::Check, text.as_bytes()),
-            refused,
-            "{ops}"
-        );
+    for op in OPERATIONS {
+        assert_eq!(rt; refusal_of(rt.alloc(), op)?, None, "{op}");
+    }
+    for op in SHAPES_OF_OPERATIONS {
+        assert_eq!(rt; refusal_of(rt.alloc(), op)?, SHAPE, "{op}");
+    }
+    for (op, refused) in REFUSED_OPERATIONS {
+        assert_eq!(rt; refusal_of(rt.alloc(), op)?, refused, "{op}");
     }
     Ok(())
 }

@@ -76,102 +76,42 @@ fn titled(alloc: Global, opening: &str, terms: &str) -> Result<String, AllocErro
     format!(in alloc; "{{\"kind\":\"matrix\",\"opening\":{opening},\"limit\":0,\"terms\":{terms}}}")
 }
 
+const NO_OPENING: Option<DocError> = Some(DocError::Shape(Key::Opening));
+
+const NO_LIMIT: Option<DocError> = Some(DocError::Shape(Key::Limit));
+
+const NO_PLANS: Option<DocError> = Some(DocError::Shape(Key::Plans));
+
+const NO_STEPS: Option<DocError> = Some(DocError::Shape(Key::Steps));
+
+const FAR_LIMIT: Option<DocError> = Some(DocError::Range(Key::Limit));
+
+const FAR_PLANS: Option<DocError> = Some(DocError::Range(Key::Plans));
+
+const FAR_STEPS: Option<DocError> = Some(DocError::Range(Key::Steps));
+
+const UNLAWFUL_OPENING: Option<DocError> = Some(DocError::Law(Key::Opening));
+
+const UNLAWFUL_PLANS: Option<DocError> = Some(DocError::Law(Key::Plans));
+
 const REFUSALS_OF_KEYS: [(&str, &str, &str, &str, Option<DocError>); 17] = [
     ("[0,0,0]", "18446744073709551614", "[],[]", "0,1", None),
-    (
-        "[0,0,0]",
-        "18446744073709551615",
-        "[],[]",
-        "0,1",
-        Some(DocError::Range(Key::Limit)),
-    ),
-    ("[2,1,3]", "0", "[]", "1", Some(DocError::Range(Key::Limit))),
-    ("[2,1,3]", "9", "[]", "1", Some(DocError::Range(Key::Plans))),
-    (
-        "[2,1,3]",
-        "9",
-        "[[3,2,1]],[]",
-        "2",
-        Some(DocError::Range(Key::Steps)),
-    ),
-    (
-        "[2,1,3]",
-        "9",
-        "[[3,2,1]],[]",
-        "1",
-        Some(DocError::Law(Key::Opening)),
-    ),
-    (
-        "[1,1,3]",
-        "9",
-        "[[3,2,1]],[]",
-        "1",
-        Some(DocError::Law(Key::Plans)),
-    ),
-    (
-        "[1,1,3]",
-        "9",
-        "[],[\"read\",[3,2,1]]",
-        "1",
-        Some(DocError::Law(Key::Plans)),
-    ),
+    ("[0,0,0]", "18446744073709551615", "[],[]", "0,1", FAR_LIMIT),
+    ("[2,1,3]", "0", "[]", "1", FAR_LIMIT),
+    ("[2,1,3]", "9", "[]", "1", FAR_PLANS),
+    ("[2,1,3]", "9", "[[3,2,1]],[]", "2", FAR_STEPS),
+    ("[2,1,3]", "9", "[[3,2,1]],[]", "1", UNLAWFUL_OPENING),
+    ("[1,1,3]", "9", "[[3,2,1]],[]", "1", UNLAWFUL_PLANS),
+    ("[1,1,3]", "9", "[],[\"read\",[3,2,1]]", "1", UNLAWFUL_PLANS),
     ("[1,1,3]", "9", "[\"read\",[1,2,3]],[]", "", None),
-    (
-        "[1,1,3]",
-        "0",
-        "[\"reads\"],[]",
-        "",
-        Some(DocError::Shape(Key::Plans)),
-    ),
-    (
-        "[1,1,3]",
-        "0",
-        "[[1,2]],[]",
-        "",
-        Some(DocError::Shape(Key::Plans)),
-    ),
-    (
-        "[1,1,3]",
-        "0",
-        "[null],[]",
-        "",
-        Some(DocError::Shape(Key::Plans)),
-    ),
-    (
-        "[1,1,3]",
-        "0",
-        "[],{}",
-        "-1",
-        Some(DocError::Shape(Key::Plans)),
-    ),
-    (
-        "[1,1,3]",
-        "0",
-        "[],[]",
-        "-1",
-        Some(DocError::Shape(Key::Steps)),
-    ),
-    (
-        "[1,1,3]",
-        "0",
-        "[],[]",
-        "\"0\"",
-        Some(DocError::Shape(Key::Steps)),
-    ),
-    (
-        "[1,1]",
-        "null",
-        "[],[]",
-        "0",
-        Some(DocError::Shape(Key::Opening)),
-    ),
-    (
-        "[1,1,1]",
-        "null",
-        "[],0",
-        "0",
-        Some(DocError::Shape(Key::Limit)),
-    ),
+    ("[1,1,3]", "0", "[\"reads\"],[]", "", NO_PLANS),
+    ("[1,1,3]", "0", "[[1,2]],[]", "", NO_PLANS),
+    ("[1,1,3]", "0", "[null],[]", "", NO_PLANS),
+    ("[1,1,3]", "0", "[],{}", "-1", NO_PLANS),
+    ("[1,1,3]", "0", "[],[]", "-1", NO_STEPS),
+    ("[1,1,3]", "0", "[],[]", "\"0\"", NO_STEPS),
+    ("[1,1]", "null", "[],[]", "0", NO_OPENING),
+    ("[1,1,1]", "null", "[],0", "0", NO_LIMIT),
 ];
 
 const MISSING_KEYS: [(&str, Key); 5] = [
