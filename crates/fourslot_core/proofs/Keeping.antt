@@ -1,4 +1,5 @@
--- Each event keeps the invariant.
+-- Each event keeps the invariant, by cases on the event: it changes few fields, and of two pairs or bits what isn't the one is the
+-- other.
 use Rattle.std.proofs.Common.{◌≡◌, ◌≢◌, Bool, true, false, not, refl, sym, subst, ◌∙◌, ap, inl, inr, ◌&&◌, ◌||◌}
 use Rattle.std.proofs.lemmas.Bool.{cases_Bool}
 use Rattle.std.proofs.lemmas.Option.{same_Some}

@@ -1,4 +1,5 @@
--- Each event keeps the numbers in order.
+-- Each event keeps the numbers in order, by cases on the event: W4 alone turns a pair's bit, to the newest record, and R3 takes the
+-- record that the bit names.
 use Rattle.std.proofs.Common.{◌≡◌, ◌≢◌, ℕ, ◌+◌, ◌≤◌, Bool, true, false, not, refl, sym, subst, ◌∙◌, ap, ◌⊎◌, inl, inr, arith}
 use Rattle.fourslot_core.specs.declared.state.Place.{Place}
 use Rattle.fourslot_core.specs.declared.state.State.{State}

@@ -1,4 +1,5 @@
--- The least end of the entries from a place on.
+-- The least end of the entries from a place on: one more entry in front lowers it or leaves it, and an entry is preceded by a later
+-- one exactly where this end is before its beginning.
 use Rattle.std.proofs.Common.{◌≡◌, ℕ, ◌+◌, ◌<◌, ◌≤◌, min, List, Option, None, Some, IsSomeAnd, arith, refl, sym, ◌∙◌, ap, ◌⊎◌, inl, inr}
 use Rattle.std.proofs.lemmas.Bool.{cases_lt}
 use Rattle.std.proofs.lemmas.Option.{same_Some}

@@ -1,4 +1,4 @@
--- How often an order lists a place, and counts of its entries.
+-- How often an order lists a place: one more entry adds one to the count of its own place and to no other.
 use Rattle.std.proofs.Common.{◌≡◌, ℕ, ◌+◌, ◌<◌, ◌≤◌, ◌-◌, Bool, true, cond, nat_eq, List, [], ◌∷◌, length, take, get_or, slice_get, Option, None, Some, arith, refl, sym, subst, ◌∙◌, ap, ◌⊎◌, inl, inr, suc}
 use Rattle.std.specs.List.{count_by}
 use Rattle.std.specs.Prelude.{if◌then◌else◌}

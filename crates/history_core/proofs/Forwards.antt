@@ -1,4 +1,4 @@
--- The latest record of the entries before a place.
+-- The latest record of the entries before a place: one more entry changes it only where it is a write.
 use Rattle.std.proofs.Common.{◌≡◌, ℕ, ◌+◌, ◌<◌, ◌≤◌, List, length, take, get_or, slice_get, Option, Some, arith, sym, subst, ◌∙◌, ap, inl, inr}
 use Rattle.std.proofs.lemmas.Bool.{cases_lt}
 use Rattle.std.proofs.lemmas.List.Sums.{fold_more}

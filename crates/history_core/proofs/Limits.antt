@@ -1,4 +1,5 @@
--- Lawful refusal, entry by entry and term by term.
+-- Lawful refusal: one more entry adds to the count where it is a write of the term, and a term's places end at the least first
+-- of the terms after it.
 use Rattle.std.proofs.Common.{◌≡◌, ℕ, ◌+◌, ◌<◌, ◌≤◌, min, Bool, true, false, ◌&&◌, nat_le, nat_lt, List, [], ◌∷◌, length, take, drop, get_or, slice_get, Some, arith, refl, sym, subst, ◌∙◌, ap, inl, inr, zero, suc}
 use Rattle.std.specs.List.{list_all}
 use Rattle.std.specs.Prelude.{if◌then◌else◌}

@@ -1,4 +1,4 @@
--- Lemmas on the lists of a document's values.
+-- The lists of a document's values, by cases on their elements: serde_json's items are the document's, in their order.
 use Rattle.std.proofs.Common.{◌≡◌, ◌<◌, ◌≤◌, List, [], ◌∷◌, ◌++◌, length, map, refl, ap, sym, ◌∙◌, arith, Option, Some, None, option_map}
 use Rattle.serde_json.specs.Data.{Data}
 use Rattle.serde_json.specs.Find.{as_array}

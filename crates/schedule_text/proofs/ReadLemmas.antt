@@ -1,4 +1,5 @@
--- What serde_json's answer says of the bytes.
+-- What serde_json's answer says of the bytes: those that aren't UTF-8 have no value, and of others it gives the value or says that
+-- there is none.
 use Rattle.std.proofs.Common.{◌≡◌, ℕ, List, refl, Some, None, Bool, true, false}
 use Rattle.std.proofs.lemmas.Str.{is_utf8-from_IsUtf8, IsUtf8-from_is_utf8}
 use Rattle.std.specs.Prelude.{IsUtf8}
