@@ -1,6 +1,6 @@
 -- The words of the contract, of the passes of a triple buffer.
-use Rattle.std.specs.Prelude.{◌≡◌, ℕ, List}
-use Rattle.cell_live.specs.Running.{Name, IsName}
+use Rattle.std.specs.Prelude.{◌≡◌, ℕ, ◌+◌, ◌<◌, ◌≤◌, List, [], ◌∷◌, ◌++◌}
+use Rattle.cell_live.specs.Running.{Name, IsName, IsAnswer}
 use Rattle.cell_live.specs.Triple.{first_put, first_get, put_or, get_or, told_or}
 use Rattle.cell_live.specs.declared.triple.notes.PutNotes.{PutNotes}
 use Rattle.cell_live.specs.declared.triple.notes.GetNotes.{GetNotes}
@@ -37,6 +37,10 @@ module _ {T : Type 0} where
   abbrev pub answers_of : TripleGet T → List T
   answers_of g = (get_notes g).answers
 
+  -- the record in the slot that the pass holds
+  abbrev pub at_hand_of : TripleGet T → T
+  at_hand_of g = (get_notes g).at_hand.value
+
   abbrev pub told_to : TripleGet T → List T
   told_to g = (get_notes g).told
 
@@ -60,3 +64,14 @@ module _ {T : Type 0} where
   -- the word that the last load found
   abbrev pub found_by : TripleGet T → ℕ
   found_by g = (get_notes g).found
+
+  -- what the load, and the swap where there is one, make of the reader's pass: the answer is then at hand
+  pub record HasLooked (fits : T → Type 0) (rises : T → T → Type 0) (c : TripleCell T) (g h : TripleGet T) : Type 0 where
+    pub own : is_get_of c h
+    pub answers : answers_of h ≡ answers_of g ++ at_hand_of h ∷ []
+    pub told : told_to h ≡ told_to g
+    pub running : IsAnswer fits rises (opening_of c) (answers_of g) (told_to g) (at_hand_of h)
+    pub loaded : loads_of h ≡ loads_of g + 1
+    pub unmarked : found_by h < 4 → swaps_of h ≡ swaps_of g
+    pub marked : 4 ≤ found_by h → swaps_of h ≡ swaps_of g + 1
+    pub accesses : loads_of h + swaps_of h ≤ loads_of g + swaps_of g + 3

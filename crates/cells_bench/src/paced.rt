@@ -2,6 +2,7 @@
 use crate::measure::{clock_cost, quantile, say, since};
 use crate::record::{Record, Shared};
 use cell_live::{Calls, Cell};
+use crossbeam_utils::CachePadded;
 use std::alloc::{AllocError, Global};
 use std::io;
 use std::rt::Clock;
@@ -12,41 +13,31 @@ use std::time::Instant;
 /// The calls of one side.
 const CALLS: u64 = 40_000;
 
-/// A side's count of calls, on cache lines of its own.
+/// Each side's count of calls.
 #[derive(Drop)]
-struct Beat {
-    before: [u64; 8],
-    count: AtomicU64,
-    after: [u64; 8],
+struct Beats {
+    write: CachePadded<AtomicU64>,
+    read: CachePadded<AtomicU64>,
 }
 
-impl Beat {
-    fn new() -> Beat {
-        Beat {
-            before: [0; 8],
-            count: AtomicU64::new(0),
-            after: [0; 8],
+impl Beats {
+    fn new() -> Beats {
+        Beats {
+            write: CachePadded::new(AtomicU64::new(0)),
+            read: CachePadded::new(AtomicU64::new(0)),
         }
     }
 }
 
-/// What both sides share besides the cell.
-#[derive(Drop)]
-struct Bench {
-    start: Instant,
-    write_beat: Beat,
-    read_beat: Beat,
-}
-
 /// Waits for the next beat. One that was missed isn't made up for.
-fn next_beat(rt: &impl Clock, bench: &Bench, next: u64, step: u64) -> u64 {
-    let mut now = since(rt, bench.start);
+fn next_beat(rt: &impl Clock, start: Instant, next: u64, step: u64) -> u64 {
+    let mut now = since(rt, start);
     let next = now.max(next.saturating_add(step));
     for _ in 0..u64::MAX {
         if now >= next {
             break;
         }
-        now = since(rt, bench.start);
+        now = since(rt, start);
     }
     next
 }
@@ -67,9 +58,9 @@ impl Times {
     }
 
     /// Keeps a time, where the other side made a call since the last one.
-    fn keep(&mut self, mine: &Beat, theirs: &Beat, nanos: u64) {
-        mine.count.fetch_add(1, Ordering::SeqCst);
-        let other = theirs.count.load(Ordering::SeqCst);
+    fn keep(&mut self, mine: &AtomicU64, theirs: &AtomicU64, nanos: u64) {
+        mine.fetch_add(1, Ordering::SeqCst);
+        let other = theirs.load(Ordering::SeqCst);
         if other != self.other {
             // There is room for each call's time.
             let _ = self.nanos.push(nanos);
@@ -83,12 +74,13 @@ trait Side {
     ghost ready: { Self → Type 0 };
 
     /// Makes the calls, one at each beat.
-    fn run<R: Clock>(&mut self, rt: &R, bench: &Bench)
+    fn run<R: Clock>(&mut self, rt: &R, beats: &Beats)
         requires { ready self.old };
 }
 
 #[derive(Drop)]
 struct Writer<'a, W: Shared, C: Cell<Record<W>>> {
+    start: Instant,
     cell: &'a C,
     put: C::Put,
     item: Record<W>,
@@ -98,25 +90,23 @@ struct Writer<'a, W: Shared, C: Cell<Record<W>>> {
 impl<'a, W: Shared, C: Cell<Record<W>>> Side for Writer<'a, W, C> {
     ghost ready = { λ s. C.is_put s.cell.now s.put };
 
-    fn run<R: Clock>(&mut self, rt: &R, bench: &Bench) {
+    fn run<R: Clock>(&mut self, rt: &R, beats: &Beats) {
         let mut next = 0;
         for number in 0..CALLS {
-            next = next_beat(rt, bench, next, 1_000);
+            next = next_beat(rt, self.start, next, 1_000);
             self.item.mark(number);
-            let before = since(rt, bench.start);
+            let before = since(rt, self.start);
             self.cell.write(&mut self.put, self.item);
-            let after = since(rt, bench.start);
-            self.times.keep(
-                &bench.write_beat,
-                &bench.read_beat,
-                after.saturating_sub(before),
-            );
+            let after = since(rt, self.start);
+            self.times
+                .keep(&beats.write, &beats.read, after.saturating_sub(before));
         }
     }
 }
 
 #[derive(Drop)]
 struct Reader<'a, W: Shared, C: Cell<Record<W>>> {
+    start: Instant,
     cell: &'a C,
     get: C::Get,
     answer: Record<W>,
@@ -126,25 +116,22 @@ struct Reader<'a, W: Shared, C: Cell<Record<W>>> {
 impl<'a, W: Shared, C: Cell<Record<W>>> Side for Reader<'a, W, C> {
     ghost ready = { λ s. C.is_get s.cell.now s.get };
 
-    fn run<R: Clock>(&mut self, rt: &R, bench: &Bench) {
+    fn run<R: Clock>(&mut self, rt: &R, beats: &Beats) {
         let mut next = 0;
         for _ in 0..CALLS {
-            next = next_beat(rt, bench, next, 1_037);
-            let before = since(rt, bench.start);
+            next = next_beat(rt, self.start, next, 1_037);
+            let before = since(rt, self.start);
             self.answer = self.cell.read(&mut self.get);
-            let after = since(rt, bench.start);
-            self.times.keep(
-                &bench.read_beat,
-                &bench.write_beat,
-                after.saturating_sub(before),
-            );
+            let after = since(rt, self.start);
+            self.times
+                .keep(&beats.read, &beats.write, after.saturating_sub(before));
         }
     }
 }
 
 fn at_once<R: Clock + Threads + Sync, A: Side + Send, B: Side + Send>(
     rt: &R,
-    bench: &Bench,
+    beats: &Beats,
     writer: &mut A,
     reader: &mut B,
 )
@@ -154,10 +141,10 @@ fn at_once<R: Clock + Threads + Sync, A: Side + Send, B: Side + Send>(
         rt,
         &mut ||
             requires { A.ready writer.now }
-        { writer.run(rt, bench) },
+        { writer.run(rt, beats) },
         &mut ||
             requires { B.ready reader.now }
-        { reader.run(rt, bench) },
+        { reader.run(rt, beats) },
     );
 }
 
@@ -193,27 +180,26 @@ where
     C::Told: Send,
 {
     let (cell, put, get) = C::make(alloc, Record::zero())?;
-    let bench = Bench {
-        start: Instant::now(rt)?,
-        write_beat: Beat::new(),
-        read_beat: Beat::new(),
-    };
-    let mut writer: Writer<W, C> = Writer {
+    let cell = CachePadded::new(cell);
+    let start = Instant::now(rt)?;
+    let mut writer: CachePadded<Writer<W, C>> = CachePadded::new(Writer {
+        start,
         cell: &cell,
         put,
         item: Record::zero(),
         times: Times::new(alloc)?,
-    };
-    let mut reader: Reader<W, C> = Reader {
+    });
+    let mut reader: CachePadded<Reader<W, C>> = CachePadded::new(Reader {
+        start,
         cell: &cell,
         get,
         answer: Record::zero(),
         times: Times::new(alloc)?,
-    };
-    let cost = clock_cost(rt, bench.start);
-    at_once(rt, &bench, &mut writer, &mut reader);
-    let writes = writer.times;
-    let reads = reader.times;
+    });
+    let cost = clock_cost(rt, start);
+    at_once(rt, &Beats::new(), &mut *writer, &mut *reader);
+    let writes = writer.into_inner().times;
+    let reads = reader.into_inner().times;
     say_times(
         rt,
         name,

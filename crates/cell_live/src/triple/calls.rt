@@ -1,7 +1,7 @@
 //! The calls of the triple buffer.
 ghost use Rattle.std.specs.Prelude.{◌≡◌, ℕ, ◌+◌, ◌<◌, ◌≤◌, [], ◌∷◌, ◌++◌};
 ghost use Rattle.cell_live.specs.Running.{IsAnswer};
-ghost use Rattle.cell_live.specs.TripleWords.{opening_of, is_put_of, is_get_of, is_told_of, written_by, answers_of, told_to, named_by, swaps_of_put, loads_of, swaps_of, held_by, found_by};
+ghost use Rattle.cell_live.specs.TripleWords.{opening_of, is_put_of, is_get_of, is_told_of, written_by, answers_of, told_to, named_by, swaps_of_put, loads_of, swaps_of, held_by, found_by, HasLooked};
 
 use super::plays::{
     Ends, GetSwaps, GetTakes, Hears, Looks, Parts, PutSwaps, PutTakes, Tells, Yields,
@@ -11,6 +11,23 @@ use crate::cell::{Calls, Cell, Kept, Lawful};
 use crate::moves::{copy_held, empty, fill};
 use atomic_table::Table;
 use std::alloc::{AllocError, Global};
+
+/// Takes the middle slot where the word has the mark. The answer is then at hand.
+#[inline]
+fn refresh<T: Lawful>(cell: &TripleCell<T>, get: &mut TripleGet<T>)
+    requires { is_get_of cell.now get.old }
+    ensures { HasLooked T.fits T.rises cell.now get.old get.new }
+{
+    let found = cell.slots.shared.load::<Looks>(&mut get.seat, 0);
+    if found < 4 {
+        return;
+    }
+    let taken = cell
+        .slots
+        .shared
+        .swap::<GetSwaps>(&mut get.seat, 0, get.slot as u64);
+    get.slot = (taken % 4) as usize;
+}
 
 impl<T: Lawful> Calls<T> for TripleCell<T> {
     type Put = TriplePut<T>;
@@ -88,15 +105,7 @@ impl<T: Lawful> Calls<T> for TripleCell<T> {
         // The answer is the record of the slot that the pass then holds.
         ensures held { held_by get.new ≡ (get.new.slot, result) ∷ [] }
     {
-        let found = self.slots.shared.load::<Looks>(&mut get.seat, 0);
-        if found < 4 {
-            return copy_held(&self.slots.shared, &mut get.seat, get.slot);
-        }
-        let taken = self
-            .slots
-            .shared
-            .swap::<GetSwaps>(&mut get.seat, 0, get.slot as u64);
-        get.slot = (taken % 4) as usize;
+        refresh(self, get);
         copy_held(&self.slots.shared, &mut get.seat, get.slot)
     }
 
