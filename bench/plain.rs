@@ -176,8 +176,11 @@ fn per_call<const N: usize, R: Register<N>>(op: &str) -> f64 {
     times[30]
 }
 
+/// On cache lines of its own.
 #[repr(align(128))]
-struct Beat(AtomicU64);
+struct Apart<T>(T);
+
+type Beat = Apart<AtomicU64>;
 
 /// One side of the paced run: a call at each beat, timed where the other side made one since the last.
 fn side(start: Instant, step: u64, mine: &Beat, theirs: &Beat, mut call: impl FnMut(u64)) -> Vec<u64> {
@@ -201,12 +204,12 @@ fn side(start: Instant, step: u64, mine: &Beat, theirs: &Beat, mut call: impl Fn
 }
 
 fn paced<const N: usize, R: Register<N>>(name: &str) {
-    let (cell, start) = (R::make(), Instant::now());
+    let (cell, start) = (Box::new(Apart(R::make())), Instant::now());
     let now = || start.elapsed().as_nanos() as u64;
     let cost = (0..20_000).map(|_| { let t = now(); now() - t }).min().unwrap();
-    let (a, b) = (Beat(AtomicU64::new(0)), Beat(AtomicU64::new(0)));
+    let (a, b) = (Apart(AtomicU64::new(0)), Apart(AtomicU64::new(0)));
     let (writes, reads) = thread::scope(|s| {
-        let (cell, a, b) = (&cell, &a, &b);
+        let (cell, a, b) = (&cell.0, &a, &b);
         let writer = s.spawn(move || {
             let (mut put, mut item) = (R::Put::default(), [0; N]);
             side(start, 1_000, a, b, |number| {
