@@ -1,9 +1,11 @@
 -- The words of the contract, of the passes of a four-slot cell.
-use Rattle.std.specs.Prelude.{◌≡◌, ℕ, List}
+use Rattle.std.specs.Prelude.{◌≡◌, ℕ, ◌+◌, List, [], ◌∷◌, ◌++◌}
 use Rattle.fourslot_core.specs.Events.{slot_number}
 use Rattle.fourslot_core.specs.declared.event.WriteEvent.{WriteEvent}
 use Rattle.fourslot_core.specs.declared.event.ReadEvent.{ReadEvent}
-use Rattle.cell_live.specs.Running.{Name, IsName}
+use Rattle.fourslot_core.specs.declared.event.ReadEvent.TheVariants.{R1, R2, R3, R4, R5}
+use Rattle.cell_live.specs.Running.{Name, IsName, IsAnswer}
+use Rattle.cell_live.specs.Triple.{snap}
 use Rattle.cell_live.specs.FourSlotSteps.{first_writer, first_reader, writer_or, reader_or, receipt_or}
 use Rattle.cell_live.specs.declared.four_slot.notes.WriterNotes.{WriterNotes}
 use Rattle.cell_live.specs.declared.four_slot.notes.ReaderNotes.{ReaderNotes}
@@ -66,3 +68,18 @@ module _ {T : Type 0} where
 
   abbrev pub held_by : FourSlotGet T → List (ℕ × T)
   held_by g = g.seat.me.1
+
+  -- the record in the slot that the pass holds
+  abbrev pub at_hand_of : FourSlotGet T → T
+  at_hand_of g = (get_notes g).at_hand.value
+
+  -- what the three control accesses of a read make of its pass: the slot is taken, and what it has is the answer
+  pub record HasChosen (fits : T → Type 0) (rises : T → T → Type 0) (c : FourSlotCell T) (g h : FourSlotGet T) (slot : ℕ) : Type 0 where
+    pub own : is_get_of c h
+    pub answers : answers_of h ≡ answers_of g ++ at_hand_of h ∷ []
+    pub told : told_to h ≡ told_to g
+    pub running : IsAnswer fits rises (opening_of c) (answers_of g) (told_to g) (at_hand_of h)
+    pub accesses : reader_accesses h ≡ reader_accesses g + 3
+    pub events : read_events h ≡ read_events g ++ R1 ∷ R2 ∷ R3 ∷ R4 ∷ R5 (snap (at_hand_of h)) ∷ []
+    pub held : held_by h ≡ (slot, at_hand_of h) ∷ []
+    pub chosen : chosen_slot h ≡ slot

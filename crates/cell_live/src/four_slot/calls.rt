@@ -5,7 +5,7 @@ ghost use Rattle.fourslot_core.specs.declared.event.ReadEvent.TheVariants.{R1, R
 ghost use Rattle.cell_live.specs.Running.{last_or, IsAnswer};
 ghost use Rattle.cell_live.specs.Triple.{snap};
 ghost use Rattle.cell_live.specs.FourSlotSteps.{first_sight};
-ghost use Rattle.cell_live.specs.FourSlotWords.{opening_of, is_put_of, is_get_of, is_told_of, written_by, answers_of, told_to, named_by, write_events, read_events, writer_accesses, reader_accesses, chosen_slot, held_by};
+ghost use Rattle.cell_live.specs.FourSlotWords.{opening_of, is_put_of, is_get_of, is_told_of, written_by, answers_of, told_to, named_by, write_events, read_events, writer_accesses, reader_accesses, chosen_slot, held_by, HasChosen};
 
 use super::bits::{begin, bit_of, bit_word, is_one, slot_of, with_bit, word_of};
 use super::plays::{Asks, Ends, Finishes, Hears, Parts, Says, Stores, Takes, Tells};
@@ -30,6 +30,22 @@ fn table_of<T: Lawful>(alloc: Global, first: T) -> Result<(Slots<T>, Place<T>), 
     slots.push(first).map_err(|_| AllocError)?;
     slots.push(first).map_err(|_| AllocError)?;
     Table::new(alloc, &[0, 0, 0, 0], slots, &first).map_err(|_| AllocError)
+}
+
+/// The control accesses of a read, which take the slot that has the answer. Gives its number.
+#[inline]
+fn choose<T: Lawful>(cell: &FourSlotCell<T>, get: &mut FourSlotGet<T>) -> usize
+    requires { is_get_of cell.now get.old }
+    ensures { HasChosen T.fits T.rises cell.now get.old get.new result }
+{
+    let shared = &cell.slots.shared;
+    let latest = shared.load::<Asks>(&mut get.seat, 0);
+    let pair = is_one(latest);
+    shared.store::<Says>(&mut get.seat, 1, latest);
+    let word = word_of(pair);
+    let bit = shared.load::<Takes>(&mut get.seat, word);
+    let index = is_one(bit);
+    slot_of(pair, index)
 }
 
 impl<T: Lawful> Calls<T> for FourSlotCell<T> {
@@ -113,15 +129,8 @@ impl<T: Lawful> Calls<T> for FourSlotCell<T> {
         // The pass holds the slot that this call's R3 took, and the answer is the record with which it came.
         ensures held { held_by get.new ≡ (chosen_slot get.new, result) ∷ [] }
     {
-        let shared = &self.slots.shared;
-        let latest = shared.load::<Asks>(&mut get.seat, 0);
-        let pair = is_one(latest);
-        shared.store::<Says>(&mut get.seat, 1, latest);
-        let word = word_of(pair);
-        let bit = shared.load::<Takes>(&mut get.seat, word);
-        let index = is_one(bit);
-        let slot = slot_of(pair, index);
-        copy_out(shared, &mut get.seat, slot, get.spare)
+        let slot = choose(self, get);
+        copy_out(&self.slots.shared, &mut get.seat, slot, get.spare)
     }
 
     fn tell(&self, put: &mut FourSlotPut<T>) -> FourSlotTold<T> {

@@ -1,4 +1,4 @@
--- Each clause is read off the view that the three accesses leave, one after the other; filling the slot leaves the view as it is.
+-- Each step tells the notes what it did: after the fifth event the record is the last one written, and both bits are remembered.
 use Rattle.std.proofs.Common.{rules, arith, ◌≡◌, ◌+◌, ◌∷◌, [], not, Bool, sym, ap, ◌∙◌, subst, refl}
 use Rattle.fourslot_core.specs.Events.{side, with_side, place_of, bit_number, slot_number}
 use Rattle.cell_live.specs.Running.{last_or, held_slots}
@@ -64,50 +64,17 @@ invariant_of-put g c = let put = c.args.put.now in let d : WriterNotes g.row.T.D
       newest = ap (λ z. (writer_or d' z).finished.value) w ∙ sym (ap (λ z. last_or {T = g.row.T.Denot} (writer_or d' z).opening.value (writer_or d' z).written) w ∙ last_snoc p.opening.value p.written c.args.item);
     }
 
-pub returns-clause-own : goal.returns-clause-own
-returns-clause-own g c = let put = c.args.put.now in let d : WriterNotes g.row.T.Denot = first_writer put.spare in let p : WriterNotes g.row.T.Denot = writer_or d put.seat.me.0 in let is : put.seat.me.0 ≡ Writer p = ap (λ m. m.0) put.known in
+pub returns : goal.returns
+returns g c = let put = c.args.put.now in let d : WriterNotes g.row.T.Denot = first_writer put.spare in let p : WriterNotes g.row.T.Denot = writer_or d put.seat.me.0 in let is : put.seat.me.0 ≡ Writer p = ap (λ m. m.0) put.known in
     let t = c.begin-reading.ensures.begun p c.args.item is (ap (λ z. z ∷ []) c.of-named.ensures) in let b : Bool = t.0 in let q : WriterNotes g.row.T.Denot = begun_with p b c.args.item in
     let pair : not c.is_one-pair.result ≡ not b = ap not (c.is_one-pair.ensures b t.2) in
     let index : not c.bit_of-index.result ≡ not (side p.remembered (not b)) = ap not (c.bit_of-index.ensures ∙ (λ i. side (sym put.bits i) (pair i))) in
     let slot : c.slot_of-slot.result ≡ slot_number q.place = c.slot_of-slot.ensures ∙ (λ i. slot_number (place_of (pair i) (index i))) in
     let now = c.fill.ensures.filled in let me0 = ap (λ m. m.0) now ∙ t.3 in let me1 = ap (λ m. m.1) now ∙ (λ i. (slot i, c.args.item) ∷ []) in
-    let word : c.word_of-word.result ≡ 2 + bit_number (not b) = c.word_of-word.ensures ∙ ap (λ z. 2 + bit_number z) pair in
     let v = c.store.ensures.2 q me0 me1 in let q2 : WriterNotes g.row.T.Denot = stored_by q in
-    let u = c.store-2.ensures.2 q2 v.0 in let d' : WriterNotes g.row.T.Denot = first_writer put.spare in let w = u.0 in
-    let same : c.store-2.new.seat.table_id ≡ put.seat.table_id = search rules in (λ i. record { table = same i; opening = (writer_or d' (w i)).opening.value }) ∙ c.requires.own
-
-pub returns-clause-written : goal.returns-clause-written
-returns-clause-written g c = let put = c.args.put.now in let d : WriterNotes g.row.T.Denot = first_writer put.spare in let p : WriterNotes g.row.T.Denot = writer_or d put.seat.me.0 in let is : put.seat.me.0 ≡ Writer p = ap (λ m. m.0) put.known in
-    let t = c.begin-reading.ensures.begun p c.args.item is (ap (λ z. z ∷ []) c.of-named.ensures) in let b : Bool = t.0 in let q : WriterNotes g.row.T.Denot = begun_with p b c.args.item in
-    let pair : not c.is_one-pair.result ≡ not b = ap not (c.is_one-pair.ensures b t.2) in
-    let index : not c.bit_of-index.result ≡ not (side p.remembered (not b)) = ap not (c.bit_of-index.ensures ∙ (λ i. side (sym put.bits i) (pair i))) in
-    let slot : c.slot_of-slot.result ≡ slot_number q.place = c.slot_of-slot.ensures ∙ (λ i. slot_number (place_of (pair i) (index i))) in
-    let now = c.fill.ensures.filled in let me0 = ap (λ m. m.0) now ∙ t.3 in let me1 = ap (λ m. m.1) now ∙ (λ i. (slot i, c.args.item) ∷ []) in
-    let word : c.word_of-word.result ≡ 2 + bit_number (not b) = c.word_of-word.ensures ∙ ap (λ z. 2 + bit_number z) pair in
-    let v = c.store.ensures.2 q me0 me1 in let q2 : WriterNotes g.row.T.Denot = stored_by q in
-    let u = c.store-2.ensures.2 q2 v.0 in let d' : WriterNotes g.row.T.Denot = first_writer put.spare in let w = u.0 in
-    ap (λ z. (writer_or d' z).written) w
-
-pub returns-clause-accesses : goal.returns-clause-accesses
-returns-clause-accesses g c = let put = c.args.put.now in let d : WriterNotes g.row.T.Denot = first_writer put.spare in let p : WriterNotes g.row.T.Denot = writer_or d put.seat.me.0 in let is : put.seat.me.0 ≡ Writer p = ap (λ m. m.0) put.known in
-    let t = c.begin-reading.ensures.begun p c.args.item is (ap (λ z. z ∷ []) c.of-named.ensures) in let b : Bool = t.0 in let q : WriterNotes g.row.T.Denot = begun_with p b c.args.item in
-    let pair : not c.is_one-pair.result ≡ not b = ap not (c.is_one-pair.ensures b t.2) in
-    let index : not c.bit_of-index.result ≡ not (side p.remembered (not b)) = ap not (c.bit_of-index.ensures ∙ (λ i. side (sym put.bits i) (pair i))) in
-    let slot : c.slot_of-slot.result ≡ slot_number q.place = c.slot_of-slot.ensures ∙ (λ i. slot_number (place_of (pair i) (index i))) in
-    let now = c.fill.ensures.filled in let me0 = ap (λ m. m.0) now ∙ t.3 in let me1 = ap (λ m. m.1) now ∙ (λ i. (slot i, c.args.item) ∷ []) in
-    let word : c.word_of-word.result ≡ 2 + bit_number (not b) = c.word_of-word.ensures ∙ ap (λ z. 2 + bit_number z) pair in
-    let v = c.store.ensures.2 q me0 me1 in let q2 : WriterNotes g.row.T.Denot = stored_by q in
-    let u = c.store-2.ensures.2 q2 v.0 in let d' : WriterNotes g.row.T.Denot = first_writer put.spare in let w = u.0 in
-    ap (λ z. (writer_or d' z).accesses) w ∙ (let e : p.accesses + 1 + 1 + 1 ≡ p.accesses + 3 = omega arith in e)
-
-pub returns-clause-events : goal.returns-clause-events
-returns-clause-events g c = let put = c.args.put.now in let d : WriterNotes g.row.T.Denot = first_writer put.spare in let p : WriterNotes g.row.T.Denot = writer_or d put.seat.me.0 in let is : put.seat.me.0 ≡ Writer p = ap (λ m. m.0) put.known in
-    let t = c.begin-reading.ensures.begun p c.args.item is (ap (λ z. z ∷ []) c.of-named.ensures) in let b : Bool = t.0 in let q : WriterNotes g.row.T.Denot = begun_with p b c.args.item in
-    let pair : not c.is_one-pair.result ≡ not b = ap not (c.is_one-pair.ensures b t.2) in
-    let index : not c.bit_of-index.result ≡ not (side p.remembered (not b)) = ap not (c.bit_of-index.ensures ∙ (λ i. side (sym put.bits i) (pair i))) in
-    let slot : c.slot_of-slot.result ≡ slot_number q.place = c.slot_of-slot.ensures ∙ (λ i. slot_number (place_of (pair i) (index i))) in
-    let now = c.fill.ensures.filled in let me0 = ap (λ m. m.0) now ∙ t.3 in let me1 = ap (λ m. m.1) now ∙ (λ i. (slot i, c.args.item) ∷ []) in
-    let word : c.word_of-word.result ≡ 2 + bit_number (not b) = c.word_of-word.ensures ∙ ap (λ z. 2 + bit_number z) pair in
-    let v = c.store.ensures.2 q me0 me1 in let q2 : WriterNotes g.row.T.Denot = stored_by q in
-    let u = c.store-2.ensures.2 q2 v.0 in let d' : WriterNotes g.row.T.Denot = first_writer put.spare in let w = u.0 in
-    ap (λ z. (writer_or d' z).events) w ∙ write_joined p.events (W1 (snap c.args.item)) W2 W3 W4 W5
+    let w = (c.store-2.ensures.2 q2 v.0).0 in let same : c.store-2.new.seat.table_id ≡ put.seat.table_id = search rules in record {
+      own = (λ i. record { table = same i; opening = (writer_or d (w i)).opening.value }) ∙ c.requires.own;
+      written = ap (λ z. (writer_or d z).written) w;
+      accesses = ap (λ z. (writer_or d z).accesses) w ∙ (let e : p.accesses + 1 + 1 + 1 ≡ p.accesses + 3 = omega arith in e);
+      events = ap (λ z. (writer_or d z).events) w ∙ write_joined p.events (W1 (snap c.args.item)) W2 W3 W4 W5;
+    }

@@ -1,4 +1,4 @@
--- The first access is told the record that the call was given.
+-- The first load is told the record of the write.
 use Rattle.std.proofs.Common.{[], ◌∷◌}
 use Rattle.cell_live.proofs.four_slot.calls.FourSlotCellCalls.write.Given as goal
 
