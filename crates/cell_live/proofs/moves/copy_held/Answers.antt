@@ -1,3 +1,4 @@
+-- The seat holds the one slot alone, so what it reads there is all that it holds.
 use Rattle.std.proofs.Common.{◌∷◌, ap, ◌∙◌}
 use Rattle.cell_live.proofs.ListLaws.{may_exchange, none_behind}
 use Rattle.cell_live.proofs.moves.copy_held.Goals as goal

@@ -1,3 +1,4 @@
+-- The seat holds the one slot alone: what comes out of it is the whole of what it holds, and goes back in.
 use Rattle.std.proofs.Common.{rules, ◌∷◌, sym, ap, ◌∙◌}
 use Rattle.cell_live.proofs.ListLaws.{may_exchange, none_behind}
 use Rattle.cell_live.proofs.moves.copy_out.Goals as goal

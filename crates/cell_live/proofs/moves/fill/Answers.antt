@@ -1,3 +1,4 @@
+-- The seat holds the one slot alone, so after the exchange it holds the item and nothing else.
 use Rattle.std.proofs.Common.{◌∷◌, ap, ◌∙◌}
 use Rattle.cell_live.proofs.ListLaws.{may_exchange, none_behind}
 use Rattle.cell_live.proofs.moves.fill.Goals as goal
