@@ -44,19 +44,13 @@ pub(super) fn bit_of(bits: Sides<bool>, pair: bool) -> bool
 }
 
 #[inline]
-pub(super) fn with_bit(bits: Sides<bool>, pair: bool, bit: bool) -> Sides<bool>
-    ensures { result ≡ with_side bits pair bit }
+pub(super) fn set_bit(bits: &mut Sides<bool>, pair: bool, bit: bool)
+    ensures { bits.new ≡ with_side bits.old pair bit }
 {
     if pair {
-        Sides {
-            zero: bits.zero,
-            one: bit,
-        }
+        bits.one = bit;
     } else {
-        Sides {
-            zero: bit,
-            one: bits.one,
-        }
+        bits.zero = bit;
     }
 }
 

@@ -7,7 +7,7 @@ ghost use Rattle.cell_live.specs.Triple.{snap};
 ghost use Rattle.cell_live.specs.FourSlotSteps.{first_sight};
 ghost use Rattle.cell_live.specs.FourSlotWords.{opening_of, is_put_of, is_get_of, is_told_of, written_by, answers_of, told_to, named_by, write_events, read_events, writer_accesses, reader_accesses, chosen_slot, held_by, HasChosen};
 
-use super::bits::{begin, bit_of, bit_word, is_one, slot_of, with_bit, word_of};
+use super::bits::{begin, bit_of, bit_word, is_one, set_bit, slot_of, word_of};
 use super::plays::{Asks, Ends, Finishes, Hears, Parts, Says, Stores, Takes, Tells};
 use super::{FourSlot, FourSlotCell, FourSlotGet, FourSlotPut, FourSlotTold, Place, Slots};
 use crate::cell::{Calls, Cell, Kept, Lawful};
@@ -114,7 +114,7 @@ impl<T: Lawful> Calls<T> for FourSlotCell<T> {
         let word = word_of(pair);
         shared.store::<Stores>(&mut put.seat, word, bit_word(index));
         shared.store::<Finishes>(&mut put.seat, 0, bit_word(pair));
-        put.remembered = with_bit(put.remembered, pair, index);
+        set_bit(&mut put.remembered, pair, index);
     }
 
     #[inline]

@@ -60,7 +60,7 @@ invariant_of-put g c = let put = c.args.put.now in let d : WriterNotes g.row.T.D
     record {
       known = λ i. ((w ∙ ap (λ z. Writer (writer_or d' z)) (sym w)) i, (u.1 ∙ v.1) i);
       idle = ap (λ z. (writer_or d' z).stage) w;
-      bits = ap (λ z. (writer_or d' z).remembered) w ∙ ((λ i. with_side (put.bits i) (sym pair i) (sym index i)) ∙ sym c.with_bit-put.ensures);
+      bits = ap (λ z. (writer_or d' z).remembered) w ∙ ((λ i. with_side (put.bits i) (sym pair i) (sym index i)) ∙ sym c.set_bit.ensures);
       newest = ap (λ z. (writer_or d' z).finished.value) w ∙ sym (ap (λ z. last_or {T = g.row.T.Denot} (writer_or d' z).opening.value (writer_or d' z).written) w ∙ last_snoc p.opening.value p.written c.args.item);
     }
 
