@@ -1,3 +1,4 @@
+-- Each call leaves the passes those of this cell.
 use Rattle.cells_bench.proofs.solo.both.Given as goal
 
 abbrev pub invariant-loop-number : goal.invariant-loop-number

@@ -1,3 +1,4 @@
+-- Each call leaves the passes those of this cell.
 use Rattle.cells_bench.proofs.solo.per_call.Given as goal
 
 abbrev pub invariant-loop : goal.invariant-loop

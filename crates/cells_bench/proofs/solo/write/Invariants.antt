@@ -1,3 +1,4 @@
+-- Each call leaves the pass one of this cell.
 use Rattle.cells_bench.proofs.solo.write.Given as goal
 
 abbrev pub invariant-loop-number : goal.invariant-loop-number

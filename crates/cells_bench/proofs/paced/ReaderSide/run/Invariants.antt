@@ -1,3 +1,4 @@
+-- Each call leaves the pass one of this cell.
 use Rattle.cells_bench.proofs.paced.ReaderSide.run.Given as goal
 
 abbrev pub invariant-loop : goal.invariant-loop
