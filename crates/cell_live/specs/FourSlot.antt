@@ -1,6 +1,6 @@
 -- The rule of the running four-slot cell: word 0 is `latest`, word 1 `reading`, words 2 and 3 are the bits of the pairs, and
 -- the slot of a place has the number 2 * pair + index. Its states are those of the register of H. Simpson, Four-slot fully
--- asynchronous communication mechanism, 1990.
+-- asynchronous communication mechanism, IEE Proceedings E, 1990.
 use Rattle.std.specs.Prelude.{◌≡◌, ◌≢◌, ℕ, ◌+◌, ◌-◌, ◌<◌, ◌≤◌, Bool, Some, List, [], ◌∷◌, length, take, All, if◌then◌else◌}
 use mathlib.Core.Option.{some, Option as Opt}
 use lib.ListN.{get_elem?}

@@ -1,4 +1,4 @@
--- The steps of the running four-slot cell: what each tells its seat.
+-- The steps of the running four-slot cell: what each tells its seat (this project's own).
 use Rattle.std.specs.Prelude.{◌≡◌, ℕ, ◌+◌, Bool, false, not, Option, None, Some, List, [], ◌∷◌, ◌++◌}
 use Rattle.atomic_table.specs.Table.{Me, Step}
 use Rattle.fourslot_core.specs.declared.state.Place.{Place}

@@ -1,4 +1,4 @@
--- The words of the contract, of the passes of a four-slot cell.
+-- The words of the contract, of the passes of a four-slot cell (this project's own).
 use Rattle.std.specs.Prelude.{◌≡◌, ℕ, ◌+◌, List, [], ◌∷◌, ◌++◌}
 use Rattle.fourslot_core.specs.Events.{slot_number}
 use Rattle.fourslot_core.specs.declared.event.WriteEvent.{WriteEvent}

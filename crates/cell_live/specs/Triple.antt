@@ -1,4 +1,5 @@
--- The rule of the triple buffer: one word, `middle + 4 * fresh`, and three slots.
+-- The rule of the triple buffer: one word, `middle + 4 * fresh`, and three slots. The triple buffer is in common use; the layout of
+-- the word is this project's own.
 use Rattle.std.specs.Prelude.{◌≡◌, ◌≢◌, ℕ, ◌+◌, ◌*◌, ◌%◌, ◌<◌, ◌≤◌, [], ◌∷◌, ◌++◌, length, All}
 use mathlib.Core.Option.{some}
 use lib.ListN.{get_elem?}

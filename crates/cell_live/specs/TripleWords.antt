@@ -1,4 +1,4 @@
--- The words of the contract, of the passes of a triple buffer.
+-- The words of the contract, of the passes of a triple buffer (this project's own).
 use Rattle.std.specs.Prelude.{◌≡◌, ℕ, ◌+◌, ◌<◌, ◌≤◌, List, [], ◌∷◌, ◌++◌}
 use Rattle.cell_live.specs.Running.{Name, IsName, IsAnswer}
 use Rattle.cell_live.specs.Triple.{first_put, first_get, put_or, get_or, told_or}
