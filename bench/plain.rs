@@ -102,33 +102,26 @@ impl<const N: usize> Register<N> for Triple<N> {
     }
 }
 
-impl<const N: usize> Register<N> for Mutex<Record<N>> {
-    type Put = ();
-    type Get = ();
-    fn make() -> Self {
-        Mutex::new([0; N])
-    }
-    fn write(&self, _: &mut (), item: Record<N>) {
-        *self.lock().unwrap() = item
-    }
-    fn read(&self, _: &mut ()) -> Record<N> {
-        *self.lock().unwrap()
-    }
+macro_rules! locked {
+    ($lock:ident, $write:ident, $read:ident) => {
+        impl<const N: usize> Register<N> for $lock<Record<N>> {
+            type Put = ();
+            type Get = ();
+            fn make() -> Self {
+                $lock::new([0; N])
+            }
+            fn write(&self, _: &mut (), item: Record<N>) {
+                *self.$write().unwrap() = item
+            }
+            fn read(&self, _: &mut ()) -> Record<N> {
+                *self.$read().unwrap()
+            }
+        }
+    };
 }
 
-impl<const N: usize> Register<N> for RwLock<Record<N>> {
-    type Put = ();
-    type Get = ();
-    fn make() -> Self {
-        RwLock::new([0; N])
-    }
-    fn write(&self, _: &mut (), item: Record<N>) {
-        *self.write().unwrap() = item
-    }
-    fn read(&self, _: &mut ()) -> Record<N> {
-        *self.read().unwrap()
-    }
-}
+locked!(Mutex, lock, lock);
+locked!(RwLock, write, read);
 
 fn mark<const N: usize>(item: &mut Record<N>, number: u64) {
     item[0] = number;
