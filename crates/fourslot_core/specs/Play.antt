@@ -1,10 +1,9 @@
 -- Schedules of one cell, and the run of one (this project's own).
 use Rattle.std.specs.Prelude.{ℕ, List, [], ◌∷◌, map, replicate, get_or}
-use Rattle.history_core.specs.declared.play.TheConstants.{MAX_LIMIT}
 use Rattle.history_core.specs.declared.play.PlayError.{PlayError}
 use Rattle.history_core.specs.declared.play.PlayError.TheVariants.{NoMemory, TooManySteps}
 use Rattle.history_core.specs.declared.play.Wish.TheVariants.{Write, Read}
-use Rattle.history_core.specs.Schedules.{Span, cell_accesses, HasOperations, IsFirstOverrun}
+use Rattle.history_core.specs.Schedules.{Span, cell_accesses, max_limit, HasOperations, IsFirstOverrun}
 use Rattle.fourslot_core.specs.declared.schedule.Turn.{Turn}
 use Rattle.fourslot_core.specs.declared.schedule.Turn.TheVariants.{Writer, Reader}
 use Rattle.fourslot_core.specs.Traces.{Trace, moments_from, trace}
@@ -17,7 +16,7 @@ actor Reader = 1
 -- the schedule as one term: the writer makes these writes, the reader so many reads, each in five steps
 abbrev pub span_of : {R : Type 0} → List Turn → List R → ℕ → Span R
 span_of steps writes reads =
-    record { limit = MAX_LIMIT; accesses = cell_accesses; plans = map Write writes ∷ (replicate reads Read ∷ []); steps = map actor steps }
+    record { limit = max_limit; accesses = cell_accesses; plans = map Write writes ∷ (replicate reads Read ∷ []); steps = map actor steps }
 
 -- why a schedule isn't played: a step without an operation, the first one; or want of memory, where each step has its own
 abbrev pub IsRefusal : {R : Type 0} → Span R → PlayError → Type 0

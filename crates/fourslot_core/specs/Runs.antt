@@ -2,9 +2,9 @@
 -- player's private functions cite this, which is this project's own; what `play_cell` promises stands in CellReports.
 use Rattle.std.specs.Prelude.{◌≡◌, ℕ, ◌+◌, List, [], ◌∷◌, length, map, Option}
 use Rattle.std.specs.List.{fold}
+use Rattle.history_core.specs.Schedules.{max_limit}
 use Rattle.history_core.specs.declared.history.Op.{Op}
 use Rattle.history_core.specs.declared.history.Term.{Term}
-use Rattle.history_core.specs.declared.play.TheConstants.{MAX_LIMIT}
 use Rattle.fourslot_core.specs.declared.schedule.Turn.{Turn}
 use Rattle.fourslot_core.specs.declared.schedule.Turn.TheVariants.{Writer, Reader}
 use Rattle.fourslot_core.specs.declared.player.Numbered.{Numbered}
@@ -71,7 +71,7 @@ pub record IsAssembled {R : Type 0} (log : Log (Numbered R)) (steps : List Turn)
   pub are_writer_ends : IsAccessesOf 0 4 (map actor steps) writer_ends
   pub are_reader_ends : IsAccessesOf 1 4 (map actor steps) reader_ends
   pub are_stores : IsAccessesOf 0 3 (map actor steps) stores
-  pub terms_are : terms ≡ record { first = 0; limit = MAX_LIMIT } ∷ []
+  pub terms_are : terms ≡ record { first = 0; limit = max_limit } ∷ []
   pub ops_are : ops ≡ map (op_of writes writer_ends reader_ends log.answers) parts
   pub slots_are : slots ≡ map (slot_of log.write_slots log.read_slots) parts
   pub ordered : IsOrdered parts (length stores) log.answers order

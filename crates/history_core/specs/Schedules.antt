@@ -20,6 +20,10 @@ matrix_accesses n = 2 * (n - 1)
 abbrev pub board_accesses : ℕ → ℕ
 board_accesses n = 10 * (n - 1)
 
+-- the greatest limit of a term
+abbrev pub max_limit : ℕ
+max_limit = 18446744073709551614
+
 -- one term of a schedule: its limit, the accesses of each of its operations, what each actor is to do, and the actor of
 -- each step
 pub record Span (R : Type 0) : Type 0 where

@@ -1,11 +1,12 @@
 //! The matrix and its events, each one whole access of a cell.
 
 ghost use Rattle.std.specs.Prelude.{◌≡◌, ◌+◌, ◌-◌, ◌*◌, ◌<◌, ◌≤◌, ◌^◌, ℕ, length, replicate, vec_len, IfOk, Some, slice_get, slice_set};
+ghost use Rattle.history_core.specs.Schedules.{max_limit};
 ghost use Rattle.matrix_core.specs.declared.matrix.Progress.{Progress};
 ghost use Rattle.matrix_core.specs.Events.{Matrix, after_access, after_read, after_write, cell_place, chosen, first_record, IsMatrix, opening_matrix, other, size, stage_of};
 
 use crate::stamp::{Stamp, Stamped};
-use history_core::{MAX_LIMIT, Wish};
+use history_core::Wish;
 use std::alloc::{AllocError, Global};
 use std::marker::Model;
 
@@ -65,7 +66,7 @@ impl<R: Copy> MatrixCore<R> {
     /// The matrix of `n` processes in which every record is the opening, with tag 0 of writer 0.
     pub fn new(alloc: Global, n: usize, limit: u64, opening: R) -> Result<MatrixCore<R>, AllocError>
         requires processes { 2 ≤ n × n ≤ 16 }
-        requires limit { 1 ≤ limit × limit ≤ MAX_LIMIT }
+        requires limit { 1 ≤ limit × limit ≤ max_limit }
         ensures matrix { IfOk result (λ core. core ≡ opening_matrix n limit opening) }
         ensures size { IfOk result (λ core. size core ≡ n) }
     {

@@ -1,8 +1,8 @@
 -- The report is made of the parts and the ends of the steps and of the log of their run.
 use Rattle.std.proofs.Common.{◌≡◌, ℕ, List, [], ◌∷◌, ◌++◌, length, map, Option, subst, ap, sym, ◌∙◌}
+use Rattle.history_core.specs.Schedules.{max_limit}
 use Rattle.history_core.specs.declared.history.Op.{Op}
 use Rattle.history_core.specs.declared.history.Term.{Term}
-use Rattle.history_core.specs.declared.play.TheConstants.{MAX_LIMIT}
 use Rattle.fourslot_core.specs.declared.player.Numbered.{Numbered}
 use Rattle.fourslot_core.specs.declared.player.Part.{Part}
 use Rattle.fourslot_core.specs.Parts.{op_of, slot_of}
@@ -48,7 +48,7 @@ returns-clause-assembled g c =
       are_stores = c.in_ok-read_steps.ensures.are_stores;
       terms_are =
           c.new.ensures ∙ c.in_ok-push.ensures.items
-          ∙ ap (λ (terms : List Term). terms ++ record { first = 0; limit = MAX_LIMIT } ∷ []) c.new-terms.ensures.items;
+          ∙ ap (λ (terms : List Term). terms ++ record { first = 0; limit = max_limit } ∷ []) c.new-terms.ensures.items;
       ops_are = ops_along {R = g.row.R.Denot} c.args.writes.now writer_ends reader_ends c.in_ok-read_steps.field-0.parts.items c.as_slice-parts.result.now c.new-2.result c.in_ok-ops.ops.items (shown run) (numbered_run c.args.opening c.args.noise c.args.writes.now c.args.steps.now) c.as_slice-parts.ensures.value c.new-2.ensures c.in_ok-ops.ensures c.in_ok-play.ensures;
       ordered = ordered_along {R = g.row.R.Denot} c.in_ok-read_steps.field-0.parts.items c.as_slice-parts.result.now (length c.in_ok-read_steps.field-0.stores.items) c.new-4.result c.in_ok-order.order.items (shown run) (numbered_run c.args.opening c.args.noise c.args.writes.now c.args.steps.now) c.as_slice-parts.ensures.value c.new-4.ensures c.in_ok-order.ensures c.in_ok-play.ensures;
       slots_are = slots_along {R = g.row.R.Denot} c.in_ok-read_steps.field-0.parts.items c.as_slice-parts.result.now c.new-3.result c.in_ok-slots.slots.items (shown run) (numbered_run c.args.opening c.args.noise c.args.writes.now c.args.steps.now) c.as_slice-parts.ensures.value c.new-3.ensures c.in_ok-slots.ensures c.in_ok-play.ensures;
