@@ -186,7 +186,7 @@ module _ {T : Type 0} (fits : T → Type 0) (rises : T → T → Type 0) (o : T)
               (λ j v other e. sight_put o p p' g (shown_number r) shown' r.writer r.writer r.reader j (λ z. other (z ∙ sym own))
               (λ z st. stands_more o p.written (shown_number r) shown' grows z st) v (r.each_seat j v e));
         },
-        λ q is' holds''. let also : p ≡ q = ap (writer_or p) (sym is ∙ is') in ((λ j. Writer (stored_by (also j))), ap rest holds'),
+        λ q is' holds''. let also : p ≡ q = ap (writer_or p) (sym is ∙ is') in ((λ j. Writer (stored_by (also j))), ap rest holds', refl),
       )
 
   pub stores_ok : (slots id : ℕ) (me : M) (p : WriterNotes T) (i new : ℕ) → me.0 ≡ Writer p → me.1 ≡ (slot_number p.place, p.item.value) ∷ [] → p.stage ≡ writer.W3 → i ≡ 2 + bit_number p.place.pair → new ≡ bit_number p.place.index
@@ -235,7 +235,7 @@ module _ {T : Type 0} (fits : T → Type 0) (rises : T → T → Type 0) (o : T)
               (λ j v other e. sight_put o p p' g (shown_number r) shown' r.writer r.writer r.reader j (λ z. other (z ∙ sym own))
               (λ z st. stands_more o p.written (shown_number r) shown' grows z st) v (r.each_seat j v e));
         },
-        λ q is'. let also : p ≡ q = ap (writer_or p) (sym is ∙ is') in ((λ j. Writer (finished_by (also j))), refl),
+        λ q is'. let also : p ≡ q = ap (writer_or p) (sym is ∙ is') in ((λ j. Writer (finished_by (also j))), refl, refl),
       )
 
   pub finishes_ok : (slots id : ℕ) (me : M) (p : WriterNotes T) (new : ℕ) → me.0 ≡ Writer p → p.stage ≡ writer.W4 → new ≡ bit_number p.place.pair → Allows Rule slots id me 0 (λ _. new) (λ _. finishes (step slots 0 new 0 none) me new)
@@ -324,7 +324,7 @@ module _ {T : Type 0} (fits : T → Type 0) (rises : T → T → Type 0) (o : T)
           each_seat = seats_stay (Sees o p g' (shown_number r) r.writer r.reader) s.views id w (refl, own)
               (λ j v other e. sight_get o p g g' (shown_number r) r.writer r.reader r.reader j (λ z. other (z ∙ sym own)) v (r.each_seat j v e));
         },
-        λ q is' holds'. let also : g ≡ q = ap (reader_or g) (sym is ∙ is') in ((λ j. Reader (said_by (also j))), ap rest holds ∙ rest_of_choice g.chosen g.at_hand.value),
+        λ q is' holds'. let also : g ≡ q = ap (reader_or g) (sym is ∙ is') in ((λ j. Reader (said_by (also j))), ap rest holds ∙ rest_of_choice g.chosen g.at_hand.value, refl),
       )
 
   pub says_ok : (slots id : ℕ) (me : M) (g : ReaderNotes T) (new : ℕ) → me.0 ≡ Reader g → me.1 ≡ slot_of_choice g.chosen g.at_hand.value → g.stage ≡ reader.R1 → new ≡ bit_number g.place.pair → Allows Rule slots id me 1 (λ _. new) (λ _. says (step slots 1 new 0 none) me new)

@@ -1,5 +1,5 @@
 -- Each step of the triple buffer keeps its rule.
-use Rattle.std.proofs.Common.{◌≡◌, ◌≢◌, ℕ, zero, suc, ◌+◌, ◌*◌, ◌%◌, ◌<◌, List, [], ◌∷◌, ◌++◌, length, All, get_or, set, sym, ◌⊎◌, refl, ap, ◌∙◌, subst, ⊎_elim, inl, inr, arith, length-set}
+use Rattle.std.proofs.Common.{◌≡◌, ◌≢◌, ℕ, zero, suc, ◌+◌, ◌*◌, ◌%◌, ◌<◌, List, [], ◌∷◌, ◌++◌, length, All, get_or, set, sym, ◌⊎◌, refl, ap, ◌∙◌, subst, ⊎_elim, inl, inr, arith, length-set, length-append}
 use mathlib.Core.Logic.{dite}
 use mathlib.Core.Option.{Option, none, some, some-injective, some-ne-none}
 use native.Mathlib.Decide.{ℕ_discrete}
@@ -87,6 +87,7 @@ module _ {T : Type 0} (fits : T → Type 0) (rises : T → T → Type 0) (o : T)
           marked = λ _. sym last;
           unmarked = λ z. absurd (omega arith);
           asked = λ _. refl;
+          unread = λ _. let long = length-append r.put.written (x ∷ []) in omega arith;
           openings = r.openings;
           lawful = (r.lawful.0, rising_snoc fits rises o r.put.written x r.lawful.1 f g);
           settled = settled_more (o ∷ r.put.written) (x ∷ []) r.get.answers r.settled;
@@ -131,6 +132,7 @@ module _ {T : Type 0} (fits : T → Type 0) (rises : T → T → Type 0) (o : T)
           marked = r.marked;
           unmarked = r.unmarked;
           asked = r.asked;
+          unread = r.unread;
           openings = r.openings;
           lawful = r.lawful;
           settled = r.settled;
@@ -171,6 +173,7 @@ module _ {T : Type 0} (fits : T → Type 0) (rises : T → T → Type 0) (o : T)
           marked = r.marked;
           unmarked = r.unmarked;
           asked = r.asked;
+          unread = r.unread;
           openings = r.openings;
           lawful = r.lawful;
           settled = r.settled;
@@ -219,6 +222,7 @@ module _ {T : Type 0} (fits : T → Type 0) (rises : T → T → Type 0) (o : T)
       marked = r.marked;
       unmarked = λ z. c ∙ r.unmarked z;
       asked = asks;
+      unread = r.unread;
       openings = (r.openings.0, d ∙ r.openings.1);
       lawful = r.lawful;
       settled = sets;
@@ -288,6 +292,7 @@ module _ {T : Type 0} (fits : T → Type 0) (rises : T → T → Type 0) (o : T)
             marked = λ z. absurd (omega arith);
             unmarked = λ _. last;
             asked = λ z. absurd (omega arith);
+            unread = λ z. absurd (omega arith);
             openings = r.openings;
             lawful = r.lawful;
             settled = subst (λ (z : T). Settled (o ∷ r.put.written) (g.answers ++ z ∷ [])) (sym last) (settled_last o r.put.written g.answers r.settled);
@@ -326,6 +331,7 @@ module _ {T : Type 0} (fits : T → Type 0) (rises : T → T → Type 0) (o : T)
     marked = r.marked;
     unmarked = λ z. c ∙ r.unmarked z;
     asked = λ z. r.asked (sym ask ∙ z);
+    unread = r.unread;
     openings = (r.openings.0, d ∙ r.openings.1);
     lawful = r.lawful;
     settled = subst (Settled (o ∷ r.put.written)) (sym ans) r.settled;
@@ -414,6 +420,7 @@ module _ {T : Type 0} (fits : T → Type 0) (rises : T → T → Type 0) (o : T)
     marked = λ z. absurd (omega arith);
     unmarked = λ _. refl;
     asked = λ z. absurd (omega arith);
+    unread = λ z. absurd (omega arith);
     openings = (refl, refl);
     lawful = (f, tt);
     settled = tt;

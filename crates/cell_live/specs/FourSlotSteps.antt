@@ -37,7 +37,8 @@ module _ {T : Type 0} where
   begins items st m n m' = (p : WriterNotes T) (x : T) → m.0 ≡ Writer p → items ≡ x ∷ []
       → (b : Bool) × (y : T) × (n ≡ bit_number b) × (m'.0 ≡ Writer (begun_with p b x)) × (m'.1 ≡ (slot_number (begun_with p b x).place, y) ∷ [])
 
-  -- W4: the store of the index in the pair's bit, with which the seat gives its slot back
+  -- W4: the store of the index in the pair's bit, with which the seat gives its slot back. Of a plain store nothing else is
+  -- found than what it stores, which no exchange of the word could say.
   abbrev pub stored_by : WriterNotes T → WriterNotes T
   stored_by p = record p {
     stage = writer.W4;
@@ -47,14 +48,14 @@ module _ {T : Type 0} where
   }
 
   abbrev pub stores : Step T → Sat T → ℕ → Sat T → Type 0
-  stores st m n m' = (p : WriterNotes T) → m.0 ≡ Writer p → m.1 ≡ (slot_number p.place, p.item.value) ∷ [] → (m'.0 ≡ Writer (stored_by p)) × (m'.1 ≡ [])
+  stores st m n m' = (p : WriterNotes T) → m.0 ≡ Writer p → m.1 ≡ (slot_number p.place, p.item.value) ∷ [] → (m'.0 ≡ Writer (stored_by p)) × (m'.1 ≡ []) × (n ≡ st.first)
 
   -- W5: the store of the pair in `latest`. The record counts as finished.
   abbrev pub finished_by : WriterNotes T → WriterNotes T
   finished_by p = record p { stage = writer.W5; finished = p.item; events = p.events ++ W5 ∷ []; accesses = p.accesses + 1 }
 
   abbrev pub finishes : Step T → Sat T → ℕ → Sat T → Type 0
-  finishes st m n m' = (p : WriterNotes T) → m.0 ≡ Writer p → (m'.0 ≡ Writer (finished_by p)) × (m'.1 ≡ m.1)
+  finishes st m n m' = (p : WriterNotes T) → m.0 ≡ Writer p → (m'.0 ≡ Writer (finished_by p)) × (m'.1 ≡ m.1) × (n ≡ st.first)
 
   -- R1: the load of `latest`, which is b
   abbrev pub asked_by : ReaderNotes T → Bool → ReaderNotes T
@@ -73,7 +74,7 @@ module _ {T : Type 0} where
   said_by g = record g { stage = reader.R2; events = g.events ++ R2 ∷ []; accesses = g.accesses + 1 }
 
   abbrev pub says : Step T → Sat T → ℕ → Sat T → Type 0
-  says st m n m' = (g : ReaderNotes T) → m.0 ≡ Reader g → m.1 ≡ slot_of_choice g.chosen g.at_hand.value → (m'.0 ≡ Reader (said_by g)) × (m'.1 ≡ [])
+  says st m n m' = (g : ReaderNotes T) → m.0 ≡ Reader g → m.1 ≡ slot_of_choice g.chosen g.at_hand.value → (m'.0 ≡ Reader (said_by g)) × (m'.1 ≡ []) × (n ≡ st.first)
 
   -- R3, with R4 and R5, where the pair's bit is b: the slot of the pair and b, which has x
   abbrev pub got_by : ReaderNotes T → Bool → T → ReaderNotes T

@@ -70,6 +70,7 @@ pub record TripleRule {T : Type 0} (fits : T → Type 0) (rises : T → T → Ty
   pub marked : fresh ≡ 1 → in_middle ≡ last_or o put.written
   pub unmarked : fresh ≡ 0 → get.at_hand.value ≡ last_or o put.written
   pub asked : get.asked ≡ 1 → fresh ≡ 1
+  pub unread : fresh ≡ 1 → 0 < length put.written
   -- the lists
   pub openings : (put.opening.value ≡ o) × (get.opening.value ≡ o)
   pub lawful : fits o × Rising fits rises o put.written

@@ -75,7 +75,13 @@ impl<T: Lawful> Calls<T> for FourSlotCell<T> {
 
     ghost get_accesses = { reader_accesses };
 
-    fn make(alloc: Global, first: T) -> Result<(Self, FourSlotPut<T>, FourSlotGet<T>), AllocError> {
+    fn make(alloc: Global, first: T) -> Result<(Self, FourSlotPut<T>, FourSlotGet<T>), AllocError>
+        requires { T.fits first }
+        ensures own { IfOk result (λ r. (opening_of r.0 ≡ first) × is_put_of r.0 r.1 × is_get_of r.0 r.2) }
+        ensures empty { IfOk result (λ r. (written_by r.1 ≡ []) × (answers_of r.2 ≡ []) × (told_to r.2 ≡ [])) }
+        ensures unused { IfOk result (λ r. (writer_accesses r.1 ≡ 0) × (reader_accesses r.2 ≡ 0)) }
+        ensures events { IfOk result (λ r. (write_events r.1 ≡ []) × (read_events r.2 ≡ [])) }
+    {
         let (slots, mut put) = table_of(alloc, first)?;
         let get = slots.shared.split_seat::<Parts>(&mut put);
         Ok((
@@ -133,7 +139,13 @@ impl<T: Lawful> Calls<T> for FourSlotCell<T> {
         copy_out(&self.slots.shared, &mut get.seat, slot, get.spare)
     }
 
-    fn tell(&self, put: &mut FourSlotPut<T>) -> FourSlotTold<T> {
+    fn tell(&self, put: &mut FourSlotPut<T>) -> FourSlotTold<T>
+        requires { is_put_of self.now put.old }
+        ensures own { is_put_of self.now put.new × is_told_of self.now result }
+        ensures same { (written_by put.new ≡ written_by put.old) × (writer_accesses put.new ≡ writer_accesses put.old) }
+        ensures named { named_by result ≡ last_or (opening_of self.now) (written_by put.old) }
+        ensures events { write_events put.new ≡ write_events put.old }
+    {
         let seat = self.slots.shared.split_seat::<Tells>(&mut put.seat);
         FourSlotTold {
             seat,
@@ -141,7 +153,13 @@ impl<T: Lawful> Calls<T> for FourSlotCell<T> {
         }
     }
 
-    fn learn(&self, get: &mut FourSlotGet<T>, receipt: FourSlotTold<T>) {
+    fn learn(&self, get: &mut FourSlotGet<T>, receipt: FourSlotTold<T>)
+        requires { is_get_of self.now get.old × is_told_of self.now receipt }
+        ensures own { is_get_of self.now get.new }
+        ensures same { (answers_of get.new ≡ answers_of get.old) × (reader_accesses get.new ≡ reader_accesses get.old) }
+        ensures told { told_to get.new ≡ told_to get.old ++ named_by receipt ∷ [] }
+        ensures events { (read_events get.new ≡ read_events get.old) × (held_by get.new ≡ held_by get.old) }
+    {
         let FourSlotTold { seat, spare: _ } = receipt;
         self.slots.shared.join_seat::<Hears>(&mut get.seat, seat);
     }

@@ -1,6 +1,6 @@
 //! The calls of the triple buffer.
 ghost use Rattle.std.specs.Prelude.{◌≡◌, ℕ, ◌+◌, ◌<◌, ◌≤◌, [], ◌∷◌, ◌++◌};
-ghost use Rattle.cell_live.specs.Running.{IsAnswer};
+ghost use Rattle.cell_live.specs.Running.{last_or, IsAnswer};
 ghost use Rattle.cell_live.specs.TripleWords.{opening_of, is_put_of, is_get_of, is_told_of, written_by, answers_of, told_to, named_by, swaps_of_put, loads_of, swaps_of, held_by, found_by, HasLooked};
 
 use super::plays::{
@@ -81,7 +81,14 @@ impl<T: Lawful> Calls<T> for TripleCell<T> {
     }
 
     #[inline]
-    fn write(&self, put: &mut TriplePut<T>, item: T) {
+    fn write(&self, put: &mut TriplePut<T>, item: T)
+        requires own { is_put_of self.now put.old }
+        requires lawful { T.fits item × T.rises (last_or (opening_of self.now) (written_by put.old)) item }
+        ensures own { is_put_of self.now put.new }
+        ensures written { written_by put.new ≡ written_by put.old ++ item ∷ [] }
+        ensures accesses { swaps_of_put put.new ≤ swaps_of_put put.old + 3 }
+        ensures swapped { swaps_of_put put.new ≡ swaps_of_put put.old + 1 }
+    {
         fill(&self.slots.shared, &mut put.seat, put.slot, item);
         let found = self
             .slots
