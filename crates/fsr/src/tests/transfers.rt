@@ -2,7 +2,7 @@ use crate::run::run;
 use crate::stream::{Failed, Over, Sink, Source};
 use crate::tests::long::padded;
 use crate::tests::runs::{AMPLE, ROW};
-use crate::tests::streams::{Full, Kept, Pieces};
+use crate::tests::streams::{Full, InterruptedReader, InterruptedWriter, Kept, Pieces};
 use std::test::Fail;
 
 const READ_FAILED: &str = "fsr: read failed\n";
@@ -39,6 +39,47 @@ fn runs_over_hostile_streams(rt: HostRuntime) {
         let failed = Source::failures(&input) + Sink::failures(&out);
         assert_eq!(rt; failed, if status == 5 { 1 } else { 0 });
     }
+}
+
+/// An interrupted read is a failed one, and isn't tried again.
+#[test]
+fn ends_at_an_interrupted_read(rt: HostRuntime) {
+    let mut input = Over::new(InterruptedReader::new(ROW.as_bytes(), 10));
+    let mut out = Over::new(Kept::new(rt.alloc(), AMPLE, Full::Fails));
+    let mut faults = Over::new(Kept::new(rt.alloc(), AMPLE, Full::Fails));
+    let ended = run(
+        rt.alloc(),
+        &["fsr", "check"],
+        &mut input,
+        &mut out,
+        &mut faults,
+    );
+    assert_eq!(rt; ended, 5);
+    assert_eq!(rt; input.stream().taken(), 10);
+    assert!(rt; !input.stream().called_after());
+    assert_eq!(rt; Source::failures(&input), 1);
+    assert!(rt; out.stream().as_slice().is_empty());
+    assert!(rt; faults.stream().as_slice() == READ_FAILED.as_bytes());
+}
+
+/// An interrupted write is a failed one, and isn't tried again. What went out is a front of the text.
+#[test]
+fn ends_at_an_interrupted_write(rt: HostRuntime) {
+    let mut input = Over::new(Pieces::new(ROW.as_bytes(), 4096, AMPLE));
+    let mut out = Over::new(InterruptedWriter::new(rt.alloc(), 3));
+    let mut faults = Over::new(Kept::new(rt.alloc(), AMPLE, Full::Fails));
+    let ended = run(
+        rt.alloc(),
+        &["fsr", "check"],
+        &mut input,
+        &mut out,
+        &mut faults,
+    );
+    assert_eq!(rt; ended, 5);
+    assert!(rt; out.stream().as_slice() == b"law".as_slice());
+    assert!(rt; !out.stream().called_after());
+    assert_eq!(rt; Sink::failures(&out), 1);
+    assert!(rt; faults.stream().as_slice() == WRITE_FAILED.as_bytes());
 }
 
 /// A document is read to one byte more than the longest, also where more comes, and a failure of the fault lines' writer
