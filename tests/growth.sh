@@ -18,8 +18,8 @@ is_refusal() {
     esac
 }
 
-# Runs a program on an input, with these words, with each of its requests refused in turn. The answer that is wanted stands
-# in the file `wanted`, and the status is 0.
+# Runs a program on an input, with these words, with each of its requests refused in turn. What is wanted with ample memory:
+# the file `wanted` on standard output, `wanted_line` on standard error, and the status in $wanted_status.
 refuse_each() {
     program=$1 input=$2
     shift 2
@@ -36,7 +36,7 @@ refuse_each() {
         REFUSE=$request REFUSE_MARK=$room/met LD_PRELOAD=$room/refuse.so \
             "crates/$program/out/$program" "$@" <"$input" >"$room/out" 2>"$room/err"
         status=$?
-        if [ "$status" = 0 ] && cmp -s "$room/out" "$room/wanted" && [ ! -s "$room/err" ]; then
+        if [ "$status" = "$wanted_status" ] && cmp -s "$room/out" "$room/wanted" && cmp -s "$room/err" "$room/wanted_line"; then
             [ -e "$room/met" ] && continue
             break
         fi
@@ -62,11 +62,23 @@ if [ -z "$compiler" ]; then
 elif ! "$compiler" -O1 -shared -fPIC -o "$room/refuse.so" tests/refuse.c -ldl; then
     fail "refused growth" "tests/refuse.c wasn't compiled"
 else
+    wanted_status=0
+    : >"$room/wanted_line"
     for name in lawful cell matrix refused_write terms; do
         document=examples/$name.json
         cp "examples/$name.txt" "$room/wanted"
         refuse_each fsr "$document" "$(command_for "$document")"
     done
+    # Refused documents: the status is that of the line that is told.
+    : >"$room/wanted"
+    for name in no_limit too_many_steps; do
+        document=examples/$name.json
+        wanted_status=$(cat "examples/$name.status")
+        cp "examples/$name.txt" "$room/wanted_line"
+        refuse_each fsr "$document" "$(command_for "$document")"
+    done
+    wanted_status=0
+    : >"$room/wanted_line"
     for wanted in tests/growths/*.txt; do
         name=${wanted##*/}
         name=${name%.txt}

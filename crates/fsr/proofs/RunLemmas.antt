@@ -13,7 +13,7 @@ use Rattle.schedule_text.specs.declared.document.Want.{Want}
 use Rattle.schedule_text.specs.Document.{document_of}
 use Rattle.fsr.specs.Answers.{AnswersReading, Gives, IsAnswer, status_of}
 use Rattle.fsr.specs.Run.{Runs, IsWhole, fault_status}
-use Rattle.fsr.specs.Transfer.{TakesBytes, TellsFault}
+use Rattle.fsr.specs.Transfer.{TakesBytes}
 use Rattle.fsr.specs.declared.fault.Answer.{Answer}
 use Rattle.fsr.specs.declared.fault.Fault.{Fault}
 use Rattle.fsr.specs.declared.fault.Fault.TheVariants as fault
@@ -90,11 +90,6 @@ ends_refused want in_old in_new out taken given (fault.Document refusal) status 
     rw same (ends_with_fault want in_old in_new out taken (fault.Document refusal) takes whole (subst (λ b. IsAnswer want b (Err (fault.Document refusal))) same_bytes (refused (search rules))))
 ends_refused want in_old in_new out taken given (fault.Schedule position) status takes whole same_bytes refused (inl same) =
     rw same (ends_with_fault want in_old in_new out taken (fault.Schedule position) takes whole (subst (λ b. IsAnswer want b (Err (fault.Schedule position))) same_bytes (refused (search rules))))
-
--- the status with which a fault is told
-pub told_status : (old new : Option (List ℕ)) (failed_old failed_new : ℕ) (f : Fault) (status : ℕ) → TellsFault old new failed_old failed_new f status → (status ≡ fault_status f) ⊎ (status ≡ 4)
-told_status old new failed_old failed_new f status (inl told) = inl told.0
-told_status old new failed_old failed_new f status (inr told) = inr told.0
 
 verdict_is_low : (v : Verdict) → status_of v ≤ 1
 verdict_is_low Lawful = search rules

@@ -4,10 +4,7 @@ use Rattle.std.specs.Prelude.{◌≡◌, ◌≤◌, ◌+◌, ◌++◌, ◌⊎◌
 use Rattle.std.specs.declared.alloc.Global.{Global}
 use Rattle.std.specs.Io.{StartsWith}
 use Rattle.std.specs.Io.KnownBytes.{Appends, Consumes, IsAtEnd}
-use Rattle.fsr.specs.Faults.{fault_line}
-use Rattle.fsr.specs.Run.{IsWhole, fault_status, most_taken}
-use Rattle.fsr.specs.declared.fault.Fault.{Fault}
-use Rattle.fsr.specs.declared.fault.Fault.TheVariants as fault
+use Rattle.fsr.specs.Run.{IsWhole, most_taken}
 use Rattle.fsr.specs.declared.transfer.InputFault.{InputFault}
 use Rattle.fsr.specs.declared.transfer.InputFault.TheVariants.{Failed, NoMemory}
 
@@ -32,11 +29,3 @@ TakesMore old new before after (Err e) = (taken : List ℕ) × Consumes old new 
 -- the line went out, or the stream failed after a front of it
 abbrev pub Tells : Option (List ℕ) → Option (List ℕ) → ℕ → ℕ → List ℕ → Type 0
 Tells old new failed_old failed_new line = (Appends old new line × (failed_new ≡ failed_old)) ⊎ (((sent : List ℕ) × StartsWith line sent × Appends old new sent) × (failed_new ≡ failed_old + 1))
-
--- the line of a fault is told, and the status is the fault's
-abbrev pub TellsWithStatus : Option (List ℕ) → Option (List ℕ) → ℕ → ℕ → Fault → ℕ → Type 0
-TellsWithStatus old new failed_old failed_new told status = (status ≡ fault_status told) × Tells old new failed_old failed_new (fault_line told)
-
--- a fault is told, or, where its line found no memory, want of memory in its place
-abbrev pub TellsFault : Option (List ℕ) → Option (List ℕ) → ℕ → ℕ → Fault → ℕ → Type 0
-TellsFault old new failed_old failed_new told status = TellsWithStatus old new failed_old failed_new told status ⊎ TellsWithStatus old new failed_old failed_new fault.NoMemory status

