@@ -15,5 +15,5 @@ mod tests;
 pub use history_core::Wish;
 pub use matrix::{MatrixCore, MatrixStage, Outcome};
 pub use report::play_matrix;
-pub use schedule::{MatrixReport, MatrixSchedule, MatrixTerm};
+pub use schedule::{BoardReport, BoardSchedule, MatrixReport, MatrixSchedule, MatrixTerm};
 pub use stamp::{Stamp, Stamped};
