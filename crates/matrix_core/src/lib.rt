@@ -2,6 +2,7 @@
 //! of such a matrix with tags is credited to P. Vitányi and B. Awerbuch, FOCS 1986; the rules are this project's own.
 #![tactic(auto)]
 
+mod board;
 pub mod laws;
 mod matrix;
 mod order;
@@ -12,6 +13,7 @@ mod stamp;
 #[cfg(test)]
 mod tests;
 
+pub use board::BoardCore;
 pub use history_core::Wish;
 pub use matrix::{MatrixCore, MatrixStage, Outcome};
 pub use report::play_matrix;
