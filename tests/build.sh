@@ -1,4 +1,4 @@
-# What `fsr` and `test` share: how a program of the repository is built. Both name the folder at the top in $top.
+# What `fsr`, `picture` and `test` share: how a program of the repository is built. They name the folder at the top in $top.
 
 # Prints a crate and the crates of the repository that it stands on, lowest first.
 crates_below() {
@@ -15,6 +15,16 @@ crates_below() {
         END { visit(crate) }' "$top/crates.txt"
 }
 
+# Whether a program is there and no source that it is made of is newer. A program has the time at which its build began, so
+# that an edit during the build isn't missed.
+is_fresh() {
+    [ -x "$top/crates/$1/out/$1" ] || return 1
+    set -- "$top/crates/$1/out/$1" $(crates_below "$1" | sed "s|.*|$top/crates/&/src $top/crates/&/specs $top/crates/&/proofs|")
+    newer_than=$1
+    shift
+    [ -z "$(find "$top/crates.txt" "$@" -newer "$newer_than" -print -quit 2>/dev/null)" ]
+}
+
 # Runs rt in a crate's folder, tells how far it is, and keeps what rt says in the crate's out/build.log.
 run_rt() {
     crate=$1
@@ -27,40 +37,70 @@ run_rt() {
         (cd "$top/crates/$crate" && rt "$@" 2>&1) <"$input"
         echo $? >"$out/build.status"
     } | tee "$out/build.log" | awk -v crate="$crate" '/^so far: [0-9]+ of [0-9]+/ {
-            print "fsr: " crate ": " $3 " of " $5 " functions proved"
+            print "build: " crate ": " $3 " of " $5 " functions proved"
             fflush()
         }'
     status=$(cat "$out/build.status") && rm -f "$out/build.status" && [ "$status" = 0 ]
 }
 
-# Builds a program and the crates below it. The program is as old as the moment at which the build began, so that an edit
-# during the build isn't missed.
+# Proves and builds one crate once those that it stands on are built, and leaves how it ended in the folder $room.
+build_crate() {
+    for below in $(crates_below "$1"); do
+        [ "$below" = "$1" ] && continue
+        while [ ! -e "$room/$below" ]; do sleep 0.2; done
+        if [ "$(cat "$room/$below")" != built ]; then
+            echo unbuilt >"$room/$1.now" && mv "$room/$1.now" "$room/$1"
+            return
+        fi
+    done
+    echo "build: $1 begins"
+    how=built
+    if [ "$1" = "$program" ]; then
+        # (rt links a program in order to run it: this is its stored run)
+        run_rt "$1" run -- $(cat "$top/crates/$1/args" 2>/dev/null) || how=refused
+    else
+        run_rt "$1" lib || how=refused
+    fi
+    [ "$how" = built ] || echo "build: $1 isn't proved and built; crates/$1/out/build.log says why"
+    echo "$how" >"$room/$1.now" && mv "$room/$1.now" "$room/$1"
+}
+
+# Builds a program and the crates below it, side by side where they don't stand on each other.
 build() {
     program=$1
     if ! command -v rt >/dev/null 2>&1; then
-        echo "fsr: can't be built: the Rattle toolchain's command rt isn't on the PATH"
+        echo "build: $program can't be built: the Rattle toolchain's command rt isn't on the PATH"
         return 1
     fi
     list=$(crates_below "$program")
-    count=$(echo "$list" | wc -l)
+    echo "build: proves and builds $program and what it stands on: $(echo $list)"
+    echo "build: from nothing this takes about five minutes on four processors and ten on two, once"
     began=$top/crates/$program/out/began
-    mkdir -p "$top/crates/$program/out" && touch "$began" || return 1
-    at=0
+    room=$(mktemp -d) && touch "$began" || return 1
     for name in $list; do
-        at=$((at + 1))
-        echo "fsr: proving and building $name, crate $at of $count; from nothing a crate takes some minutes"
-        if [ "$name" = "$program" ]; then
-            # (rt links a program in order to run it: this is its stored run)
-            set -- run -- $(cat "$top/crates/$name/args")
-        else
-            set -- lib
-        fi
-        if ! run_rt "$name" "$@"; then
-            echo "fsr: can't be built: $name isn't proved and built; crates/$name/out/build.log says why"
-            return 1
-        fi
+        build_crate "$name" &
     done
+    wait
+    how=$(cat "$room/$program")
+    rm -rf "$room"
+    if [ "$how" != built ]; then
+        rm -f "$began"
+        echo "build: $program can't be built"
+        return 1
+    fi
     touch -r "$began" "$top/crates/$program/out/$program"
     rm -f "$began"
-    echo "fsr: built"
+    echo "build: $program is built"
+}
+
+# Sees that a program is fresh. Of two calls at once one builds, and the other waits until it has ended, however it ends.
+make_fresh() {
+    is_fresh "$1" && return
+    mkdir -p "$top/crates/$1/out" || return 1
+    (
+        if command -v flock >/dev/null 2>&1; then
+            flock -n 9 || { echo "build: another build is under way; waiting for its end" && flock 9; }
+        fi
+        is_fresh "$1" || build "$1"
+    ) 9>"$top/crates/$1/out/building"
 }

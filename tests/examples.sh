@@ -1,11 +1,10 @@
 # Each document of examples/ and tests/schedules/ against the text that it prints, NAME.txt (of a refused one the line on
 # standard error), and the status that is wanted, NAME.status (none: 0).
 
-# The command that takes a document, by the document's kind.
+# The command that takes a document of examples/, by the table there; tests/schedules/ has schedules alone.
 command_for() {
-    case $(sed -n '1s/^{"kind":"\([a-z]*\)".*/\1/p' "$1") in
-    check) echo check ;;
-    race) echo race ;;
+    case $1 in
+    examples/*) awk -F'|' -v name="\`${1#examples/}\`" '{ gsub(/ /, "", $2) } $2 == name { gsub(/ /, "", $3); print $3 }' examples/README.md ;;
     *) echo play ;;
     esac
 }

@@ -1,0 +1,55 @@
+"""What `fsr` prints for a document, and its status: an independent reading of the documents under docs/."""
+
+import documents
+import players
+
+
+def answer(command, data):
+    """The text, the line on standard error (or nothing) and the status."""
+    try:
+        kind, found = documents.read(command, data)
+    except documents.Refused as refusal:
+        return "", f"fsr: document: {refusal}\n", 3
+    try:
+        return printed(kind, found)
+    except players.TooManySteps as refusal:
+        return "", f"fsr: schedule: no operation left at step {refusal.position}\n", 3
+
+
+def printed(kind, found):
+    if kind == "check":
+        line = players.verdict(found["opening"], found["limit"], found["ops"], found["order"])
+        return line + "\n", "", 0 if line == "lawful" else 1
+    if kind == "cell":
+        ops, order = players.play_cell(found["opening"], found["noise"], found["writes"], found["reads"], found["steps"])
+        return report(kind, ops, order, []), "", 0
+    access = players.AtomicAccess if kind == "matrix" else players.CellAccess
+    terms = found.get("terms") or [found]
+    ops, order, begins = players.play_terms(access, found["opening"], found.get("noise"), terms)
+    return report(kind, ops, order, begins if "terms" in found else []), "", 0
+
+
+def report(kind, ops, order, begins):
+    lines = []
+    for place in range(len(ops) + 1):
+        lines += [f"term {term + 1}" for term, begin in enumerate(begins) if begin == place]
+        if place < len(ops):
+            lines.append(f"op {place}: " + operation(kind, ops[place]))
+    lines.append("order:" + "".join(f" {place}" for place in order))
+    return "\n".join(lines) + "\n"
+
+
+def operation(kind, each):
+    parts = [f"{each.kind} by {each.who}", f"{each.begin}..{or_dash(each.end)}"]
+    if kind == "cell":
+        parts.append(f"slot {or_dash(each.slots[0])}")
+    else:
+        parts.append("stamp " + ("-" if each.stamp is None else f"{each.stamp[0]}.{each.stamp[1]}"))
+    if kind == "board":
+        parts.append("slots " + " ".join(or_dash(slot) for slot in each.slots))
+    parts.append("-" if each.item is None else "[%d,%d,%d]" % each.item)
+    return ", ".join(parts)
+
+
+def or_dash(number):
+    return "-" if number is None else str(number)

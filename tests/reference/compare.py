@@ -1,0 +1,60 @@
+"""Compares `fsr` with the plain reference on random documents.
+
+    compare.py PROGRAM [--documents N] [--seed S] [--kinds check,cell,matrix,board]
+
+The last line is how many documents gave the same bytes and status, by kind of ending. The first difference ends the run with
+status 1, with the document kept in the file that is named.
+"""
+
+import argparse
+import collections
+import random
+import subprocess
+import sys
+import tempfile
+
+import answers
+import make_documents
+
+
+def words():
+    parser = argparse.ArgumentParser()
+    parser.add_argument("program")
+    parser.add_argument("--documents", type=int, default=2000)
+    parser.add_argument("--seed", type=int, default=1)
+    parser.add_argument("--kinds", default="check,cell,matrix,board")
+    return parser.parse_args()
+
+
+def ended(program, command, text):
+    done = subprocess.run([program, command], input=text, capture_output=True, check=False)
+    return done.stdout.decode(), done.stderr.decode(), done.returncode
+
+
+def keep(text):
+    with tempfile.NamedTemporaryFile(prefix="document", suffix=".json", delete=False) as file:
+        file.write(text)
+    return file.name
+
+
+def main():
+    given = words()
+    source, counts = random.Random(given.seed), collections.Counter()
+    for number in range(given.documents):
+        command, text = make_documents.make_document(source, given.kinds.split(","))
+        wanted = answers.answer(command, text)
+        found = ended(given.program, command, text)
+        if found != wanted:
+            print(f"document {number} of seed {given.seed}, {command} < {keep(text)}")
+            print("the program:", *found, sep="\n")
+            print("the reference:", *wanted, sep="\n")
+            return 1
+        counts[("printed", "unlawful", "", wanted[1].rstrip("\n").removeprefix("fsr: ").split(" at step")[0])[wanted[2]]] += 1
+    for ending, count in sorted(counts.items()):
+        print(f"{count} {ending}")
+    print(f"{given.documents} documents of seed {given.seed}: the same bytes and status")
+    return 0
+
+
+if __name__ == "__main__":
+    sys.exit(main())
