@@ -63,7 +63,7 @@ pub struct FourSlotPut<T: Copy> {
 #[derive(Drop)]
 pub struct FourSlotGet<T: Copy> {
     pub seat: Place<T>,
-    /// What lies in the slot while its record is out.
+    /// The opening: the notes' default in proofs.
     spare: T,
     ghost known: { seat.me.0 ≡ Reader (reader_or (first_reader spare) seat.me.0) },
     ghost idle: { (reader_or (first_reader spare) seat.me.0).stage ≡ R5 },

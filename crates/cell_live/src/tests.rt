@@ -10,6 +10,7 @@ use std::thread::{Threads, join_mut};
 
 mod beside;
 mod control;
+mod in_place;
 mod torn;
 
 #[derive(Clone, Copy)]

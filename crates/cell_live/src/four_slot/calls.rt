@@ -1,17 +1,18 @@
 //! The calls of the four-slot cell.
 ghost use Rattle.std.specs.Prelude.{◌≡◌, ℕ, ◌+◌, [], ◌∷◌, ◌++◌, IfOk};
+ghost use Rattle.std.specs.Fn.{FnOnceTakesAt, FnOnceReturnsAt};
 ghost use Rattle.fourslot_core.specs.declared.event.WriteEvent.TheVariants.{W1, W2, W3, W4, W5};
 ghost use Rattle.fourslot_core.specs.declared.event.ReadEvent.TheVariants.{R1, R2, R3, R4, R5};
 ghost use Rattle.cell_live.specs.Running.{last_or, IsAnswer};
 ghost use Rattle.cell_live.specs.Triple.{snap};
 ghost use Rattle.cell_live.specs.FourSlotSteps.{first_sight};
-ghost use Rattle.cell_live.specs.FourSlotWords.{opening_of, is_put_of, is_get_of, is_told_of, written_by, answers_of, told_to, named_by, write_events, read_events, writer_accesses, reader_accesses, chosen_slot, held_by, HasChosen};
+ghost use Rattle.cell_live.specs.FourSlotWords.{opening_of, is_put_of, is_get_of, is_told_of, written_by, answers_of, at_hand_of, told_to, named_by, write_events, read_events, writer_accesses, reader_accesses, chosen_slot, held_by, HasChosen};
 
 use super::bits::{begin, bit_of, bit_word, is_one, set_bit, slot_of, word_of};
 use super::plays::{Asks, Ends, Finishes, Hears, Parts, Says, Stores, Takes, Tells};
 use super::{FourSlot, FourSlotCell, FourSlotGet, FourSlotPut, FourSlotTold, Place, Slots};
 use crate::cell::{Calls, Cell, Kept, Lawful};
-use crate::moves::{copy_out, empty, fill};
+use crate::moves::{copy_held, empty, fill, look_held};
 use atomic_table::Table;
 use fourslot_core::Sides;
 use std::alloc::{AllocError, Global};
@@ -67,6 +68,8 @@ impl<T: Lawful> Calls<T> for FourSlotCell<T> {
 
     ghost answers = { answers_of };
 
+    ghost at_hand = { at_hand_of };
+
     ghost told = { told_to };
 
     ghost named = { named_by };
@@ -110,8 +113,20 @@ impl<T: Lawful> Calls<T> for FourSlotCell<T> {
         ensures accesses { writer_accesses put.new ≡ writer_accesses put.old + 3 }
         ensures events { write_events put.new ≡ write_events put.old ++ W1 (snap item) ∷ W2 ∷ W3 ∷ W4 ∷ W5 ∷ [] }
     {
+        self.write_from(put, &item);
+    }
+
+    #[inline]
+    fn write_from(&self, put: &mut FourSlotPut<T>, item: &T)
+        requires own { is_put_of self.now put.old }
+        requires lawful { T.fits item.now × T.rises (last_or (opening_of self.now) (written_by put.old)) item.now }
+        ensures own { is_put_of self.now put.new }
+        ensures written { written_by put.new ≡ written_by put.old ++ item.now ∷ [] }
+        ensures accesses { writer_accesses put.new ≡ writer_accesses put.old + 3 }
+        ensures events { write_events put.new ≡ write_events put.old ++ W1 (snap item.now) ∷ W2 ∷ W3 ∷ W4 ∷ W5 ∷ [] }
+    {
         let shared = &self.slots.shared;
-        let named = Snapshot::of(&item);
+        let named = Snapshot::of(item);
         let reading = begin::<T, FourSlot, Brand>(shared, &mut put.seat, named);
         let pair = !is_one(reading);
         let index = !bit_of(put.remembered, pair);
@@ -136,7 +151,24 @@ impl<T: Lawful> Calls<T> for FourSlotCell<T> {
         ensures held { held_by get.new ≡ (chosen_slot get.new, result) ∷ [] }
     {
         let slot = choose(self, get);
-        copy_out(&self.slots.shared, &mut get.seat, slot, get.spare)
+        copy_held(&self.slots.shared, &mut get.seat, slot)
+    }
+
+    #[inline]
+    fn read_with<R, F: FnOnce(&T) -> R>(&self, get: &mut FourSlotGet<T>, look: F) -> R
+        requires own { is_get_of self.now get.old }
+        requires callable { (x : T) → IsAnswer T.fits T.rises (opening_of self.now) (answers_of get.old) (told_to get.old) x → FnOnceTakesAt F.FnOnce look x }
+        ensures own { is_get_of self.now get.new }
+        ensures answers { answers_of get.new ≡ answers_of get.old ++ at_hand_of get.new ∷ [] }
+        ensures told { told_to get.new ≡ told_to get.old }
+        ensures running { IsAnswer T.fits T.rises (opening_of self.now) (answers_of get.old) (told_to get.old) (at_hand_of get.new) }
+        ensures accesses { reader_accesses get.new ≡ reader_accesses get.old + 3 }
+        ensures events { read_events get.new ≡ read_events get.old ++ R1 ∷ R2 ∷ R3 ∷ R4 ∷ R5 (snap (at_hand_of get.new)) ∷ [] }
+        ensures held { held_by get.new ≡ (chosen_slot get.new, at_hand_of get.new) ∷ [] }
+        ensures looked { FnOnceReturnsAt F.FnOnce look (at_hand_of get.new) result }
+    {
+        let slot = choose(self, get);
+        look_held(&self.slots.shared, &mut get.seat, slot, look)
     }
 
     fn tell(&self, put: &mut FourSlotPut<T>) -> FourSlotTold<T>

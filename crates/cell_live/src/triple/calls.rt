@@ -1,14 +1,15 @@
 //! The calls of the triple buffer.
 ghost use Rattle.std.specs.Prelude.{◌≡◌, ℕ, ◌+◌, ◌<◌, ◌≤◌, [], ◌∷◌, ◌++◌};
+ghost use Rattle.std.specs.Fn.{FnOnceTakesAt, FnOnceReturnsAt};
 ghost use Rattle.cell_live.specs.Running.{last_or, IsAnswer};
-ghost use Rattle.cell_live.specs.TripleWords.{opening_of, is_put_of, is_get_of, is_told_of, written_by, answers_of, told_to, named_by, swaps_of_put, loads_of, swaps_of, held_by, found_by, HasLooked};
+ghost use Rattle.cell_live.specs.TripleWords.{opening_of, is_put_of, is_get_of, is_told_of, written_by, answers_of, at_hand_of, told_to, named_by, swaps_of_put, loads_of, swaps_of, held_by, found_by, HasLooked};
 
 use super::plays::{
     Ends, GetSwaps, GetTakes, Hears, Looks, Parts, PutSwaps, PutTakes, Tells, Yields,
 };
 use super::{TripleCell, TripleGet, TriplePut, TripleTold};
 use crate::cell::{Calls, Cell, Kept, Lawful};
-use crate::moves::{copy_held, empty, fill};
+use crate::moves::{copy_held, empty, fill, look_held};
 use atomic_table::Table;
 use std::alloc::{AllocError, Global};
 
@@ -47,6 +48,8 @@ impl<T: Lawful> Calls<T> for TripleCell<T> {
     ghost written = { written_by };
 
     ghost answers = { answers_of };
+
+    ghost at_hand = { at_hand_of };
 
     ghost told = { told_to };
 
@@ -89,6 +92,18 @@ impl<T: Lawful> Calls<T> for TripleCell<T> {
         ensures accesses { swaps_of_put put.new ≤ swaps_of_put put.old + 3 }
         ensures swapped { swaps_of_put put.new ≡ swaps_of_put put.old + 1 }
     {
+        self.write_from(put, &item);
+    }
+
+    #[inline]
+    fn write_from(&self, put: &mut TriplePut<T>, item: &T)
+        requires own { is_put_of self.now put.old }
+        requires lawful { T.fits item.now × T.rises (last_or (opening_of self.now) (written_by put.old)) item.now }
+        ensures own { is_put_of self.now put.new }
+        ensures written { written_by put.new ≡ written_by put.old ++ item.now ∷ [] }
+        ensures accesses { swaps_of_put put.new ≤ swaps_of_put put.old + 3 }
+        ensures swapped { swaps_of_put put.new ≡ swaps_of_put put.old + 1 }
+    {
         fill(&self.slots.shared, &mut put.seat, put.slot, item);
         let found = self
             .slots
@@ -114,6 +129,25 @@ impl<T: Lawful> Calls<T> for TripleCell<T> {
     {
         refresh(self, get);
         copy_held(&self.slots.shared, &mut get.seat, get.slot)
+    }
+
+    #[inline]
+    fn read_with<R, F: FnOnce(&T) -> R>(&self, get: &mut TripleGet<T>, look: F) -> R
+        requires own { is_get_of self.now get.old }
+        requires callable { (x : T) → IsAnswer T.fits T.rises (opening_of self.now) (answers_of get.old) (told_to get.old) x → FnOnceTakesAt F.FnOnce look x }
+        ensures own { is_get_of self.now get.new }
+        ensures answers { answers_of get.new ≡ answers_of get.old ++ at_hand_of get.new ∷ [] }
+        ensures told { told_to get.new ≡ told_to get.old }
+        ensures running { IsAnswer T.fits T.rises (opening_of self.now) (answers_of get.old) (told_to get.old) (at_hand_of get.new) }
+        ensures accesses { loads_of get.new + swaps_of get.new ≤ loads_of get.old + swaps_of get.old + 3 }
+        ensures loaded { loads_of get.new ≡ loads_of get.old + 1 }
+        ensures unmarked { found_by get.new < 4 → swaps_of get.new ≡ swaps_of get.old }
+        ensures marked { 4 ≤ found_by get.new → swaps_of get.new ≡ swaps_of get.old + 1 }
+        ensures held { held_by get.new ≡ (get.new.slot, at_hand_of get.new) ∷ [] }
+        ensures looked { FnOnceReturnsAt F.FnOnce look (at_hand_of get.new) result }
+    {
+        refresh(self, get);
+        look_held(&self.slots.shared, &mut get.seat, get.slot, look)
     }
 
     fn tell(&self, put: &mut TriplePut<T>) -> TripleTold<T> {
