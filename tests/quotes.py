@@ -1,0 +1,56 @@
+"""What docs/ quotes from the code has to stand there.
+
+    quotes.py FILE ..
+
+A block that begins with ```LANGUAGE PATH has to be a stretch of the file PATH, but for its indentation. A row `| `PATH` | N | ..`
+of a table has to give the number of lines of PATH. Prints each that doesn't, and how many were compared.
+"""
+
+import re
+import sys
+
+ROW = re.compile(r"^\| `([\w/.-]+\.\w+)` \| (\d+) \|")
+
+
+def lines_of(path):
+    with open(path, encoding="utf-8") as file:
+        return [line.strip() for line in file]
+
+
+def stands_in(block, path):
+    lines = lines_of(path)
+    return any(lines[at : at + len(block)] == block for at in range(len(lines) - len(block) + 1))
+
+
+def faults_of(document):
+    """The faults of a document and the number of its quotations."""
+    faults, quoted, path, block = [], 0, None, []
+    for number, line in enumerate(open(document, encoding="utf-8"), 1):
+        words = line.strip().split(" ")
+        if line.startswith("```"):
+            if path and not stands_in(block, path):
+                faults.append(f"{document}:{number}: what stands above isn't in {path}")
+            quoted += path is not None
+            path, block = (words[1] if len(words) > 1 and path is None else None), []
+        elif path:
+            block.append(line.strip())
+        elif ROW.match(line):
+            named, count = ROW.match(line).groups()
+            quoted += 1
+            if len(lines_of(named)) != int(count):
+                faults.append(f"{document}:{number}: {named} has {len(lines_of(named))} lines")
+    return faults, quoted
+
+
+def main():
+    faults, quoted = [], 0
+    for document in sys.argv[1:]:
+        more, count = faults_of(document)
+        faults += more
+        quoted += count
+    print("\n".join([*faults, f"{quoted} quotations and counts of lines stand in the sources as docs/ has them"][: len(faults) or 1]))
+    return 1 if faults or not quoted else 0
+
+
+if __name__ == "__main__":
+    sys.exit(main())

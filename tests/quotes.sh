@@ -1,0 +1,8 @@
+# What the documents quote from the code has to stand there, so that they can't drift.
+if ! command -v python3 >/dev/null 2>&1; then
+    fail "quotations" "there is no python3"
+elif python3 tests/quotes.py docs/*.md >"$room/out" 2>&1; then
+    pass "quotations: $(cat "$room/out")"
+else
+    fail "quotations" "$(cat "$room/out")"
+fi
