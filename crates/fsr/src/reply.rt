@@ -1,23 +1,40 @@
 ghost use Rattle.std.specs.Prelude.{◌≡◌, IfOk};
 ghost use Rattle.matrix_core.specs.Runs.{CanPlay};
+ghost use Rattle.schedule_text.specs.Document.{document_of};
+ghost use Rattle.schedule_text.specs.Players.{CanBePlayed};
+ghost use Rattle.schedule_text.specs.Refusals.{Gives as Reads};
 ghost use Rattle.fsr.specs.Answers.{AnswersCell, AnswersCheck, AnswersMatrix, Gives, IsAnswer, printed, status_of};
 
 use crate::fault::{Answer, Fault};
 use fourslot_core::{CellSchedule, play_cell};
 use history_core::{Band, History, Items, Verdict, check_order};
 use matrix_core::{MatrixSchedule, play_matrix};
-use schedule_text::{Document, Report, Want, read_document, report_text};
+use schedule_text::{DocError, Document, Report, Want, document_in, read_value, report_text};
 use std::alloc::{AllocError, Global};
+use std::mem::forget;
 
 /// The answer of a command to the bytes of a document.
 pub fn answer(alloc: Global, want: Want, bytes: &[u8]) -> Result<Answer, Fault>
     ensures { Gives (IsAnswer want bytes.now) result }
 {
-    match read_document(alloc, want, bytes)? {
+    match read(alloc, want, bytes)? {
         Document::Check { history, order } => check(alloc, &history, &order),
         Document::Cell(schedule) => cell(alloc, &schedule),
         Document::Matrix { schedule, titled } => matrix(alloc, &schedule, titled),
     }
+}
+
+/// The document that the bytes stand for. The JSON value that they are is left unfreed: a run reads one document and ends, and
+/// the value goes with the process.
+#[tactic(auto, unfolding(schedule_text::specs::Document::document_of))]
+fn read(alloc: Global, want: Want, bytes: &[u8]) -> Result<Document, DocError>
+    ensures document { Reads (λ d. d) result (document_of want bytes.now) }
+    ensures playable { IfOk result CanBePlayed }
+{
+    let value = read_value(alloc, bytes)?;
+    let document = document_in(alloc, want, &value);
+    forget(value);
+    document
 }
 
 /// The verdict on an order of a history.

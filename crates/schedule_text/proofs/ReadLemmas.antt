@@ -6,14 +6,14 @@ use Rattle.std.specs.Prelude.{IsUtf8}
 use Rattle.std.specs.Str.{is_utf8}
 use Rattle.serde_json.specs.Data.{Data}
 use Rattle.serde_json.specs.Read.{read}
-use Rattle.schedule_text.specs.Document.{value_of}
+use Rattle.schedule_text.specs.Document.{json_of}
 
-pub value_of_read : (bytes : List ℕ) (d : Data) → IsUtf8 bytes → read bytes ≡ Some d → value_of bytes ≡ Some d
-value_of_read bytes d utf8 e = rw (is_utf8-from_IsUtf8 bytes utf8) e
+pub json_of_read : (bytes : List ℕ) (d : Data) → IsUtf8 bytes → read bytes ≡ Some d → json_of bytes ≡ Some d
+json_of_read bytes d utf8 e = rw (is_utf8-from_IsUtf8 bytes utf8) e
 
-pub value_of_refused : (bytes : List ℕ) → (IsUtf8 bytes → read bytes ≡ None) → value_of bytes ≡ None
-value_of_refused bytes h = by_test (is_utf8 bytes) refl
+pub json_of_refused : (bytes : List ℕ) → (IsUtf8 bytes → read bytes ≡ None) → json_of bytes ≡ None
+json_of_refused bytes h = by_test (is_utf8 bytes) refl
   where
-    by_test : (b : Bool) → is_utf8 bytes ≡ b → value_of bytes ≡ None
+    by_test : (b : Bool) → is_utf8 bytes ≡ b → json_of bytes ≡ None
     by_test true e = rw e (h (IsUtf8-from_is_utf8 bytes e))
     by_test false e = rw e refl

@@ -16,9 +16,18 @@ use Rattle.schedule_text.specs.Check.{check_in}
 use Rattle.schedule_text.specs.Matrix.{matrix_in}
 use Rattle.schedule_text.specs.Refusals.{◌>>=◌, must, some_or}
 
--- the value that the bytes are, as serde_json reads them
-abbrev pub value_of : List ℕ → Option Data
-value_of bytes = if is_utf8 bytes then read bytes else None
+-- what the bytes are, as serde_json reads them
+abbrev pub json_of : List ℕ → Option Data
+json_of bytes = if is_utf8 bytes then read bytes else None
+
+abbrev pub max_bytes : ℕ
+max_bytes = 1048576
+
+-- the same where they are not too many
+unfoldable pub value_of : List ℕ → Result Data DocError
+value_of bytes = do
+  short_enough ← must (nat_le (length bytes) max_bytes) Long
+  some_or NotJson (json_of bytes)
 
 abbrev pub kind_in : Data → Option (List ℕ)
 kind_in d = option_and_then as_str (get (codes "kind") d)
@@ -31,11 +40,7 @@ abbrev pub document_in : Want → Data → Result Document DocError
 document_in Check d = if is_kind (codes "check") d then check_in d else Err Kind
 document_in Play d = if is_kind (codes "cell") d then cell_in d else (if is_kind (codes "matrix") d then matrix_in d else Err Kind)
 
-abbrev pub max_bytes : ℕ
-max_bytes = 1048576
-
 unfoldable pub document_of : Want → List ℕ → Result Document DocError
 document_of want bytes = do
-  short_enough ← must (nat_le (length bytes) max_bytes) Long
-  d ← some_or NotJson (value_of bytes)
+  d ← value_of bytes
   document_in want d

@@ -20,6 +20,6 @@ mod text;
 
 pub use document::{DocError, Document, Want};
 pub use key::Key;
-pub use read::read_document;
+pub use read::{document_in, read_document, read_value};
 pub use report::Report;
 pub use text::report_text;

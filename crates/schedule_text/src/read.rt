@@ -1,6 +1,6 @@
 ghost use Rattle.std.specs.Prelude.{◌≡◌, IfOk};
 ghost use Rattle.serde_json.specs.View.{view};
-ghost use Rattle.schedule_text.specs.Document.{document_in, document_of, is_kind, value_of};
+ghost use Rattle.schedule_text.specs.Document.{document_in, document_of, is_kind, json_of, value_of};
 ghost use Rattle.schedule_text.specs.Players.{CanBePlayed};
 ghost use Rattle.schedule_text.specs.Refusals.{Gives, some_or};
 
@@ -14,20 +14,29 @@ use std::alloc::Global;
 
 const MAX_BYTES: usize = 1_048_576;
 
-/// The document that the bytes stand for, or the first refusal with its first key.
+/// The document that the bytes stand for, or the first refusal with its first key. It is `read_value` and then `document_in`;
+/// the value in between is freed.
 #[tactic(auto, unfolding(crate::specs::Document::document_of))]
 pub fn read_document(alloc: Global, want: Want, bytes: &[u8]) -> Result<Document, DocError>
     ensures document { Gives (λ d. d) result (document_of want bytes.now) }
     ensures playable { IfOk result CanBePlayed }
 {
-    must(bytes.len() <= MAX_BYTES, DocError::Long)?;
-    let value = value_of(alloc, bytes)?;
+    let value = read_value(alloc, bytes)?;
     document_in(alloc, want, &value)
 }
 
-#[tactic(auto, using(crate::proofs::ReadLemmas::value_of_read, crate::proofs::ReadLemmas::value_of_refused))]
-fn value_of(alloc: Global, bytes: &[u8]) -> Result<Value, DocError>
-    ensures { Gives view result (some_or DocError.NotJson (value_of bytes.now)) }
+/// The JSON value that the bytes are.
+#[tactic(auto, unfolding(crate::specs::Document::value_of))]
+pub fn read_value(alloc: Global, bytes: &[u8]) -> Result<Value, DocError>
+    ensures { Gives view result (value_of bytes.now) }
+{
+    must(bytes.len() <= MAX_BYTES, DocError::Long)?;
+    json_of(alloc, bytes)
+}
+
+#[tactic(auto, using(crate::proofs::ReadLemmas::json_of_read, crate::proofs::ReadLemmas::json_of_refused))]
+fn json_of(alloc: Global, bytes: &[u8]) -> Result<Value, DocError>
+    ensures { Gives view result (some_or DocError.NotJson (json_of bytes.now)) }
 {
     match Value::from_slice(alloc, bytes) {
         Ok(value) => Ok(value),
@@ -36,7 +45,8 @@ fn value_of(alloc: Global, bytes: &[u8]) -> Result<Value, DocError>
     }
 }
 
-fn document_in(alloc: Global, want: Want, value: &Value) -> Result<Document, DocError>
+/// The document that a value stands for, which its caller keeps.
+pub fn document_in(alloc: Global, want: Want, value: &Value) -> Result<Document, DocError>
     ensures document { Gives (λ d. d) result (document_in want (view value.now)) }
     ensures playable { IfOk result CanBePlayed }
 {

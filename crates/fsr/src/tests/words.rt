@@ -5,16 +5,26 @@ use crate::tests::streams::{Full, Kept, Pieces};
 use std::alloc::Global;
 use std::process::Abort;
 
-/// Sees that the words are refused with nothing read and nothing on standard output, and how the text on standard error
-/// begins.
-fn refuses(rt: &impl Abort, alloc: Global, words: &[&str], begins: &str) {
+/// Sees that the words are refused with nothing read and nothing on standard output, and how the text begins that a standard
+/// error with this room has taken.
+fn refuses_with_room(rt: &impl Abort, alloc: Global, words: &[&str], room: usize, begins: &str) {
     let mut input = Over::new(Pieces::new(ROW.as_bytes(), 4096, 0));
     let mut out = Over::new(Kept::new(alloc, AMPLE, Full::Fails));
-    let mut faults = Over::new(Kept::new(alloc, AMPLE, Full::Fails));
+    let mut faults = Over::new(Kept::new(alloc, room, Full::Fails));
     let ended = run(alloc, words, &mut input, &mut out, &mut faults);
     assert_eq!(rt; ended, 2);
     assert!(rt; out.stream().as_slice().is_empty());
     assert!(rt; faults.stream().as_slice().starts_with(begins.as_bytes()));
+}
+
+fn refuses(rt: &impl Abort, alloc: Global, words: &[&str], begins: &str) {
+    refuses_with_room(rt, alloc, words, AMPLE, begins);
+}
+
+#[test]
+fn a_full_standard_error_changes_no_status(rt: HostRuntime) {
+    refuses_with_room(&rt, rt.alloc(), &["fsr", "checks"], 0, "");
+    refuses_with_room(&rt, rt.alloc(), &["fsr", "help"], 4, "Read");
 }
 
 #[test]
