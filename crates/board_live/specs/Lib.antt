@@ -1,0 +1,7 @@
+pub mod Boards
+pub mod Clocks
+pub mod Deals
+pub mod Ends
+pub mod Lists
+pub mod Receipts
+pub mod Rising
