@@ -11,6 +11,7 @@ pub mod Placing
 pub mod RunNumbers
 pub mod EntryOrder
 pub mod ReportOrder
+pub mod CellReports
 pub mod Steps
 pub mod Pushed
 pub mod TraceCounts

@@ -2,13 +2,9 @@
 //! makes the steps' events.
 
 ghost use Rattle.std.specs.Prelude.{◌≡◌, ◌+◌, ◌<◌, ◌^◌, ◌++◌, [], ◌∷◌, ℕ, length, map, nat_eq, IfErr, IfNone, IfOk, IfSome, IsTrue, OnOk, ◌↔◌, ◌%◌};
-ghost use Rattle.history_core.specs.Schedules.{HasOperations, HasShape, IsFirstOverrun, positions};
-ghost use Rattle.fourslot_core.specs.Play.{actor, IsRefusal, run, span_of};
-ghost use Rattle.fourslot_core.specs.Accesses.{IsClear};
-ghost use Rattle.fourslot_core.specs.CellReports.{cell_span, reader_in, writer_in};
-ghost use Rattle.fourslot_core.specs.Reports.{AnswersSources, IsFreshReport, IsOfRun};
-ghost use Rattle.history_core.specs.Orders.{IsAtomicOrder, RefusesLawfully};
-ghost use Rattle.fourslot_core.specs.ReportOrders.{IsReportOrder};
+ghost use Rattle.history_core.specs.Schedules.{HasOperations, IsFirstOverrun, positions};
+ghost use Rattle.fourslot_core.specs.Play.{actor, IsRefusal, span_of};
+ghost use Rattle.fourslot_core.specs.CellReports.{cell_span, IsCellReport};
 ghost use Rattle.fourslot_core.specs.declared.schedule.Turn.TheVariants.{Reader, Writer};
 ghost use Rattle.fourslot_core.specs.Weaves.{HasFirst, IsInTurn, IsOrdered, IsPlacesOf, IsWeave, NumbersBelow, NumbersRise};
 ghost use Rattle.fourslot_core.specs.Runs.{after_reader, after_writer, IsAssembled, numbered, numbered_run, numbered_trace, shown, step_of};
@@ -407,20 +403,8 @@ fn report<R: Copy>(
 /// Plays a schedule of a cell, in time and memory proportional to its steps. A schedule with a step that no operation is left
 /// for is refused before any memory is taken, by the position of the first such step.
 pub fn play_cell<R: Copy>(alloc: Global, s: &CellSchedule<R>) -> Result<CellReport<R>, PlayError>
-    ensures refused { IfErr result (λ e. IsRefusal (cell_span s.now) e) }
-    ensures played { IfOk result (λ r. HasOperations (cell_span s.now ∷ [])) }
-    ensures opening { IfOk result (λ r. r.history.opening ≡ s.now.opening) }
-    ensures shape { IfOk result (λ r. HasShape (cell_span s.now ∷ []) r.history.terms r.history.ops) }
-    ensures run { IfOk result (λ r. IsOfRun (cell_span s.now)
-        (run s.now.opening s.now.noise s.now.writes s.now.steps) r.history.ops r.slots) }
-    ensures answers { IfOk result (λ r. AnswersSources (writer_in s.now r) (reader_in s.now r)
-        s.now.opening s.now.writes r.history.ops) }
-    ensures clear { IfOk result (λ r. IsClear (writer_in s.now r) (reader_in s.now r)) }
-    ensures fresh { IfOk result (λ r. IsFreshReport (writer_in s.now r) (reader_in s.now r)) }
-    ensures order { IfOk result (λ r. IsReportOrder (writer_in s.now r) (reader_in s.now r)
-        r.history.ops r.order) }
-    ensures atomic { IfOk result (λ r. IsAtomicOrder (λ x y. x ≡ y) s.now.opening r.history.ops r.order) }
-    ensures refuses { IfOk result (λ r. RefusesLawfully r.history.terms r.history.ops r.order) }
+    ensures report { IfOk result (IsCellReport s.now) }
+    ensures refused { IfErr result (IsRefusal (cell_span s.now)) }
 {
     let steps = s.steps.as_slice();
     let writes = s.writes.as_slice();
