@@ -1,3 +1,4 @@
+pub mod AccessesAgree
 pub mod TwoSides
 pub mod Keeping
 pub mod KeepingFresh
@@ -21,6 +22,7 @@ pub mod TraceSources
 pub mod TraceRecords
 pub mod TraceGood
 pub mod TraceMapped
+pub mod TraceItems
 pub mod TraceLaws
 pub mod SlotRecords
 pub mod SlotSteps

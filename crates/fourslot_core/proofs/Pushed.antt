@@ -2,6 +2,7 @@
 use Rattle.std.proofs.Common.{◌≡◌, ℕ, ◌+◌, ◌<◌, ◌≤◌, List, [], ◌∷◌, ◌++◌, length, slice_get, Option, None, Some, IsSome, zero, suc, refl, sym, ◌∙◌, ◌⊎◌, inl, inr, arith}
 use Rattle.std.proofs.lemmas.Option.{same_Some}
 use Rattle.fourslot_core.specs.Accesses.{IsBefore}
+use Rattle.fourslot_core.specs.Counts.{IsBelow}
 
 pub get_before : {X : Type 0} (xs : List X) (y : X) (i : ℕ) (x : X) → slice_get xs i ≡ Some x → slice_get (xs ++ y ∷ []) i ≡ Some x
 get_before [] y i x h = cc
@@ -38,10 +39,6 @@ pub to_before : (a b : Option ℕ) (x : ℕ) → a ≡ Some x → ((y : ℕ) →
 to_before None b x e h = cc
 to_before (Some a) None x e h = tt
 to_before (Some a) (Some b) x e h = let same : a ≡ x = same_Some a x e in omega (arith, h b refl)
-
--- every element of the list is below
-abbrev pub IsBelow : List ℕ → ℕ → Type 0
-IsBelow xs next = (i p : ℕ) → slice_get xs i ≡ Some p → p < next
 
 pub below_more : (xs : List ℕ) (next at : ℕ) → next ≤ at → IsBelow xs next → IsBelow (xs ++ at ∷ []) (at + 1)
 below_more xs next at le h i p e = elim (get_cases xs at i p e) [ inl old ↦ omega (arith, h i p old) | inr new ↦ omega (arith, new.1) ]

@@ -8,45 +8,9 @@ use Rattle.fourslot_core.specs.declared.state.ReaderStage.TheVariants.{R1, R2, R
 use Rattle.fourslot_core.specs.Events.{after_read, after_write, answer, next_write, slot_number}
 use Rattle.fourslot_core.specs.Invariant.{IsUnderWay, HasIndex}
 use Rattle.fourslot_core.specs.Traces.{Trace, shown_by_write, shown_by_read, answered_by_read, then_writer, then_reader, trace_start}
+pub use Rattle.fourslot_core.specs.Counts.{has_chosen, HasReadSlot, HasWriteSlot, IsCounted, left, made}
 use Rattle.fourslot_core.proofs.Keeping.{writer_after, reader_after, writer_stays}
-use Rattle.fourslot_core.proofs.Pushed.{get_last, IsBelow, below_more, below_up}
-
--- the steps that a write under way has left
-abbrev pub left : Stage → ℕ
-left W1 = 4
-left W2 = 3
-left W3 = 2
-left W4 = 1
-left W5 = 0
-
--- the steps that a read under way has made
-abbrev pub made : ReaderStage → ℕ
-made R1 = 1
-made R2 = 2
-made R3 = 3
-made R4 = 4
-made R5 = 0
-
--- 1 while a read under way has its slot
-abbrev pub has_chosen : ReaderStage → ℕ
-has_chosen R3 = 1
-has_chosen R4 = 1
-has_chosen _ = 0
-
-abbrev pub HasWriteSlot : Stage → List ℕ → ℕ → Type 0
-HasWriteSlot w slots slot = IsUnderWay w → (k : ℕ) → k + 1 ≡ length slots → slice_get slots k ≡ Some slot
-
-abbrev pub HasReadSlot : {R : Type 0} → ReaderStage → List ℕ → List R → ℕ → Type 0
-HasReadSlot r slots answers slot = HasIndex r → slice_get slots (length answers) ≡ Some slot
-
-pub record IsCounted {R : Type 0} (t : Trace R) (next : ℕ) : Type 0 where
-  pub writer : length t.writer + left t.cell.writer ≡ length t.write_slots * 5
-  pub reader : length t.reader ≡ length t.answers * 5 + made t.cell.reader
-  pub read_slots : length t.read_slots ≡ length t.answers + has_chosen t.cell.reader
-  pub writer_below : IsBelow t.writer next
-  pub reader_below : IsBelow t.reader next
-  pub write_slot : HasWriteSlot t.cell.writer t.write_slots (slot_number t.cell.write)
-  pub read_slot : HasReadSlot t.cell.reader t.read_slots t.answers (slot_number t.cell.read)
+use Rattle.fourslot_core.proofs.Pushed.{get_last, below_more, below_up}
 
 write_count : (w : Stage) (n : ℕ) (slots : List ℕ) (slot : ℕ) → n + left w ≡ length slots * 5 → (n + 1) + left (next_write w) ≡ length (shown_by_write w slots slot) * 5
 write_count W1 n slots slot h = omega arith

@@ -109,6 +109,11 @@ rises_lower : (next : ℕ) (ms : List Moment) → RisesFrom (next + 1) ms → Ri
 rises_lower next [] h = tt
 rises_lower next (m ∷ ms) h = (omega (arith, h.0), h.1)
 
+-- positions that rise from any number on rise from 0 on
+pub rises_from_first : (next : ℕ) (ms : List Moment) → RisesFrom next ms → RisesFrom 0 ms
+rises_from_first next [] h = tt
+rises_from_first next (m ∷ ms) h = (omega arith, h.1)
+
 -- the steps of one cell among other events rise too
 pub moments_of_rise : {E : Type 0} (turn : E → Option Turn) (n : ℕ) (es : List E) → RisesFrom n (moments_of turn n es)
 moments_of_rise turn n [] = tt

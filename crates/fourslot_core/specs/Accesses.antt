@@ -43,3 +43,8 @@ pub record IsFreshRead (writer reader : Accesses) (m n : ℕ) : Type 0 where
   pub reads : (j i : ℕ) → j < m → IsSource writer reader j i → i ≤ n
   -- and the write with that number began before the read ended
   pub begun : (k : ℕ) → n ≡ k + 1 → IsBefore (writer.at k 0) (reader.at m 4)
+
+-- accesses of two descriptions that are the same: of each access the five events and the slot agree
+pub record Agree (a b : Accesses) : Type 0 where
+  pub at : (k e : ℕ) → e < 5 → a.at k e ≡ b.at k e
+  pub slot : (k : ℕ) → a.slot k ≡ b.slot k

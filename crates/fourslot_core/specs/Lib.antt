@@ -1,5 +1,6 @@
 pub mod Accesses
 pub mod CellReports
+pub mod Counts
 pub mod Events
 pub mod Freshness
 pub mod Interleaving

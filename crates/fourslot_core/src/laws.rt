@@ -1,18 +1,19 @@
 //! Laws over the definitions.
 
-ghost use Rattle.std.specs.Prelude.{◌≡◌, ◌≢◌, ℕ, ◌+◌, ◌<◌, List, [], ◌∷◌, ◌++◌, slice_get, IsSome, Option, false};
+ghost use Rattle.std.specs.Prelude.{◌≡◌, ◌≢◌, ℕ, ◌+◌, ◌<◌, List, [], ◌∷◌, ◌++◌, length, slice_get, IsSome, Option, false};
 ghost use Rattle.fourslot_core.specs.declared.state.State.{State};
 ghost use Rattle.fourslot_core.specs.declared.state.Stage.TheVariants.{W5};
 ghost use Rattle.fourslot_core.specs.declared.event.ReadEvent.{ReadEvent};
 ghost use Rattle.fourslot_core.specs.declared.event.WriteEvent.{WriteEvent};
 ghost use Rattle.fourslot_core.specs.declared.schedule.Turn.{Turn};
-ghost use Rattle.fourslot_core.specs.Accesses.{IsClear, IsFreshRead};
+ghost use Rattle.fourslot_core.specs.Accesses.{Accesses, Agree, IsClear, IsFreshRead};
+ghost use Rattle.fourslot_core.specs.Counts.{IsCounted};
 ghost use Rattle.fourslot_core.specs.Events.{after_read, after_write, opening_state, reader_state, record_in, slot_number};
 ghost use Rattle.fourslot_core.specs.Freshness.{floor_after, IsFresh, prev_after};
 ghost use Rattle.fourslot_core.specs.Interleaving.{last_finished, Leads, Reads, Writes};
 ghost use Rattle.fourslot_core.specs.Invariant.{HasIndex, HasSlot, IsSound, IsUnmet, last_after};
 ghost use Rattle.fourslot_core.specs.SafeSlots.{IsMarked, IsSafe, slot_trace, slot_writes, SlotRead};
-ghost use Rattle.fourslot_core.specs.Traces.{Moment, moments_from, moments_of, reads_of, RisesFrom, source_record, trace, writes_of};
+ghost use Rattle.fourslot_core.specs.Traces.{Moment, moment_at, moments_from, moments_of, reads_of, RisesFrom, source_record, then_step, trace, writes_of};
 
 use crate::cell::CellCore;
 use crate::state::Place;
@@ -78,16 +79,17 @@ pub fn interleavings_grow<R>()
         Leads ws rs s t → IsSound s last → IsSound t (last_finished ws s.item last) }
 {}
 
-/// A cell that is stepped in any interleaving, at positions that rise, is clear; and each read that has ended is fresh and
-/// answers the record of its source. The first steps of such an interleaving are one too, so this holds after each step.
+/// A cell that is stepped in any interleaving, at positions that rise from any number on, is clear; and each read that has ended
+/// is fresh and answers the record of its source. The first steps of such an interleaving are one too, so this holds after
+/// each step.
 pub fn interleavings_are_clear_and_fresh<R>()
-    ensures clear { (opening noise : R) (items : ℕ → R) (moments : List Moment) → RisesFrom 0 moments →
+    ensures clear { (opening noise : R) (items : ℕ → R) (next : ℕ) (moments : List Moment) → RisesFrom next moments →
         let t = trace opening noise items moments in IsClear (writes_of t) (reads_of t) }
-    ensures fresh { (opening noise : R) (items : ℕ → R) (moments : List Moment) → RisesFrom 0 moments →
+    ensures fresh { (opening noise : R) (items : ℕ → R) (next : ℕ) (moments : List Moment) → RisesFrom next moments →
         let t = trace opening noise items moments in
         (m : ℕ) (answer : R) → slice_get t.answers m ≡ Some answer →
         (n : ℕ) × IsFreshRead (writes_of t) (reads_of t) m n × (answer ≡ source_record opening items n) }
-    ensures answered { (opening noise : R) (items : ℕ → R) (moments : List Moment) → RisesFrom 0 moments →
+    ensures answered { (opening noise : R) (items : ℕ → R) (next : ℕ) (moments : List Moment) → RisesFrom next moments →
         let t = trace opening noise items moments in
         (m : ℕ) → IsSome ((reads_of t).at m 4) → IsSome (slice_get t.answers m) }
     ensures first { (next : ℕ) (moments more : List Moment) →
@@ -95,8 +97,34 @@ pub fn interleavings_are_clear_and_fresh<R>()
     ensures played { (n : ℕ) (turns : List Turn) → RisesFrom n (moments_from n turns) }
 {}
 
-/// The steps of one cell among other events, with the positions of the events, rise. So the laws hold of each of many cells
-/// that are stepped in one schedule.
+/// The steps, slots and answers of such a cell are as many as the stages of its two sides say; an operation under way that has its
+/// slot has the last one.
+pub fn interleavings_are_counted<R>()
+    ensures { (opening noise : R) (items : ℕ → R) (next : ℕ) (moments : List Moment) → RisesFrom next moments →
+        (end : ℕ) × IsCounted (trace opening noise items moments) end }
+{}
+
+/// One more step of an interleaving is a step of its trace, and what a trace shows depends on the items of the writes that it has
+/// begun alone.
+pub fn interleavings_go_on<R>()
+    ensures step { (opening noise : R) (items : ℕ → R) (moments : List Moment) (m : Moment) →
+        trace opening noise items (moments ++ m ∷ []) ≡ then_step items (trace opening noise items moments) m.turn m.at }
+    ensures items { (opening noise : R) (items others : ℕ → R) (moments : List Moment) →
+        ((k : ℕ) → k < length (trace opening noise items moments).write_slots → items k ≡ others k) →
+        trace opening noise items moments ≡ trace opening noise others moments }
+{}
+
+/// The steps of one cell among other events, with the positions of the events, rise, and one more event adds its own step where it
+/// is the cell's. So the laws hold of each of many cells that are stepped in one schedule.
 pub fn positions_rise<E>()
-    ensures { (turn : E → Option Turn) (n : ℕ) (events : List E) → RisesFrom n (moments_of turn n events) }
+    ensures rise { (turn : E → Option Turn) (n : ℕ) (events : List E) → RisesFrom n (moments_of turn n events) }
+    ensures more { (turn : E → Option Turn) (n : ℕ) (events : List E) (e : E) →
+        moments_of turn n (events ++ e ∷ []) ≡ moments_of turn n events ++ moment_at (turn e) (n + length events) }
+{}
+
+/// Accesses that agree are clear and fresh alike.
+pub fn agreeing_accesses_are_alike()
+    ensures clear { (writer v reader r : Accesses) → Agree writer v → Agree reader r → IsClear writer reader → IsClear v r }
+    ensures fresh { (writer v reader r : Accesses) → Agree writer v → Agree reader r →
+        (m n : ℕ) → IsFreshRead writer reader m n → IsFreshRead v r m n }
 {}

@@ -281,5 +281,8 @@ fn laws_of_numbers() {
     laws::events_keep_freshness::<u64>();
     laws::interleavings_grow::<u64>();
     laws::interleavings_are_clear_and_fresh::<u64>();
+    laws::interleavings_are_counted::<u64>();
+    laws::interleavings_go_on::<u64>();
+    laws::agreeing_accesses_are_alike();
     laws::positions_rise::<u64>();
 }

@@ -1,6 +1,12 @@
 -- By induction over the trace: a new position is above all before it, so what was clear and fresh stays, and an event keeps it.
-use Rattle.fourslot_core.proofs.TraceLaws.{traces_clear, traces_fresh, traces_answered, rises_first, moments_rise}
+use Rattle.fourslot_core.proofs.TraceLaws.{moments_rise, rises_first, rises_from_first, traces_answered, traces_clear, traces_fresh}
 use Rattle.fourslot_core.proofs.laws.interleavings_are_clear_and_fresh.Goals as goal
 
 pub returns : goal.returns
-returns g c = record { clear = traces_clear; fresh = traces_fresh; answered = traces_answered; first = rises_first; played = moments_rise }
+returns g c = record {
+  clear = λ opening noise items next moments rises. traces_clear opening noise items moments (rises_from_first next moments rises);
+  fresh = λ opening noise items next moments rises. traces_fresh opening noise items moments (rises_from_first next moments rises);
+  answered = λ opening noise items next moments rises. traces_answered opening noise items moments (rises_from_first next moments rises);
+  first = rises_first;
+  played = moments_rise;
+}
