@@ -5,6 +5,8 @@
 mod cell;
 mod event;
 pub mod laws;
+#[cfg(test)]
+mod limits;
 mod player;
 mod schedule;
 mod state;
