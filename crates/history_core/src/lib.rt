@@ -3,16 +3,20 @@
 #![tactic(auto)]
 
 mod band;
+mod breaks;
 mod check;
 mod history;
 pub mod laws;
 mod list;
 mod play;
+mod point;
 #[cfg(test)]
 mod tests;
 
 pub use band::Band;
+pub use breaks::{Break, first_break};
 pub use check::check_order;
 pub use history::{History, Kind, Op, Term, Verdict};
 pub use list::Items;
 pub use play::{MAX_LIMIT, PlayError, Wish};
+pub use point::points;

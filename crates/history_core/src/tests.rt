@@ -1,6 +1,9 @@
 //! Worked orders and their verdicts. Nothing here is taken from the program's own answers.
 
-use crate::{Band, History, Items, Kind, MAX_LIMIT, Op, Term, Verdict, check_order};
+use crate::{
+    Band, Break, History, Items, Kind, MAX_LIMIT, Op, Term, Verdict, check_order, first_break,
+    points,
+};
 use std::alloc::{AllocError, Global};
 use std::process::Abort;
 use std::test::Fail;
@@ -224,5 +227,109 @@ fn items(rt: HostRuntime) -> Result<(), Fail> {
     assert_eq!(rt; items.as_slice(), [A, B].as_slice());
     let vec = items.into_vec();
     assert_eq!(rt; vec.as_slice(), [A, B].as_slice());
+    Ok(())
+}
+
+fn break_of(
+    alloc: Global,
+    terms: &[Term],
+    ops: &[Op<Band>],
+    order: &[usize],
+) -> Result<Option<Break>, AllocError> {
+    let history = History {
+        opening: NONE,
+        terms: Items::new(Vec::from_slice(alloc, terms)?),
+        ops: Items::new(Vec::from_slice(alloc, ops)?),
+    };
+    Ok(first_break(&history, order))
+}
+
+#[test]
+fn breaks(rt: HostRuntime) -> Result<(), Fail> {
+    let write = finished(0, Kind::Write, 0, 4, A);
+    let read = finished(1, Kind::Read, 5, 9, A);
+    let stale = finished(1, Kind::Read, 5, 9, NONE);
+    let bare = unfinished(0, Kind::Write, 0, None);
+    let refused = finished(0, Kind::Refused, 10, 11, A);
+    let ends = [
+        finished(0, Kind::Write, 0, 1, A),
+        finished(1, Kind::Read, 0, 9, B),
+        finished(2, Kind::Write, 5, 6, B),
+    ];
+    let precedence = |earlier, entry| Some(Break::Precedence { earlier, entry });
+    let rows: [(&[Op<Band>], &[usize], Option<Break>); 9] = [
+        (&[write, read], &[0, 1], None),
+        (&[write, read], &[1, 0], precedence(0, 1)),
+        (&ends, &[2, 1, 0], precedence(0, 2)),
+        (&[write, read], &[0, 2], Some(Break::NoPlace { entry: 1 })),
+        (
+            &[write, read],
+            &[1, 0, 0],
+            Some(Break::Times { place: 0, times: 2 }),
+        ),
+        (
+            &[write, read],
+            &[0],
+            Some(Break::Times { place: 1, times: 0 }),
+        ),
+        (
+            &[write, stale],
+            &[0, 1],
+            Some(Break::Reading {
+                entry: 1,
+                write: Some(0),
+            }),
+        ),
+        (&[bare], &[0], Some(Break::NoItem { entry: 0 })),
+        (
+            &[read],
+            &[0],
+            Some(Break::Reading {
+                entry: 0,
+                write: None,
+            }),
+        ),
+    ];
+    for (ops, order, expected) in &rows {
+        assert_eq!(&rt; break_of(rt.alloc(), &[term(0, 1)], ops, order)?, *expected);
+    }
+    let early = break_of(rt.alloc(), &[term(0, 2)], &[write, refused], &[0, 1])?;
+    assert_eq!(&rt;
+        early,
+        Some(Break::Limit {
+            entry: 1,
+            writes: 1
+        })
+    );
+    Ok(())
+}
+
+#[test]
+fn earliest_points(rt: HostRuntime) -> Result<(), Fail> {
+    let ops = [
+        finished(0, Kind::Write, 3, 8, A),
+        finished(1, Kind::Read, 1, 9, A),
+        finished(2, Kind::Write, 6, 7, B),
+    ];
+    let history = History {
+        opening: NONE,
+        terms: Items::new(Vec::from_slice(rt.alloc(), &[term(0, 9)])?),
+        ops: Items::new(Vec::from_slice(rt.alloc(), &ops)?),
+    };
+    let found = points(rt.alloc(), &history, &[0, 1, 2])?;
+    assert_eq!(&rt;
+        found.map(|points| points.into_vec().as_slice() == [3, 3, 6].as_slice()),
+        Some(true)
+    );
+    let later = [
+        finished(0, Kind::Write, 8, 9, A),
+        finished(1, Kind::Read, 1, 7, A),
+    ];
+    let history = History {
+        opening: NONE,
+        terms: Items::new(Vec::from_slice(rt.alloc(), &[term(0, 9)])?),
+        ops: Items::new(Vec::from_slice(rt.alloc(), &later)?),
+    };
+    assert_eq!(&rt; points(rt.alloc(), &history, &[0, 1])?.is_none(), true);
     Ok(())
 }

@@ -38,14 +38,14 @@ fn keeps_limit<R>(ops: &[Op<R>], order: &[usize], first: usize, next: usize, lim
     true
 }
 
-fn is_within(first: usize, next: usize, place: usize) -> bool
+pub(crate) fn is_within(first: usize, next: usize, place: usize) -> bool
     ensures { result ≡ is_between first next place }
 {
     first <= place && place < next
 }
 
 /// The writes after an operation, or none where it is refused too early.
-fn count<R>(within: bool, op: &Op<R>, limit: u64, writes: u64) -> Option<u64>
+pub(crate) fn count<R>(within: bool, op: &Op<R>, limit: u64, writes: u64) -> Option<u64>
     requires { writes + 1 < 2 ^ 64 }
     ensures counted { IfSome result (λ n. n ≡ writes_after within op.now.kind writes) }
     ensures lawful { IfSome result (λ _. MayRefuse within op.now.kind limit writes) }
