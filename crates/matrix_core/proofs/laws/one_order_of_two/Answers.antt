@@ -1,0 +1,11 @@
+use Rattle.matrix_core.proofs.CallInstances.{not_this_order, their_order, two_run}
+use Rattle.matrix_core.proofs.laws.one_order_of_two.Goals as goal
+
+pub returns-clause-runs : goal.returns-clause-runs
+returns-clause-runs c = two_run
+
+pub returns-clause-ordered : goal.returns-clause-ordered
+returns-clause-ordered c = their_order
+
+pub returns-clause-refused : goal.returns-clause-refused
+returns-clause-refused c = not_this_order
