@@ -36,7 +36,7 @@ module _ {V C P G T : Type 0} {law : LawWords V} {eq : EqWords V} {cells : CellW
   row_none empty = record {
     lengths = refl;
     row_length = sym (none_below writer);
-    kept = λ k p q a b. let e : p ≡ q = same_Some p q (sym a ∙ b) in rw e (refl, refl);
+    kept = λ k p q a b. let e : p ≡ q = same_Some p q (sym a ∙ b) in rw e (refl, refl, refl);
     of_writer = λ p q a b. let e : p ≡ q = same_Some p q (sym a ∙ b) in
         rw e (refl, ap length (empty q b), record { each = λ k x y at_x at_y. absurd (none-some x at_x) });
     of_reader = λ k p q ne a b. let e : p ≡ q = same_Some p q (sym a ∙ b) in rw e refl;
@@ -57,8 +57,8 @@ module _ {V C P G T : Type 0} {law : LawWords V} {eq : EqWords V} {cells : CellW
 
   module _ (j : ℕ) (row : List C) (now : List (Pass V C P G T law eq cells)) (ne : j ≢ writer) (h : RowDealt writer first old j row now)
       (c : C) (put : P) (get : G) (qw qw' qr qr' : Pass V C P G T law eq cells)
-      (at_w : slice_get now writer ≡ Some qw) (is_put : qw'.puts.items ≡ qw.puts.items ++ put ∷ []) (same_gets : qw'.gets ≡ qw.gets) (same_w : (qw'.process ≡ qw.process) × (qw'.own ≡ qw.own))
-      (at_r : slice_get (set now writer qw') j ≡ Some qr) (is_get : qr'.gets.items ≡ qr.gets.items ++ get ∷ []) (same_puts : qr'.puts ≡ qr.puts) (same_r : (qr'.process ≡ qr.process) × (qr'.own ≡ qr.own))
+      (at_w : slice_get now writer ≡ Some qw) (is_put : qw'.puts.items ≡ qw.puts.items ++ put ∷ []) (same_gets : qw'.gets ≡ qw.gets) (same_w : (qw'.process ≡ qw.process) × (qw'.own ≡ qw.own) × (qw'.heard ≡ qw.heard))
+      (at_r : slice_get (set now writer qw') j ≡ Some qr) (is_get : qr'.gets.items ≡ qr.gets.items ++ get ∷ []) (same_puts : qr'.puts ≡ qr.puts) (same_r : (qr'.process ≡ qr.process) × (qr'.own ≡ qr.own) × (qr'.heard ≡ qr.heard))
       (new_put : NewPut cells first c put) (new_get : NewGet cells first c get) where
     now_r : slice_get now j ≡ Some qr
     now_r = get-set_other now writer j qw' qr ne at_r
@@ -81,10 +81,10 @@ module _ {V C P G T : Type 0} {law : LawWords V} {eq : EqWords V} {cells : CellW
       row_length = omega (arith, length-append row (c ∷ []), h.row_length, more_below writer j ne);
       kept = λ k p q a b. ⊎_elim
           (λ e. let eq' : q ≡ qr' = at_reader q (subst (λ z. slice_get (set (set now writer qw') j qr') z ≡ Some q) e b) in
-          let k' = h.kept j p qr (subst (λ z. slice_get old z ≡ Some p) e a) now_r in rw eq' (same_r.0 ∙ k'.0, same_r.1 ∙ k'.1))
+          let k' = h.kept j p qr (subst (λ z. slice_get old z ≡ Some p) e a) now_r in rw eq' (same_r.0 ∙ k'.0, same_r.1 ∙ k'.1, same_r.2 ∙ k'.2))
           (λ nj. ⊎_elim
           (λ e. let eq' : q ≡ qw' = at_writer q (subst (λ z. slice_get (set (set now writer qw') j qr') z ≡ Some q) e b) in
-          let k' = h.kept writer p qw (subst (λ z. slice_get old z ≡ Some p) e a) at_w in rw eq' (same_w.0 ∙ k'.0, same_w.1 ∙ k'.1))
+          let k' = h.kept writer p qw (subst (λ z. slice_get old z ≡ Some p) e a) at_w in rw eq' (same_w.0 ∙ k'.0, same_w.1 ∙ k'.1, same_w.2 ∙ k'.2))
           (λ nw. h.kept k p q a (at_other k q nj nw b)) (same_or_not k writer))
           (same_or_not k j);
       of_writer = λ p q a b. let eq' : q ≡ qw' = at_writer q b in

@@ -46,16 +46,16 @@ cell_front rows row i k lt = ap (λ o. option_and_then (λ (r : Vec _ _). slice_
 
 module _ {V C P G T : Type 0} {law : LawWords V} {eq : EqWords V} {cells : CellWords C (Clocked V) P G T} where
   pub dealt_none : (n : ℕ) (first : Clocked V) (passes : List (Pass V C P G T law eq cells)) → length passes ≡ n
-      → ((k : ℕ) (p : Pass V C P G T law eq cells) → slice_get passes k ≡ Some p → (p.process ≡ k) × (p.own ≡ first) × (p.puts.items ≡ []) × (p.gets.items ≡ [])) → DealtBy n first [] passes
+      → ((k : ℕ) (p : Pass V C P G T law eq cells) → slice_get passes k ≡ Some p → (p.process ≡ k) × (p.own ≡ first) × (p.heard ≡ 0) × (p.puts.items ≡ []) × (p.gets.items ≡ [])) → DealtBy n first [] passes
   dealt_none n first passes count new = record {
     count = count;
     longs = λ k r at. absurd (none-some r at);
-    named = λ k p at. ((new k p at).0, (new k p at).1);
-    unput = λ k p le at. (new k p at).2;
+    named = λ k p at. ((new k p at).0, (new k p at).1, (new k p at).2);
+    unput = λ k p le at. (new k p at).3;
     puts = λ k p r at_r at. absurd (none-some r at_r);
     gets = λ k p at. (
-      ap length (new k p at).3 ∙ sym (none_below k),
-      record { each = λ m x y at_x at_y. absurd (none-some y (subst (λ z. slice_get z m ≡ Some y) (new k p at).3 at_y)) },
+      ap length (new k p at).4 ∙ sym (none_below k),
+      record { each = λ m x y at_x at_y. absurd (none-some y (subst (λ z. slice_get z m ≡ Some y) (new k p at).4 at_y)) },
     );
   }
 
@@ -107,7 +107,7 @@ module _ {V C P G T : Type 0} {law : LawWords V} {eq : EqWords V} {cells : CellW
     dealt_more = record {
       count = dealt.lengths ∙ inv.count;
       longs = λ k r at. ⊎_elim (λ a. inv.longs k r a) (λ (b : (k ≡ length rows) × (r ≡ row)). rw b.1 long) (get_last rows row k r at);
-      named = λ k q at. let h = dealt.kept k (get_or passes k q) q (before k q at) at in let i = inv.named k (get_or passes k q) (before k q at) in (h.0 ∙ i.0, h.1 ∙ i.1);
+      named = λ k q at. let h = dealt.kept k (get_or passes k q) q (before k q at) at in let i = inv.named k (get_or passes k q) (before k q at) in (h.0 ∙ i.0, h.1 ∙ i.1, h.2 ∙ i.2);
       unput = λ k q le at.
           let same : q.puts ≡ (get_or passes k q).puts = dealt.of_reader k (get_or passes k q) q (omega (arith, le, more)) (before k q at) at in
           ap (λ (v : Vec P Global). v.items) same ∙ inv.unput k (get_or passes k q) (omega (arith, le, more)) (before k q at);
@@ -125,12 +125,12 @@ module _ {V C P G T : Type 0} {law : LawWords V} {eq : EqWords V} {cells : CellW
     }
 
   pub started_more : (first : Clocked V) (n : ℕ) (xs : List (Pass V C P G T law eq cells)) (z : Pass V C P G T law eq cells) → length xs ≡ n
-      → ((k : ℕ) (p : Pass V C P G T law eq cells) → slice_get xs k ≡ Some p → (p.process ≡ k) × (p.own ≡ first) × (p.puts.items ≡ []) × (p.gets.items ≡ []))
-      → z.process ≡ n → z.own ≡ first → z.puts.items ≡ [] → z.gets.items ≡ []
-      → (length (xs ++ z ∷ []) ≡ n + 1) × ((k : ℕ) (p : Pass V C P G T law eq cells) → slice_get (xs ++ z ∷ []) k ≡ Some p → (p.process ≡ k) × (p.own ≡ first) × (p.puts.items ≡ []) × (p.gets.items ≡ []))
-  started_more first n xs z count all process own puts gets = (
+      → ((k : ℕ) (p : Pass V C P G T law eq cells) → slice_get xs k ≡ Some p → (p.process ≡ k) × (p.own ≡ first) × (p.heard ≡ 0) × (p.puts.items ≡ []) × (p.gets.items ≡ []))
+      → z.process ≡ n → z.own ≡ first → z.heard ≡ 0 → z.puts.items ≡ [] → z.gets.items ≡ []
+      → (length (xs ++ z ∷ []) ≡ n + 1) × ((k : ℕ) (p : Pass V C P G T law eq cells) → slice_get (xs ++ z ∷ []) k ≡ Some p → (p.process ≡ k) × (p.own ≡ first) × (p.heard ≡ 0) × (p.puts.items ≡ []) × (p.gets.items ≡ []))
+  started_more first n xs z count all process own heard puts gets = (
     omega (arith, count, length-append xs (z ∷ [])),
-    λ k p at. ⊎_elim (λ a. all k p a) (λ (b : (k ≡ length xs) × (p ≡ z)). rw b.1 (process ∙ sym count ∙ sym b.0, own, puts, gets)) (get_last xs z k p at),
+    λ k p at. ⊎_elim (λ a. all k p a) (λ (b : (k ≡ length xs) × (p ≡ z)). rw b.1 (process ∙ sym count ∙ sym b.0, own, heard, puts, gets)) (get_last xs z k p at),
   )
 
 some_at : {X : Type 0} (xs : List X) (k : ℕ) → k < length xs → (x : X) × (slice_get xs k ≡ Some x)
@@ -180,6 +180,7 @@ module _ {V C P G T : Type 0} {law : LawWords V} {eq : EqWords V} {cells : CellW
     opened = refl;
     passes_of = record { all = inv.count ∙ sym full; processes = λ k p at. (inv.named k p at).0; of = is_pass };
     owns = λ k p at. (inv.named k p at).1;
+    unheard = λ k p at. (inv.named k p at).2;
     unwritten = λ k m p put at at_put.
         let r = row_at k p at in
         let h = inv.puts k p r.0 r.1 at in

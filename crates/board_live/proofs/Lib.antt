@@ -3,5 +3,7 @@ pub mod Dealing
 pub mod Dealt
 pub mod Ended
 pub mod Ending
+pub mod Made
+pub mod Running
 pub mod Seats
 pub mod Steps

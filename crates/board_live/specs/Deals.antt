@@ -48,6 +48,7 @@ module _ {V C P G T : Type 0} {law : LawWords V} {eq : EqWords V} {cells : CellW
     pub opened : board.first ≡ first
     pub passes_of : AllPasses board passes
     pub owns : (k : ℕ) (p : Pass V C P G T law eq cells) → slice_get passes k ≡ Some p → p.own ≡ first
+    pub unheard : (k : ℕ) (p : Pass V C P G T law eq cells) → slice_get passes k ≡ Some p → p.heard ≡ 0
     pub unwritten : (k m : ℕ) (p : Pass V C P G T law eq cells) (put : P) → slice_get passes k ≡ Some p → slice_get p.puts.items m ≡ Some put → cells.written put ≡ []
     pub unread : (k m : ℕ) (p : Pass V C P G T law eq cells) (get : G) → slice_get passes k ≡ Some p → slice_get p.gets.items m ≡ Some get → (cells.answers get ≡ []) × (cells.told get ≡ [])
 
@@ -63,7 +64,7 @@ module _ {V C P G T : Type 0} {law : LawWords V} {eq : EqWords V} {cells : CellW
   pub record RowDealt (writer : ℕ) (first : Clocked V) (old : List (Pass V C P G T law eq cells)) (j : ℕ) (row : List C) (now : List (Pass V C P G T law eq cells)) : Type 0 where
     pub lengths : length now ≡ length old
     pub row_length : length row ≡ others_below writer j
-    pub kept : (k : ℕ) (p q : Pass V C P G T law eq cells) → slice_get old k ≡ Some p → slice_get now k ≡ Some q → (q.process ≡ p.process) × (q.own ≡ p.own)
+    pub kept : (k : ℕ) (p q : Pass V C P G T law eq cells) → slice_get old k ≡ Some p → slice_get now k ≡ Some q → (q.process ≡ p.process) × (q.own ≡ p.own) × (q.heard ≡ p.heard)
     pub of_writer : (p q : Pass V C P G T law eq cells) → slice_get old writer ≡ Some p → slice_get now writer ≡ Some q
         → (q.gets ≡ p.gets) × (length q.puts.items ≡ length row) × Match (NewPut cells first) (slice_get row) q.puts.items
     pub of_reader : (k : ℕ) (p q : Pass V C P G T law eq cells) → k ≢ writer → slice_get old k ≡ Some p → slice_get now k ≡ Some q → q.puts ≡ p.puts
@@ -75,7 +76,7 @@ module _ {V C P G T : Type 0} {law : LawWords V} {eq : EqWords V} {cells : CellW
   pub record DealtBy (n : ℕ) (first : Clocked V) (rows : List (Vec C Global)) (passes : List (Pass V C P G T law eq cells)) : Type 0 where
     pub count : length passes ≡ n
     pub longs : (k : ℕ) (r : Vec C Global) → slice_get rows k ≡ Some r → length r.items + 1 ≡ n
-    pub named : (k : ℕ) (p : Pass V C P G T law eq cells) → slice_get passes k ≡ Some p → (p.process ≡ k) × (p.own ≡ first)
+    pub named : (k : ℕ) (p : Pass V C P G T law eq cells) → slice_get passes k ≡ Some p → (p.process ≡ k) × (p.own ≡ first) × (p.heard ≡ 0)
     pub unput : (k : ℕ) (p : Pass V C P G T law eq cells) → length rows ≤ k → slice_get passes k ≡ Some p → p.puts.items ≡ []
     pub puts : (k : ℕ) (p : Pass V C P G T law eq cells) (r : Vec C Global) → slice_get rows k ≡ Some r → slice_get passes k ≡ Some p → (length p.puts.items + 1 ≡ n) × Match (NewPut cells first) (slice_get r.items) p.puts.items
     pub gets : (k : ℕ) (p : Pass V C P G T law eq cells) → slice_get passes k ≡ Some p → (length p.gets.items ≡ others_below k (length rows)) × Match (NewGet cells first) (λ m. cell_of rows (other k m) k) p.gets.items

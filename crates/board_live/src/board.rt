@@ -1,6 +1,7 @@
 //! The board, the passes of its processes, and receipts.
 ghost use Rattle.std.specs.Prelude.{◌≡◌, IsTrue};
 ghost use Rattle.board_live.specs.Lists.{IsSquare};
+ghost use Rattle.matrix_core.specs.Stamps.{first_stamp};
 
 use crate::clocked::Clocked;
 use crate::posted::{Posted, RecordLaw};
@@ -21,6 +22,7 @@ pub struct Board<V: RecordLaw, C: Calls<Clocked<V>>> {
     limit: u64,
     first: Clocked<V>,
     ghost square: { IsSquare rows.items },
+    ghost opens: { (first.stamp ≡ first_stamp) × (first.clock ≡ 0) },
 }
 
 /// The right to call as one of the processes. A board can be finished only with the passes of all.

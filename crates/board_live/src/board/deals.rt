@@ -1,5 +1,6 @@
 //! Making a board, and ending it.
 ghost use Rattle.std.specs.Prelude.{◌≡◌, ◌<◌, ◌≤◌, ℕ, IfOk, IsTrue, length, vec_len, slice_get, Some, []};
+ghost use Rattle.matrix_core.specs.Stamps.{first_stamp};
 ghost use Rattle.board_live.specs.Deals.{RowDealt, IsNew, OpensWith};
 
 use super::{Board, Pass};
@@ -54,6 +55,7 @@ fn deal<V: RecordLaw, C: Calls<Clocked<V>>>(
     first: Clocked<V>,
 ) -> Result<(Board<V, C>, Vec<Pass<V, C>>), AllocError>
     requires lawful { IsTrue (V.obeys first.item) }
+    requires opens { (first.stamp ≡ first_stamp) × (first.clock ≡ 0) }
     requires processes { (2 ≤ n) × (n ≤ 16) }
     ensures { IfOk result (λ r. IsNew n limit first r.0 r.1.items) }
 {

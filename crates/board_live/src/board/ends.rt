@@ -2,6 +2,7 @@
 ghost use Rattle.std.specs.Prelude.{◌≡◌, ◌<◌, length, vec_len, slice_get, Some, map};
 ghost use Rattle.board_live.specs.Deals.{AllPasses, AllSettled};
 ghost use Rattle.board_live.specs.Ends.{RowStands, RowEnded};
+ghost use Rattle.board_live.specs.Ran.{HaveOneOrder};
 ghost use Rattle.board_live.specs.Rising.{greatest, posted};
 
 use super::{Board, Pass};
@@ -54,6 +55,7 @@ impl<V: RecordLaw, C: Calls<Clocked<V>>> Board<V, C> {
         requires { AllPasses self passes.items }
         ensures last { (p : _) → slice_get passes.items 0 ≡ Some p → result ≡ posted (greatest p.own (map (λ q. q.own) passes.items)) }
         ensures settled { AllSettled self.first passes.items }
+        ensures ordered { HaveOneOrder self passes.items result }
     {
         let mut passes = passes;
         let last = greatest_own(&passes);

@@ -1,5 +1,6 @@
-use Rattle.std.proofs.Common.{rules, arith, refl, ap, subst, ◌≡◌, ◌+◌, ◌<◌, ◌∷◌, [], length, length-append}
+use Rattle.std.proofs.Common.{rules, arith, refl, sym, ◌∙◌, ap, subst, ◌≡◌, ◌+◌, ◌<◌, ◌∷◌, [], length, length-append}
 use Rattle.board_live.specs.Ends.{RowEnded}
+use Rattle.board_live.proofs.Running.{one_order}
 use Rattle.board_live.proofs.Ended.{ended_none, row_stands, ended_more, ended_all}
 use Rattle.board_live.proofs.board.Board.finish.Goals as goal
 
@@ -24,3 +25,11 @@ pub returns-clause-settled : goal.returns-clause-settled
 returns-clause-settled g c =
     let n : c.loop.counter ≡ length c.args.self.rows.items = search rules in
     ended_all c.args.self c.args.passes.items c.loop.rows.items c.loop.passes.items c.loop.invariant.0 (omega (arith, n, c.loop.invariant.1))
+
+pub returns-clause-ordered : goal.returns-clause-ordered
+returns-clause-ordered g c runs have =
+    let n : c.loop.counter ≡ length c.args.self.rows.items = search rules in
+    let o = one_order c.args.self c.args.passes.items runs c.requires
+    (ended_all c.args.self c.args.passes.items c.loop.rows.items c.loop.passes.items c.loop.invariant.0 (omega (arith, n, c.loop.invariant.1)))
+    have c.greatest_own-last.result c.greatest_own-last.ensures in
+    (o.0, o.1, o.2 ∙ sym (ap (λ z. z.item) c.posted.ensures))

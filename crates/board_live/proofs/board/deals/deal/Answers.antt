@@ -7,7 +7,7 @@ use Rattle.board_live.proofs.board.deals.deal.Goals as goal
 pub loop-process-preserved : goal.loop-process-preserved
 loop-process-preserved g c =
     let inv = c.loop-process.invariant in
-    rw c.in_ok-push.ensures.items (started_more c.args.first c.loop-process.process c.loop-process.passes.items _ inv.0 inv.1 refl refl c.in_ok-with_capacity.ensures.items c.in_ok-with_capacity-2.ensures.items)
+    rw c.in_ok-push.ensures.items (started_more c.args.first c.loop-process.process c.loop-process.passes.items _ inv.0 inv.1 refl refl refl c.in_ok-with_capacity.ensures.items c.in_ok-with_capacity-2.ensures.items)
 
 pub loop-writer-init : goal.loop-writer-init
 loop-writer-init g c =
@@ -41,6 +41,7 @@ invariant_of-result g c =
         at_most = omega (arith, n, c.requires.processes.1);
         each = λ i r at. let len : vec_len r ≡ length r.items = r.ok.0 in omega (arith, n, len, inv.longs i r at);
       };
+      opens = c.requires.opens;
     }
 
 pub returns : goal.returns

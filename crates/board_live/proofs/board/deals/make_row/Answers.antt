@@ -20,8 +20,8 @@ loop-reader-preserved g c = elim c.if-reader-writer.branch [
       rw (w.row-is, w.passes-is, w.in_ok-push.ensures.items)
       (row_more c.args.writer c.args.first c.args.passes.now.items c.loop-reader.reader c.loop-reader.row.items now w.if-reader-writer.true c.loop-reader.invariant
       w.in_ok-cell.cell w.in_ok-cell.put w.in_ok-cell.get w.index_mut.result.now _ w.index_mut-then-reader-writer.result.now _
-      at_w w.in_ok-push-2.ensures.items refl (refl, refl)
-      (read_set now c.args.writer _ c.loop-reader.reader _ lt_r w.index_mut-then-reader-writer.ensures.value) w.in_ok-push-3.ensures.items refl (refl, refl)
+      at_w w.in_ok-push-2.ensures.items refl (refl, refl, refl)
+      (read_set now c.args.writer _ c.loop-reader.reader _ lt_r w.index_mut-then-reader-writer.ensures.value) w.in_ok-push-3.ensures.items refl (refl, refl, refl)
       (record { stands = record { of = m.own.1; opened = m.own.0; last = rw m.empty.0 refl }; unwritten = m.empty.0 })
       (record { hears = record { of = m.own.2; opened = m.own.0 }; unread = m.empty.1; untold = m.empty.2 }))
   | else-reader-writer w ↦ rw (w.row-is, w.passes-is) (row_skip c.args.writer c.args.first c.args.passes.now.items c.loop-reader.reader c.loop-reader.row.items c.loop-reader.passes.items w.if-reader-writer.false c.loop-reader.invariant)
