@@ -3,7 +3,12 @@ pub mod Dealing
 pub mod Dealt
 pub mod Ended
 pub mod Ending
+pub mod Halves
+pub mod LaneLists
+pub mod LogLaws
 pub mod Made
 pub mod Running
+pub mod Runs
 pub mod Seats
+pub mod SoundLogs
 pub mod Steps

@@ -2,7 +2,12 @@ pub mod Boards
 pub mod Clocks
 pub mod Deals
 pub mod Ends
+pub mod Jobs
+pub mod Lanes
 pub mod Lists
+pub mod Logs
+pub mod Origins
 pub mod Ran
 pub mod Receipts
 pub mod Rising
+pub mod Tasks

@@ -1,0 +1,110 @@
+-- Lists of lanes and of passes, made from their ends: the last is made first, so what was made is turned round.
+use Rattle.std.proofs.Common.{◌≡◌, ℕ, zero, suc, ◌+◌, ◌<◌, ◌^◌, List, [], ◌∷◌, ◌++◌, length, length-append, append_assoc, map, reverse, refl, sym, ◌∙◌, ap, subst, arith}
+use Rattle.std.specs.Prelude.{slice_get, Some, slice_index_or, All}
+use Rattle.std.specs.declared.cmp.PartialEq.{Ghosts as EqWords}
+use Rattle.std.proofs.lemmas.Option.{same_Some, none-some}
+use Rattle.std.proofs.lemmas.List.{reverse-append}
+use Rattle.history_core.specs.declared.play.Wish.{Wish}
+use Rattle.cell_live.specs.declared.cell.Calls.{Ghosts as CellWords}
+use Rattle.board_live.specs.declared.board.Board.{Board}
+use Rattle.board_live.specs.declared.board.Pass.{Pass}
+use Rattle.board_live.specs.declared.clocked.Clocked.{Clocked}
+use Rattle.board_live.specs.declared.lane.Lane.{Lane}
+use Rattle.board_live.specs.declared.posted.RecordLaw.{Ghosts as LawWords}
+use Rattle.board_live.specs.Boards.{IsPass}
+use Rattle.board_live.specs.Jobs.{AllReady}
+use Rattle.board_live.specs.Lanes.{AreLanes, IsNewLane}
+
+append_nothing : {A : Type 0} (xs : List A) → xs ≡ xs ++ []
+append_nothing [] = refl
+append_nothing (x ∷ xs) = ap (λ z. x ∷ z) (append_nothing xs)
+
+-- what holds of the elements of a list holds of one that stands before others
+pub all_at : {A : Type 0} (P : A → Type 0) (all xs : List A) (x : A) (ys : List A) → all ≡ (xs ++ x ∷ []) ++ ys → All P all → P x
+all_at P all [] x ys e h = subst (λ z. P (slice_index_or z 0 x)) e (h 0 x (rw e (omega arith)))
+all_at P all (y ∷ xs) x ys e h = all_at P ((xs ++ x ∷ []) ++ ys) xs x ys refl (λ k d l. (subst (All P) e h) (suc k) d (omega arith))
+
+-- a list of what was made so far from the last elements, last first
+pub record MappedFrom {A B : Type 0} (f : A → B) (whole left : List A) (made : List B) : Type 0 where
+  pub done : List A
+  pub of : whole ≡ left ++ done
+  pub are : reverse made ≡ map f done
+
+pub mapped_none : {A B : Type 0} (f : A → B) (whole : List A) → MappedFrom f whole whole []
+mapped_none f whole = record { done = []; of = append_nothing whole; are = refl }
+
+pub mapped_more : {A B : Type 0} (f : A → B) (whole before left : List A) (made : List B) (x : A) → MappedFrom f whole before made → before ≡ left ++ x ∷ [] → MappedFrom f whole left (made ++ f x ∷ [])
+mapped_more f whole before left made x h e = record {
+  done = x ∷ h.done;
+  of = h.of ∙ ap (λ z. z ++ h.done) e ∙ append_assoc left (x ∷ []) h.done;
+  are = reverse-append made (f x ∷ []) ∙ ap (λ z. f x ∷ z) h.are;
+}
+
+pub mapped_all : {A B : Type 0} (f : A → B) (whole left : List A) (made : List B) → MappedFrom f whole left made → length left ≡ 0 → reverse made ≡ map f whole
+mapped_all f whole [] made h e = h.are ∙ ap (map f) (sym h.of)
+mapped_all f whole (x ∷ xs) made h e = absurd (omega (arith, e))
+
+module _ {V C P G T : Type 0} {law : LawWords V} {eq : EqWords V} {cells : CellWords C (Clocked V) P G T} where
+  -- the lanes of the last passes were made
+  pub record LanesFrom (passes : List (Pass V C P G T law eq cells)) (scripts : List (List (Wish V))) (left : List (Pass V C P G T law eq cells)) (left_scripts : List (List (Wish V)))
+      (lanes : List (Lane V C P G T law eq cells)) : Type 0 where
+    pub done : List (Pass V C P G T law eq cells)
+    pub done_scripts : List (List (Wish V))
+    pub of_passes : passes ≡ left ++ done
+    pub of_scripts : scripts ≡ left_scripts ++ done_scripts
+    pub are : AreLanes done done_scripts (reverse lanes)
+    pub same : length left_scripts ≡ length left
+
+  pub lanes_none : (passes : List (Pass V C P G T law eq cells)) (scripts : List (List (Wish V))) → length scripts ≡ length passes → LanesFrom passes scripts passes scripts []
+  lanes_none passes scripts same = record { done = []; done_scripts = []; of_passes = append_nothing passes; of_scripts = append_nothing scripts; are = tt; same = same }
+
+  pub lanes_more : (passes : List (Pass V C P G T law eq cells)) (scripts : List (List (Wish V))) (before left : List (Pass V C P G T law eq cells)) (before_scripts left_scripts : List (List (Wish V)))
+      (lanes : List (Lane V C P G T law eq cells)) (pass : Pass V C P G T law eq cells) (script : List (Wish V)) (lane : Lane V C P G T law eq cells)
+      → LanesFrom passes scripts before before_scripts lanes → before ≡ left ++ pass ∷ [] → before_scripts ≡ left_scripts ++ script ∷ [] → IsNewLane pass script lane
+      → LanesFrom passes scripts left left_scripts (lanes ++ lane ∷ [])
+  lanes_more passes scripts before left before_scripts left_scripts lanes pass script lane h e f new =
+      let n : length before ≡ length left + 1 = ap length e ∙ length-append left (pass ∷ []) in
+      let m : length before_scripts ≡ length left_scripts + 1 = ap length f ∙ length-append left_scripts (script ∷ []) in
+      record {
+        done = pass ∷ h.done;
+        done_scripts = script ∷ h.done_scripts;
+        of_passes = h.of_passes ∙ ap (λ z. z ++ h.done) e ∙ append_assoc left (pass ∷ []) h.done;
+        of_scripts = h.of_scripts ∙ ap (λ z. z ++ h.done_scripts) f ∙ append_assoc left_scripts (script ∷ []) h.done_scripts;
+        are = rw (reverse-append lanes (lane ∷ [])) (new, h.are);
+        same = omega (arith, n, m, h.same);
+      }
+
+  pub lanes_all : (passes : List (Pass V C P G T law eq cells)) (scripts : List (List (Wish V))) (left : List (Pass V C P G T law eq cells)) (left_scripts : List (List (Wish V)))
+      (lanes : List (Lane V C P G T law eq cells)) → LanesFrom passes scripts left left_scripts lanes → length left ≡ 0 → AreLanes passes scripts (reverse lanes)
+  lanes_all passes scripts [] [] lanes h e = rw (h.of_passes, h.of_scripts) h.are
+  lanes_all passes scripts [] (s ∷ ss) lanes h e = absurd (omega (arith, h.same))
+  lanes_all passes scripts (p ∷ ps) left_scripts lanes h e = absurd (omega (arith, e))
+
+  -- the pass of a lane is the one at its place
+  pub lane_at : (passes : List (Pass V C P G T law eq cells)) (scripts : List (List (Wish V))) (lanes : List (Lane V C P G T law eq cells)) → AreLanes passes scripts lanes
+      → (k : ℕ) (lane : Lane V C P G T law eq cells) → slice_get lanes k ≡ Some lane
+      → (pass : Pass V C P G T law eq cells) × (script : List (Wish V)) × (slice_get passes k ≡ Some pass) × (slice_get scripts k ≡ Some script) × IsNewLane pass script lane
+  lane_at [] [] [] h k lane at = absurd (none-some lane at)
+  lane_at [] [] (l ∷ ls) h k lane at = absurd h
+  lane_at [] (s ∷ ss) lanes h k lane at = absurd h
+  lane_at (p ∷ ps) [] lanes h k lane at = absurd h
+  lane_at (p ∷ ps) (s ∷ ss) [] h k lane at = absurd h
+  lane_at (p ∷ ps) (s ∷ ss) (l ∷ ls) h zero lane at = (p, s, refl, refl, subst (IsNewLane p s) (same_Some l lane at) h.0)
+  lane_at (p ∷ ps) (s ∷ ss) (l ∷ ls) h (suc k) lane at = lane_at ps ss ls h.1 k lane at
+
+  pub lanes_length : (passes : List (Pass V C P G T law eq cells)) (scripts : List (List (Wish V))) (lanes : List (Lane V C P G T law eq cells)) → AreLanes passes scripts lanes → length lanes ≡ length passes
+  lanes_length [] [] [] h = refl
+  lanes_length [] [] (l ∷ ls) h = absurd h
+  lanes_length [] (s ∷ ss) lanes h = absurd h
+  lanes_length (p ∷ ps) [] lanes h = absurd h
+  lanes_length (p ∷ ps) (s ∷ ss) [] h = absurd h
+  lanes_length (p ∷ ps) (s ∷ ss) (l ∷ ls) h = ap suc (lanes_length ps ss ls h.1)
+
+  -- lanes of a board's passes may run
+  pub lanes_ready : (board : Board V C P G T law eq cells) (passes : List (Pass V C P G T law eq cells)) (scripts : List (List (Wish V))) (lanes : List (Lane V C P G T law eq cells))
+      → AreLanes passes scripts lanes → length passes < 2 ^ 64 → ((k : ℕ) (p : Pass V C P G T law eq cells) → slice_get passes k ≡ Some p → IsPass board p)
+      → AllReady (λ (l : Lane V C P G T law eq cells). IsPass board l.pass) 0 lanes
+  lanes_ready board passes scripts lanes h few of = record {
+    fits = rw (lanes_length passes scripts lanes h) (omega (arith, few));
+    each = λ k lane at. let found = lane_at passes scripts lanes h k lane at in rw found.4.has (of k found.0 found.2);
+  }

@@ -1,0 +1,5 @@
+use Rattle.board_live.proofs.Runs.{RunSoFar}
+use Rattle.board_live.proofs.lane.calls.run_lane.Given as goal
+
+abbrev pub invariant-loop-call : goal.invariant-loop-call
+invariant-loop-call g l = RunSoFar l.board l.fn.lane l.lane l.call

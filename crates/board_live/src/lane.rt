@@ -1,0 +1,56 @@
+//! What a task runs: a script of wishes with one pass, and the log of what was answered.
+ghost use Rattle.std.specs.Prelude.{◌≡◌, ◌≤◌, All, length, vec_capacity};
+ghost use Rattle.board_live.specs.Logs.{Obeys, IsLog};
+
+use crate::board::Pass;
+use crate::clocked::Clocked;
+use crate::posted::{Posted, RecordLaw};
+use cell_live::Calls;
+use matrix_core::{Stamp, Wish};
+
+mod calls;
+
+pub(crate) use calls::run_lane;
+
+/// What a call answered.
+#[derive(Clone, Copy, Debug, PartialEq, Eq)]
+pub enum Reply<V> {
+    /// The write has this stamp.
+    Written(Stamp),
+    /// The read saw this record.
+    Seen(Posted<V>),
+    /// The tags have ended; the refused write saw this record.
+    Ended(Posted<V>),
+}
+
+impl<V: Copy> Reply<V> {
+    ghost use Rattle.board_live.specs.Logs.{stamp_of};
+
+    /// The stamp of the record that the call handed on.
+    pub fn stamp(&self) -> Stamp
+        ensures { result ≡ stamp_of self.now }
+    {
+        match self {
+            Reply::Written(stamp) => *stamp,
+            Reply::Seen(posted) | Reply::Ended(posted) => posted.stamp,
+        }
+    }
+}
+
+/// A call and what it answered.
+#[derive(Clone, Copy, Debug, PartialEq, Eq)]
+pub struct Entry<V> {
+    pub wish: Wish<V>,
+    pub reply: Reply<V>,
+}
+
+/// A pass with a script of wishes and the log of the calls that were made for it.
+#[derive(Drop)]
+pub struct Lane<V: RecordLaw, C: Calls<Clocked<V>>> {
+    pass: Pass<V, C>,
+    script: Vec<Wish<V>>,
+    log: Vec<Entry<V>>,
+    ghost room: { length script.items ≤ vec_capacity log },
+    ghost lawful: { All (Obeys V.obeys) script.items },
+    ghost kept: { IsLog script.items log.items pass.own.stamp },
+}

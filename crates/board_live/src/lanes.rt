@@ -1,0 +1,61 @@
+//! Lanes for all passes of a board, and the passes of lanes.
+ghost use Rattle.std.specs.Prelude.{◌≡◌, All, IfOk, length, map};
+ghost use Rattle.board_live.specs.Lanes.{AreLanes};
+ghost use Rattle.board_live.specs.Logs.{Obeys};
+
+use crate::board::Pass;
+use crate::clocked::Clocked;
+use crate::lane::Lane;
+use crate::posted::RecordLaw;
+use cell_live::Calls;
+use history_core::Items;
+use matrix_core::Wish;
+use std::alloc::{AllocError, Global};
+
+/// A lane for each pass, with the script at its place. A refusal drops the passes.
+pub fn make_lanes<V: RecordLaw + Drop, C: Calls<Clocked<V>>>(
+    alloc: Global,
+    passes: Vec<Pass<V, C>>,
+    scripts: Items<Items<Wish<V>>>,
+) -> Result<Vec<Lane<V, C>>, AllocError>
+    requires counts { length scripts ≡ length passes.items }
+    requires lawful { All (λ s. All (Obeys V.obeys) s) scripts }
+    ensures { IfOk result (λ lanes. AreLanes passes.items scripts lanes.items) }
+{
+    let mut passes = passes;
+    let mut scripts = scripts.into_vec();
+    let mut lanes = Vec::with_capacity(alloc, passes.len())?;
+    for _ in 0..passes.len() {
+        let Some(pass) = passes.pop() else {
+            unreachable!();
+        };
+        let Some(script) = scripts.pop() else {
+            unreachable!();
+        };
+        match Lane::new(alloc, pass, script.into_vec()) {
+            Ok(lane) => lanes.push(lane)?,
+            Err((_, refused)) => return Err(refused),
+        }
+    }
+    lanes.reverse();
+    Ok(lanes)
+}
+
+/// The passes of the lanes.
+pub fn into_passes<V: RecordLaw + Drop, C: Calls<Clocked<V>>>(
+    alloc: Global,
+    lanes: Vec<Lane<V, C>>,
+) -> Result<Vec<Pass<V, C>>, AllocError>
+    ensures { IfOk result (λ passes. passes.items ≡ map (λ l. l.pass) lanes.items) }
+{
+    let mut lanes = lanes;
+    let mut passes = Vec::with_capacity(alloc, lanes.len())?;
+    for _ in 0..lanes.len() {
+        let Some(lane) = lanes.pop() else {
+            unreachable!();
+        };
+        passes.push(lane.into_pass())?;
+    }
+    passes.reverse();
+    Ok(passes)
+}
