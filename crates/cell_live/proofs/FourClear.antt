@@ -13,8 +13,8 @@ use Rattle.fourslot_core.specs.declared.state.ReaderStage.TheVariants as reader
 use Rattle.fourslot_core.specs.Events.{side, with_side, record_in, place_of, bit_number, slot_number, after_write, after_read}
 use Rattle.fourslot_core.specs.Invariant.{HasSlot, IsKept, IsSound}
 use Rattle.fourslot_core.proofs.TwoSides.{not_same, record_same, record_other}
-use Rattle.cell_live.specs.FourSlot.{InTable, HeldByWriter, HeldByReader, named_place}
-use Rattle.cell_live.specs.FourSlotSteps.{slot_of_choice}
+use Rattle.cell_live.specs.four_slot.Rule.{InTable, HeldByWriter, HeldByReader, named_place}
+use Rattle.cell_live.specs.four_slot.Steps.{slot_of_choice}
 use Rattle.cell_live.proofs.FourPlaces.{slot_low, place_number, same_or_not, not_named}
 
 -- word 2 + q is the bit of the pair q

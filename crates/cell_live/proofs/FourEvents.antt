@@ -1,5 +1,5 @@
 -- The passes' lists of events lead to the state shown: a step adds its events at the end of one list, and the state after it is the state before with these events made.
-use Rattle.std.proofs.Common.{◌≡◌, Bool, false, ◌&&◌, if◌then◌else◌, List, [], ◌∷◌, ◌++◌, sym, refl, ap, subst}
+use Rattle.std.proofs.Common.{◌≡◌, ℕ, ◌+◌, arith, Bool, false, ◌&&◌, if◌then◌else◌, List, [], ◌∷◌, ◌++◌, sym, refl, ap, subst}
 use Rattle.fourslot_core.specs.declared.state.State.{State as Core}
 use Rattle.fourslot_core.specs.declared.state.Stage.{Stage}
 use Rattle.fourslot_core.specs.declared.state.Stage.TheVariants as writer
@@ -15,8 +15,8 @@ use Rattle.fourslot_core.specs.Interleaving.{Leads}
 use Rattle.fourslot_core.specs.Invariant.{IsSound, IsSoundAt}
 use Rattle.fourslot_core.proofs.Interleaved.{then_writes, then_reads}
 use Rattle.fourslot_core.proofs.Keeping.{keep_write, keep_read}
-use Rattle.cell_live.specs.Triple.{snap}
-use Rattle.cell_live.specs.FourSlot.{IsWriterShown, named_place}
+use Rattle.cell_live.specs.Running.{snap}
+use Rattle.cell_live.specs.four_slot.Rule.{IsWriterShown, named_place, control_writes, control_reads}
 use Rattle.cell_live.proofs.FourClear.{begun, read_on}
 
 snoc_three : {A : Type 0} (xs : List A) (a b c : A) → ((xs ++ a ∷ []) ++ b ∷ []) ++ c ∷ [] ≡ xs ++ a ∷ b ∷ c ∷ []
@@ -97,3 +97,28 @@ write_joined (x ∷ xs) a b c d e = ap (λ ys. x ∷ ys) (write_joined xs a b c 
 pub read_joined : {A : Type 0} (xs : List A) (a b c d e : A) → ((xs ++ a ∷ []) ++ b ∷ []) ++ c ∷ d ∷ e ∷ [] ≡ xs ++ a ∷ b ∷ c ∷ d ∷ e ∷ []
 read_joined [] a b c d e = refl
 read_joined (x ∷ xs) a b c d e = ap (λ ys. x ∷ ys) (read_joined xs a b c d e)
+
+-- the counts
+module _ {T : Type 0} where
+  pub writes_more : (xs ys : List (WriteEvent T)) → control_writes (xs ++ ys) ≡ control_writes xs + control_writes ys
+  writes_more [] ys = omega arith
+  writes_more (W1 x ∷ xs) ys = let more = writes_more xs ys in omega arith
+  writes_more (W2 ∷ xs) ys = writes_more xs ys
+  writes_more (W3 ∷ xs) ys = writes_more xs ys
+  writes_more (W4 ∷ xs) ys = let more = writes_more xs ys in omega arith
+  writes_more (W5 ∷ xs) ys = let more = writes_more xs ys in omega arith
+
+  pub reads_more : (xs ys : List (ReadEvent T)) → control_reads (xs ++ ys) ≡ control_reads xs + control_reads ys
+  reads_more [] ys = omega arith
+  reads_more (R1 ∷ xs) ys = let more = reads_more xs ys in omega arith
+  reads_more (R2 ∷ xs) ys = let more = reads_more xs ys in omega arith
+  reads_more (R3 ∷ xs) ys = let more = reads_more xs ys in omega arith
+  reads_more (R4 ∷ xs) ys = reads_more xs ys
+  reads_more (R5 x ∷ xs) ys = reads_more xs ys
+
+  -- one access more, and its events
+  pub wrote : (n : ℕ) (xs ys : List (WriteEvent T)) → n ≡ control_writes xs → control_writes ys ≡ 1 → n + 1 ≡ control_writes (xs ++ ys)
+  wrote n xs ys is one = let more = writes_more xs ys in omega arith
+
+  pub has_read : (n : ℕ) (xs ys : List (ReadEvent T)) → n ≡ control_reads xs → control_reads ys ≡ 1 → n + 1 ≡ control_reads (xs ++ ys)
+  has_read n xs ys is one = let more = reads_more xs ys in omega arith

@@ -14,7 +14,7 @@ use Rattle.fourslot_core.specs.Invariant.{IsUnderWay, IsStored, IsAnnounced, IsF
 use Rattle.fourslot_core.specs.Freshness.{IsBegun}
 use Rattle.fourslot_core.proofs.TwoSides.{bit_cases, side_same, side_other, record_same, record_other}
 use Rattle.cell_live.specs.Running.{last_or, Settled, Rising, IsAnswer}
-use Rattle.cell_live.specs.FourSlot.{number_in, finished_number, named_place, StandsBy, UpTo, IsNumbered, IsSettled, IsWriterShown}
+use Rattle.cell_live.specs.four_slot.Rule.{number_in, finished_number, named_place, StandsBy, UpTo, IsNumbered, IsSettled, IsWriterShown}
 use Rattle.cell_live.proofs.FourPlaces.{same_or_not, not_named, number_here, number_else, number_bound}
 use Rattle.cell_live.proofs.FourClear.{free_place, begun, read_on, same_opposite}
 use Rattle.cell_live.proofs.ListLaws.{settled_more, settled_at, last_by, all_each, rises_at, fits_at, take_more}

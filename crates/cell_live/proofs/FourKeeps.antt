@@ -11,22 +11,24 @@ use Rattle.fourslot_core.specs.declared.state.Place.{Place}
 use Rattle.fourslot_core.specs.declared.state.State.{State as Core}
 use Rattle.fourslot_core.specs.declared.state.Stage.TheVariants as writer
 use Rattle.fourslot_core.specs.declared.state.ReaderStage.TheVariants as reader
+use Rattle.fourslot_core.specs.declared.event.WriteEvent.TheVariants.{W1, W2, W3, W4, W5}
+use Rattle.fourslot_core.specs.declared.event.ReadEvent.TheVariants.{R1, R2, R3, R4, R5}
 use Rattle.fourslot_core.specs.Events.{side, with_side, record_in, place_of, bit_number, slot_number, both, opening_state, after_write, after_read}
 use Rattle.fourslot_core.specs.Invariant.{latest_place, IsSound, IsStored}
 use Rattle.fourslot_core.specs.Freshness.{IsBegun}
 use Rattle.fourslot_core.proofs.Keeping.{opening_is_sound}
 use Rattle.fourslot_core.specs.Interleaving.Leads.{Stays}
-use Rattle.cell_live.specs.Running.{last_or, Settled, IsAnswer}
+use Rattle.cell_live.specs.Running.{last_or, Settled, IsAnswer, snap}
 use Rattle.cell_live.specs.declared.four_slot.notes.WriterNotes.{WriterNotes}
 use Rattle.cell_live.specs.declared.four_slot.notes.ReaderNotes.{ReaderNotes}
 use Rattle.cell_live.specs.declared.four_slot.notes.Sight.{Sight}
 use Rattle.cell_live.specs.declared.four_slot.notes.Sight.TheVariants.{Spent, Told, Writer, Reader, Both}
-use Rattle.cell_live.specs.FourSlot.{number_in, named_place, StandsBy, InTable, IsNumbered, IsSettled, Sees, FourSlotRule}
-use Rattle.cell_live.specs.FourSlotSteps.{begun_with, begins, stored_by, stores, finished_by, finishes, asked_by, asks, slot_of_choice, said_by, says, got_by, takes as takes_slot, first_writer, first_reader, first_sight, writer_part, reader_part, receipt_for, hears_of, whole_of, writer_or, reader_or}
+use Rattle.cell_live.specs.four_slot.Rule.{number_in, named_place, StandsBy, InTable, IsNumbered, IsSettled, Sees, FourSlotRule}
+use Rattle.cell_live.specs.four_slot.Steps.{begun_with, begins, stored_by, stores, finished_by, finishes, asked_by, asks, slot_of_choice, said_by, says, got_by, takes as takes_slot, first_writer, first_reader, first_sight, writer_part, reader_part, receipt_for, hears_of, whole_of, writer_or, reader_or}
 use Rattle.cell_live.proofs.ListLaws.{all_snoc, rising_snoc, settled_more}
 use Rattle.cell_live.proofs.FourClear.{free_place, begun, read_on, word_latest, word_reading, word_bit, free_at_home, table_begins, table_stores, table_finishes, table_asks, table_says, named_at_home, table_reads}
 use Rattle.cell_live.proofs.FourFresh.{numbered_begins, numbered_stores, numbered_finishes, numbered_read, stands_more, stands_longer, shown_same, latest_grows, shown_grows, settled_begins, settled_stores, settled_finishes, settled_asks, settled_says, settled_reads, answers_at}
-use Rattle.cell_live.proofs.FourEvents.{leads_begins, leads_stores, leads_finishes, leads_asks, leads_says, leads_reads, sound_begins, sound_stores, sound_finishes, sound_asks, sound_says, sound_reads}
+use Rattle.cell_live.proofs.FourEvents.{leads_begins, leads_stores, leads_finishes, leads_asks, leads_says, leads_reads, sound_begins, sound_stores, sound_finishes, sound_asks, sound_says, sound_reads, wrote, has_read}
 
 module _ {T : Type 0} where
   sight_put : (o : T) (p p' : WriterNotes T) (g : ReaderNotes T) (n n' w w' r j : ℕ) → j ≢ w → ((x : T) → StandsBy n (o ∷ p.written) x → StandsBy n' (o ∷ p'.written) x) → (v : Sight T) → Sees o p g n w r j v → Sees o p' g n' w' r j v
@@ -122,6 +124,7 @@ module _ {T : Type 0} (fits : T → Type 0) (rises : T → T → Type 0) (o : T)
           sound = sound_begins c last x r.sound idle;
           numbered = subst (λ (z : Place). IsNumbered o (p.written ++ x ∷ []) (p.slots ++ z ∷ []) last d) place_is (numbered_begins o p.written p.slots c last x r.numbered r.sound idle);
           settled = subst (λ (z : Place). IsSettled o (p.written ++ x ∷ []) (p.slots ++ z ∷ []) g.answers g.told d) place_is (settled_begins o p.written p.slots g.answers g.told c last x r.numbered r.sound r.settled);
+          counted = record { writes = wrote p.accesses p.events (W1 (snap x) ∷ W2 ∷ W3 ∷ []) r.counted.writes refl; reads = r.counted.reads };
           openings = r.openings;
           lawful = (r.lawful.0, rising_snoc fits rises o p.written x r.lawful.1 lawful up);
           leads = leads_begins p.events g.events (opening_state o o) c x r.leads idle;
@@ -179,6 +182,7 @@ module _ {T : Type 0} (fits : T → Type 0) (rises : T → T → Type 0) (o : T)
           sound = sound_stores c last r.sound filled;
           numbered = numbered_stores o p.written p.slots c last c.item r.numbered filled;
           settled = settled_stores o p.written p.slots g.answers g.told c last c.item r.numbered r.settled;
+          counted = record { writes = wrote p.accesses p.events (W4 ∷ []) r.counted.writes refl; reads = r.counted.reads };
           openings = r.openings;
           lawful = r.lawful;
           leads = leads_stores p.events g.events (opening_state o o) c r.leads filled;
@@ -228,6 +232,7 @@ module _ {T : Type 0} (fits : T → Type 0) (rises : T → T → Type 0) (o : T)
           sound = subst (IsSound d) item_is (sound_finishes c last r.sound stored);
           numbered = subst (λ (z : T). IsNumbered o p.written p.slots z d) item_is (numbered_finishes o p.written p.slots c last c.item r.numbered r.sound stored);
           settled = settled_finishes o p.written p.slots g.answers g.told c last c.item r.numbered r.sound stored r.settled;
+          counted = record { writes = wrote p.accesses p.events (W5 ∷ []) r.counted.writes refl; reads = r.counted.reads };
           openings = r.openings;
           lawful = r.lawful;
           leads = leads_finishes p.events g.events (opening_state o o) c r.leads stored;
@@ -274,6 +279,7 @@ module _ {T : Type 0} (fits : T → Type 0) (rises : T → T → Type 0) (o : T)
           sound = sound_asks c last r.sound idle;
           numbered = numbered_read o p.written p.slots c d last refl refl refl refl refl r.numbered;
           settled = settled_asks o p.written p.slots g.answers g.told c r.settled;
+          counted = record { writes = r.counted.writes; reads = has_read g.accesses g.events (R1 ∷ []) r.counted.reads refl };
           openings = r.openings;
           lawful = r.lawful;
           leads = leads_asks p.events g.events (opening_state o o) c r.leads idle;
@@ -318,6 +324,7 @@ module _ {T : Type 0} (fits : T → Type 0) (rises : T → T → Type 0) (o : T)
           sound = sound_says c last r.sound loaded;
           numbered = numbered_read o p.written p.slots c d last refl refl refl refl refl r.numbered;
           settled = settled_says o p.written p.slots g.answers g.told c loaded r.settled;
+          counted = record { writes = r.counted.writes; reads = has_read g.accesses g.events (R2 ∷ []) r.counted.reads refl };
           openings = r.openings;
           lawful = r.lawful;
           leads = leads_says p.events g.events (opening_state o o) c r.leads loaded;
@@ -369,6 +376,7 @@ module _ {T : Type 0} (fits : T → Type 0) (rises : T → T → Type 0) (o : T)
             sound = sound_reads c last r.sound said;
             numbered = numbered_read o p.written p.slots c d last refl refl refl refl refl r.numbered;
             settled = settled_reads o p.written p.slots g.answers g.told c last r.numbered r.sound r.shown.0 said r.settled;
+            counted = record { writes = r.counted.writes; reads = has_read g.accesses g.events (R3 ∷ R4 ∷ R5 (snap x) ∷ []) r.counted.reads refl };
             openings = r.openings;
             lawful = r.lawful;
             leads = leads_reads p.events g.events (opening_state o o) c r.leads r.shown.0 said;
@@ -405,6 +413,7 @@ module _ {T : Type 0} (fits : T → Type 0) (rises : T → T → Type 0) (o : T)
     sound = r.sound;
     numbered = r.numbered;
     settled = r.settled;
+    counted = r.counted;
     openings = r.openings;
     lawful = r.lawful;
     leads = r.leads;
@@ -476,6 +485,7 @@ module _ {T : Type 0} (fits : T → Type 0) (rises : T → T → Type 0) (o : T)
           to_latest = (up.0, all_snoc (StandsBy m (o ∷ r.put.written)) r.get.told x.value up.1 stands);
           to_pair = λ b. absurd (subst IsBegun idle' b);
         };
+        counted = record { writes = r.counted.writes; reads = r.counted.reads };
         openings = r.openings;
         lawful = r.lawful;
         leads = r.leads;
@@ -540,6 +550,7 @@ module _ {T : Type 0} (fits : T → Type 0) (rises : T → T → Type 0) (o : T)
       latest = λ _. refl;
     };
     settled = record { to_latest = (tt, λ k d l. absurd (omega arith)); to_pair = λ b. absurd b };
+    counted = record { writes = refl; reads = refl };
     openings = (refl, refl);
     lawful = (f, tt);
     leads = Stays (opening_state o o) (opening_state o o) refl;

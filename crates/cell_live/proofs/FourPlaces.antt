@@ -4,7 +4,7 @@ use Rattle.fourslot_core.specs.declared.state.Place.{Place}
 use Rattle.fourslot_core.specs.declared.state.State.{State as Core}
 use Rattle.fourslot_core.specs.Events.{side, same_bit, same_place, bit_number, slot_number}
 use Rattle.fourslot_core.proofs.TwoSides.{not_same, bit_cases, same_place_of}
-use Rattle.cell_live.specs.FourSlot.{number_from, number_in, named_place}
+use Rattle.cell_live.specs.four_slot.Rule.{number_from, number_in, named_place}
 
 pub bit_low : (b : Bool) → bit_number b ≤ 1
 bit_low true = omega arith

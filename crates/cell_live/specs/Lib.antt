@@ -1,6 +1,3 @@
 pub mod Running
-pub mod Triple
-pub mod TripleWords
-pub mod FourSlot
-pub mod FourSlotSteps
-pub mod FourSlotWords
+pub mod four_slot
+pub mod triple

@@ -3,6 +3,7 @@ use Rattle.std.specs.Prelude.{◌≡◌, ◌⊎◌, ℕ, List, [], ◌∷◌, Al
 use mathlib.Core.Option.{some}
 use lib.ListN.{get_elem?}
 use Rattle.atomic_table.specs.Seated.{TableId}
+use Rattle.std.specs.declared.snapshot.Snapshot.{Snapshot}
 
 module _ {T : Type 0} where
   -- the last record of the list, or the first argument where there is none
@@ -50,3 +51,7 @@ IsName a b = a ≡ b
 -- the slots that a seat holds
 abbrev pub held_slots : {S : Type 0} → List (ℕ × S) → List ℕ
 held_slots cs = map (λ x. x.0) cs
+
+-- a record as a view keeps it, with no bytes
+abbrev pub snap : {A : Type 0} → A → Snapshot A
+snap x = record { marker = record {}; value = x }

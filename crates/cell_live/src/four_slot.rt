@@ -7,9 +7,8 @@ ghost use Rattle.std.specs.Prelude.{◌≡◌, [], ◌∷◌};
 ghost use Rattle.fourslot_core.specs.declared.state.Stage.TheVariants.{W5};
 ghost use Rattle.fourslot_core.specs.declared.state.ReaderStage.TheVariants.{R5};
 ghost use Rattle.cell_live.specs.declared.four_slot.notes.Sight.TheVariants.{Writer, Reader, Told};
-ghost use Rattle.cell_live.specs.Running.{last_or};
-ghost use Rattle.cell_live.specs.Triple.{snap};
-ghost use Rattle.cell_live.specs.FourSlotSteps.{first_writer, first_reader, writer_or, reader_or, receipt_or, slot_of_choice};
+ghost use Rattle.cell_live.specs.Running.{last_or, snap};
+ghost use Rattle.cell_live.specs.four_slot.Steps.{first_writer, first_reader, writer_or, reader_or, receipt_or, slot_of_choice};
 
 use crate::cell::Lawful;
 use atomic_table::{Seat, Table, TableRule};
@@ -19,15 +18,15 @@ use std::alloc::Global;
 
 mod bits;
 mod calls;
-mod notes;
+pub(crate) mod notes;
 mod plays;
 
 /// The rule of the table of a four-slot cell.
 pub struct FourSlot;
 
 impl<T: Lawful> TableRule<T, Sight<T>, T> for FourSlot {
-    ghost use Rattle.cell_live.specs.FourSlot.{FourSlotRule};
-    ghost use Rattle.cell_live.specs.FourSlotSteps.{first_sight};
+    ghost use Rattle.cell_live.specs.four_slot.Rule.{FourSlotRule};
+    ghost use Rattle.cell_live.specs.four_slot.Steps.{first_sight};
 
     ghost holds = { FourSlotRule T.fits T.rises };
 
@@ -41,14 +40,14 @@ pub(crate) type Place<T> = Seat<T, Sight<T>>;
 /// A cell of four slots. Each `write` and each `read` makes three control accesses, plain loads and stores.
 #[derive(Drop)]
 pub struct FourSlotCell<T: Lawful> {
-    pub slots: Slots<T>,
+    slots: Slots<T>,
     ghost sized: { slots.shared.table_id.words ≡ 4 },
 }
 
 /// The right to write into a four-slot cell.
 #[derive(Drop)]
 pub struct FourSlotPut<T: Copy> {
-    pub seat: Place<T>,
+    seat: Place<T>,
     /// The pairs' bits, as this pass stored them last.
     remembered: Sides<bool>,
     /// The opening: the notes' default in proofs.
@@ -62,7 +61,7 @@ pub struct FourSlotPut<T: Copy> {
 /// The right to read a four-slot cell. From its first read on it holds the slot of its last answer.
 #[derive(Drop)]
 pub struct FourSlotGet<T: Copy> {
-    pub seat: Place<T>,
+    seat: Place<T>,
     /// The opening: the notes' default in proofs.
     spare: T,
     ghost known: { seat.me.0 ≡ Reader (reader_or (first_reader spare) seat.me.0) },
@@ -73,7 +72,7 @@ pub struct FourSlotGet<T: Copy> {
 /// A receipt of a four-slot cell.
 #[derive(Drop)]
 pub struct FourSlotTold<T: Copy> {
-    pub seat: Place<T>,
+    seat: Place<T>,
     /// The opening: the record's default in proofs.
     spare: T,
     ghost known: { seat.me ≡ (Told (snap (receipt_or spare seat.me.0)), []) },

@@ -6,7 +6,7 @@
 //! `read` is one whole lawful record, no older than any that its pass saw or was told by a receipt.
 //!
 //! `TripleCell` and `FourSlotCell` meet the one contract of `Calls` and `Cell`. The rules that their words and slots keep
-//! between any two steps stand in `specs/Triple.antt` and `specs/FourSlot.antt`, and `laws` says what they mean.
+//! between any two steps stand in `specs/triple/Rule.antt` and `specs/four_slot/Rule.antt`, and `laws` says what they mean.
 #![tactic(auto)]
 
 mod cell;

@@ -3,50 +3,51 @@
 //! The word is `middle + 4 * mark`. A write fills the writer's slot and swaps it with the middle, with a mark. A read loads the
 //! word and, where it has the mark, swaps its own slot with the middle, without one; the answer is the record of its slot.
 ghost use Rattle.std.specs.Prelude.{◌≡◌, ℕ, ◌<◌, [], ◌∷◌};
-ghost use Rattle.cell_live.specs.declared.triple.notes.View.TheVariants.{Put, Get, Told};
-ghost use Rattle.cell_live.specs.Running.{held_slots};
-ghost use Rattle.cell_live.specs.Triple.{first_put, first_get, put_or, get_or, told_or, snap};
+ghost use Rattle.cell_live.specs.declared.triple.notes.Sight.TheVariants.{Writer, Reader, Told};
+ghost use Rattle.cell_live.specs.Running.{held_slots, snap};
+ghost use Rattle.cell_live.specs.triple.Steps.{first_writer, first_reader, writer_or, reader_or, receipt_or};
 
 use crate::cell::Lawful;
 use atomic_table::{Seat, Table, TableRule};
-use notes::View;
+use notes::Sight;
 use std::alloc::Global;
 
 mod calls;
-mod notes;
+pub(crate) mod notes;
 mod plays;
 
 /// The rule of the table of a triple buffer.
 pub struct Triple;
 
-impl<T: Lawful> TableRule<T, View<T>, T> for Triple {
-    ghost use Rattle.cell_live.specs.Triple.{TripleRule, first_view};
+impl<T: Lawful> TableRule<T, Sight<T>, T> for Triple {
+    ghost use Rattle.cell_live.specs.triple.Rule.{TripleRule};
+    ghost use Rattle.cell_live.specs.triple.Steps.{first_sight};
 
     ghost holds = { TripleRule T.fits T.rises };
 
-    ghost first = { first_view };
+    ghost first = { first_sight };
 }
 
-pub(crate) type Slots<T> = Table<T, View<T>, T, Triple, Global>;
+pub(crate) type Slots<T> = Table<T, Sight<T>, T, Triple, Global>;
 
-pub(crate) type Place<T> = Seat<T, View<T>>;
+pub(crate) type Place<T> = Seat<T, Sight<T>>;
 
 /// A cell of three slots. A `write` makes one control access, a `read` one or two.
 #[derive(Drop)]
 pub struct TripleCell<T: Lawful> {
-    pub slots: Slots<T>,
+    slots: Slots<T>,
     ghost sized: { slots.shared.table_id.words ≡ 1 },
 }
 
 /// The right to write into a triple buffer. It holds a slot.
 #[derive(Drop)]
 pub struct TriplePut<T: Copy> {
-    pub seat: Place<T>,
+    seat: Place<T>,
     slot: usize,
     /// The opening: the notes' default in proofs.
     spare: T,
-    ghost known: { seat.me.0 ≡ Put (put_or (first_put spare) seat.me.0) },
-    ghost ready: { let p = put_or (first_put spare) seat.me.0 in (p.has ≡ 1) × (p.slot ≡ slot) },
+    ghost known: { seat.me.0 ≡ Writer (writer_or (first_writer spare) seat.me.0) },
+    ghost ready: { let p = writer_or (first_writer spare) seat.me.0 in (p.has ≡ 1) × (p.slot ≡ slot) },
     ghost held: { held_slots seat.me.1 ≡ slot ∷ [] },
     ghost low: { slot < 3 },
 }
@@ -54,21 +55,21 @@ pub struct TriplePut<T: Copy> {
 /// The right to read a triple buffer. It holds the slot of its last answer.
 #[derive(Drop)]
 pub struct TripleGet<T: Copy> {
-    pub seat: Place<T>,
+    seat: Place<T>,
     slot: usize,
     /// The opening: the notes' default in proofs.
     spare: T,
-    ghost known: { seat.me.0 ≡ Get (get_or (first_get spare) seat.me.0) },
-    ghost ready: { let g = get_or (first_get spare) seat.me.0 in (g.has ≡ 1) × (g.slot ≡ slot) × (g.asked ≡ 0) },
-    ghost held: { seat.me.1 ≡ (slot, (get_or (first_get spare) seat.me.0).at_hand.value) ∷ [] },
+    ghost known: { seat.me.0 ≡ Reader (reader_or (first_reader spare) seat.me.0) },
+    ghost ready: { let g = reader_or (first_reader spare) seat.me.0 in (g.has ≡ 1) × (g.slot ≡ slot) × (g.asked ≡ 0) },
+    ghost held: { seat.me.1 ≡ (slot, (reader_or (first_reader spare) seat.me.0).at_hand.value) ∷ [] },
     ghost low: { slot < 3 },
 }
 
 /// A receipt of a triple buffer.
 #[derive(Drop)]
 pub struct TripleTold<T: Copy> {
-    pub seat: Place<T>,
+    seat: Place<T>,
     /// The opening: the record's default in proofs.
     spare: T,
-    ghost known: { seat.me ≡ (Told (snap (told_or spare seat.me.0)), []) },
+    ghost known: { seat.me ≡ (Told (snap (receipt_or spare seat.me.0)), []) },
 }

@@ -3,7 +3,7 @@ ghost use Rattle.std.specs.Prelude.{◌≡◌, ◌+◌, ◌<◌, Bool, [], ◌�
 ghost use mathlib.Core.Option.{none};
 ghost use Rattle.atomic_table.specs.Table.{Allows, step};
 ghost use Rattle.fourslot_core.specs.Events.{side, with_side, place_of, bit_number, slot_number};
-ghost use Rattle.cell_live.specs.FourSlotSteps.{begins};
+ghost use Rattle.cell_live.specs.four_slot.Steps.{begins};
 
 use super::notes::Sight;
 use super::plays::{Begins, Item};

@@ -3,10 +3,9 @@ ghost use Rattle.std.specs.Prelude.{◌≡◌, ℕ, ◌+◌, [], ◌∷◌, ◌+
 ghost use Rattle.std.specs.Fn.{FnOnceTakesAt, FnOnceReturnsAt};
 ghost use Rattle.fourslot_core.specs.declared.event.WriteEvent.TheVariants.{W1, W2, W3, W4, W5};
 ghost use Rattle.fourslot_core.specs.declared.event.ReadEvent.TheVariants.{R1, R2, R3, R4, R5};
-ghost use Rattle.cell_live.specs.Running.{last_or, IsAnswer};
-ghost use Rattle.cell_live.specs.Triple.{snap};
-ghost use Rattle.cell_live.specs.FourSlotSteps.{first_sight};
-ghost use Rattle.cell_live.specs.FourSlotWords.{opening_of, is_put_of, is_get_of, is_told_of, written_by, answers_of, at_hand_of, told_to, named_by, write_events, read_events, writer_accesses, reader_accesses, chosen_slot, held_by, HasChosen};
+ghost use Rattle.cell_live.specs.Running.{last_or, IsAnswer, snap};
+ghost use Rattle.cell_live.specs.four_slot.Steps.{first_sight};
+ghost use Rattle.cell_live.specs.four_slot.Words.{opening_of, is_put_of, is_get_of, is_told_of, written_by, answers_of, at_hand_of, told_to, named_by, write_events, read_events, writer_accesses, reader_accesses, chosen_slot, held_by, HasChosen};
 
 use super::bits::{begin, bit_of, bit_word, is_one, set_bit, slot_of, word_of};
 use super::plays::{Asks, Ends, Finishes, Hears, Parts, Says, Stores, Takes, Tells};

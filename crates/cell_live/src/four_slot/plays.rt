@@ -1,6 +1,6 @@
 //! What each step tells.
 ghost use Rattle.std.specs.Prelude.{List, []};
-ghost use Rattle.cell_live.specs.FourSlotSteps.{begins, stores, finishes, asks, says, takes, writer_part, reader_part, receipt_for, hears_of, whole_of};
+ghost use Rattle.cell_live.specs.four_slot.Steps.{begins, stores, finishes, asks, says, takes, writer_part, reader_part, receipt_for, hears_of, whole_of};
 ghost use Rattle.cell_live.specs.declared.four_slot.notes.Sight.TheVariants.{Spent};
 
 use super::notes::Sight;

@@ -2,7 +2,7 @@
 ghost use Rattle.std.specs.Prelude.{◌≡◌, ℕ, ◌+◌, ◌<◌, ◌≤◌, [], ◌∷◌, ◌++◌};
 ghost use Rattle.std.specs.Fn.{FnOnceTakesAt, FnOnceReturnsAt};
 ghost use Rattle.cell_live.specs.Running.{last_or, IsAnswer};
-ghost use Rattle.cell_live.specs.TripleWords.{opening_of, is_put_of, is_get_of, is_told_of, written_by, answers_of, at_hand_of, told_to, named_by, swaps_of_put, loads_of, swaps_of, held_by, found_by, HasLooked};
+ghost use Rattle.cell_live.specs.triple.Words.{opening_of, is_put_of, is_get_of, is_told_of, written_by, answers_of, at_hand_of, told_to, named_by, swaps_of_put, loads_of, swaps_of, held_by, found_by, HasLooked};
 
 use super::plays::{
     Ends, GetSwaps, GetTakes, Hears, Looks, Parts, PutSwaps, PutTakes, Tells, Yields,

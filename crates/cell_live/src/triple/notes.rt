@@ -1,9 +1,10 @@
-//! What the seats of a triple buffer know. No value of these types is made. Records stand in them as snapshots, since a view's type must have a known size.
+//! What the seats of a triple buffer know. No value of these types is made. A record stands in them as a snapshot, since the
+//! size of a view's type must be known.
 use std::collections::LinkedList;
 use std::snapshot::Snapshot;
 
 /// What the writer's seat knows.
-pub struct PutNotes<T> {
+pub struct WriterNotes<T> {
     pub opening: Snapshot<T>,
     pub slot: u64,
     /// 1 once the slot was taken.
@@ -14,7 +15,7 @@ pub struct PutNotes<T> {
 }
 
 /// What the reader's seat knows.
-pub struct GetNotes<T> {
+pub struct ReaderNotes<T> {
     pub opening: Snapshot<T>,
     pub slot: u64,
     pub has: u64,
@@ -32,10 +33,10 @@ pub struct GetNotes<T> {
 }
 
 /// What a seat knows.
-pub enum View<T> {
+pub enum Sight<T> {
     Spent,
     Told(Snapshot<T>),
-    Put(PutNotes<T>),
-    Get(GetNotes<T>),
-    Both(PutNotes<T>, GetNotes<T>),
+    Writer(WriterNotes<T>),
+    Reader(ReaderNotes<T>),
+    Both(WriterNotes<T>, ReaderNotes<T>),
 }

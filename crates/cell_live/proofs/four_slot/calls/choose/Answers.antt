@@ -1,9 +1,8 @@
 -- Each access tells the notes what it found: after the third the pass holds the slot that it named, and the rule says that the record in it may be the answer.
 use Rattle.std.proofs.Common.{rules, arith, ◌≡◌, ◌+◌, ◌∷◌, ◌++◌, [], sym, ap, ◌∙◌, subst, refl}
 use Rattle.fourslot_core.specs.Events.{place_of, bit_number, slot_number}
-use Rattle.cell_live.specs.Running.{IsAnswer}
-use Rattle.cell_live.specs.Triple.{snap}
-use Rattle.cell_live.specs.FourSlotSteps.{first_reader, reader_or, asked_by, said_by, slot_of_choice}
+use Rattle.cell_live.specs.Running.{IsAnswer, snap}
+use Rattle.cell_live.specs.four_slot.Steps.{first_reader, reader_or, asked_by, said_by, slot_of_choice}
 use Rattle.cell_live.specs.declared.four_slot.notes.ReaderNotes.{ReaderNotes}
 use Rattle.cell_live.specs.declared.four_slot.notes.Sight.TheVariants.{Reader}
 use Rattle.fourslot_core.specs.declared.event.ReadEvent.TheVariants.{R1, R2, R3, R4, R5}

@@ -1,8 +1,8 @@
 -- Four slots with the same record and four zeros are the opening state, in which the rule holds.
 use Rattle.std.proofs.Common.{rules, ◌≡◌, [], ◌∷◌, List, sym, subst}
 use Rattle.atomic_table.specs.Table.{opening}
-use Rattle.cell_live.specs.FourSlot.{FourSlotRule}
-use Rattle.cell_live.specs.FourSlotSteps.{first_sight}
+use Rattle.cell_live.specs.four_slot.Rule.{FourSlotRule}
+use Rattle.cell_live.specs.four_slot.Steps.{first_sight}
 use Rattle.cell_live.proofs.FourKeeps.{starts}
 use Rattle.cell_live.proofs.four_slot.calls.table_of.Goals as goal
 

@@ -1,9 +1,9 @@
 -- The load tells the notes whether the word had the mark: without it the answer is at hand, with it the swap brings it.
 use Rattle.std.proofs.Common.{rules, arith, ◌≡◌, ◌+◌, ◌%◌, ◌∷◌, ◌++◌, [], sym, ap, ◌∙◌, subst, refl}
 use Rattle.cell_live.specs.Running.{IsAnswer}
-use Rattle.cell_live.specs.Triple.{first_get, get_or}
-use Rattle.cell_live.specs.declared.triple.notes.GetNotes.{GetNotes}
-use Rattle.cell_live.specs.declared.triple.notes.View.TheVariants.{Get}
+use Rattle.cell_live.specs.triple.Steps.{first_reader, reader_or}
+use Rattle.cell_live.specs.declared.triple.notes.ReaderNotes.{ReaderNotes}
+use Rattle.cell_live.specs.declared.triple.notes.Sight.TheVariants.{Reader}
 use Rattle.cell_live.proofs.TripleKeeps.{looks, gets}
 use Rattle.cell_live.proofs.triple.calls.refresh.Goals as goal
 
@@ -12,23 +12,23 @@ load-found-requires g c = let get = c.args.get.now in
     (search rules, search rules, looks g.T.Lawful.fits g.T.Lawful.rises _ g.T.Lawful.reflexive g.T.Lawful.transitive _ _ _ _ get.known get.ready.2)
 
 pub invariant_of-get : goal.invariant_of-get
-invariant_of-get g c = let get = c.args.get.now in let d : GetNotes g.row.T.Denot = first_get get.spare in let n : GetNotes g.row.T.Denot = get_or d get.seat.me.0 in
+invariant_of-get g c = let get = c.args.get.now in let d : ReaderNotes g.row.T.Denot = first_reader get.spare in let n : ReaderNotes g.row.T.Denot = reader_or d get.seat.me.0 in
     let t = c.load-found.ensures.2 n get.known in let v = (t.2 c.if-found-lt4.true).0 in let had = t.0 ∙ get.held in record {
-      known = v ∙ ap (λ z. Get (get_or d z)) (sym v);
-      ready = (ap (λ z. (get_or d z).has) v ∙ get.ready.0, ap (λ z. (get_or d z).slot) v ∙ get.ready.1, ap (λ z. (get_or d z).asked) v);
-      held = had ∙ (λ i. (get.slot, (get_or d (sym v i)).at_hand.value) ∷ []);
+      known = v ∙ ap (λ z. Reader (reader_or d z)) (sym v);
+      ready = (ap (λ z. (reader_or d z).has) v ∙ get.ready.0, ap (λ z. (reader_or d z).slot) v ∙ get.ready.1, ap (λ z. (reader_or d z).asked) v);
+      held = had ∙ (λ i. (get.slot, (reader_or d (sym v i)).at_hand.value) ∷ []);
       low = get.low;
     }
 
 pub returns-then-found-lt4 : goal.returns-then-found-lt4
-returns-then-found-lt4 g c = let get = c.args.get.now in let d : GetNotes g.row.T.Denot = first_get get.spare in let n : GetNotes g.row.T.Denot = get_or d get.seat.me.0 in
+returns-then-found-lt4 g c = let get = c.args.get.now in let d : ReaderNotes g.row.T.Denot = first_reader get.spare in let n : ReaderNotes g.row.T.Denot = reader_or d get.seat.me.0 in
     let u = (c.load-found.ensures.2 n get.known).2 c.if-found-lt4.true in let v = u.0 in
-    let same : c.load-found.new.seat.table_id ≡ get.seat.table_id = search rules in let loads = ap (λ z. (get_or d z).loads) v in
-    let swaps = ap (λ z. (get_or d z).swaps) v in let found = ap (λ z. (get_or d z).found) v in let low = c.if-found-lt4.true in record {
-      own = (λ i. record { table = same i; opening = (get_or d (v i)).opening.value }) ∙ c.requires;
-      answers = ap (λ z. (get_or d z).answers) v ∙ (λ i. n.answers ++ (get_or d (sym v i)).at_hand.value ∷ []);
-      told = ap (λ z. (get_or d z).told) v;
-      running = subst (λ (z : g.row.T.Denot × g.row.T.Denot). IsAnswer g.T.Lawful.fits g.T.Lawful.rises z.0 n.answers n.told z.1) (λ i. ((c.requires i).opening, (get_or d (sym v i)).at_hand.value)) u.1;
+    let same : c.load-found.new.seat.table_id ≡ get.seat.table_id = search rules in let loads = ap (λ z. (reader_or d z).loads) v in
+    let swaps = ap (λ z. (reader_or d z).swaps) v in let found = ap (λ z. (reader_or d z).found) v in let low = c.if-found-lt4.true in record {
+      own = (λ i. record { table = same i; opening = (reader_or d (v i)).opening.value }) ∙ c.requires;
+      answers = ap (λ z. (reader_or d z).answers) v ∙ (λ i. n.answers ++ (reader_or d (sym v i)).at_hand.value ∷ []);
+      told = ap (λ z. (reader_or d z).told) v;
+      running = subst (λ (z : g.row.T.Denot × g.row.T.Denot). IsAnswer g.T.Lawful.fits g.T.Lawful.rises z.0 n.answers n.told z.1) (λ i. ((c.requires i).opening, (reader_or d (sym v i)).at_hand.value)) u.1;
       loaded = loads;
       unmarked = λ _. swaps;
       marked = λ high. omega arith;
@@ -36,36 +36,36 @@ returns-then-found-lt4 g c = let get = c.args.get.now in let d : GetNotes g.row.
     }
 
 pub swap-taken-requires : goal.swap-taken-requires
-swap-taken-requires g c = let get = c.args.get.now in let n : GetNotes g.row.T.Denot = get_or (first_get get.spare) get.seat.me.0 in
-    let m : GetNotes g.row.T.Denot = record n { found = c.load-found.result; asked = 1; loads = n.loads + 1 } in let t = c.load-found.ensures.2 n get.known in let had = t.0 ∙ get.held in
-    let view : c.load-found.new.seat.me.0 ≡ Get m = t.1 c.if-found-lt4.false in (
+swap-taken-requires g c = let get = c.args.get.now in let n : ReaderNotes g.row.T.Denot = reader_or (first_reader get.spare) get.seat.me.0 in
+    let m : ReaderNotes g.row.T.Denot = record n { found = c.load-found.result; asked = 1; loads = n.loads + 1 } in let t = c.load-found.ensures.2 n get.known in let had = t.0 ∙ get.held in
+    let view : c.load-found.new.seat.me.0 ≡ Reader m = t.1 c.if-found-lt4.false in (
       search rules,
       search rules,
       gets g.T.Lawful.fits g.T.Lawful.rises _ g.T.Lawful.reflexive g.T.Lawful.transitive _ _ _ m _ view (had ∙ (λ i. (sym get.ready.1 i, n.at_hand.value) ∷ [])) get.ready.0 refl (sym get.ready.1),
     )
 
 pub invariant_of-get-2 : goal.invariant_of-get-2
-invariant_of-get-2 g c = let get = c.args.get.now in let d : GetNotes g.row.T.Denot = first_get get.spare in let n : GetNotes g.row.T.Denot = get_or d get.seat.me.0 in
-    let m : GetNotes g.row.T.Denot = record n { found = c.load-found.result; asked = 1; loads = n.loads + 1 } in let t = c.load-found.ensures.2 n get.known in let had = t.0 ∙ get.held in
-    let view : c.load-found.new.seat.me.0 ≡ Get m = t.1 c.if-found-lt4.false in
+invariant_of-get-2 g c = let get = c.args.get.now in let d : ReaderNotes g.row.T.Denot = first_reader get.spare in let n : ReaderNotes g.row.T.Denot = reader_or d get.seat.me.0 in
+    let m : ReaderNotes g.row.T.Denot = record n { found = c.load-found.result; asked = 1; loads = n.loads + 1 } in let t = c.load-found.ensures.2 n get.known in let had = t.0 ∙ get.held in
+    let view : c.load-found.new.seat.me.0 ≡ Reader m = t.1 c.if-found-lt4.false in
     let u = c.swap-taken.ensures.2 m n.at_hand.value view (had ∙ (λ i. (sym get.ready.1 i, n.at_hand.value) ∷ [])) refl in let v = u.2 in record {
-      known = v ∙ ap (λ z. Get (get_or d z)) (sym v);
-      ready = (ap (λ z. (get_or d z).has) v ∙ get.ready.0, ap (λ z. (get_or d z).slot) v, ap (λ z. (get_or d z).asked) v);
-      held = u.3 ∙ (λ i. ((c.swap-taken.result % 4), (get_or d (sym v i)).at_hand.value) ∷ []);
+      known = v ∙ ap (λ z. Reader (reader_or d z)) (sym v);
+      ready = (ap (λ z. (reader_or d z).has) v ∙ get.ready.0, ap (λ z. (reader_or d z).slot) v, ap (λ z. (reader_or d z).asked) v);
+      held = u.3 ∙ (λ i. ((c.swap-taken.result % 4), (reader_or d (sym v i)).at_hand.value) ∷ []);
       low = u.1;
     }
 
 pub returns : goal.returns
-returns g c = let get = c.args.get.now in let d : GetNotes g.row.T.Denot = first_get get.spare in let n : GetNotes g.row.T.Denot = get_or d get.seat.me.0 in
-    let m : GetNotes g.row.T.Denot = record n { found = c.load-found.result; asked = 1; loads = n.loads + 1 } in let t = c.load-found.ensures.2 n get.known in let had = t.0 ∙ get.held in
-    let view : c.load-found.new.seat.me.0 ≡ Get m = t.1 c.if-found-lt4.false in
+returns g c = let get = c.args.get.now in let d : ReaderNotes g.row.T.Denot = first_reader get.spare in let n : ReaderNotes g.row.T.Denot = reader_or d get.seat.me.0 in
+    let m : ReaderNotes g.row.T.Denot = record n { found = c.load-found.result; asked = 1; loads = n.loads + 1 } in let t = c.load-found.ensures.2 n get.known in let had = t.0 ∙ get.held in
+    let view : c.load-found.new.seat.me.0 ≡ Reader m = t.1 c.if-found-lt4.false in
     let u = c.swap-taken.ensures.2 m n.at_hand.value view (had ∙ (λ i. (sym get.ready.1 i, n.at_hand.value) ∷ [])) refl in let v = u.2 in
-    let same : c.swap-taken.new.seat.table_id ≡ get.seat.table_id = search rules in let loads = ap (λ z. (get_or d z).loads) v in
-    let swaps = ap (λ z. (get_or d z).swaps) v in let found = ap (λ z. (get_or d z).found) v in let high = c.if-found-lt4.false in record {
-      own = (λ i. record { table = same i; opening = (get_or d (v i)).opening.value }) ∙ c.requires;
-      answers = ap (λ z. (get_or d z).answers) v ∙ (λ i. n.answers ++ (get_or d (sym v i)).at_hand.value ∷ []);
-      told = ap (λ z. (get_or d z).told) v;
-      running = subst (λ (z : g.row.T.Denot × g.row.T.Denot). IsAnswer g.T.Lawful.fits g.T.Lawful.rises z.0 n.answers n.told z.1) (λ i. ((c.requires i).opening, (get_or d (sym v i)).at_hand.value)) u.4;
+    let same : c.swap-taken.new.seat.table_id ≡ get.seat.table_id = search rules in let loads = ap (λ z. (reader_or d z).loads) v in
+    let swaps = ap (λ z. (reader_or d z).swaps) v in let found = ap (λ z. (reader_or d z).found) v in let high = c.if-found-lt4.false in record {
+      own = (λ i. record { table = same i; opening = (reader_or d (v i)).opening.value }) ∙ c.requires;
+      answers = ap (λ z. (reader_or d z).answers) v ∙ (λ i. n.answers ++ (reader_or d (sym v i)).at_hand.value ∷ []);
+      told = ap (λ z. (reader_or d z).told) v;
+      running = subst (λ (z : g.row.T.Denot × g.row.T.Denot). IsAnswer g.T.Lawful.fits g.T.Lawful.rises z.0 n.answers n.told z.1) (λ i. ((c.requires i).opening, (reader_or d (sym v i)).at_hand.value)) u.4;
       loaded = loads;
       unmarked = λ low. omega arith;
       marked = λ _. swaps;

@@ -1,6 +1,6 @@
 -- The reader makes R1 and R2 and so gives its slot back; then its seat is joined into the writer's, where both lists meet.
 use Rattle.std.proofs.Common.{rules, ap, ◌∙◌, refl}
-use Rattle.cell_live.specs.FourSlotSteps.{first_writer, first_reader, writer_or, reader_or, asked_by, said_by, whole_of}
+use Rattle.cell_live.specs.four_slot.Steps.{first_writer, first_reader, writer_or, reader_or, asked_by, said_by, whole_of}
 use Rattle.cell_live.specs.declared.four_slot.notes.ReaderNotes.{ReaderNotes}
 use Rattle.cell_live.proofs.FourKeeps.{asks_ok, says_ok, ends_ok, told_at_end}
 use Rattle.cell_live.proofs.four_slot.calls.FourSlotCellCalls.finish.Goals as goal

@@ -1,7 +1,7 @@
 -- The first seat has made no event, so the two seats that it is split into stand at the opening state.
 use Rattle.std.proofs.Common.{rules, ◌≡◌, [], sym, ap, ◌∙◌}
 use Rattle.cell_live.specs.Running.{last_or}
-use Rattle.cell_live.specs.FourSlotSteps.{first_writer, first_reader, writer_or, reader_or, slot_of_choice}
+use Rattle.cell_live.specs.four_slot.Steps.{first_writer, first_reader, writer_or, reader_or, slot_of_choice}
 use Rattle.cell_live.specs.declared.four_slot.notes.WriterNotes.{WriterNotes}
 use Rattle.cell_live.specs.declared.four_slot.notes.ReaderNotes.{ReaderNotes}
 use Rattle.cell_live.specs.declared.four_slot.notes.Sight.TheVariants.{Writer, Reader}

@@ -1,7 +1,7 @@
 -- The record that the closure saw is the one in the slot that the third access took, which is an answer.
 use Rattle.std.proofs.Common.{List, ℕ, sym, ap, ◌∙◌, subst, get_or}
 use Rattle.std.specs.Fn.{FnOnceTakesAt, FnOnceReturnsAt}
-use Rattle.cell_live.specs.FourSlotSteps.{first_reader, reader_or}
+use Rattle.cell_live.specs.four_slot.Steps.{first_reader, reader_or}
 use Rattle.cell_live.specs.declared.four_slot.notes.ReaderNotes.{ReaderNotes}
 use Rattle.cell_live.proofs.four_slot.calls.FourSlotCellCalls.read_with.Goals as goal
 

@@ -1,8 +1,7 @@
 -- Between two writes the last finished record is the last one written, and the seat parted off names it.
 use Rattle.std.proofs.Common.{rules, ◌≡◌, ap, sym, ◌∙◌, []}
-use Rattle.cell_live.specs.Running.{last_or}
-use Rattle.cell_live.specs.Triple.{snap}
-use Rattle.cell_live.specs.FourSlotSteps.{receipt_for, receipt_or, first_writer, writer_or}
+use Rattle.cell_live.specs.Running.{last_or, snap}
+use Rattle.cell_live.specs.four_slot.Steps.{receipt_for, receipt_or, first_writer, writer_or}
 use Rattle.cell_live.specs.declared.four_slot.notes.WriterNotes.{WriterNotes}
 use Rattle.cell_live.specs.declared.four_slot.notes.Sight.TheVariants.{Told}
 use Rattle.cell_live.proofs.FourKeeps.{tells_ok}

@@ -1,9 +1,8 @@
 -- Each step tells the notes what it did: after the fifth event the record is the last one written, and both bits are remembered.
 use Rattle.std.proofs.Common.{rules, arith, ◌≡◌, ◌+◌, ◌∷◌, [], not, Bool, sym, ap, ◌∙◌, subst, refl}
 use Rattle.fourslot_core.specs.Events.{side, with_side, place_of, bit_number, slot_number}
-use Rattle.cell_live.specs.Running.{last_or, held_slots}
-use Rattle.cell_live.specs.Triple.{snap}
-use Rattle.cell_live.specs.FourSlotSteps.{first_writer, writer_or, begun_with, stored_by}
+use Rattle.cell_live.specs.Running.{last_or, held_slots, snap}
+use Rattle.cell_live.specs.four_slot.Steps.{first_writer, writer_or, begun_with, stored_by}
 use Rattle.cell_live.specs.declared.four_slot.notes.WriterNotes.{WriterNotes}
 use Rattle.cell_live.specs.declared.four_slot.notes.Sight.TheVariants.{Writer}
 use Rattle.fourslot_core.specs.declared.event.WriteEvent.TheVariants.{W1, W2, W3, W4, W5}

@@ -1,8 +1,8 @@
 -- The record that the closure saw is the one in the slot that the pass holds, which is an answer.
 use Rattle.std.proofs.Common.{List, ℕ, sym, ap, ◌∙◌, subst, get_or}
 use Rattle.std.specs.Fn.{FnOnceTakesAt, FnOnceReturnsAt}
-use Rattle.cell_live.specs.Triple.{first_get, get_or as notes_or}
-use Rattle.cell_live.specs.declared.triple.notes.GetNotes.{GetNotes}
+use Rattle.cell_live.specs.triple.Steps.{first_reader, reader_or}
+use Rattle.cell_live.specs.declared.triple.notes.ReaderNotes.{ReaderNotes}
 use Rattle.cell_live.proofs.triple.calls.TripleCellCalls.read_with.Goals as goal
 
 pub look_held-requires-clause-callable : goal.look_held-requires-clause-callable
@@ -10,5 +10,5 @@ look_held-requires-clause-callable g c = λ x is. let get = c.refresh.new.get in
     (ap (λ (cs : List (ℕ × g.row.T.Denot)). (get_or cs 0 (get.slot, x)).1) (sym get.held ∙ is)) (c.requires.callable _ c.refresh.ensures.running)
 
 pub returns-clause-looked : goal.returns-clause-looked
-returns-clause-looked g c = let get = c.refresh.new.get in let t = c.look_held.ensures.seen in let d : GetNotes g.row.T.Denot = first_get get.spare in subst (λ (x : g.row.T.Denot). FnOnceReturnsAt g.F.FnOnce c.args.look x c.look_held.result)
-    (ap (λ (cs : List (ℕ × g.row.T.Denot)). (get_or cs 0 (get.slot, t.0)).1) (sym t.1 ∙ get.held) ∙ ap (λ m. (notes_or d m.0).at_hand.value) (sym c.look_held.ensures.same)) t.2
+returns-clause-looked g c = let get = c.refresh.new.get in let t = c.look_held.ensures.seen in let d : ReaderNotes g.row.T.Denot = first_reader get.spare in subst (λ (x : g.row.T.Denot). FnOnceReturnsAt g.F.FnOnce c.args.look x c.look_held.result)
+    (ap (λ (cs : List (ℕ × g.row.T.Denot)). (get_or cs 0 (get.slot, t.0)).1) (sym t.1 ∙ get.held) ∙ ap (λ m. (reader_or d m.0).at_hand.value) (sym c.look_held.ensures.same)) t.2

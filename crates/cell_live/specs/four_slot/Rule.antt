@@ -1,7 +1,7 @@
 -- The rule of the running four-slot cell: word 0 is `latest`, word 1 `reading`, words 2 and 3 are the bits of the pairs, and
 -- the slot of a place has the number 2 * pair + index. Its states are those of the register of H. Simpson, Four-slot fully
 -- asynchronous communication mechanism, IEE Proceedings E, 1990.
-use Rattle.std.specs.Prelude.{◌≡◌, ◌≢◌, ℕ, ◌+◌, ◌-◌, ◌<◌, ◌≤◌, Bool, Some, List, [], ◌∷◌, length, take, All, if◌then◌else◌}
+use Rattle.std.specs.Prelude.{◌≡◌, ◌≢◌, ℕ, suc, ◌+◌, ◌-◌, ◌<◌, ◌≤◌, Bool, Some, List, [], ◌∷◌, length, take, All, if◌then◌else◌}
 use mathlib.Core.Option.{some, Option as Opt}
 use lib.ListN.{get_elem?}
 use Rattle.atomic_table.specs.Table.{State}
@@ -11,6 +11,10 @@ use Rattle.fourslot_core.specs.declared.state.Stage.{Stage}
 use Rattle.fourslot_core.specs.declared.state.Stage.TheVariants as writer
 use Rattle.fourslot_core.specs.declared.state.ReaderStage.{ReaderStage}
 use Rattle.fourslot_core.specs.declared.state.ReaderStage.TheVariants as reader
+use Rattle.fourslot_core.specs.declared.event.WriteEvent.{WriteEvent}
+use Rattle.fourslot_core.specs.declared.event.WriteEvent.TheVariants.{W2, W3}
+use Rattle.fourslot_core.specs.declared.event.ReadEvent.{ReadEvent}
+use Rattle.fourslot_core.specs.declared.event.ReadEvent.TheVariants.{R4, R5}
 use Rattle.fourslot_core.specs.Events.{side, record_in, place_of, same_place, bit_number, slot_number, opening_state}
 use Rattle.fourslot_core.specs.Invariant.{IsUnderWay, HasSlot, IsStored, IsKept, latest_place, IsSound}
 use Rattle.fourslot_core.specs.Freshness.{IsBegun}
@@ -114,6 +118,25 @@ module _ {T : Type 0} where
     Sees (Reader h) = (h ≡ g) × (seat ≡ reader)
     Sees (Both q h) = (q ≡ p) × (h ≡ g) × (seat ≡ writer) × (seat ≡ reader)
 
+-- the control accesses among events: W1, W4 and W5, and R1, R2 and R3
+module _ {T : Type 0} where
+  abbrev pub control_writes : List (WriteEvent T) → ℕ
+  control_writes [] = 0
+  control_writes (W2 ∷ es) = control_writes es
+  control_writes (W3 ∷ es) = control_writes es
+  control_writes (_ ∷ es) = suc (control_writes es)
+
+  abbrev pub control_reads : List (ReadEvent T) → ℕ
+  control_reads [] = 0
+  control_reads (R4 ∷ es) = control_reads es
+  control_reads (R5 _ ∷ es) = control_reads es
+  control_reads (_ ∷ es) = suc (control_reads es)
+
+  -- a pass's count is the number of control accesses among its events
+  pub record IsCounted (p : WriterNotes T) (g : ReaderNotes T) : Type 0 where
+    pub writes : p.accesses ≡ control_writes p.events
+    pub reads : g.accesses ≡ control_reads g.events
+
 -- The rule. `o` is the opening. It is the noise too, which no running read gives.
 pub record FourSlotRule {T : Type 0} (fits : T → Type 0) (rises : T → T → Type 0) (o : T) (s : State T (Sight T)) : Type 0 where
   pub put : WriterNotes T
@@ -129,6 +152,7 @@ pub record FourSlotRule {T : Type 0} (fits : T → Type 0) (rises : T → T → 
   pub sound : IsSound core put.finished.value
   pub numbered : IsNumbered o put.written put.slots put.finished.value core
   pub settled : IsSettled o put.written put.slots get.answers get.told core
+  pub counted : IsCounted put get
   pub openings : (put.opening.value ≡ o) × (get.opening.value ≡ o)
   pub lawful : fits o × Rising fits rises o put.written
   pub leads : Leads put.events get.events (opening_state o o) core

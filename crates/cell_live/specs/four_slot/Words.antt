@@ -4,9 +4,8 @@ use Rattle.fourslot_core.specs.Events.{slot_number}
 use Rattle.fourslot_core.specs.declared.event.WriteEvent.{WriteEvent}
 use Rattle.fourslot_core.specs.declared.event.ReadEvent.{ReadEvent}
 use Rattle.fourslot_core.specs.declared.event.ReadEvent.TheVariants.{R1, R2, R3, R4, R5}
-use Rattle.cell_live.specs.Running.{Name, IsName, IsAnswer}
-use Rattle.cell_live.specs.Triple.{snap}
-use Rattle.cell_live.specs.FourSlotSteps.{first_writer, first_reader, writer_or, reader_or, receipt_or}
+use Rattle.cell_live.specs.Running.{Name, IsName, IsAnswer, snap}
+use Rattle.cell_live.specs.four_slot.Steps.{first_writer, first_reader, writer_or, reader_or, receipt_or}
 use Rattle.cell_live.specs.declared.four_slot.notes.WriterNotes.{WriterNotes}
 use Rattle.cell_live.specs.declared.four_slot.notes.ReaderNotes.{ReaderNotes}
 use Rattle.cell_live.specs.declared.four_slot.FourSlotCell.{FourSlotCell}

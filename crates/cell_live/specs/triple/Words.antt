@@ -1,9 +1,9 @@
 -- The words of the contract, of the passes of a triple buffer (this project's own).
 use Rattle.std.specs.Prelude.{◌≡◌, ℕ, ◌+◌, ◌<◌, ◌≤◌, List, [], ◌∷◌, ◌++◌}
 use Rattle.cell_live.specs.Running.{Name, IsName, IsAnswer}
-use Rattle.cell_live.specs.Triple.{first_put, first_get, put_or, get_or, told_or}
-use Rattle.cell_live.specs.declared.triple.notes.PutNotes.{PutNotes}
-use Rattle.cell_live.specs.declared.triple.notes.GetNotes.{GetNotes}
+use Rattle.cell_live.specs.triple.Steps.{first_writer, first_reader, writer_or, reader_or, receipt_or}
+use Rattle.cell_live.specs.declared.triple.notes.WriterNotes.{WriterNotes}
+use Rattle.cell_live.specs.declared.triple.notes.ReaderNotes.{ReaderNotes}
 use Rattle.cell_live.specs.declared.triple.TripleCell.{TripleCell}
 use Rattle.cell_live.specs.declared.triple.TriplePut.{TriplePut}
 use Rattle.cell_live.specs.declared.triple.TripleGet.{TripleGet}
@@ -16,11 +16,11 @@ module _ {T : Type 0} where
   abbrev pub opening_of : TripleCell T → T
   opening_of c = c.slots.shared.key
 
-  abbrev pub put_notes : TriplePut T → PutNotes T
-  put_notes p = put_or (first_put p.spare) p.seat.me.0
+  abbrev pub put_notes : TriplePut T → WriterNotes T
+  put_notes p = writer_or (first_writer p.spare) p.seat.me.0
 
-  abbrev pub get_notes : TripleGet T → GetNotes T
-  get_notes g = get_or (first_get g.spare) g.seat.me.0
+  abbrev pub get_notes : TripleGet T → ReaderNotes T
+  get_notes g = reader_or (first_reader g.spare) g.seat.me.0
 
   abbrev pub is_put_of : TripleCell T → TriplePut T → Type 0
   is_put_of c p = IsName (record { table = p.seat.table_id; opening = (put_notes p).opening.value }) (cell_name c)
@@ -46,7 +46,7 @@ module _ {T : Type 0} where
 
   -- the record that a receipt names
   abbrev pub named_by : TripleTold T → T
-  named_by t = told_or t.spare t.seat.me.0
+  named_by t = receipt_or t.spare t.seat.me.0
 
   abbrev pub swaps_of_put : TriplePut T → ℕ
   swaps_of_put p = (put_notes p).swaps

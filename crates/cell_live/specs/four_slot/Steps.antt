@@ -7,8 +7,7 @@ use Rattle.fourslot_core.specs.declared.state.ReaderStage.TheVariants as reader
 use Rattle.fourslot_core.specs.declared.event.WriteEvent.TheVariants.{W1, W2, W3, W4, W5}
 use Rattle.fourslot_core.specs.declared.event.ReadEvent.TheVariants.{R1, R2, R3, R4, R5}
 use Rattle.fourslot_core.specs.Events.{side, with_side, place_of, bit_number, slot_number, both}
-use Rattle.cell_live.specs.Running.{IsAnswer}
-use Rattle.cell_live.specs.Triple.{snap}
+use Rattle.cell_live.specs.Running.{IsAnswer, snap}
 use Rattle.cell_live.specs.declared.four_slot.notes.WriterNotes.{WriterNotes}
 use Rattle.cell_live.specs.declared.four_slot.notes.ReaderNotes.{ReaderNotes}
 use Rattle.cell_live.specs.declared.four_slot.notes.Sight.{Sight}
