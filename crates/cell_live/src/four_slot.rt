@@ -11,15 +11,16 @@ ghost use Rattle.cell_live.specs.Running.{last_or, snap};
 ghost use Rattle.cell_live.specs.four_slot.Steps.{first_writer, first_reader, writer_or, reader_or, receipt_or, slot_of_choice};
 
 use crate::cell::Lawful;
-use atomic_table::{Seat, Table, TableRule};
+use atomic_table::TableRule;
 use fourslot_core::Sides;
 use notes::Sight;
-use std::alloc::Global;
+use table::{FourSlotSeat, FourSlotTable};
 
 mod bits;
 mod calls;
 pub(crate) mod notes;
 mod plays;
+mod table;
 
 /// The rule of the table of a four-slot cell.
 pub struct FourSlot;
@@ -33,47 +34,42 @@ impl<T: Lawful> TableRule<T, Sight<T>, T> for FourSlot {
     ghost first = { first_sight };
 }
 
-pub(crate) type Slots<T> = Table<T, Sight<T>, T, FourSlot, Global>;
-
-pub(crate) type Place<T> = Seat<T, Sight<T>>;
-
 /// A cell of four slots. Each `write` and each `read` makes three control accesses, plain loads and stores.
 #[derive(Drop)]
 pub struct FourSlotCell<T: Lawful> {
-    slots: Slots<T>,
-    ghost sized: { slots.shared.table_id.words ≡ 4 },
+    table: FourSlotTable<T>,
 }
 
 /// The right to write into a four-slot cell.
 #[derive(Drop)]
 pub struct FourSlotPut<T: Copy> {
-    seat: Place<T>,
+    seat: FourSlotSeat<T>,
     /// The pairs' bits, as this pass stored them last.
     remembered: Sides<bool>,
     /// The opening: the notes' default in proofs.
     spare: T,
-    ghost known: { seat.me ≡ (Writer (writer_or (first_writer spare) seat.me.0), []) },
-    ghost idle: { (writer_or (first_writer spare) seat.me.0).stage ≡ W5 },
-    ghost bits: { (writer_or (first_writer spare) seat.me.0).remembered ≡ remembered },
-    ghost newest: { let p = writer_or (first_writer spare) seat.me.0 in p.finished.value ≡ last_or p.opening.value p.written },
+    ghost known: { seat.inner.me ≡ (Writer (writer_or (first_writer spare) seat.inner.me.0), []) },
+    ghost idle: { (writer_or (first_writer spare) seat.inner.me.0).stage ≡ W5 },
+    ghost bits: { (writer_or (first_writer spare) seat.inner.me.0).remembered ≡ remembered },
+    ghost newest: { let p = writer_or (first_writer spare) seat.inner.me.0 in p.finished.value ≡ last_or p.opening.value p.written },
 }
 
 /// The right to read a four-slot cell. From its first read on it holds the slot of its last answer.
 #[derive(Drop)]
 pub struct FourSlotGet<T: Copy> {
-    seat: Place<T>,
+    seat: FourSlotSeat<T>,
     /// The opening: the notes' default in proofs.
     spare: T,
-    ghost known: { seat.me.0 ≡ Reader (reader_or (first_reader spare) seat.me.0) },
-    ghost idle: { (reader_or (first_reader spare) seat.me.0).stage ≡ R5 },
-    ghost holds: { let g = reader_or (first_reader spare) seat.me.0 in seat.me.1 ≡ slot_of_choice g.chosen g.at_hand.value },
+    ghost known: { seat.inner.me.0 ≡ Reader (reader_or (first_reader spare) seat.inner.me.0) },
+    ghost idle: { (reader_or (first_reader spare) seat.inner.me.0).stage ≡ R5 },
+    ghost holds: { let g = reader_or (first_reader spare) seat.inner.me.0 in seat.inner.me.1 ≡ slot_of_choice g.chosen g.at_hand.value },
 }
 
 /// A receipt of a four-slot cell.
 #[derive(Drop)]
 pub struct FourSlotTold<T: Copy> {
-    seat: Place<T>,
+    seat: FourSlotSeat<T>,
     /// The opening: the record's default in proofs.
     spare: T,
-    ghost known: { seat.me ≡ (Told (snap (receipt_or spare seat.me.0)), []) },
+    ghost known: { seat.inner.me ≡ (Told (snap (receipt_or spare seat.inner.me.0)), []) },
 }

@@ -10,9 +10,9 @@
 #![tactic(auto)]
 
 mod cell;
+mod closed;
 mod four_slot;
 pub mod laws;
-mod moves;
 mod triple;
 
 pub use cell::{Calls, Cell, Kept, Lawful};

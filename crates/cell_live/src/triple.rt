@@ -8,13 +8,14 @@ ghost use Rattle.cell_live.specs.Running.{held_slots, snap};
 ghost use Rattle.cell_live.specs.triple.Steps.{first_writer, first_reader, writer_or, reader_or, receipt_or};
 
 use crate::cell::Lawful;
-use atomic_table::{Seat, Table, TableRule};
+use atomic_table::TableRule;
 use notes::Sight;
-use std::alloc::Global;
+use table::{TripleSeat, TripleTable};
 
 mod calls;
 pub(crate) mod notes;
 mod plays;
+mod table;
 
 /// The rule of the table of a triple buffer.
 pub struct Triple;
@@ -28,48 +29,43 @@ impl<T: Lawful> TableRule<T, Sight<T>, T> for Triple {
     ghost first = { first_sight };
 }
 
-pub(crate) type Slots<T> = Table<T, Sight<T>, T, Triple, Global>;
-
-pub(crate) type Place<T> = Seat<T, Sight<T>>;
-
 /// A cell of three slots. A `write` makes one control access, a `read` one or two.
 #[derive(Drop)]
 pub struct TripleCell<T: Lawful> {
-    slots: Slots<T>,
-    ghost sized: { slots.shared.table_id.words ≡ 1 },
+    table: TripleTable<T>,
 }
 
 /// The right to write into a triple buffer. It holds a slot.
 #[derive(Drop)]
 pub struct TriplePut<T: Copy> {
-    seat: Place<T>,
+    seat: TripleSeat<T>,
     slot: usize,
     /// The opening: the notes' default in proofs.
     spare: T,
-    ghost known: { seat.me.0 ≡ Writer (writer_or (first_writer spare) seat.me.0) },
-    ghost ready: { let p = writer_or (first_writer spare) seat.me.0 in (p.has ≡ 1) × (p.slot ≡ slot) },
-    ghost held: { held_slots seat.me.1 ≡ slot ∷ [] },
+    ghost known: { seat.inner.me.0 ≡ Writer (writer_or (first_writer spare) seat.inner.me.0) },
+    ghost ready: { let p = writer_or (first_writer spare) seat.inner.me.0 in (p.has ≡ 1) × (p.slot ≡ slot) },
+    ghost held: { held_slots seat.inner.me.1 ≡ slot ∷ [] },
     ghost low: { slot < 3 },
 }
 
 /// The right to read a triple buffer. It holds the slot of its last answer.
 #[derive(Drop)]
 pub struct TripleGet<T: Copy> {
-    seat: Place<T>,
+    seat: TripleSeat<T>,
     slot: usize,
     /// The opening: the notes' default in proofs.
     spare: T,
-    ghost known: { seat.me.0 ≡ Reader (reader_or (first_reader spare) seat.me.0) },
-    ghost ready: { let g = reader_or (first_reader spare) seat.me.0 in (g.has ≡ 1) × (g.slot ≡ slot) × (g.asked ≡ 0) },
-    ghost held: { seat.me.1 ≡ (slot, (reader_or (first_reader spare) seat.me.0).at_hand.value) ∷ [] },
+    ghost known: { seat.inner.me.0 ≡ Reader (reader_or (first_reader spare) seat.inner.me.0) },
+    ghost ready: { let g = reader_or (first_reader spare) seat.inner.me.0 in (g.has ≡ 1) × (g.slot ≡ slot) × (g.asked ≡ 0) },
+    ghost held: { seat.inner.me.1 ≡ (slot, (reader_or (first_reader spare) seat.inner.me.0).at_hand.value) ∷ [] },
     ghost low: { slot < 3 },
 }
 
 /// A receipt of a triple buffer.
 #[derive(Drop)]
 pub struct TripleTold<T: Copy> {
-    seat: Place<T>,
+    seat: TripleSeat<T>,
     /// The opening: the record's default in proofs.
     spare: T,
-    ghost known: { seat.me ≡ (Told (snap (receipt_or spare seat.me.0)), []) },
+    ghost known: { seat.inner.me ≡ (Told (snap (receipt_or spare seat.inner.me.0)), []) },
 }

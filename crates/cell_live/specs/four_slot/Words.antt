@@ -15,25 +15,25 @@ use Rattle.cell_live.specs.declared.four_slot.FourSlotTold.{FourSlotTold}
 
 module _ {T : Type 0} where
   abbrev pub cell_name : FourSlotCell T → Name T
-  cell_name c = record { table = c.slots.shared.table_id; opening = c.slots.shared.key }
+  cell_name c = record { table = c.table.inner.shared.table_id; opening = c.table.inner.shared.key }
 
   abbrev pub opening_of : FourSlotCell T → T
-  opening_of c = c.slots.shared.key
+  opening_of c = c.table.inner.shared.key
 
   abbrev pub put_notes : FourSlotPut T → WriterNotes T
-  put_notes p = writer_or (first_writer p.spare) p.seat.me.0
+  put_notes p = writer_or (first_writer p.spare) p.seat.inner.me.0
 
   abbrev pub get_notes : FourSlotGet T → ReaderNotes T
-  get_notes g = reader_or (first_reader g.spare) g.seat.me.0
+  get_notes g = reader_or (first_reader g.spare) g.seat.inner.me.0
 
   abbrev pub is_put_of : FourSlotCell T → FourSlotPut T → Type 0
-  is_put_of c p = IsName (record { table = p.seat.table_id; opening = (put_notes p).opening.value }) (cell_name c)
+  is_put_of c p = IsName (record { table = p.seat.inner.table_id; opening = (put_notes p).opening.value }) (cell_name c)
 
   abbrev pub is_get_of : FourSlotCell T → FourSlotGet T → Type 0
-  is_get_of c g = IsName (record { table = g.seat.table_id; opening = (get_notes g).opening.value }) (cell_name c)
+  is_get_of c g = IsName (record { table = g.seat.inner.table_id; opening = (get_notes g).opening.value }) (cell_name c)
 
   abbrev pub is_told_of : FourSlotCell T → FourSlotTold T → Type 0
-  is_told_of c t = t.seat.table_id ≡ c.slots.shared.table_id
+  is_told_of c t = t.seat.inner.table_id ≡ c.table.inner.shared.table_id
 
   abbrev pub written_by : FourSlotPut T → List T
   written_by p = (put_notes p).written
@@ -46,7 +46,7 @@ module _ {T : Type 0} where
 
   -- the record that a receipt names
   abbrev pub named_by : FourSlotTold T → T
-  named_by t = receipt_or t.spare t.seat.me.0
+  named_by t = receipt_or t.spare t.seat.inner.me.0
 
   -- the events made with a pass, and the count of its control accesses
   abbrev pub write_events : FourSlotPut T → List (WriteEvent T)
@@ -66,7 +66,7 @@ module _ {T : Type 0} where
   chosen_slot g = slot_number (get_notes g).place
 
   abbrev pub held_by : FourSlotGet T → List (ℕ × T)
-  held_by g = g.seat.me.1
+  held_by g = g.seat.inner.me.1
 
   -- the record in the slot that the pass holds
   abbrev pub at_hand_of : FourSlotGet T → T

@@ -1,32 +1,8 @@
-//! The bits of a four-slot cell as words, and the first step of a write.
-ghost use Rattle.std.specs.Prelude.{◌≡◌, ◌+◌, ◌<◌, Bool, [], ◌∷◌};
-ghost use mathlib.Core.Option.{none};
-ghost use Rattle.atomic_table.specs.Table.{Allows, step};
+//! The bits of a four-slot cell as words.
+ghost use Rattle.std.specs.Prelude.{◌≡◌, ◌+◌, Bool};
 ghost use Rattle.fourslot_core.specs.Events.{side, with_side, place_of, bit_number, slot_number};
-ghost use Rattle.cell_live.specs.four_slot.Steps.{begins};
 
-use super::notes::Sight;
-use super::plays::{Begins, Item};
-use atomic_table::{Seat, Shared, TableRule};
 use fourslot_core::Sides;
-use std::snapshot::Snapshot;
-
-/// The first step of a write: loads `reading`, and takes the slot. The item has no bytes here: the view
-/// is told of it.
-#[inline]
-pub(super) fn begin<T: Copy, P: TableRule<T, Sight<T>, T>, K: Item<T>>(
-    shared: &Shared<T, Sight<T>, T, P>,
-    seat: &mut Seat<T, Sight<T>>,
-    item: Snapshot<T>,
-) -> u64
-    requires own { (seat.old.table_id ≡ shared.now.table_id) × (1 < shared.now.table_id.words) }
-    requires item { K.item ≡ item.value ∷ [] }
-    requires rule { Allows (P.holds shared.now.key) shared.now.table_id.slots seat.old.id seat.old.me 1 (λ n. n) (begins (item.value ∷ []) (step shared.now.table_id.slots 1 0 0 none) seat.old.me) }
-    ensures own { (seat.new.table_id ≡ seat.old.table_id) × (seat.new.id ≡ seat.old.id) }
-    ensures begun { begins (item.value ∷ []) (step shared.now.table_id.slots 1 0 0 none) seat.old.me result seat.new.me }
-{
-    shared.load::<Begins<K>>(seat, 1)
-}
 
 /// Whether the word of a bit is 1.
 #[inline]

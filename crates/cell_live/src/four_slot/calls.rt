@@ -4,33 +4,16 @@ ghost use Rattle.std.specs.Fn.{FnOnceTakesAt, FnOnceReturnsAt};
 ghost use Rattle.fourslot_core.specs.declared.event.WriteEvent.TheVariants.{W1, W2, W3, W4, W5};
 ghost use Rattle.fourslot_core.specs.declared.event.ReadEvent.TheVariants.{R1, R2, R3, R4, R5};
 ghost use Rattle.cell_live.specs.Running.{last_or, IsAnswer, snap};
-ghost use Rattle.cell_live.specs.four_slot.Steps.{first_sight};
 ghost use Rattle.cell_live.specs.four_slot.Words.{opening_of, is_put_of, is_get_of, is_told_of, written_by, answers_of, at_hand_of, told_to, named_by, write_events, read_events, writer_accesses, reader_accesses, chosen_slot, held_by, HasChosen};
 
-use super::bits::{begin, bit_of, bit_word, is_one, set_bit, slot_of, word_of};
-use super::plays::{Asks, Ends, Finishes, Hears, Parts, Says, Stores, Takes, Tells};
-use super::{FourSlot, FourSlotCell, FourSlotGet, FourSlotPut, FourSlotTold, Place, Slots};
+use super::bits::{bit_of, bit_word, is_one, set_bit, slot_of, word_of};
+use super::table::FourSlotTable;
+use super::{FourSlotCell, FourSlotGet, FourSlotPut, FourSlotTold};
 use crate::cell::{Calls, Cell, Kept, Lawful};
-use crate::moves::{copy_held, empty, fill, look_held};
-use atomic_table::Table;
 use fourslot_core::Sides;
 use std::alloc::{AllocError, Global};
 use std::marker::Brand;
 use std::snapshot::Snapshot;
-
-/// The table with the record in each slot, and its first seat.
-fn table_of<T: Lawful>(alloc: Global, first: T) -> Result<(Slots<T>, Place<T>), AllocError>
-    requires { T.fits first }
-    ensures table { IfOk result (λ r. (r.0.shared.table_id.words ≡ 4) × (r.0.shared.key ≡ first)) }
-    ensures seat { IfOk result (λ r. (r.1.table_id ≡ r.0.shared.table_id) × (r.1.me ≡ (first_sight first, []))) }
-{
-    let mut slots = Vec::new(alloc);
-    slots.push(first).map_err(|_| AllocError)?;
-    slots.push(first).map_err(|_| AllocError)?;
-    slots.push(first).map_err(|_| AllocError)?;
-    slots.push(first).map_err(|_| AllocError)?;
-    Table::new(alloc, &[0, 0, 0, 0], slots, &first).map_err(|_| AllocError)
-}
 
 /// The control accesses of a read, which take the slot that has the answer. Gives its number.
 #[inline]
@@ -38,12 +21,12 @@ fn choose<T: Lawful>(cell: &FourSlotCell<T>, get: &mut FourSlotGet<T>) -> usize
     requires { is_get_of cell.now get.old }
     ensures { HasChosen T.fits T.rises cell.now get.old get.new result }
 {
-    let shared = &cell.slots.shared;
-    let latest = shared.load::<Asks>(&mut get.seat, 0);
+    let table = &cell.table;
+    let latest = table.ask(&mut get.seat);
     let pair = is_one(latest);
-    shared.store::<Says>(&mut get.seat, 1, latest);
+    table.say(&mut get.seat, latest);
     let word = word_of(pair);
-    let bit = shared.load::<Takes>(&mut get.seat, word);
+    let bit = table.take(&mut get.seat, word);
     let index = is_one(bit);
     slot_of(pair, index)
 }
@@ -84,10 +67,10 @@ impl<T: Lawful> Calls<T> for FourSlotCell<T> {
         ensures unused { IfOk result (λ r. (writer_accesses r.1 ≡ 0) × (reader_accesses r.2 ≡ 0)) }
         ensures events { IfOk result (λ r. (write_events r.1 ≡ []) × (read_events r.2 ≡ [])) }
     {
-        let (slots, mut put) = table_of(alloc, first)?;
-        let get = slots.shared.split_seat::<Parts>(&mut put);
+        let (table, mut put) = FourSlotTable::new(alloc, first)?;
+        let get = table.part(&mut put);
         Ok((
-            FourSlotCell { slots },
+            FourSlotCell { table },
             FourSlotPut {
                 seat: put,
                 remembered: Sides {
@@ -124,16 +107,16 @@ impl<T: Lawful> Calls<T> for FourSlotCell<T> {
         ensures accesses { writer_accesses put.new ≡ writer_accesses put.old + 3 }
         ensures events { write_events put.new ≡ write_events put.old ++ W1 (snap item.now) ∷ W2 ∷ W3 ∷ W4 ∷ W5 ∷ [] }
     {
-        let shared = &self.slots.shared;
+        let table = &self.table;
         let named = Snapshot::of(item);
-        let reading = begin::<T, FourSlot, Brand>(shared, &mut put.seat, named);
+        let reading = table.begin::<Brand>(&mut put.seat, named);
         let pair = !is_one(reading);
         let index = !bit_of(put.remembered, pair);
         let slot = slot_of(pair, index);
-        fill(shared, &mut put.seat, slot, item);
+        table.fill(&mut put.seat, slot, item);
         let word = word_of(pair);
-        shared.store::<Stores>(&mut put.seat, word, bit_word(index));
-        shared.store::<Finishes>(&mut put.seat, 0, bit_word(pair));
+        table.store(&mut put.seat, word, bit_word(index));
+        table.finish(&mut put.seat, bit_word(pair));
         set_bit(&mut put.remembered, pair, index);
     }
 
@@ -150,7 +133,7 @@ impl<T: Lawful> Calls<T> for FourSlotCell<T> {
         ensures held { held_by get.new ≡ (chosen_slot get.new, result) ∷ [] }
     {
         let slot = choose(self, get);
-        copy_held(&self.slots.shared, &mut get.seat, slot)
+        self.table.copy(&mut get.seat, slot)
     }
 
     #[inline]
@@ -167,7 +150,7 @@ impl<T: Lawful> Calls<T> for FourSlotCell<T> {
         ensures looked { FnOnceReturnsAt F.FnOnce look (at_hand_of get.new) result }
     {
         let slot = choose(self, get);
-        look_held(&self.slots.shared, &mut get.seat, slot, look)
+        self.table.lend(&mut get.seat, slot, look)
     }
 
     fn tell(&self, put: &mut FourSlotPut<T>) -> FourSlotTold<T>
@@ -177,7 +160,7 @@ impl<T: Lawful> Calls<T> for FourSlotCell<T> {
         ensures named { named_by result ≡ last_or (opening_of self.now) (written_by put.old) }
         ensures events { write_events put.new ≡ write_events put.old }
     {
-        let seat = self.slots.shared.split_seat::<Tells>(&mut put.seat);
+        let seat = self.table.tell(&mut put.seat);
         FourSlotTold {
             seat,
             spare: put.spare,
@@ -192,11 +175,11 @@ impl<T: Lawful> Calls<T> for FourSlotCell<T> {
         ensures events { (read_events get.new ≡ read_events get.old) × (held_by get.new ≡ held_by get.old) }
     {
         let FourSlotTold { seat, spare: _ } = receipt;
-        self.slots.shared.join_seat::<Hears>(&mut get.seat, seat);
+        self.table.hear(&mut get.seat, seat);
     }
 
     fn finish(self, put: FourSlotPut<T>, get: FourSlotGet<T>) {
-        let FourSlotCell { slots } = self;
+        let FourSlotCell { table } = self;
         let FourSlotPut {
             seat: mut put,
             remembered: _,
@@ -206,10 +189,10 @@ impl<T: Lawful> Calls<T> for FourSlotCell<T> {
             seat: mut get,
             spare: _,
         } = get;
-        let pair = slots.shared.load::<Asks>(&mut get, 0);
-        slots.shared.store::<Says>(&mut get, 1, pair);
-        slots.shared.join_seat::<Ends>(&mut put, get);
-        empty(slots.close_with(put));
+        let pair = table.ask(&mut get);
+        table.say(&mut get, pair);
+        table.end(&mut put, get);
+        table.close(put);
     }
 }
 

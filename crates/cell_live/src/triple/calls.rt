@@ -4,13 +4,9 @@ ghost use Rattle.std.specs.Fn.{FnOnceTakesAt, FnOnceReturnsAt};
 ghost use Rattle.cell_live.specs.Running.{last_or, IsAnswer};
 ghost use Rattle.cell_live.specs.triple.Words.{opening_of, is_put_of, is_get_of, is_told_of, written_by, answers_of, at_hand_of, told_to, named_by, swaps_of_put, loads_of, swaps_of, held_by, found_by, HasLooked};
 
-use super::plays::{
-    Ends, GetSwaps, GetTakes, Hears, Looks, Parts, PutSwaps, PutTakes, Tells, Yields,
-};
+use super::table::TripleTable;
 use super::{TripleCell, TripleGet, TriplePut, TripleTold};
 use crate::cell::{Calls, Cell, Kept, Lawful};
-use crate::moves::{copy_held, empty, fill, look_held};
-use atomic_table::Table;
 use std::alloc::{AllocError, Global};
 
 /// Takes the middle slot where the word has the mark. The answer is then at hand.
@@ -19,14 +15,11 @@ fn refresh<T: Lawful>(cell: &TripleCell<T>, get: &mut TripleGet<T>)
     requires { is_get_of cell.now get.old }
     ensures { HasLooked T.fits T.rises cell.now get.old get.new }
 {
-    let found = cell.slots.shared.load::<Looks>(&mut get.seat, 0);
+    let found = cell.table.look(&mut get.seat);
     if found < 4 {
         return;
     }
-    let taken = cell
-        .slots
-        .shared
-        .swap::<GetSwaps>(&mut get.seat, 0, get.slot as u64);
+    let taken = cell.table.fetch(&mut get.seat, get.slot as u64);
     get.slot = (taken % 4) as usize;
 }
 
@@ -60,16 +53,12 @@ impl<T: Lawful> Calls<T> for TripleCell<T> {
     ghost get_accesses = { λ g. loads_of g + swaps_of g };
 
     fn make(alloc: Global, first: T) -> Result<(Self, TriplePut<T>, TripleGet<T>), AllocError> {
-        let mut slots = Vec::new(alloc);
-        slots.push(first).map_err(|_| AllocError)?;
-        slots.push(first).map_err(|_| AllocError)?;
-        slots.push(first).map_err(|_| AllocError)?;
-        let (slots, mut put) = Table::new(alloc, &[1], slots, &first).map_err(|_| AllocError)?;
-        let mut get = slots.shared.split_seat::<Parts>(&mut put);
-        slots.shared.load::<PutTakes>(&mut put, 0);
-        slots.shared.load::<GetTakes>(&mut get, 0);
+        let (table, mut put) = TripleTable::new(alloc, first)?;
+        let mut get = table.part(&mut put);
+        table.take_put(&mut put);
+        table.take_get(&mut get);
         Ok((
-            TripleCell { slots },
+            TripleCell { table },
             TriplePut {
                 seat: put,
                 slot: 0,
@@ -104,11 +93,8 @@ impl<T: Lawful> Calls<T> for TripleCell<T> {
         ensures accesses { swaps_of_put put.new ≤ swaps_of_put put.old + 3 }
         ensures swapped { swaps_of_put put.new ≡ swaps_of_put put.old + 1 }
     {
-        fill(&self.slots.shared, &mut put.seat, put.slot, item);
-        let found = self
-            .slots
-            .shared
-            .swap::<PutSwaps>(&mut put.seat, 0, put.slot as u64 + 4);
+        self.table.fill(&mut put.seat, put.slot, item);
+        let found = self.table.publish(&mut put.seat, put.slot as u64 + 4);
         put.slot = (found % 4) as usize;
     }
 
@@ -128,7 +114,7 @@ impl<T: Lawful> Calls<T> for TripleCell<T> {
         ensures held { held_by get.new ≡ (get.new.slot, result) ∷ [] }
     {
         refresh(self, get);
-        copy_held(&self.slots.shared, &mut get.seat, get.slot)
+        self.table.copy(&mut get.seat, get.slot)
     }
 
     #[inline]
@@ -147,11 +133,11 @@ impl<T: Lawful> Calls<T> for TripleCell<T> {
         ensures looked { FnOnceReturnsAt F.FnOnce look (at_hand_of get.new) result }
     {
         refresh(self, get);
-        look_held(&self.slots.shared, &mut get.seat, get.slot, look)
+        self.table.lend(&mut get.seat, get.slot, look)
     }
 
     fn tell(&self, put: &mut TriplePut<T>) -> TripleTold<T> {
-        let seat = self.slots.shared.split_seat::<Tells>(&mut put.seat);
+        let seat = self.table.tell(&mut put.seat);
         TripleTold {
             seat,
             spare: put.spare,
@@ -160,11 +146,11 @@ impl<T: Lawful> Calls<T> for TripleCell<T> {
 
     fn learn(&self, get: &mut TripleGet<T>, receipt: TripleTold<T>) {
         let TripleTold { seat, spare: _ } = receipt;
-        self.slots.shared.join_seat::<Hears>(&mut get.seat, seat);
+        self.table.hear(&mut get.seat, seat);
     }
 
     fn finish(self, put: TriplePut<T>, get: TripleGet<T>) {
-        let TripleCell { slots } = self;
+        let TripleCell { table } = self;
         let TriplePut {
             seat: mut put,
             slot: _,
@@ -175,9 +161,9 @@ impl<T: Lawful> Calls<T> for TripleCell<T> {
             slot: _,
             spare: _,
         } = get;
-        let whole = slots.shared.split_seat::<Yields>(&mut put);
-        slots.shared.join_seat::<Ends>(&mut get, whole);
-        empty(slots.close_with(get));
+        let notes = table.yield_notes(&mut put);
+        table.end(&mut get, notes);
+        table.close(get);
     }
 }
 

@@ -4,16 +4,14 @@ use Rattle.cell_live.specs.Running.{IsAnswer}
 use Rattle.cell_live.specs.triple.Steps.{first_reader, reader_or}
 use Rattle.cell_live.specs.declared.triple.notes.ReaderNotes.{ReaderNotes}
 use Rattle.cell_live.specs.declared.triple.notes.Sight.TheVariants.{Reader}
-use Rattle.cell_live.proofs.TripleKeeps.{looks, gets}
 use Rattle.cell_live.proofs.triple.calls.refresh.Goals as goal
 
-pub load-found-requires : goal.load-found-requires
-load-found-requires g c = let get = c.args.get.now in
-    (search rules, search rules, looks g.T.Lawful.fits g.T.Lawful.rises _ g.T.Lawful.reflexive g.T.Lawful.transitive _ _ _ _ get.known get.ready.2)
+pub look-found-requires-clause-idle : goal.look-found-requires-clause-idle
+look-found-requires-clause-idle g c = let get = c.args.get.now in let n : ReaderNotes g.row.T.Denot = reader_or (first_reader get.spare) get.seat.inner.me.0 in (n, get.known, get.ready.2)
 
 pub invariant_of-get : goal.invariant_of-get
-invariant_of-get g c = let get = c.args.get.now in let d : ReaderNotes g.row.T.Denot = first_reader get.spare in let n : ReaderNotes g.row.T.Denot = reader_or d get.seat.me.0 in
-    let t = c.load-found.ensures.2 n get.known in let v = (t.2 c.if-found-lt4.true).0 in let had = t.0 ∙ get.held in record {
+invariant_of-get g c = let get = c.args.get.now in let d : ReaderNotes g.row.T.Denot = first_reader get.spare in let n : ReaderNotes g.row.T.Denot = reader_or d get.seat.inner.me.0 in
+    let t = c.look-found.ensures.looked n get.known in let v = (t.2 c.if-found-lt4.true).0 in let had = t.0 ∙ get.held in record {
       known = v ∙ ap (λ z. Reader (reader_or d z)) (sym v);
       ready = (ap (λ z. (reader_or d z).has) v ∙ get.ready.0, ap (λ z. (reader_or d z).slot) v ∙ get.ready.1, ap (λ z. (reader_or d z).asked) v);
       held = had ∙ (λ i. (get.slot, (reader_or d (sym v i)).at_hand.value) ∷ []);
@@ -21,9 +19,9 @@ invariant_of-get g c = let get = c.args.get.now in let d : ReaderNotes g.row.T.D
     }
 
 pub returns-then-found-lt4 : goal.returns-then-found-lt4
-returns-then-found-lt4 g c = let get = c.args.get.now in let d : ReaderNotes g.row.T.Denot = first_reader get.spare in let n : ReaderNotes g.row.T.Denot = reader_or d get.seat.me.0 in
-    let u = (c.load-found.ensures.2 n get.known).2 c.if-found-lt4.true in let v = u.0 in
-    let same : c.load-found.new.seat.table_id ≡ get.seat.table_id = search rules in let loads = ap (λ z. (reader_or d z).loads) v in
+returns-then-found-lt4 g c = let get = c.args.get.now in let d : ReaderNotes g.row.T.Denot = first_reader get.spare in let n : ReaderNotes g.row.T.Denot = reader_or d get.seat.inner.me.0 in
+    let u = (c.look-found.ensures.looked n get.known).2 c.if-found-lt4.true in let v = u.0 in
+    let same : c.look-found.new.seat.inner.table_id ≡ get.seat.inner.table_id = search rules in let loads = ap (λ z. (reader_or d z).loads) v in
     let swaps = ap (λ z. (reader_or d z).swaps) v in let found = ap (λ z. (reader_or d z).found) v in let low = c.if-found-lt4.true in record {
       own = (λ i. record { table = same i; opening = (reader_or d (v i)).opening.value }) ∙ c.requires;
       answers = ap (λ z. (reader_or d z).answers) v ∙ (λ i. n.answers ++ (reader_or d (sym v i)).at_hand.value ∷ []);
@@ -35,32 +33,28 @@ returns-then-found-lt4 g c = let get = c.args.get.now in let d : ReaderNotes g.r
       accesses = omega arith;
     }
 
-pub swap-taken-requires : goal.swap-taken-requires
-swap-taken-requires g c = let get = c.args.get.now in let n : ReaderNotes g.row.T.Denot = reader_or (first_reader get.spare) get.seat.me.0 in
-    let m : ReaderNotes g.row.T.Denot = record n { found = c.load-found.result; asked = 1; loads = n.loads + 1 } in let t = c.load-found.ensures.2 n get.known in let had = t.0 ∙ get.held in
-    let view : c.load-found.new.seat.me.0 ≡ Reader m = t.1 c.if-found-lt4.false in (
-      search rules,
-      search rules,
-      gets g.T.Lawful.fits g.T.Lawful.rises _ g.T.Lawful.reflexive g.T.Lawful.transitive _ _ _ m _ view (had ∙ (λ i. (sym get.ready.1 i, n.at_hand.value) ∷ [])) get.ready.0 refl (sym get.ready.1),
-    )
+pub fetch-taken-requires-clause-marked : goal.fetch-taken-requires-clause-marked
+fetch-taken-requires-clause-marked g c = let get = c.args.get.now in let n : ReaderNotes g.row.T.Denot = reader_or (first_reader get.spare) get.seat.inner.me.0 in
+    let m : ReaderNotes g.row.T.Denot = record n { found = c.look-found.result; asked = 1; loads = n.loads + 1 } in let t = c.look-found.ensures.looked n get.known in let had = t.0 ∙ get.held in
+    let view : c.look-found.new.seat.inner.me.0 ≡ Reader m = t.1 c.if-found-lt4.false in (m, (λ i. (view i, (had ∙ (λ i. (sym get.ready.1 i, n.at_hand.value) ∷ [])) i)), get.ready.0, refl, sym get.ready.1)
 
 pub invariant_of-get-2 : goal.invariant_of-get-2
-invariant_of-get-2 g c = let get = c.args.get.now in let d : ReaderNotes g.row.T.Denot = first_reader get.spare in let n : ReaderNotes g.row.T.Denot = reader_or d get.seat.me.0 in
-    let m : ReaderNotes g.row.T.Denot = record n { found = c.load-found.result; asked = 1; loads = n.loads + 1 } in let t = c.load-found.ensures.2 n get.known in let had = t.0 ∙ get.held in
-    let view : c.load-found.new.seat.me.0 ≡ Reader m = t.1 c.if-found-lt4.false in
-    let u = c.swap-taken.ensures.2 m n.at_hand.value view (had ∙ (λ i. (sym get.ready.1 i, n.at_hand.value) ∷ [])) refl in let v = u.2 in record {
+invariant_of-get-2 g c = let get = c.args.get.now in let d : ReaderNotes g.row.T.Denot = first_reader get.spare in let n : ReaderNotes g.row.T.Denot = reader_or d get.seat.inner.me.0 in
+    let m : ReaderNotes g.row.T.Denot = record n { found = c.look-found.result; asked = 1; loads = n.loads + 1 } in let t = c.look-found.ensures.looked n get.known in let had = t.0 ∙ get.held in
+    let view : c.look-found.new.seat.inner.me.0 ≡ Reader m = t.1 c.if-found-lt4.false in
+    let u = c.fetch-taken.ensures.swapped m n.at_hand.value view (had ∙ (λ i. (sym get.ready.1 i, n.at_hand.value) ∷ [])) refl in let v = u.2 in record {
       known = v ∙ ap (λ z. Reader (reader_or d z)) (sym v);
       ready = (ap (λ z. (reader_or d z).has) v ∙ get.ready.0, ap (λ z. (reader_or d z).slot) v, ap (λ z. (reader_or d z).asked) v);
-      held = u.3 ∙ (λ i. ((c.swap-taken.result % 4), (reader_or d (sym v i)).at_hand.value) ∷ []);
+      held = u.3 ∙ (λ i. ((c.fetch-taken.result % 4), (reader_or d (sym v i)).at_hand.value) ∷ []);
       low = u.1;
     }
 
 pub returns : goal.returns
-returns g c = let get = c.args.get.now in let d : ReaderNotes g.row.T.Denot = first_reader get.spare in let n : ReaderNotes g.row.T.Denot = reader_or d get.seat.me.0 in
-    let m : ReaderNotes g.row.T.Denot = record n { found = c.load-found.result; asked = 1; loads = n.loads + 1 } in let t = c.load-found.ensures.2 n get.known in let had = t.0 ∙ get.held in
-    let view : c.load-found.new.seat.me.0 ≡ Reader m = t.1 c.if-found-lt4.false in
-    let u = c.swap-taken.ensures.2 m n.at_hand.value view (had ∙ (λ i. (sym get.ready.1 i, n.at_hand.value) ∷ [])) refl in let v = u.2 in
-    let same : c.swap-taken.new.seat.table_id ≡ get.seat.table_id = search rules in let loads = ap (λ z. (reader_or d z).loads) v in
+returns g c = let get = c.args.get.now in let d : ReaderNotes g.row.T.Denot = first_reader get.spare in let n : ReaderNotes g.row.T.Denot = reader_or d get.seat.inner.me.0 in
+    let m : ReaderNotes g.row.T.Denot = record n { found = c.look-found.result; asked = 1; loads = n.loads + 1 } in let t = c.look-found.ensures.looked n get.known in let had = t.0 ∙ get.held in
+    let view : c.look-found.new.seat.inner.me.0 ≡ Reader m = t.1 c.if-found-lt4.false in
+    let u = c.fetch-taken.ensures.swapped m n.at_hand.value view (had ∙ (λ i. (sym get.ready.1 i, n.at_hand.value) ∷ [])) refl in let v = u.2 in
+    let same : c.fetch-taken.new.seat.inner.table_id ≡ get.seat.inner.table_id = search rules in let loads = ap (λ z. (reader_or d z).loads) v in
     let swaps = ap (λ z. (reader_or d z).swaps) v in let found = ap (λ z. (reader_or d z).found) v in let high = c.if-found-lt4.false in record {
       own = (λ i. record { table = same i; opening = (reader_or d (v i)).opening.value }) ∙ c.requires;
       answers = ap (λ z. (reader_or d z).answers) v ∙ (λ i. n.answers ++ (reader_or d (sym v i)).at_hand.value ∷ []);

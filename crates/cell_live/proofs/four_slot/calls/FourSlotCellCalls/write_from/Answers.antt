@@ -6,56 +6,55 @@ use Rattle.cell_live.specs.four_slot.Steps.{first_writer, writer_or, begun_with,
 use Rattle.cell_live.specs.declared.four_slot.notes.WriterNotes.{WriterNotes}
 use Rattle.cell_live.specs.declared.four_slot.notes.Sight.TheVariants.{Writer}
 use Rattle.fourslot_core.specs.declared.event.WriteEvent.TheVariants.{W1, W2, W3, W4, W5}
+use Rattle.fourslot_core.specs.declared.state.Stage.TheVariants as stage
 use Rattle.cell_live.proofs.ListLaws.{last_snoc}
-use Rattle.cell_live.proofs.FourPlaces.{bit_low}
 use Rattle.cell_live.proofs.FourEvents.{write_joined}
-use Rattle.cell_live.proofs.FourKeeps.{begins_ok, stores_ok, finishes_ok}
 use Rattle.cell_live.proofs.four_slot.calls.FourSlotCellCalls.write_from.Goals as goal
 
-pub begin-reading-requires-clause-rule : goal.begin-reading-requires-clause-rule
-begin-reading-requires-clause-rule g c = let put = c.args.put.now in let d : WriterNotes g.row.T.Denot = first_writer put.spare in let p : WriterNotes g.row.T.Denot = writer_or d put.seat.me.0 in let is : put.seat.me.0 ≡ Writer p = ap (λ m. m.0) put.known in
-    begins_ok g.T.Lawful.fits g.T.Lawful.rises _ _ _ _ p _ c.args.item.now is (ap (λ m. m.1) put.known) put.idle (ap (λ z. z ∷ []) c.of-named.ensures)
-    c.requires.lawful.0 (subst (λ z. g.T.Lawful.rises (last_or z p.written) c.args.item.now) (sym (ap (λ n. n.opening) c.requires.own)) c.requires.lawful.1)
+pub begin-reading-requires-clause-idle : goal.begin-reading-requires-clause-idle
+begin-reading-requires-clause-idle g c = let put = c.args.put.now in let p : WriterNotes g.row.T.Denot = writer_or (first_writer put.spare) put.seat.inner.me.0 in let named = c.of-named.ensures in
+    subst (λ (x : g.row.T.Denot). (q : WriterNotes g.row.T.Denot) × (put.seat.inner.me ≡ (Writer q, [])) × (q.stage ≡ stage.W5) × g.T.Lawful.fits x × g.T.Lawful.rises (last_or q.opening.value q.written) x) (sym named)
+    (p, put.known, put.idle, c.requires.lawful.0, subst (λ z. g.T.Lawful.rises (last_or z p.written) c.args.item.now) (sym (ap (λ n. n.opening) c.requires.own)) c.requires.lawful.1)
 
 pub fill-requires-clause-held : goal.fill-requires-clause-held
-fill-requires-clause-held g c = let put = c.args.put.now in let d : WriterNotes g.row.T.Denot = first_writer put.spare in let p : WriterNotes g.row.T.Denot = writer_or d put.seat.me.0 in let is : put.seat.me.0 ≡ Writer p = ap (λ m. m.0) put.known in
+fill-requires-clause-held g c = let put = c.args.put.now in let d : WriterNotes g.row.T.Denot = first_writer put.spare in let p : WriterNotes g.row.T.Denot = writer_or d put.seat.inner.me.0 in let is : put.seat.inner.me.0 ≡ Writer p = ap (λ m. m.0) put.known in
     let t = c.begin-reading.ensures.begun p c.args.item.now is (ap (λ z. z ∷ []) c.of-named.ensures) in let b : Bool = t.0 in let q : WriterNotes g.row.T.Denot = begun_with p b c.args.item.now in
     let pair : not c.is_one-pair.result ≡ not b = ap not (c.is_one-pair.ensures b t.2) in
     let index : not c.bit_of-index.result ≡ not (side p.remembered (not b)) = ap not (c.bit_of-index.ensures ∙ (λ i. side (sym put.bits i) (pair i))) in
     let slot : c.slot_of-slot.result ≡ slot_number q.place = c.slot_of-slot.ensures ∙ (λ i. slot_number (place_of (pair i) (index i))) in
     ap held_slots t.4 ∙ ap (λ z. z ∷ []) (sym slot)
 
-pub store-requires : goal.store-requires
-store-requires g c = let put = c.args.put.now in let d : WriterNotes g.row.T.Denot = first_writer put.spare in let p : WriterNotes g.row.T.Denot = writer_or d put.seat.me.0 in let is : put.seat.me.0 ≡ Writer p = ap (λ m. m.0) put.known in
+pub store-requires-clause-filled : goal.store-requires-clause-filled
+store-requires-clause-filled g c = let put = c.args.put.now in let d : WriterNotes g.row.T.Denot = first_writer put.spare in let p : WriterNotes g.row.T.Denot = writer_or d put.seat.inner.me.0 in let is : put.seat.inner.me.0 ≡ Writer p = ap (λ m. m.0) put.known in
     let t = c.begin-reading.ensures.begun p c.args.item.now is (ap (λ z. z ∷ []) c.of-named.ensures) in let b : Bool = t.0 in let q : WriterNotes g.row.T.Denot = begun_with p b c.args.item.now in
     let pair : not c.is_one-pair.result ≡ not b = ap not (c.is_one-pair.ensures b t.2) in
     let index : not c.bit_of-index.result ≡ not (side p.remembered (not b)) = ap not (c.bit_of-index.ensures ∙ (λ i. side (sym put.bits i) (pair i))) in
     let slot : c.slot_of-slot.result ≡ slot_number q.place = c.slot_of-slot.ensures ∙ (λ i. slot_number (place_of (pair i) (index i))) in
     let now = c.fill.ensures.filled in let me0 = ap (λ m. m.0) now ∙ t.3 in let me1 = ap (λ m. m.1) now ∙ (λ i. (slot i, c.args.item.now) ∷ []) in
     let word : c.word_of-word.result ≡ 2 + bit_number (not b) = c.word_of-word.ensures ∙ ap (λ z. 2 + bit_number z) pair in
-    (search rules, (let l = bit_low (not b) in let s = c.args.self.now.sized in omega arith), stores_ok g.T.Lawful.fits g.T.Lawful.rises _ _ _ _ q _ _ me0 me1 refl word (c.bit_word.ensures ∙ ap bit_number index))
+    (q, (λ i. (me0 i, me1 i)), refl, word, c.bit_word.ensures ∙ ap bit_number index)
 
-pub store-requires-2 : goal.store-requires-2
-store-requires-2 g c = let put = c.args.put.now in let d : WriterNotes g.row.T.Denot = first_writer put.spare in let p : WriterNotes g.row.T.Denot = writer_or d put.seat.me.0 in let is : put.seat.me.0 ≡ Writer p = ap (λ m. m.0) put.known in
+pub finish-requires-clause-stored : goal.finish-requires-clause-stored
+finish-requires-clause-stored g c = let put = c.args.put.now in let d : WriterNotes g.row.T.Denot = first_writer put.spare in let p : WriterNotes g.row.T.Denot = writer_or d put.seat.inner.me.0 in let is : put.seat.inner.me.0 ≡ Writer p = ap (λ m. m.0) put.known in
     let t = c.begin-reading.ensures.begun p c.args.item.now is (ap (λ z. z ∷ []) c.of-named.ensures) in let b : Bool = t.0 in let q : WriterNotes g.row.T.Denot = begun_with p b c.args.item.now in
     let pair : not c.is_one-pair.result ≡ not b = ap not (c.is_one-pair.ensures b t.2) in
     let index : not c.bit_of-index.result ≡ not (side p.remembered (not b)) = ap not (c.bit_of-index.ensures ∙ (λ i. side (sym put.bits i) (pair i))) in
     let slot : c.slot_of-slot.result ≡ slot_number q.place = c.slot_of-slot.ensures ∙ (λ i. slot_number (place_of (pair i) (index i))) in
     let now = c.fill.ensures.filled in let me0 = ap (λ m. m.0) now ∙ t.3 in let me1 = ap (λ m. m.1) now ∙ (λ i. (slot i, c.args.item.now) ∷ []) in
     let word : c.word_of-word.result ≡ 2 + bit_number (not b) = c.word_of-word.ensures ∙ ap (λ z. 2 + bit_number z) pair in
-    let v = c.store.ensures.2 q me0 me1 in let q2 : WriterNotes g.row.T.Denot = stored_by q in
-    (search rules, search rules, finishes_ok g.T.Lawful.fits g.T.Lawful.rises _ _ _ _ q2 _ v.0 refl (c.bit_word-2.ensures ∙ ap bit_number pair))
+    let v = c.store.ensures.stored q me0 me1 in let q2 : WriterNotes g.row.T.Denot = stored_by q in
+    (q2, v.0, refl, c.bit_word-2.ensures ∙ ap bit_number pair)
 
 pub invariant_of-put : goal.invariant_of-put
-invariant_of-put g c = let put = c.args.put.now in let d : WriterNotes g.row.T.Denot = first_writer put.spare in let p : WriterNotes g.row.T.Denot = writer_or d put.seat.me.0 in let is : put.seat.me.0 ≡ Writer p = ap (λ m. m.0) put.known in
+invariant_of-put g c = let put = c.args.put.now in let d : WriterNotes g.row.T.Denot = first_writer put.spare in let p : WriterNotes g.row.T.Denot = writer_or d put.seat.inner.me.0 in let is : put.seat.inner.me.0 ≡ Writer p = ap (λ m. m.0) put.known in
     let t = c.begin-reading.ensures.begun p c.args.item.now is (ap (λ z. z ∷ []) c.of-named.ensures) in let b : Bool = t.0 in let q : WriterNotes g.row.T.Denot = begun_with p b c.args.item.now in
     let pair : not c.is_one-pair.result ≡ not b = ap not (c.is_one-pair.ensures b t.2) in
     let index : not c.bit_of-index.result ≡ not (side p.remembered (not b)) = ap not (c.bit_of-index.ensures ∙ (λ i. side (sym put.bits i) (pair i))) in
     let slot : c.slot_of-slot.result ≡ slot_number q.place = c.slot_of-slot.ensures ∙ (λ i. slot_number (place_of (pair i) (index i))) in
     let now = c.fill.ensures.filled in let me0 = ap (λ m. m.0) now ∙ t.3 in let me1 = ap (λ m. m.1) now ∙ (λ i. (slot i, c.args.item.now) ∷ []) in
     let word : c.word_of-word.result ≡ 2 + bit_number (not b) = c.word_of-word.ensures ∙ ap (λ z. 2 + bit_number z) pair in
-    let v = c.store.ensures.2 q me0 me1 in let q2 : WriterNotes g.row.T.Denot = stored_by q in
-    let u = c.store-2.ensures.2 q2 v.0 in let d' : WriterNotes g.row.T.Denot = first_writer put.spare in let w = u.0 in
+    let v = c.store.ensures.stored q me0 me1 in let q2 : WriterNotes g.row.T.Denot = stored_by q in
+    let u = c.finish.ensures.finished q2 v.0 in let d' : WriterNotes g.row.T.Denot = first_writer put.spare in let w = u.0 in
     record {
       known = λ i. ((w ∙ ap (λ z. Writer (writer_or d' z)) (sym w)) i, (u.1 ∙ v.1) i);
       idle = ap (λ z. (writer_or d' z).stage) w;
@@ -64,14 +63,14 @@ invariant_of-put g c = let put = c.args.put.now in let d : WriterNotes g.row.T.D
     }
 
 pub returns : goal.returns
-returns g c = let put = c.args.put.now in let d : WriterNotes g.row.T.Denot = first_writer put.spare in let p : WriterNotes g.row.T.Denot = writer_or d put.seat.me.0 in let is : put.seat.me.0 ≡ Writer p = ap (λ m. m.0) put.known in
+returns g c = let put = c.args.put.now in let d : WriterNotes g.row.T.Denot = first_writer put.spare in let p : WriterNotes g.row.T.Denot = writer_or d put.seat.inner.me.0 in let is : put.seat.inner.me.0 ≡ Writer p = ap (λ m. m.0) put.known in
     let t = c.begin-reading.ensures.begun p c.args.item.now is (ap (λ z. z ∷ []) c.of-named.ensures) in let b : Bool = t.0 in let q : WriterNotes g.row.T.Denot = begun_with p b c.args.item.now in
     let pair : not c.is_one-pair.result ≡ not b = ap not (c.is_one-pair.ensures b t.2) in
     let index : not c.bit_of-index.result ≡ not (side p.remembered (not b)) = ap not (c.bit_of-index.ensures ∙ (λ i. side (sym put.bits i) (pair i))) in
     let slot : c.slot_of-slot.result ≡ slot_number q.place = c.slot_of-slot.ensures ∙ (λ i. slot_number (place_of (pair i) (index i))) in
     let now = c.fill.ensures.filled in let me0 = ap (λ m. m.0) now ∙ t.3 in let me1 = ap (λ m. m.1) now ∙ (λ i. (slot i, c.args.item.now) ∷ []) in
-    let v = c.store.ensures.2 q me0 me1 in let q2 : WriterNotes g.row.T.Denot = stored_by q in
-    let w = (c.store-2.ensures.2 q2 v.0).0 in let same : c.store-2.new.seat.table_id ≡ put.seat.table_id = search rules in record {
+    let v = c.store.ensures.stored q me0 me1 in let q2 : WriterNotes g.row.T.Denot = stored_by q in
+    let w = (c.finish.ensures.finished q2 v.0).0 in let same : c.finish.new.seat.inner.table_id ≡ put.seat.inner.table_id = search rules in record {
       own = (λ i. record { table = same i; opening = (writer_or d (w i)).opening.value }) ∙ c.requires.own;
       written = ap (λ z. (writer_or d z).written) w;
       accesses = ap (λ z. (writer_or d z).accesses) w ∙ (let e : p.accesses + 1 + 1 + 1 ≡ p.accesses + 3 = omega arith in e);

@@ -1,7 +1,11 @@
--- A receipt's record is one that the rule bounds, so the seat that takes it in keeps the rule.
-use Rattle.std.proofs.Common.{rules, ap}
-use Rattle.cell_live.proofs.TripleKeeps.{hears_at}
+-- The pass is the reader's, and the receipt names a record.
+use Rattle.cell_live.specs.Running.{snap}
+use Rattle.cell_live.specs.triple.Steps.{first_reader, reader_or, receipt_or}
+use Rattle.cell_live.specs.declared.triple.notes.ReaderNotes.{ReaderNotes}
 use Rattle.cell_live.proofs.triple.calls.TripleCellCalls.learn.Goals as goal
 
-pub join_seat-requires : goal.join_seat-requires
-join_seat-requires g c = (ap (λ n. n.table) c.requires.0, search rules, search rules, search rules, hears_at g.T.Lawful.fits g.T.Lawful.rises _ _ _ _ _ _ _ c.args.get.now.known (ap (λ m. m.0) c.args.receipt.known))
+pub hear-requires-clause-reader : goal.hear-requires-clause-reader
+hear-requires-clause-reader g c = let get = c.args.get.now in let n : ReaderNotes g.row.T.Denot = reader_or (first_reader get.spare) get.seat.inner.me.0 in (n, get.known)
+
+pub hear-requires-clause-receipt : goal.hear-requires-clause-receipt
+hear-requires-clause-receipt g c = let receipt = c.args.receipt in (snap (receipt_or receipt.spare receipt.seat.inner.me.0), receipt.known)
