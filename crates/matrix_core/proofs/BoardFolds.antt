@@ -35,23 +35,23 @@ use Rattle.matrix_core.proofs.Steps.{get_exists}
 use Rattle.history_core.proofs.Positions.{position_below}
 
 module _ {R : Type 0} (at : ℕ) (span : Span R) (opening noise : R) (cut : IsCut 5 span) (left : (step : ℕ) → ¬ Overruns span step) where
-  board_more : (done : List ℕ) (b : Board R) (xs : List ℕ) (s : ℕ) → board_on span done b (xs ++ s ∷ []) ≡ after_event (board_on span done b xs) s (wish_after span (done ++ xs) s)
+  pub board_more : (done : List ℕ) (b : Board R) (xs : List ℕ) (s : ℕ) → board_on span done b (xs ++ s ∷ []) ≡ after_event (board_on span done b xs) s (wish_after span (done ++ xs) s)
   board_more done b [] s = ap (λ ys. after_event b s (wish_after span ys s)) (sym (append-nil done))
   board_more done b (x ∷ xs) s =
       board_more (done ++ x ∷ []) (after_event b x (wish_after span done x)) xs s
       ∙ ap (λ ys. after_event (board_on span (done ++ x ∷ []) (after_event b x (wish_after span done x)) xs) s (wish_after span ys s)) (append_assoc done (x ∷ []) xs)
 
-  abbrev boards : List ℕ → Board R
+  abbrev pub boards : List ℕ → Board R
   boards done = board_after span opening noise done
 
-  abbrev chose_in : ℕ → ℕ → Stamped R
+  abbrev pub chose_in : ℕ → ℕ → Stamped R
   chose_in = chosen_in at span opening noise
 
-  abbrev answers_in : ℕ → ℕ → Outcome R
+  abbrev pub answers_in : ℕ → ℕ → Outcome R
   answers_in = outcome_in at span opening noise
 
   -- before the first step
-  at_first : IsAt at span opening noise cut.at_least cut.accesses chose_in answers_in [] (boards [])
+  pub at_first : IsAt at span opening noise cut.at_least cut.accesses chose_in answers_in [] (boards [])
   at_first =
       let n : ℕ = length span.plans in
       let st = opening_state (first_record opening) (noise_record noise) in
@@ -84,24 +84,25 @@ module _ {R : Type 0} (at : ℕ) (span : Span R) (opening noise : R) (cut : IsCu
         saws = λ i k l. absurd (omega arith);
       }
 
-  one_more : (done rest : List ℕ) (s : ℕ) → span.steps ≡ done ++ s ∷ rest → IsAt at span opening noise cut.at_least cut.accesses chose_in answers_in done (boards done) → IsAt at span opening noise cut.at_least cut.accesses chose_in answers_in (done ++ s ∷ []) (boards (done ++ s ∷ []))
-  one_more done rest s whole h =
-      let n : ℕ = length span.plans in
+  -- what the step after these is to do, where it begins an operation
+  pub wished_by : (done rest : List ℕ) (s : ℕ) → span.steps ≡ done ++ s ∷ rest → (k : ℕ) → steps_of s done ≡ k * span.accesses → planned span s k ≡ Some (wish_after span done s)
+  wished_by done rest s whole k c =
       let a : ℕ = span.accesses in
-      let w : Wish R = wish_after span done s in
-      let b : Board R = boards done in
-      let next : boards (done ++ s ∷ []) ≡ after_event b s w = board_more [] (opening_board n span.limit opening noise) done s in
-      let ls : s < n = cut.steps (length done) s (ap (λ xs. slice_get xs (length done)) whole ∙ get_middle done s rest) in
-      let two : 2 ≤ n = cut.at_least in
-      let acc : a ≡ (2 * (n - 1)) * 5 = cut.accesses in
-      let wished : (k : ℕ) → steps_of s done ≡ k * a → planned span s k ≡ Some w = λ k c.
+      let two : 2 ≤ length span.plans = cut.at_least in
+      let acc : a ≡ (2 * (length span.plans - 1)) * 5 = cut.accesses in
       let p = planned_next span done rest s k 0 whole (left (length done)) (omega arith) (omega arith) in
       let num : steps_of s done / a ≡ k = operation_number a (steps_of s done) k 0 (omega arith) (omega arith) in
-      p.1 ∙ ap Some (sym (ap wish_or_read (ap (planned span s) num ∙ p.1))) in
-      let picks : (k : ℕ) (x : Progress R) → steps_of s done ≡ k * a + ((n - 2) * 5 + 4) → slice_get (after_event b s w).lines s ≡ Some x → (chose_in s k ≡ x.own) × (answers_in s k ≡ x.outcome) = λ k x c e.
-      let here : chooses_at at span 5 s k ≡ Some (at + length done) = step_event at span done rest s k ((n - 2) * 5 + 4) whole c in
+      p.1 ∙ ap Some (sym (ap wish_or_read (ap (planned span s) num ∙ p.1)))
+
+  -- what it has chosen, where it chooses
+  pub picks_by : (done rest : List ℕ) (s : ℕ) → span.steps ≡ done ++ s ∷ rest → (k : ℕ) (x : Progress R) → steps_of s done ≡ k * span.accesses + ((length span.plans - 2) * 5 + 4)
+      → slice_get (after_event (boards done) s (wish_after span done s)).lines s ≡ Some x → (chose_in s k ≡ x.own) × (answers_in s k ≡ x.outcome)
+  picks_by done rest s whole k x c e =
+      let next : boards (done ++ s ∷ []) ≡ after_event (boards done) s (wish_after span done s) = board_more [] (opening_board (length span.plans) span.limit opening noise) done s in
+      let here : chooses_at at span 5 s k ≡ Some (at + length done) = step_event at span done rest s k ((length span.plans - 2) * 5 + 4) whole c in
       let count : at + length done + 1 - at ≡ length (done ++ s ∷ []) = (let q : at + length done + 1 - at ≡ length done + 1 = omega arith in q) ∙ sym (length_push done s) in
-      let front : take (at + length done + 1 - at) span.steps ≡ done ++ s ∷ [] = ap (λ m. take m span.steps) count ∙ ap (take (length (done ++ s ∷ []))) (whole ∙ sym (append_assoc done (s ∷ []) rest)) ∙ take_at (done ++ s ∷ []) rest (length (done ++ s ∷ [])) refl in (
+      let front : take (at + length done + 1 - at) span.steps ≡ done ++ s ∷ []
+      = ap (λ m. take m span.steps) count ∙ ap (take (length (done ++ s ∷ []))) (whole ∙ sym (append_assoc done (s ∷ []) rest)) ∙ take_at (done ++ s ∷ []) rest (length (done ++ s ∷ [])) refl in (
         ap (own_at span opening noise at s) here
             ∙ ap (λ xs. own_or opening (slice_get (boards xs).lines s)) front
             ∙ ap (λ (z : Board R). own_or opening (slice_get z.lines s)) next
@@ -110,9 +111,16 @@ module _ {R : Type 0} (at : ℕ) (span : Span R) (opening noise : R) (cut : IsCu
             ∙ ap (λ xs. outcome_or opening (slice_get (boards xs).lines s)) front
             ∙ ap (λ (z : Board R). outcome_or opening (slice_get z.lines s)) next
             ∙ ap (outcome_or opening) e,
-      ) in
+      )
+
+  pub one_more : (done rest : List ℕ) (s : ℕ) → span.steps ≡ done ++ s ∷ rest → IsAt at span opening noise cut.at_least cut.accesses chose_in answers_in done (boards done) → IsAt at span opening noise cut.at_least cut.accesses chose_in answers_in (done ++ s ∷ []) (boards (done ++ s ∷ []))
+  one_more done rest s whole h =
+      let w : Wish R = wish_after span done s in
+      let b : Board R = boards done in
+      let next : boards (done ++ s ∷ []) ≡ after_event b s w = board_more [] (opening_board (length span.plans) span.limit opening noise) done s in
+      let ls : s < length span.plans = cut.steps (length done) s (ap (λ xs. slice_get xs (length done)) whole ∙ get_middle done s rest) in
       subst (λ z. IsAt at span opening noise cut.at_least cut.accesses chose_in answers_in (done ++ s ∷ []) z) (sym next)
-      (board_step at span opening noise cut.at_least cut.accesses chose_in answers_in done s b w ls h wished picks)
+      (board_step at span opening noise cut.at_least cut.accesses chose_in answers_in done s b w ls h (wished_by done rest s whole) (picks_by done rest s whole))
 
   -- after the last
   pub at_last : IsAt at span opening noise cut.at_least cut.accesses chose_in answers_in span.steps (boards span.steps)

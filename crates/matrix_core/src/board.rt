@@ -6,9 +6,13 @@ ghost use Rattle.fourslot_core.specs.declared.state.State.{State};
 ghost use Rattle.fourslot_core.specs.Events.{IsReadEvent, IsWriteEvent, opening_state};
 ghost use Rattle.matrix_core.specs.declared.stamp.Stamped.{Stamped};
 ghost use Rattle.matrix_core.specs.declared.matrix.Progress.{Progress};
-ghost use Rattle.matrix_core.specs.BoardEvents.{after_event, Board, board_size, heard, IsBoard, opening_board, posted};
+ghost use Rattle.matrix_core.specs.Events.{first_record};
+ghost use Rattle.matrix_core.specs.Runs.{greatest_own};
+ghost use Rattle.matrix_core.specs.BoardEvents.{after_event, Board, board_size, heard, IsBoard, opening_board, posted, read_slot, slot_of, write_slot};
 
-use crate::matrix::{Outcome, Progress, cell_index, choose, done_at, filled, other, write_line};
+use crate::matrix::{
+    Outcome, Progress, cell_index, choose, done_at, filled, greatest_of, other, write_line,
+};
 use crate::stamp::{Stamp, Stamped};
 use fourslot_core::{CellCore, ReadStage, Stage};
 use history_core::Wish;
@@ -72,18 +76,36 @@ impl<R: Copy> BoardCore<R> {
         })
     }
 
+    /// How far a process is.
+    pub(crate) fn line(&self, process: usize) -> &Progress<R>
+        requires { process < board_size self.now }
+        ensures at { slice_get self.now.lines process ≡ Some result.now }
+        ensures board { IsBoard self.now }
+    {
+        &self.lines[process]
+    }
+
+    /// The greatest record that a process has, of equal stamps that of the smaller process number, where all began with
+    /// the opening.
+    pub(crate) fn greatest(&self, opening: R) -> R
+        ensures { result ≡ (greatest_own (first_record opening) self.now.lines).item }
+    {
+        greatest_of(&self.lines, opening)
+    }
+
     /// The next step of a process: one event of the cell whose access stands next for it. The wish counts at the first step of an
-    /// operation and has no effect at the others.
-    pub fn step(&mut self, process: usize, wish: Wish<R>)
+    /// operation and has no effect at the others. Tells the slot that the event chose, if it chose one.
+    pub fn step(&mut self, process: usize, wish: Wish<R>) -> Option<u8>
         requires { process < board_size self.old }
         ensures board { self.new ≡ after_event self.old process wish }
+        ensures slot { result ≡ slot_of self.old process }
         ensures size { board_size self.new ≡ board_size self.old }
     {
         let n = self.lines.len();
         let done = done_at(&self.lines, process);
         if done + 1 < n {
             let place = cell_index(n, other(process, done), process);
-            let stage = read_cell(&mut self.cells, place);
+            let (stage, slot) = read_cell(&mut self.cells, place);
             hear(
                 n,
                 self.limit,
@@ -92,11 +114,13 @@ impl<R: Copy> BoardCore<R> {
                 wish,
                 stage,
             );
+            slot
         } else {
             let place = cell_index(n, process, other(process, done + 1 - n));
             let own = self.lines[process].own;
-            let stage = write_cell(&mut self.cells, place, own);
+            let (stage, slot) = write_cell(&mut self.cells, place, own);
             post(n, &mut self.lines[process], stage);
+            slot
         }
     }
 }
@@ -118,18 +142,49 @@ fn cells_filled<T: Copy>(
     Ok(cells)
 }
 
-fn read_cell<T: Copy>(cells: &mut Vec<CellCore<T>>, place: usize) -> ReadStage<T>
+/// The next event of the read of a cell, and the slot that it chose, if it chose one.
+fn read_cell<R: Copy>(
+    cells: &mut Vec<CellCore<Stamped<R>>>,
+    place: usize,
+) -> (ReadStage<Stamped<R>>, Option<u8>)
     requires { place < vec_len cells.old }
-    ensures { (s t : State T) × (slice_get cells.old.items place ≡ Some s) × IsReadEvent s result t × (cells.new.items ≡ slice_set cells.old.items place t) }
+    ensures { (s t : State (Stamped R)) × (slice_get cells.old.items place ≡ Some s) × IsReadEvent s result.0 t × (cells.new.items ≡ slice_set cells.old.items place t) × (result.1 ≡ read_slot result.0 t) }
 {
-    cells[place].read_step()
+    let cell = &mut cells[place];
+    let stage = cell.read_step();
+    (stage, chosen_by_read(stage, cell))
 }
 
-fn write_cell<T: Copy>(cells: &mut Vec<CellCore<T>>, place: usize, item: T) -> Stage
-    requires { place < vec_len cells.old }
-    ensures { (s t : State T) × (slice_get cells.old.items place ≡ Some s) × IsWriteEvent item s result t × (cells.new.items ≡ slice_set cells.old.items place t) }
+fn chosen_by_read<R: Copy>(stage: ReadStage<Stamped<R>>, cell: &CellCore<Stamped<R>>) -> Option<u8>
+    ensures { result ≡ read_slot stage cell.now }
 {
-    cells[place].write_step(item)
+    match stage {
+        ReadStage::R3 => Some(cell.read_slot()),
+        ReadStage::R1 | ReadStage::R2 | ReadStage::R4 | ReadStage::R5(_) => None,
+    }
+}
+
+/// The next event of the write of a cell, and the slot that it chose, if it chose one.
+fn write_cell<R: Copy>(
+    cells: &mut Vec<CellCore<Stamped<R>>>,
+    place: usize,
+    item: Stamped<R>,
+) -> (Stage, Option<u8>)
+    requires { place < vec_len cells.old }
+    ensures { (s t : State (Stamped R)) × (slice_get cells.old.items place ≡ Some s) × IsWriteEvent item s result.0 t × (cells.new.items ≡ slice_set cells.old.items place t) × (result.1 ≡ write_slot result.0 t) }
+{
+    let cell = &mut cells[place];
+    let stage = cell.write_step(item);
+    (stage, chosen_by_write(stage, cell))
+}
+
+fn chosen_by_write<R: Copy>(stage: Stage, cell: &CellCore<Stamped<R>>) -> Option<u8>
+    ensures { result ≡ write_slot stage cell.now }
+{
+    match stage {
+        Stage::W1 => Some(cell.write_slot()),
+        Stage::W2 | Stage::W3 | Stage::W4 | Stage::W5 => None,
+    }
 }
 
 /// What an event of a read of its column makes of a process's progress.

@@ -3,6 +3,8 @@
 #![tactic(auto)]
 
 mod board;
+mod board_play;
+mod board_report;
 pub mod laws;
 mod matrix;
 mod order;
@@ -14,6 +16,7 @@ mod stamp;
 mod tests;
 
 pub use board::BoardCore;
+pub use board_report::play_board;
 pub use history_core::Wish;
 pub use matrix::{MatrixCore, MatrixStage, Outcome};
 pub use report::play_matrix;
