@@ -23,7 +23,7 @@ use Rattle.matrix_core.specs.declared.matrix.Outcome.{Outcome}
 use Rattle.matrix_core.specs.declared.matrix.Outcome.TheVariants.{Written, Seen, Ended}
 use Rattle.matrix_core.specs.declared.matrix.Progress.{Progress}
 use Rattle.matrix_core.specs.declared.board_play.BoardSeat.{BoardSeat}
-use Rattle.matrix_core.specs.Events.{cell_place, choice, other}
+use Rattle.matrix_core.specs.Events.{cell_place, choice, kind_of, other}
 use Rattle.matrix_core.specs.Runs.{begun_op, chose, ended}
 use Rattle.matrix_core.specs.ByAccesses.{IsCut}
 use Rattle.matrix_core.specs.BoardEvents.{after_event, Board, board_size, opening_board, slot_of}
@@ -35,7 +35,6 @@ use Rattle.matrix_core.proofs.BoardSlots.{Shows, slot_at, step_shows}
 use Rattle.matrix_core.proofs.BoardSteps.{outcome_stays}
 use Rattle.matrix_core.proofs.BoardTelling.{goes_on, happens, notes, opened_seat, opens, step_plays, tells_choice, tells_end, tells_no_stamp, tells_nothing, tells_stamp}
 use Rattle.matrix_core.proofs.BoardTraces.{cell, IsAt, IsLineAt, Saw}
-use Rattle.matrix_core.proofs.Kept.{kind_of}
 use Rattle.matrix_core.proofs.Lists.{get_middle, get_replicate, get_set, get_set_other, get_set_same}
 use Rattle.matrix_core.proofs.Plays.{chose_ends, chose_starts, chose_who, ended_ends, ended_starts, ended_who}
 use Rattle.matrix_core.proofs.Steps.{get_exists, not_same, same}
@@ -107,7 +106,7 @@ module _ {R : Type 0} (at : ℕ) (span : Span R) (opening noise : R) (cut : IsCu
   kinds = λ i k. kind_of (outcome_in at span opening noise i k)
 
   abbrev Told : List ℕ → List (Op R) → List (Option Stamp) → (ℕ → ℕ) → Type 0
-  Told done ops stamps place = IsTold at span ch low high chosen kinds done ops stamps place
+  Told done ops stamps place = IsTold at span ch high chosen kinds done ops stamps place
 
   abbrev At : List ℕ → Board R → Type 0
   At done b = IsAt at span opening noise cut.at_least cut.accesses chosen (outcome_in at span opening noise) done b
@@ -457,7 +456,7 @@ module _ {R : Type 0} (at : ℕ) (span : Span R) (opening noise : R) (cut : IsCu
           ];
           each = λ p q x op ro e b there l. elim (get_pushed_cases play.ops new p op e) [
             | inl old ↦ elim (get_pushed_cases play.slots row p ro there) [
-              | inl old_row ↦ g.rows.each p q x op ro old (begins_before at span ch low high chosen kinds done s play.ops p q op g.told.played.played old b) old_row l
+              | inl old_row ↦ g.rows.each p q x op ro old (begins_before at span ch high chosen kinds done s play.ops p q op g.told.played.played old b) old_row l
               | inr v ↦ absurd (let y = slice_get_within play.ops p op old in let pl : p ≡ length play.slots = v.0 in omega arith)
             ]
             | inr v ↦ elim (get_pushed_cases play.slots row p ro there) [
@@ -489,7 +488,7 @@ module _ {R : Type 0} (at : ℕ) (span : Span R) (opening noise : R) (cut : IsCu
         } in
         let follows : Follows (planned span new.who k) new = subst (λ (o : Option (Wish R)). Follows o new) (sym (ap (λ v. planned span v k) is.actor ∙ wish_is)) is.follows in
         let told0 : Told (done ++ new.who ∷ []) (play.ops ++ new ∷ []) (play.stamps ++ None ∷ []) place
-        = told_begins at span ch low high chosen kinds done play.ops play.stamps g.place g.told place k new (ap (λ v. steps_of v done) is.actor ∙ c0) (is.starts ∙ g.now) is.unfinished follows
+        = told_begins at span ch high chosen kinds done play.ops play.stamps g.place g.told low place k new (ap (λ v. steps_of v done) is.actor ∙ c0) (is.starts ∙ g.now) is.unfinished follows
         (ap place is.actor ∙ place_s) (λ w ne. place_w w (λ e. ne (e ∙ sym is.actor))) is.unrefused is.bare in
         let told' : Told then_it (play.ops ++ new ∷ []) (play.stamps ++ None ∷ []) place = subst (λ v. Told (done ++ v ∷ []) (play.ops ++ new ∷ []) (play.stamps ++ None ∷ []) place) is.actor told0 in
         let made0 : (board_seat mid s).made ≡ 0 = m.made in
@@ -521,7 +520,7 @@ module _ {R : Type 0} (at : ℕ) (span : Span R) (opening noise : R) (cut : IsCu
         rows = record {
           long = g.rows.long;
           wide = g.rows.wide;
-          each = λ p q x op ro e b there l. g.rows.each p q x op ro e (begins_before at span ch low high chosen kinds done s play.ops p q op g.told.played.played e b) there l;
+          each = λ p q x op ro e b there l. g.rows.each p q x op ro e (begins_before at span ch high chosen kinds done s play.ops p q op g.told.played.played e b) there l;
         };
       }
 
@@ -549,7 +548,7 @@ module _ {R : Type 0} (at : ℕ) (span : Span R) (opening noise : R) (cut : IsCu
           subst (λ (p : Playing R). IsBoardSoFar then_it p) (sym (happens play s wish line_then.0 line_then.1))
           (finish done rest s k r whole play line_then.0 g.place g.is_at g.unseen mid_is play.ops play.stamps
           (tells_nothing (length play.seats) seat play.now line_then.0 play.ops nc ne) (tells_no_stamp (length play.seats) seat line_then.0 play.stamps nc)
-          (told_goes_on at span ch low high chosen kinds done play.ops play.stamps g.place g.told s k r steps_now pos (let l = made_small in omega arith) not_ch)
+          (told_goes_on at span ch high chosen kinds done play.ops play.stamps g.place g.told s k r steps_now pos (let l = made_small in omega arith) not_ch)
           (begin_same play.ops) way.op way.there way.actor way_begins)
 
       chooses_it : r ≡ ch → IsBoardSoFar then_it (happened play s wish)
@@ -576,7 +575,7 @@ module _ {R : Type 0} (at : ℕ) (span : Span R) (opening noise : R) (cut : IsCu
           let old = get_exists play.stamps (g.place s) ls_stamps in
           let stamp : Option Stamp = Some (chosen s k).stamp in
           let told' : Told then_it (set play.ops (g.place s) op) (set play.stamps (g.place s) stamp) g.place
-          = told_chooses at span ch low high chosen kinds done play.ops play.stamps g.place g.told s k r steps_now pos made_small (set play.ops (g.place s) op) op is (set play.stamps (g.place s) stamp) now
+          = told_chooses at span ch high chosen kinds done play.ops play.stamps g.place g.told s k r steps_now pos made_small (set play.ops (g.place s) op) op is (set play.stamps (g.place s) stamp) now
           (chose_ends o way.op ∙ way.unfinished) (subst (λ (v : Option (Wish R)). Follows v op) (sym saw.wish) c.follows)
           (length-set play.stamps (g.place s) stamp ∙ g.told.long ∙ sym (length-set play.ops (g.place s) op))
           (get_set_same play.stamps (g.place s) stamp ls_stamps) (λ q ne. get_set_else play.stamps (g.place s) q stamp ne)
@@ -621,10 +620,10 @@ module _ {R : Type 0} (at : ℕ) (span : Span R) (opening noise : R) (cut : IsCu
           let c : IsEnding saw.line.wish (choice span.limit s saw.line.wish saw.line).own way.op op = ending_is span.limit s play.now saw.line.wish saw.line way.op (subst (λ v. Follows (Some v) way.op) sw way_follows) kind_is
           (λ e. t.item e ∙ ap (λ v. Some (chosen v k).item) way.actor ∙ ap (λ (v : Stamped R). Some v.item) saw.chose) in
           let is : IsReplaced play.ops (set play.ops (g.place s) op) (g.place s) op = replaced_by_set play.ops (g.place s) way.op op way.there (ended_who play.now o way.op) (ended_starts play.now o way.op) in
-          let same_way = same_Some way.op (told_way at span ch low high chosen kinds done play.ops play.stamps g.place g.told s k r steps_now pos made_small (set play.ops (g.place s) op) op is).op
-          (sym way.there ∙ (told_way at span ch low high chosen kinds done play.ops play.stamps g.place g.told s k r steps_now pos made_small (set play.ops (g.place s) op) op is).there) in
+          let same_way = same_Some way.op (told_way at span ch high chosen kinds done play.ops play.stamps g.place g.told s k r steps_now pos made_small (set play.ops (g.place s) op) op is).op
+          (sym way.there ∙ (told_way at span ch high chosen kinds done play.ops play.stamps g.place g.told s k r steps_now pos made_small (set play.ops (g.place s) op) op is).there) in
           let told' : Told then_it (set play.ops (g.place s) op) play.stamps g.place
-          = told_ends at span ch low high chosen kinds done play.ops play.stamps g.place g.told s k r steps_now pos made_small (set play.ops (g.place s) op) op is full
+          = told_ends at span ch high chosen kinds done play.ops play.stamps g.place g.told s k r steps_now pos made_small (set play.ops (g.place s) op) op is full
           (ended_ends play.now o way.op ∙ ap Some g.now) (c.same_kind ∙ ap (λ (v : Op R). v.kind) same_way) (λ e. c.kept e ∙ ap (λ (v : Op R). v.item) same_way) (subst (λ (v : Option (Wish R)). Follows v op) (sym saw.wish) c.follows) (length-set play.ops (g.place s) op)
           (c.item ∙ ap (λ (v : Stamped R). Some v.item) (sym saw.chose)) in
           let nc : seat.made ≢ choosing (length play.seats) = λ e. let q : choosing (length play.seats) ≡ ch = ap choosing ln in omega arith in
@@ -663,7 +662,7 @@ module _ {R : Type 0} (at : ℕ) (span : Span R) (opening noise : R) (cut : IsCu
     each = λ who l.
         let e : board_seat (opening_play n span.limit opening noise at) who ≡ first_board_seat = get_or-replicate n who first_board_seat first_board_seat l in
         subst (λ (z : BoardSeat). IsSeat [] who 0 z) (sym e) (record { steps = omega arith; inside = omega arith; placed = refl });
-    told = nothing_told at span ch low high chosen kinds (λ w. 0) (nothing_played at span (λ w. 0));
+    told = nothing_told at span ch high chosen kinds (λ w. 0) (nothing_played at span (λ w. 0));
     rows = record { long = refl; wide = λ p row e. absurd (none-some row e); each = λ p q x op row e b there l. absurd (none-some op e) };
     unseen = λ i j x l. elim (cases_Bool (nat_lt x (n - 1))) [
       | inl t ↦ ap (λ (c : Bool). if c then slice_get (cell at span opening noise cut.at_least cut.accesses chosen (outcome_in at span opening noise) (other i x) i []).read_slots j else slice_get (cell at span opening noise cut.at_least cut.accesses chosen (outcome_in at span opening noise) i (other i (x - (n - 1))) []).write_slots j) t

@@ -26,11 +26,12 @@ use Rattle.matrix_core.specs.MatrixRuns.{IsMatrixRun}
 use Rattle.matrix_core.specs.Runs.{after_step, opening_run, place_of, Run}
 use Rattle.matrix_core.proofs.ByAccesses.{in_done, step_event}
 use Rattle.matrix_core.proofs.Lists.{fold_more, get_middle, get_replicate}
+use Rattle.matrix_core.proofs.Made.{IsMade, made_past, made_so_far}
 use Rattle.matrix_core.proofs.Matrices.{opens}
 use Rattle.matrix_core.proofs.MatrixTelling.{IsPlay, play_step, wrote}
-use Rattle.matrix_core.proofs.MatrixTraces.{IsMade, IsAt, IsLineAt, made_past, made_so_far, Saw}
+use Rattle.matrix_core.proofs.MatrixTraces.{IsAt, IsLineAt, Saw}
 use Rattle.matrix_core.proofs.Plays.{IsSpan, opening_so_far}
-use Rattle.matrix_core.proofs.Tells.{IsToldOf, nothing_told}
+use Rattle.matrix_core.proofs.Told.{IsToldOf, nothing_told}
 
 -- what is chosen by kind
 chosen_is : {R : Type 0} (limit : ℕ) (c : Choice R) (w : Wish R) (line : Progress R) → record { stamp = c.stamp; item = c.item } ≡ (choice limit c.who w line).own → c.kind ≡ kind_of (choice limit c.who w line).outcome

@@ -29,7 +29,7 @@ use Rattle.matrix_core.proofs.Lists.{get_set_same, get_unset}
 use Rattle.matrix_core.proofs.MatrixTraces.{IsAt, IsLineAt, matrix_step, Saw}
 use Rattle.matrix_core.proofs.Plays.{began_other, began_seat, chose_ends, chose_follows, chose_starts, chose_who, does_planned, ended_ends, ended_follows, ended_starts, ended_who, IsProcess, IsRunSoFar, IsSpan, next_is_planned, one_step, Suits}
 use Rattle.matrix_core.proofs.Steps.{access_chooses, access_finishes, access_moves, get_exists, step_begins, step_goes_on}
-use Rattle.matrix_core.proofs.Tells.{IsTold, IsToldOf, told_begins, told_begins_choosing, told_chooses, told_ends, told_goes_on, way as told_way}
+use Rattle.matrix_core.proofs.Told.{IsTold, IsToldOf, told_begins, told_begins_choosing, told_chooses, told_ends, told_goes_on, way as told_way}
 
 set_last : {X : Type 0} (xs : List X) (x y : X) (p : ℕ) → p ≡ length xs → set (xs ++ x ∷ []) p y ≡ xs ++ y ∷ []
 set_last [] x y zero e = refl
