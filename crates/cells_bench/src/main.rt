@@ -2,9 +2,11 @@
 //! `impl,record_bytes,mode,metric,value`. `count IMPL BYTES OP N` makes one cell and N calls, for a counter of instructions.
 #![tactic(auto)]
 
+mod duo;
 mod measure;
 mod paced;
 mod record;
+mod sides;
 mod solo;
 
 use cell_live::{Cell, FourSlotCell, TripleCell};
@@ -27,6 +29,7 @@ fn main(rt: HostRuntime) -> io::Result<()> {
             let op = match op.as_str() {
                 "write" => Op::Write,
                 "read" => Op::Read,
+                "look" => Op::Look,
                 _ => Op::Both,
             };
             let calls = calls.as_str().parse::<u64>().unwrap_or(0);
@@ -71,6 +74,7 @@ where
     C::Told: Send,
 {
     solo::run::<R, W, C>(rt, alloc, name, bytes)?;
+    duo::run::<R, W, C>(rt, alloc, name, bytes)?;
     paced::run::<R, W, C>(rt, alloc, name, bytes)
 }
 

@@ -7,6 +7,7 @@ use std::time::Instant;
 pub enum Op {
     Write,
     Read,
+    Look,
     Both,
 }
 
@@ -32,9 +33,9 @@ pub fn clock_cost(rt: &impl Clock, start: Instant) -> u64 {
     least
 }
 
-/// The element of the sorted times at so many thousandths.
-pub fn quantile(sorted: &[u64], thousandths: usize) -> u64 {
-    let at = sorted.len().saturating_mul(thousandths) / 1_000;
+/// The element of the sorted times at so many ten-thousandths.
+pub fn quantile(sorted: &[u64], part: usize) -> u64 {
+    let at = sorted.len().saturating_mul(part) / 10_000;
     match sorted.get(at) {
         Some(time) => *time,
         None => 0,

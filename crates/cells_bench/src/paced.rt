@@ -1,33 +1,18 @@
 //! Control tasks: a write every microsecond in one thread, a read every 1.037 in another, each call timed.
 use crate::measure::{clock_cost, quantile, say, since};
 use crate::record::{Record, Shared};
+use crate::sides::{Beats, Side, at_once};
 use cell_live::{Calls, Cell};
 use crossbeam_utils::CachePadded;
 use std::alloc::{AllocError, Global};
 use std::io;
 use std::rt::Clock;
 use std::sync::atomic::{AtomicU64, Ordering};
-use std::thread::{Threads, join_mut};
+use std::thread::Threads;
 use std::time::Instant;
 
 /// The calls of one side.
 const CALLS: u64 = 40_000;
-
-/// Each side's count of calls.
-#[derive(Drop)]
-struct Beats {
-    write: CachePadded<AtomicU64>,
-    read: CachePadded<AtomicU64>,
-}
-
-impl Beats {
-    fn new() -> Beats {
-        Beats {
-            write: CachePadded::new(AtomicU64::new(0)),
-            read: CachePadded::new(AtomicU64::new(0)),
-        }
-    }
-}
 
 /// Waits for the next beat. One that was missed isn't made up for.
 fn next_beat(rt: &impl Clock, start: Instant, next: u64, step: u64) -> u64 {
@@ -69,15 +54,6 @@ impl Times {
     }
 }
 
-/// One side of the run.
-trait Side {
-    ghost ready: { Self → Type 0 };
-
-    /// Makes the calls, one at each beat.
-    fn run<R: Clock>(&mut self, rt: &R, beats: &Beats)
-        requires { ready self.old };
-}
-
 #[derive(Drop)]
 struct Writer<'a, W: Shared, C: Cell<Record<W>>> {
     start: Instant,
@@ -96,7 +72,7 @@ impl<'a, W: Shared, C: Cell<Record<W>>> Side for Writer<'a, W, C> {
             next = next_beat(rt, self.start, next, 1_000);
             self.item.mark(number);
             let before = since(rt, self.start);
-            self.cell.write(&mut self.put, self.item);
+            self.cell.write_from(&mut self.put, &self.item);
             let after = since(rt, self.start);
             self.times
                 .keep(&beats.write, &beats.read, after.saturating_sub(before));
@@ -129,25 +105,6 @@ impl<'a, W: Shared, C: Cell<Record<W>>> Side for Reader<'a, W, C> {
     }
 }
 
-fn at_once<R: Clock + Threads + Sync, A: Side + Send, B: Side + Send>(
-    rt: &R,
-    beats: &Beats,
-    writer: &mut A,
-    reader: &mut B,
-)
-    requires { A.ready writer.old × B.ready reader.old }
-{
-    join_mut(
-        rt,
-        &mut ||
-            requires { A.ready writer.now }
-        { writer.run(rt, beats) },
-        &mut ||
-            requires { B.ready reader.now }
-        { reader.run(rt, beats) },
-    );
-}
-
 fn say_times(
     rt: &impl Print,
     name: &str,
@@ -161,8 +118,8 @@ fn say_times(
         other: _,
     } = times;
     nanos.sort()?;
-    for (metric, thousandths) in [(op[0], 500), (op[1], 990), (op[2], 999)] {
-        let time = quantile(nanos.as_slice(), thousandths).saturating_sub(cost);
+    for (metric, part) in [(op[0], 5_000), (op[1], 9_900), (op[2], 9_990)] {
+        let time = quantile(nanos.as_slice(), part).saturating_sub(cost);
         say(rt, name, bytes, "paced", metric, time.saturating_mul(1_000))?;
     }
     Ok(())

@@ -94,6 +94,14 @@ impl<W: Words> Record<W> {
         }
     }
 
+    pub fn first(&self) -> u64 {
+        self.words.all().first().copied().unwrap_or(0)
+    }
+
+    pub fn last(&self) -> u64 {
+        self.words.all().last().copied().unwrap_or(0)
+    }
+
     /// One of the first two words, as the number says: the whole record has to be there.
     pub fn word(&self, number: u64) -> u64 {
         match self.words.all().get((number % 2) as usize) {

@@ -23,6 +23,7 @@ fn batch<W: Shared, C: Cell<Record<W>>>(
     match op {
         Op::Write => write(cell, put, calls),
         Op::Read => read(cell, get, calls),
+        Op::Look => look(cell, get, calls),
         Op::Both => both(cell, put, get, calls),
     }
 }
@@ -34,7 +35,7 @@ fn write<W: Shared, C: Cell<Record<W>>>(cell: &C, put: &mut C::Put, calls: u64) 
     let mut item = Record::<W>::zero();
     for number in 0..calls {
         item.mark(number);
-        cell.write(put, item);
+        cell.write_from(put, &item);
     }
     0
 }
@@ -46,6 +47,18 @@ fn read<W: Shared, C: Cell<Record<W>>>(cell: &C, get: &mut C::Get, calls: u64) -
     let mut sum = 0;
     for number in 0..calls {
         sum |= cell.read(get).word(number);
+    }
+    sum
+}
+
+/// Reads in place: a word of each record.
+fn look<W: Shared, C: Cell<Record<W>>>(cell: &C, get: &mut C::Get, calls: u64) -> u64
+    requires { C.is_get cell.now get.old }
+    ensures { C.is_get cell.now get.new }
+{
+    let mut sum = 0;
+    for number in 0..calls {
+        sum |= cell.read_with(get, |record| record.word(number));
     }
     sum
 }
@@ -63,7 +76,7 @@ fn both<W: Shared, C: Cell<Record<W>>>(
     let mut sum = 0;
     for number in 0..calls {
         item.mark(number);
-        cell.write(put, item);
+        cell.write_from(put, &item);
         sum |= cell.read(get).word(number);
     }
     sum
@@ -103,7 +116,7 @@ fn per_call<W: Shared, C: Cell<Record<W>>>(
         times.push(time.checked_div(size).unwrap_or(0))?;
     }
     times.sort()?;
-    Ok(quantile(times.as_slice(), 500))
+    Ok(quantile(times.as_slice(), 5_000))
 }
 
 pub fn run<R: Clock + Print, W: Shared, C: Cell<Record<W>>>(

@@ -1,0 +1,274 @@
+//! Writer and reader at full speed, each in a thread of its own.
+use crate::measure::{clock_cost, quantile, say, since};
+use crate::record::{Record, Shared, Words};
+use crate::sides::{Beats, Side, at_once};
+use cell_live::{Calls, Cell};
+use crossbeam_utils::CachePadded;
+use std::alloc::Global;
+use std::io;
+use std::rt::Clock;
+use std::sync::atomic::{AtomicU64, Ordering};
+use std::thread::Threads;
+use std::time::Instant;
+
+/// The nanoseconds of a run.
+const BUDGET: u64 = 40_000_000;
+
+/// The most reads of a run whose times are kept.
+const KEPT: usize = 600_000;
+
+/// Waits until both sides have begun.
+fn meet(mine: &AtomicU64, theirs: &AtomicU64) {
+    mine.store(1, Ordering::SeqCst);
+    for _ in 0..u64::MAX {
+        if theirs.load(Ordering::SeqCst) != 0 {
+            break;
+        }
+    }
+}
+
+/// What the reader counted. The writer numbers its records and puts the number into the first word and the last.
+#[derive(Clone, Copy)]
+struct Seen {
+    reads: u64,
+    fresh: u64,
+    torn_or_older: u64,
+    last: u64,
+}
+
+impl Seen {
+    fn none() -> Seen {
+        Seen {
+            reads: 0,
+            fresh: 0,
+            torn_or_older: 0,
+            last: 0,
+        }
+    }
+
+    fn add(&mut self, first: u64, last: u64) {
+        let wrong = first != last || first < self.last;
+        self.reads = self.reads.saturating_add(1);
+        self.fresh = self.fresh.saturating_add((first != self.last) as u64);
+        self.torn_or_older = self.torn_or_older.saturating_add(wrong as u64);
+        self.last = first;
+    }
+}
+
+#[derive(Drop)]
+struct Writer<'a, W: Shared, C: Cell<Record<W>>> {
+    start: Instant,
+    cell: &'a C,
+    put: C::Put,
+    item: Record<W>,
+    writes: u64,
+    nanos: u64,
+}
+
+impl<'a, W: Shared, C: Cell<Record<W>>> Side for Writer<'a, W, C> {
+    ghost ready = { λ s. C.is_put s.cell.now s.put };
+
+    fn run<R: Clock>(&mut self, rt: &R, beats: &Beats) {
+        meet(&beats.write, &beats.read);
+        let begun = since(rt, self.start);
+        for number in 1..u64::MAX {
+            if beats.over.load(Ordering::SeqCst) != 0 {
+                break;
+            }
+            self.item.mark(number);
+            self.cell.write_from(&mut self.put, &self.item);
+            self.writes = number;
+        }
+        self.nanos = since(rt, self.start).saturating_sub(begun);
+    }
+}
+
+#[derive(Drop)]
+struct Reader<'a, W: Shared, C: Cell<Record<W>>> {
+    start: Instant,
+    cell: &'a C,
+    get: C::Get,
+    timed: bool,
+    seen: Seen,
+    nanos: u64,
+    times: Vec<u64>,
+}
+
+/// Reads until the time is over, which it looks at now and then alone.
+fn read_on<R: Clock, W: Words, C: Calls<Record<W>>>(
+    rt: &R,
+    start: Instant,
+    cell: &C,
+    get: &mut C::Get,
+    seen: &mut Seen,
+)
+    requires { C.is_get cell.now get.old }
+{
+    let end = since(rt, start).saturating_add(BUDGET);
+    for number in 0..u64::MAX {
+        if number % 64 == 0 && since(rt, start) >= end {
+            break;
+        }
+        let answer = cell.read(get);
+        seen.add(answer.first(), answer.last());
+    }
+}
+
+/// The same, with the time of each read.
+fn read_timed<R: Clock, W: Words, C: Calls<Record<W>>>(
+    rt: &R,
+    start: Instant,
+    cell: &C,
+    get: &mut C::Get,
+    seen: &mut Seen,
+    times: &mut Vec<u64>,
+)
+    requires { C.is_get cell.now get.old }
+{
+    let end = since(rt, start).saturating_add(BUDGET);
+    for _ in 0..u64::MAX {
+        let before = since(rt, start);
+        if before >= end {
+            break;
+        }
+        let answer = cell.read(get);
+        let (first, last) = (answer.first(), answer.last());
+        let after = since(rt, start);
+        seen.add(first, last);
+        if times.len() < KEPT {
+            // There is room for it.
+            let _ = times.push(after.saturating_sub(before));
+        }
+    }
+}
+
+impl<'a, W: Shared, C: Cell<Record<W>>> Side for Reader<'a, W, C> {
+    ghost ready = { λ s. C.is_get s.cell.now s.get };
+
+    fn run<R: Clock>(&mut self, rt: &R, beats: &Beats) {
+        meet(&beats.read, &beats.write);
+        let begun = since(rt, self.start);
+        if self.timed {
+            read_timed(
+                rt,
+                self.start,
+                self.cell,
+                &mut self.get,
+                &mut self.seen,
+                &mut self.times,
+            );
+        } else {
+            read_on(rt, self.start, self.cell, &mut self.get, &mut self.seen);
+        }
+        self.nanos = since(rt, self.start).saturating_sub(begun);
+        beats.over.store(1, Ordering::SeqCst);
+    }
+}
+
+/// A number of calls as thousandths of millions in a second.
+fn speed(calls: u64, nanos: u64) -> u64 {
+    calls
+        .saturating_mul(1_000_000)
+        .checked_div(nanos)
+        .unwrap_or(0)
+}
+
+/// What one run measured.
+#[derive(Drop)]
+struct Measured {
+    writes: u64,
+    reads: u64,
+    seen: Seen,
+    cost: u64,
+    times: Vec<u64>,
+}
+
+fn measure<R: Clock + Threads + Sync, W: Shared, C: Cell<Record<W>>>(
+    rt: &R,
+    alloc: Global,
+    timed: bool,
+) -> io::Result<Measured>
+where
+    C::Put: Send,
+    C::Get: Send,
+    C::Told: Send,
+{
+    let (cell, put, get) = C::make(alloc, Record::zero())?;
+    let cell = CachePadded::new(cell);
+    let start = Instant::now(rt)?;
+    let mut writer: CachePadded<Writer<W, C>> = CachePadded::new(Writer {
+        start,
+        cell: &cell,
+        put,
+        item: Record::zero(),
+        writes: 0,
+        nanos: 0,
+    });
+    let mut reader: CachePadded<Reader<W, C>> = CachePadded::new(Reader {
+        start,
+        cell: &cell,
+        get,
+        timed,
+        seen: Seen::none(),
+        nanos: 0,
+        times: Vec::with_capacity(alloc, if timed { KEPT } else { 0 })?,
+    });
+    let cost = clock_cost(rt, start);
+    at_once(rt, &Beats::new(), &mut *writer, &mut *reader);
+    let writer = writer.into_inner();
+    let reader = reader.into_inner();
+    Ok(Measured {
+        writes: speed(writer.writes, writer.nanos),
+        reads: speed(reader.seen.reads, reader.nanos),
+        seen: reader.seen,
+        cost,
+        times: reader.times,
+    })
+}
+
+fn say_wrong(rt: &impl Print, name: &str, bytes: u64, seen: Seen) -> io::Result<()> {
+    if seen.torn_or_older == 0 {
+        return Ok(());
+    }
+    let wrong = seen.torn_or_older.saturating_mul(1_000);
+    say(rt, name, bytes, "duo", "torn_or_backward", wrong)
+}
+
+pub fn run<R: Clock + Print + Threads + Sync, W: Shared, C: Cell<Record<W>>>(
+    rt: &R,
+    alloc: Global,
+    name: &str,
+    bytes: u64,
+) -> io::Result<()>
+where
+    C::Put: Send,
+    C::Get: Send,
+    C::Told: Send,
+{
+    let untimed = measure::<R, W, C>(rt, alloc, false)?;
+    let fresh = untimed
+        .seen
+        .fresh
+        .saturating_mul(1_000)
+        .checked_div(untimed.seen.reads)
+        .unwrap_or(0);
+    say(rt, name, bytes, "duo", "write_mops", untimed.writes)?;
+    say(rt, name, bytes, "duo", "read_mops", untimed.reads)?;
+    say(rt, name, bytes, "duo", "read_fresh_share", fresh)?;
+    say_wrong(rt, name, bytes, untimed.seen)?;
+    let mut timed = measure::<R, W, C>(rt, alloc, true)?;
+    timed.times.sort()?;
+    for (metric, part) in [
+        ("read_p50_ns", 5_000),
+        ("read_p99_ns", 9_900),
+        ("read_p99.9_ns", 9_990),
+        ("read_p99.99_ns", 9_999),
+    ] {
+        let time = quantile(timed.times.as_slice(), part).saturating_sub(timed.cost);
+        say(rt, name, bytes, "duo", metric, time.saturating_mul(1_000))?;
+    }
+    let most = timed.times.last().copied().unwrap_or(0);
+    let most = most.saturating_sub(timed.cost).saturating_mul(1_000);
+    say(rt, name, bytes, "duo", "read_max_ns", most)?;
+    say_wrong(rt, name, bytes, timed.seen)
+}
