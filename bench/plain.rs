@@ -14,7 +14,7 @@ trait Register<const N: usize>: Sync {
     type Put: Send + Default;
     type Get: Send + Default;
     fn make() -> Self;
-    fn write(&self, put: &mut Self::Put, item: Record<N>);
+    fn write(&self, put: &mut Self::Put, item: &Record<N>);
     fn read(&self, get: &mut Self::Get) -> Record<N>;
 }
 
@@ -27,8 +27,8 @@ impl<const N: usize, const S: usize> Slots<N, S> {
     fn new() -> Self {
         Slots(std::array::from_fn(|_| UnsafeCell::new([0; N])))
     }
-    fn put(&self, slot: usize, item: Record<N>) {
-        unsafe { *self.0[slot].get() = item }
+    fn put(&self, slot: usize, item: &Record<N>) {
+        unsafe { *self.0[slot].get() = *item }
     }
     fn get(&self, slot: usize) -> Record<N> {
         unsafe { *self.0[slot].get() }
@@ -47,7 +47,7 @@ impl<const N: usize> Register<N> for FourSlot<N> {
     fn make() -> Self {
         FourSlot { words: [const { AtomicU64::new(0) }; 4], slots: Slots::new() }
     }
-    fn write(&self, bits: &mut [u64; 2], item: Record<N>) {
+    fn write(&self, bits: &mut [u64; 2], item: &Record<N>) {
         let pair = 1 - (self.words[1].load(SeqCst) & 1);
         let index = 1 - (bits[pair as usize] & 1);
         self.slots.put((2 * pair + index) as usize, item);
@@ -90,7 +90,7 @@ impl<const N: usize> Register<N> for Triple<N> {
     fn make() -> Self {
         Triple { word: AtomicU64::new(1), slots: Slots::new() }
     }
-    fn write(&self, put: &mut TriplePut, item: Record<N>) {
+    fn write(&self, put: &mut TriplePut, item: &Record<N>) {
         self.slots.put(put.0, item);
         put.0 = (self.word.swap(put.0 as u64 + 4, SeqCst) % 4) as usize;
     }
@@ -110,8 +110,8 @@ macro_rules! locked {
             fn make() -> Self {
                 $lock::new([0; N])
             }
-            fn write(&self, _: &mut (), item: Record<N>) {
-                *self.$write().unwrap() = item
+            fn write(&self, _: &mut (), item: &Record<N>) {
+                *self.$write().unwrap() = *item
             }
             fn read(&self, _: &mut ()) -> Record<N> {
                 *self.$read().unwrap()
@@ -133,7 +133,7 @@ fn batch<const N: usize, R: Register<N>>(cell: &R, put: &mut R::Put, get: &mut R
     for number in 0..calls {
         if op != "read" {
             mark(&mut item, number);
-            cell.write(put, black_box(item));
+            cell.write(put, black_box(&item));
         }
         if op != "write" {
             let answer = black_box(cell.read(get));
@@ -207,7 +207,7 @@ fn paced<const N: usize, R: Register<N>>(name: &str) {
             let (mut put, mut item) = (R::Put::default(), [0; N]);
             side(start, 1_000, a, b, |number| {
                 mark(&mut item, number);
-                cell.write(&mut put, black_box(item))
+                cell.write(&mut put, black_box(&item))
             })
         });
         let mut get = R::Get::default();
@@ -222,10 +222,80 @@ fn paced<const N: usize, R: Register<N>>(name: &str) {
     }
 }
 
+/// The nanoseconds of a run at full speed.
+const BUDGET: u64 = 40_000_000;
+
+/// Writer and reader at full speed. Gives the millions of writes and of reads in a second, the share of reads that saw a record
+/// not seen before, the torn or older records, and the sorted times of the reads where they are wanted.
+fn at_full_speed<const N: usize, R: Register<N>>(timed: bool) -> (f64, f64, f64, u64, Vec<u64>) {
+    let (cell, start) = (Box::new(Apart(R::make())), Instant::now());
+    let now = move || start.elapsed().as_nanos() as u64;
+    let (ready, over) = (Apart(AtomicU64::new(0)), Apart(AtomicU64::new(0)));
+    thread::scope(|s| {
+        let (cell, ready, over) = (&cell.0, &ready.0, &over.0);
+        let writer = s.spawn(move || {
+            let (mut put, mut item, mut number) = (R::Put::default(), [0; N], 0);
+            ready.fetch_add(1, SeqCst);
+            while ready.load(SeqCst) < 2 {}
+            let begun = now();
+            while over.load(SeqCst) == 0 {
+                number += 1;
+                mark(&mut item, number);
+                cell.write(&mut put, black_box(&item));
+            }
+            number as f64 * 1e3 / (now() - begun) as f64
+        });
+        let (mut get, mut last, mut wrong) = (R::Get::default(), 0, 0);
+        let (mut reads, mut fresh, mut times) = (0u64, 0u64, Vec::with_capacity(600_000));
+        ready.fetch_add(1, SeqCst);
+        while ready.load(SeqCst) < 2 {}
+        let begun = now();
+        let mut before = begun;
+        while before < begun + BUDGET {
+            let answer = black_box(cell.read(&mut get));
+            let (first, end) = (answer[0], answer[N - 1]);
+            if timed && times.len() < 600_000 {
+                times.push(now() - before);
+            }
+            reads += 1;
+            fresh += (first != last) as u64;
+            wrong += (first != end || first < last) as u64;
+            last = first;
+            if timed || reads % 64 == 0 {
+                before = now();
+            }
+        }
+        let speed = reads as f64 * 1e3 / (now() - begun) as f64;
+        over.store(1, SeqCst);
+        times.sort();
+        (writer.join().unwrap(), speed, fresh as f64 / reads as f64, wrong, times)
+    })
+}
+
+fn duo<const N: usize, R: Register<N>>(name: &str) {
+    let start = Instant::now();
+    let now = || start.elapsed().as_nanos() as u64;
+    let cost = (0..20_000).map(|_| { let t = now(); now() - t }).min().unwrap();
+    let (writes, reads, fresh, wrong, _) = at_full_speed::<N, R>(false);
+    for (metric, value) in [("write_mops", writes), ("read_mops", reads), ("read_fresh_share", fresh)] {
+        say(name, N, "duo", metric, value);
+    }
+    let (_, _, _, more, times) = at_full_speed::<N, R>(true);
+    for (share, metric) in [(5_000, "p50"), (9_900, "p99"), (9_990, "p99.9"), (9_999, "p99.99")] {
+        let time = times.get(times.len() * share / 10_000).copied().unwrap_or(BUDGET).saturating_sub(cost);
+        say(name, N, "duo", &format!("read_{metric}_ns"), time as f64);
+    }
+    say(name, N, "duo", "read_max_ns", times.last().copied().unwrap_or(BUDGET).saturating_sub(cost) as f64);
+    if wrong + more > 0 {
+        say(name, N, "duo", "torn_or_backward", (wrong + more) as f64);
+    }
+}
+
 fn one<const N: usize, R: Register<N>>(name: &str) {
     say(name, N, "solo", "write_ns", per_call::<N, R>("write"));
     say(name, N, "solo", "read_ns", per_call::<N, R>("read"));
     say(name, N, "solo", "write_read_ns", per_call::<N, R>("both"));
+    duo::<N, R>(name);
     paced::<N, R>(name);
 }
 

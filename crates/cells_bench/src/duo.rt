@@ -88,6 +88,8 @@ struct Reader<'a, W: Shared, C: Cell<Record<W>>> {
     start: Instant,
     cell: &'a C,
     get: C::Get,
+    /// Where each record is copied to.
+    answer: Record<W>,
     timed: bool,
     seen: Seen,
     nanos: u64,
@@ -100,6 +102,7 @@ fn read_on<R: Clock, W: Words, C: Calls<Record<W>>>(
     start: Instant,
     cell: &C,
     get: &mut C::Get,
+    answer: &mut Record<W>,
     seen: &mut Seen,
 )
     requires { C.is_get cell.now get.old }
@@ -109,7 +112,7 @@ fn read_on<R: Clock, W: Words, C: Calls<Record<W>>>(
         if number % 64 == 0 && since(rt, start) >= end {
             break;
         }
-        let answer = cell.read(get);
+        *answer = cell.read(get);
         seen.add(answer.first(), answer.last());
     }
 }
@@ -120,6 +123,7 @@ fn read_timed<R: Clock, W: Words, C: Calls<Record<W>>>(
     start: Instant,
     cell: &C,
     get: &mut C::Get,
+    answer: &mut Record<W>,
     seen: &mut Seen,
     times: &mut Vec<u64>,
 )
@@ -131,10 +135,9 @@ fn read_timed<R: Clock, W: Words, C: Calls<Record<W>>>(
         if before >= end {
             break;
         }
-        let answer = cell.read(get);
-        let (first, last) = (answer.first(), answer.last());
+        *answer = cell.read(get);
         let after = since(rt, start);
-        seen.add(first, last);
+        seen.add(answer.first(), answer.last());
         if times.len() < KEPT {
             // There is room for it.
             let _ = times.push(after.saturating_sub(before));
@@ -154,11 +157,19 @@ impl<'a, W: Shared, C: Cell<Record<W>>> Side for Reader<'a, W, C> {
                 self.start,
                 self.cell,
                 &mut self.get,
+                &mut self.answer,
                 &mut self.seen,
                 &mut self.times,
             );
         } else {
-            read_on(rt, self.start, self.cell, &mut self.get, &mut self.seen);
+            read_on(
+                rt,
+                self.start,
+                self.cell,
+                &mut self.get,
+                &mut self.answer,
+                &mut self.seen,
+            );
         }
         self.nanos = since(rt, self.start).saturating_sub(begun);
         beats.over.store(1, Ordering::SeqCst);
@@ -208,6 +219,7 @@ where
         start,
         cell: &cell,
         get,
+        answer: Record::zero(),
         timed,
         seen: Seen::none(),
         nanos: 0,
