@@ -1,0 +1,14 @@
+-- A handle that is as it was, or that has its side back, keeps what it had.
+use Rattle.std.proofs.Common.{◌≡◌, ℕ, ap, sym, ◌∙◌, suc-ne-zero}
+use Rattle.std.specs.Prelude.{◌≢◌}
+use Rattle.cells_c.specs.Handles.{Keeps}
+use Rattle.cells_c.specs.declared.handle.Handle.{Handle}
+
+pub is_live : {n : ℕ} → n ≡ 1 → n ≢ 0
+is_live e z = suc-ne-zero _ (sym e ∙ z)
+
+pub kept : {h k : Handle} → k ≡ h → Keeps h k
+kept e = (ap (λ (x : Handle). x.loose.side) e, ((λ z. ap (λ (x : Handle). x.live) (sym e) ∙ z), (λ z. ap (λ (x : Handle). x.live) e ∙ z)))
+
+pub put_back : (h k : Handle) → h.live ≢ 0 → k.live ≡ 1 → k.loose.side ≡ h.loose.side → Keeps h k
+put_back h k was now same = (same, ((λ z. absurd (is_live now z)), (λ z. absurd (was z))))

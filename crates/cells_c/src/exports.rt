@@ -1,0 +1,16 @@
+//! The exports: for each cell and size a make, a write, a read and an end of either side.
+//!
+//! Each is the one call of `calls` at its record and side, and its contract is that call's.
+
+mod four_slot_1024;
+mod four_slot_24;
+mod four_slot_256;
+mod four_slot_4096;
+mod four_slot_64;
+mod four_slot_8;
+mod triple_1024;
+mod triple_24;
+mod triple_256;
+mod triple_4096;
+mod triple_64;
+mod triple_8;

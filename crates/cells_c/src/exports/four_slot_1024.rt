@@ -1,0 +1,59 @@
+//! A four-slot cell with records of 1,024 bytes.
+ghost use Rattle.cells_c.specs.FourSlotCalls.{IsMade, HasWritten, HasRead};
+ghost use Rattle.cells_c.specs.Handles.{IsMake, IsWrite, IsRead, IsEnd};
+ghost use Rattle.cells_c.specs.declared.side.Side.TheVariants.{Of1024};
+ghost use Rattle.cells_c.specs.declared.side.Party.TheVariants.{Writes, Reads};
+
+use crate::calls::{end, make, read, write};
+use crate::four_slot::{FourSlotReader, FourSlotWriter};
+use crate::handle::Handle;
+use crate::record::Record1024;
+use std::alloc::Global;
+
+#[unsafe(no_mangle)]
+pub extern "C" fn nidzaru_1024_make(
+    alloc: Global,
+    first: &Record1024,
+    writer: &mut Handle,
+    reader: &mut Handle,
+) -> u32
+    ensures { IsMake (λ p. Of1024 (Writes p)) (λ g. Of1024 (Reads g)) IsMade
+        writer.old reader.old writer.new reader.new first.now result }
+{
+    make::<Record1024, FourSlotWriter<Record1024>, FourSlotReader<Record1024>>(
+        alloc, first, writer, reader,
+    )
+}
+
+#[unsafe(no_mangle)]
+pub extern "C" fn nidzaru_1024_write(alloc: Global, writer: &mut Handle, item: &Record1024) -> u32
+    ensures { IsWrite (λ p. Of1024 (Writes p)) (λ p. p.number) HasWritten writer.old writer.new item.now result }
+{
+    write::<Record1024, FourSlotWriter<Record1024>>(alloc, writer, item)
+}
+
+#[unsafe(no_mangle)]
+pub extern "C" fn nidzaru_1024_read(
+    alloc: Global,
+    reader: &mut Handle,
+    item: &mut Record1024,
+    number: &mut u64,
+) -> u32
+    ensures { IsRead (λ g. Of1024 (Reads g)) HasRead reader.old reader.new item.new number.new result }
+{
+    read::<Record1024, FourSlotReader<Record1024>>(alloc, reader, item, number)
+}
+
+#[unsafe(no_mangle)]
+pub extern "C" fn nidzaru_1024_end_writer(alloc: Global, writer: &mut Handle) -> u32
+    ensures { IsEnd (λ p. Of1024 (Writes p)) writer.old writer.new result }
+{
+    end::<Record1024, FourSlotWriter<Record1024>>(alloc, writer)
+}
+
+#[unsafe(no_mangle)]
+pub extern "C" fn nidzaru_1024_end_reader(alloc: Global, reader: &mut Handle) -> u32
+    ensures { IsEnd (λ g. Of1024 (Reads g)) reader.old reader.new result }
+{
+    end::<Record1024, FourSlotReader<Record1024>>(alloc, reader)
+}

@@ -1,0 +1,59 @@
+//! A four-slot cell with records of 4,096 bytes.
+ghost use Rattle.cells_c.specs.FourSlotCalls.{IsMade, HasWritten, HasRead};
+ghost use Rattle.cells_c.specs.Handles.{IsMake, IsWrite, IsRead, IsEnd};
+ghost use Rattle.cells_c.specs.declared.side.Side.TheVariants.{Of4096};
+ghost use Rattle.cells_c.specs.declared.side.Party.TheVariants.{Writes, Reads};
+
+use crate::calls::{end, make, read, write};
+use crate::four_slot::{FourSlotReader, FourSlotWriter};
+use crate::handle::Handle;
+use crate::record::Record4096;
+use std::alloc::Global;
+
+#[unsafe(no_mangle)]
+pub extern "C" fn nidzaru_4096_make(
+    alloc: Global,
+    first: &Record4096,
+    writer: &mut Handle,
+    reader: &mut Handle,
+) -> u32
+    ensures { IsMake (λ p. Of4096 (Writes p)) (λ g. Of4096 (Reads g)) IsMade
+        writer.old reader.old writer.new reader.new first.now result }
+{
+    make::<Record4096, FourSlotWriter<Record4096>, FourSlotReader<Record4096>>(
+        alloc, first, writer, reader,
+    )
+}
+
+#[unsafe(no_mangle)]
+pub extern "C" fn nidzaru_4096_write(alloc: Global, writer: &mut Handle, item: &Record4096) -> u32
+    ensures { IsWrite (λ p. Of4096 (Writes p)) (λ p. p.number) HasWritten writer.old writer.new item.now result }
+{
+    write::<Record4096, FourSlotWriter<Record4096>>(alloc, writer, item)
+}
+
+#[unsafe(no_mangle)]
+pub extern "C" fn nidzaru_4096_read(
+    alloc: Global,
+    reader: &mut Handle,
+    item: &mut Record4096,
+    number: &mut u64,
+) -> u32
+    ensures { IsRead (λ g. Of4096 (Reads g)) HasRead reader.old reader.new item.new number.new result }
+{
+    read::<Record4096, FourSlotReader<Record4096>>(alloc, reader, item, number)
+}
+
+#[unsafe(no_mangle)]
+pub extern "C" fn nidzaru_4096_end_writer(alloc: Global, writer: &mut Handle) -> u32
+    ensures { IsEnd (λ p. Of4096 (Writes p)) writer.old writer.new result }
+{
+    end::<Record4096, FourSlotWriter<Record4096>>(alloc, writer)
+}
+
+#[unsafe(no_mangle)]
+pub extern "C" fn nidzaru_4096_end_reader(alloc: Global, reader: &mut Handle) -> u32
+    ensures { IsEnd (λ g. Of4096 (Reads g)) reader.old reader.new result }
+{
+    end::<Record4096, FourSlotReader<Record4096>>(alloc, reader)
+}

@@ -1,0 +1,59 @@
+//! A four-slot cell with records of 64 bytes.
+ghost use Rattle.cells_c.specs.FourSlotCalls.{IsMade, HasWritten, HasRead};
+ghost use Rattle.cells_c.specs.Handles.{IsMake, IsWrite, IsRead, IsEnd};
+ghost use Rattle.cells_c.specs.declared.side.Side.TheVariants.{Of64};
+ghost use Rattle.cells_c.specs.declared.side.Party.TheVariants.{Writes, Reads};
+
+use crate::calls::{end, make, read, write};
+use crate::four_slot::{FourSlotReader, FourSlotWriter};
+use crate::handle::Handle;
+use crate::record::Record64;
+use std::alloc::Global;
+
+#[unsafe(no_mangle)]
+pub extern "C" fn nidzaru_64_make(
+    alloc: Global,
+    first: &Record64,
+    writer: &mut Handle,
+    reader: &mut Handle,
+) -> u32
+    ensures { IsMake (λ p. Of64 (Writes p)) (λ g. Of64 (Reads g)) IsMade
+        writer.old reader.old writer.new reader.new first.now result }
+{
+    make::<Record64, FourSlotWriter<Record64>, FourSlotReader<Record64>>(
+        alloc, first, writer, reader,
+    )
+}
+
+#[unsafe(no_mangle)]
+pub extern "C" fn nidzaru_64_write(alloc: Global, writer: &mut Handle, item: &Record64) -> u32
+    ensures { IsWrite (λ p. Of64 (Writes p)) (λ p. p.number) HasWritten writer.old writer.new item.now result }
+{
+    write::<Record64, FourSlotWriter<Record64>>(alloc, writer, item)
+}
+
+#[unsafe(no_mangle)]
+pub extern "C" fn nidzaru_64_read(
+    alloc: Global,
+    reader: &mut Handle,
+    item: &mut Record64,
+    number: &mut u64,
+) -> u32
+    ensures { IsRead (λ g. Of64 (Reads g)) HasRead reader.old reader.new item.new number.new result }
+{
+    read::<Record64, FourSlotReader<Record64>>(alloc, reader, item, number)
+}
+
+#[unsafe(no_mangle)]
+pub extern "C" fn nidzaru_64_end_writer(alloc: Global, writer: &mut Handle) -> u32
+    ensures { IsEnd (λ p. Of64 (Writes p)) writer.old writer.new result }
+{
+    end::<Record64, FourSlotWriter<Record64>>(alloc, writer)
+}
+
+#[unsafe(no_mangle)]
+pub extern "C" fn nidzaru_64_end_reader(alloc: Global, reader: &mut Handle) -> u32
+    ensures { IsEnd (λ g. Of64 (Reads g)) reader.old reader.new result }
+{
+    end::<Record64, FourSlotReader<Record64>>(alloc, reader)
+}

@@ -1,0 +1,57 @@
+//! A four-slot cell with records of 8 bytes.
+ghost use Rattle.cells_c.specs.FourSlotCalls.{IsMade, HasWritten, HasRead};
+ghost use Rattle.cells_c.specs.Handles.{IsMake, IsWrite, IsRead, IsEnd};
+ghost use Rattle.cells_c.specs.declared.side.Side.TheVariants.{Of8};
+ghost use Rattle.cells_c.specs.declared.side.Party.TheVariants.{Writes, Reads};
+
+use crate::calls::{end, make, read, write};
+use crate::four_slot::{FourSlotReader, FourSlotWriter};
+use crate::handle::Handle;
+use crate::record::Record8;
+use std::alloc::Global;
+
+#[unsafe(no_mangle)]
+pub extern "C" fn nidzaru_8_make(
+    alloc: Global,
+    first: &Record8,
+    writer: &mut Handle,
+    reader: &mut Handle,
+) -> u32
+    ensures { IsMake (λ p. Of8 (Writes p)) (λ g. Of8 (Reads g)) IsMade
+        writer.old reader.old writer.new reader.new first.now result }
+{
+    make::<Record8, FourSlotWriter<Record8>, FourSlotReader<Record8>>(alloc, first, writer, reader)
+}
+
+#[unsafe(no_mangle)]
+pub extern "C" fn nidzaru_8_write(alloc: Global, writer: &mut Handle, item: &Record8) -> u32
+    ensures { IsWrite (λ p. Of8 (Writes p)) (λ p. p.number) HasWritten writer.old writer.new item.now result }
+{
+    write::<Record8, FourSlotWriter<Record8>>(alloc, writer, item)
+}
+
+#[unsafe(no_mangle)]
+pub extern "C" fn nidzaru_8_read(
+    alloc: Global,
+    reader: &mut Handle,
+    item: &mut Record8,
+    number: &mut u64,
+) -> u32
+    ensures { IsRead (λ g. Of8 (Reads g)) HasRead reader.old reader.new item.new number.new result }
+{
+    read::<Record8, FourSlotReader<Record8>>(alloc, reader, item, number)
+}
+
+#[unsafe(no_mangle)]
+pub extern "C" fn nidzaru_8_end_writer(alloc: Global, writer: &mut Handle) -> u32
+    ensures { IsEnd (λ p. Of8 (Writes p)) writer.old writer.new result }
+{
+    end::<Record8, FourSlotWriter<Record8>>(alloc, writer)
+}
+
+#[unsafe(no_mangle)]
+pub extern "C" fn nidzaru_8_end_reader(alloc: Global, reader: &mut Handle) -> u32
+    ensures { IsEnd (λ g. Of8 (Reads g)) reader.old reader.new result }
+{
+    end::<Record8, FourSlotReader<Record8>>(alloc, reader)
+}

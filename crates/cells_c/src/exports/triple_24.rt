@@ -1,0 +1,61 @@
+//! A triple buffer with records of 24 bytes.
+ghost use Rattle.cells_c.specs.TripleCalls.{IsMade, HasWritten, HasRead};
+ghost use Rattle.cells_c.specs.Handles.{IsMake, IsWrite, IsRead, IsEnd};
+ghost use Rattle.cells_c.specs.declared.side.Side.TheVariants.{Of24};
+ghost use Rattle.cells_c.specs.declared.side.Party.TheVariants.{TripleWrites, TripleReads};
+
+use crate::calls::{end, make, read, write};
+use crate::handle::Handle;
+use crate::record::Record24;
+use crate::triple::{TripleReader, TripleWriter};
+use std::alloc::Global;
+
+#[unsafe(no_mangle)]
+pub extern "C" fn nidzaru_triple_24_make(
+    alloc: Global,
+    first: &Record24,
+    writer: &mut Handle,
+    reader: &mut Handle,
+) -> u32
+    ensures { IsMake (λ p. Of24 (TripleWrites p)) (λ g. Of24 (TripleReads g)) IsMade
+        writer.old reader.old writer.new reader.new first.now result }
+{
+    make::<Record24, TripleWriter<Record24>, TripleReader<Record24>>(alloc, first, writer, reader)
+}
+
+#[unsafe(no_mangle)]
+pub extern "C" fn nidzaru_triple_24_write(
+    alloc: Global,
+    writer: &mut Handle,
+    item: &Record24,
+) -> u32
+    ensures { IsWrite (λ p. Of24 (TripleWrites p)) (λ p. p.number) HasWritten writer.old writer.new item.now result }
+{
+    write::<Record24, TripleWriter<Record24>>(alloc, writer, item)
+}
+
+#[unsafe(no_mangle)]
+pub extern "C" fn nidzaru_triple_24_read(
+    alloc: Global,
+    reader: &mut Handle,
+    item: &mut Record24,
+    number: &mut u64,
+) -> u32
+    ensures { IsRead (λ g. Of24 (TripleReads g)) HasRead reader.old reader.new item.new number.new result }
+{
+    read::<Record24, TripleReader<Record24>>(alloc, reader, item, number)
+}
+
+#[unsafe(no_mangle)]
+pub extern "C" fn nidzaru_triple_24_end_writer(alloc: Global, writer: &mut Handle) -> u32
+    ensures { IsEnd (λ p. Of24 (TripleWrites p)) writer.old writer.new result }
+{
+    end::<Record24, TripleWriter<Record24>>(alloc, writer)
+}
+
+#[unsafe(no_mangle)]
+pub extern "C" fn nidzaru_triple_24_end_reader(alloc: Global, reader: &mut Handle) -> u32
+    ensures { IsEnd (λ g. Of24 (TripleReads g)) reader.old reader.new result }
+{
+    end::<Record24, TripleReader<Record24>>(alloc, reader)
+}

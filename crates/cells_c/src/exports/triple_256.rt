@@ -1,0 +1,63 @@
+//! A triple buffer with records of 256 bytes.
+ghost use Rattle.cells_c.specs.TripleCalls.{IsMade, HasWritten, HasRead};
+ghost use Rattle.cells_c.specs.Handles.{IsMake, IsWrite, IsRead, IsEnd};
+ghost use Rattle.cells_c.specs.declared.side.Side.TheVariants.{Of256};
+ghost use Rattle.cells_c.specs.declared.side.Party.TheVariants.{TripleWrites, TripleReads};
+
+use crate::calls::{end, make, read, write};
+use crate::handle::Handle;
+use crate::record::Record256;
+use crate::triple::{TripleReader, TripleWriter};
+use std::alloc::Global;
+
+#[unsafe(no_mangle)]
+pub extern "C" fn nidzaru_triple_256_make(
+    alloc: Global,
+    first: &Record256,
+    writer: &mut Handle,
+    reader: &mut Handle,
+) -> u32
+    ensures { IsMake (λ p. Of256 (TripleWrites p)) (λ g. Of256 (TripleReads g)) IsMade
+        writer.old reader.old writer.new reader.new first.now result }
+{
+    make::<Record256, TripleWriter<Record256>, TripleReader<Record256>>(
+        alloc, first, writer, reader,
+    )
+}
+
+#[unsafe(no_mangle)]
+pub extern "C" fn nidzaru_triple_256_write(
+    alloc: Global,
+    writer: &mut Handle,
+    item: &Record256,
+) -> u32
+    ensures { IsWrite (λ p. Of256 (TripleWrites p)) (λ p. p.number) HasWritten writer.old writer.new item.now result }
+{
+    write::<Record256, TripleWriter<Record256>>(alloc, writer, item)
+}
+
+#[unsafe(no_mangle)]
+pub extern "C" fn nidzaru_triple_256_read(
+    alloc: Global,
+    reader: &mut Handle,
+    item: &mut Record256,
+    number: &mut u64,
+) -> u32
+    ensures { IsRead (λ g. Of256 (TripleReads g)) HasRead reader.old reader.new item.new number.new result }
+{
+    read::<Record256, TripleReader<Record256>>(alloc, reader, item, number)
+}
+
+#[unsafe(no_mangle)]
+pub extern "C" fn nidzaru_triple_256_end_writer(alloc: Global, writer: &mut Handle) -> u32
+    ensures { IsEnd (λ p. Of256 (TripleWrites p)) writer.old writer.new result }
+{
+    end::<Record256, TripleWriter<Record256>>(alloc, writer)
+}
+
+#[unsafe(no_mangle)]
+pub extern "C" fn nidzaru_triple_256_end_reader(alloc: Global, reader: &mut Handle) -> u32
+    ensures { IsEnd (λ g. Of256 (TripleReads g)) reader.old reader.new result }
+{
+    end::<Record256, TripleReader<Record256>>(alloc, reader)
+}

@@ -1,0 +1,63 @@
+//! A triple buffer with records of 4,096 bytes.
+ghost use Rattle.cells_c.specs.TripleCalls.{IsMade, HasWritten, HasRead};
+ghost use Rattle.cells_c.specs.Handles.{IsMake, IsWrite, IsRead, IsEnd};
+ghost use Rattle.cells_c.specs.declared.side.Side.TheVariants.{Of4096};
+ghost use Rattle.cells_c.specs.declared.side.Party.TheVariants.{TripleWrites, TripleReads};
+
+use crate::calls::{end, make, read, write};
+use crate::handle::Handle;
+use crate::record::Record4096;
+use crate::triple::{TripleReader, TripleWriter};
+use std::alloc::Global;
+
+#[unsafe(no_mangle)]
+pub extern "C" fn nidzaru_triple_4096_make(
+    alloc: Global,
+    first: &Record4096,
+    writer: &mut Handle,
+    reader: &mut Handle,
+) -> u32
+    ensures { IsMake (λ p. Of4096 (TripleWrites p)) (λ g. Of4096 (TripleReads g)) IsMade
+        writer.old reader.old writer.new reader.new first.now result }
+{
+    make::<Record4096, TripleWriter<Record4096>, TripleReader<Record4096>>(
+        alloc, first, writer, reader,
+    )
+}
+
+#[unsafe(no_mangle)]
+pub extern "C" fn nidzaru_triple_4096_write(
+    alloc: Global,
+    writer: &mut Handle,
+    item: &Record4096,
+) -> u32
+    ensures { IsWrite (λ p. Of4096 (TripleWrites p)) (λ p. p.number) HasWritten writer.old writer.new item.now result }
+{
+    write::<Record4096, TripleWriter<Record4096>>(alloc, writer, item)
+}
+
+#[unsafe(no_mangle)]
+pub extern "C" fn nidzaru_triple_4096_read(
+    alloc: Global,
+    reader: &mut Handle,
+    item: &mut Record4096,
+    number: &mut u64,
+) -> u32
+    ensures { IsRead (λ g. Of4096 (TripleReads g)) HasRead reader.old reader.new item.new number.new result }
+{
+    read::<Record4096, TripleReader<Record4096>>(alloc, reader, item, number)
+}
+
+#[unsafe(no_mangle)]
+pub extern "C" fn nidzaru_triple_4096_end_writer(alloc: Global, writer: &mut Handle) -> u32
+    ensures { IsEnd (λ p. Of4096 (TripleWrites p)) writer.old writer.new result }
+{
+    end::<Record4096, TripleWriter<Record4096>>(alloc, writer)
+}
+
+#[unsafe(no_mangle)]
+pub extern "C" fn nidzaru_triple_4096_end_reader(alloc: Global, reader: &mut Handle) -> u32
+    ensures { IsEnd (λ g. Of4096 (TripleReads g)) reader.old reader.new result }
+{
+    end::<Record4096, TripleReader<Record4096>>(alloc, reader)
+}

@@ -1,0 +1,57 @@
+//! A triple buffer with records of 8 bytes.
+ghost use Rattle.cells_c.specs.TripleCalls.{IsMade, HasWritten, HasRead};
+ghost use Rattle.cells_c.specs.Handles.{IsMake, IsWrite, IsRead, IsEnd};
+ghost use Rattle.cells_c.specs.declared.side.Side.TheVariants.{Of8};
+ghost use Rattle.cells_c.specs.declared.side.Party.TheVariants.{TripleWrites, TripleReads};
+
+use crate::calls::{end, make, read, write};
+use crate::handle::Handle;
+use crate::record::Record8;
+use crate::triple::{TripleReader, TripleWriter};
+use std::alloc::Global;
+
+#[unsafe(no_mangle)]
+pub extern "C" fn nidzaru_triple_8_make(
+    alloc: Global,
+    first: &Record8,
+    writer: &mut Handle,
+    reader: &mut Handle,
+) -> u32
+    ensures { IsMake (λ p. Of8 (TripleWrites p)) (λ g. Of8 (TripleReads g)) IsMade
+        writer.old reader.old writer.new reader.new first.now result }
+{
+    make::<Record8, TripleWriter<Record8>, TripleReader<Record8>>(alloc, first, writer, reader)
+}
+
+#[unsafe(no_mangle)]
+pub extern "C" fn nidzaru_triple_8_write(alloc: Global, writer: &mut Handle, item: &Record8) -> u32
+    ensures { IsWrite (λ p. Of8 (TripleWrites p)) (λ p. p.number) HasWritten writer.old writer.new item.now result }
+{
+    write::<Record8, TripleWriter<Record8>>(alloc, writer, item)
+}
+
+#[unsafe(no_mangle)]
+pub extern "C" fn nidzaru_triple_8_read(
+    alloc: Global,
+    reader: &mut Handle,
+    item: &mut Record8,
+    number: &mut u64,
+) -> u32
+    ensures { IsRead (λ g. Of8 (TripleReads g)) HasRead reader.old reader.new item.new number.new result }
+{
+    read::<Record8, TripleReader<Record8>>(alloc, reader, item, number)
+}
+
+#[unsafe(no_mangle)]
+pub extern "C" fn nidzaru_triple_8_end_writer(alloc: Global, writer: &mut Handle) -> u32
+    ensures { IsEnd (λ p. Of8 (TripleWrites p)) writer.old writer.new result }
+{
+    end::<Record8, TripleWriter<Record8>>(alloc, writer)
+}
+
+#[unsafe(no_mangle)]
+pub extern "C" fn nidzaru_triple_8_end_reader(alloc: Global, reader: &mut Handle) -> u32
+    ensures { IsEnd (λ g. Of8 (TripleReads g)) reader.old reader.new result }
+{
+    end::<Record8, TripleReader<Record8>>(alloc, reader)
+}

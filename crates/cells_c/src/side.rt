@@ -1,0 +1,26 @@
+//! What a handle can have.
+
+use crate::four_slot::{FourSlotReader, FourSlotWriter};
+use crate::record::{Record8, Record24, Record64, Record256, Record1024, Record4096};
+use crate::triple::{TripleReader, TripleWriter};
+
+/// One side of a cell whose records have this type.
+#[derive(Drop)]
+pub enum Party<W: Copy> {
+    Writes(FourSlotWriter<W>),
+    Reads(FourSlotReader<W>),
+    TripleWrites(TripleWriter<W>),
+    TripleReads(TripleReader<W>),
+}
+
+/// One side of a cell, or none.
+#[derive(Drop)]
+pub enum Side {
+    Ended,
+    Of8(Party<Record8>),
+    Of24(Party<Record24>),
+    Of64(Party<Record64>),
+    Of256(Party<Record256>),
+    Of1024(Party<Record1024>),
+    Of4096(Party<Record4096>),
+}
