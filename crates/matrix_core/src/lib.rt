@@ -5,6 +5,8 @@
 mod board;
 mod board_play;
 mod board_report;
+#[cfg(test)]
+mod board_tests;
 pub mod laws;
 mod matrix;
 mod order;
