@@ -7,6 +7,7 @@ pub mod Halves
 pub mod LaneLists
 pub mod LogLaws
 pub mod Made
+pub mod Passing
 pub mod Running
 pub mod Runs
 pub mod Seats

@@ -16,6 +16,7 @@ pub struct Clocked<V> {
 }
 
 /// The later of two clocks.
+#[inline]
 pub(crate) fn later(a: u64, b: u64) -> u64
     ensures { result ≡ later a b }
 {
@@ -23,6 +24,7 @@ pub(crate) fn later(a: u64, b: u64) -> u64
 }
 
 /// The clock after this one. After the greatest number comes 0.
+#[inline]
 pub(crate) fn tick(clock: u64) -> u64
     ensures { result ≡ next_clock clock }
 {
@@ -33,6 +35,7 @@ impl<V: Copy> Clocked<V> {
     ghost use Rattle.board_live.specs.Rising.{at_clock, greater, or_item, posted};
 
     /// What callers see of it.
+    #[inline]
     pub(crate) fn posted(self) -> Posted<V>
         ensures { result ≡ posted self }
     {
@@ -43,6 +46,7 @@ impl<V: Copy> Clocked<V> {
     }
 
     /// The other where its stamp is greater, else this one.
+    #[inline]
     pub(crate) fn or_greater(self, other: Clocked<V>) -> Clocked<V>
         ensures { result ≡ greater self other }
     {
@@ -54,6 +58,7 @@ impl<V: Copy> Clocked<V> {
     }
 
     /// The item under this stamp, or this record where there is none.
+    #[inline]
     pub(crate) fn or_item(self, stamp: Option<Stamp>, item: V) -> Clocked<V>
         ensures { result ≡ or_item self stamp item }
     {
@@ -68,6 +73,7 @@ impl<V: Copy> Clocked<V> {
     }
 
     /// This record at another clock.
+    #[inline]
     pub(crate) fn at(self, clock: u64) -> Clocked<V>
         ensures { result ≡ at_clock self clock }
     {

@@ -24,3 +24,6 @@ pub use lanes::{into_passes, make_lanes};
 pub use origin::{HasLog, Origin, check_origin};
 pub use posted::{Posted, RecordLaw};
 pub use tasks::run_tasks;
+
+#[cfg(test)]
+mod tests;

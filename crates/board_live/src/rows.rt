@@ -12,6 +12,7 @@ use crate::posted::RecordLaw;
 use cell_live::Calls;
 
 /// The process with this number among the others.
+#[inline]
 pub(crate) fn other(process: usize, k: usize) -> usize
     requires { k < 64 }
     ensures { result ≡ other process k }
@@ -20,6 +21,7 @@ pub(crate) fn other(process: usize, k: usize) -> usize
 }
 
 /// The number of a process among the others of this one.
+#[inline]
 pub(crate) fn seat(process: usize, of: usize) -> usize
     ensures { result ≡ seat process of }
 {
@@ -31,6 +33,7 @@ pub(crate) fn seat(process: usize, of: usize) -> usize
 }
 
 /// The cell that one process writes and another reads.
+#[inline]
 pub(crate) fn cell<V: RecordLaw, C: Calls<Clocked<V>>>(
     rows: &[Vec<C>],
     writer: usize,
@@ -48,6 +51,7 @@ pub(crate) fn cell<V: RecordLaw, C: Calls<Clocked<V>>>(
 
 /// Reads the column of a process. Gives the greatest of its own record and the answers, and the latest clock of these and of
 /// what it was told.
+#[inline]
 pub(crate) fn column<V: RecordLaw, C: Calls<Clocked<V>>>(
     rows: &[Vec<C>],
     process: usize,
@@ -82,6 +86,7 @@ pub(crate) fn column<V: RecordLaw, C: Calls<Clocked<V>>>(
 }
 
 /// Writes a record into the row of a process.
+#[inline]
 pub(crate) fn row<V: RecordLaw, C: Calls<Clocked<V>>>(
     rows: &[Vec<C>],
     process: usize,

@@ -12,6 +12,7 @@ use matrix_core::Stamp;
 
 impl<V: RecordLaw, C: Calls<Clocked<V>>> Board<V, C> {
     /// Gives the greatest of the process's own record and what its column answers, and hands it on.
+    #[inline]
     pub fn read(&self, pass: &mut Pass<V, C>) -> Posted<V>
         requires { IsPass self.now pass.old }
         ensures pass { IsPass self.now pass.new }
@@ -42,6 +43,7 @@ impl<V: RecordLaw, C: Calls<Clocked<V>>> Board<V, C> {
 
     /// Gives the item the next stamp above what the own record and the column have, and hands it on. Where the greatest tag seen
     /// isn't below the limit, hands on what was seen.
+    #[inline]
     pub fn write(&self, pass: &mut Pass<V, C>, item: V) -> Result<Stamp, TagsEnded<V>>
         requires pass { IsPass self.now pass.old }
         requires item { IsTrue (V.obeys item) }

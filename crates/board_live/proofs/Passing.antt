@@ -1,0 +1,33 @@
+-- One of the passes of a board is used, and they are the passes of the board as before.
+use Rattle.std.proofs.Common.{◌≡◌, ◌≢◌, ℕ, ◌<◌, List, length, set, refl, sym, subst, ◌∙◌, ap, ⊎_elim}
+use Rattle.std.specs.Prelude.{slice_get, Some}
+use Rattle.std.specs.declared.cmp.PartialEq.{Ghosts as EqWords}
+use Rattle.std.proofs.lemmas.Option.{slice_get_within}
+use Rattle.std.proofs.lemmas.List.{length-set}
+use Rattle.cell_live.specs.declared.cell.Calls.{Ghosts as CellWords}
+use Rattle.board_live.specs.declared.board.Board.{Board}
+use Rattle.board_live.specs.declared.board.Pass.{Pass}
+use Rattle.board_live.specs.declared.clocked.Clocked.{Clocked}
+use Rattle.board_live.specs.declared.posted.RecordLaw.{Ghosts as LawWords}
+use Rattle.board_live.specs.Boards.{IsPass}
+use Rattle.board_live.specs.Deals.{AllPasses}
+use Rattle.board_live.proofs.Steps.{same_or_not, get-set_same, get-set_other}
+
+module _ {V C P G T : Type 0} {law : LawWords V} {eq : EqWords V} {cells : CellWords C (Clocked V) P G T} where
+  pub all_set : (board : Board V C P G T law eq cells) (xs : List (Pass V C P G T law eq cells)) (k : ℕ) (p q : Pass V C P G T law eq cells)
+      → AllPasses board xs → slice_get xs k ≡ Some p → IsPass board q → q.process ≡ p.process → AllPasses board (set xs k q)
+  all_set board xs k p q h at is same = record {
+    all = length-set xs k q ∙ h.all;
+    processes = λ j r at_r. ⊎_elim
+        (λ e.
+        let r_is : r ≡ q = get-set_same xs k q r (subst (λ z. slice_get (set xs k q) z ≡ Some r) e at_r) (slice_get_within xs k p at) in
+        ap (λ z. z.process) r_is ∙ (same ∙ (h.processes k p at ∙ sym e)))
+        (λ ne. h.processes j r (get-set_other xs k j q r ne at_r))
+        (same_or_not j k);
+    of = λ j r at_r. ⊎_elim
+        (λ e.
+        let r_is : r ≡ q = get-set_same xs k q r (subst (λ z. slice_get (set xs k q) z ≡ Some r) e at_r) (slice_get_within xs k p at) in
+        subst (λ z. IsPass board z) (sym r_is) is)
+        (λ ne. h.of j r (get-set_other xs k j q r ne at_r))
+        (same_or_not j k);
+  }
