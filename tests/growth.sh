@@ -14,6 +14,7 @@ done
 is_refusal() {
     case $1 in
     fsr) [ "$status" = 4 ] && [ ! -s "$room/out" ] && [ "$(cat "$room/err")" = "fsr: out of memory" ] ;;
+    picture) [ "$status" = 4 ] && [ ! -s "$room/out" ] && [ "$(cat "$room/err")" = "picture: out of memory" ] ;;
     growths) [ "$status" = 0 ] && [ "$(cat "$room/out")" = "out of memory" ] && [ ! -s "$room/err" ] ;;
     esac
 }

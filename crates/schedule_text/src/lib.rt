@@ -20,6 +20,8 @@ mod text;
 
 pub use document::{DocError, Document, Want};
 pub use key::Key;
+pub use line::Line;
+pub use lines::{put_item, put_number, put_stamp};
 pub use read::{document_in, read_document, read_value};
 pub use report::Report;
 pub use text::report_text;

@@ -148,7 +148,7 @@ fn put_kind(line: &mut Line, kind: Kind)
 }
 
 #[tactic(auto, using(std::proofs::Common::append_assoc))]
-fn put_item(line: &mut Line, item: Option<Band>)
+pub fn put_item(line: &mut Line, item: Option<Band>)
     requires { length line.old + 70 ≤ 256 }
     ensures text { line.new ≡ item_text item ++ line.old }
     ensures len { length line.new ≤ length line.old + 70 }
@@ -168,7 +168,7 @@ fn put_item(line: &mut Line, item: Option<Band>)
 }
 
 /// A number, or a dash for none.
-fn put_number(line: &mut Line, number: Option<u64>)
+pub fn put_number(line: &mut Line, number: Option<u64>)
     requires { length line.old + 20 ≤ 256 }
     ensures text { line.new ≡ number_text number ++ line.old }
     ensures len { length line.new ≤ length line.old + 20 }
@@ -187,7 +187,7 @@ fn put_slot(line: &mut Line, slot: Option<u8>)
     put_number(line, slot.map(|slot| slot as u64))
 }
 
-fn put_stamp(line: &mut Line, stamp: Option<Stamp>)
+pub fn put_stamp(line: &mut Line, stamp: Option<Stamp>)
     requires { length line.old + 41 ≤ 256 }
     ensures text { line.new ≡ stamp_text stamp ++ line.old }
     ensures len { length line.new ≤ length line.old + 41 }

@@ -1,0 +1,31 @@
+//! `picture`: draws a history with an order of it, or the report of a schedule, that comes as a document on standard input.
+#![tactic(auto)]
+
+mod fault;
+mod reply;
+mod run;
+mod scenes;
+
+use crate::run::{NO_MEMORY, run};
+use std::io::ErrorKind;
+use std::process::ExitCode;
+use streams::{Over, tell};
+
+fn main(rt: HostRuntime) -> ExitCode {
+    let alloc = rt.alloc();
+    let mut faults = Over::new(rt.stderr());
+    let words = match std::env::args(&rt) {
+        Ok(all) => all.count(),
+        Err(e) => {
+            if e.kind() == ErrorKind::OutOfMemory {
+                tell(&mut faults, NO_MEMORY);
+                return ExitCode::from(4);
+            }
+            2
+        }
+    };
+    let mut input = Over::new(rt.stdin());
+    let mut out = Over::new(rt.stdout());
+    let status = run(alloc, words <= 1, &mut input, &mut out, &mut faults);
+    ExitCode::from(status)
+}

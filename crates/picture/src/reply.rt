@@ -1,0 +1,96 @@
+ghost use Rattle.std.specs.Prelude.{◌≡◌, IfOk};
+ghost use Rattle.matrix_core.specs.Runs.{CanPlay};
+ghost use Rattle.schedule_text.specs.Players.{CanBePlayed};
+ghost use Rattle.schedule_text.specs.Refusals.{Gives as Reads};
+ghost use Rattle.serde_json.specs.View.{view};
+ghost use Rattle.picture.specs.Answers.{AnswersCell, AnswersCheck, AnswersMatrix, document_of, drawn, Gives, IsAnswer, shown_in, status_of};
+
+use crate::fault::{Answer, Fault};
+use crate::scenes::{cell_scene, check_scene, matrix_scene};
+use fourslot_core::{CellSchedule, play_cell};
+use history_core::{Band, Break, History, Items};
+use matrix_core::{MatrixSchedule, play_matrix};
+use picture_text::{Scene, picture_text};
+use schedule_text::{DocError, Document, Want, document_in, read_value};
+use serde_json::Value;
+use std::alloc::{AllocError, Global};
+use std::mem::forget;
+
+/// The picture of the document that the bytes stand for.
+pub fn answer(alloc: Global, bytes: &[u8]) -> Result<Answer, Fault>
+    ensures { Gives (IsAnswer bytes.now) result }
+{
+    match read(alloc, bytes)? {
+        Document::Check { history, order } => check(alloc, history, order),
+        Document::Cell(schedule) => cell(alloc, &schedule),
+        Document::Matrix { schedule, .. } => matrix(alloc, &schedule),
+    }
+}
+
+/// The document that the bytes stand for. The JSON value that they are is left unfreed: a run reads one document and ends, and
+/// the value goes with the process.
+#[tactic(auto, unfolding(crate::specs::Answers::document_of))]
+fn read(alloc: Global, bytes: &[u8]) -> Result<Document, DocError>
+    ensures document { Reads (λ d. d) result (document_of bytes.now) }
+    ensures playable { IfOk result CanBePlayed }
+{
+    let value = read_value(alloc, bytes)?;
+    let document = shown_in(alloc, &value);
+    forget(value);
+    document
+}
+
+fn shown_in(alloc: Global, value: &Value) -> Result<Document, DocError>
+    ensures document { Reads (λ d. d) result (shown_in (view value.now)) }
+    ensures playable { IfOk result CanBePlayed }
+{
+    match document_in(alloc, Want::Check, value) {
+        Err(DocError::Kind) => document_in(alloc, Want::Play, value),
+        read => read,
+    }
+}
+
+fn check(alloc: Global, history: History<Band>, order: Items<usize>) -> Result<Answer, Fault>
+    ensures { Gives (AnswersCheck history order) result }
+{
+    let scene = check_scene(alloc, history, order)?;
+    let answer = draw(alloc, &scene)?;
+    Ok(answer)
+}
+
+fn cell(alloc: Global, schedule: &CellSchedule<Band>) -> Result<Answer, Fault>
+    ensures { Gives (AnswersCell schedule.now) result }
+{
+    let report = play_cell(alloc, schedule)?;
+    let scene = cell_scene(alloc, schedule, report)?;
+    let answer = draw(alloc, &scene)?;
+    Ok(answer)
+}
+
+fn matrix(alloc: Global, schedule: &MatrixSchedule<Band>) -> Result<Answer, Fault>
+    requires { CanPlay schedule.now.terms }
+    ensures { Gives (AnswersMatrix schedule.now) result }
+{
+    let report = play_matrix(alloc, schedule)?;
+    let scene = matrix_scene(alloc, report)?;
+    let answer = draw(alloc, &scene)?;
+    Ok(answer)
+}
+
+/// The picture of a scene, with its status.
+fn draw(alloc: Global, scene: &Scene) -> Result<Answer, AllocError>
+    ensures { IfOk result (λ answer. answer ≡ drawn scene.now) }
+{
+    let status = status_of(scene.broken);
+    let text = Items::new(picture_text(alloc, scene)?);
+    Ok(Answer { text, status })
+}
+
+fn status_of(broken: Option<Break>) -> u8
+    ensures { result ≡ status_of broken }
+{
+    match broken {
+        Some(_) => 1,
+        None => 0,
+    }
+}

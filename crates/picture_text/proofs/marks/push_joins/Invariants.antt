@@ -1,0 +1,7 @@
+-- Each turn moves one entry from those that are left to those that are joined, so both together stay the same.
+use Rattle.std.proofs.Common.{◌≡◌, ◌++◌, None, drop}
+use Rattle.picture_text.specs.Picture.{joins_text}
+use Rattle.picture_text.proofs.marks.push_joins.Given as goal
+
+abbrev pub invariant-loop-n : goal.invariant-loop-n
+invariant-loop-n l = l.text.items ++ joins_text l.scale l.ops l.points l.n l.write (drop l.n l.order) ≡ l.initial.text.items ++ joins_text l.scale l.ops l.points 0 None l.order

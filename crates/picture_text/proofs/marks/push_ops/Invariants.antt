@@ -1,0 +1,7 @@
+-- Each turn moves one operation from those that are left to those that are drawn, so both together stay the same.
+use Rattle.std.proofs.Common.{◌≡◌, ◌++◌, drop}
+use Rattle.picture_text.specs.Picture.{ops_text}
+use Rattle.picture_text.proofs.marks.push_ops.Given as goal
+
+abbrev pub invariant-loop-place : goal.invariant-loop-place
+invariant-loop-place l = l.text.items ++ ops_text l.scale l.stamps l.place (drop l.place l.ops) ≡ l.initial.text.items ++ ops_text l.scale l.stamps 0 l.ops

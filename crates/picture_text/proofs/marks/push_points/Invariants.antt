@@ -1,0 +1,7 @@
+-- Each turn moves one entry from those that are left to those that have their point, so both together stay the same.
+use Rattle.std.proofs.Common.{◌≡◌, ◌++◌, drop}
+use Rattle.picture_text.specs.Picture.{points_text}
+use Rattle.picture_text.proofs.marks.push_points.Given as goal
+
+abbrev pub invariant-loop-n : goal.invariant-loop-n
+invariant-loop-n l = l.text.items ++ points_text l.scale l.ops l.points l.n (drop l.n l.order) ≡ l.initial.text.items ++ points_text l.scale l.ops l.points 0 l.order

@@ -1,0 +1,5 @@
+pub mod Looks
+pub mod Picture
+pub mod Scales
+pub mod Shapes
+pub mod Visits

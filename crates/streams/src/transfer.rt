@@ -1,0 +1,83 @@
+ghost use Rattle.std.specs.Prelude.{◌≡◌, ◌<◌, ◌≤◌, ◌+◌, List, ℕ, length, OnOk, OnErr};
+ghost use Rattle.std.specs.Io.{StartsWith};
+ghost use Rattle.std.specs.Io.KnownBytes.{Appends};
+ghost use Rattle.streams.specs.Stream.{Counts, HasRoom};
+ghost use Rattle.streams.specs.Transfer.{CountsFailure, most_taken, Takes, TakesMore, Tells};
+
+use crate::stream::{Failed, Sink, Source};
+use std::alloc::{AllocError, Global};
+
+/// One byte more than the longest document has.
+const MOST_TAKEN: usize = 1_048_577;
+
+/// How many bytes of the input are asked for at once.
+const CHUNK: usize = 4096;
+
+/// Why the input was not read.
+#[derive(Clone, Copy, Debug, PartialEq, Eq)]
+pub enum InputFault {
+    Failed,
+    NoMemory,
+}
+
+/// Reads the input to its end, or as far as a run reads.
+pub fn read_input<I: Source>(alloc: Global, input: &mut I) -> Result<Vec<u8>, InputFault>
+    requires { HasRoom (I.failed input.old) }
+    ensures taken { Takes (I.remaining input.old) (I.remaining input.new) result }
+    ensures counts { CountsFailure (I.failed input.old) (I.failed input.new) result }
+{
+    let mut bytes = Vec::new(alloc);
+    'input: while bytes.len() < MOST_TAKEN {
+        match take_more(input, &mut bytes) {
+            Ok(0) => break,
+            Ok(_) => {}
+            Err(fault) => return Err(fault),
+        }
+    }
+    Ok(bytes)
+}
+
+/// Takes the next piece of the input, and adds it to the bytes. The count is 0 at the end alone.
+fn take_more<I: Source>(input: &mut I, bytes: &mut Vec<u8>) -> Result<usize, InputFault>
+    requires room { HasRoom (I.failed input.old) }
+    requires short { length bytes.old.items < most_taken }
+    ensures more { TakesMore (I.remaining input.old) (I.remaining input.new) bytes.old.items bytes.new.items result }
+    ensures counts { CountsFailure (I.failed input.old) (I.failed input.new) result }
+{
+    let mut chunk = [0u8; CHUNK];
+    let room = (MOST_TAKEN - bytes.len()).min(CHUNK);
+    match input.take(&mut chunk[..room]) {
+        Ok(count) => match bytes.extend_from_slice(&chunk[..count]) {
+            Ok(()) => Ok(count),
+            Err(AllocError) => Err(InputFault::NoMemory),
+        },
+        Err(Failed) => Err(InputFault::Failed),
+    }
+}
+
+/// Writes all of the bytes, piece by piece.
+pub fn write_text<O: Sink>(out: &mut O, text: &[u8]) -> Result<(), Failed>
+    requires { HasRoom (O.failed out.old) }
+    ensures ok { OnOk result (Appends (O.contents out.old) (O.contents out.new) text.now) }
+    ensures err { OnErr result ((sent : List ℕ) × StartsWith text.now sent
+        × Appends (O.contents out.old) (O.contents out.new) sent) }
+    ensures counts { Counts (O.failed out.old) (O.failed out.new) result }
+{
+    let mut done = 0;
+    'pieces: while done < text.len() {
+        match out.put(&text[done..]) {
+            Ok(n) => done += n,
+            Err(failed) => return Err(failed),
+        }
+    }
+    Ok(())
+}
+
+/// Tells a line. A failure changes nothing else.
+pub fn tell<E: Sink>(faults: &mut E, line: &str)
+    requires { HasRoom (E.failed faults.old) }
+    ensures told { Tells (E.contents faults.old) (E.contents faults.new) (E.failed faults.old) (E.failed faults.new) line.now }
+    ensures once { E.failed faults.new ≤ E.failed faults.old + 1 }
+{
+    let _ = write_text(faults, line.as_bytes());
+}

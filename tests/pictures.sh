@@ -1,0 +1,51 @@
+# Pictures: those of docs/pictures against what `picture` draws of the documents of examples/ with their names; that the picture of
+# every report is well-formed XML, by python3's parser on some hundreds of documents; and each request for memory refused in turn.
+
+for file in docs/pictures/*.svg; do
+    name=${file##*/}
+    document=examples/${name%.svg}.json
+    if ! has_program picture; then
+        fail "$file" "picture wasn't built"
+        continue
+    fi
+    wanted=0
+    [ -f "examples/${name%.svg}.status" ] && wanted=$(cat "examples/${name%.svg}.status")
+    crates/picture/out/picture <"$document" >"$room/out" 2>"$room/err"
+    status=$?
+    if [ "$status" != "$wanted" ]; then
+        fail "$file" "the picture of $document ended with status $status and not $wanted"
+    elif ! cmp -s "$room/out" "$file"; then
+        fail "$file" "it isn't what is drawn of $document"
+    else
+        pass "$file"
+    fi
+done
+
+# What has no picture: the status and the line are those of `fsr`, under the name of the program.
+for name in no_limit too_many_steps; do
+    sed 's/^fsr: /picture: /' "examples/$name.txt" >"$room/wanted_line"
+    crates/picture/out/picture <"examples/$name.json" >"$room/out" 2>"$room/err"
+    status=$?
+    if [ "$status" != "$(cat "examples/$name.status")" ] || [ -s "$room/out" ] || ! cmp -s "$room/err" "$room/wanted_line"; then
+        fail "picture < examples/$name.json" "status $status: $(head -c 200 "$room/err")"
+    else
+        pass "picture < examples/$name.json"
+    fi
+done
+
+if ! command -v python3 >/dev/null 2>&1; then
+    fail "pictures are well-formed XML" "there is no python3"
+elif python3 tests/pictures.py crates/picture/out/picture examples/*.json >"$room/out" 2>&1; then
+    pass "pictures are well-formed XML ($(tail -n 1 "$room/out"))"
+else
+    fail "pictures are well-formed XML" "$(tail -n 1 "$room/out")"
+fi
+
+if [ -e "$room/refuse.so" ]; then
+    wanted_status=0
+    : >"$room/wanted_line"
+    for name in lawful cell matrix; do
+        crates/picture/out/picture <"examples/$name.json" >"$room/wanted" 2>/dev/null
+        refuse_each picture "examples/$name.json"
+    done
+fi
