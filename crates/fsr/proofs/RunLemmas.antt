@@ -7,7 +7,7 @@ use Rattle.std.specs.Io.KnownBytes.{Appends}
 use Rattle.history_core.specs.declared.history.Verdict.{Verdict}
 use Rattle.history_core.specs.declared.history.Verdict.TheVariants.{Lawful, Listing, Precedence, Reading, Limit}
 use Rattle.schedule_text.specs.declared.document.Document.{Document}
-use Rattle.schedule_text.specs.declared.document.Document.TheVariants.{Check, Cell, Matrix}
+use Rattle.schedule_text.specs.declared.document.Document.TheVariants.{Check, Cell, Matrix, Board}
 use Rattle.schedule_text.specs.declared.document.DocError.{DocError}
 use Rattle.schedule_text.specs.declared.document.Want.{Want}
 use Rattle.schedule_text.specs.Document.{document_of}
@@ -105,6 +105,7 @@ status_is_low (Ok (Check history order)) a answered =
     rw same (verdict_is_low answered.0)
 status_is_low (Ok (Cell schedule)) a answered = let same : a.status ≡ 0 = ap (λ b. b.status) answered.2 in omega (arith, same)
 status_is_low (Ok (Matrix schedule titled)) a answered = let same : a.status ≡ 0 = ap (λ b. b.status) answered.3 in omega (arith, same)
+status_is_low (Ok (Board schedule titled)) a answered = let same : a.status ≡ 0 = ap (λ b. b.status) answered.3 in omega (arith, same)
 status_is_low (Err refusal) a answered = absurd (cc)
 
 -- the text went out whole

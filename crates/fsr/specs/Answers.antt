@@ -3,20 +3,23 @@ use Rattle.std.specs.Prelude.{◌≡◌, ◌≢◌, ℕ, Bool, List, [], ◌∷�
 use Rattle.fourslot_core.specs.declared.schedule.CellReport.{CellReport}
 use Rattle.fourslot_core.specs.declared.schedule.CellSchedule.{CellSchedule}
 use Rattle.history_core.specs.Orders.{IsVerdict}
-use Rattle.history_core.specs.Schedules.{HasOperations, IsFirstOverrun}
+use Rattle.history_core.specs.Schedules.{HasOperations, IsFirstOverrun, Span}
 use Rattle.history_core.specs.declared.history.History.{History}
 use Rattle.history_core.specs.declared.history.Verdict.{Verdict}
 use Rattle.history_core.specs.declared.history.Verdict.TheVariants.{Lawful, Listing, Precedence, Reading, Limit}
 use Rattle.history_core.specs.declared.band.Band.{Band}
+use Rattle.matrix_core.specs.BoardReports.{IsBoardReport, board_spans}
 use Rattle.matrix_core.specs.Listings.{IsMatrixReport}
 use Rattle.matrix_core.specs.Runs.{spans_of}
+use Rattle.matrix_core.specs.declared.schedule.BoardReport.{BoardReport}
+use Rattle.matrix_core.specs.declared.schedule.BoardSchedule.{BoardSchedule}
 use Rattle.matrix_core.specs.declared.schedule.MatrixReport.{MatrixReport}
 use Rattle.matrix_core.specs.declared.schedule.MatrixSchedule.{MatrixSchedule}
 use Rattle.schedule_text.specs.Document.{document_of}
 use Rattle.schedule_text.specs.Text.{text_of}
 use Rattle.schedule_text.specs.declared.document.Want.{Want}
 use Rattle.schedule_text.specs.declared.document.Document.{Document}
-use Rattle.schedule_text.specs.declared.document.Document.TheVariants.{Check, Cell, Matrix}
+use Rattle.schedule_text.specs.declared.document.Document.TheVariants.{Check, Cell, Matrix, Board}
 use Rattle.schedule_text.specs.declared.document.DocError.{DocError}
 use Rattle.schedule_text.specs.declared.report.Report.{Report}
 use Rattle.schedule_text.specs.declared.report.Report.TheVariants as report
@@ -55,20 +58,27 @@ AnswersCell schedule (Err (fault.Document refusal)) = ⊥
 AnswersCell schedule (Err (fault.Schedule position)) = IsFirstOverrun (cell_span schedule ∷ []) position
 AnswersCell schedule (Err fault.NoMemory) = ⊥
 
--- the answer to the schedule of a matrix, likewise; titled, where its terms are told
+-- the answer to a schedule with these spans, likewise: the text of a report that is made as it should be
+abbrev pub AnswersTerms : {Made : Type 0} → List (Span Band) → (Made → Type 0) → (Made → Report) → Result Answer Fault → Type 0
+AnswersTerms {Made} spans IsMade told (Ok answer) = (r : Made) × HasOperations spans × IsMade r × (answer ≡ printed (told r) 0)
+AnswersTerms spans IsMade told (Err (fault.Document refusal)) = ⊥
+AnswersTerms spans IsMade told (Err (fault.Schedule position)) = IsFirstOverrun spans position
+AnswersTerms spans IsMade told (Err fault.NoMemory) = ⊥
+
+-- the answer to the schedule of a matrix; titled, where its terms are told
 abbrev pub AnswersMatrix : MatrixSchedule Band → Bool → Result Answer Fault → Type 0
-AnswersMatrix schedule titled (Ok answer) =
-    (r : MatrixReport Band) × HasOperations (spans_of schedule.terms) × IsMatrixReport schedule r
-    × (answer ≡ printed (report.Matrix r titled) 0)
-AnswersMatrix schedule titled (Err (fault.Document refusal)) = ⊥
-AnswersMatrix schedule titled (Err (fault.Schedule position)) = IsFirstOverrun (spans_of schedule.terms) position
-AnswersMatrix schedule titled (Err fault.NoMemory) = ⊥
+AnswersMatrix schedule titled reply = AnswersTerms (spans_of schedule.terms) (IsMatrixReport schedule) (λ r. report.Matrix r titled) reply
+
+-- the answer to the schedule of a composed board
+abbrev pub AnswersBoard : BoardSchedule Band → Bool → Result Answer Fault → Type 0
+AnswersBoard schedule titled reply = AnswersTerms (board_spans schedule.terms) (IsBoardReport schedule) (λ r. report.Board r titled) reply
 
 -- the answer to what a document stands for
 abbrev pub Answers : Document → Result Answer Fault → Type 0
 Answers (Check history order) reply = AnswersCheck history order reply
 Answers (Cell schedule) reply = AnswersCell schedule reply
 Answers (Matrix schedule titled) reply = AnswersMatrix schedule titled reply
+Answers (Board schedule titled) reply = AnswersBoard schedule titled reply
 
 -- the same where a document may be refused, which is the fault then
 abbrev pub AnswersReading : Result Document DocError → Result Answer Fault → Type 0

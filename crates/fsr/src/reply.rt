@@ -3,12 +3,12 @@ ghost use Rattle.matrix_core.specs.Runs.{CanPlay};
 ghost use Rattle.schedule_text.specs.Document.{document_of};
 ghost use Rattle.schedule_text.specs.Players.{CanBePlayed};
 ghost use Rattle.schedule_text.specs.Refusals.{Gives as Reads};
-ghost use Rattle.fsr.specs.Answers.{AnswersCell, AnswersCheck, AnswersMatrix, Gives, IsAnswer, printed, status_of};
+ghost use Rattle.fsr.specs.Answers.{AnswersBoard, AnswersCell, AnswersCheck, AnswersMatrix, Gives, IsAnswer, printed, status_of};
 
 use crate::fault::{Answer, Fault};
 use fourslot_core::{CellSchedule, play_cell};
 use history_core::{Band, History, Items, Verdict, check_order};
-use matrix_core::{MatrixSchedule, play_matrix};
+use matrix_core::{BoardSchedule, MatrixSchedule, play_board, play_matrix};
 use schedule_text::{DocError, Document, Report, Want, document_in, read_value, report_text};
 use std::alloc::{AllocError, Global};
 use std::mem::forget;
@@ -21,6 +21,7 @@ pub fn answer(alloc: Global, want: Want, bytes: &[u8]) -> Result<Answer, Fault>
         Document::Check { history, order } => check(alloc, &history, &order),
         Document::Cell(schedule) => cell(alloc, &schedule),
         Document::Matrix { schedule, titled } => matrix(alloc, &schedule, titled),
+        Document::Board { schedule, titled } => board(alloc, &schedule, titled),
     }
 }
 
@@ -62,6 +63,16 @@ fn matrix(alloc: Global, schedule: &MatrixSchedule<Band>, titled: bool) -> Resul
 {
     let report = play_matrix(alloc, schedule)?;
     let answer = print(alloc, &Report::Matrix { report, titled }, 0)?;
+    Ok(answer)
+}
+
+/// The report of a composed board's schedule, likewise.
+fn board(alloc: Global, schedule: &BoardSchedule<Band>, titled: bool) -> Result<Answer, Fault>
+    requires { CanPlay schedule.now.terms }
+    ensures { Gives (AnswersBoard schedule.now titled) result }
+{
+    let report = play_board(alloc, schedule)?;
+    let answer = print(alloc, &Report::Board { report, titled }, 0)?;
     Ok(answer)
 }
 

@@ -1,3 +1,4 @@
+mod boards;
 mod cells;
 mod long;
 mod matrices;

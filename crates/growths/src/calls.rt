@@ -2,7 +2,7 @@ use crate::documents::{Stopped, document};
 use crate::print;
 use fourslot_core::play_cell;
 use history_core::Verdict;
-use matrix_core::{MatrixCore, play_matrix};
+use matrix_core::{MatrixCore, play_board, play_matrix};
 use schedule_text::{Document, Report, report_text};
 use std::alloc::Global;
 use std::io;
@@ -18,6 +18,7 @@ pub fn play(rt: &impl Print, alloc: Global, on: &str) -> io::Result<()> {
     match played(alloc, on) {
         Ok(Report::Cell(report)) => print::cell_report(rt, &report),
         Ok(Report::Matrix { report, .. }) => print::matrix_report(rt, &report),
+        Ok(Report::Board { report, .. }) => print::board_report(rt, &report),
         Ok(Report::Verdict(verdict)) => println!(rt; "{verdict:?}"),
         Err(why) => print::stopped(rt, why),
     }
@@ -57,6 +58,10 @@ fn played(alloc: Global, on: &str) -> Result<Report, Stopped> {
         Document::Matrix { schedule, titled } => {
             let report = play_matrix(alloc, &schedule)?;
             Ok(Report::Matrix { report, titled })
+        }
+        Document::Board { schedule, titled } => {
+            let report = play_board(alloc, &schedule)?;
+            Ok(Report::Board { report, titled })
         }
     }
 }

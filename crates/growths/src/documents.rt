@@ -33,6 +33,14 @@ const REFUSED: &str =
 const TERMS: &str =
     r#"{"kind":"matrix","opening":[0,0,0],"terms":[{"limit":1,"plans":[[[1,1,1]],[]],"steps":[0,0]},{"limit":1,"plans":[[],[[2,2,2]]],"steps":[1,1]}]}"#;
 
+/// A write over a composed board, and then a read.
+const BOARD: &str =
+    r#"{"kind":"board","opening":[0,0,0],"noise":[9,8,7],"limit":9,"plans":[[[1,1,1]],["read"]],"steps":[0,0,0,0,0,0,0,0,0,0,1,1,1,1,1,1,1,1,1,1]}"#;
+
+/// A term of one write over a composed board, and then one of another.
+const BOARD_TERMS: &str =
+    r#"{"kind":"board","opening":[0,0,0],"noise":[9,8,7],"terms":[{"limit":1,"plans":[[[1,1,1]],[]],"steps":[0,0,0,0,0,0,0,0,0,0]},{"limit":1,"plans":[[],[[2,2,2]]],"steps":[1,1,1,1,1,1,1,1,1,1]}]}"#;
+
 /// Why a call has no answer.
 #[derive(Clone, Copy, Debug, PartialEq, Eq)]
 pub enum Stopped {
@@ -61,6 +69,8 @@ pub fn document(alloc: Global, name: &str) -> Result<Document, Stopped>
         "handed_on" => (Want::Play, HANDED_ON),
         "refused" => (Want::Play, REFUSED),
         "terms" => (Want::Play, TERMS),
+        "board" => (Want::Play, BOARD),
+        "board_terms" => (Want::Play, BOARD_TERMS),
         _ => return Err(Stopped::NoSuchCall),
     };
     match read_document(alloc, want, text.as_bytes()) {

@@ -33,7 +33,7 @@ fn make(rt: &impl Print, alloc: Global, call: &str, on: &str) -> io::Result<()> 
     match call {
         "read_document" => calls::read(rt, alloc, on),
         "report_text" => calls::text(rt, alloc, on),
-        "play_cell" | "play_matrix" => calls::play(rt, alloc, on),
+        "play_cell" | "play_matrix" | "play_board" => calls::play(rt, alloc, on),
         "new_matrix" => calls::new_matrix(rt, alloc, on),
         "make_cell" => cells::make(rt, alloc, on),
         _ => print::stopped(rt, Stopped::NoSuchCall),

@@ -1,7 +1,7 @@
 use crate::documents::Stopped;
 use fourslot_core::CellReport;
 use history_core::{Band, History};
-use matrix_core::MatrixReport;
+use matrix_core::{BoardReport, MatrixReport, MatrixTerm};
 use schedule_text::Document;
 use std::io;
 
@@ -28,16 +28,26 @@ pub fn document(rt: &impl Print, document: &Document) -> io::Result<()> {
         }
         Document::Matrix { schedule, titled } => {
             println!(rt; "{:?}", schedule.opening)?;
-            for term in schedule.terms.as_slice() {
-                print!(rt; "{}", term.limit)?;
-                for plan in term.plans.as_slice() {
-                    print!(rt; " {:?}", plan.as_slice())?;
-                }
-                println!(rt; " {:?}", term.steps.as_slice())?;
-            }
+            terms(rt, schedule.terms.as_slice())?;
+            println!(rt; "{titled}")
+        }
+        Document::Board { schedule, titled } => {
+            println!(rt; "{:?} {:?}", schedule.opening, schedule.noise)?;
+            terms(rt, schedule.terms.as_slice())?;
             println!(rt; "{titled}")
         }
     }
+}
+
+fn terms(rt: &impl Print, terms: &[MatrixTerm<Band>]) -> io::Result<()> {
+    for term in terms {
+        print!(rt; "{}", term.limit)?;
+        for plan in term.plans.as_slice() {
+            print!(rt; " {:?}", plan.as_slice())?;
+        }
+        println!(rt; " {:?}", term.steps.as_slice())?;
+    }
+    Ok(())
 }
 
 pub fn cell_report(rt: &impl Print, report: &CellReport<Band>) -> io::Result<()> {
@@ -49,6 +59,15 @@ pub fn cell_report(rt: &impl Print, report: &CellReport<Band>) -> io::Result<()>
 pub fn matrix_report(rt: &impl Print, report: &MatrixReport<Band>) -> io::Result<()> {
     history(rt, &report.history)?;
     println!(rt; "{:?}", report.stamps.as_slice())?;
+    println!(rt; "{:?}", report.order.as_slice())
+}
+
+pub fn board_report(rt: &impl Print, report: &BoardReport<Band>) -> io::Result<()> {
+    history(rt, &report.history)?;
+    println!(rt; "{:?}", report.stamps.as_slice())?;
+    for slots in report.slots.as_slice() {
+        println!(rt; "{:?}", slots.as_slice())?;
+    }
     println!(rt; "{:?}", report.order.as_slice())
 }
 

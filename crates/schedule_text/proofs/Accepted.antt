@@ -8,7 +8,7 @@ use Rattle.history_core.specs.declared.band.Band.{Band}
 use Rattle.history_core.specs.declared.play.Wish.{Wish}
 use Rattle.matrix_core.specs.Runs.{CanPlay, IsTerm, step_count}
 use Rattle.matrix_core.specs.declared.schedule.MatrixTerm.{MatrixTerm}
-use Rattle.schedule_text.specs.Matrix.{single}
+use Rattle.schedule_text.specs.Terms.{single}
 use Rattle.schedule_text.specs.Plans.{are_of, plans_in_range, term_in_range, terms_in_range}
 use Rattle.schedule_text.specs.Ranges.{limit_in_range}
 use Rattle.schedule_text.specs.Refusals.{must}

@@ -11,6 +11,7 @@ use Rattle.schedule_text.specs.declared.document.DocError.{DocError}
 use Rattle.schedule_text.specs.declared.document.DocError.TheVariants.{Long, NotJson, Kind}
 use Rattle.schedule_text.specs.declared.document.Want.{Want}
 use Rattle.schedule_text.specs.declared.document.Want.TheVariants.{Check, Play}
+use Rattle.schedule_text.specs.Board.{board_in}
 use Rattle.schedule_text.specs.Cell.{cell_in}
 use Rattle.schedule_text.specs.Check.{check_in}
 use Rattle.schedule_text.specs.Matrix.{matrix_in}
@@ -38,7 +39,11 @@ is_kind name d = option_map_or (bytes_eq name) (kind_in d) false
 -- a document of a kind that the command takes
 abbrev pub document_in : Want → Data → Result Document DocError
 document_in Check d = if is_kind (codes "check") d then check_in d else Err Kind
-document_in Play d = if is_kind (codes "cell") d then cell_in d else (if is_kind (codes "matrix") d then matrix_in d else Err Kind)
+document_in Play d =
+    if is_kind (codes "cell") d then cell_in d
+    else (if is_kind (codes "matrix") d then matrix_in d
+    else (if is_kind (codes "board") d then board_in d
+    else Err Kind))
 
 unfoldable pub document_of : Want → List ℕ → Result Document DocError
 document_of want bytes = do

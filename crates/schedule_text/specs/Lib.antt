@@ -1,3 +1,4 @@
+pub mod Board
 pub mod Cell
 pub mod Check
 pub mod Document
@@ -8,4 +9,5 @@ pub mod Players
 pub mod Ranges
 pub mod Refusals
 pub mod Shapes
+pub mod Terms
 pub mod Text

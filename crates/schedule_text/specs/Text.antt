@@ -1,19 +1,21 @@
 -- The printed lines of a report (this project's own).
-use Rattle.std.specs.Prelude.{ℕ, ◌+◌, ◌++◌, List, [], ◌∷◌, take, drop, codes, Bool, true, false, Option, Some, None, slice_get, option_and_then}
+use Rattle.std.specs.Prelude.{ℕ, ◌+◌, ◌++◌, List, [], ◌∷◌, take, drop, codes, Bool, true, false, Option, Some, None, slice_get, option_and_then, unwrap_or}
 use Rattle.std.specs.Fmt.{decimal}
 use Rattle.std.specs.List.{flat_map}
 use Rattle.fourslot_core.specs.declared.schedule.CellReport.{CellReport}
 use Rattle.history_core.specs.declared.band.Band.{Band}
+use Rattle.history_core.specs.declared.history.History.{History}
 use Rattle.history_core.specs.declared.history.Kind.{Kind}
 use Rattle.history_core.specs.declared.history.Kind.TheVariants.{Write, Read, Refused}
 use Rattle.history_core.specs.declared.history.Op.{Op}
 use Rattle.history_core.specs.declared.history.Term.{Term}
 use Rattle.history_core.specs.declared.history.Verdict as verdict
 use Rattle.history_core.specs.declared.history.Verdict.TheVariants.{Lawful, Listing, Precedence, Reading, Limit}
+use Rattle.matrix_core.specs.declared.schedule.BoardReport.{BoardReport}
 use Rattle.matrix_core.specs.declared.schedule.MatrixReport.{MatrixReport}
 use Rattle.matrix_core.specs.declared.stamp.Stamp.{Stamp}
 use Rattle.schedule_text.specs.declared.report.Report.{Report}
-use Rattle.schedule_text.specs.declared.report.Report.TheVariants.{Verdict, Cell, Matrix}
+use Rattle.schedule_text.specs.declared.report.Report.TheVariants.{Verdict, Cell, Matrix, Board}
 
 abbrev pub line_feed : ℕ
 line_feed = 10
@@ -71,6 +73,11 @@ abbrev pub titled_lines : (ℕ → List ℕ) → List (Op Band) → ℕ → ℕ 
 titled_lines mark ops number place [] = lines_from mark ops place
 titled_lines mark ops number place (term ∷ terms) = lines_from mark (take term.first ops) place ++ term_line number ++ titled_lines mark ops (number + 1) term.first terms
 
+-- the lines of the operations of a history; titled, those of its terms between them
+abbrev pub history_lines : (ℕ → List ℕ) → History Band → Bool → List ℕ
+history_lines mark history false = op_lines mark 0 history.ops
+history_lines mark history true = titled_lines mark history.ops 1 0 history.terms
+
 abbrev pub order_text : List ℕ → List ℕ
 order_text order = codes "order:" ++ flat_map (λ place. codes " " ++ decimal place) order ++ line_feed ∷ []
 
@@ -82,7 +89,7 @@ abbrev pub slot_mark : List (Option ℕ) → ℕ → List ℕ
 slot_mark slots place = codes "slot " ++ number_text (entry_at slots place)
 
 abbrev pub cell_text : CellReport Band → List ℕ
-cell_text r = op_lines (slot_mark r.slots) 0 r.history.ops ++ order_text r.order
+cell_text r = history_lines (slot_mark r.slots) r.history false ++ order_text r.order
 
 -- tag and writer, or a dash for none
 abbrev pub stamp_text : Option Stamp → List ℕ
@@ -92,11 +99,25 @@ stamp_text (Some s) = decimal s.tag ++ codes "." ++ decimal s.writer
 abbrev pub stamp_mark : List (Option Stamp) → ℕ → List ℕ
 stamp_mark stamps place = codes "stamp " ++ stamp_text (entry_at stamps place)
 
+-- the slots of the operation at a place, if it has any
+abbrev pub slots_at : List (List (Option ℕ)) → ℕ → List (Option ℕ)
+slots_at slots place = unwrap_or (slice_get slots place) []
+
+abbrev pub slots_text : List (Option ℕ) → List ℕ
+slots_text slots = flat_map (λ slot. codes " " ++ number_text slot) slots
+
+-- the stamp, and the slot of each access
+unfoldable pub board_mark : List (Option Stamp) → List (List (Option ℕ)) → ℕ → List ℕ
+board_mark stamps slots place = stamp_mark stamps place ++ codes ", slots" ++ slots_text (slots_at slots place)
+
 abbrev pub matrix_text : MatrixReport Band → Bool → List ℕ
-matrix_text r false = op_lines (stamp_mark r.stamps) 0 r.history.ops ++ order_text r.order
-matrix_text r true = titled_lines (stamp_mark r.stamps) r.history.ops 1 0 r.history.terms ++ order_text r.order
+matrix_text r titled = history_lines (stamp_mark r.stamps) r.history titled ++ order_text r.order
+
+abbrev pub board_text : BoardReport Band → Bool → List ℕ
+board_text r titled = history_lines (board_mark r.stamps r.slots) r.history titled ++ order_text r.order
 
 abbrev pub text_of : Report → List ℕ
 text_of (Verdict v) = verdict_text v
 text_of (Cell r) = cell_text r
 text_of (Matrix r titled) = matrix_text r titled
+text_of (Board r titled) = board_text r titled

@@ -4,7 +4,7 @@ ghost use Rattle.schedule_text.specs.declared.document.DocError.TheVariants.{NoM
 use crate::Key;
 use fourslot_core::CellSchedule;
 use history_core::{Band, History, Items};
-use matrix_core::MatrixSchedule;
+use matrix_core::{BoardSchedule, MatrixSchedule};
 use std::alloc::AllocError;
 use thiserror::Error;
 
@@ -28,6 +28,11 @@ pub enum Document {
     /// A schedule of a matrix; titled where its terms stand under the key `terms`.
     Matrix {
         schedule: MatrixSchedule<Band>,
+        titled: bool,
+    },
+    /// A schedule of a composed board, likewise.
+    Board {
+        schedule: BoardSchedule<Band>,
         titled: bool,
     },
 }

@@ -1,6 +1,7 @@
 //! The documents that `fsr` reads and the reports that it prints: JSON text to values, and values to lines.
 #![tactic(auto)]
 
+mod board;
 mod cell;
 mod check;
 mod document;
@@ -14,6 +15,7 @@ mod ranges;
 mod read;
 mod report;
 mod shape;
+mod terms;
 #[cfg(test)]
 mod tests;
 mod text;

@@ -1,44 +1,137 @@
 //! The lines of played reports. A line is put together from its end, in a buffer of 256 bytes; each function that puts a
-//! piece asks for as much room as the longest such piece needs.
+//! piece asks for as much room as the longest such piece needs. The line of a board, which has a slot for each access, goes
+//! out in pieces.
 ghost use Rattle.std.specs.Prelude.{◌≡◌, ◌+◌, ◌≤◌, ◌++◌, ℕ, List, OnOk, codes, length, take};
-ghost use Rattle.schedule_text.specs.Text.{entry_at, interval_text, item_text, kind_text, lines_from, number_text, op_head, op_line, op_tail, order_text, slot_mark, stamp_mark, stamp_text, term_line, titled_lines};
+ghost use Rattle.schedule_text.specs.Text.{board_mark, entry_at, history_lines, interval_text, item_text, kind_text, lines_from, number_text, op_head, op_line, op_tail, order_text, slot_mark, slots_at, slots_text, stamp_mark, stamp_text, term_line, titled_lines};
 
 use crate::line::Line;
 use fourslot_core::CellReport;
-use history_core::{Band, Kind, Op, Term};
-use matrix_core::{MatrixReport, Stamp};
+use history_core::{Band, History, Items, Kind, Op, Term};
+use matrix_core::{BoardReport, MatrixReport, Stamp};
 use std::alloc::AllocError;
 
 /// What a player tells of each operation besides its history.
 pub trait Marks {
     ghost mark: { Self → ℕ → List ℕ };
 
-    fn put_mark(&self, line: &mut Line, place: usize)
-        requires { length line.old + 50 ≤ 256 }
-        ensures text { line.new ≡ mark self.now place ++ line.old }
-        ensures len { length line.new ≤ length line.old + 50 };
+    /// Pushes the line of the operation at a place. What the buffer has doesn't matter.
+    fn push_line(
+        &self,
+        text: &mut Vec<u8>,
+        line: &mut Line,
+        place: usize,
+        op: &Op<Band>,
+    ) -> Result<(), AllocError>
+        ensures { OnOk result (text.new.items ≡ text.old.items ++ op_line place op.now (mark self.now place)) };
 }
 
 impl Marks for CellReport<Band> {
     ghost mark = { λ report. slot_mark report.slots };
 
-    fn put_mark(&self, line: &mut Line, place: usize) {
+    fn push_line(
+        &self,
+        text: &mut Vec<u8>,
+        line: &mut Line,
+        place: usize,
+        op: &Op<Band>,
+    ) -> Result<(), AllocError> {
+        line.clear();
+        put_op_tail(line, op);
         put_slot(line, slot_at(self.slots.as_slice(), place));
         line.put(b"slot ");
+        put_op_head(line, place, op);
+        text.extend_from_slice(line.as_bytes())
     }
 }
 
 impl Marks for MatrixReport<Band> {
     ghost mark = { λ report. stamp_mark report.stamps };
 
-    fn put_mark(&self, line: &mut Line, place: usize) {
-        put_stamp(line, stamp_at(self.stamps.as_slice(), place));
-        line.put(b"stamp ");
+    fn push_line(
+        &self,
+        text: &mut Vec<u8>,
+        line: &mut Line,
+        place: usize,
+        op: &Op<Band>,
+    ) -> Result<(), AllocError> {
+        line.clear();
+        put_op_tail(line, op);
+        put_stamp_mark(line, self.stamps.as_slice(), place);
+        put_op_head(line, place, op);
+        text.extend_from_slice(line.as_bytes())
+    }
+}
+
+impl Marks for BoardReport<Band> {
+    ghost mark = { λ report. board_mark report.stamps report.slots };
+
+    #[tactic(auto, unfolding(crate::specs::Text::board_mark), using(std::proofs::Common::append_assoc))]
+    fn push_line(
+        &self,
+        text: &mut Vec<u8>,
+        line: &mut Line,
+        place: usize,
+        op: &Op<Band>,
+    ) -> Result<(), AllocError> {
+        line.clear();
+        line.put(b", slots");
+        put_stamp_mark(line, self.stamps.as_slice(), place);
+        put_op_head(line, place, op);
+        text.extend_from_slice(line.as_bytes())?;
+        push_slots(text, line, slots_at(self.slots.as_slice(), place))?;
+        line.clear();
+        put_op_tail(line, op);
+        text.extend_from_slice(line.as_bytes())
+    }
+}
+
+fn put_stamp_mark(line: &mut Line, stamps: &[Option<Stamp>], place: usize)
+    requires { length line.old + 47 ≤ 256 }
+    ensures text { line.new ≡ stamp_mark stamps.now place ++ line.old }
+    ensures len { length line.new ≤ length line.old + 47 }
+{
+    put_stamp(line, stamp_at(stamps, place));
+    line.put(b"stamp ");
+}
+
+/// The slot of each access of an operation.
+fn push_slots(text: &mut Vec<u8>, line: &mut Line, slots: &[Option<u8>]) -> Result<(), AllocError>
+    ensures { OnOk result (text.new.items ≡ text.old.items ++ slots_text slots.now) }
+{
+    for slot in slots {
+        push_after_blank(text, line, widened(*slot))?;
+    }
+    Ok(())
+}
+
+fn slots_at(slots: &[Items<Option<u8>>], place: usize) -> &[Option<u8>]
+    ensures { result.now ≡ slots_at slots.now place }
+{
+    match slots.get(place) {
+        Some(slots) => slots.as_slice(),
+        None => &[],
+    }
+}
+
+/// A line for each operation of a history; titled, with the lines of its terms between them.
+pub fn push_history<M: Marks>(
+    text: &mut Vec<u8>,
+    marks: &M,
+    history: &History<Band>,
+    titled: bool,
+) -> Result<(), AllocError>
+    ensures { OnOk result (text.new.items ≡ text.old.items ++ history_lines (M.mark marks.now) history.now titled) }
+{
+    let ops = history.ops.as_slice();
+    if titled {
+        push_titled_lines(text, marks, ops, history.terms.as_slice())
+    } else {
+        push_lines_from(text, marks, ops, 0)
     }
 }
 
 /// A line for each operation, and before the first operation of each term the term's line.
-pub fn push_titled_lines<M: Marks>(
+fn push_titled_lines<M: Marks>(
     text: &mut Vec<u8>,
     marks: &M,
     ops: &[Op<Band>],
@@ -73,7 +166,7 @@ fn below(ops: &[Op<Band>], end: usize) -> &[Op<Band>]
 }
 
 /// A line for each operation from a place on.
-pub fn push_lines_from<M: Marks>(
+fn push_lines_from<M: Marks>(
     text: &mut Vec<u8>,
     marks: &M,
     ops: &[Op<Band>],
@@ -83,19 +176,9 @@ pub fn push_lines_from<M: Marks>(
 {
     let mut line = Line::new();
     for place in from..ops.len() {
-        put_op_line(&mut line, marks, place, &ops[place]);
-        text.extend_from_slice(line.as_bytes())?;
+        marks.push_line(text, &mut line, place, &ops[place])?;
     }
     Ok(())
-}
-
-fn put_op_line<M: Marks>(line: &mut Line, marks: &M, place: usize, op: &Op<Band>)
-    ensures { line.new ≡ op_line place op.now (M.mark marks.now place) }
-{
-    line.clear();
-    put_op_tail(line, op);
-    marks.put_mark(line, place);
-    put_op_head(line, place, op);
 }
 
 #[tactic(auto, unfolding(crate::specs::Text::op_head), using(std::proofs::Common::append_assoc))]
@@ -184,7 +267,13 @@ fn put_slot(line: &mut Line, slot: Option<u8>)
     ensures text { line.new ≡ number_text slot ++ line.old }
     ensures len { length line.new ≤ length line.old + 20 }
 {
-    put_number(line, slot.map(|slot| slot as u64))
+    put_number(line, widened(slot))
+}
+
+fn widened(slot: Option<u8>) -> Option<u64>
+    ensures { result ≡ slot }
+{
+    slot.map(|slot| slot as u64)
 }
 
 pub fn put_stamp(line: &mut Line, stamp: Option<Stamp>)
@@ -214,6 +303,21 @@ fn stamp_at(stamps: &[Option<Stamp>], place: usize) -> Option<Stamp>
     *stamps.get(place)?
 }
 
+/// A blank, and a number or a dash.
+#[inline]
+fn push_after_blank(
+    text: &mut Vec<u8>,
+    line: &mut Line,
+    number: Option<u64>,
+) -> Result<(), AllocError>
+    ensures { OnOk result (text.new.items ≡ text.old.items ++ (codes " " ++ number_text number)) }
+{
+    line.clear();
+    put_number(line, number);
+    line.put(b" ");
+    text.extend_from_slice(line.as_bytes())
+}
+
 /// The line of an order.
 pub fn push_order(text: &mut Vec<u8>, order: &[usize]) -> Result<(), AllocError>
     ensures { OnOk result (text.new.items ≡ text.old.items ++ order_text order.now) }
@@ -221,10 +325,7 @@ pub fn push_order(text: &mut Vec<u8>, order: &[usize]) -> Result<(), AllocError>
     text.extend_from_slice(b"order:")?;
     let mut line = Line::new();
     for place in order {
-        line.clear();
-        line.put_number(*place as u64);
-        line.put(b" ");
-        text.extend_from_slice(line.as_bytes())?;
+        push_after_blank(text, &mut line, Some(*place as u64))?;
     }
     text.extend_from_slice(b"\n")
 }

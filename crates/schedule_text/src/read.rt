@@ -4,6 +4,7 @@ ghost use Rattle.schedule_text.specs.Document.{document_in, document_of, is_kind
 ghost use Rattle.schedule_text.specs.Players.{CanBePlayed};
 ghost use Rattle.schedule_text.specs.Refusals.{Gives, some_or};
 
+use crate::board::board_in;
 use crate::cell::cell_in;
 use crate::check::check_in;
 use crate::fields::must;
@@ -54,6 +55,7 @@ pub fn document_in(alloc: Global, want: Want, value: &Value) -> Result<Document,
         Want::Check if is_kind(value, "check") => check_in(alloc, value),
         Want::Play if is_kind(value, "cell") => cell_in(alloc, value),
         Want::Play if is_kind(value, "matrix") => matrix_in(alloc, value),
+        Want::Play if is_kind(value, "board") => board_in(alloc, value),
         _ => Err(DocError::Kind),
     }
 }

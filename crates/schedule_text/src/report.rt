@@ -1,6 +1,6 @@
 use fourslot_core::CellReport;
 use history_core::{Band, Verdict};
-use matrix_core::MatrixReport;
+use matrix_core::{BoardReport, MatrixReport};
 
 /// What a command prints.
 #[derive(Drop)]
@@ -11,6 +11,11 @@ pub enum Report {
     /// A played schedule of a matrix; where it is titled, a line stands before the operations of each term.
     Matrix {
         report: MatrixReport<Band>,
+        titled: bool,
+    },
+    /// A played schedule of a composed board, likewise.
+    Board {
+        report: BoardReport<Band>,
         titled: bool,
     },
 }

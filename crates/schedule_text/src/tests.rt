@@ -1,5 +1,6 @@
 //! The bounds of each refusal, and the printed lines.
 
+mod board;
 mod cell;
 mod check;
 mod matrix;

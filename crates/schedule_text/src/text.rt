@@ -1,11 +1,9 @@
-ghost use Rattle.std.specs.Prelude.{◌≡◌, [], IfOk};
-ghost use Rattle.schedule_text.specs.Text.{cell_text, matrix_text, text_of, verdict_text};
+ghost use Rattle.std.specs.Prelude.{◌≡◌, ◌++◌, [], IfOk};
+ghost use Rattle.schedule_text.specs.Text.{history_lines, order_text, text_of, verdict_text};
 
 use crate::Report;
-use crate::lines::{push_lines_from, push_order, push_titled_lines};
-use fourslot_core::CellReport;
-use history_core::{Band, Verdict};
-use matrix_core::MatrixReport;
+use crate::lines::{Marks, push_history, push_order};
+use history_core::{Band, History, Verdict};
 use std::alloc::{AllocError, Global};
 
 /// The greatest number of operations for which room is made before they are printed.
@@ -18,37 +16,48 @@ pub fn report_text(alloc: Global, report: &Report) -> Result<Vec<u8>, AllocError
 {
     match report {
         Report::Verdict(verdict) => Vec::from_slice(alloc, verdict_text(*verdict).as_bytes()),
-        Report::Cell(report) => cell_text(alloc, report),
-        Report::Matrix { report, titled } => matrix_text(alloc, report, *titled),
+        Report::Cell(report) => {
+            played_text(
+                alloc,
+                report,
+                &report.history,
+                false,
+                report.order.as_slice(),
+            )
+        }
+        Report::Matrix { report, titled } => {
+            played_text(
+                alloc,
+                report,
+                &report.history,
+                *titled,
+                report.order.as_slice(),
+            )
+        }
+        Report::Board { report, titled } => {
+            played_text(
+                alloc,
+                report,
+                &report.history,
+                *titled,
+                report.order.as_slice(),
+            )
+        }
     }
 }
 
-fn cell_text(alloc: Global, report: &CellReport<Band>) -> Result<Vec<u8>, AllocError>
-    ensures { IfOk result (λ v. v.items ≡ cell_text report.now) }
-{
-    let ops = report.history.ops.as_slice();
-    let order = report.order.as_slice();
-    let mut text = with_room(alloc, ops.len(), order.len())?;
-    push_lines_from(&mut text, report, ops, 0)?;
-    push_order(&mut text, order)?;
-    Ok(text)
-}
-
-fn matrix_text(
+/// The lines of a played report.
+fn played_text<M: Marks>(
     alloc: Global,
-    report: &MatrixReport<Band>,
+    marks: &M,
+    history: &History<Band>,
     titled: bool,
+    order: &[usize],
 ) -> Result<Vec<u8>, AllocError>
-    ensures { IfOk result (λ v. v.items ≡ matrix_text report.now titled) }
+    ensures { IfOk result (λ v. v.items ≡ history_lines (M.mark marks.now) history.now titled ++ order_text order.now) }
 {
-    let ops = report.history.ops.as_slice();
-    let order = report.order.as_slice();
-    let mut text = with_room(alloc, ops.len(), order.len())?;
-    if titled {
-        push_titled_lines(&mut text, report, ops, report.history.terms.as_slice())?;
-    } else {
-        push_lines_from(&mut text, report, ops, 0)?;
-    }
+    let mut text = with_room(alloc, history.ops.as_slice().len(), order.len())?;
+    push_history(&mut text, marks, history, titled)?;
     push_order(&mut text, order)?;
     Ok(text)
 }

@@ -2,7 +2,7 @@
 use Rattle.std.proofs.Common.{◌≡◌, ◌∙◌, sym, true}
 use Rattle.schedule_text.specs.Plans.{terms_in_range}
 use Rattle.schedule_text.proofs.Accepted.{must_holds, terms_can_play}
-use Rattle.schedule_text.proofs.matrix.titled_in.Goals as goal
+use Rattle.schedule_text.proofs.terms.several_in.Goals as goal
 
 pub returns-clause-playable : goal.returns-clause-playable
 returns-clause-playable c =

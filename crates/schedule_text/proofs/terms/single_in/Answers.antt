@@ -4,7 +4,7 @@ use Rattle.matrix_core.specs.Runs.{CanPlay}
 use Rattle.schedule_text.specs.Plans.{are_of, plans_in_range}
 use Rattle.schedule_text.specs.Ranges.{limit_in_range}
 use Rattle.schedule_text.proofs.Accepted.{must_holds, single_can_play}
-use Rattle.schedule_text.proofs.matrix.untitled_in.Goals as goal
+use Rattle.schedule_text.proofs.terms.single_in.Goals as goal
 
 pub returns-clause-playable : goal.returns-clause-playable
 returns-clause-playable c =
