@@ -11,6 +11,9 @@ use Rattle.matrix_core.specs.Listings.{IsMatrixReport}
 use Rattle.matrix_core.specs.Runs.{spans_of}
 use Rattle.matrix_core.specs.declared.schedule.MatrixReport.{MatrixReport}
 use Rattle.matrix_core.specs.declared.schedule.MatrixSchedule.{MatrixSchedule}
+use Rattle.matrix_core.specs.BoardReports.{IsBoardReport, board_spans}
+use Rattle.matrix_core.specs.declared.schedule.BoardReport.{BoardReport}
+use Rattle.matrix_core.specs.declared.schedule.BoardSchedule.{BoardSchedule}
 use Rattle.picture_text.specs.Picture.{picture_of}
 use Rattle.picture_text.specs.declared.scene.Scene.{Scene}
 use Rattle.schedule_text.specs.Document.{document_in, value_of}
@@ -18,10 +21,10 @@ use Rattle.schedule_text.specs.Refusals.{◌>>=◌}
 use Rattle.schedule_text.specs.declared.document.DocError.{DocError}
 use Rattle.schedule_text.specs.declared.document.DocError.TheVariants as doc
 use Rattle.schedule_text.specs.declared.document.Document.{Document}
-use Rattle.schedule_text.specs.declared.document.Document.TheVariants.{Check, Cell, Matrix}
+use Rattle.schedule_text.specs.declared.document.Document.TheVariants.{Check, Cell, Matrix, Board}
 use Rattle.schedule_text.specs.declared.document.Want.TheVariants as want
 use Rattle.serde_json.specs.Data.{Data}
-use Rattle.picture.specs.Scenes.{ShowsCell, ShowsCheck, ShowsMatrix}
+use Rattle.picture.specs.Scenes.{ShowsBoard, ShowsCell, ShowsCheck, ShowsMatrix}
 use Rattle.picture.specs.declared.fault.Answer.{Answer}
 use Rattle.picture.specs.declared.fault.Fault.{Fault}
 use Rattle.picture.specs.declared.fault.Fault.TheVariants as fault
@@ -70,11 +73,21 @@ AnswersMatrix schedule (Err (fault.Document refusal)) = ⊥
 AnswersMatrix schedule (Err (fault.Schedule position)) = IsFirstOverrun (spans_of schedule.terms) position
 AnswersMatrix schedule (Err fault.NoMemory) = ⊥
 
+-- the answer to the schedule of a composed board, likewise
+abbrev pub AnswersBoard : BoardSchedule Band → Result Answer Fault → Type 0
+AnswersBoard schedule (Ok answer) =
+    (r : BoardReport Band) × HasOperations (board_spans schedule.terms) × IsBoardReport schedule r
+    × (scene : Scene) × ShowsBoard r scene × (answer ≡ drawn scene)
+AnswersBoard schedule (Err (fault.Document refusal)) = ⊥
+AnswersBoard schedule (Err (fault.Schedule position)) = IsFirstOverrun (board_spans schedule.terms) position
+AnswersBoard schedule (Err fault.NoMemory) = ⊥
+
 -- the answer to what a document stands for
 abbrev pub Answers : Document → Result Answer Fault → Type 0
 Answers (Check history order) reply = AnswersCheck history order reply
 Answers (Cell schedule) reply = AnswersCell schedule reply
 Answers (Matrix schedule titled) reply = AnswersMatrix schedule reply
+Answers (Board schedule titled) reply = AnswersBoard schedule reply
 
 -- the same where a document may be refused, which is the fault then
 abbrev pub AnswersReading : Result Document DocError → Result Answer Fault → Type 0

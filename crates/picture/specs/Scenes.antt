@@ -9,6 +9,7 @@ use Rattle.history_core.specs.Points.{AreEarliest, HasPoints}
 use Rattle.history_core.specs.declared.band.Band.{Band}
 use Rattle.history_core.specs.declared.history.History.{History}
 use Rattle.matrix_core.specs.declared.schedule.MatrixReport.{MatrixReport}
+use Rattle.matrix_core.specs.declared.schedule.BoardReport.{BoardReport}
 use Rattle.picture_text.specs.Visits.{visits_of}
 use Rattle.picture_text.specs.declared.scene.Scene.{Scene}
 
@@ -39,6 +40,13 @@ pub record ShowsCell (schedule : CellSchedule Band) (report : CellReport Band) (
   pub visits : scene.visits ≡ visits_of schedule.steps report.slots
 
 pub record ShowsMatrix (report : MatrixReport Band) (scene : Scene) : Type 0 where
+  pub shown : Shows report.history report.order scene
+  pub lawful : scene.broken ≡ None
+  pub lanes : scene.slots ≡ false
+  pub stamps : scene.stamps ≡ report.stamps
+  pub visits : scene.visits ≡ []
+
+pub record ShowsBoard (report : BoardReport Band) (scene : Scene) : Type 0 where
   pub shown : Shows report.history report.order scene
   pub lawful : scene.broken ≡ None
   pub lanes : scene.slots ≡ false

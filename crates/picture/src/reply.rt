@@ -3,13 +3,13 @@ ghost use Rattle.matrix_core.specs.Runs.{CanPlay};
 ghost use Rattle.schedule_text.specs.Players.{CanBePlayed};
 ghost use Rattle.schedule_text.specs.Refusals.{Gives as Reads};
 ghost use Rattle.serde_json.specs.View.{view};
-ghost use Rattle.picture.specs.Answers.{AnswersCell, AnswersCheck, AnswersMatrix, document_of, drawn, Gives, IsAnswer, shown_in, status_of};
+ghost use Rattle.picture.specs.Answers.{AnswersBoard, AnswersCell, AnswersCheck, AnswersMatrix, document_of, drawn, Gives, IsAnswer, shown_in, status_of};
 
 use crate::fault::{Answer, Fault};
-use crate::scenes::{cell_scene, check_scene, matrix_scene};
+use crate::scenes::{board_scene, cell_scene, check_scene, matrix_scene};
 use fourslot_core::{CellSchedule, play_cell};
 use history_core::{Band, Break, History, Items};
-use matrix_core::{MatrixSchedule, play_matrix};
+use matrix_core::{BoardSchedule, MatrixSchedule, play_board, play_matrix};
 use picture_text::{Scene, picture_text};
 use schedule_text::{DocError, Document, Want, document_in, read_value};
 use serde_json::Value;
@@ -24,6 +24,7 @@ pub fn answer(alloc: Global, bytes: &[u8]) -> Result<Answer, Fault>
         Document::Check { history, order } => check(alloc, history, order),
         Document::Cell(schedule) => cell(alloc, &schedule),
         Document::Matrix { schedule, .. } => matrix(alloc, &schedule),
+        Document::Board { schedule, .. } => board(alloc, &schedule),
     }
 }
 
@@ -73,6 +74,16 @@ fn matrix(alloc: Global, schedule: &MatrixSchedule<Band>) -> Result<Answer, Faul
 {
     let report = play_matrix(alloc, schedule)?;
     let scene = matrix_scene(alloc, report)?;
+    let answer = draw(alloc, &scene)?;
+    Ok(answer)
+}
+
+fn board(alloc: Global, schedule: &BoardSchedule<Band>) -> Result<Answer, Fault>
+    requires { CanPlay schedule.now.terms }
+    ensures { Gives (AnswersBoard schedule.now) result }
+{
+    let report = play_board(alloc, schedule)?;
+    let scene = board_scene(alloc, report)?;
     let answer = draw(alloc, &scene)?;
     Ok(answer)
 }

@@ -2,11 +2,11 @@
 
 ghost use Rattle.std.specs.Prelude.{◌≡◌, ◌⊎◌, [], IfOk};
 ghost use Rattle.history_core.specs.Points.{AreEarliest, HasPoints};
-ghost use Rattle.picture.specs.Scenes.{ShowsCell, ShowsCheck, ShowsMatrix};
+ghost use Rattle.picture.specs.Scenes.{ShowsBoard, ShowsCell, ShowsCheck, ShowsMatrix};
 
 use fourslot_core::{CellReport, CellSchedule};
 use history_core::{Band, History, Items, first_break, points};
-use matrix_core::MatrixReport;
+use matrix_core::{BoardReport, MatrixReport};
 use picture_text::{Scene, slot_visits};
 use std::alloc::{AllocError, Global};
 
@@ -62,6 +62,27 @@ pub fn matrix_scene(alloc: Global, report: MatrixReport<Band>) -> Result<Scene, 
         history,
         stamps,
         order,
+    } = report;
+    let points = points_of(alloc, &history, &order)?;
+    Ok(Scene {
+        history,
+        order,
+        points,
+        broken: None,
+        stamps,
+        slots: false,
+        visits: Items::new(Vec::new(alloc)),
+    })
+}
+
+pub fn board_scene(alloc: Global, report: BoardReport<Band>) -> Result<Scene, AllocError>
+    ensures { IfOk result (ShowsBoard report) }
+{
+    let BoardReport {
+        history,
+        stamps,
+        order,
+        ..
     } = report;
     let points = points_of(alloc, &history, &order)?;
     Ok(Scene {
