@@ -1,5 +1,5 @@
 -- Lists of lanes and of passes, made from their ends: the last is made first, so what was made is turned round.
-use Rattle.std.proofs.Common.{◌≡◌, ℕ, zero, suc, ◌+◌, ◌<◌, ◌^◌, List, [], ◌∷◌, ◌++◌, length, length-append, append_assoc, map, reverse, refl, sym, ◌∙◌, ap, subst, arith}
+use Rattle.std.proofs.Common.{◌≡◌, ℕ, zero, suc, ◌+◌, ◌<◌, ◌≤◌, ◌^◌, List, [], ◌∷◌, ◌++◌, length, length-append, append_assoc, map, reverse, refl, sym, ◌∙◌, ap, subst, arith}
 use Rattle.std.specs.Prelude.{slice_get, Some, slice_index_or, All}
 use Rattle.std.specs.declared.cmp.PartialEq.{Ghosts as EqWords}
 use Rattle.std.proofs.lemmas.Option.{same_Some, none-some}
@@ -12,6 +12,7 @@ use Rattle.board_live.specs.declared.clocked.Clocked.{Clocked}
 use Rattle.board_live.specs.declared.lane.Lane.{Lane}
 use Rattle.board_live.specs.declared.posted.RecordLaw.{Ghosts as LawWords}
 use Rattle.board_live.specs.Boards.{IsPass}
+use Rattle.board_live.specs.Deals.{AllPasses}
 use Rattle.board_live.specs.Jobs.{AllReady}
 use Rattle.board_live.specs.Lanes.{AreLanes, IsNewLane}
 
@@ -108,3 +109,10 @@ module _ {V C P G T : Type 0} {law : LawWords V} {eq : EqWords V} {cells : CellW
     fits = rw (lanes_length passes scripts lanes h) (omega (arith, few));
     each = λ k lane at. let found = lane_at passes scripts lanes h k lane at in rw found.4.has (of k found.0 found.2);
   }
+
+  -- likewise, of the passes of all processes
+  pub all_ready : (board : Board V C P G T law eq cells) (passes : List (Pass V C P G T law eq cells)) (scripts : List (List (Wish V))) (lanes : List (Lane V C P G T law eq cells))
+      → AllPasses board passes → AreLanes passes scripts lanes → AllReady (λ (l : Lane V C P G T law eq cells). IsPass board l.pass) 0 lanes
+  all_ready board passes scripts lanes all are =
+      let n : length board.rows.items ≤ 16 = board.square.at_most in
+      lanes_ready board passes scripts lanes are (omega (arith, n, all.all)) all.of

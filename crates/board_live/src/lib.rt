@@ -26,4 +26,6 @@ pub use posted::{Posted, RecordLaw};
 pub use tasks::run_tasks;
 
 #[cfg(test)]
+mod task_tests;
+#[cfg(test)]
 mod tests;

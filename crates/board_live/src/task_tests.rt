@@ -1,0 +1,8 @@
+//! The rows of tasks, lanes and gates, over each cell, and the check of logs.
+
+mod gates;
+mod lanes;
+mod meeting;
+mod origins;
+mod plans;
+mod wear;
