@@ -132,7 +132,13 @@ where
 
 fn main(rt: HostRuntime) -> io::Result<()> {
     let last = told::<_, FourSlotCell<Sample>>(&rt, rt.alloc())?;
-    println!(rt; "four slots: sample {} is {} of {} to {}", last.number, last.reading, last.low, last.high)?;
+    println!(rt;
+        "four slots: sample {} is {} of {} to {}",
+        last.number, last.reading, last.low, last.high
+    )?;
     let last = told::<_, TripleCell<Sample>>(&rt, rt.alloc())?;
-    println!(rt; "triple buffer: sample {} is {} of {} to {}", last.number, last.reading, last.low, last.high)
+    println!(rt;
+        "triple buffer: sample {} is {} of {} to {}",
+        last.number, last.reading, last.low, last.high
+    )
 }

@@ -10,6 +10,6 @@ loop-i-preserved g c =
     let o = g.C.Calls.opening c.args.cell.now in (
       c.write.ensures.own,
       ap (λ (xs : List Sample). (last_or o xs).number) c.write.ensures.written
-        ∙ ap (λ (x : Sample). x.number) (last_snoc o (g.C.Calls.written c.loop-i.task.put) c.measured.result)
-        ∙ c.measured.ensures.0,
+          ∙ ap (λ (x : Sample). x.number) (last_snoc o (g.C.Calls.written c.loop-i.task.put) c.measured.result)
+          ∙ c.measured.ensures.0,
     )

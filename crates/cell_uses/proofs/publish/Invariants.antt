@@ -6,4 +6,4 @@ use Rattle.cell_uses.proofs.publish.Given as goal
 abbrev pub invariant-loop-i : goal.invariant-loop-i
 invariant-loop-i g l =
     g.C.Calls.is_put l.cell l.task.put
-      × ((last_or (g.C.Calls.opening l.cell) (g.C.Calls.written l.task.put)).number ≡ l.i)
+    × ((last_or (g.C.Calls.opening l.cell) (g.C.Calls.written l.task.put)).number ≡ l.i)
