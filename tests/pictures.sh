@@ -44,7 +44,7 @@ fi
 if [ -e "$room/refuse.so" ]; then
     wanted_status=0
     : >"$room/wanted_line"
-    for name in lawful cell matrix; do
+    for name in lawful cell matrix board; do
         crates/picture/out/picture <"examples/$name.json" >"$room/wanted" 2>/dev/null
         refuse_each picture "examples/$name.json"
     done
