@@ -1,5 +1,5 @@
-use super::{A, B, ZERO, document, refusal};
-use crate::{DocError, Document, Key, Report, Want, read_document, report_text};
+use super::{A, B, ZERO};
+use crate::{Document, Report, Want, read_document, report_text};
 use history_core::{Band, History, Items, Kind, Op, Term, Wish};
 use matrix_core::{BoardReport, Stamp};
 use std::alloc::{AllocError, Global};
@@ -42,107 +42,6 @@ fn reads_a_schedule(rt: HostRuntime) -> Result<(), Fail> {
         );
     }
     Ok(())
-}
-
-/// The keys in the order in which they are tested, and what is refused of a document whose keys have these values.
-fn refused(alloc: Global, values: [&str; 5]) -> Result<Option<DocError>, AllocError> {
-    let [opening, noise, limit, plans, steps] = values;
-    let keys = [
-        ("steps", steps),
-        ("plans", plans),
-        ("limit", limit),
-        ("noise", noise),
-        ("opening", opening),
-    ];
-    let text = document(alloc, "board", &keys)?;
-    Ok(refusal(alloc, Want::Play, text.as_bytes()))
-}
-
-#[test]
-fn refuses_in_order(rt: HostRuntime) -> Result<(), Fail> {
-    let alloc = rt.alloc();
-    for (values, fault) in [
-        (
-            ["[0]", "[0]", "[]", "0", "0"],
-            Some(DocError::Shape(Key::Opening)),
-        ),
-        (
-            ["[2,1,3]", "[0]", "[]", "0", "0"],
-            Some(DocError::Shape(Key::Noise)),
-        ),
-        (
-            ["[2,1,3]", "null", "0", "[]", "[]"],
-            Some(DocError::Shape(Key::Noise)),
-        ),
-        (
-            ["[2,1,3]", "[9,8,7]", "[]", "0", "0"],
-            Some(DocError::Shape(Key::Limit)),
-        ),
-        (
-            ["[2,1,3]", "[9,8,7]", "0", "0", "0"],
-            Some(DocError::Shape(Key::Plans)),
-        ),
-        (
-            ["[2,1,3]", "[9,8,7]", "0", "[]", "0"],
-            Some(DocError::Shape(Key::Steps)),
-        ),
-        (
-            ["[2,1,3]", "[9,8,7]", "0", "[]", "[0]"],
-            Some(DocError::Range(Key::Limit)),
-        ),
-        (
-            ["[2,1,3]", "[9,8,7]", "1", "[[]]", "[1]"],
-            Some(DocError::Range(Key::Plans)),
-        ),
-        (
-            ["[2,1,3]", "[9,8,7]", "1", "[[],[[3,2,1]]]", "[2]"],
-            Some(DocError::Range(Key::Steps)),
-        ),
-        (
-            ["[2,1,3]", "[9,8,7]", "1", "[[],[[3,2,1]]]", "[]"],
-            Some(DocError::Law(Key::Opening)),
-        ),
-        (
-            ["[1,1,3]", "[9,8,7]", "1", "[[],[[3,2,1]]]", "[]"],
-            Some(DocError::Law(Key::Plans)),
-        ),
-        (["[1,1,3]", "[9,8,7]", "1", "[[],[[1,2,3]]]", "[]"], None),
-    ] {
-        assert_eq!(rt; refused(alloc, values)?, fault);
-    }
-    Ok(())
-}
-
-#[test]
-fn refuses_what_lacks_a_key(rt: HostRuntime) {
-    for (text, fault) in [
-        (r#"{"kind":"board"}"#, DocError::Missing(Key::Opening)),
-        (
-            r#"{"kind":"board","opening":0,"terms":0}"#,
-            DocError::Missing(Key::Noise),
-        ),
-        (
-            r#"{"kind":"board","opening":0,"noise":0}"#,
-            DocError::Missing(Key::Limit),
-        ),
-        (
-            r#"{"kind":"board","opening":0,"noise":0,"limit":0}"#,
-            DocError::Missing(Key::Plans),
-        ),
-        (
-            r#"{"kind":"board","opening":[0,0,0],"noise":[0,0,0],"terms":[]}"#,
-            DocError::Range(Key::Terms),
-        ),
-        (
-            r#"{"kind":"board","opening":[0,0,0],"noise":[0,0,0],"terms":null}"#,
-            DocError::Shape(Key::Terms),
-        ),
-    ] {
-        assert_eq!(rt;
-            refusal(rt.alloc(), Want::Play, text.as_bytes()),
-            Some(fault)
-        );
-    }
 }
 
 /// Two operations, of two terms.
