@@ -74,7 +74,7 @@ build() {
     fi
     list=$(crates_below "$program")
     echo "build: proves and builds $program and what it stands on: $(echo $list)"
-    echo "build: from nothing this takes about five minutes on four processors and ten on two, once"
+    echo "build: from nothing this can take twenty minutes, once; the lines below say how far it is"
     began=$top/crates/$program/out/began
     room=$(mktemp -d) && touch "$began" || return 1
     for name in $list; do
