@@ -12,8 +12,8 @@ use Rattle.schedule_text.specs.declared.document.DocError.{DocError}
 use Rattle.schedule_text.specs.declared.document.Want.{Want}
 use Rattle.schedule_text.specs.Document.{document_of}
 use Rattle.fsr.specs.Answers.{AnswersReading, Gives, IsAnswer, status_of}
-use Rattle.fsr.specs.Run.{Runs, IsWhole, fault_status}
-use Rattle.fsr.specs.Transfer.{TakesBytes}
+use Rattle.fsr.specs.Run.{Runs, fault_status}
+use Rattle.streams.specs.Transfer.{IsWhole, TakesBytes}
 use Rattle.fsr.specs.declared.fault.Answer.{Answer}
 use Rattle.fsr.specs.declared.fault.Fault.{Fault}
 use Rattle.fsr.specs.declared.fault.Fault.TheVariants as fault

@@ -1,16 +1,13 @@
 -- What a run of the program does to its streams (this project's own).
 use Rattle.std.specs.Prelude.{◌≡◌, ◌≢◌, ◌≤◌, ◌<◌, ◌+◌, ◌⊎◌, ◌↔◌, ℕ, List, [], length, Option, Some, None, Result, Ok, Err}
 use Rattle.std.specs.Io.{StartsWith}
-use Rattle.std.specs.Io.KnownBytes.{Consumes, Appends, IsAtEnd}
+use Rattle.std.specs.Io.KnownBytes.{Consumes, Appends}
+use Rattle.streams.specs.Transfer.{IsWhole, most_taken}
 use Rattle.schedule_text.specs.declared.document.Want.{Want}
 use Rattle.fsr.specs.Answers.{IsAnswer}
 use Rattle.fsr.specs.declared.fault.Answer.{Answer}
 use Rattle.fsr.specs.declared.fault.Fault.{Fault}
 use Rattle.fsr.specs.declared.fault.Fault.TheVariants.{Document, Schedule, NoMemory}
-
--- the longest document, and one byte more
-abbrev pub most_taken : ℕ
-most_taken = 1048577
 
 abbrev pub fault_status : Fault → ℕ
 fault_status (Document refusal) = 3
@@ -26,10 +23,6 @@ told_by (Err fault) = record { text = []; status = fault_status fault }
 abbrev pub IsOutcome : Option Want → List ℕ → Answer → Type 0
 IsOutcome None bytes told = told ≡ record { text = []; status = 2 }
 IsOutcome (Some want) bytes told = (reply : Result Answer Fault) × IsAnswer want bytes reply × (told ≡ told_by reply)
-
--- the input was read to its end, or as far as a run reads
-abbrev pub IsWhole : List ℕ → Option (List ℕ) → Type 0
-IsWhole taken left = (length taken ≡ most_taken) ⊎ IsAtEnd left
 
 -- these bytes are the front of the text that the command makes of the input
 abbrev pub IsFront : Option Want → List ℕ → List ℕ → Type 0

@@ -5,13 +5,13 @@ mod command;
 mod fault;
 mod reply;
 mod run;
-mod stream;
-mod transfer;
 
-use crate::run::{NO_MEMORY, run, tell};
-use crate::stream::Over;
+use crate::run::{NO_MEMORY, run};
 use std::io::ErrorKind;
 use std::process::ExitCode;
+use streams::tell;
+
+pub use streams::{Failed, Over, Sink, Source};
 
 fn main(rt: HostRuntime) -> ExitCode {
     let alloc = rt.alloc();

@@ -1,17 +1,16 @@
 ghost use Rattle.std.specs.Prelude.{◌≡◌, ◌≤◌, ◌+◌, ◌⊎◌, Some, map};
 ghost use Rattle.fsr.specs.Command.{command_of};
 ghost use Rattle.fsr.specs.Run.{Fails, Runs, fault_status};
-ghost use Rattle.fsr.specs.Stream.{HasRoom};
-ghost use Rattle.fsr.specs.Transfer.{Tells};
+ghost use Rattle.streams.specs.Stream.{HasRoom};
 
 use crate::command::{NoCommand, command_of};
 use crate::fault::Fault;
 use crate::reply::answer;
-use crate::stream::{Sink, Source};
-use crate::transfer::{InputFault, read_input, write_text};
+use crate::{Sink, Source};
 use schedule_text::Want;
 use std::alloc::Global;
 use std::convert::AsStr;
+use streams::{InputFault, read_input, tell, write_text};
 
 /// The line of a run that found no memory.
 pub const NO_MEMORY: &str = "fsr: out of memory\n";
@@ -109,13 +108,4 @@ fn tell_fault<E: Sink>(alloc: Global, faults: &mut E, fault: &Fault) -> u8
             4
         }
     }
-}
-
-/// Tells a line. A failure changes nothing else.
-pub fn tell<E: Sink>(faults: &mut E, line: &str)
-    requires { HasRoom (E.failed faults.old) }
-    ensures told { Tells (E.contents faults.old) (E.contents faults.new) (E.failed faults.old) (E.failed faults.new) line.now }
-    ensures once { E.failed faults.new ≤ E.failed faults.old + 1 }
-{
-    let _ = write_text(faults, line.as_bytes());
 }

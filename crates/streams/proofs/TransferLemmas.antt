@@ -1,22 +1,25 @@
 -- What moves piece by piece: a piece goes on where the one before ended, so the two are one longer piece.
-use Rattle.std.proofs.Common.{◌≡◌, ◌≤◌, ◌+◌, ℕ, List, ◌++◌, length, length-append, Option, arith, take, drop, sym, subst, ◌-◌, length-drop}
+use Rattle.std.proofs.Common.{◌≡◌, ◌≤◌, ◌+◌, ◌-◌, ◌++◌, ℕ, List, Option, arith, length, take, drop, sym, subst}
+use Rattle.std.proofs.Common.{length-append, length-drop}
 use Rattle.std.proofs.lemmas.List.{take_all}
 use Rattle.std.proofs.KnownBytes.{Consumes-trans, Appends-trans}
 use Rattle.std.proofs.Math.Seq.{take-add}
 use Rattle.std.specs.Io.KnownBytes.{Consumes, Appends}
-use Rattle.streams.specs.Transfer.{most_taken}
-use Rattle.streams.specs.Transfer.{TakesBytes}
+use Rattle.streams.specs.Transfer.{most_taken, TakesBytes}
 
 -- what was taken before, and a piece more
-pub takes_piece : (a b c : Option (List ℕ)) (before : List ℕ) → TakesBytes a b before → (taken : List ℕ) × Consumes b c taken × (length before + length taken ≤ most_taken)
+pub takes_piece : (a b c : Option (List ℕ)) (before : List ℕ) → TakesBytes a b before
+    → (taken : List ℕ) × Consumes b c taken × (length before + length taken ≤ most_taken)
     → (taken : List ℕ) × TakesBytes a c taken
 takes_piece a b c before first more =
     let fits : length (before ++ more.0) ≤ most_taken = rw (length-append before more.0) more.2 in
     (before ++ more.0, (Consumes-trans a b c before more.0 first.0 more.1, fits))
 
 -- what went out before, and a piece more
-pub puts_piece : (a b c : Option (List ℕ)) (text : List ℕ) (done n : ℕ) → Appends a b (take done text) → Appends b c (take n (take (length text - done) (drop done text))) → Appends a c (take (done + n) text)
+pub puts_piece : (a b c : Option (List ℕ)) (text : List ℕ) (done n : ℕ) → Appends a b (take done text)
+    → Appends b c (take n (take (length text - done) (drop done text))) → Appends a c (take (done + n) text)
 puts_piece a b c text done n before more =
-    let rest : take (length text - done) (drop done text) ≡ drop done text = take_all (length text - done) (drop done text) (omega (arith, length-drop done text)) in
+    let rest : take (length text - done) (drop done text) ≡ drop done text =
+      take_all (length text - done) (drop done text) (omega (arith, length-drop done text)) in
     let piece : Appends b c (take n (drop done text)) = subst (λ l. Appends b c (take n l)) rest more in
     subst (Appends a c) (sym (take-add done n text)) (Appends-trans a b c (take done text) (take n (drop done text)) before piece)

@@ -27,11 +27,17 @@ CountsFailure old new (Ok x) = new ≡ old
 CountsFailure old new (Err Failed) = new ≡ old + 1
 CountsFailure old new (Err NoMemory) = new ≡ old
 
--- A piece was taken and added, which is empty at the end alone; or it was taken, and what had come before stays within the bound with it.
+-- A piece was taken and added, which is empty at the end alone; or it was taken, and what had come before stays within the
+-- bound with it.
 abbrev pub TakesMore : Option (List ℕ) → Option (List ℕ) → List ℕ → List ℕ → Result ℕ InputFault → Type 0
-TakesMore old new before after (Ok n) = (taken : List ℕ) × Consumes old new taken × (after ≡ before ++ taken) × (length after ≤ most_taken) × (length taken ≡ n) × (n ≡ 0 → IsAtEnd new)
-TakesMore old new before after (Err e) = (taken : List ℕ) × Consumes old new taken × (length before + length taken ≤ most_taken)
+TakesMore old new before after (Ok n) =
+    (taken : List ℕ) × Consumes old new taken × (after ≡ before ++ taken) × (length after ≤ most_taken)
+    × (length taken ≡ n) × (n ≡ 0 → IsAtEnd new)
+TakesMore old new before after (Err e) =
+    (taken : List ℕ) × Consumes old new taken × (length before + length taken ≤ most_taken)
 
 -- the line went out, or the stream failed after a front of it
 abbrev pub Tells : Option (List ℕ) → Option (List ℕ) → ℕ → ℕ → List ℕ → Type 0
-Tells old new failed_old failed_new line = (Appends old new line × (failed_new ≡ failed_old)) ⊎ (((sent : List ℕ) × StartsWith line sent × Appends old new sent) × (failed_new ≡ failed_old + 1))
+Tells old new failed_old failed_new line =
+    (Appends old new line × (failed_new ≡ failed_old))
+    ⊎ (((sent : List ℕ) × StartsWith line sent × Appends old new sent) × (failed_new ≡ failed_old + 1))

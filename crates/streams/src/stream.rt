@@ -67,6 +67,13 @@ impl<S> Over<S> {
             failures: 0,
         }
     }
+
+    /// The reader or the writer of std.
+    pub fn stream(&self) -> &S
+        ensures { result.now ≡ self.now.stream }
+    {
+        &self.stream
+    }
 }
 
 impl<S: io::Read> Source for Over<S> {

@@ -76,7 +76,8 @@ pub fn write_text<O: Sink>(out: &mut O, text: &[u8]) -> Result<(), Failed>
 /// Tells a line. A failure changes nothing else.
 pub fn tell<E: Sink>(faults: &mut E, line: &str)
     requires { HasRoom (E.failed faults.old) }
-    ensures told { Tells (E.contents faults.old) (E.contents faults.new) (E.failed faults.old) (E.failed faults.new) line.now }
+    ensures told { Tells (E.contents faults.old) (E.contents faults.new) (E.failed faults.old)
+        (E.failed faults.new) line.now }
     ensures once { E.failed faults.new ≤ E.failed faults.old + 1 }
 {
     let _ = write_text(faults, line.as_bytes());

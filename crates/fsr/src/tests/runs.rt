@@ -1,5 +1,5 @@
 use crate::run::run;
-use crate::stream::Over;
+use crate::Over;
 use crate::tests::streams::{Full, Kept, Pieces};
 use std::alloc::{AllocError, Global};
 use std::process::Abort;

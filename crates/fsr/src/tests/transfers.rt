@@ -1,8 +1,8 @@
 use crate::run::run;
-use crate::stream::{Failed, Over, Sink, Source};
 use crate::tests::long::padded;
 use crate::tests::runs::{AMPLE, ROW};
 use crate::tests::streams::{Full, InterruptedReader, InterruptedWriter, Kept, Pieces};
+use crate::{Over, Sink, Source};
 use std::test::Fail;
 
 const READ_FAILED: &str = "fsr: read failed\n";
@@ -103,13 +103,4 @@ fn leaves_the_rest_unread(rt: HostRuntime) -> Result<(), Fail> {
     assert!(rt; faults.stream().as_slice() == b"fsr: ".as_slice());
     assert_eq!(rt; Sink::failures(&faults), 1);
     Ok(())
-}
-
-/// A writer that takes no byte of an empty piece does as it is told.
-#[test]
-fn puts_an_empty_piece(rt: HostRuntime) {
-    let mut out = Over::new(Kept::new(rt.alloc(), 0, Full::TakesNothing));
-    assert_eq!(rt; out.put(b""), Ok(0));
-    assert_eq!(rt; out.put(b"a"), Err(Failed));
-    assert_eq!(rt; Sink::failures(&out), 1);
 }
