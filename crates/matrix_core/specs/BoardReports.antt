@@ -20,7 +20,7 @@ use Rattle.matrix_core.specs.Events.{other}
 use Rattle.matrix_core.specs.Boards.{column_accesses, IsBoardRun, row_accesses}
 use Rattle.matrix_core.specs.Listings.{IsInOrder}
 use Rattle.matrix_core.specs.Runs.{span_by, spans_by}
-use Rattle.matrix_core.specs.declared.play.Cells.TheVariants.{FourSlot}
+use Rattle.matrix_core.specs.declared.overruns.Cells.TheVariants.{FourSlot}
 
 module _ {R : Type 0} where
   -- a term, as every player's schedules have it: an operation is ten steps for each other process
@@ -31,10 +31,13 @@ module _ {R : Type 0} where
   board_spans terms = spans_by FourSlot terms
 
   -- the slots that are listed for each operation, those of its column before those of its row
-  pub record ListsSlots (at : ℕ) (span : Span R) (ops : List (Op R)) (slot : ℕ → ℕ → ℕ → Option ℕ) (slots : List (List (Option ℕ))) : Type 0 where
+  pub record ListsSlots (at : ℕ) (span : Span R) (ops : List (Op R)) (slot : ℕ → ℕ → ℕ → Option ℕ)
+      (slots : List (List (Option ℕ))) : Type 0 where
     pub long : length slots ≡ length ops
-    pub each : (p k : ℕ) (op : Op R) (row : List (Option ℕ)) → slice_get ops p ≡ Some op → IsOperation at span k op → slice_get slots p ≡ Some row
-        → (length row ≡ 2 * (length span.plans - 1)) × ((access : ℕ) → access < length row → slice_get row access ≡ Some (slot op.who k access))
+    pub each : (p k : ℕ) (op : Op R) (row : List (Option ℕ)) → slice_get ops p ≡ Some op → IsOperation at span k op →
+        slice_get slots p ≡ Some row
+        → (length row ≡ 2 * (length span.plans - 1))
+        × ((access : ℕ) → access < length row → slice_get row access ≡ Some (slot op.who k access))
 
 -- what one term gave: its operations with their stamps and slots, and an order of them by their places in the term
 pub record BoardPart (R : Type 0) : Type 0 where
@@ -65,13 +68,13 @@ module _ {R : Type 0} where
     pub order : IsInOrder part.ops part.stamps part.order
 
   -- the parts of these terms: each later term opens with the latest record of the order of the one before
-  abbrev pub ArePartsOf : ℕ → R → R → List (MatrixTerm R) → List (BoardPart R) → Type 0
-  ArePartsOf at opening noise [] [] = Unit {0}
-  ArePartsOf at opening noise [] (part ∷ parts) = ⊥
-  ArePartsOf at opening noise (term ∷ terms) [] = ⊥
-  ArePartsOf at opening noise (term ∷ terms) (part ∷ parts) =
+  abbrev pub AreBoardParts : ℕ → R → R → List (MatrixTerm R) → List (BoardPart R) → Type 0
+  AreBoardParts at opening noise [] [] = Unit {0}
+  AreBoardParts at opening noise [] (part ∷ parts) = ⊥
+  AreBoardParts at opening noise (term ∷ terms) [] = ⊥
+  AreBoardParts at opening noise (term ∷ terms) (part ∷ parts) =
       IsBoardPart at opening noise term part
-      × ((next : R) × (latest opening part.ops part.order ≡ Some next) × ArePartsOf (at + length term.steps) next noise terms parts)
+      × ((next : R) × (latest opening part.ops part.order ≡ Some next) × AreBoardParts (at + length term.steps) next noise terms parts)
 
   -- a part of the history
   abbrev pub history_part : BoardPart R → Part R
@@ -81,22 +84,22 @@ module _ {R : Type 0} where
   history_parts [] = []
   history_parts (part ∷ parts) = history_part part ∷ history_parts parts
 
-  abbrev pub stamps_in : List (BoardPart R) → List (Option Stamp)
-  stamps_in [] = []
-  stamps_in (part ∷ parts) = part.stamps ++ stamps_in parts
+  abbrev pub board_stamps : List (BoardPart R) → List (Option Stamp)
+  board_stamps [] = []
+  board_stamps (part ∷ parts) = part.stamps ++ board_stamps parts
 
-  abbrev pub slots_in : List (BoardPart R) → List (List (Option ℕ))
-  slots_in [] = []
-  slots_in (part ∷ parts) = part.slots ++ slots_in parts
+  abbrev pub board_slots : List (BoardPart R) → List (List (Option ℕ))
+  board_slots [] = []
+  board_slots (part ∷ parts) = part.slots ++ board_slots parts
 
   -- how a report came about: it is what the terms gave, one after the other
-  pub record CameAbout (schedule : BoardSchedule R) (report : BoardReport R) : Type 0 where
+  pub record BoardCameAbout (schedule : BoardSchedule R) (report : BoardReport R) : Type 0 where
     pub parts : List (BoardPart R)
-    pub each : ArePartsOf 0 schedule.opening schedule.noise schedule.terms parts
+    pub each : AreBoardParts 0 schedule.opening schedule.noise schedule.terms parts
     pub terms : report.history.terms ≡ terms_from 0 (history_parts parts)
     pub ops : report.history.ops ≡ ops_of (history_parts parts)
-    pub stamps : report.stamps ≡ stamps_in parts
-    pub slots : report.slots ≡ slots_in parts
+    pub stamps : report.stamps ≡ board_stamps parts
+    pub slots : report.slots ≡ board_slots parts
     pub order : report.order ≡ order_from 0 (history_parts parts)
 
   -- all that is promised of a schedule's report: what it means, and how it came about
@@ -105,7 +108,7 @@ module _ {R : Type 0} where
     pub shape : HasShape (board_spans schedule.terms) report.history.terms report.history.ops
     pub atomic : IsAtomicOrder (λ x y. x ≡ y) schedule.opening report.history.ops report.order
     pub refusals : RefusesLawfully report.history.terms report.history.ops report.order
-    pub run : CameAbout schedule report
+    pub run : BoardCameAbout schedule report
 
   -- a schedule is refused at the first step of a process that has no operation left, or, where each step has one, for want
   -- of memory

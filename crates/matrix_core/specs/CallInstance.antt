@@ -17,10 +17,24 @@ abbrev pub reads : Call ℕ
 reads = record { who = 1; kind = Read; answers = opening ∷ []; told = []; seen = opening; chosen = dated 0 0 7 1 }
 
 abbrev pub reads_again : Call ℕ
-reads_again = record { who = 1; kind = Read; answers = dated 1 0 5 1 ∷ []; told = dated 1 0 5 1 ∷ []; seen = dated 1 0 5 1; chosen = dated 1 0 5 2 }
+reads_again = record {
+  who = 1;
+  kind = Read;
+  answers = dated 1 0 5 1 ∷ [];
+  told = dated 1 0 5 1 ∷ [];
+  seen = dated 1 0 5 1;
+  chosen = dated 1 0 5 2;
+}
 
 abbrev pub is_refused : Call ℕ
-is_refused = record { who = 1; kind = Refused; answers = dated 1 0 5 1 ∷ []; told = dated 1 0 5 1 ∷ []; seen = dated 1 0 5 2; chosen = dated 1 0 5 3 }
+is_refused = record {
+  who = 1;
+  kind = Refused;
+  answers = dated 1 0 5 1 ∷ [];
+  told = dated 1 0 5 1 ∷ [];
+  seen = dated 1 0 5 2;
+  chosen = dated 1 0 5 3;
+}
 
 abbrev pub two_runs : List (List (Call ℕ))
 two_runs = (writes ∷ []) ∷ (reads ∷ reads_again ∷ is_refused ∷ []) ∷ []

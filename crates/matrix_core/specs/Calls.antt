@@ -88,7 +88,8 @@ module _ {V : Type 0} where
   -- *Happened before*: an earlier call of the same process; a call that chose what this one was answered, or what its process had
   -- been told; and what happened before one of those
   pub data HappenedBefore (runs : List (List (Call V))) : Call V → Call V → Type 0 where
-    in_turn : (p i j : ℕ) (cs : List (Call V)) (d c : Call V) → slice_get runs p ≡ Some cs → slice_get cs i ≡ Some d → slice_get cs j ≡ Some c → i < j → HappenedBefore runs d c
+    in_turn : (p i j : ℕ) (cs : List (Call V)) (d c : Call V) → slice_get runs p ≡ Some cs → slice_get cs i ≡ Some d →
+        slice_get cs j ≡ Some c → i < j → HappenedBefore runs d c
     answered : (d c : Call V) → IsOf runs c → IsIn d.chosen c.answers → HappenedBefore runs d c
     told : (d c : Call V) → IsOf runs c → IsIn d.chosen c.told → HappenedBefore runs d c
     then : (b d c : Call V) → HappenedBefore runs b d → HappenedBefore runs d c → HappenedBefore runs b c

@@ -12,7 +12,9 @@ use Rattle.matrix_core.specs.ByAccesses.{chooses_at, IsChosenBy}
 
 -- `chosen i k` is the record that operation k of process i chose. An operation that hasn't chosen isn't refused, and one that hasn't
 -- ended has no item unless it is a write
-pub record IsMatrixRun {R : Type 0} (at : ℕ) (span : Span R) (opening : R) (ops : List (Op R)) (stamps : List (Option Stamp)) (chosen : ℕ → ℕ → Stamped R) : Type 0 where
+pub record IsMatrixRun {R : Type 0} (at : ℕ) (span : Span R) (opening : R) (ops : List (Op R)) (stamps : List (Option Stamp))
+    (chosen : ℕ → ℕ → Stamped R) : Type 0 where
   pub by : IsChosenBy at span 1 opening ops stamps chosen
-  pub unchosen : (p k : ℕ) (op : Op R) → slice_get ops p ≡ Some op → IsOperation at span k op → chooses_at at span 1 op.who k ≡ None → op.kind ≢ Refused
+  pub unchosen : (p k : ℕ) (op : Op R) → slice_get ops p ≡ Some op → IsOperation at span k op →
+      chooses_at at span 1 op.who k ≡ None → op.kind ≢ Refused
   pub unfinished : (p : ℕ) (op : Op R) → slice_get ops p ≡ Some op → op.ends ≡ None → op.kind ≢ Write → op.item ≡ None

@@ -7,8 +7,9 @@ ghost use Rattle.fourslot_core.specs.Events.{IsReadEvent, IsWriteEvent, opening_
 ghost use Rattle.matrix_core.specs.declared.stamp.Stamped.{Stamped};
 ghost use Rattle.matrix_core.specs.declared.matrix.Progress.{Progress};
 ghost use Rattle.matrix_core.specs.Events.{first_record};
-ghost use Rattle.matrix_core.specs.Runs.{greatest_own};
-ghost use Rattle.matrix_core.specs.BoardEvents.{after_event, Board, board_size, heard, IsBoard, opening_board, posted, read_slot, slot_of, write_slot};
+ghost use Rattle.matrix_core.specs.inner.MatrixPlays.{greatest_own};
+ghost use Rattle.matrix_core.specs.BoardEvents.{after_event, Board, board_size, heard, IsBoard, opening_board, posted, read_slot, slot_of};
+ghost use Rattle.matrix_core.specs.BoardEvents.{write_slot};
 
 use crate::matrix::{
     Outcome, Progress, cell_index, choose, done_at, filled, greatest_of, other, write_line,
@@ -148,7 +149,8 @@ fn read_cell<R: Copy>(
     place: usize,
 ) -> (ReadStage<Stamped<R>>, Option<u8>)
     requires { place < vec_len cells.old }
-    ensures { (s t : State (Stamped R)) × (slice_get cells.old.items place ≡ Some s) × IsReadEvent s result.0 t × (cells.new.items ≡ slice_set cells.old.items place t) × (result.1 ≡ read_slot result.0 t) }
+    ensures { (s t : State (Stamped R)) × (slice_get cells.old.items place ≡ Some s) × IsReadEvent s result.0 t
+        × (cells.new.items ≡ slice_set cells.old.items place t) × (result.1 ≡ read_slot result.0 t) }
 {
     let cell = &mut cells[place];
     let stage = cell.read_step();
@@ -171,7 +173,8 @@ fn write_cell<R: Copy>(
     item: Stamped<R>,
 ) -> (Stage, Option<u8>)
     requires { place < vec_len cells.old }
-    ensures { (s t : State (Stamped R)) × (slice_get cells.old.items place ≡ Some s) × IsWriteEvent item s result.0 t × (cells.new.items ≡ slice_set cells.old.items place t) × (result.1 ≡ write_slot result.0 t) }
+    ensures { (s t : State (Stamped R)) × (slice_get cells.old.items place ≡ Some s) × IsWriteEvent item s result.0 t
+        × (cells.new.items ≡ slice_set cells.old.items place t) × (result.1 ≡ write_slot result.0 t) }
 {
     let cell = &mut cells[place];
     let stage = cell.write_step(item);

@@ -1,14 +1,16 @@
 //! The player: a schedule over a composed board, control step by control step.
 
-ghost use Rattle.std.specs.Prelude.{◌≡◌, ◌+◌, ◌-◌, ◌*◌, ◌/◌, ◌<◌, ◌≤◌, ◌^◌, ◌++◌, ℕ, List, length, replicate, vec_len, IfOk, IsSome, OnOk, Option, None, Some, slice_get, slice_set};
+ghost use Rattle.std.specs.Prelude.{◌≡◌, ◌+◌, ◌-◌, ◌*◌, ◌/◌, ◌<◌, ◌≤◌, ◌^◌, ◌++◌, ℕ, List, length, replicate, vec_len, IfOk, IsSome, OnOk};
+ghost use Rattle.std.specs.Prelude.{Option, None, Some, slice_get, slice_set};
 ghost use Rattle.history_core.specs.Schedules.{max_limit, Overruns};
-ghost use Rattle.matrix_core.specs.Runs.{begun_op, IsTerm, max_position};
+ghost use Rattle.matrix_core.specs.inner.MatrixPlays.{begun_op};
+ghost use Rattle.matrix_core.specs.Runs.{IsTerm, max_position};
 ghost use Rattle.matrix_core.specs.BoardReports.{board_span};
-ghost use Rattle.matrix_core.specs.BoardPlays.{next_seat, noted, play_of, told_ops, told_stamps};
+ghost use Rattle.matrix_core.specs.inner.BoardPlays.{next_seat, noted, board_play_of, told_ops, told_stamps};
 
 use crate::board::BoardCore;
 use crate::matrix::{Progress, filled};
-use crate::play::{begun_op, chose, ended};
+use crate::operations::{begun_op, chose, ended};
 use crate::schedule::MatrixTerm;
 use crate::stamp::Stamp;
 use history_core::{Items, Op, Wish};
@@ -72,15 +74,17 @@ pub struct BoardPlay<R> {
 }
 
 impl<R> Model for BoardPlay<R> {
-    ghost use Rattle.matrix_core.specs.BoardPlays.{Playing};
+    ghost use Rattle.matrix_core.specs.inner.BoardPlays.{BoardPlaying};
 
-    ghost Value = { Playing R };
+    ghost Value = { BoardPlaying R };
 
-    ghost view = { λ p. record { board = p.board; now = p.now; seats = p.seats.items; ops = p.ops.items; stamps = p.stamps.items; slots = p.slots.items } };
+    ghost view = { λ p.
+        record { board = p.board; now = p.now; seats = p.seats.items; ops = p.ops.items; stamps = p.stamps.items; slots = p.slots.items } };
 }
 
 impl<R: Copy> BoardPlay<R> {
-    ghost use Rattle.matrix_core.specs.BoardPlays.{after_board_step, CanHappen, CanStep, happened, next_board_opening, opened_first, opening_play, wish_now};
+    ghost use Rattle.matrix_core.specs.inner.BoardPlays.{after_board_step, CanHappen, CanStep, happened, next_board_opening, opened_first};
+    ghost use Rattle.matrix_core.specs.inner.BoardPlays.{opening_board_play, wish_now};
 
     fn new(
         alloc: Global,
@@ -92,7 +96,7 @@ impl<R: Copy> BoardPlay<R> {
     ) -> Result<BoardPlay<R>, AllocError>
         requires processes { 2 ≤ n × n ≤ 16 }
         requires limit { 1 ≤ limit × limit ≤ max_limit }
-        ensures { IfOk result (λ play. play ≡ opening_play n limit opening noise now) }
+        ensures { IfOk result (λ play. play ≡ opening_board_play n limit opening noise now) }
     {
         let first = BoardSeat {
             place: 0,
@@ -273,7 +277,7 @@ pub(crate) fn play_board_term<R: Copy>(
     requires term { IsTerm term.now }
     requires left { (step : ℕ) → ¬ Overruns (board_span term.now) step }
     requires room { now + length term.now.steps + 1 < 2 ^ 64 }
-    ensures { IfOk result (λ play. play ≡ play_of now opening noise term.now) }
+    ensures { IfOk result (λ play. play ≡ board_play_of now opening noise term.now) }
 {
     let plans = term.plans.as_slice();
     let mut play = BoardPlay::new(alloc, plans.len(), term.limit, opening, noise, now)?;

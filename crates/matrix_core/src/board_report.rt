@@ -6,7 +6,7 @@ ghost use Rattle.matrix_core.specs.Runs.{CanPlay};
 ghost use Rattle.matrix_core.specs.BoardReports.{board_spans, IsBoardRefused, IsBoardReport};
 
 use crate::board_play::play_board_term;
-use crate::play::{Cells, first_overrun};
+use crate::overruns::{Cells, first_overrun};
 use crate::report::list_term;
 use crate::schedule::{BoardReport, BoardSchedule};
 use history_core::{History, Items, PlayError, Term};

@@ -5,11 +5,11 @@
 mod board;
 mod board_play;
 mod board_report;
-#[cfg(test)]
-mod board_tests;
 pub mod laws;
 mod matrix;
+mod operations;
 mod order;
+mod overruns;
 mod play;
 mod report;
 mod schedule;

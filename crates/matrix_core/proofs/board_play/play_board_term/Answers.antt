@@ -4,8 +4,8 @@ use Rattle.std.specs.Prelude.{slice_get, Some}
 use Rattle.std.proofs.lemmas.Option.{slice_get-get_or}
 use Rattle.std.proofs.lemmas.List.{take_all}
 use Rattle.std.specs.List.{fold}
-use Rattle.matrix_core.specs.BoardPlays.{after_board_step, opening_play}
-use Rattle.matrix_core.proofs.BoardTerms.{term_begins, term_goes_on, term_ready}
+use Rattle.matrix_core.specs.inner.BoardPlays.{after_board_step, opening_board_play}
+use Rattle.matrix_core.proofs.boards.Terms.{term_begins, term_goes_on, term_ready}
 use Rattle.matrix_core.proofs.board_play.play_board_term.Goals as goal
 
 pub loop-who-init : goal.loop-who-init
@@ -17,8 +17,10 @@ loop-who-preserved g c =
     let i : ℕ = c.loop-who.who-index in
     let who : ℕ = get_or steps i 0 in
     let lt : i < length steps = c.loop-who-test.true in
-    let at : slice_get c.args.term.now.steps i ≡ Some who = ap (λ xs. slice_get xs i) (sym c.as_slice-who-items.ensures) ∙ slice_get-get_or steps i 0 lt in
-    let e : c.step.new.self ≡ after_board_step c.args.term.now.plans c.loop-who.play who = rw c.as_slice-plans.ensures at c.in_ok-step.ensures in
+    let at : slice_get c.args.term.now.steps i ≡ Some who =
+    ap (λ xs. slice_get xs i) (sym c.as_slice-who-items.ensures) ∙ slice_get-get_or steps i 0 lt in
+    let e : c.step.new.self ≡ after_board_step c.args.term.now.plans c.loop-who.play who =
+    rw c.as_slice-plans.ensures at c.in_ok-step.ensures in
     rw e (term_goes_on c.args.now c.args.opening c.args.noise c.args.term.now i who c.loop-who.play at c.loop-who.invariant)
 
 pub step-requires : goal.step-requires
@@ -27,10 +29,13 @@ step-requires g c =
     let i : ℕ = c.loop-who.who-index in
     let who : ℕ = get_or steps i 0 in
     let lt : i < length steps = c.loop-who-test.true in
-    let at : slice_get c.args.term.now.steps i ≡ Some who = ap (λ xs. slice_get xs i) (sym c.as_slice-who-items.ensures) ∙ slice_get-get_or steps i 0 lt in
-    rw c.as_slice-plans.ensures (term_ready c.args.now c.args.opening c.args.noise c.args.term.now i who c.loop-who.play c.requires.term c.requires.left c.requires.room at c.loop-who.invariant)
+    let at : slice_get c.args.term.now.steps i ≡ Some who =
+    ap (λ xs. slice_get xs i) (sym c.as_slice-who-items.ensures) ∙ slice_get-get_or steps i 0 lt in
+    rw c.as_slice-plans.ensures (term_ready c.args.now c.args.opening c.args.noise c.args.term.now i who c.loop-who.play c.requires.term
+    c.requires.left c.requires.room at c.loop-who.invariant)
 
 pub returns : goal.returns
 returns g c =
     let done : length c.args.term.now.steps ≤ c.loop-who.who-index = rw c.as_slice-who-items.ensures at c.loop-who-test.false in
-    c.loop-who.invariant.is ∙ ap (fold (after_board_step c.args.term.now.plans) (opening_play (length c.args.term.now.plans) c.args.term.now.limit c.args.opening c.args.noise c.args.now)) (take_all c.loop-who.who-index c.args.term.now.steps done)
+    c.loop-who.invariant.is ∙ ap (fold (after_board_step c.args.term.now.plans) (opening_board_play (length c.args.term.now.plans)
+    c.args.term.now.limit c.args.opening c.args.noise c.args.now)) (take_all c.loop-who.who-index c.args.term.now.steps done)

@@ -1,5 +1,5 @@
 -- The play is the fold of the events over the steps passed, and each step keeps what is said of it.
-use Rattle.matrix_core.proofs.BoardTerms.{IsBoardTermSoFar}
+use Rattle.matrix_core.proofs.boards.Terms.{IsBoardTermSoFar}
 use Rattle.matrix_core.proofs.board_play.play_board_term.Given as goal
 
 abbrev pub invariant-loop-who : goal.invariant-loop-who

@@ -1,7 +1,7 @@
 -- The step that chooses reports the stamp.
 use Rattle.std.proofs.Common.{rules, ◌≡◌, ◌<◌, length, sym}
-use Rattle.matrix_core.proofs.BoardTelling.{tells_stamp}
-use Rattle.matrix_core.proofs.Steps.{get_exists}
+use Rattle.matrix_core.proofs.boards.Telling.{tells_stamp}
+use Rattle.matrix_core.proofs.matrices.Steps.{get_exists}
 use Rattle.matrix_core.proofs.board_play.tell_stamps.Goals as goal
 
 pub returns-then-seat-n : goal.returns-then-seat-n

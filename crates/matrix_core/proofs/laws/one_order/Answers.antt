@@ -1,5 +1,5 @@
 -- Sorted by stamp, of one stamp the write first, and then by clock.
-use Rattle.matrix_core.proofs.CallOrders.{in_order, no_circle, ordered}
+use Rattle.matrix_core.proofs.calls.Orders.{in_order, no_circle, ordered}
 use Rattle.matrix_core.proofs.laws.one_order.Goals as goal
 
 pub returns-clause-ordered : goal.returns-clause-ordered

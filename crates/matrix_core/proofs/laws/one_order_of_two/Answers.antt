@@ -1,4 +1,4 @@
-use Rattle.matrix_core.proofs.CallInstances.{not_this_order, their_order, two_run}
+use Rattle.matrix_core.proofs.calls.Instances.{not_this_order, their_order, two_run}
 use Rattle.matrix_core.proofs.laws.one_order_of_two.Goals as goal
 
 pub returns-clause-runs : goal.returns-clause-runs

@@ -2,8 +2,8 @@
 use Rattle.std.proofs.Common.{◌≡◌, ◌∙◌, ◌++◌, ◌∷◌, [], ap, sym, append-nil, append_assoc, List, length}
 use Rattle.std.proofs.lemmas.Iterator.Adapters.{YieldsList-from_vec}
 use Rattle.std.proofs.lemmas.Iterator.Consumers.{YieldsList-end}
-use Rattle.matrix_core.specs.BoardPlays.{Playing}
-use Rattle.matrix_core.proofs.Lists.{map_same}
+use Rattle.matrix_core.specs.inner.BoardPlays.{BoardPlaying}
+use Rattle.matrix_core.proofs.lists.Elements.{map_same}
 use Rattle.matrix_core.proofs.board_play.BoardPlay.give.Goals as goal
 
 pub loop-row-init : goal.loop-row-init
@@ -18,8 +18,10 @@ loop-row-preserved g c =
 
 pub returns-clause-slots : goal.returns-clause-slots
 returns-clause-slots g c =
-    let end = YieldsList-end (YieldsList-from_vec {s = c.into_iter-row-iterator.result} c.play.inside.slots.items c.into_iter-row-iterator.ensures.into_iter_gives.0 (c.into_iter-row-iterator.ensures.into_iter_gives.1 ∙ cc)) c.loop-row.yielded c.loop-row.row-iterator c.loop-row.yielded_by c.next.result c.next.new.self c.in-None.is c.next.ensures.steps in
+    let end = YieldsList-end (YieldsList-from_vec {s = c.into_iter-row-iterator.result} c.play.inside.slots.items
+    c.into_iter-row-iterator.ensures.into_iter_gives.0 (c.into_iter-row-iterator.ensures.into_iter_gives.1 ∙ cc)) c.loop-row.yielded
+    c.loop-row.row-iterator c.loop-row.yielded_by c.next.result c.next.new.self c.in-None.is c.next.ensures.steps in
     let all : c.loop-row.yielded ≡ c.play.inside.slots.items = sym (map_same c.loop-row.yielded) ∙ end.0 in
     c.loop-row.invariant
     ∙ ap (λ rows. c.args.slots.now.items ++ rows) all
-    ∙ ap (λ (p : Playing g.row.R.Denot). c.args.slots.now.items ++ p.slots) c.play.view_is
+    ∙ ap (λ (p : BoardPlaying g.row.R.Denot). c.args.slots.now.items ++ p.slots) c.play.view_is

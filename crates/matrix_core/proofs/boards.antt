@@ -1,0 +1,21 @@
+-- The composed board, and its player.
+pub mod Agree
+pub mod CellPlaces
+pub mod CellTurns
+pub mod Cells
+pub mod ColumnSteps
+pub mod Folds
+pub mod Holds
+pub mod Joined
+pub mod Outcomes
+pub mod Plays
+pub mod Reports
+pub mod RowSteps
+pub mod Runs
+pub mod Slots
+pub mod Stages
+pub mod Steps
+pub mod Telling
+pub mod Terms
+pub mod TraceSteps
+pub mod Traces

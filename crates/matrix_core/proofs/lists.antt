@@ -1,0 +1,3 @@
+-- Lists: elements after a write, and sorting.
+pub mod Elements
+pub mod Sorting

@@ -1,0 +1,4 @@
+-- The order of a term, by stamp.
+pub mod Listing
+pub mod Places
+pub mod Terms

@@ -1,0 +1,4 @@
+-- What private functions alone cite. No public contract names any of this.
+pub mod BoardPlays
+pub mod MatrixPlays
+pub mod MatrixReports

@@ -1,0 +1,64 @@
+//! What the steps of an operation make of it: it begins, chooses and ends.
+
+ghost use Rattle.std.specs.Prelude.{◌≡◌};
+ghost use Rattle.matrix_core.specs.inner.MatrixPlays.{begun_op, chose, ended};
+
+use crate::matrix::Outcome;
+use history_core::{Kind, Op, Wish};
+
+pub(crate) fn begun_op<R: Copy>(who: usize, now: u64, wish: Wish<R>) -> Op<R>
+    ensures { result ≡ begun_op who now wish }
+{
+    match wish {
+        Wish::Write(item) => Op {
+            who,
+            kind: Kind::Write,
+            starts: now,
+            ends: None,
+            item: Some(item),
+        },
+        Wish::Read => Op {
+            who,
+            kind: Kind::Read,
+            starts: now,
+            ends: None,
+            item: None,
+        },
+    }
+}
+
+/// What its choice makes of an operation: a write that is refused has no item until it ends.
+pub(crate) fn chose<R: Copy>(outcome: Outcome<R>, op: Op<R>) -> Op<R>
+    ensures { result ≡ chose outcome op }
+{
+    match outcome {
+        Outcome::Written(_) | Outcome::Seen(_) => op,
+        Outcome::Ended(_) => Op {
+            kind: Kind::Refused,
+            item: None,
+            ..op
+        },
+    }
+}
+
+/// What its last access makes of an operation, at the position `now`.
+pub(crate) fn ended<R: Copy>(now: u64, outcome: Outcome<R>, op: Op<R>) -> Op<R>
+    ensures { result ≡ ended now outcome op }
+{
+    match outcome {
+        Outcome::Written(_) => Op {
+            ends: Some(now),
+            ..op
+        },
+        Outcome::Seen(answer) => Op {
+            ends: Some(now),
+            item: Some(answer.item),
+            ..op
+        },
+        Outcome::Ended(last) => Op {
+            ends: Some(now),
+            item: Some(last.item),
+            ..op
+        },
+    }
+}
