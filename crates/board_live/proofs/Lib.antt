@@ -13,3 +13,4 @@ pub mod Runs
 pub mod Seats
 pub mod SoundLogs
 pub mod Steps
+pub mod Told

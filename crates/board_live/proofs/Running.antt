@@ -40,7 +40,7 @@ all_in P (y ∷ ys) x h (inl e) = subst P (sym e) (All-head P y ys h)
 all_in P (y ∷ ys) x h (inr m) = all_in P ys x (All-tail P y ys h) m
 
 -- there is an element
-get_at : {X : Type 0} (xs : List X) (k : ℕ) → k < length xs → (x : X) × (slice_get xs k ≡ Some x)
+pub get_at : {X : Type 0} (xs : List X) (k : ℕ) → k < length xs → (x : X) × (slice_get xs k ≡ Some x)
 get_at [] k l = absurd (omega arith)
 get_at (x ∷ xs) zero l = (x, refl)
 get_at (x ∷ xs) (suc k) l = get_at xs k (let m : suc k < suc (length xs) = l in omega arith)
@@ -356,7 +356,7 @@ module _ {V C P G T : Type 0} {law : LawWords V} {eq : EqWords V} {cells : CellW
         ];
       }
 
-    pub told_runs : (to : ℕ) (receipt : Receipt V C P G T law eq cells) → HasTold p to q receipt → RunsTo board Named who cs q
+    pub told_runs : (to : ℕ) (receipt : Receipt V C P G T) → HasTold p to q receipt → RunsTo board Named who cs q
     told_runs to receipt t = record {
       of = of_q;
       process = t.process ∙ h.process;
@@ -376,7 +376,7 @@ module _ {V C P G T : Type 0} {law : LawWords V} {eq : EqWords V} {cells : CellW
       heard_of = h.heard_of;
     }
 
-    module _ (receipt : Receipt V C P G T law eq cells) (t : HasLearnt p receipt q) (named : Named (dated receipt.item)) (there : seat p.process receipt.from < length q.gets.items) where
+    module _ (receipt : Receipt V C P G T) (t : HasLearnt p receipt q) (named : Named (dated receipt.item)) (there : seat p.process receipt.from < length q.gets.items) where
       -- the place of the pass from the sender
       abbrev from : ℕ
       from = seat p.process receipt.from
@@ -452,7 +452,7 @@ module _ {V C P G T : Type 0} {law : LawWords V} {eq : EqWords V} {cells : CellW
       }
 
   -- the place of the pass from a receipt's sender
-  sender_within : (board : Board V C P G T law eq cells) (p q : Pass V C P G T law eq cells) (receipt : Receipt V C P G T law eq cells)
+  pub sender_within : (board : Board V C P G T law eq cells) (p q : Pass V C P G T law eq cells) (receipt : Receipt V C P G T)
       → IsPass board p → IsPass board q → IsReceipt board receipt → receipt.to ≡ p.process → seat p.process receipt.from < length q.gets.items
   sender_within board p q receipt of_p of_q is to =
       let n : seat p.process receipt.from + 1 < length board.rows.items = seat_within p.process receipt.from (length board.rows.items) of_p.inside is.inside (λ e. is.apart (sym e ∙ sym to)) in

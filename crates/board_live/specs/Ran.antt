@@ -46,8 +46,8 @@ module _ {V C P G T : Type 0} {law : LawWords V} {eq : EqWords V} {cells : CellW
   pub data Ran (board : Board V C P G T law eq cells) (Named : Dated V → Type 0) (old : Pass V C P G T law eq cells) : List (Call V) → Pass V C P G T law eq cells → Type 0 where
     nothing : Ran board Named old [] old
     called : (cs : List (Call V)) (p q : Pass V C P G T law eq cells) (kind : Kind) → Ran board Named old cs p → MakesCall board kind p q → Ran board Named old (cs ++ call_of kind p q ∷ []) q
-    tells : (cs : List (Call V)) (p q : Pass V C P G T law eq cells) (to : ℕ) (receipt : Receipt V C P G T law eq cells) → Ran board Named old cs p → IsPass board q → HasTold p to q receipt → Ran board Named old cs q
-    learns : (cs : List (Call V)) (p q : Pass V C P G T law eq cells) (receipt : Receipt V C P G T law eq cells) → Ran board Named old cs p → IsPass board q → IsReceipt board receipt → receipt.to ≡ p.process → HasLearnt p receipt q → Named (dated receipt.item) → Ran board Named old cs q
+    tells : (cs : List (Call V)) (p q : Pass V C P G T law eq cells) (to : ℕ) (receipt : Receipt V C P G T) → Ran board Named old cs p → IsPass board q → HasTold p to q receipt → Ran board Named old cs q
+    learns : (cs : List (Call V)) (p q : Pass V C P G T law eq cells) (receipt : Receipt V C P G T) → Ran board Named old cs p → IsPass board q → IsReceipt board receipt → receipt.to ≡ p.process → HasLearnt p receipt q → Named (dated receipt.item) → Ran board Named old cs q
 
   -- a pass with which nothing was done yet
   pub record IsFresh (board : Board V C P G T law eq cells) (who : ℕ) (pass : Pass V C P G T law eq cells) : Type 0 where

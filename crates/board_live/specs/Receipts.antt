@@ -11,14 +11,15 @@ use Rattle.board_live.specs.Clocks.{later}
 use Rattle.board_live.specs.Lists.{Match, seat, cell_of}
 
 module _ {V C P G T : Type 0} {law : LawWords V} {eq : EqWords V} {cells : CellWords C (Clocked V) P G T} where
-  -- the receipt is of the board's cell from its sender to its receiver
-  pub record IsReceipt (board : Board V C P G T law eq cells) (receipt : Receipt V C P G T law eq cells) : Type 0 where
+  -- the receipt is of the board's cell from its sender to its receiver, and names its record there
+  pub record IsReceipt (board : Board V C P G T law eq cells) (receipt : Receipt V C P G T) : Type 0 where
     pub inside : receipt.from < length board.rows.items
     pub apart : receipt.from ≡ receipt.to → ⊥
+    pub names : cells.named receipt.told ≡ receipt.item
     pub of : (c : C) → cell_of board.rows.items receipt.from receipt.to ≡ Some c → cells.is_told c receipt.told
 
   -- the receipt names the sender's own record; all else is as before
-  pub record HasTold (old : Pass V C P G T law eq cells) (to : ℕ) (new : Pass V C P G T law eq cells) (receipt : Receipt V C P G T law eq cells) : Type 0 where
+  pub record HasTold (old : Pass V C P G T law eq cells) (to : ℕ) (new : Pass V C P G T law eq cells) (receipt : Receipt V C P G T) : Type 0 where
     pub names : receipt.item ≡ old.own
     pub from : receipt.from ≡ old.process
     pub to_one : receipt.to ≡ to
@@ -29,7 +30,7 @@ module _ {V C P G T : Type 0} {law : LawWords V} {eq : EqWords V} {cells : CellW
     pub written : Match (λ p q. cells.written q ≡ cells.written p) (slice_get old.puts.items) new.puts.items
 
   -- the pass of the cell from the sender was told the receipt's record; all else is as before
-  pub record HasLearnt (old : Pass V C P G T law eq cells) (receipt : Receipt V C P G T law eq cells) (new : Pass V C P G T law eq cells) : Type 0 where
+  pub record HasLearnt (old : Pass V C P G T law eq cells) (receipt : Receipt V C P G T) (new : Pass V C P G T law eq cells) : Type 0 where
     pub process : new.process ≡ old.process
     pub own : new.own ≡ old.own
     pub heard : new.heard ≡ later old.heard receipt.item.clock

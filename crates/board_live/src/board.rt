@@ -44,7 +44,6 @@ pub struct Receipt<V: RecordLaw, C: Calls<Clocked<V>>> {
     to: usize,
     item: Clocked<V>,
     told: C::Told,
-    ghost tells: { C.named told ≡ item },
 }
 
 /// The tags have ended. What was seen is handed on, as by a read.

@@ -128,6 +128,26 @@ impl<K: Calls<Clocked<Band>>> Team<K> {
         Given::Posted(receipt.told())
     }
 
+    /// One process tells another, which learns it. Gives the record that the receipt names.
+    fn pass_on(&mut self, from: usize, to: usize) -> Given
+        requires { AllPasses self.old.board self.old.passes.items }
+        ensures { AllPasses self.new.board self.new.passes.items }
+    {
+        if from >= self.passes.len() {
+            return Given::Nothing;
+        }
+        if to >= self.passes.len() {
+            return Given::Nothing;
+        }
+        if to == from {
+            return Given::Nothing;
+        }
+        let receipt = self.board.tell(&mut self.passes[from], to);
+        let told = receipt.told();
+        self.board.learn(&mut self.passes[to], receipt);
+        Given::Posted(told)
+    }
+
     fn finish(self) -> Posted<Band>
         requires { AllPasses self.board self.passes.items }
     {

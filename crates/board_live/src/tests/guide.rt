@@ -1,9 +1,11 @@
 //! The example of the page on boards: three tasks share a reading and its limits.
 ghost use Rattle.std.specs.Prelude.{◌≡◌, ◌≤◌, IfOk, length};
-ghost use Rattle.board_live.specs.Boards.{IsPass};
+ghost use Rattle.board_live.specs.Boards.{IsPass, IsBoardCall, seen_by};
 ghost use Rattle.board_live.specs.Deals.{AllPasses};
+ghost use Rattle.board_live.specs.Receipts.{IsReceipt};
+ghost use Rattle.matrix_core.specs.Choices.{IsAtMost};
 
-use crate::{Board, BoardError, Clocked, Pass, RecordLaw, TagsEnded};
+use crate::{Board, BoardError, Clocked, Pass, Receipt, RecordLaw, TagsEnded};
 use cell_live::FourSlotCell;
 use matrix_core::Stamp;
 use std::alloc::Global;
@@ -73,10 +75,44 @@ fn publish(
 fn steer(board: &Board<Control, Cell>, pass: &mut Pass<Control, Cell>) -> u64
     requires { IsPass board.now pass.old }
     ensures pass { IsPass board.now pass.new }
-    ensures process { pass.new.process ≡ pass.old.process }
+    ensures call { IsBoardCall board.now.first pass.old pass.new (seen_by pass.old pass.new) }
 {
     let Control { low, reading, high } = board.read(pass).item;
     reading.max(low).min(high)
+}
+
+/// The reading's task publishes, and gives a receipt for the steering task.
+fn publish_and_tell(
+    board: &Board<Control, Cell>,
+    pass: &mut Pass<Control, Cell>,
+    reading: u64,
+) -> Result<Receipt<Control, Cell>, TagsEnded<Control>>
+    requires pass { IsPass board.now pass.old }
+    requires process { pass.old.process ≡ 1 }
+    requires three { length board.now.rows.items ≡ 3 }
+    ensures pass { IsPass board.now pass.new }
+    ensures process { pass.new.process ≡ pass.old.process }
+    ensures receipt { IfOk result (λ r. IsReceipt board.now r × (r.to ≡ 2)) }
+{
+    publish(board, pass, reading)?;
+    Ok(board.tell(pass, STEERING))
+}
+
+/// The steering task takes the receipt in, so that it steers by a record that is no older.
+fn steer_when_told(
+    board: &Board<Control, Cell>,
+    pass: &mut Pass<Control, Cell>,
+    receipt: Receipt<Control, Cell>,
+) -> u64
+    requires pass { IsPass board.now pass.old }
+    requires receipt { IsReceipt board.now receipt }
+    requires to { receipt.to ≡ pass.old.process }
+    ensures pass { IsPass board.now pass.new }
+    ensures process { pass.new.process ≡ pass.old.process }
+    ensures heeds { IsAtMost receipt.item.stamp pass.new.own.stamp }
+{
+    board.learn(pass, receipt);
+    steer(board, pass)
 }
 
 /// Each task calls in turn.
@@ -89,8 +125,8 @@ fn share(
     ensures { IfOk result (λ _. AllPasses board.now passes.new.items × (length passes.new.items ≡ 3)) }
 {
     set_limits(board, &mut passes[LIMITS], 10, 20)?;
-    publish(board, &mut passes[READING], 25)?;
-    Ok(steer(board, &mut passes[STEERING]))
+    let receipt = publish_and_tell(board, &mut passes[READING], 25)?;
+    Ok(steer_when_told(board, &mut passes[STEERING], receipt))
 }
 
 /// One reading more, which is refused where the tags have ended.

@@ -1,6 +1,6 @@
 //! Boards in one thread.
 use super::{A, B, C, Given, OPENING, Team, UNLAWFUL, at};
-use crate::{BoardError, Clocked};
+use crate::{BoardError, Clocked, TagsEnded};
 use cell_live::{Calls, FourSlotCell, TripleCell};
 use history_core::Band;
 use matrix_core::Stamp;
@@ -17,6 +17,13 @@ fn stamp(tag: u64, writer: usize) -> Given {
 
 fn posted(tag: u64, writer: usize, item: Band) -> Given {
     Given::Posted(at(tag, writer, item))
+}
+
+fn given(answer: Result<Stamp, TagsEnded<Band>>) -> Given {
+    match answer {
+        Ok(stamp) => Given::Stamp(stamp),
+        Err(ended) => Given::Ended(ended.seen),
+    }
 }
 
 /// Three processes write and read.
@@ -54,6 +61,47 @@ fn lost<K: Calls<Clocked<Band>>>(alloc: Global) -> Result<[Given; 4], BoardError
         team.own(0),
         team.read(1),
     ])
+}
+
+/// A record that is told is read.
+fn told<K: Calls<Clocked<Band>>>(alloc: Global) -> Result<[Given; 4], BoardError> {
+    let mut team = Team::<K>::new(alloc, 2, 9, OPENING)?;
+    Ok([
+        team.write(0, A),
+        team.pass_on(0, 1),
+        team.read(1),
+        Given::Posted(team.finish()),
+    ])
+}
+
+/// The tags end with a record that was told.
+fn told_at_limit<K: Calls<Clocked<Band>>>(alloc: Global) -> Result<[Given; 3], BoardError> {
+    let mut team = Team::<K>::new(alloc, 2, 1, OPENING)?;
+    Ok([team.write(0, A), team.pass_on(0, 1), team.write(1, B)])
+}
+
+/// A receipt is learnt after its record was overwritten.
+fn late<K: Calls<Clocked<Band>>>(alloc: Global) -> Result<Option<[Given; 5]>, BoardError> {
+    let Team { board, mut passes } = Team::<K>::new(alloc, 2, 9, OPENING)?;
+    let Some(mut reader) = passes.pop() else {
+        return Ok(None);
+    };
+    let Some(mut writer) = passes.pop() else {
+        return Ok(None);
+    };
+    let first = given(board.write(&mut writer, A));
+    let receipt = board.tell(&mut writer, reader.process());
+    let second = given(board.write(&mut writer, B));
+    let before = board.read(&mut reader);
+    let told = receipt.told();
+    board.learn(&mut reader, receipt);
+    Ok(Some([
+        first,
+        second,
+        Given::Posted(before),
+        Given::Posted(told),
+        Given::Posted(board.read(&mut reader)),
+    ]))
 }
 
 /// One thread holds both passes, and nothing is told.
@@ -96,10 +144,7 @@ fn dropped<K: Calls<Clocked<Band>>>(alloc: Global) -> Result<Option<[Given; 3]>,
     let _ = board.write(&mut lost, B);
     drop(lost);
     let first = board.read(&mut kept);
-    let second = match board.write(&mut kept, C) {
-        Ok(stamp) => Given::Stamp(stamp),
-        Err(ended) => Given::Ended(ended.seen),
-    };
+    let second = given(board.write(&mut kept, C));
     Ok(Some([
         Given::Posted(first),
         second,
@@ -161,6 +206,38 @@ fn tags_end(rt: HostRuntime) -> Result<(), Fail> {
     ];
     assert_eq!(rt; ends::<FourSlot>(alloc)?, expected);
     assert_eq!(rt; ends::<Triple>(alloc)?, expected);
+    Ok(())
+}
+
+#[test]
+fn receipt_that_is_learnt(rt: HostRuntime) -> Result<(), Fail> {
+    let alloc = rt.alloc();
+    let expected = [
+        stamp(1, 0),
+        posted(1, 0, A),
+        posted(1, 0, A),
+        posted(1, 0, A),
+    ];
+    assert_eq!(rt; told::<FourSlot>(alloc)?, expected);
+    assert_eq!(rt; told::<Triple>(alloc)?, expected);
+    let ended = [stamp(1, 0), posted(1, 0, A), Given::Ended(at(1, 0, A))];
+    assert_eq!(rt; told_at_limit::<FourSlot>(alloc)?, ended);
+    assert_eq!(rt; told_at_limit::<Triple>(alloc)?, ended);
+    Ok(())
+}
+
+#[test]
+fn late_receipt(rt: HostRuntime) -> Result<(), Fail> {
+    let alloc = rt.alloc();
+    let expected = Some([
+        stamp(1, 0),
+        stamp(2, 0),
+        posted(2, 0, B),
+        posted(1, 0, A),
+        posted(2, 0, B),
+    ]);
+    assert_eq!(rt; late::<FourSlot>(alloc)?, expected);
+    assert_eq!(rt; late::<Triple>(alloc)?, expected);
     Ok(())
 }
 

@@ -66,6 +66,6 @@ returns-clause-learnt g c =
           let q' : slice_get (set gets c.seat.result c.learn.new.get) c.seat.result ≡ Some q = subst (λ i. slice_get (set gets c.seat.result c.learn.new.get) i ≡ Some q) (sym n) at_q in
           let ep : p ≡ c.index_mut.result.now = same_Some p c.index_mut.result.now (sym p' ∙ found g b) in
           let eq : q ≡ c.learn.new.get = get-set_same gets c.seat.result c.learn.new.get q q' (within g b) in
-          rw (ep, eq) (c.learn.ensures.told ∙ ap (λ t. g.C.Calls.told c.index_mut.result.now ++ t ∷ []) c.args.receipt.tells);
+          rw (ep, eq) (c.learn.ensures.told ∙ ap (λ t. g.C.Calls.told c.index_mut.result.now ++ t ∷ []) c.requires.receipt.names);
       others = λ k q ne at. get-set_other gets c.seat.result k c.learn.new.get q (λ e. ne (e ∙ n)) at;
     }

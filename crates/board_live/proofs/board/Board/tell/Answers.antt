@@ -34,11 +34,6 @@ module _ (g : _) (c : After-index_mut g) where
 pub tell-told-requires : goal.tell-told-requires
 tell-told-requires g c = (here g c).of
 
-pub invariant_of-result : goal.invariant_of-result
-invariant_of-result g c =
-    let h = here g (goal.at.invariant_of-result g c).After-index_mut in
-    record { tells = c.tell-told.ensures.named ∙ ap (λ o. last_or o (g.C.Calls.written c.index_mut.result.now)) h.opened ∙ h.last }
-
 pub returns-clause-pass : goal.returns-clause-pass
 returns-clause-pass g c =
     let h = here g (goal.at.returns-clause-pass g c).After-index_mut in
@@ -66,3 +61,14 @@ returns-clause-told g c = record {
   written = match_one (λ p q. g.C.Calls.written q ≡ g.C.Calls.written p) c.args.pass.now.puts.items c.seat.result c.tell-told.new.put (λ x. refl) (within g (goal.at.returns-clause-told g c).After-index_mut)
       (λ x p. let e : x ≡ c.index_mut.result.now = same_Some x c.index_mut.result.now (sym p ∙ found g (goal.at.returns-clause-told g c).After-index_mut) in rw e c.tell-told.ensures.same.0);
 }
+
+pub returns-clause-receipt : goal.returns-clause-receipt
+returns-clause-receipt g c =
+    let b = (goal.at.returns-clause-receipt g c).After-index_mut in
+    let h = here g b in
+    record {
+      inside = c.requires.pass.inside;
+      apart = apart g b;
+      names = c.tell-told.ensures.named ∙ ap (λ o. last_or o (g.C.Calls.written c.index_mut.result.now)) h.opened ∙ h.last;
+      of = λ d p. let e : d ≡ c.cell-to_cell.result.now = same_Some d c.cell-to_cell.result.now (sym p ∙ (rw c.deref.ensures.value at c.cell-to_cell.ensures)) in rw e c.tell-told.ensures.own.1;
+    }
