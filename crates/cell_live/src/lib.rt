@@ -13,10 +13,12 @@ mod cell;
 mod closed;
 mod four_slot;
 pub mod laws;
+mod lays;
 mod triple;
 
 pub use cell::{Calls, Cell, Kept, Lawful};
 pub use four_slot::{FourSlotCell, FourSlotGet, FourSlotPut, FourSlotTold};
+pub use lays::Lays;
 pub use triple::{TripleCell, TripleGet, TriplePut, TripleTold};
 
 #[cfg(test)]

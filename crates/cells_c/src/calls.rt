@@ -51,17 +51,16 @@ pub fn make<W: Record, P: Opens<W, G>, G: Reading<W>>(
 pub fn write<W: Record, P: Writing<W>>(alloc: Global, writer: &mut Handle, item: &W) -> u32
     ensures { IsWrite (λ p. W.side (P.party p)) P.last P.has_written writer.old writer.new item.now result }
 {
-    match writer.take(alloc) {
-        None => ENDED,
-        Some(mut side) => {
-            let status = match pick::<W, P>(side.as_mut()) {
-                None => OTHER_SIDE,
-                Some(put) => if put.write(item) { DONE } else { WORN_OUT },
-            };
-            writer.put(side);
-            status
-        }
+    if writer.live == 0 {
+        return ENDED;
     }
+    let mut side = writer.loose.take(alloc);
+    let status = match pick::<W, P>(side.as_mut()) {
+        None => OTHER_SIDE,
+        Some(put) => if put.write(item) { DONE } else { WORN_OUT },
+    };
+    writer.loose.put(side);
+    status
 }
 
 /// Reads by the handle's reading side.
@@ -74,22 +73,21 @@ pub fn read<W: Record, G: Reading<W>>(
 ) -> u32
     ensures { IsRead (λ g. W.side (G.party g)) G.has_read reader.old reader.new item.new number.new result }
 {
-    match reader.take(alloc) {
-        None => ENDED,
-        Some(mut side) => {
-            let status = match pick::<W, G>(side.as_mut()) {
-                None => OTHER_SIDE,
-                Some(get) => {
-                    let answer = get.read();
-                    *item = answer.words;
-                    *number = answer.number;
-                    DONE
-                }
-            };
-            reader.put(side);
-            status
-        }
+    if reader.live == 0 {
+        return ENDED;
     }
+    let mut side = reader.loose.take(alloc);
+    let status = match pick::<W, G>(side.as_mut()) {
+        None => OTHER_SIDE,
+        Some(get) => {
+            let answer = get.read();
+            *item = answer.words;
+            *number = answer.number;
+            DONE
+        }
+    };
+    reader.loose.put(side);
+    status
 }
 
 /// Ends the handle's side.

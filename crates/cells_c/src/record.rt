@@ -1,7 +1,8 @@
 //! The records that C passes, and the record that lies in a cell.
-ghost use Rattle.cells_c.specs.Numbers.{Follows, follows_itself, follows_on};
+ghost use Rattle.cells_c.specs.Numbers.{numbered, Follows, follows_itself, follows_on};
 
-use cell_live::{Kept, Lawful};
+use cell_live::{Kept, Lawful, Lays};
+use std::snapshot::Snapshot;
 
 /// A record of 8 bytes.
 #[repr(C)]
@@ -63,3 +64,28 @@ impl<W: Copy> Lawful for Numbered<W> {
 }
 
 impl<W: Copy + Send + Sync> Kept for Numbered<W> {}
+
+/// A record where C has it, and the number that it gets.
+#[derive(Drop)]
+pub struct Numbering<'a, W> {
+    pub number: u64,
+    pub words: &'a W,
+}
+
+impl<'a, W: Copy> Lays<Numbered<W>> for Numbering<'a, W> {
+    ghost whole = { λ n. numbered n.number n.words.now };
+
+    #[inline]
+    fn name(&self) -> Snapshot<Numbered<W>> {
+        Snapshot::of(&Numbered {
+            number: self.number,
+            words: *self.words,
+        })
+    }
+
+    #[inline]
+    fn lay(&self, place: &mut Numbered<W>) {
+        place.number = self.number;
+        place.words = *self.words;
+    }
+}

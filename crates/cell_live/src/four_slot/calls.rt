@@ -10,10 +10,10 @@ use super::bits::{bit_of, bit_word, is_one, set_bit, slot_of, word_of};
 use super::table::FourSlotTable;
 use super::{FourSlotCell, FourSlotGet, FourSlotPut, FourSlotTold};
 use crate::cell::{Calls, Cell, Kept, Lawful};
+use crate::lays::{Lays, Whole};
 use fourslot_core::Sides;
 use std::alloc::{AllocError, Global};
 use std::marker::Brand;
-use std::snapshot::Snapshot;
 
 /// The control accesses of a read, which take the slot that has the answer. Gives its number.
 #[inline]
@@ -29,6 +29,31 @@ fn choose<T: Lawful>(cell: &FourSlotCell<T>, get: &mut FourSlotGet<T>) -> usize
     let bit = table.take(&mut get.seat, word);
     let index = is_one(bit);
     slot_of(pair, index)
+}
+
+impl<T: Lawful> FourSlotCell<T> {
+    /// Shows the record that the parts make to the reader, and copies each part once, into the slot.
+    #[inline]
+    pub fn write_laid<L: Lays<T>>(&self, put: &mut FourSlotPut<T>, parts: &L)
+        requires own { is_put_of self.now put.old }
+        requires lawful { T.fits (L.whole parts.now) × T.rises (last_or (opening_of self.now) (written_by put.old)) (L.whole parts.now) }
+        ensures own { is_put_of self.now put.new }
+        ensures written { written_by put.new ≡ written_by put.old ++ L.whole parts.now ∷ [] }
+        ensures accesses { writer_accesses put.new ≡ writer_accesses put.old + 3 }
+        ensures events { write_events put.new ≡ write_events put.old ++ W1 (snap (L.whole parts.now)) ∷ W2 ∷ W3 ∷ W4 ∷ W5 ∷ [] }
+    {
+        let table = &self.table;
+        let named = parts.name();
+        let reading = table.begin::<Brand>(&mut put.seat, named);
+        let pair = !is_one(reading);
+        let index = !bit_of(put.remembered, pair);
+        let slot = slot_of(pair, index);
+        table.fill(&mut put.seat, slot, parts);
+        let word = word_of(pair);
+        table.store(&mut put.seat, word, bit_word(index));
+        table.finish(&mut put.seat, bit_word(pair));
+        set_bit(&mut put.remembered, pair, index);
+    }
 }
 
 impl<T: Lawful> Calls<T> for FourSlotCell<T> {
@@ -107,17 +132,7 @@ impl<T: Lawful> Calls<T> for FourSlotCell<T> {
         ensures accesses { writer_accesses put.new ≡ writer_accesses put.old + 3 }
         ensures events { write_events put.new ≡ write_events put.old ++ W1 (snap item.now) ∷ W2 ∷ W3 ∷ W4 ∷ W5 ∷ [] }
     {
-        let table = &self.table;
-        let named = Snapshot::of(item);
-        let reading = table.begin::<Brand>(&mut put.seat, named);
-        let pair = !is_one(reading);
-        let index = !bit_of(put.remembered, pair);
-        let slot = slot_of(pair, index);
-        table.fill(&mut put.seat, slot, item);
-        let word = word_of(pair);
-        table.store(&mut put.seat, word, bit_word(index));
-        table.finish(&mut put.seat, bit_word(pair));
-        set_bit(&mut put.remembered, pair, index);
+        self.write_laid(put, &Whole { item });
     }
 
     #[inline]

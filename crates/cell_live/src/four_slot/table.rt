@@ -19,6 +19,7 @@ use super::notes::Sight;
 use super::plays::{Asks, Begins, Ends, Finishes, Hears, Item, Parts, Says, Stores, Takes, Tells};
 use crate::cell::Lawful;
 use crate::closed::empty;
+use crate::lays::Lays;
 use atomic_table::{Seat, Table};
 use std::alloc::{AllocError, Global};
 use std::snapshot::Snapshot;
@@ -185,13 +186,13 @@ impl<T: Lawful> FourSlotTable<T> {
 
     /// W2 and W3: copies the record into the slot.
     #[inline]
-    pub(super) fn fill(&self, seat: &mut FourSlotSeat<T>, slot: usize, item: &T)
+    pub(super) fn fill<L: Lays<T>>(&self, seat: &mut FourSlotSeat<T>, slot: usize, parts: &L)
         requires own { seat.old.inner.table_id ≡ self.now.inner.shared.table_id }
         requires held { held_slots seat.old.inner.me.1 ≡ slot ∷ [] }
         ensures own { seat.new.inner.table_id ≡ seat.old.inner.table_id }
-        ensures filled { seat.new.inner.me ≡ (seat.old.inner.me.0, (slot, item.now) ∷ []) }
+        ensures filled { seat.new.inner.me ≡ (seat.old.inner.me.0, (slot, L.whole parts.now) ∷ []) }
     {
-        *seat.inner.slot_mut(&self.inner.shared, slot) = *item;
+        parts.lay(seat.inner.slot_mut(&self.inner.shared, slot));
     }
 
     /// R4 and R5: copies the record out of the slot, and writes nothing to it.

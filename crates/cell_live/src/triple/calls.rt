@@ -7,6 +7,7 @@ ghost use Rattle.cell_live.specs.triple.Words.{opening_of, is_put_of, is_get_of,
 use super::table::TripleTable;
 use super::{TripleCell, TripleGet, TriplePut, TripleTold};
 use crate::cell::{Calls, Cell, Kept, Lawful};
+use crate::lays::{Lays, Whole};
 use std::alloc::{AllocError, Global};
 
 /// Takes the middle slot where the word has the mark. The answer is then at hand.
@@ -21,6 +22,23 @@ fn refresh<T: Lawful>(cell: &TripleCell<T>, get: &mut TripleGet<T>)
     }
     let taken = cell.table.fetch(&mut get.seat, get.slot as u64);
     get.slot = (taken % 4) as usize;
+}
+
+impl<T: Lawful> TripleCell<T> {
+    /// Shows the record that the parts make to the reader, and copies each part once, into the slot.
+    #[inline]
+    pub fn write_laid<L: Lays<T>>(&self, put: &mut TriplePut<T>, parts: &L)
+        requires own { is_put_of self.now put.old }
+        requires lawful { T.fits (L.whole parts.now) × T.rises (last_or (opening_of self.now) (written_by put.old)) (L.whole parts.now) }
+        ensures own { is_put_of self.now put.new }
+        ensures written { written_by put.new ≡ written_by put.old ++ L.whole parts.now ∷ [] }
+        ensures accesses { swaps_of_put put.new ≤ swaps_of_put put.old + 3 }
+        ensures swapped { swaps_of_put put.new ≡ swaps_of_put put.old + 1 }
+    {
+        self.table.fill(&mut put.seat, put.slot, parts);
+        let found = self.table.publish(&mut put.seat, put.slot as u64 + 4);
+        put.slot = (found % 4) as usize;
+    }
 }
 
 impl<T: Lawful> Calls<T> for TripleCell<T> {
@@ -93,9 +111,7 @@ impl<T: Lawful> Calls<T> for TripleCell<T> {
         ensures accesses { swaps_of_put put.new ≤ swaps_of_put put.old + 3 }
         ensures swapped { swaps_of_put put.new ≡ swaps_of_put put.old + 1 }
     {
-        self.table.fill(&mut put.seat, put.slot, item);
-        let found = self.table.publish(&mut put.seat, put.slot as u64 + 4);
-        put.slot = (found % 4) as usize;
+        self.write_laid(put, &Whole { item });
     }
 
     #[inline]

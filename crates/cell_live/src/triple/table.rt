@@ -18,6 +18,7 @@ use super::plays::{
 };
 use crate::cell::Lawful;
 use crate::closed::empty;
+use crate::lays::Lays;
 use atomic_table::{Seat, Table};
 use std::alloc::{AllocError, Global};
 
@@ -173,13 +174,13 @@ impl<T: Lawful> TripleTable<T> {
 
     /// Copies the record into the slot.
     #[inline]
-    pub(super) fn fill(&self, seat: &mut TripleSeat<T>, slot: usize, item: &T)
+    pub(super) fn fill<L: Lays<T>>(&self, seat: &mut TripleSeat<T>, slot: usize, parts: &L)
         requires own { seat.old.inner.table_id ≡ self.now.inner.shared.table_id }
         requires held { held_slots seat.old.inner.me.1 ≡ slot ∷ [] }
         ensures own { seat.new.inner.table_id ≡ seat.old.inner.table_id }
-        ensures filled { seat.new.inner.me ≡ (seat.old.inner.me.0, (slot, item.now) ∷ []) }
+        ensures filled { seat.new.inner.me ≡ (seat.old.inner.me.0, (slot, L.whole parts.now) ∷ []) }
     {
-        *seat.inner.slot_mut(&self.inner.shared, slot) = *item;
+        parts.lay(seat.inner.slot_mut(&self.inner.shared, slot));
     }
 
     /// Copies the record out of the slot, and writes nothing to it.

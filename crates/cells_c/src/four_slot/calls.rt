@@ -3,7 +3,7 @@ ghost use Rattle.std.specs.Prelude.{◌≡◌, ◌+◌, ◌<◌, ◌≤◌, ◌^
 ghost use Rattle.cells_c.specs.FourSlotCalls.{IsMade, HasWritten, HasRead};
 
 use super::{FourSlotReader, FourSlotWriter};
-use crate::record::Numbered;
+use crate::record::{Numbered, Numbering};
 use crate::roles::{Opens, Reading, Writing};
 use cell_live::{Calls, FourSlotCell};
 use std::alloc::{AllocError, Global};
@@ -28,11 +28,8 @@ impl<W: Copy> Writing<W> for FourSlotWriter<W> {
         let Some(number) = self.number.checked_add(1) else {
             return false;
         };
-        let item = Numbered {
-            number,
-            words: *words,
-        };
-        self.cell.write_from(&mut self.put, &item);
+        self.cell
+            .write_laid(&mut self.put, &Numbering { number, words });
         self.number = number;
         true
     }

@@ -14,10 +14,10 @@ invariant_of-self g c =
     let item : Numbered g.row.W.Denot = numbered c.in-Some.number c.args.words.now in
     let put = c.args.self.now.put in
     let o = opening_of (arc_value c.args.self.now.cell) in
-    let last : (last_or o (written_by c.write_from.new.put)).number ≡ c.in-Some.number =
-    ap (λ (xs : List (Numbered g.row.W.Denot)). (last_or o xs).number) c.write_from.ensures.written
+    let last : (last_or o (written_by c.write_laid.new.put)).number ≡ c.in-Some.number =
+    ap (λ (xs : List (Numbered g.row.W.Denot)). (last_or o xs).number) c.write_laid.ensures.written
     ∙ ap (λ (x : Numbered g.row.W.Denot). x.number) (last_snoc o (written_by put) item) in
     record {
-      own = subst (λ (x : TripleCell (Numbered g.row.W.Denot)). is_put_of x c.write_from.new.put) c.deref.ensures c.write_from.ensures.own;
+      own = subst (λ (x : TripleCell (Numbered g.row.W.Denot)). is_put_of x c.write_laid.new.put) c.deref.ensures c.write_laid.ensures.own;
       last = last;
     }

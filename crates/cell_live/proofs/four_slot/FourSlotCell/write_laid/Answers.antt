@@ -9,49 +9,49 @@ use Rattle.fourslot_core.specs.declared.event.WriteEvent.TheVariants.{W1, W2, W3
 use Rattle.fourslot_core.specs.declared.state.Stage.TheVariants as stage
 use Rattle.cell_live.proofs.ListLaws.{last_snoc}
 use Rattle.cell_live.proofs.FourEvents.{write_joined}
-use Rattle.cell_live.proofs.four_slot.calls.FourSlotCellCalls.write_from.Goals as goal
+use Rattle.cell_live.proofs.four_slot.FourSlotCell.write_laid.Goals as goal
 
 pub begin-reading-requires-clause-idle : goal.begin-reading-requires-clause-idle
-begin-reading-requires-clause-idle g c = let put = c.args.put.now in let p : WriterNotes g.row.T.Denot = writer_or (first_writer put.spare) put.seat.inner.me.0 in let named = c.of-named.ensures in
+begin-reading-requires-clause-idle g c = let item : g.row.T.Denot = g.L.Lays.whole c.args.parts.now in let put = c.args.put.now in let p : WriterNotes g.row.T.Denot = writer_or (first_writer put.spare) put.seat.inner.me.0 in let named = c.name-named.ensures in
     subst (λ (x : g.row.T.Denot). (q : WriterNotes g.row.T.Denot) × (put.seat.inner.me ≡ (Writer q, [])) × (q.stage ≡ stage.W5) × g.T.Lawful.fits x × g.T.Lawful.rises (last_or q.opening.value q.written) x) (sym named)
-    (p, put.known, put.idle, c.requires.lawful.0, subst (λ z. g.T.Lawful.rises (last_or z p.written) c.args.item.now) (sym (ap (λ n. n.opening) c.requires.own)) c.requires.lawful.1)
+    (p, put.known, put.idle, c.requires.lawful.0, subst (λ z. g.T.Lawful.rises (last_or z p.written) item) (sym (ap (λ n. n.opening) c.requires.own)) c.requires.lawful.1)
 
 pub fill-requires-clause-held : goal.fill-requires-clause-held
-fill-requires-clause-held g c = let put = c.args.put.now in let d : WriterNotes g.row.T.Denot = first_writer put.spare in let p : WriterNotes g.row.T.Denot = writer_or d put.seat.inner.me.0 in let is : put.seat.inner.me.0 ≡ Writer p = ap (λ m. m.0) put.known in
-    let t = c.begin-reading.ensures.begun p c.args.item.now is (ap (λ z. z ∷ []) c.of-named.ensures) in let b : Bool = t.0 in let q : WriterNotes g.row.T.Denot = begun_with p b c.args.item.now in
+fill-requires-clause-held g c = let item : g.row.T.Denot = g.L.Lays.whole c.args.parts.now in let put = c.args.put.now in let d : WriterNotes g.row.T.Denot = first_writer put.spare in let p : WriterNotes g.row.T.Denot = writer_or d put.seat.inner.me.0 in let is : put.seat.inner.me.0 ≡ Writer p = ap (λ m. m.0) put.known in
+    let t = c.begin-reading.ensures.begun p item is (ap (λ z. z ∷ []) c.name-named.ensures) in let b : Bool = t.0 in let q : WriterNotes g.row.T.Denot = begun_with p b item in
     let pair : not c.is_one-pair.result ≡ not b = ap not (c.is_one-pair.ensures b t.2) in
     let index : not c.bit_of-index.result ≡ not (side p.remembered (not b)) = ap not (c.bit_of-index.ensures ∙ (λ i. side (sym put.bits i) (pair i))) in
     let slot : c.slot_of-slot.result ≡ slot_number q.place = c.slot_of-slot.ensures ∙ (λ i. slot_number (place_of (pair i) (index i))) in
     ap held_slots t.4 ∙ ap (λ z. z ∷ []) (sym slot)
 
 pub store-requires-clause-filled : goal.store-requires-clause-filled
-store-requires-clause-filled g c = let put = c.args.put.now in let d : WriterNotes g.row.T.Denot = first_writer put.spare in let p : WriterNotes g.row.T.Denot = writer_or d put.seat.inner.me.0 in let is : put.seat.inner.me.0 ≡ Writer p = ap (λ m. m.0) put.known in
-    let t = c.begin-reading.ensures.begun p c.args.item.now is (ap (λ z. z ∷ []) c.of-named.ensures) in let b : Bool = t.0 in let q : WriterNotes g.row.T.Denot = begun_with p b c.args.item.now in
+store-requires-clause-filled g c = let item : g.row.T.Denot = g.L.Lays.whole c.args.parts.now in let put = c.args.put.now in let d : WriterNotes g.row.T.Denot = first_writer put.spare in let p : WriterNotes g.row.T.Denot = writer_or d put.seat.inner.me.0 in let is : put.seat.inner.me.0 ≡ Writer p = ap (λ m. m.0) put.known in
+    let t = c.begin-reading.ensures.begun p item is (ap (λ z. z ∷ []) c.name-named.ensures) in let b : Bool = t.0 in let q : WriterNotes g.row.T.Denot = begun_with p b item in
     let pair : not c.is_one-pair.result ≡ not b = ap not (c.is_one-pair.ensures b t.2) in
     let index : not c.bit_of-index.result ≡ not (side p.remembered (not b)) = ap not (c.bit_of-index.ensures ∙ (λ i. side (sym put.bits i) (pair i))) in
     let slot : c.slot_of-slot.result ≡ slot_number q.place = c.slot_of-slot.ensures ∙ (λ i. slot_number (place_of (pair i) (index i))) in
-    let now = c.fill.ensures.filled in let me0 = ap (λ m. m.0) now ∙ t.3 in let me1 = ap (λ m. m.1) now ∙ (λ i. (slot i, c.args.item.now) ∷ []) in
+    let now = c.fill.ensures.filled in let me0 = ap (λ m. m.0) now ∙ t.3 in let me1 = ap (λ m. m.1) now ∙ (λ i. (slot i, item) ∷ []) in
     let word : c.word_of-word.result ≡ 2 + bit_number (not b) = c.word_of-word.ensures ∙ ap (λ z. 2 + bit_number z) pair in
     (q, (λ i. (me0 i, me1 i)), refl, word, c.bit_word.ensures ∙ ap bit_number index)
 
 pub finish-requires-clause-stored : goal.finish-requires-clause-stored
-finish-requires-clause-stored g c = let put = c.args.put.now in let d : WriterNotes g.row.T.Denot = first_writer put.spare in let p : WriterNotes g.row.T.Denot = writer_or d put.seat.inner.me.0 in let is : put.seat.inner.me.0 ≡ Writer p = ap (λ m. m.0) put.known in
-    let t = c.begin-reading.ensures.begun p c.args.item.now is (ap (λ z. z ∷ []) c.of-named.ensures) in let b : Bool = t.0 in let q : WriterNotes g.row.T.Denot = begun_with p b c.args.item.now in
+finish-requires-clause-stored g c = let item : g.row.T.Denot = g.L.Lays.whole c.args.parts.now in let put = c.args.put.now in let d : WriterNotes g.row.T.Denot = first_writer put.spare in let p : WriterNotes g.row.T.Denot = writer_or d put.seat.inner.me.0 in let is : put.seat.inner.me.0 ≡ Writer p = ap (λ m. m.0) put.known in
+    let t = c.begin-reading.ensures.begun p item is (ap (λ z. z ∷ []) c.name-named.ensures) in let b : Bool = t.0 in let q : WriterNotes g.row.T.Denot = begun_with p b item in
     let pair : not c.is_one-pair.result ≡ not b = ap not (c.is_one-pair.ensures b t.2) in
     let index : not c.bit_of-index.result ≡ not (side p.remembered (not b)) = ap not (c.bit_of-index.ensures ∙ (λ i. side (sym put.bits i) (pair i))) in
     let slot : c.slot_of-slot.result ≡ slot_number q.place = c.slot_of-slot.ensures ∙ (λ i. slot_number (place_of (pair i) (index i))) in
-    let now = c.fill.ensures.filled in let me0 = ap (λ m. m.0) now ∙ t.3 in let me1 = ap (λ m. m.1) now ∙ (λ i. (slot i, c.args.item.now) ∷ []) in
+    let now = c.fill.ensures.filled in let me0 = ap (λ m. m.0) now ∙ t.3 in let me1 = ap (λ m. m.1) now ∙ (λ i. (slot i, item) ∷ []) in
     let word : c.word_of-word.result ≡ 2 + bit_number (not b) = c.word_of-word.ensures ∙ ap (λ z. 2 + bit_number z) pair in
     let v = c.store.ensures.stored q me0 me1 in let q2 : WriterNotes g.row.T.Denot = stored_by q in
     (q2, v.0, refl, c.bit_word-2.ensures ∙ ap bit_number pair)
 
 pub invariant_of-put : goal.invariant_of-put
-invariant_of-put g c = let put = c.args.put.now in let d : WriterNotes g.row.T.Denot = first_writer put.spare in let p : WriterNotes g.row.T.Denot = writer_or d put.seat.inner.me.0 in let is : put.seat.inner.me.0 ≡ Writer p = ap (λ m. m.0) put.known in
-    let t = c.begin-reading.ensures.begun p c.args.item.now is (ap (λ z. z ∷ []) c.of-named.ensures) in let b : Bool = t.0 in let q : WriterNotes g.row.T.Denot = begun_with p b c.args.item.now in
+invariant_of-put g c = let item : g.row.T.Denot = g.L.Lays.whole c.args.parts.now in let put = c.args.put.now in let d : WriterNotes g.row.T.Denot = first_writer put.spare in let p : WriterNotes g.row.T.Denot = writer_or d put.seat.inner.me.0 in let is : put.seat.inner.me.0 ≡ Writer p = ap (λ m. m.0) put.known in
+    let t = c.begin-reading.ensures.begun p item is (ap (λ z. z ∷ []) c.name-named.ensures) in let b : Bool = t.0 in let q : WriterNotes g.row.T.Denot = begun_with p b item in
     let pair : not c.is_one-pair.result ≡ not b = ap not (c.is_one-pair.ensures b t.2) in
     let index : not c.bit_of-index.result ≡ not (side p.remembered (not b)) = ap not (c.bit_of-index.ensures ∙ (λ i. side (sym put.bits i) (pair i))) in
     let slot : c.slot_of-slot.result ≡ slot_number q.place = c.slot_of-slot.ensures ∙ (λ i. slot_number (place_of (pair i) (index i))) in
-    let now = c.fill.ensures.filled in let me0 = ap (λ m. m.0) now ∙ t.3 in let me1 = ap (λ m. m.1) now ∙ (λ i. (slot i, c.args.item.now) ∷ []) in
+    let now = c.fill.ensures.filled in let me0 = ap (λ m. m.0) now ∙ t.3 in let me1 = ap (λ m. m.1) now ∙ (λ i. (slot i, item) ∷ []) in
     let word : c.word_of-word.result ≡ 2 + bit_number (not b) = c.word_of-word.ensures ∙ ap (λ z. 2 + bit_number z) pair in
     let v = c.store.ensures.stored q me0 me1 in let q2 : WriterNotes g.row.T.Denot = stored_by q in
     let u = c.finish.ensures.finished q2 v.0 in let d' : WriterNotes g.row.T.Denot = first_writer put.spare in let w = u.0 in
@@ -59,20 +59,20 @@ invariant_of-put g c = let put = c.args.put.now in let d : WriterNotes g.row.T.D
       known = λ i. ((w ∙ ap (λ z. Writer (writer_or d' z)) (sym w)) i, (u.1 ∙ v.1) i);
       idle = ap (λ z. (writer_or d' z).stage) w;
       bits = ap (λ z. (writer_or d' z).remembered) w ∙ ((λ i. with_side (put.bits i) (sym pair i) (sym index i)) ∙ sym c.set_bit.ensures);
-      newest = ap (λ z. (writer_or d' z).finished.value) w ∙ sym (ap (λ z. last_or {T = g.row.T.Denot} (writer_or d' z).opening.value (writer_or d' z).written) w ∙ last_snoc p.opening.value p.written c.args.item.now);
+      newest = ap (λ z. (writer_or d' z).finished.value) w ∙ sym (ap (λ z. last_or {T = g.row.T.Denot} (writer_or d' z).opening.value (writer_or d' z).written) w ∙ last_snoc p.opening.value p.written item);
     }
 
 pub returns : goal.returns
-returns g c = let put = c.args.put.now in let d : WriterNotes g.row.T.Denot = first_writer put.spare in let p : WriterNotes g.row.T.Denot = writer_or d put.seat.inner.me.0 in let is : put.seat.inner.me.0 ≡ Writer p = ap (λ m. m.0) put.known in
-    let t = c.begin-reading.ensures.begun p c.args.item.now is (ap (λ z. z ∷ []) c.of-named.ensures) in let b : Bool = t.0 in let q : WriterNotes g.row.T.Denot = begun_with p b c.args.item.now in
+returns g c = let item : g.row.T.Denot = g.L.Lays.whole c.args.parts.now in let put = c.args.put.now in let d : WriterNotes g.row.T.Denot = first_writer put.spare in let p : WriterNotes g.row.T.Denot = writer_or d put.seat.inner.me.0 in let is : put.seat.inner.me.0 ≡ Writer p = ap (λ m. m.0) put.known in
+    let t = c.begin-reading.ensures.begun p item is (ap (λ z. z ∷ []) c.name-named.ensures) in let b : Bool = t.0 in let q : WriterNotes g.row.T.Denot = begun_with p b item in
     let pair : not c.is_one-pair.result ≡ not b = ap not (c.is_one-pair.ensures b t.2) in
     let index : not c.bit_of-index.result ≡ not (side p.remembered (not b)) = ap not (c.bit_of-index.ensures ∙ (λ i. side (sym put.bits i) (pair i))) in
     let slot : c.slot_of-slot.result ≡ slot_number q.place = c.slot_of-slot.ensures ∙ (λ i. slot_number (place_of (pair i) (index i))) in
-    let now = c.fill.ensures.filled in let me0 = ap (λ m. m.0) now ∙ t.3 in let me1 = ap (λ m. m.1) now ∙ (λ i. (slot i, c.args.item.now) ∷ []) in
+    let now = c.fill.ensures.filled in let me0 = ap (λ m. m.0) now ∙ t.3 in let me1 = ap (λ m. m.1) now ∙ (λ i. (slot i, item) ∷ []) in
     let v = c.store.ensures.stored q me0 me1 in let q2 : WriterNotes g.row.T.Denot = stored_by q in
     let w = (c.finish.ensures.finished q2 v.0).0 in let same : c.finish.new.seat.inner.table_id ≡ put.seat.inner.table_id = search rules in record {
       own = (λ i. record { table = same i; opening = (writer_or d (w i)).opening.value }) ∙ c.requires.own;
       written = ap (λ z. (writer_or d z).written) w;
       accesses = ap (λ z. (writer_or d z).accesses) w ∙ (let e : p.accesses + 1 + 1 + 1 ≡ p.accesses + 3 = omega arith in e);
-      events = ap (λ z. (writer_or d z).events) w ∙ write_joined p.events (W1 (snap c.args.item.now)) W2 W3 W4 W5;
+      events = ap (λ z. (writer_or d z).events) w ∙ write_joined p.events (W1 (snap item)) W2 W3 W4 W5;
     }
