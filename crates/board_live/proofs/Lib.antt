@@ -7,10 +7,15 @@ pub mod Halves
 pub mod LaneLists
 pub mod LogLaws
 pub mod Made
+pub mod OrderRecords
 pub mod Passing
 pub mod Running
 pub mod Runs
 pub mod Seats
 pub mod SoundLogs
+pub mod SoundOrders
 pub mod Steps
 pub mod Told
+pub mod Weaving
+pub mod Working
+pub mod Works

@@ -29,8 +29,9 @@ use Rattle.board_live.specs.Rising.{Rises, greatest, greater, posted}
 use Rattle.board_live.specs.Boards.{IsPass, IsBoardCall, OneMore, Posts, seen_by, top_by}
 use Rattle.board_live.specs.Receipts.{IsReceipt, HasTold, HasLearnt}
 use Rattle.board_live.specs.Deals.{AllPasses, AllSettled}
-use Rattle.board_live.specs.Ran.{all_told, call_of, dated, MakesCall, Ran, nothing, called, tells, learns, IsFresh, HaveRun, HaveOneOrder}
+use Rattle.board_live.specs.Ran.{all_told, call_of, dated, HasRecords, MakesCall, Ran, nothing, called, tells, learns, IsFresh, HaveRun, HaveOneOrder}
 use Rattle.board_live.proofs.Columns.{last_or-append, at_most_greatest, rises_at_most}
+use Rattle.board_live.proofs.OrderRecords.{has_records}
 use Rattle.board_live.proofs.Seats.{seat_other, other_apart, other_within, seat_within}
 use Rattle.board_live.proofs.Steps.{same_or_not}
 
@@ -558,7 +559,12 @@ module _ {V C P G T : Type 0} {law : LawWords V} {eq : EqWords V} {cells : CellW
                 at_most_trans c.chosen.stamp t.pass.own.stamp last.stamp b d;
           }
 
-      pub one_order : (order : List (Call V)) × IsOneOrder (dated board.first) board.limit runs order × (latest board.first.item order ≡ last.item)
+      pub one_order : (order : List (Call V)) × IsOneOrder (dated board.first) board.limit runs order × (latest board.first.item order ≡ last.item) × HasRecords (posted board.first) (posted last) order
       one_order =
           let o : IsOneOrder (dated board.first) board.limit runs (in_order (dated board.first) board.limit runs is_running) = ordered (dated board.first) board.limit runs is_running in
-          (in_order (dated board.first) board.limit runs is_running, o, o.last (dated last) is_greatest)
+          let h = has_records (dated board.first) board.limit runs is_running (dated last) is_greatest in (
+            in_order (dated board.first) board.limit runs is_running,
+            o,
+            o.last (dated last) is_greatest,
+            subst (λ s. HasRecords (record { stamp = s; item = board.first.item }) (posted last) (in_order (dated board.first) board.limit runs is_running)) (sym board.opens.0) h,
+          )

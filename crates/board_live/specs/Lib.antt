@@ -5,9 +5,11 @@ pub mod Ends
 pub mod Jobs
 pub mod Lanes
 pub mod Lists
+pub mod LogOrders
 pub mod Logs
 pub mod Origins
 pub mod Ran
 pub mod Receipts
 pub mod Rising
 pub mod Tasks
+pub mod Worked

@@ -2,6 +2,8 @@
 use Rattle.std.specs.Prelude.{◌≡◌, ℕ, ◌<◌, List, [], ◌∷◌, ◌++◌, length, map, slice_get, Some}
 use Rattle.std.specs.declared.cmp.PartialEq.{Ghosts as EqWords}
 use Rattle.history_core.specs.declared.history.Kind.{Kind}
+use Rattle.history_core.specs.declared.history.Kind.TheVariants.{Write, Read, Refused}
+use Rattle.matrix_core.specs.Stamps.{IsBelow}
 use Rattle.matrix_core.specs.Calls.{Call, calls_in, Dated, IsChosen, IsOneOrder, IsPosted, latest}
 use Rattle.cell_live.specs.declared.cell.Calls.{Ghosts as CellWords}
 use Rattle.cell_live.specs.Running.{last_or}
@@ -12,7 +14,25 @@ use Rattle.board_live.specs.declared.clocked.Clocked.{Clocked}
 use Rattle.board_live.specs.declared.posted.Posted.{Posted}
 use Rattle.board_live.specs.declared.posted.RecordLaw.{Ghosts as LawWords}
 use Rattle.board_live.specs.Boards.{IsPass, IsBoardCall, seen_by}
+use Rattle.board_live.specs.Rising.{posted}
 use Rattle.board_live.specs.Receipts.{IsReceipt, HasTold, HasLearnt}
+
+-- what a call has chosen, without its clock
+abbrev pub under : {V : Type 0} → Dated V → Posted V
+under p = record { stamp = p.stamp; item = p.item }
+
+module _ {V : Type 0} where
+  -- what one register that holds this record does at a call: a write puts its record there, under a greater stamp that names its
+  -- process; a read or a refused write has the record that is there
+  abbrev pub Keeps : ℕ → Kind → Posted V → Posted V → (Posted V → Type 0) → Type 0
+  Keeps who Write now chosen rest = IsBelow now.stamp chosen.stamp × (chosen.stamp.writer ≡ who) × rest chosen
+  Keeps who Read now chosen rest = (chosen ≡ now) × rest now
+  Keeps who Refused now chosen rest = (chosen ≡ now) × rest now
+
+  -- one register that is called in this order has these records, and in the end this one
+  abbrev pub HasRecords : Posted V → Posted V → List (Call V) → Type 0
+  HasRecords now last [] = last ≡ now
+  HasRecords now last (c ∷ cs) = Keeps c.who c.kind now (under c.chosen) (λ p. HasRecords p last cs)
 
 -- a record in a cell, as the order of calls knows it
 abbrev pub dated : {V : Type 0} → Clocked V → Dated V
@@ -66,7 +86,8 @@ module _ {V C P G T : Type 0} {law : LawWords V} {eq : EqWords V} {cells : CellW
         → (old : Pass V C P G T law eq cells) × IsFresh board k old × Ran board (IsPosted (dated board.first) runs) old cs p
     pub few : calls_in runs < 18446744073709551615
 
-  -- *One order*: the calls that were made with these passes have one, and after it one register holds this record's item
+  -- *One order*: the calls that were made with these passes have one, and after it one register holds this record; so it is by items,
+  -- and by records with their stamps
   abbrev pub HaveOneOrder : Board V C P G T law eq cells → List (Pass V C P G T law eq cells) → Posted V → Type 0
   HaveOneOrder board passes last = (runs : List (List (Call V))) → HaveRun board passes runs
-      → (order : List (Call V)) × IsOneOrder (dated board.first) board.limit runs order × (latest board.first.item order ≡ last.item)
+      → (order : List (Call V)) × IsOneOrder (dated board.first) board.limit runs order × (latest board.first.item order ≡ last.item) × HasRecords (posted board.first) last order

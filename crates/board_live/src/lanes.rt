@@ -1,12 +1,14 @@
 //! Lanes for all passes of a board, and the passes of lanes.
 ghost use Rattle.std.specs.Prelude.{◌≡◌, All, IfOk, length, map};
 ghost use Rattle.board_live.specs.Lanes.{AreLanes};
+ghost use Rattle.board_live.specs.LogOrders.{LogsInOrder};
 ghost use Rattle.board_live.specs.Logs.{Obeys};
+ghost use Rattle.board_live.specs.Worked.{HaveWorked, logs_of};
 
-use crate::board::Pass;
+use crate::board::{Board, Pass};
 use crate::clocked::Clocked;
-use crate::lane::Lane;
-use crate::posted::RecordLaw;
+use crate::lane::{Entry, Lane};
+use crate::posted::{Posted, RecordLaw};
 use cell_live::Calls;
 use history_core::Items;
 use matrix_core::Wish;
@@ -58,4 +60,30 @@ pub fn into_passes<V: RecordLaw + Drop, C: Calls<Clocked<V>>>(
     }
     passes.reverse();
     Ok(passes)
+}
+
+/// Ends the board of these lanes. Gives the log of each task, and the last record. A refusal drops the board and the lanes.
+pub fn finish_lanes<V: RecordLaw + Drop, C: Calls<Clocked<V>>>(
+    alloc: Global,
+    board: Board<V, C>,
+    lanes: Vec<Lane<V, C>>,
+) -> Result<(Vec<Vec<Entry<V>>>, Posted<V>), AllocError>
+    requires { HaveWorked board lanes.items }
+    ensures logs { IfOk result (λ r. map (λ v. v.items) r.0.items ≡ logs_of lanes.items) }
+    ensures ordered { IfOk result (λ r. LogsInOrder board.first.item board.limit (logs_of lanes.items) r.1) }
+{
+    let mut lanes = lanes;
+    let mut passes = Vec::with_capacity(alloc, lanes.len())?;
+    let mut logs = Vec::with_capacity(alloc, lanes.len())?;
+    for _ in 0..lanes.len() {
+        let Some(lane) = lanes.pop() else {
+            unreachable!();
+        };
+        let (pass, log) = lane.into_parts();
+        passes.push(pass)?;
+        logs.push(log)?;
+    }
+    passes.reverse();
+    logs.reverse();
+    Ok((logs, board.finish(passes)))
 }

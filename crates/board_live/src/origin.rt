@@ -1,6 +1,8 @@
 //! The check of logs: whether every record that a call saw has its origin.
-ghost use Rattle.std.specs.Prelude.{◌≡◌, ◌<◌, ◌≤◌, List, IfNone, IfSome, length, map, slice_get};
+ghost use Rattle.std.specs.Prelude.{◌≡◌, ◌<◌, ◌≤◌, ℕ, List, IfNone, IfSome, length, map, slice_get};
+ghost use Rattle.board_live.specs.LogOrders.{LogsInOrder};
 ghost use Rattle.board_live.specs.Logs.{stamp_of};
+ghost use Rattle.board_live.specs.declared.origin.Origin.TheVariants.{Sound};
 ghost use Rattle.board_live.specs.Origins.{has_write, is_known, is_sound, IsFirstUnsound, IsOrigin, sees_known, SoundBefore, wrote};
 
 use crate::clocked::Clocked;
@@ -47,9 +49,10 @@ pub enum Origin {
 
 /// Looks at each entry of the logs, of which the one at place k is that of process k. An entry is sound where its stamp isn't
 /// below that of the entry before it, and the record that it saw is the opening at stamp 0.0 or was written by an entry of the
-/// log that its stamp names.
+/// log that its stamp names. Logs that have one order are sound.
 pub fn check_origin<V: Copy + Eq, L: HasLog<V>>(opening: V, logs: &[L]) -> Origin
-    ensures { IsOrigin V.eq opening (map L.logged logs.now) result }
+    ensures origin { IsOrigin V.eq opening (map L.logged logs.now) result }
+    ensures ordered { (limit : ℕ) (last : _) → LogsInOrder opening limit (map L.logged logs.now) last → result ≡ Sound }
 {
     for task in 0..logs.len() {
         if let Some(place) = first_unsound(opening, logs, logs[task].entries()) {

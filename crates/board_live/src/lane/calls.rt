@@ -44,6 +44,18 @@ impl<V: RecordLaw, C: Calls<Clocked<V>>> Lane<V, C> {
         self.pass
     }
 
+    /// The pass of the lane, and its log.
+    pub(crate) fn into_parts(self) -> (Pass<V, C>, Vec<Entry<V>>)
+        ensures { (result.0 ≡ self.pass) × (result.1 ≡ self.log) }
+    {
+        let Lane {
+            pass,
+            script: _,
+            log,
+        } = self;
+        (pass, log)
+    }
+
     /// Makes the next call of the script, and notes its reply.
     fn call(&mut self, board: &Board<V, C>)
         requires pass { IsPass board.now self.old.pass }

@@ -35,7 +35,8 @@ fn wish(number: u64) -> Wish<Band>
 }
 
 pub fn script(alloc: Global, numbers: &[u64]) -> Result<Items<Wish<Band>>, AllocError>
-    ensures { IfOk result (λ s. All (Obeys fits) s) }
+    ensures lawful { IfOk result (λ s. All (Obeys fits) s) }
+    ensures count { IfOk result (λ s. length s ≡ length numbers.now) }
 {
     let mut wishes = Vec::new(alloc);
     for number in numbers {

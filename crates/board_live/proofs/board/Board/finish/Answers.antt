@@ -1,5 +1,7 @@
 use Rattle.std.proofs.Common.{rules, arith, refl, sym, ◌∙◌, ap, subst, ◌≡◌, ◌+◌, ◌<◌, ◌∷◌, [], length, length-append}
 use Rattle.board_live.specs.Ends.{RowEnded}
+use Rattle.board_live.specs.Ran.{HasRecords}
+use Rattle.board_live.specs.Rising.{posted}
 use Rattle.board_live.proofs.Running.{one_order}
 use Rattle.board_live.proofs.Ended.{ended_none, row_stands, ended_more, ended_all}
 use Rattle.board_live.proofs.board.Board.finish.Goals as goal
@@ -32,4 +34,4 @@ returns-clause-ordered g c runs have =
     let o = one_order c.args.self c.args.passes.items runs c.requires
     (ended_all c.args.self c.args.passes.items c.loop.rows.items c.loop.passes.items c.loop.invariant.0 (omega (arith, n, c.loop.invariant.1)))
     have c.greatest_own-last.result c.greatest_own-last.ensures in
-    (o.0, o.1, o.2 ∙ sym (ap (λ z. z.item) c.posted.ensures))
+    (o.0, o.1, o.2 ∙ sym (ap (λ z. z.item) c.posted.ensures), subst (λ z. HasRecords (posted c.args.self.first) z o.0) (sym c.posted.ensures) o.3)
