@@ -13,11 +13,12 @@ use Rattle.board_live.specs.declared.board.Pass.{Pass}
 use Rattle.board_live.specs.declared.clocked.Clocked.{Clocked}
 use Rattle.board_live.specs.declared.lane.Entry.{Entry}
 use Rattle.board_live.specs.declared.lane.Lane.{Lane}
+use Rattle.board_live.specs.declared.posted.Posted.{Posted}
 use Rattle.board_live.specs.declared.posted.RecordLaw.{Ghosts as LawWords}
 use Rattle.board_live.specs.Deals.{IsNew}
 use Rattle.board_live.specs.Jobs.{EachStep}
 use Rattle.board_live.specs.Lanes.{AreLanes, IsNewLane}
-use Rattle.board_live.specs.LogOrders.{entries_in}
+use Rattle.board_live.specs.LogOrders.{entries_in, LogsInOrder}
 use Rattle.board_live.specs.Ran.{IsFresh}
 use Rattle.board_live.specs.Tasks.{AreCalls, Ran}
 use Rattle.board_live.specs.Worked.{HasWorked, HaveWorked, logs_of, wishes_in}
@@ -79,3 +80,9 @@ changed_whole n old before new now count same lengths changed =
     let long : length new ≡ length old = lengths ∙ ap length same in
     let rest : new ++ drop (length new) old ≡ new = ap (λ z. new ++ z) (drop_past old (length new) (omega arith)) ∙ append-nil new in
     changed ∙ ap (take n) rest ∙ take_all n new (omega (arith, count, long))
+
+-- one order, of equal logs and from an equal opening
+pub moved_order : {V : Type 0} (first opening : V) (most limit : ℕ) (old logs : List (List (Entry V))) (last : Posted V) → first ≡ opening → most ≡ limit → old ≡ logs
+    → LogsInOrder first most old last → LogsInOrder opening limit logs last
+moved_order first opening most limit old logs last e f k h =
+    subst (λ z. LogsInOrder z limit logs last) e (subst (λ n. LogsInOrder first n logs last) f (subst (λ z. LogsInOrder first most z last) k h))

@@ -3,6 +3,7 @@
 mod gates;
 mod lanes;
 mod meeting;
+mod orders;
 mod origins;
 mod plans;
 mod wear;
