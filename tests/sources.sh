@@ -5,7 +5,8 @@ cells=crates/cell_live/src
 
 # The code of a file: no comments, no clauses, no space.
 code_of() {
-    sed -e 's://.*::' -e '/^ *requires /d' -e '/^ *ensures /d' -e '/^ *ghost /d' "$1" | tr -d ' \n'
+    clause='^ *\(requires\|ensures\|ghost\) '
+    sed -e 's://.*::' -e "/$clause.*}[;,]*\$/d" -e "/$clause/,/}[;,]*\$/d" "$1" | tr -d ' \n'
 }
 
 # The calls on a table, in the order in which they stand in the file.
@@ -74,7 +75,7 @@ title="no other file of the cells touches a table"
 find $cells -name '*.rt' ! -path '*/table.rt' ! -path '*/tests/*' ! -name tests.rt | sort >"$room/files"
 {
     while read -r file; do
-        code_of "$file" | grep -oE 'atomic_table[^;]*;' | grep -vxE 'atomic_table::(TableRule|Closed|\{Join,Play,Split\});' | sed "s:^:$file\: :"
+        code_of "$file" | grep -oE 'atomic_table[^;]*;' | grep -vxE 'atomic_table::(TableRule|Closed|Split|\{Join,Play,Split\});' | sed "s:^:$file\: :"
         code_of "$file" | grep -oE '\.inner\b|\.shared\b|slot_mut|split_seat|join_seat|(load|store|swap)[a-z_]*::<|peek|fetch_[a-z]+|[a-z_]*exchange[a-z_]*|[a-z_]+_new_seat|close_with|unsafe' | sed "s:^:$file\: :"
     done <"$room/files"
 } >"$room/out"

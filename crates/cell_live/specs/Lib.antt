@@ -1,3 +1,4 @@
 pub mod Running
+pub mod Sights
 pub mod four_slot
 pub mod triple

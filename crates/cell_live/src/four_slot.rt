@@ -6,14 +6,15 @@
 ghost use Rattle.std.specs.Prelude.{◌≡◌, [], ◌∷◌};
 ghost use Rattle.fourslot_core.specs.declared.state.Stage.TheVariants.{W5};
 ghost use Rattle.fourslot_core.specs.declared.state.ReaderStage.TheVariants.{R5};
-ghost use Rattle.cell_live.specs.declared.four_slot.notes.Sight.TheVariants.{Writer, Reader, Told};
+ghost use Rattle.cell_live.specs.declared.sight.Sight.TheVariants.{Writer, Reader, Told};
 ghost use Rattle.cell_live.specs.Running.{last_or, snap};
-ghost use Rattle.cell_live.specs.four_slot.Steps.{first_writer, first_reader, writer_or, reader_or, receipt_or, slot_of_choice};
+ghost use Rattle.cell_live.specs.Sights.{writer_or, reader_or, receipt_or};
+ghost use Rattle.cell_live.specs.four_slot.Steps.{first_writer, first_reader, slot_of_choice};
 
 use crate::cell::Lawful;
 use atomic_table::TableRule;
 use fourslot_core::Sides;
-use notes::Sight;
+use notes::FourSlotSight;
 use table::{FourSlotSeat, FourSlotTable};
 
 mod bits;
@@ -25,7 +26,7 @@ mod table;
 /// The rule of the table of a four-slot cell.
 pub struct FourSlot;
 
-impl<T: Lawful> TableRule<T, Sight<T>, T> for FourSlot {
+impl<T: Lawful> TableRule<T, FourSlotSight<T>, T> for FourSlot {
     ghost use Rattle.cell_live.specs.four_slot.Rule.{FourSlotRule};
     ghost use Rattle.cell_live.specs.four_slot.Steps.{first_sight};
 

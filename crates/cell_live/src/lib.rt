@@ -14,6 +14,7 @@ mod closed;
 mod four_slot;
 pub mod laws;
 mod lays;
+mod sight;
 mod triple;
 
 pub use cell::{Calls, Cell, Kept, Lawful};

@@ -9,7 +9,6 @@ use std::test::Fail;
 use std::thread::{Threads, join_mut};
 
 mod beside;
-mod control;
 mod in_place;
 mod torn;
 

@@ -3,13 +3,14 @@
 //! The word is `middle + 4 * mark`. A write fills the writer's slot and swaps it with the middle, with a mark. A read loads the
 //! word and, where it has the mark, swaps its own slot with the middle, without one; the answer is the record of its slot.
 ghost use Rattle.std.specs.Prelude.{◌≡◌, ℕ, ◌<◌, [], ◌∷◌};
-ghost use Rattle.cell_live.specs.declared.triple.notes.Sight.TheVariants.{Writer, Reader, Told};
+ghost use Rattle.cell_live.specs.declared.sight.Sight.TheVariants.{Writer, Reader, Told};
 ghost use Rattle.cell_live.specs.Running.{held_slots, snap};
-ghost use Rattle.cell_live.specs.triple.Steps.{first_writer, first_reader, writer_or, reader_or, receipt_or};
+ghost use Rattle.cell_live.specs.Sights.{writer_or, reader_or, receipt_or};
+ghost use Rattle.cell_live.specs.triple.Steps.{first_writer, first_reader};
 
 use crate::cell::Lawful;
 use atomic_table::TableRule;
-use notes::Sight;
+use notes::TripleSight;
 use table::{TripleSeat, TripleTable};
 
 mod calls;
@@ -20,7 +21,7 @@ mod table;
 /// The rule of the table of a triple buffer.
 pub struct Triple;
 
-impl<T: Lawful> TableRule<T, Sight<T>, T> for Triple {
+impl<T: Lawful> TableRule<T, TripleSight<T>, T> for Triple {
     ghost use Rattle.cell_live.specs.triple.Rule.{TripleRule};
     ghost use Rattle.cell_live.specs.triple.Steps.{first_sight};
 

@@ -1,5 +1,6 @@
 -- Lists with one more element at the end, and which of two events is before the other.
-use Rattle.std.proofs.Common.{◌≡◌, ℕ, ◌+◌, ◌<◌, ◌≤◌, List, [], ◌∷◌, ◌++◌, length, slice_get, Option, None, Some, IsSome, zero, suc, refl, sym, ◌∙◌, ◌⊎◌, inl, inr, arith}
+use Rattle.std.proofs.Common.{◌≡◌, ℕ, ◌+◌, ◌<◌, ◌≤◌, List, [], ◌∷◌, ◌++◌, length, slice_get, Option, None, Some, IsSome, zero, suc, refl}
+use Rattle.std.proofs.Common.{sym, ◌∙◌, ◌⊎◌, inl, inr, arith}
 use Rattle.std.proofs.lemmas.Option.{same_Some}
 use Rattle.fourslot_core.specs.Accesses.{IsBefore}
 use Rattle.fourslot_core.specs.Counts.{IsBelow}
@@ -15,7 +16,8 @@ get_last [] y (suc i) e = absurd (omega arith)
 get_last (z ∷ xs) y zero e = absurd (omega arith)
 get_last (z ∷ xs) y (suc i) e = get_last xs y i (omega arith)
 
-pub get_cases : {X : Type 0} (xs : List X) (y : X) (i : ℕ) (x : X) → slice_get (xs ++ y ∷ []) i ≡ Some x → (slice_get xs i ≡ Some x) ⊎ ((i ≡ length xs) × (x ≡ y))
+pub get_cases : {X : Type 0} (xs : List X) (y : X) (i : ℕ) (x : X) → slice_get (xs ++ y ∷ []) i ≡ Some x →
+    (slice_get xs i ≡ Some x) ⊎ ((i ≡ length xs) × (x ≡ y))
 get_cases [] y zero x h = inr (refl, sym (same_Some y x h))
 get_cases [] y (suc i) x h = cc
 get_cases (z ∷ xs) y zero x h = inl h

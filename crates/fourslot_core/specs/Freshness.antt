@@ -5,12 +5,12 @@ use Rattle.fourslot_core.specs.declared.state.State.{State}
 use Rattle.fourslot_core.specs.declared.state.Stage.{Stage}
 use Rattle.fourslot_core.specs.declared.state.ReaderStage.{ReaderStage}
 use Rattle.fourslot_core.specs.declared.state.ReaderStage.TheVariants.{R1, R2, R5}
-use Rattle.fourslot_core.specs.Events.{side, record_in, place_of}
+use Rattle.fourslot_core.specs.Events.{side, record_in, slot_with}
 use Rattle.fourslot_core.specs.Invariant.{IsUnderWay, IsStored, HasIndex}
 
 -- the record in the slot that a pair's bit names
 abbrev pub named : {R : Type 0} → State R → Bool → R
-named s p = record_in s.records (place_of p (side s.slot p))
+named s p = record_in s.records (slot_with p (side s.slot p))
 
 -- a read has its pair and not its index, from R1 to R3
 abbrev pub IsBegun : ReaderStage → Type 0
@@ -20,7 +20,8 @@ IsBegun _ = ⊥
 
 -- last: the record of the last finished write; prev: the number that the last R3 chose; floor: that of the last write
 -- that was finished at the last R1
-pub record IsFreshAt {R : Type 0} (writer : Stage) (reader : ReaderStage) (num : R → ℕ) (s : State R) (last : R) (prev floor : ℕ) : Type 0 where
+pub record IsFreshAt {R : Type 0} (writer : Stage) (reader : ReaderStage) (num : R → ℕ) (s : State R) (last : R)
+    (prev floor : ℕ) : Type 0 where
   pub numbered : IsUnderWay writer → num s.item ≡ num last + 1
   pub top : (p : Bool) → (num (named s p) ≤ num last) ⊎ (IsStored writer × (p ≡ s.write.pair))
   pub past : prev ≤ num (named s s.latest)

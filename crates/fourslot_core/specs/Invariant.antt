@@ -1,13 +1,13 @@
 -- What every state of a cell keeps (this project's invariant). A writer between W1 and W5 has made W1 and not W5; so with
 -- the others.
 use Rattle.std.specs.Prelude.{◌≡◌, ◌≢◌, false, not, Some, ◌⊎◌}
-use Rattle.fourslot_core.specs.declared.state.Place.{Place}
+use Rattle.fourslot_core.specs.declared.state.Slot.{Slot}
 use Rattle.fourslot_core.specs.declared.state.State.{State}
 use Rattle.fourslot_core.specs.declared.state.Stage.{Stage}
 use Rattle.fourslot_core.specs.declared.state.Stage.TheVariants.{W3, W4, W5}
 use Rattle.fourslot_core.specs.declared.state.ReaderStage.{ReaderStage}
 use Rattle.fourslot_core.specs.declared.state.ReaderStage.TheVariants.{R1, R2, R3, R4}
-use Rattle.fourslot_core.specs.Events.{side, record_in, place_of}
+use Rattle.fourslot_core.specs.Events.{side, record_in, slot_with}
 
 -- after this event a write is under way, from W1 to W5
 abbrev pub IsUnderWay : Stage → Type 0
@@ -60,22 +60,22 @@ IsKept R2 = ⊥
 IsKept _ = Unit {0}
 
 -- the slot that latest and its slot bit name
-abbrev pub latest_place : {R : Type 0} → State R → Place
-latest_place s = place_of s.latest (side s.slot s.latest)
+abbrev pub latest_slot : {R : Type 0} → State R → Slot
+latest_slot s = slot_with s.latest (side s.slot s.latest)
 
 -- the invariant at these last events of the writer and the reader; last is the record of the last finished write
 pub record IsSoundAt {R : Type 0} (writer : Stage) (reader : ReaderStage) (s : State R) (last : R) : Type 0 where
   pub loaded : IsLoaded reader → (s.read.pair ≡ s.latest) ⊎ (s.read.pair ≡ s.reading)
   pub followed : IsUnderWay writer → s.write.pair ≢ s.latest → s.reading ≡ s.latest
-  pub kept : (c : Place) → IsKept reader → s.chosen ≡ Some c → s.reading ≡ c.pair
-  pub apart : (c : Place) → IsKept reader → s.chosen ≡ Some c → HasSlot writer → s.write ≢ c
+  pub kept : (c : Slot) → IsKept reader → s.chosen ≡ Some c → s.reading ≡ c.pair
+  pub apart : (c : Slot) → IsKept reader → s.chosen ≡ Some c → HasSlot writer → s.write ≢ c
   pub announced : IsAnnounced reader → s.reading ≡ s.read.pair
   pub taken : HasIndex reader → s.chosen ≡ Some s.read
   pub remembered : s.remembered ≡ s.slot
   pub opposite : HasSlot writer → s.write.index ≡ not (side s.slot s.write.pair)
   pub stored : IsStored writer → s.write.index ≡ side s.slot s.write.pair
-  pub current_new : IsStored writer → s.write.pair ≡ s.latest → record_in s.records (latest_place s) ≡ s.item
-  pub current_last : (IsStored writer → s.write.pair ≢ s.latest) → record_in s.records (latest_place s) ≡ last
+  pub current_new : IsStored writer → s.write.pair ≡ s.latest → record_in s.records (latest_slot s) ≡ s.item
+  pub current_last : (IsStored writer → s.write.pair ≢ s.latest) → record_in s.records (latest_slot s) ≡ last
   pub filled : IsFilled writer → record_in s.records s.write ≡ s.item
 
 abbrev pub IsSound : {R : Type 0} → State R → R → Type 0

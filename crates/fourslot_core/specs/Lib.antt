@@ -5,11 +5,9 @@ pub mod Events
 pub mod Freshness
 pub mod Interleaving
 pub mod Invariant
-pub mod Parts
 pub mod Play
 pub mod Reports
 pub mod ReportOrders
-pub mod Runs
 pub mod SafeSlots
 pub mod Traces
-pub mod Weaves
+pub mod inner

@@ -35,7 +35,8 @@ pub record IsOfRun {R : Type 0} (span : Span R) (run : Trace R) (ops : List (Op 
   pub write_slots : (k : ℕ) → (writer_of span ops slots).slot k ≡ slice_get run.write_slots k
   pub read_slots : (m : ℕ) → (reader_of span ops slots).slot m ≡ slice_get run.read_slots m
   pub unrefused : (p : ℕ) (op : Op R) → slice_get ops p ≡ Some op → op.kind ≢ Refused
-  pub answers : (p m : ℕ) (op : Op R) → slice_get ops p ≡ Some op → op.who ≡ 1 → access_at 0 span 1 m 0 ≡ Some op.starts → op.item ≡ slice_get run.answers m
+  pub answers : (p m : ℕ) (op : Op R) → slice_get ops p ≡ Some op → op.who ≡ 1 → access_at 0 span 1 m 0 ≡ Some op.starts →
+      op.item ≡ slice_get run.answers m
 
 -- fresh: each finished read is
 abbrev pub IsFreshReport : Accesses → Accesses → Type 0

@@ -4,26 +4,26 @@ use Rattle.std.specs.Prelude.{◌≡◌, ℕ, ◌<◌, ◌≤◌, ◌&&◌, List
 use Rattle.std.specs.List.{fold}
 use Rattle.fourslot_core.specs.declared.schedule.Turn.{Turn}
 use Rattle.fourslot_core.specs.declared.schedule.Turn.TheVariants.{Writer, Reader}
-use Rattle.fourslot_core.specs.declared.state.Place.{Place}
+use Rattle.fourslot_core.specs.declared.state.Slot.{Slot}
 use Rattle.fourslot_core.specs.declared.state.State.{State}
 use Rattle.fourslot_core.specs.declared.state.Stage.{Stage}
 use Rattle.fourslot_core.specs.declared.state.Stage.TheVariants.{W1, W2}
 use Rattle.fourslot_core.specs.declared.state.ReaderStage.{ReaderStage}
 use Rattle.fourslot_core.specs.declared.state.ReaderStage.TheVariants.{R3, R4}
-use Rattle.fourslot_core.specs.Events.{after_read, after_write, answer, is_writing, same_place}
+use Rattle.fourslot_core.specs.Events.{after_read, after_write, answer, is_writing, same_slot}
 use Rattle.fourslot_core.specs.Invariant.{IsReading}
 use Rattle.fourslot_core.specs.Traces.{Moment}
 
 -- a slot write: the interval from its beginning to its end, or without end, and its record
 pub record SlotWrite (R : Type 0) : Type 0 where
-  pub slot : Place
+  pub slot : Slot
   pub begins : ℕ
   pub ends : Option ℕ
   pub item : R
 
 -- a slot read that has ended
 pub record SlotRead (R : Type 0) : Type 0 where
-  pub slot : Place
+  pub slot : Slot
   pub begins : ℕ
   pub ends : ℕ
   pub answer : R
@@ -33,18 +33,18 @@ abbrev pub Meets : {R : Type 0} → SlotWrite R → SlotRead R → Type 0
 Meets w r = (w.slot ≡ r.slot) × (w.begins ≤ r.ends) × ((e : ℕ) → w.ends ≡ Some e → r.begins ≤ e)
 
 -- the write ended in this slot before this position
-abbrev pub EndsBefore : {R : Type 0} → SlotWrite R → Place → ℕ → Type 0
+abbrev pub EndsBefore : {R : Type 0} → SlotWrite R → Slot → ℕ → Type 0
 EndsBefore w slot at = (w.slot ≡ slot) × (e : ℕ) × (w.ends ≡ Some e) × (e < at)
 
 -- the record of the last write that ended in this slot before this position; where there is none, the first record there
-abbrev pub IsLastRecord : {R : Type 0} → (Place → R) → List (SlotWrite R) → Place → ℕ → R → Type 0
+abbrev pub IsLastRecord : {R : Type 0} → (Slot → R) → List (SlotWrite R) → Slot → ℕ → R → Type 0
 IsLastRecord {R} first writes slot at x =
     (((i : ℕ) (w : SlotWrite R) → slice_get writes i ≡ Some w → ¬ EndsBefore w slot at) × (x ≡ first slot))
     ⊎ ((i : ℕ) × (w : SlotWrite R) × (slice_get writes i ≡ Some w) × EndsBefore w slot at
     × ((j : ℕ) (v : SlotWrite R) → i < j → slice_get writes j ≡ Some v → ¬ EndsBefore v slot at) × (x ≡ w.item))
 
 -- a safe slot's answer: a read that meets a write gives the noise, any other the last record before it
-pub record IsSafe {R : Type 0} (first : Place → R) (noise : R) (writes : List (SlotWrite R)) (r : SlotRead R) : Type 0 where
+pub record IsSafe {R : Type 0} (first : Slot → R) (noise : R) (writes : List (SlotWrite R)) (r : SlotRead R) : Type 0 where
   pub noisy : (i : ℕ) (w : SlotWrite R) → slice_get writes i ≡ Some w → Meets w r → r.answer ≡ noise
   pub quiet : ((i : ℕ) (w : SlotWrite R) → slice_get writes i ≡ Some w → ¬ Meets w r) → IsLastRecord first writes r.slot r.begins r.answer
 
@@ -58,7 +58,7 @@ pub record SlotTrace (R : Type 0) : Type 0 where
   pub entered : ℕ
 
 -- the slot write in progress, from W2 to W3
-abbrev pub open_write : {R : Type 0} → Stage → Place → R → ℕ → List (SlotWrite R)
+abbrev pub open_write : {R : Type 0} → Stage → Slot → R → ℕ → List (SlotWrite R)
 open_write W2 slot item since = record { slot = slot; begins = since; ends = None; item = item } ∷ []
 open_write _ slot item since = []
 
@@ -100,7 +100,7 @@ slots_step items t Reader at =
 -- in this state the slot read in progress, if there is one, has met the slot write in progress where that is of the same slot,
 -- and no other
 abbrev pub IsMarked : {R : Type 0} → State R → Type 0
-IsMarked s = IsReading s.reader → s.met ≡ (is_writing s.writer && same_place s.write s.read)
+IsMarked s = IsReading s.reader → s.met ≡ (is_writing s.writer && same_slot s.write s.read)
 
 -- a cell stepped from this state; slot accesses in progress there began at position 0
 abbrev pub slot_trace : {R : Type 0} → State R → (ℕ → R) → List Moment → SlotTrace R

@@ -1,8 +1,9 @@
 ghost use Rattle.std.specs.Prelude.{◌≡◌, ◌<◌, Bool, true, false, not};
 ghost use Rattle.fourslot_core.specs.declared.state.State.{State};
-ghost use Rattle.fourslot_core.specs.Events.{bits_of, bit_number, in_slot_of, IsReadEvent, IsWriteEvent, opening_state, reader_state, same_place, side, slot_number, with_side};
+ghost use Rattle.fourslot_core.specs.Events.{bits_of, bit_number, in_slot_of, IsReadEvent, IsWriteEvent, opening_state, reader_state};
+ghost use Rattle.fourslot_core.specs.Events.{same_slot, side, slot_number, with_side};
 
-use crate::state::{Bits, InSlot, Place, ReadStage, ReaderStage, Sides, Stage, State};
+use crate::state::{Bits, InSlot, ReadStage, ReaderStage, Sides, Slot, Stage, State};
 use std::marker::Model;
 
 impl<T: Copy> Sides<T> {
@@ -23,13 +24,13 @@ impl<T: Copy> Sides<T> {
     }
 }
 
-fn is_same(a: Place, b: Place) -> bool
-    ensures { result ≡ same_place a b }
+fn is_same(a: Slot, b: Slot) -> bool
+    ensures { result ≡ same_slot a b }
 {
     a.pair == b.pair && a.index == b.index
 }
 
-impl Place {
+impl Slot {
     fn number(&self) -> u8
         ensures { result ≡ slot_number self.now }
     {
@@ -41,7 +42,7 @@ impl Place {
         requires { number < 4 }
         ensures { slot_number result ≡ number }
     {
-        Place {
+        Slot {
             pair: number >= 2,
             index: number == 1 || number == 3,
         }
@@ -73,7 +74,7 @@ impl<R: Copy> CellCore<R> {
             zero: opening,
             one: opening,
         };
-        let first = Place {
+        let first = Slot {
             pair: false,
             index: false,
         };
@@ -100,13 +101,13 @@ impl<R: Copy> CellCore<R> {
     }
 
     /// A new cell whose reader stands just after R3 with this slot.
-    pub(crate) fn with_reader(opening: R, noise: R, place: Place) -> Self
-        ensures { result ≡ reader_state opening noise place }
+    pub(crate) fn with_reader(opening: R, noise: R, slot: Slot) -> Self
+        ensures { result ≡ reader_state opening noise slot }
     {
         let mut cell = CellCore::new(opening, noise);
         cell.state.reader = ReaderStage::R3;
-        cell.state.read = place;
-        cell.state.chosen = Some(place);
+        cell.state.read = slot;
+        cell.state.chosen = Some(slot);
         cell
     }
 
@@ -120,7 +121,7 @@ impl<R: Copy> CellCore<R> {
             Stage::W5 => {
                 let pair = !s.reading;
                 let index = !s.remembered.at(pair);
-                s.write = Place { pair, index };
+                s.write = Slot { pair, index };
                 s.item = item;
                 s.writer = Stage::W1;
                 Stage::W1

@@ -13,18 +13,19 @@ ghost use Rattle.fourslot_core.specs.Freshness.{floor_after, IsFresh, prev_after
 ghost use Rattle.fourslot_core.specs.Interleaving.{last_finished, Leads, Reads, Writes};
 ghost use Rattle.fourslot_core.specs.Invariant.{HasIndex, HasSlot, IsSound, IsUnmet, last_after};
 ghost use Rattle.fourslot_core.specs.SafeSlots.{IsMarked, IsSafe, slot_trace, slot_writes, SlotRead};
-ghost use Rattle.fourslot_core.specs.Traces.{Moment, moment_at, moments_from, moments_of, reads_of, RisesFrom, source_record, then_step, trace, writes_of};
+ghost use Rattle.fourslot_core.specs.Traces.{Moment, moment_at, moments_from, moments_of, reads_of, RisesFrom, source_record, then_step};
+ghost use Rattle.fourslot_core.specs.Traces.{trace, writes_of};
 
 use crate::cell::CellCore;
-use crate::state::Place;
+use crate::state::Slot;
 
 /// A new cell whose reader stands just after R3 with this slot, all bits 0. No schedule of a new cell leads to a slot read
 /// that meets a slot write, so only such a state shows what the noise does.
 pub fn reader_at<R: Copy>(opening: R, noise: R, slot: u8) -> CellCore<R>
     requires { slot < 4 }
-    ensures { (p : Place) × (slot_number p ≡ slot) × (result ≡ reader_state opening noise p) }
+    ensures { (p : Slot) × (slot_number p ≡ slot) × (result ≡ reader_state opening noise p) }
 {
-    CellCore::with_reader(opening, noise, Place::numbered(slot))
+    CellCore::with_reader(opening, noise, Slot::numbered(slot))
 }
 
 /// A cell that is stepped from any state, also one with a reader and a writer in one slot, answers as safe slots do: each

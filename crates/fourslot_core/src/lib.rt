@@ -5,18 +5,14 @@
 mod cell;
 mod event;
 pub mod laws;
-#[cfg(test)]
-mod limits;
 mod player;
 mod schedule;
 mod state;
 #[cfg(test)]
 mod tests;
-#[cfg(test)]
-mod worked;
 
 pub use cell::CellCore;
 pub use event::{ReadEvent, WriteEvent};
 pub use player::play_cell;
 pub use schedule::{CellReport, CellSchedule, Turn};
-pub use state::{Bits, InSlot, Place, ReadStage, ReaderStage, Sides, Stage, State};
+pub use state::{Bits, InSlot, ReadStage, ReaderStage, Sides, Slot, Stage, State};

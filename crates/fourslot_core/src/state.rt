@@ -7,7 +7,7 @@ pub struct Sides<T> {
 
 /// A slot, by its pair and its index in the pair. Its number is `2 * pair + index`.
 #[derive(Clone, Copy, Debug, PartialEq, Eq)]
-pub struct Place {
+pub struct Slot {
     pub pair: bool,
     pub index: bool,
 }
@@ -83,16 +83,16 @@ pub struct State<R> {
     /// The writer's last event, W5 at first.
     pub writer: Stage,
     /// The slot that the last W1 chose, and the item that it took.
-    pub write: Place,
+    pub write: Slot,
     pub item: R,
     /// The `slot` bits, as the writer remembers them.
     pub remembered: Sides<bool>,
     /// The reader's last event, R5 at first.
     pub reader: ReaderStage,
     /// The reader's pair since R1, and its index since R3.
-    pub read: Place,
+    pub read: Slot,
     /// The slot that the last R3 chose.
-    pub chosen: Option<Place>,
+    pub chosen: Option<Slot>,
     /// Whether the slot read in progress has met a write: the writer was in its slot at R4, or made W2 there since.
     pub met: bool,
 }

@@ -5,10 +5,13 @@ use crate::{Bits, CellCore, InSlot, ReadStage, Stage};
 use history_core::Band;
 use std::process::Abort;
 
+mod limits;
+mod worked;
+
 /// The steps of a text of the letters `w` and `r`, each write with this item, and what the cell shows after them: the last
 /// answer of these steps; `latest`, `reading` and the two bits of `slot`; the writer's slot and the reader's.
 #[derive(Clone, Copy)]
-struct Sight {
+struct Shown {
     item: u64,
     steps: &'static str,
     answer: Option<u64>,
@@ -21,8 +24,8 @@ fn shows(
     steps: &'static str,
     bits: [u8; 4],
     in_slot: (Option<u8>, Option<u8>),
-) -> Sight {
-    Sight {
+) -> Shown {
+    Shown {
         item,
         steps,
         answer: None,
@@ -31,8 +34,8 @@ fn shows(
     }
 }
 
-fn gives(steps: &'static str, answer: u64, bits: [u8; 4]) -> Sight {
-    Sight {
+fn gives(steps: &'static str, answer: u64, bits: [u8; 4]) -> Shown {
+    Shown {
         item: 0,
         steps,
         answer: Some(answer),
@@ -53,7 +56,7 @@ fn make(cell: &mut CellCore<u64>, item: u64, steps: &str) -> Option<u64> {
     answer
 }
 
-fn follows(rt: &impl Abort, cell: &mut CellCore<u64>, sights: &[Sight]) {
+fn follows(rt: &impl Abort, cell: &mut CellCore<u64>, sights: &[Shown]) {
     for sight in sights {
         assert_eq!(rt; make(cell, sight.item, sight.steps), sight.answer);
         let bits = cell.bits();

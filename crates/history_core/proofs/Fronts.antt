@@ -1,5 +1,6 @@
 -- The front of an order lists what the order lists before its end.
-use Rattle.std.proofs.Common.{◌≡◌, ℕ, ◌<◌, ◌≤◌, Bool, List, [], ◌∷◌, length, take, get_or, slice_get, Some, zero, suc, arith, sym, ◌∙◌, ap, subst}
+use Rattle.std.proofs.Common.{◌≡◌, ℕ, ◌<◌, ◌≤◌, Bool, List, [], ◌∷◌, length, take, get_or, slice_get, Some, zero, suc, arith, sym, ◌∙◌, ap}
+use Rattle.std.proofs.Common.{subst}
 use Rattle.std.proofs.lemmas.List.{take-take}
 use Rattle.std.proofs.lemmas.Option.{option_and_then_some, get_or_from_slice_get}
 use Rattle.std.specs.Option.{option_and_then}
@@ -20,12 +21,14 @@ get_front (suc n) (y ∷ ys) zero x l h = h
 get_front (suc n) (y ∷ ys) (suc i) x l h = get_front n ys i x (omega arith) h
 
 module _ {R : Type 0} where
-  pub listed_front : (ops : List (Op R)) (order : List ℕ) (n i : ℕ) (o : Op R) → listed_at ops (take n order) i ≡ Some o → (i < n) × (listed_at ops order i ≡ Some o)
+  pub listed_front : (ops : List (Op R)) (order : List ℕ) (n i : ℕ) (o : Op R) → listed_at ops (take n order) i ≡ Some o →
+      (i < n) × (listed_at ops order i ≡ Some o)
   listed_front ops order n i o h =
       option_and_then_some (slice_get ops) (slice_get (take n order) i) o h
       (λ p e f. let w = front_get n order i p e in (w.0, ap (option_and_then (slice_get ops)) w.1 ∙ f))
 
-  pub places_front : (ops : List (Op R)) (order : List ℕ) (n : ℕ) → ((k : ℕ) → k < n → get_or order k 0 < length ops) → ListsPlaces ops (take n order)
+  pub places_front : (ops : List (Op R)) (order : List ℕ) (n : ℕ) → ((k : ℕ) → k < n → get_or order k 0 < length ops) →
+      ListsPlaces ops (take n order)
   places_front ops order n within i p h =
       let w = front_get n order i p h in
       let e : get_or order i 0 ≡ p = get_or_from_slice_get order i p 0 w.1 in
@@ -34,7 +37,8 @@ module _ {R : Type 0} where
   pub places_of_front : (ops : List (Op R)) (order : List ℕ) (n : ℕ) → ListsPlaces ops order → ListsPlaces ops (take n order)
   places_of_front ops order n places i p h = places i p (front_get n order i p h).1
 
-  pub reads_front : (Same : R → R → Type 0) (opening : R) (ops : List (Op R)) (order : List ℕ) (n : ℕ) → ReadsUpTo Same opening ops order n → ReadsLatest Same opening ops (take n order)
+  pub reads_front : (Same : R → R → Type 0) (opening : R) (ops : List (Op R)) (order : List ℕ) (n : ℕ) →
+      ReadsUpTo Same opening ops order n → ReadsLatest Same opening ops (take n order)
   reads_front Same opening ops order n reads i o h =
       let w = listed_front ops order n i o h in
       let le : i ≤ n = omega (arith, w.0) in
@@ -42,7 +46,8 @@ module _ {R : Type 0} where
       subst P (sym (take-take i n order le)) (reads i o w.0 w.1)
 
   -- a shorter front keeps the limit that a longer one keeps
-  pub limit_front : (within : ℕ → Bool) (limit : ℕ) (ops : List (Op R)) (order : List ℕ) (m n : ℕ) → m ≤ n → KeepsLimit within limit ops (take n order) → KeepsLimit within limit ops (take m order)
+  pub limit_front : (within : ℕ → Bool) (limit : ℕ) (ops : List (Op R)) (order : List ℕ) (m n : ℕ) → m ≤ n →
+      KeepsLimit within limit ops (take n order) → KeepsLimit within limit ops (take m order)
   limit_front within limit ops order m n le kept i p o e f k b =
       let w = front_get m order i p e in
       let lt : i < n = omega (arith, w.0) in

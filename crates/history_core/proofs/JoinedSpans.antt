@@ -1,5 +1,6 @@
 -- The parts of a played schedule: positions tell the terms apart, so that no operation precedes one of an earlier term.
-use Rattle.std.proofs.Common.{◌≡◌, ℕ, ◌+◌, ◌<◌, ◌≤◌, List, [], ◌∷◌, length, slice_get, Some, arith, refl, ap, inl, inr, ◌++◌, sym, subst, ◌∙◌}
+use Rattle.std.proofs.Common.{◌≡◌, ℕ, ◌+◌, ◌<◌, ◌≤◌, List, [], ◌∷◌, length, slice_get, Some, arith, refl, ap, inl, inr, ◌++◌, sym, subst}
+use Rattle.std.proofs.Common.{◌∙◌}
 use Rattle.history_core.specs.declared.history.Op.{Op}
 use Rattle.history_core.specs.Joined.{IsInTurn, ops_of, Part, StaysBehind, terms_from}
 use Rattle.history_core.specs.Orders.{IsAtomicOrder, latest, RefusesLawfully}
@@ -26,18 +27,22 @@ module _ {R : Type 0} where
       × IsPlayedInTurn Same (at + length span.steps) next spans parts last
 
   -- what is played from a position on ends at it or later
-  ends_from : (Same : R → R → Type 0) (at : ℕ) (opening last : R) (spans : List (Span R)) (parts : List (Part R)) → IsPlayedInTurn Same at opening spans parts last → (p end : ℕ) (o : Op R) → slice_get (ops_of parts) p ≡ Some o → o.ends ≡ Some end → at ≤ end
+  ends_from : (Same : R → R → Type 0) (at : ℕ) (opening last : R) (spans : List (Span R)) (parts : List (Part R)) → IsPlayedInTurn Same
+      at opening spans parts last → (p end : ℕ) (o : Op R) → slice_get (ops_of parts) p ≡ Some o → o.ends ≡ Some end → at ≤ end
   ends_from Same at opening last [] [] h p end o e f = cc
   ends_from Same at opening last [] (part ∷ parts) h p end o e f = absurd h
   ends_from Same at opening last (span ∷ spans) [] h p end o e f = absurd h
   ends_from Same at opening last (span ∷ spans) (part ∷ parts) h p end o e f =
       elim (get_cases part.ops (ops_of parts) p o e) [
         | inl w ↦ let k = h.2.each p o w.1 in ends_least at span k.0 o end k.1 f
-        | inr w ↦ let le : at + length span.steps ≤ end = ends_from Same (at + length span.steps) h.0 last spans parts h.6 w.0 end o w.2 f in omega arith
+        | inr w ↦
+            let le : at + length span.steps ≤ end = ends_from Same (at + length span.steps) h.0 last spans parts h.6 w.0 end o w.2 f in
+            omega arith
       ]
 
   -- shape, as the parts have it
-  pub shape_in_turn : (Same : R → R → Type 0) (at place : ℕ) (opening last : R) (spans : List (Span R)) (parts : List (Part R)) → IsPlayedInTurn Same at opening spans parts last → HasShapeFrom at place spans (terms_from place parts) (ops_of parts)
+  pub shape_in_turn : (Same : R → R → Type 0) (at place : ℕ) (opening last : R) (spans : List (Span R)) (parts : List (Part R)) →
+      IsPlayedInTurn Same at opening spans parts last → HasShapeFrom at place spans (terms_from place parts) (ops_of parts)
   shape_in_turn Same at place opening last [] [] h = (refl, refl)
   shape_in_turn Same at place opening last [] (part ∷ parts) h = absurd h
   shape_in_turn Same at place opening last (span ∷ spans) [] h = absurd h
@@ -52,7 +57,8 @@ module _ {R : Type 0} where
   )
 
   -- and the premise of the law for many parts
-  pub played_in_turn : (Same : R → R → Type 0) (at : ℕ) (opening last : R) (spans : List (Span R)) (parts : List (Part R)) → IsPlayedInTurn Same at opening spans parts last → IsInTurn Same opening parts last
+  pub played_in_turn : (Same : R → R → Type 0) (at : ℕ) (opening last : R) (spans : List (Span R)) (parts : List (Part R)) →
+      IsPlayedInTurn Same at opening spans parts last → IsInTurn Same opening parts last
   played_in_turn Same at opening last [] [] h = h
   played_in_turn Same at opening last [] (part ∷ parts) h = absurd h
   played_in_turn Same at opening last (span ∷ spans) [] h = absurd h
@@ -62,17 +68,37 @@ module _ {R : Type 0} where
       behind : StaysBehind (ops_of parts) part.ops
       behind p q a b pa qb pre =
           let end = some_and_of (λ end. end < a.starts) b.ends pre in
-          let after : at + length span.steps ≤ end.0 = ends_from Same (at + length span.steps) h.0 last spans parts h.6 q end.0 b qb end.1 in
+          let after : at + length span.steps ≤ end.0 =
+          ends_from Same (at + length span.steps) h.0 last spans parts h.6 q end.0 b qb end.1 in
           let k = h.2.each p a pa in
           let before : a.starts < at + length span.steps = starts_below at span k.0 a k.1 in
           let l = end.2 in
           omega arith
 
   -- one more term after the others
-  pub played_more : (Same : R → R → Type 0) (at : ℕ) (opening last next : R) (spans : List (Span R)) (parts : List (Part R)) (span : Span R) (part : Part R) → IsPlayedInTurn Same at opening spans parts last → part.limit ≡ span.limit → IsPlayed (at + steps_in spans) span part.ops → IsAtomicOrder Same last part.ops part.order → RefusesLawfully (record { first = 0; limit = part.limit } ∷ []) part.ops part.order → latest last part.ops part.order ≡ Some next → IsPlayedInTurn Same at opening (spans ++ span ∷ []) (parts ++ part ∷ []) next
-  played_more Same at opening last next [] [] span part h limit played atomic lawful held =
-      (next, limit, subst (λ n. IsPlayed n span part.ops) (omega arith) played, subst (λ r. IsAtomicOrder Same r part.ops part.order) (sym h) atomic, lawful, ap (λ r. latest r part.ops part.order) h ∙ held, refl)
+  pub played_more : (Same : R → R → Type 0) (at : ℕ) (opening last next : R) (spans : List (Span R)) (parts : List (Part R)) (span : Span R)
+      (part : Part R) → IsPlayedInTurn Same at opening spans parts last → part.limit ≡ span.limit →
+      IsPlayed (at + steps_in spans) span part.ops → IsAtomicOrder Same last part.ops part.order →
+      RefusesLawfully (record { first = 0; limit = part.limit } ∷ []) part.ops part.order → latest last part.ops part.order ≡ Some next →
+      IsPlayedInTurn Same at opening (spans ++ span ∷ []) (parts ++ part ∷ []) next
+  played_more Same at opening last next [] [] span part h limit played atomic lawful held = (
+    next,
+    limit,
+    subst (λ n. IsPlayed n span part.ops) (omega arith) played,
+    subst (λ r. IsAtomicOrder Same r part.ops part.order) (sym h) atomic,
+    lawful,
+    ap (λ r. latest r part.ops part.order) h ∙ held,
+    refl,
+  )
   played_more Same at opening last next [] (first ∷ parts) span part h limit played atomic lawful held = absurd h
   played_more Same at opening last next (first ∷ spans) [] span part h limit played atomic lawful held = absurd h
-  played_more Same at opening last next (first ∷ spans) (front ∷ parts) span part h limit played atomic lawful held =
-      (h.0, h.1, h.2, h.3, h.4, h.5, played_more Same (at + length first.steps) h.0 last next spans parts span part h.6 limit (subst (λ n. IsPlayed n span part.ops) (omega arith) played) atomic lawful held)
+  played_more Same at opening last next (first ∷ spans) (front ∷ parts) span part h limit played atomic lawful held = (
+    h.0,
+    h.1,
+    h.2,
+    h.3,
+    h.4,
+    h.5,
+    played_more Same (at + length first.steps) h.0 last next spans parts span part h.6 limit
+        (subst (λ n. IsPlayed n span part.ops) (omega arith) played) atomic lawful held,
+  )

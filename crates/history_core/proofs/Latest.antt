@@ -1,5 +1,6 @@
 -- The latest record of an order by number: that of the write with the reader's number, since no write stands between.
-use Rattle.std.proofs.Common.{◌≡◌, ℕ, ◌+◌, ◌-◌, ◌<◌, ◌≤◌, true, false, List, length, take, get_or, slice_get, Option, None, Some, zero, suc, ◌⊎◌, inl, inr, refl, sym, ◌∙◌, ap, arith}
+use Rattle.std.proofs.Common.{◌≡◌, ℕ, ◌+◌, ◌-◌, ◌<◌, ◌≤◌, true, false, List, length, take, get_or, slice_get, Option, None, Some, zero, suc}
+use Rattle.std.proofs.Common.{◌⊎◌, inl, inr, refl, sym, ◌∙◌, ap, arith}
 use Rattle.std.specs.Prelude.{IsSome, IsSomeAnd}
 use Rattle.std.proofs.lemmas.Bool.{cases_order, cases_Bool}
 use Rattle.std.proofs.lemmas.List.Sums.{fold_more}
@@ -30,13 +31,15 @@ module _ {R : Type 0} where
   left_written r item Read h = cc
   left_written r item Refused h = cc
 
-  one_more : (opening : R) (ops : List (Op R)) (order : List ℕ) (n p : ℕ) → slice_get order n ≡ Some p → latest opening ops (take (n + 1) order) ≡ left_at (latest opening ops (take n order)) (slice_get ops p)
+  one_more : (opening : R) (ops : List (Op R)) (order : List ℕ) (n p : ℕ) → slice_get order n ≡ Some p →
+      latest opening ops (take (n + 1) order) ≡ left_at (latest opening ops (take n order)) (slice_get ops p)
   one_more opening ops order n p e =
       fold_more (λ r q. left_at r (slice_get ops q)) (Some opening) order n 0 (slice_get_within order n p e)
       ∙ ap (λ q. left_at (latest opening ops (take n order)) (slice_get ops q)) (get_or_from_slice_get order n p 0 e)
 
   -- without a write between, the latest record stays
-  pub latest_stays : (opening : R) (ops : List (Op R)) (order : List ℕ) (m d : ℕ) → m + d ≤ length order → NoWriteBetween ops order m (m + d) → latest opening ops (take (m + d) order) ≡ latest opening ops (take m order)
+  pub latest_stays : (opening : R) (ops : List (Op R)) (order : List ℕ) (m d : ℕ) → m + d ≤ length order →
+      NoWriteBetween ops order m (m + d) → latest opening ops (take (m + d) order) ≡ latest opening ops (take m order)
   latest_stays opening ops order m zero le none = ap (λ n. latest opening ops (take n order)) (omega arith)
   latest_stays opening ops order m (suc d) le none =
       let n : ℕ = m + d in
@@ -44,17 +47,21 @@ module _ {R : Type 0} where
       let at : slice_get order n ≡ Some (get_or order n 0) = slice_get-get_or order n 0 (omega arith) in
       ap (λ k. latest opening ops (take k order)) next
       ∙ one_more opening ops order n (get_or order n 0) at
-      ∙ left_unwritten (latest opening ops (take n order)) (slice_get ops (get_or order n 0)) (none n (get_or order n 0) (omega arith) (omega arith) at)
+      ∙ left_unwritten (latest opening ops (take n order)) (slice_get ops (get_or order n 0))
+      (none n (get_or order n 0) (omega arith) (omega arith) at)
       ∙ latest_stays opening ops order m d (omega arith) (λ i p mi id e. none i p mi (omega arith) e)
 
   -- before the first write it is the opening
-  pub latest_is_opening : (opening : R) (ops : List (Op R)) (order : List ℕ) (n : ℕ) → n ≤ length order → NoWriteBetween ops order 0 n → latest opening ops (take n order) ≡ Some opening
+  pub latest_is_opening : (opening : R) (ops : List (Op R)) (order : List ℕ) (n : ℕ) → n ≤ length order → NoWriteBetween ops order 0 n →
+      latest opening ops (take n order) ≡ Some opening
   latest_is_opening opening ops order n le none =
       let zero_more : 0 + n ≡ n = omega arith in
-      ap (λ k. latest opening ops (take k order)) (sym zero_more) ∙ latest_stays opening ops order 0 n (omega arith) (λ i p _ l e. none i p (omega arith) (omega arith) e)
+      ap (λ k. latest opening ops (take k order)) (sym zero_more)
+      ∙ latest_stays opening ops order 0 n (omega arith) (λ i p _ l e. none i p (omega arith) (omega arith) e)
 
   -- after a write, and before the next, it is the write's item
-  pub latest_is_written : (opening : R) (ops : List (Op R)) (order : List ℕ) (j n q : ℕ) (w : Op R) → StandsAt ops order j q w → is_write w.kind ≡ true → j < n → n ≤ length order → NoWriteBetween ops order (j + 1) n → latest opening ops (take n order) ≡ w.item
+  pub latest_is_written : (opening : R) (ops : List (Op R)) (order : List ℕ) (j n q : ℕ) (w : Op R) → StandsAt ops order j q w →
+      is_write w.kind ≡ true → j < n → n ≤ length order → NoWriteBetween ops order (j + 1) n → latest opening ops (take n order) ≡ w.item
   latest_is_written opening ops order j n q w at write l le none =
       let rest : (j + 1) + (n - (j + 1)) ≡ n = omega arith in
       ap (λ k. latest opening ops (take k order)) (sym rest)
@@ -75,20 +82,26 @@ module _ {R : Type 0} where
   same_item (Some x) None h e = cc
   same_item (Some x) (Some y) h e = same_Some x y (sym e)
 
-  right_by_kind : (kind : Kind) (item before : Option R) → IsSome item → (is_write kind ≡ false → before ≡ item) → ReadsRight (λ x y. x ≡ y) kind item before
+  right_by_kind : (kind : Kind) (item before : Option R) → IsSome item → (is_write kind ≡ false → before ≡ item) →
+      ReadsRight (λ x y. x ≡ y) kind item before
   right_by_kind Write item before h e = h
   right_by_kind Read item before h e = same_item item before h (e refl)
   right_by_kind Refused item before h e = same_item item before h (e refl)
 
   -- reading, of an order by number
-  pub reads_by_number : (number : ℕ → ℕ) (opening : R) (ops : List (Op R)) (order : List ℕ) → IsByNumber number ops order → ((i p : ℕ) (o : Op R) → StandsAt ops order i p o → IsSome o.item) → ((i p : ℕ) (o : Op R) → StandsAt ops order i p o → is_write o.kind ≡ false → HasItemByNumber number opening ops order p o) → ReadsLatest (λ x y. x ≡ y) opening ops order
+  pub reads_by_number : (number : ℕ → ℕ) (opening : R) (ops : List (Op R)) (order : List ℕ) → IsByNumber number ops order →
+      ((i p : ℕ) (o : Op R) → StandsAt ops order i p o → IsSome o.item) →
+      ((i p : ℕ) (o : Op R) → StandsAt ops order i p o → is_write o.kind ≡ false → HasItemByNumber number opening ops order p o) →
+      ReadsLatest (λ x y. x ≡ y) opening ops order
   reads_by_number number opening ops order by items from i o listed =
-      option_and_then_some (slice_get ops) (slice_get order i) o listed (λ p e f. right_by_kind o.kind o.item (latest opening ops (take i order)) (items i p o (e, f)) (found p (e, f)))
+      option_and_then_some (slice_get ops) (slice_get order i) o listed
+      (λ p e f. right_by_kind o.kind o.item (latest opening ops (take i order)) (items i p o (e, f)) (found p (e, f)))
     where
       within : (p : ℕ) → slice_get order i ≡ Some p → i ≤ length order
       within p e = let l = slice_get_within order i p e in omega arith
 
-      between : (p j q : ℕ) (w : Op R) → StandsAt ops order i p o → StandsAt ops order j q w → number q ≡ number p → NoWriteBetween ops order (j + 1) i
+      between : (p j q : ℕ) (w : Op R) → StandsAt ops order i p o → StandsAt ops order j q w → number q ≡ number p →
+          NoWriteBetween ops order (j + 1) i
       between p j q w at wj same m z jm mi ez = none (slice_get ops z) refl
         where
           none : (a : Option (Op R)) → slice_get ops z ≡ a → is_write_at a ≡ false
@@ -98,7 +111,8 @@ module _ {R : Type 0} where
               let down : number z ≤ number p = by.sorted m i z p a o (ez, ea) at mi in
               by.write_first j m q z w a wj (ez, ea) (omega arith) (omega arith)
 
-      before : (p : ℕ) → StandsAt ops order i p o → ((j q : ℕ) (w : Op R) → StandsAt ops order j q w → is_write w.kind ≡ true → number p < number q) → NoWriteBetween ops order 0 i
+      before : (p : ℕ) → StandsAt ops order i p o →
+          ((j q : ℕ) (w : Op R) → StandsAt ops order j q w → is_write w.kind ≡ true → number p < number q) → NoWriteBetween ops order 0 i
       before p at above m z _ mi ez = none (slice_get ops z) refl
         where
           none : (a : Option (Op R)) → slice_get ops z ≡ a → is_write_at a ≡ false
@@ -111,7 +125,8 @@ module _ {R : Type 0} where
                 absurd (omega arith)
           ]
 
-      first : (p j q : ℕ) (w : Op R) → is_write o.kind ≡ false → StandsAt ops order i p o → StandsAt ops order j q w → is_write w.kind ≡ true → number q ≡ number p → j < i
+      first : (p j q : ℕ) (w : Op R) → is_write o.kind ≡ false → StandsAt ops order i p o → StandsAt ops order j q w →
+          is_write w.kind ≡ true → number q ≡ number p → j < i
       first p j q w other at wj written same = elim (cases_order j i) [
         | inl s ↦
             let sp : q ≡ p = same_Some q p (sym wj.0 ∙ ap (slice_get order) s ∙ at.0) in
@@ -124,6 +139,7 @@ module _ {R : Type 0} where
 
       found : (p : ℕ) → StandsAt ops order i p o → is_write o.kind ≡ false → latest opening ops (take i order) ≡ o.item
       found p at other = elim (from i p o at other) [
-        | inl w ↦ latest_is_written opening ops order w.0 i w.1 w.2 w.3 w.4 (first p w.0 w.1 w.2 other at w.3 w.4 w.5) (within p at.0) (between p w.0 w.1 w.2 at w.3 w.5) ∙ sym w.6
+        | inl w ↦ latest_is_written opening ops order w.0 i w.1 w.2 w.3 w.4 (first p w.0 w.1 w.2 other at w.3 w.4 w.5) (within p at.0)
+            (between p w.0 w.1 w.2 at w.3 w.5) ∙ sym w.6
         | inr w ↦ latest_is_opening opening ops order i (within p at.0) (before p at w.1) ∙ sym w.0
       ]

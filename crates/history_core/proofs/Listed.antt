@@ -1,5 +1,6 @@
 -- What an order lists at a place: where it lists places alone, each entry is an operation.
-use Rattle.std.proofs.Common.{◌≡◌, ℕ, ◌<◌, ◌≤◌, List, length, get_or, slice_get, Option, None, Some, IsSomeAnd, arith, refl, sym, subst, inl, inr}
+use Rattle.std.proofs.Common.{◌≡◌, ℕ, ◌<◌, ◌≤◌, List, length, get_or, slice_get, Option, None, Some, IsSomeAnd, arith, refl, sym, subst}
+use Rattle.std.proofs.Common.{inl, inr}
 use Rattle.std.proofs.lemmas.Bool.{cases_lt}
 use Rattle.std.proofs.lemmas.Option.{slice_get-get_or, slice_get_within, option_and_then_some}
 use Rattle.history_core.specs.declared.history.Op.{Op}
@@ -14,7 +15,8 @@ pub some_and_from : {X : Type 0} (P : X → Type 0) (o : Option X) (x : X) → o
 some_and_from {X} P o x e h = let Q : Option X → Type 0 = λ w. IsSomeAnd w P in subst Q (sym e) h
 
 -- a read of ops[order[i]]
-pub listed_read : {R : Type 0} (ops : List (Op R)) (order : List ℕ) (i : ℕ) (o : Op R) → ListsPlaces ops order → i < length order → o ≡ get_or ops (get_or order i 0) o → listed_at ops order i ≡ Some o
+pub listed_read : {R : Type 0} (ops : List (Op R)) (order : List ℕ) (i : ℕ) (o : Op R) → ListsPlaces ops order → i < length order →
+    o ≡ get_or ops (get_or order i 0) o → listed_at ops order i ≡ Some o
 listed_read ops order i o places h e =
     let at_i : slice_get order i ≡ Some (get_or order i 0) = slice_get-get_or order i 0 h in
     let within : get_or order i 0 < length ops = places i _ at_i in

@@ -11,7 +11,8 @@ use Rattle.history_core.proofs.Listed.{some_and_of}
 
 module _ {R : Type 0} where
   -- b stands before a, and a precedes b
-  no_turn : (number : ℕ → ℕ) (ops : List (Op R)) (order : List ℕ) → IsByNumber number ops order → (i j p q : ℕ) (a b : Op R) → StandsAt ops order i p a → StandsAt ops order j q b → j < i → Precedes a b → ⊥
+  no_turn : (number : ℕ → ℕ) (ops : List (Op R)) (order : List ℕ) → IsByNumber number ops order → (i j p q : ℕ) (a b : Op R) →
+      StandsAt ops order i p a → StandsAt ops order j q b → j < i → Precedes a b → ⊥
   no_turn number ops order h i j p q a b ai bj ji pre =
       let up : number p ≤ number q = h.rises i j p q a b ai bj pre in
       let down : number q ≤ number p = h.sorted j i q p b a bj ai ji in

@@ -1,10 +1,11 @@
 -- The latest beginning so far is the earliest point: it is at most each bound of the beginnings up to its entry.
-use Rattle.std.proofs.Common.{◌≡◌, ℕ, ◌<◌, ◌≤◌, max, List, [], ◌∷◌, length, get_or, slice_get, Option, None, Some, IfSome, zero, suc, arith, refl, sym, ◌∙◌, ap, subst, inl, inr}
+use Rattle.std.proofs.Common.{◌≡◌, ℕ, ◌<◌, ◌≤◌, max, List, [], ◌∷◌, length, get_or, slice_get, Option, None, Some, IfSome, zero, suc, arith}
+use Rattle.std.proofs.Common.{refl, sym, ◌∙◌, ap, subst, inl, inr}
 use Rattle.std.proofs.lemmas.Bool.{cases_lt}
 use Rattle.std.proofs.lemmas.Option.{option_and_then_some, same_Some, slice_get-get_or}
 use Rattle.std.specs.Option.{option_and_then}
 use Rattle.history_core.specs.declared.history.Op.{Op}
-use Rattle.history_core.specs.Earliest.{after_begin, AreReached, begin_at, earliest}
+use Rattle.history_core.specs.inner.Earliest.{after_begin, AreReached, begin_at, earliest}
 use Rattle.history_core.specs.Orders.{KeepsPrecedence, listed_at, Precedes}
 use Rattle.history_core.specs.Points.{AreEarliest, AreForwards, ArePoints, HasPoints, IsWithin}
 use Rattle.history_core.proofs.Listed.{listed_within, some_and_from, some_and_of}
@@ -40,15 +41,19 @@ module _ {R : Type 0} where
   low_bound ops low (p ∷ order) zero a e = let s : begin_at low ops p ≡ a = same_Some _ a e in omega (arith, at_least low (slice_get ops p))
   low_bound ops low (p ∷ order) (suc i) a e = omega (arith, low_bound ops (begin_at low ops p) order i a e, at_least low (slice_get ops p))
 
-  pub rising : (ops : List (Op R)) (low : ℕ) (order : List ℕ) (i j a b : ℕ) → i ≤ j → slice_get (earliest ops low order) i ≡ Some a → slice_get (earliest ops low order) j ≡ Some b → a ≤ b
+  pub rising : (ops : List (Op R)) (low : ℕ) (order : List ℕ) (i j a b : ℕ) → i ≤ j → slice_get (earliest ops low order) i ≡ Some a →
+      slice_get (earliest ops low order) j ≡ Some b → a ≤ b
   rising ops low [] i j a b le e f = cc
   rising ops low (p ∷ order) zero zero a b le e f = let s : a ≡ b = same_Some a b (sym e ∙ f) in omega arith
-  rising ops low (p ∷ order) zero (suc j) a b le e f = let s : begin_at low ops p ≡ a = same_Some _ a e in omega (arith, low_bound ops (begin_at low ops p) order j b f)
+  rising ops low (p ∷ order) zero (suc j) a b le e f =
+      let s : begin_at low ops p ≡ a = same_Some _ a e in
+      omega (arith, low_bound ops (begin_at low ops p) order j b f)
   rising ops low (p ∷ order) (suc i) zero a b le e f = absurd (omega arith)
   rising ops low (p ∷ order) (suc i) (suc j) a b le e f = rising ops (begin_at low ops p) order i j a b (omega arith) e f
 
   -- each point is at or after its operation's beginning
-  pub begun : (ops : List (Op R)) (low : ℕ) (order : List ℕ) (i a : ℕ) (o : Op R) → slice_get (earliest ops low order) i ≡ Some a → listed_at ops order i ≡ Some o → o.starts ≤ a
+  pub begun : (ops : List (Op R)) (low : ℕ) (order : List ℕ) (i a : ℕ) (o : Op R) → slice_get (earliest ops low order) i ≡ Some a →
+      listed_at ops order i ≡ Some o → o.starts ≤ a
   begun ops low [] i a o e at = cc
   begun ops low (p ∷ order) zero a o e at =
       let s : begin_at low ops p ≡ a = same_Some _ a e in
@@ -61,46 +66,57 @@ module _ {R : Type 0} where
   after_below low bound (Some x) l h = let s = h x refl in omega arith
 
   -- a bound of the beginnings up to an entry is a bound of its point
-  pub bounded : (ops : List (Op R)) (low : ℕ) (order : List ℕ) (i a bound : ℕ) → slice_get (earliest ops low order) i ≡ Some a → low ≤ bound → ((j : ℕ) (o : Op R) → j ≤ i → listed_at ops order j ≡ Some o → o.starts ≤ bound) → a ≤ bound
+  pub bounded : (ops : List (Op R)) (low : ℕ) (order : List ℕ) (i a bound : ℕ) → slice_get (earliest ops low order) i ≡ Some a →
+      low ≤ bound → ((j : ℕ) (o : Op R) → j ≤ i → listed_at ops order j ≡ Some o → o.starts ≤ bound) → a ≤ bound
   bounded ops low [] i a bound e l h = cc
   bounded ops low (p ∷ order) zero a bound e l h =
       let s : begin_at low ops p ≡ a = same_Some _ a e in
       let b : begin_at low ops p ≤ bound = after_below low bound (slice_get ops p) l (λ x at. h 0 x (omega arith) at) in
       omega arith
   bounded ops low (p ∷ order) (suc i) a bound e l h =
-      bounded ops (begin_at low ops p) order i a bound e (after_below low bound (slice_get ops p) l (λ x at. h 0 x (omega arith) at)) (λ j o ji at. h (suc j) o (omega arith) at)
+      bounded ops (begin_at low ops p) order i a bound e (after_below low bound (slice_get ops p) l (λ x at. h 0 x (omega arith) at))
+      (λ j o ji at. h (suc j) o (omega arith) at)
 
   -- a point of each entry
-  point_at : (ops : List (Op R)) (order points : List ℕ) (i : ℕ) (o : Op R) → ArePoints ops order points → listed_at ops order i ≡ Some o → (a : ℕ) × (slice_get points i ≡ Some a) × IsWithin o.starts o.ends a
+  point_at : (ops : List (Op R)) (order points : List ℕ) (i : ℕ) (o : Op R) → ArePoints ops order points → listed_at ops order i ≡ Some o →
+      (a : ℕ) × (slice_get points i ≡ Some a) × IsWithin o.starts o.ends a
   point_at ops order points i o are at =
       let l = listed_within ops order i o at in
       let e : slice_get points i ≡ Some (get_or points i 0) = slice_get-get_or points i 0 (omega (arith, are.each)) in
       (get_or points i 0, e, are.within i _ o e at)
 
   -- a beginning up to an entry is at most its point
-  pub below_points : (ops : List (Op R)) (order points : List ℕ) (i j b : ℕ) (o : Op R) → ArePoints ops order points → j ≤ i → listed_at ops order j ≡ Some o → slice_get points i ≡ Some b → o.starts ≤ b
+  pub below_points : (ops : List (Op R)) (order points : List ℕ) (i j b : ℕ) (o : Op R) → ArePoints ops order points → j ≤ i →
+      listed_at ops order j ≡ Some o → slice_get points i ≡ Some b → o.starts ≤ b
   below_points ops order points i j b o are le at e =
       let w = point_at ops order points j o are at in
       omega (arith, starts_of o.starts o.ends w.0 w.2, are.rise j i w.0 b le w.1 e)
 
-  pub earliest_least : (ops : List (Op R)) (order others : List ℕ) → ArePoints ops order others → (i a b : ℕ) → slice_get (earliest ops 0 order) i ≡ Some a → slice_get others i ≡ Some b → a ≤ b
-  earliest_least ops order others are i a b e f = bounded ops 0 order i a b e (omega arith) (λ j o ji at. below_points ops order others i j b o are ji at f)
+  pub earliest_least : (ops : List (Op R)) (order others : List ℕ) → ArePoints ops order others → (i a b : ℕ) →
+      slice_get (earliest ops 0 order) i ≡ Some a → slice_get others i ≡ Some b → a ≤ b
+  earliest_least ops order others are i a b e f =
+      bounded ops 0 order i a b e (omega arith) (λ j o ji at. below_points ops order others i j b o are ji at f)
 
-  listed_is : (ops : List (Op R)) (order : List ℕ) (i : ℕ) (o : Op R) (P : Type 0) → listed_at ops order i ≡ Some o → ((p : ℕ) → slice_get order i ≡ Some p → slice_get ops p ≡ Some o → P) → P
+  listed_is : (ops : List (Op R)) (order : List ℕ) (i : ℕ) (o : Op R) (P : Type 0) → listed_at ops order i ≡ Some o →
+      ((p : ℕ) → slice_get order i ≡ Some p → slice_get ops p ≡ Some o → P) → P
   listed_is ops order i o P at h = option_and_then_some (slice_get ops) (slice_get order i) o at h
 
-  reached_end : (ops : List (Op R)) (p a : ℕ) (o : Op R) → slice_get ops p ≡ Some o → IfSome (slice_get ops p) (λ x. IfSome x.ends (λ end. a ≤ end)) → IfSome o.ends (λ end. a ≤ end)
+  reached_end : (ops : List (Op R)) (p a : ℕ) (o : Op R) → slice_get ops p ≡ Some o →
+      IfSome (slice_get ops p) (λ x. IfSome x.ends (λ end. a ≤ end)) → IfSome o.ends (λ end. a ≤ end)
   reached_end ops p a o e h = let P : Option (Op R) → Type 0 = λ z. IfSome z (λ x. IfSome x.ends (λ end. a ≤ end)) in subst P e h
 
   -- the earliest points are points where no operation ends before its own
-  pub reached_are : (ops : List (Op R)) (order : List ℕ) → AreReached ops order (earliest ops 0 order) → ArePoints ops order (earliest ops 0 order)
+  pub reached_are : (ops : List (Op R)) (order : List ℕ) → AreReached ops order (earliest ops 0 order) →
+      ArePoints ops order (earliest ops 0 order)
   reached_are ops order reached = record {
     each = length_earliest ops 0 order;
     rise = rising ops 0 order;
-    within = λ i a o e at. within_of o.starts o.ends a (begun ops 0 order i a o e at) (listed_is ops order i o _ at (λ p f g. reached_end ops p a o g (reached i p a f e)));
+    within = λ i a o e at. within_of o.starts o.ends a (begun ops 0 order i a o e at)
+        (listed_is ops order i o _ at (λ p f g. reached_end ops p a o g (reached i p a f e)));
   }
 
-  pub reached_earliest : (ops : List (Op R)) (order : List ℕ) → AreReached ops order (earliest ops 0 order) → AreEarliest ops order (earliest ops 0 order)
+  pub reached_earliest : (ops : List (Op R)) (order : List ℕ) → AreReached ops order (earliest ops 0 order) →
+      AreEarliest ops order (earliest ops 0 order)
   reached_earliest ops order reached = record { are = reached_are ops order reached; least = earliest_least ops order }
 
   -- where there are points, no operation ends before its earliest
@@ -130,19 +146,24 @@ module _ {R : Type 0} where
       ]
 
       forwards : AreForwards ops order
-      forwards i o at = let w = point_at ops order has.0 i o has.1 at in before_end o.ends o.starts o.starts w.0 w.2 (starts_of o.starts o.ends w.0 w.2)
+      forwards i o at =
+          let w = point_at ops order has.0 i o has.1 at in
+          before_end o.ends o.starts o.starts w.0 w.2 (starts_of o.starts o.ends w.0 w.2)
 
   pub kept_points : (ops : List (Op R)) (order : List ℕ) → KeepsPrecedence ops order → AreForwards ops order → HasPoints ops order
   kept_points ops order kept forwards = (earliest ops 0 order, reached_are ops order reached)
     where
-      below : (i j a : ℕ) (o x : Op R) (ends : Option ℕ) → o.ends ≡ ends → listed_at ops order i ≡ Some o → j ≤ i → listed_at ops order j ≡ Some x → IfSome ends (λ end. x.starts ≤ end)
+      below : (i j a : ℕ) (o x : Op R) (ends : Option ℕ) → o.ends ≡ ends → listed_at ops order i ≡ Some o → j ≤ i →
+          listed_at ops order j ≡ Some x → IfSome ends (λ end. x.starts ≤ end)
       below i j a o x None e at ji aj = tt
       below i j a o x (Some end) e at ji aj = elim (cases_lt end x.starts) [
         | inr le ↦ le
         | inl lt ↦
             let pre : Precedes o x = some_and_from (λ y. y < x.starts) o.ends end e lt in
             elim (cases_lt j i) [
-              | inl less ↦ let more : i < j = kept i j o x at aj (λ (s : i ≡ j). let z : j < j = omega arith in omega arith) pre in omega arith
+              | inl less ↦
+                  let more : i < j = kept i j o x at aj (λ (s : i ≡ j). let z : j < j = omega arith in omega arith) pre in
+                  omega arith
               | inr ge ↦
                   let s : i ≡ j = omega arith in
                   let same : o ≡ x = same_Some o x (sym at ∙ ap (listed_at ops order) s ∙ aj) in
@@ -153,7 +174,8 @@ module _ {R : Type 0} where
             ]
       ]
 
-      reach : (i a : ℕ) (o : Op R) (ends : Option ℕ) → o.ends ≡ ends → listed_at ops order i ≡ Some o → slice_get (earliest ops 0 order) i ≡ Some a → IfSome ends (λ end. a ≤ end)
+      reach : (i a : ℕ) (o : Op R) (ends : Option ℕ) → o.ends ≡ ends → listed_at ops order i ≡ Some o →
+          slice_get (earliest ops 0 order) i ≡ Some a → IfSome ends (λ end. a ≤ end)
       reach i a o None e at f = tt
       reach i a o (Some end) e at f = bounded ops 0 order i a end f (omega arith) (λ j x ji aj. below i j a o x (Some end) e at ji aj)
 
@@ -165,17 +187,20 @@ module _ {R : Type 0} where
           by_op (Some o) g = reach i a o o.ends refl (ap (option_and_then (slice_get ops)) e ∙ g) f
 
   -- the points that were made, tested on the slices
-  pub made_length : (ops : List (Op R)) (order items slice : List ℕ) → items ≡ earliest ops 0 order → slice ≡ items → length slice ≡ length order
+  pub made_length : (ops : List (Op R)) (order items slice : List ℕ) → items ≡ earliest ops 0 order → slice ≡ items →
+      length slice ≡ length order
   made_length ops order items slice made same = ap length (same ∙ made) ∙ length_earliest ops 0 order
 
-  pub made_earliest : (ops shown : List (Op R)) (order items slice given : List ℕ) → shown ≡ ops → items ≡ earliest shown 0 order → slice ≡ items → given ≡ items → AreReached shown order slice → AreEarliest ops order given
+  pub made_earliest : (ops shown : List (Op R)) (order items slice given : List ℕ) → shown ≡ ops → items ≡ earliest shown 0 order →
+      slice ≡ items → given ≡ items → AreReached shown order slice → AreEarliest ops order given
   made_earliest ops shown order items slice given is made same out reached =
       let P : List ℕ → Type 0 = λ xs. AreReached shown order xs in
       let Q : List ℕ → Type 0 = λ xs. AreEarliest shown order xs in
       let S : List (Op R) → Type 0 = λ xs. AreEarliest xs order given in
       subst S is (subst Q (sym (out ∙ made)) (reached_earliest shown order (subst P (same ∙ made) reached)))
 
-  pub made_none : (ops shown : List (Op R)) (order items slice : List ℕ) → shown ≡ ops → items ≡ earliest shown 0 order → slice ≡ items → ¬ AreReached shown order slice → ¬ HasPoints ops order
+  pub made_none : (ops shown : List (Op R)) (order items slice : List ℕ) → shown ≡ ops → items ≡ earliest shown 0 order → slice ≡ items →
+      ¬ AreReached shown order slice → ¬ HasPoints ops order
   made_none ops shown order items slice is made same missed has =
       let P : List ℕ → Type 0 = λ xs. AreReached shown order xs in
       let S : List (Op R) → Type 0 = λ xs. HasPoints xs order in

@@ -8,7 +8,8 @@ use Rattle.history_core.specs.declared.history.Verdict.{Verdict}
 use Rattle.history_core.specs.declared.history.Verdict.TheVariants as verdict
 use Rattle.history_core.specs.declared.breaks.Break.{Break}
 use Rattle.history_core.specs.declared.breaks.Break.TheVariants.{NoPlace, Times, Precedence, NoItem, Reading, Limit}
-use Rattle.history_core.specs.Orders.{EachStands, in_term, is_write_at, KeepsPrecedence, latest, listed_at, ListsPlaces, MayStand, Precedes, ReadsLatest, ReadsRight, RefusesLawfully, times_of, writes_in}
+use Rattle.history_core.specs.Orders.{EachStands, in_term, is_write_at, KeepsPrecedence, latest, listed_at, ListsPlaces, MayStand, Precedes}
+use Rattle.history_core.specs.Orders.{ReadsLatest, ReadsRight, RefusesLawfully, times_of, writes_in}
 
 -- the rule that this breaks
 abbrev pub verdict_of : Option Break → Verdict
@@ -49,7 +50,8 @@ module _ {R : Type 0} where
   -- the operation of this entry precedes that of the earlier one, which of the entries before it began last; and the order
   -- before it keeps precedence
   pub record IsOvertaken (ops : List (Op R)) (order : List ℕ) (earlier entry : ℕ) : Type 0 where
-    pub precedes : IsSomeAnd (listed_at ops order earlier) (λ a. IsLastBegun ops order entry earlier a × IsSomeAnd (listed_at ops order entry) (λ b. Precedes b a))
+    pub precedes : IsSomeAnd (listed_at ops order earlier)
+        (λ a. IsLastBegun ops order entry earlier a × IsSomeAnd (listed_at ops order entry) (λ b. Precedes b a))
     pub before : KeepsPrecedence ops (take entry order)
 
   -- the last write before this entry, or none
@@ -60,8 +62,10 @@ module _ {R : Type 0} where
       × ((i : ℕ) → write < i → i < entry → is_write_at (listed_at ops order i) ≡ false)
 
   -- the read or refused write of this entry has another record than the latest, and the entries before it have theirs
-  pub record IsMisread (Same : R → R → Type 0) (opening : R) (ops : List (Op R)) (order : List ℕ) (entry : ℕ) (write : Option ℕ) : Type 0 where
-    pub wrong : IsSomeAnd (listed_at ops order entry) (λ o. IsSomeAnd o.item (λ x. ¬ ReadsRight Same o.kind o.item (latest opening ops (take entry order))))
+  pub record IsMisread (Same : R → R → Type 0) (opening : R) (ops : List (Op R)) (order : List ℕ) (entry : ℕ)
+      (write : Option ℕ) : Type 0 where
+    pub wrong : IsSomeAnd (listed_at ops order entry)
+        (λ o. IsSomeAnd o.item (λ x. ¬ ReadsRight Same o.kind o.item (latest opening ops (take entry order))))
     pub last : IsLastWrite ops order entry write
     pub before : ReadsLatest Same opening ops (take entry order)
 

@@ -13,7 +13,10 @@ StandsAt ops order i p o = (slice_get order i ≡ Some p) × (slice_get ops p �
 pub record IsByNumber {R : Type 0} (number : ℕ → ℕ) (ops : List (Op R)) (order : List ℕ) : Type 0 where
   pub rises : (i j p q : ℕ) (a b : Op R) → StandsAt ops order i p a → StandsAt ops order j q b → Precedes a b → number p ≤ number q
   pub sorted : (i j p q : ℕ) (a b : Op R) → StandsAt ops order i p a → StandsAt ops order j q b → i < j → number p ≤ number q
-  pub write_first : (i j p q : ℕ) (a b : Op R) → StandsAt ops order i p a → StandsAt ops order j q b → i < j → number p ≡ number q → is_write b.kind ≡ false
-  pub by_beginning : (i j p q : ℕ) (a b : Op R) → StandsAt ops order i p a → StandsAt ops order j q b → i < j → number p ≡ number q → is_write a.kind ≡ false → a.starts ≤ b.starts
-  pub after_write : (i j p q : ℕ) (a b : Op R) → StandsAt ops order i p a → StandsAt ops order j q b → i < j → number p ≡ number q → is_write a.kind ≡ true → ¬ Precedes b a
+  pub write_first : (i j p q : ℕ) (a b : Op R) → StandsAt ops order i p a → StandsAt ops order j q b → i < j →
+      number p ≡ number q → is_write b.kind ≡ false
+  pub by_beginning : (i j p q : ℕ) (a b : Op R) → StandsAt ops order i p a → StandsAt ops order j q b → i < j → number p ≡ number q →
+      is_write a.kind ≡ false → a.starts ≤ b.starts
+  pub after_write : (i j p q : ℕ) (a b : Op R) → StandsAt ops order i p a → StandsAt ops order j q b → i < j → number p ≡ number q →
+      is_write a.kind ≡ true → ¬ Precedes b a
   pub forwards : (i p : ℕ) (a : Op R) → StandsAt ops order i p a → IfSome a.ends (λ end. a.starts ≤ end)

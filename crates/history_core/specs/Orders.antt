@@ -2,7 +2,8 @@
 -- list of operations. Operations as intervals, precedence and atomic orders are those of L. Lamport, On Interprocess
 -- Communication, Parts I and II, Distributed Computing 1, 1986; unfinished operations in an order, refused writes and terms
 -- are this project's own.
-use Rattle.std.specs.Prelude.{◌≡◌, ◌≢◌, ℕ, ◌+◌, ◌<◌, ◌≤◌, Bool, true, false, ◌&&◌, nat_eq, nat_lt, nat_le, List, length, take, drop, slice_get, Option, None, Some, IsSome, IsSomeAnd}
+use Rattle.std.specs.Prelude.{◌≡◌, ◌≢◌, ℕ, ◌+◌, ◌<◌, ◌≤◌, Bool, true, false, ◌&&◌, nat_eq, nat_lt, nat_le, List, length, take, drop}
+use Rattle.std.specs.Prelude.{slice_get, Option, None, Some, IsSome, IsSomeAnd}
 use Rattle.std.specs.List.{count_by, fold, list_all}
 use Rattle.std.specs.Option.{option_and_then}
 use Rattle.history_core.specs.declared.history.Op.{Op}
@@ -38,7 +39,8 @@ ListsPlaces ops order = (i p : ℕ) → slice_get order i ≡ Some p → p < len
 
 -- every operation from place `from` up to place `to` is listed as often as it may be
 abbrev pub EachStands : {R : Type 0} → List (Op R) → List ℕ → ℕ → ℕ → Type 0
-EachStands {R} ops order from to = (p : ℕ) (o : Op R) → from ≤ p → p < to → slice_get ops p ≡ Some o → MayStand o.ends o.kind (times_of p order)
+EachStands {R} ops order from to =
+    (p : ℕ) (o : Op R) → from ≤ p → p < to → slice_get ops p ≡ Some o → MayStand o.ends o.kind (times_of p order)
 
 -- listing: every entry is a place, and every operation is listed as often as it may be
 pub record IsListing {R : Type 0} (ops : List (Op R)) (order : List ℕ) : Type 0 where

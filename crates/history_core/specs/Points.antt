@@ -26,4 +26,5 @@ module _ {R : Type 0} where
   -- points of which none can lie earlier
   pub record AreEarliest (ops : List (Op R)) (order points : List ℕ) : Type 0 where
     pub are : ArePoints ops order points
-    pub least : (others : List ℕ) → ArePoints ops order others → (i a b : ℕ) → slice_get points i ≡ Some a → slice_get others i ≡ Some b → a ≤ b
+    pub least : (others : List ℕ) → ArePoints ops order others → (i a b : ℕ) → slice_get points i ≡ Some a →
+        slice_get others i ≡ Some b → a ≤ b

@@ -1,7 +1,8 @@
 -- What a schedule says of the history that plays it: which operations it has, with their intervals. A schedule names an
 -- actor for each step, and for each actor what its operations are to do. Positions of steps are counted from 0 through
 -- the whole schedule. Schedules, terms and shape are this project's own.
-use Rattle.std.specs.Prelude.{◌≡◌, ℕ, ◌+◌, ◌-◌, ◌*◌, ◌/◌, ◌<◌, ◌≤◌, List, [], ◌∷◌, ◌++◌, length, take, slice_get, nat_eq, if◌then◌else◌, Option, None, Some, ◌⊎◌}
+use Rattle.std.specs.Prelude.{◌≡◌, ℕ, ◌+◌, ◌-◌, ◌*◌, ◌/◌, ◌<◌, ◌≤◌, List, [], ◌∷◌, ◌++◌, length, take, slice_get, nat_eq, if◌then◌else◌}
+use Rattle.std.specs.Prelude.{Option, None, Some, ◌⊎◌}
 use Rattle.std.specs.List.{count_by}
 use Rattle.std.specs.Option.{option_and_then}
 use Rattle.history_core.specs.declared.history.Op.{Op}
@@ -70,7 +71,8 @@ module _ {R : Type 0} where
   -- stand in order of beginning
   pub record IsPlayed (at : ℕ) (span : Span R) (ops : List (Op R)) : Type 0 where
     pub each : (p : ℕ) (op : Op R) → slice_get ops p ≡ Some op → (k : ℕ) × IsOperation at span k op
-    pub all : (who k begin : ℕ) → access_at at span who k 0 ≡ Some begin → (p : ℕ) × (op : Op R) × (slice_get ops p ≡ Some op) × (op.who ≡ who) × (op.starts ≡ begin)
+    pub all : (who k begin : ℕ) → access_at at span who k 0 ≡ Some begin →
+        (p : ℕ) × (op : Op R) × (slice_get ops p ≡ Some op) × (op.who ≡ who) × (op.starts ≡ begin)
     pub rising : (p q : ℕ) (a b : Op R) → slice_get ops p ≡ Some a → slice_get ops q ≡ Some b → p < q → a.starts < b.starts
 
   -- the shape of a history whose first term begins at the position `at` and whose first operation has the place `place`:

@@ -6,7 +6,8 @@ ghost use Rattle.history_core.specs.declared.history.Op.{Op};
 ghost use Rattle.history_core.specs.declared.history.Term.{Term};
 ghost use Rattle.history_core.specs.declared.history.Verdict.{Verdict};
 ghost use Rattle.history_core.specs.declared.history.Verdict.TheVariants.{Lawful};
-ghost use Rattle.history_core.specs.Joined.{HasFirstTerm, IsInTurn, ops_of, order_after, order_from, Part, StaysBehind, terms_after, terms_from};
+ghost use Rattle.history_core.specs.Joined.{HasFirstTerm, IsInTurn, ops_of, order_after, order_from, Part, StaysBehind, terms_after};
+ghost use Rattle.history_core.specs.Joined.{terms_from};
 ghost use Rattle.history_core.specs.Numbers.{IsByNumber};
 ghost use Rattle.history_core.specs.Points.{AreForwards, HasPoints};
 ghost use Rattle.history_core.specs.Orders.{HasNoWrites, IsAtomicOrder, IsVerdict, KeepsPrecedence, latest, ListsPlaces, RefusesLawfully};
@@ -19,29 +20,43 @@ pub fn order_by_number<R>()
 /// The latest record is the item of the last write that an order lists, or the opening where it lists none.
 pub fn latest_is_last_write<R>()
     ensures opening { (opening : R) (ops : List (Op R)) (order : List ℕ) → HasNoWrites ops order → latest opening ops order ≡ Some opening }
-    ensures last { (opening : R) (ops : List (Op R)) (before after : List ℕ) (p : ℕ) (o : Op R) → slice_get ops p ≡ Some o → o.kind ≡ Write → HasNoWrites ops after → latest opening ops (before ++ p ∷ after) ≡ o.item }
+    ensures last { (opening : R) (ops : List (Op R)) (before after : List ℕ) (p : ℕ) (o : Op R) → slice_get ops p ≡ Some o →
+        o.kind ≡ Write → HasNoWrites ops after → latest opening ops (before ++ p ∷ after) ≡ o.item }
 {}
 
 /// Every verdict on an order is `Lawful` where the order is atomic by equality of values and refuses lawfully.
 pub fn atomic_is_lawful<R: Eq>()
-    ensures { (opening : R) (terms : List Term) (ops : List (Op R)) (order : List ℕ) (verdict : Verdict) → IsAtomicOrder (λ x y. x ≡ y) opening ops order → RefusesLawfully terms ops order → IsVerdict (λ x y. IsTrue (R.eq x y)) opening terms ops order verdict → verdict ≡ Lawful }
+    ensures { (opening : R) (terms : List Term) (ops : List (Op R)) (order : List ℕ) (verdict : Verdict) →
+        IsAtomicOrder (λ x y. x ≡ y) opening ops order → RefusesLawfully terms ops order →
+        IsVerdict (λ x y. IsTrue (R.eq x y)) opening terms ops order verdict → verdict ≡ Lawful }
 {}
 
 /// Orders of two parts of a history, one after the other, are one order of the whole. It is atomic where each is, the later
 /// part opens with the latest record of the first, and none of its operations precedes one of the first. It refuses lawfully
 /// where each does, and its latest record is that of the later part.
 pub fn orders_join<R>()
-    ensures atomic { (opening next : R) (ops later_ops : List (Op R)) (order later_order : List ℕ) → IsAtomicOrder (λ x y. x ≡ y) opening ops order → IsAtomicOrder (λ x y. x ≡ y) next later_ops later_order → latest opening ops order ≡ Some next → StaysBehind later_ops ops → IsAtomicOrder (λ x y. x ≡ y) opening (ops ++ later_ops) (order ++ order_after (length ops) later_order) }
-    ensures lawful { (terms later_terms : List Term) (ops later_ops : List (Op R)) (order later_order : List ℕ) → ListsPlaces ops order → ListsPlaces later_ops later_order → RefusesLawfully terms ops order → RefusesLawfully later_terms later_ops later_order → HasFirstTerm later_terms later_ops → RefusesLawfully (terms ++ terms_after (length ops) later_terms) (ops ++ later_ops) (order ++ order_after (length ops) later_order) }
-    ensures last { (opening next : R) (ops later_ops : List (Op R)) (order later_order : List ℕ) → ListsPlaces ops order → latest opening ops order ≡ Some next → latest opening (ops ++ later_ops) (order ++ order_after (length ops) later_order) ≡ latest next later_ops later_order }
+    ensures atomic { (opening next : R) (ops later_ops : List (Op R)) (order later_order : List ℕ) →
+        IsAtomicOrder (λ x y. x ≡ y) opening ops order → IsAtomicOrder (λ x y. x ≡ y) next later_ops later_order →
+        latest opening ops order ≡ Some next → StaysBehind later_ops ops →
+        IsAtomicOrder (λ x y. x ≡ y) opening (ops ++ later_ops) (order ++ order_after (length ops) later_order) }
+    ensures lawful { (terms later_terms : List Term) (ops later_ops : List (Op R)) (order later_order : List ℕ) → ListsPlaces ops order →
+        ListsPlaces later_ops later_order → RefusesLawfully terms ops order → RefusesLawfully later_terms later_ops later_order →
+        HasFirstTerm later_terms later_ops →
+        RefusesLawfully (terms ++ terms_after (length ops) later_terms) (ops ++ later_ops) (order ++ order_after (length ops) later_order) }
+    ensures last { (opening next : R) (ops later_ops : List (Op R)) (order later_order : List ℕ) → ListsPlaces ops order →
+        latest opening ops order ≡ Some next →
+        latest opening (ops ++ later_ops) (order ++ order_after (length ops) later_order) ≡ latest next later_ops later_order }
 {}
 
 /// Orders of any number of parts, each of one term, that stand in turn are one order of the whole, atomic and with lawful
 /// refusals.
 pub fn parts_join<R>()
-    ensures atomic { (opening last : R) (parts : List (Part R)) → IsInTurn (λ x y. x ≡ y) opening parts last → IsAtomicOrder (λ x y. x ≡ y) opening (ops_of parts) (order_from 0 parts) }
-    ensures lawful { (opening last : R) (parts : List (Part R)) → IsInTurn (λ x y. x ≡ y) opening parts last → RefusesLawfully (terms_from 0 parts) (ops_of parts) (order_from 0 parts) }
-    ensures last { (opening last : R) (parts : List (Part R)) → IsInTurn (λ x y. x ≡ y) opening parts last → latest opening (ops_of parts) (order_from 0 parts) ≡ Some last }
+    ensures atomic { (opening last : R) (parts : List (Part R)) → IsInTurn (λ x y. x ≡ y) opening parts last →
+        IsAtomicOrder (λ x y. x ≡ y) opening (ops_of parts) (order_from 0 parts) }
+    ensures lawful { (opening last : R) (parts : List (Part R)) → IsInTurn (λ x y. x ≡ y) opening parts last →
+        RefusesLawfully (terms_from 0 parts) (ops_of parts) (order_from 0 parts) }
+    ensures last { (opening last : R) (parts : List (Part R)) → IsInTurn (λ x y. x ≡ y) opening parts last →
+        latest opening (ops_of parts) (order_from 0 parts) ≡ Some last }
 {}
 
 /// An order keeps precedence, and its operations run forwards, exactly where there are points that never fall along it, each from

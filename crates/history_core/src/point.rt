@@ -1,7 +1,7 @@
 //! The points of an order: a moment in each operation's interval, that never falls along the order.
 
 ghost use Rattle.std.specs.Prelude.{◌≡◌, ◌≤◌, ◌↔◌, ℕ, IfOk, IfSome, IsTrue, MatchOption, length};
-ghost use Rattle.history_core.specs.Earliest.{AreReached, begin_at, earliest, IsReached};
+ghost use Rattle.history_core.specs.inner.Earliest.{AreReached, begin_at, earliest, IsReached};
 ghost use Rattle.history_core.specs.Points.{AreEarliest, HasPoints};
 
 use crate::history::{History, Op};

@@ -1,11 +1,11 @@
 -- The rule of the running four-slot cell: word 0 is `latest`, word 1 `reading`, words 2 and 3 are the bits of the pairs, and
--- the slot of a place has the number 2 * pair + index. Its states are those of the register of H. Simpson, Four-slot fully
+-- a slot has the number 2 * pair + index. Its states are those of the register of H. Simpson, Four-slot fully
 -- asynchronous communication mechanism, IEE Proceedings E, 1990.
 use Rattle.std.specs.Prelude.{◌≡◌, ◌≢◌, ℕ, suc, ◌+◌, ◌-◌, ◌<◌, ◌≤◌, Bool, Some, List, [], ◌∷◌, length, take, All, if◌then◌else◌}
 use mathlib.Core.Option.{some, Option as Opt}
 use lib.ListN.{get_elem?}
 use Rattle.atomic_table.specs.Table.{State}
-use Rattle.fourslot_core.specs.declared.state.Place.{Place}
+use Rattle.fourslot_core.specs.declared.state.Slot.{Slot}
 use Rattle.fourslot_core.specs.declared.state.State.{State as Core}
 use Rattle.fourslot_core.specs.declared.state.Stage.{Stage}
 use Rattle.fourslot_core.specs.declared.state.Stage.TheVariants as writer
@@ -15,25 +15,25 @@ use Rattle.fourslot_core.specs.declared.event.WriteEvent.{WriteEvent}
 use Rattle.fourslot_core.specs.declared.event.WriteEvent.TheVariants.{W2, W3}
 use Rattle.fourslot_core.specs.declared.event.ReadEvent.{ReadEvent}
 use Rattle.fourslot_core.specs.declared.event.ReadEvent.TheVariants.{R4, R5}
-use Rattle.fourslot_core.specs.Events.{side, record_in, place_of, same_place, bit_number, slot_number, opening_state}
-use Rattle.fourslot_core.specs.Invariant.{IsUnderWay, HasSlot, IsStored, IsKept, latest_place, IsSound}
+use Rattle.fourslot_core.specs.Events.{side, record_in, slot_with, same_slot, bit_number, slot_number, opening_state}
+use Rattle.fourslot_core.specs.Invariant.{IsUnderWay, HasSlot, IsStored, IsKept, latest_slot, IsSound}
 use Rattle.fourslot_core.specs.Freshness.{IsBegun}
 use Rattle.fourslot_core.specs.Interleaving.{Leads}
 use Rattle.cell_live.specs.Running.{Settled, Rising}
 use Rattle.cell_live.specs.declared.four_slot.notes.WriterNotes.{WriterNotes}
 use Rattle.cell_live.specs.declared.four_slot.notes.ReaderNotes.{ReaderNotes}
-use Rattle.cell_live.specs.declared.four_slot.notes.Sight.{Sight}
-use Rattle.cell_live.specs.declared.four_slot.notes.Sight.TheVariants.{Spent, Told, Writer, Reader, Both}
+use Rattle.cell_live.specs.four_slot.Steps.{FourSlotSight}
+use Rattle.cell_live.specs.declared.sight.Sight.TheVariants.{Spent, Told, Writer, Reader, Both}
 
 -- the number of the last of the writes n + 1, n + 2, .. with the slot k, where the slots of these writes are given; `best`
 -- where there is none
-abbrev pub number_from : ℕ → ℕ → List Place → Place → ℕ
+abbrev pub number_from : ℕ → ℕ → List Slot → Slot → ℕ
 number_from best n [] k = best
-number_from best n (j ∷ js) k = number_from (if same_place k j then n + 1 else best) (n + 1) js k
+number_from best n (j ∷ js) k = number_from (if same_slot k j then n + 1 else best) (n + 1) js k
 
 -- The writes are numbered 1, 2, .. in their order, and the opening has number 0. The number of a slot's record is that of
 -- the last write with the slot.
-abbrev pub number_in : List Place → Place → ℕ
+abbrev pub number_in : List Slot → Slot → ℕ
 number_in slots k = number_from 0 0 slots k
 
 -- the number of the last finished write, where the list has n
@@ -54,18 +54,18 @@ IsReaderShown _ = Unit {0}
 
 module _ {T : Type 0} where
   -- the slot that the bit of a pair names
-  abbrev pub named_place : Core T → Bool → Place
-  named_place c q = place_of q (side c.slot q)
+  abbrev pub named_slot : Core T → Bool → Slot
+  named_slot c q = slot_with q (side c.slot q)
 
   -- the record stands in the list, at the place n or before it
   abbrev pub StandsBy : ℕ → List T → T → Type 0
   StandsBy n xs x = (k : ℕ) × (k ≤ n) × (get_elem? xs k ≡ some x)
 
   -- the slot that the writer has, and the one that the reader has
-  abbrev pub HeldByWriter : Core T → Place → Type 0
+  abbrev pub HeldByWriter : Core T → Slot → Type 0
   HeldByWriter c k = HasSlot c.writer × (k ≡ c.write)
 
-  abbrev pub HeldByReader : Core T → Place → Type 0
+  abbrev pub HeldByReader : Core T → Slot → Type 0
   HeldByReader c k = IsKept c.reader × (c.chosen ≡ Some k)
 
   -- The words and the slots show this state: words 0 to 3 are its bits, and its slots have the home values or what the
@@ -73,18 +73,19 @@ module _ {T : Type 0} where
   pub record InTable (words : List ℕ) (homes : List (Opt T)) (at_hand : T) (c : Core T) : Type 0 where
     pub words_are : words ≡ bit_number c.latest ∷ bit_number c.reading ∷ bit_number c.slot.zero ∷ bit_number c.slot.one ∷ []
     pub four : length homes ≡ 4
-    pub home : (k : Place) → (HeldByWriter c k → ⊥) → (HeldByReader c k → ⊥) → get_elem? homes (slot_number k) ≡ some (some (record_in c.records k))
+    pub home : (k : Slot) → (HeldByWriter c k → ⊥) → (HeldByReader c k → ⊥) →
+        get_elem? homes (slot_number k) ≡ some (some (record_in c.records k))
     pub in_writer : HasSlot c.writer → record_in c.records c.write ≡ c.item
-    pub in_reader : (k : Place) → HeldByReader c k → record_in c.records k ≡ at_hand
+    pub in_reader : (k : Slot) → HeldByReader c k → record_in c.records k ≡ at_hand
 
   -- The views show this state: the writer's stage, slot, item and remembered bits, the reader's stage, slot and choice.
   pub record InViews (p : WriterNotes T) (g : ReaderNotes T) (c : Core T) : Type 0 where
     pub writer_at : c.writer ≡ p.stage
-    pub write_is : c.write ≡ p.place
+    pub write_is : c.write ≡ p.slot
     pub item_is : c.item ≡ p.item.value
     pub remembered_are : c.remembered ≡ p.remembered
     pub reader_at : c.reader ≡ g.stage
-    pub read_is : c.read ≡ g.place
+    pub read_is : c.read ≡ g.slot
     pub chosen_is : c.chosen ≡ g.chosen
 
   -- the answers are settled up to the write n, and what was told stands as far
@@ -92,26 +93,26 @@ module _ {T : Type 0} where
   UpTo o written answers told n = Settled (o ∷ take n written) answers × All (StandsBy n (o ∷ written)) told
 
   -- The numbers of the records. `last` is the record of the last finished write.
-  pub record IsNumbered (o : T) (written : List T) (slots : List Place) (last : T) (c : Core T) : Type 0 where
+  pub record IsNumbered (o : T) (written : List T) (slots : List Slot) (last : T) (c : Core T) : Type 0 where
     pub counted : length slots ≡ length written
     pub under_way : IsUnderWay c.writer → 0 < length written
     -- a slot's record is that of the last W1 with that slot
-    pub content : (k : Place) → get_elem? (o ∷ written) (number_in slots k) ≡ some (record_in c.records k)
+    pub content : (k : Slot) → get_elem? (o ∷ written) (number_in slots k) ≡ some (record_in c.records k)
     -- only the slot of the last W1 has the number of the last write, and every other slot's number is smaller
     pub newest : number_in slots c.write ≡ length written
-    pub older : (k : Place) → k ≢ c.write → 0 < length written → number_in slots k < length written
+    pub older : (k : Slot) → k ≢ c.write → 0 < length written → number_in slots k < length written
     pub finished : get_elem? (o ∷ written) (finished_number c.writer (length written)) ≡ some last
-    pub latest : (IsStored c.writer → c.write.pair ≢ c.latest) → number_in slots (latest_place c) ≡ finished_number c.writer (length written)
+    pub latest : (IsStored c.writer → c.write.pair ≢ c.latest) → number_in slots (latest_slot c) ≡ finished_number c.writer (length written)
 
   -- The answers are settled against the written list up to the record in the slot that `latest` and its bit name and,
   -- between R1 and R3, up to that in the slot that the reader's pair and its bit name. What was told stands as far.
-  pub record IsSettled (o : T) (written : List T) (slots : List Place) (answers told : List T) (c : Core T) : Type 0 where
-    pub to_latest : UpTo o written answers told (number_in slots (latest_place c))
-    pub to_pair : IsBegun c.reader → UpTo o written answers told (number_in slots (named_place c c.read.pair))
+  pub record IsSettled (o : T) (written : List T) (slots : List Slot) (answers told : List T) (c : Core T) : Type 0 where
+    pub to_latest : UpTo o written answers told (number_in slots (latest_slot c))
+    pub to_pair : IsBegun c.reader → UpTo o written answers told (number_in slots (named_slot c c.read.pair))
 
   -- What a seat knows. `shown` is the number of the record in the slot that `latest` and its bit name.
   module _ (o : T) (p : WriterNotes T) (g : ReaderNotes T) (shown writer reader seat : ℕ) where
-    abbrev pub Sees : Sight T → Type 0
+    abbrev pub Sees : FourSlotSight T → Type 0
     Sees Spent = Unit {0}
     Sees (Told x) = StandsBy shown (o ∷ p.written) x.value
     Sees (Writer q) = (q ≡ p) × (seat ≡ writer)
@@ -138,7 +139,7 @@ module _ {T : Type 0} where
     pub reads : g.accesses ≡ control_reads g.events
 
 -- The rule. `o` is the opening. It is the noise too, which no running read gives.
-pub record FourSlotRule {T : Type 0} (fits : T → Type 0) (rises : T → T → Type 0) (o : T) (s : State T (Sight T)) : Type 0 where
+pub record FourSlotRule {T : Type 0} (fits : T → Type 0) (rises : T → T → Type 0) (o : T) (s : State T (FourSlotSight T)) : Type 0 where
   pub put : WriterNotes T
   pub get : ReaderNotes T
   pub writer : ℕ
@@ -156,4 +157,5 @@ pub record FourSlotRule {T : Type 0} (fits : T → Type 0) (rises : T → T → 
   pub openings : (put.opening.value ≡ o) × (get.opening.value ≡ o)
   pub lawful : fits o × Rising fits rises o put.written
   pub leads : Leads put.events get.events (opening_state o o) core
-  pub each_seat : (j : ℕ) (v : Sight T) → get_elem? s.views j ≡ some v → Sees o put get (number_in put.slots (latest_place core)) writer reader j v
+  pub each_seat : (j : ℕ) (v : FourSlotSight T) → get_elem? s.views j ≡ some v →
+      Sees o put get (number_in put.slots (latest_slot core)) writer reader j v

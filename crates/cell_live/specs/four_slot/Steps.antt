@@ -1,32 +1,35 @@
 -- The steps of the running four-slot cell: what each tells its seat (this project's own).
 use Rattle.std.specs.Prelude.{◌≡◌, ℕ, ◌+◌, Bool, false, not, Option, None, Some, List, [], ◌∷◌, ◌++◌}
 use Rattle.atomic_table.specs.Table.{Me, Step}
-use Rattle.fourslot_core.specs.declared.state.Place.{Place}
+use Rattle.fourslot_core.specs.declared.state.Slot.{Slot}
 use Rattle.fourslot_core.specs.declared.state.Stage.TheVariants as writer
 use Rattle.fourslot_core.specs.declared.state.ReaderStage.TheVariants as reader
 use Rattle.fourslot_core.specs.declared.event.WriteEvent.TheVariants.{W1, W2, W3, W4, W5}
 use Rattle.fourslot_core.specs.declared.event.ReadEvent.TheVariants.{R1, R2, R3, R4, R5}
-use Rattle.fourslot_core.specs.Events.{side, with_side, place_of, bit_number, slot_number, both}
+use Rattle.fourslot_core.specs.Events.{side, with_side, slot_with, bit_number, slot_number, both}
 use Rattle.cell_live.specs.Running.{IsAnswer, snap}
 use Rattle.cell_live.specs.declared.four_slot.notes.WriterNotes.{WriterNotes}
 use Rattle.cell_live.specs.declared.four_slot.notes.ReaderNotes.{ReaderNotes}
-use Rattle.cell_live.specs.declared.four_slot.notes.Sight.{Sight}
-use Rattle.cell_live.specs.declared.four_slot.notes.Sight.TheVariants.{Spent, Told, Writer, Reader, Both}
+use Rattle.cell_live.specs.declared.sight.Sight.{Sight}
+use Rattle.cell_live.specs.declared.sight.Sight.TheVariants.{Spent, Told, Writer, Reader, Both}
+
+abbrev pub FourSlotSight : Type 0 → Type 0
+FourSlotSight T = Sight T (WriterNotes T) (ReaderNotes T)
 
 abbrev Sat : Type 0 → Type 0
-Sat T = Me T (Sight T)
+Sat T = Me T (FourSlotSight T)
 
 module _ {T : Type 0} where
   -- W1, with W2 and W3, where `reading` is b: the other pair, and there the index that the remembered bit doesn't name
   abbrev pub begun_with : WriterNotes T → Bool → T → WriterNotes T
   begun_with p b x =
-      let place = place_of (not b) (not (side p.remembered (not b))) in
+      let slot = slot_with (not b) (not (side p.remembered (not b))) in
       record p {
         stage = writer.W3;
-        place = place;
+        slot = slot;
         item = snap x;
         written = p.written ++ x ∷ [];
-        slots = p.slots ++ place ∷ [];
+        slots = p.slots ++ slot ∷ [];
         events = p.events ++ W1 (snap x) ∷ W2 ∷ W3 ∷ [];
         accesses = p.accesses + 1;
       }
@@ -34,20 +37,22 @@ module _ {T : Type 0} where
   -- the load of `reading`, with which the seat takes its slot
   abbrev pub begins : List T → Step T → Sat T → ℕ → Sat T → Type 0
   begins items st m n m' = (p : WriterNotes T) (x : T) → m.0 ≡ Writer p → items ≡ x ∷ []
-      → (b : Bool) × (y : T) × (n ≡ bit_number b) × (m'.0 ≡ Writer (begun_with p b x)) × (m'.1 ≡ (slot_number (begun_with p b x).place, y) ∷ [])
+      → (b : Bool) × (y : T) × (n ≡ bit_number b) × (m'.0 ≡ Writer (begun_with p b x))
+      × (m'.1 ≡ (slot_number (begun_with p b x).slot, y) ∷ [])
 
   -- W4: the store of the index in the pair's bit, with which the seat gives its slot back. Of a plain store nothing else is
   -- found than what it stores, which no exchange of the word could say.
   abbrev pub stored_by : WriterNotes T → WriterNotes T
   stored_by p = record p {
     stage = writer.W4;
-    remembered = with_side p.remembered p.place.pair p.place.index;
+    remembered = with_side p.remembered p.slot.pair p.slot.index;
     events = p.events ++ W4 ∷ [];
     accesses = p.accesses + 1;
   }
 
   abbrev pub stores : Step T → Sat T → ℕ → Sat T → Type 0
-  stores st m n m' = (p : WriterNotes T) → m.0 ≡ Writer p → m.1 ≡ (slot_number p.place, p.item.value) ∷ [] → (m'.0 ≡ Writer (stored_by p)) × (m'.1 ≡ []) × (n ≡ st.first)
+  stores st m n m' = (p : WriterNotes T) → m.0 ≡ Writer p → m.1 ≡ (slot_number p.slot, p.item.value) ∷ [] →
+      (m'.0 ≡ Writer (stored_by p)) × (m'.1 ≡ []) × (n ≡ st.first)
 
   -- W5: the store of the pair in `latest`. The record counts as finished.
   abbrev pub finished_by : WriterNotes T → WriterNotes T
@@ -58,13 +63,13 @@ module _ {T : Type 0} where
 
   -- R1: the load of `latest`, which is b
   abbrev pub asked_by : ReaderNotes T → Bool → ReaderNotes T
-  asked_by g b = record g { stage = reader.R1; place = place_of b g.place.index; events = g.events ++ R1 ∷ []; accesses = g.accesses + 1 }
+  asked_by g b = record g { stage = reader.R1; slot = slot_with b g.slot.index; events = g.events ++ R1 ∷ []; accesses = g.accesses + 1 }
 
   abbrev pub asks : Step T → Sat T → ℕ → Sat T → Type 0
   asks st m n m' = (g : ReaderNotes T) → m.0 ≡ Reader g → (b : Bool) × (n ≡ bit_number b) × (m'.0 ≡ Reader (asked_by g b)) × (m'.1 ≡ m.1)
 
   -- the slot of the read before, with its record, where there was one
-  abbrev pub slot_of_choice : Option Place → T → List (ℕ × T)
+  abbrev pub slot_of_choice : Option Slot → T → List (ℕ × T)
   slot_of_choice None x = []
   slot_of_choice (Some k) x = (slot_number k, x) ∷ []
 
@@ -73,16 +78,17 @@ module _ {T : Type 0} where
   said_by g = record g { stage = reader.R2; events = g.events ++ R2 ∷ []; accesses = g.accesses + 1 }
 
   abbrev pub says : Step T → Sat T → ℕ → Sat T → Type 0
-  says st m n m' = (g : ReaderNotes T) → m.0 ≡ Reader g → m.1 ≡ slot_of_choice g.chosen g.at_hand.value → (m'.0 ≡ Reader (said_by g)) × (m'.1 ≡ []) × (n ≡ st.first)
+  says st m n m' = (g : ReaderNotes T) → m.0 ≡ Reader g → m.1 ≡ slot_of_choice g.chosen g.at_hand.value →
+      (m'.0 ≡ Reader (said_by g)) × (m'.1 ≡ []) × (n ≡ st.first)
 
   -- R3, with R4 and R5, where the pair's bit is b: the slot of the pair and b, which has x
   abbrev pub got_by : ReaderNotes T → Bool → T → ReaderNotes T
   got_by g b x =
-      let place = place_of g.place.pair b in
+      let slot = slot_with g.slot.pair b in
       record g {
         stage = reader.R5;
-        place = place;
-        chosen = Some place;
+        slot = slot;
+        chosen = Some slot;
         at_hand = snap x;
         answers = g.answers ++ x ∷ [];
         events = g.events ++ R3 ∷ R4 ∷ R5 (snap x) ∷ [];
@@ -92,13 +98,14 @@ module _ {T : Type 0} where
   -- the load of the pair's bit, with which the seat takes the slot. What it has is the answer.
   abbrev pub takes : (T → Type 0) → (T → T → Type 0) → Step T → Sat T → ℕ → Sat T → Type 0
   takes fits rises st m n m' = (g : ReaderNotes T) → m.0 ≡ Reader g
-      → (b : Bool) × (x : T) × (n ≡ bit_number b) × (m'.0 ≡ Reader (got_by g b x)) × (m'.1 ≡ (slot_number (place_of g.place.pair b), x) ∷ []) × IsAnswer fits rises g.opening.value g.answers g.told x
+      → (b : Bool) × (x : T) × (n ≡ bit_number b) × (m'.0 ≡ Reader (got_by g b x))
+      × (m'.1 ≡ (slot_number (slot_with g.slot.pair b), x) ∷ []) × IsAnswer fits rises g.opening.value g.answers g.told x
 
   -- the views at the start, those that are parted off and those that are taken in
   abbrev pub first_writer : T → WriterNotes T
   first_writer o = record {
     stage = writer.W5;
-    place = place_of false false;
+    slot = slot_with false false;
     item = snap o;
     remembered = both false;
     finished = snap o;
@@ -112,7 +119,7 @@ module _ {T : Type 0} where
   abbrev pub first_reader : T → ReaderNotes T
   first_reader o = record {
     stage = reader.R5;
-    place = place_of false false;
+    slot = slot_with false false;
     chosen = None;
     at_hand = snap o;
     opening = snap o;
@@ -122,41 +129,18 @@ module _ {T : Type 0} where
     accesses = 0;
   }
 
-  abbrev pub first_sight : T → Sight T
+  abbrev pub first_sight : T → FourSlotSight T
   first_sight o = Both (first_writer o) (first_reader o)
 
-  abbrev pub writer_part : Sight T → Sight T
-  writer_part (Both p g) = Writer p
-  writer_part v = v
-
-  abbrev pub reader_part : Sight T → Sight T
-  reader_part (Both p g) = Reader g
-  reader_part v = Spent
-
-  abbrev pub receipt_for : Sight T → Sight T
+  -- what is parted off for a receipt, and what is taken in
+  abbrev pub receipt_for : FourSlotSight T → FourSlotSight T
   receipt_for (Writer p) = Told p.finished
   receipt_for v = Spent
 
-  abbrev pub hears_of : Sight T → Sight T → Sight T
+  abbrev pub hears_of : FourSlotSight T → FourSlotSight T → FourSlotSight T
   hears_of (Reader g) (Told x) = Reader (record g { told = g.told ++ x.value ∷ [] })
   hears_of v w = v
 
-  abbrev pub whole_of : Sight T → Sight T → Sight T
+  abbrev pub whole_of : FourSlotSight T → FourSlotSight T → FourSlotSight T
   whole_of (Writer p) (Reader g) = Both p g
   whole_of v w = v
-
-  -- the notes in a view, or these where it has none
-  abbrev pub writer_or : WriterNotes T → Sight T → WriterNotes T
-  writer_or d (Writer p) = p
-  writer_or d (Both p g) = p
-  writer_or d _ = d
-
-  abbrev pub reader_or : ReaderNotes T → Sight T → ReaderNotes T
-  reader_or d (Reader g) = g
-  reader_or d (Both p g) = g
-  reader_or d _ = d
-
-  -- the record of a receipt's view
-  abbrev pub receipt_or : T → Sight T → T
-  receipt_or x (Told y) = y.value
-  receipt_or x _ = x

@@ -5,7 +5,8 @@ use Rattle.fourslot_core.specs.declared.event.WriteEvent.{WriteEvent}
 use Rattle.fourslot_core.specs.declared.event.ReadEvent.{ReadEvent}
 use Rattle.fourslot_core.specs.declared.event.ReadEvent.TheVariants.{R1, R2, R3, R4, R5}
 use Rattle.cell_live.specs.Running.{Name, IsName, IsAnswer, snap}
-use Rattle.cell_live.specs.four_slot.Steps.{first_writer, first_reader, writer_or, reader_or, receipt_or}
+use Rattle.cell_live.specs.Sights.{writer_or, reader_or, receipt_or}
+use Rattle.cell_live.specs.four_slot.Steps.{first_writer, first_reader}
 use Rattle.cell_live.specs.declared.four_slot.notes.WriterNotes.{WriterNotes}
 use Rattle.cell_live.specs.declared.four_slot.notes.ReaderNotes.{ReaderNotes}
 use Rattle.cell_live.specs.declared.four_slot.FourSlotCell.{FourSlotCell}
@@ -63,7 +64,7 @@ module _ {T : Type 0} where
 
   -- the slot that the last R3 took, and the slots that the pass holds, each with its record
   abbrev pub chosen_slot : FourSlotGet T → ℕ
-  chosen_slot g = slot_number (get_notes g).place
+  chosen_slot g = slot_number (get_notes g).slot
 
   abbrev pub held_by : FourSlotGet T → List (ℕ × T)
   held_by g = g.seat.inner.me.1

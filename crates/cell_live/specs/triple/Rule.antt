@@ -7,12 +7,13 @@ use Rattle.atomic_table.specs.Table.{State}
 use Rattle.cell_live.specs.Running.{last_or, Settled, Stands, Rising}
 use Rattle.cell_live.specs.declared.triple.notes.WriterNotes.{WriterNotes}
 use Rattle.cell_live.specs.declared.triple.notes.ReaderNotes.{ReaderNotes}
-use Rattle.cell_live.specs.declared.triple.notes.Sight.{Sight}
-use Rattle.cell_live.specs.declared.triple.notes.Sight.TheVariants.{Spent, Told, Writer, Reader, Both}
+use Rattle.cell_live.specs.triple.Steps.{TripleSight}
+use Rattle.cell_live.specs.declared.sight.Sight.TheVariants.{Spent, Told, Writer, Reader, Both}
 
 module _ {T : Type 0} where
   -- The word and the slots: the writer's slot, the reader's and the middle are three, and a slot that nobody took is at home.
-  pub record InTable (words : List ℕ) (homes : List (Opt T)) (o : T) (p : WriterNotes T) (g : ReaderNotes T) (middle fresh : ℕ) (in_middle : T) : Type 0 where
+  pub record InTable (words : List ℕ) (homes : List (Opt T)) (o : T) (p : WriterNotes T) (g : ReaderNotes T) (middle fresh : ℕ)
+      (in_middle : T) : Type 0 where
     pub word_is : words ≡ (middle + 4 * fresh) ∷ []
     pub three : length homes ≡ 3
     pub small : (middle < 3) × (fresh < 2) × (p.slot < 3) × (g.slot < 3)
@@ -40,7 +41,7 @@ module _ {T : Type 0} where
 
   -- what a seat's view says, where the writer's notes are p and the reader's g
   module _ (o : T) (p : WriterNotes T) (g : ReaderNotes T) (writer reader seat : ℕ) where
-    abbrev pub Sees : Sight T → Type 0
+    abbrev pub Sees : TripleSight T → Type 0
     Sees Spent = Unit {0}
     Sees (Told x) = Stands x.value (o ∷ p.written)
     Sees (Writer q) = (q ≡ p) × (seat ≡ writer)
@@ -48,7 +49,7 @@ module _ {T : Type 0} where
     Sees (Both q h) = (q ≡ p) × (h ≡ g) × (seat ≡ writer) × (seat ≡ reader)
 
 -- The rule. `o` is the opening.
-pub record TripleRule {T : Type 0} (fits : T → Type 0) (rises : T → T → Type 0) (o : T) (s : State T (Sight T)) : Type 0 where
+pub record TripleRule {T : Type 0} (fits : T → Type 0) (rises : T → T → Type 0) (o : T) (s : State T (TripleSight T)) : Type 0 where
   pub put : WriterNotes T
   pub get : ReaderNotes T
   pub writer : ℕ
@@ -62,4 +63,4 @@ pub record TripleRule {T : Type 0} (fits : T → Type 0) (rises : T → T → Ty
   pub counted : IsCounted put get
   pub openings : (put.opening.value ≡ o) × (get.opening.value ≡ o)
   pub lawful : fits o × Rising fits rises o put.written
-  pub each_seat : (j : ℕ) (v : Sight T) → get_elem? s.views j ≡ some v → Sees o put get writer reader j v
+  pub each_seat : (j : ℕ) (v : TripleSight T) → get_elem? s.views j ≡ some v → Sees o put get writer reader j v

@@ -4,24 +4,33 @@ use Rattle.atomic_table.specs.Table.{Me, Step}
 use Rattle.cell_live.specs.Running.{last_or, IsAnswer, snap}
 use Rattle.cell_live.specs.declared.triple.notes.WriterNotes.{WriterNotes}
 use Rattle.cell_live.specs.declared.triple.notes.ReaderNotes.{ReaderNotes}
-use Rattle.cell_live.specs.declared.triple.notes.Sight.{Sight}
-use Rattle.cell_live.specs.declared.triple.notes.Sight.TheVariants.{Spent, Told, Writer, Reader, Both}
+use Rattle.cell_live.specs.declared.sight.Sight.{Sight}
+use Rattle.cell_live.specs.declared.sight.Sight.TheVariants.{Spent, Told, Writer, Reader, Both}
+
+abbrev pub TripleSight : Type 0 → Type 0
+TripleSight T = Sight T (WriterNotes T) (ReaderNotes T)
 
 abbrev Sat : Type 0 → Type 0
-Sat T = Me T (Sight T)
+Sat T = Me T (TripleSight T)
 
 module _ {T : Type 0} where
   -- the writer's seat takes slot 0, the reader's slot 2
   abbrev pub put_took : Step T → Sat T → ℕ → Sat T → Type 0
-  put_took st m n m' = (p : WriterNotes T) → m.0 ≡ Writer p → (m'.0 ≡ Writer (record p { has = 1 })) × (m'.1 ≡ (p.slot, p.opening.value) ∷ [])
+  put_took st m n m' =
+      (p : WriterNotes T) → m.0 ≡ Writer p → (m'.0 ≡ Writer (record p { has = 1 })) × (m'.1 ≡ (p.slot, p.opening.value) ∷ [])
 
   abbrev pub get_took : Step T → Sat T → ℕ → Sat T → Type 0
-  get_took st m n m' = (g : ReaderNotes T) → m.0 ≡ Reader g → (m'.0 ≡ Reader (record g { has = 1 })) × (m'.1 ≡ (g.slot, g.at_hand.value) ∷ [])
+  get_took st m n m' =
+      (g : ReaderNotes T) → m.0 ≡ Reader g → (m'.0 ≡ Reader (record g { has = 1 })) × (m'.1 ≡ (g.slot, g.at_hand.value) ∷ [])
 
   -- the writer's swap puts its record in the middle and takes what was there
   abbrev pub put_swapped : Step T → Sat T → ℕ → Sat T → Type 0
   put_swapped st m n m' = (p : WriterNotes T) (x : T) → m.0 ≡ Writer p → m.1 ≡ (p.slot, x) ∷ []
-      → (y : T) × (n % 4 < 3) × (m'.0 ≡ Writer (record p { slot = n % 4; written = p.written ++ x ∷ []; swaps = p.swaps + 1 })) × (m'.1 ≡ (n % 4, y) ∷ [])
+      → (y : T) × (n % 4 < 3) × (m'.0 ≡ Writer (record p {
+        slot = n % 4;
+        written = p.written ++ x ∷ [];
+        swaps = p.swaps + 1;
+      })) × (m'.1 ≡ (n % 4, y) ∷ [])
 
   -- the notes after an answer
   abbrev pub answered : ReaderNotes T → T → ReaderNotes T
@@ -40,51 +49,39 @@ module _ {T : Type 0} where
     -- the reader's swap takes the middle, which is the answer
     abbrev pub get_swapped : Step T → Sat T → ℕ → Sat T → Type 0
     get_swapped st m n m' = (g : ReaderNotes T) (x : T) → m.0 ≡ Reader g → m.1 ≡ (g.slot, x) ∷ [] → g.asked ≡ 1
-        → (y : T) × (n % 4 < 3) × (m'.0 ≡ Reader (answered (record g { slot = n % 4; at_hand = snap y; swaps = g.swaps + 1 }) y)) × (m'.1 ≡ (n % 4, y) ∷ []) × MayAnswer g y
+        → (y : T) × (n % 4 < 3) × (m'.0 ≡ Reader (answered (record g { slot = n % 4; at_hand = snap y; swaps = g.swaps + 1 }) y))
+        × (m'.1 ≡ (n % 4, y) ∷ []) × MayAnswer g y
 
   -- the views at the start: the writer has slot 0 and the reader slot 2
   abbrev pub first_writer : T → WriterNotes T
   first_writer o = record { opening = snap o; slot = 0; has = 0; written = []; swaps = 0 }
 
   abbrev pub first_reader : T → ReaderNotes T
-  first_reader o = record { opening = snap o; slot = 2; has = 0; at_hand = snap o; found = 0; asked = 0; answers = []; told = []; loads = 0; swaps = 0 }
+  first_reader o = record {
+    opening = snap o;
+    slot = 2;
+    has = 0;
+    at_hand = snap o;
+    found = 0;
+    asked = 0;
+    answers = [];
+    told = [];
+    loads = 0;
+    swaps = 0;
+  }
 
-  abbrev pub first_sight : T → Sight T
+  abbrev pub first_sight : T → TripleSight T
   first_sight o = Both (first_writer o) (first_reader o)
 
-  -- the views that are parted off, and taken in
-  abbrev pub writer_part : Sight T → Sight T
-  writer_part (Both p g) = Writer p
-  writer_part v = v
-
-  abbrev pub reader_part : Sight T → Sight T
-  reader_part (Both p g) = Reader g
-  reader_part v = Spent
-
-  abbrev pub receipt_for : Sight T → Sight T
+  -- what is parted off for a receipt, and what is taken in
+  abbrev pub receipt_for : TripleSight T → TripleSight T
   receipt_for (Writer p) = Told (snap (last_or p.opening.value p.written))
   receipt_for v = Spent
 
-  abbrev pub hears_of : Sight T → Sight T → Sight T
+  abbrev pub hears_of : TripleSight T → TripleSight T → TripleSight T
   hears_of (Reader g) (Told x) = Reader (record g { told = g.told ++ x.value ∷ [] })
   hears_of v w = v
 
-  abbrev pub whole_of : Sight T → Sight T → Sight T
+  abbrev pub whole_of : TripleSight T → TripleSight T → TripleSight T
   whole_of (Reader g) (Writer p) = Both p g
   whole_of v w = v
-
-  -- the notes in a view, or these where it has none
-  abbrev pub writer_or : WriterNotes T → Sight T → WriterNotes T
-  writer_or d (Writer p) = p
-  writer_or d (Both p g) = p
-  writer_or d _ = d
-
-  abbrev pub reader_or : ReaderNotes T → Sight T → ReaderNotes T
-  reader_or d (Reader g) = g
-  reader_or d (Both p g) = g
-  reader_or d _ = d
-
-  -- the record of a receipt's view
-  abbrev pub receipt_or : T → Sight T → T
-  receipt_or x (Told y) = y.value
-  receipt_or x _ = x

@@ -1,7 +1,8 @@
 -- The words of the contract, of the passes of a triple buffer (this project's own).
 use Rattle.std.specs.Prelude.{◌≡◌, ℕ, ◌+◌, ◌<◌, ◌≤◌, List, [], ◌∷◌, ◌++◌}
 use Rattle.cell_live.specs.Running.{Name, IsName, IsAnswer}
-use Rattle.cell_live.specs.triple.Steps.{first_writer, first_reader, writer_or, reader_or, receipt_or}
+use Rattle.cell_live.specs.Sights.{writer_or, reader_or, receipt_or}
+use Rattle.cell_live.specs.triple.Steps.{first_writer, first_reader}
 use Rattle.cell_live.specs.declared.triple.notes.WriterNotes.{WriterNotes}
 use Rattle.cell_live.specs.declared.triple.notes.ReaderNotes.{ReaderNotes}
 use Rattle.cell_live.specs.declared.triple.TripleCell.{TripleCell}

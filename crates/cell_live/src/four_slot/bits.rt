@@ -1,6 +1,6 @@
 //! The bits of a four-slot cell as words.
 ghost use Rattle.std.specs.Prelude.{◌≡◌, ◌+◌, Bool};
-ghost use Rattle.fourslot_core.specs.Events.{side, with_side, place_of, bit_number, slot_number};
+ghost use Rattle.fourslot_core.specs.Events.{side, with_side, slot_with, bit_number, slot_number};
 
 use fourslot_core::Sides;
 
@@ -33,7 +33,7 @@ pub(super) fn set_bit(bits: &mut Sides<bool>, pair: bool, bit: bool)
 /// The number of a slot.
 #[inline]
 pub(super) fn slot_of(pair: bool, index: bool) -> usize
-    ensures { result ≡ slot_number (place_of pair index) }
+    ensures { result ≡ slot_number (slot_with pair index) }
 {
     2 * pair as usize + index as usize
 }

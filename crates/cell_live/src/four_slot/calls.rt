@@ -4,7 +4,9 @@ ghost use Rattle.std.specs.Fn.{FnOnceTakesAt, FnOnceReturnsAt};
 ghost use Rattle.fourslot_core.specs.declared.event.WriteEvent.TheVariants.{W1, W2, W3, W4, W5};
 ghost use Rattle.fourslot_core.specs.declared.event.ReadEvent.TheVariants.{R1, R2, R3, R4, R5};
 ghost use Rattle.cell_live.specs.Running.{last_or, IsAnswer, snap};
-ghost use Rattle.cell_live.specs.four_slot.Words.{opening_of, is_put_of, is_get_of, is_told_of, written_by, answers_of, at_hand_of, told_to, named_by, write_events, read_events, writer_accesses, reader_accesses, chosen_slot, held_by, HasChosen};
+ghost use Rattle.cell_live.specs.four_slot.Words.{opening_of, is_put_of, is_get_of, is_told_of, written_by, answers_of, at_hand_of};
+ghost use Rattle.cell_live.specs.four_slot.Words.{told_to, named_by, write_events, read_events, writer_accesses, reader_accesses};
+ghost use Rattle.cell_live.specs.four_slot.Words.{chosen_slot, held_by, HasChosen};
 
 use super::bits::{bit_of, bit_word, is_one, set_bit, slot_of, word_of};
 use super::table::FourSlotTable;
@@ -154,7 +156,8 @@ impl<T: Lawful> Calls<T> for FourSlotCell<T> {
     #[inline]
     fn read_with<R, F: FnOnce(&T) -> R>(&self, get: &mut FourSlotGet<T>, look: F) -> R
         requires own { is_get_of self.now get.old }
-        requires callable { (x : T) → IsAnswer T.fits T.rises (opening_of self.now) (answers_of get.old) (told_to get.old) x → FnOnceTakesAt F.FnOnce look x }
+        requires callable { (x : T) → IsAnswer T.fits T.rises (opening_of self.now) (answers_of get.old) (told_to get.old) x →
+            FnOnceTakesAt F.FnOnce look x }
         ensures own { is_get_of self.now get.new }
         ensures answers { answers_of get.new ≡ answers_of get.old ++ at_hand_of get.new ∷ [] }
         ensures told { told_to get.new ≡ told_to get.old }

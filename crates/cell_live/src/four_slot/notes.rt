@@ -1,6 +1,6 @@
-//! What the seats of a four-slot cell know. No value of these types is made. A record stands in them as a snapshot, since the
-//! size of a view's type must be known.
-use fourslot_core::{Place, ReadEvent, ReaderStage, Sides, Stage, WriteEvent};
+//! What the seats of a four-slot cell know. No value of these types is made.
+use crate::sight::Sight;
+use fourslot_core::{ReadEvent, ReaderStage, Sides, Slot, Stage, WriteEvent};
 use std::collections::LinkedList;
 use std::snapshot::Snapshot;
 
@@ -9,7 +9,7 @@ pub struct WriterNotes<T> {
     /// The last event: W5 between two writes.
     pub stage: Stage,
     /// The slot that the last W1 chose, and the item that it took.
-    pub place: Place,
+    pub slot: Slot,
     pub item: Snapshot<T>,
     /// The pairs' bits, as the writer remembers them.
     pub remembered: Sides<bool>,
@@ -18,7 +18,7 @@ pub struct WriterNotes<T> {
     pub opening: Snapshot<T>,
     pub written: LinkedList<T>,
     /// The slot of each write, beside its record.
-    pub slots: LinkedList<Place>,
+    pub slots: LinkedList<Slot>,
     pub events: LinkedList<WriteEvent<T>>,
     /// The control accesses made.
     pub accesses: u64,
@@ -29,9 +29,9 @@ pub struct ReaderNotes<T> {
     /// The last event: R5 between two reads.
     pub stage: ReaderStage,
     /// The pair of the last R1 and the index of the last R3.
-    pub place: Place,
+    pub slot: Slot,
     /// The slot that the last R3 chose. The seat has it until the next R2.
-    pub chosen: Option<Place>,
+    pub chosen: Option<Slot>,
     /// The record with which that slot came.
     pub at_hand: Snapshot<T>,
     pub opening: Snapshot<T>,
@@ -42,11 +42,5 @@ pub struct ReaderNotes<T> {
     pub accesses: u64,
 }
 
-/// What a seat knows.
-pub enum Sight<T> {
-    Spent,
-    Told(Snapshot<T>),
-    Writer(WriterNotes<T>),
-    Reader(ReaderNotes<T>),
-    Both(WriterNotes<T>, ReaderNotes<T>),
-}
+/// What a seat of this cell knows.
+pub type FourSlotSight<T> = Sight<T, WriterNotes<T>, ReaderNotes<T>>;

@@ -1,9 +1,9 @@
 //! What each step tells.
 ghost use Rattle.std.specs.Prelude.{List, []};
-ghost use Rattle.cell_live.specs.four_slot.Steps.{begins, stores, finishes, asks, says, takes, writer_part, reader_part, receipt_for, hears_of, whole_of};
-ghost use Rattle.cell_live.specs.declared.four_slot.notes.Sight.TheVariants.{Spent};
+ghost use Rattle.cell_live.specs.four_slot.Steps.{begins, stores, finishes, asks, says, takes, receipt_for, hears_of, whole_of};
+ghost use Rattle.cell_live.specs.declared.sight.Sight.TheVariants.{Spent};
 
-use super::notes::Sight;
+use super::notes::FourSlotSight;
 use crate::cell::Lawful;
 use atomic_table::{Join, Play, Split};
 use std::marker::{Brand, PhantomData};
@@ -21,51 +21,43 @@ pub(super) struct Begins<K> {
     item: PhantomData<K>,
 }
 
-impl<T, K: Item<T>> Play<T, Sight<T>> for Begins<K> {
+impl<T, K: Item<T>> Play<T, FourSlotSight<T>> for Begins<K> {
     ghost then = { begins K.item };
 }
 
 pub(super) struct Stores;
 
-impl<T> Play<T, Sight<T>> for Stores {
+impl<T> Play<T, FourSlotSight<T>> for Stores {
     ghost then = { stores };
 }
 
 pub(super) struct Finishes;
 
-impl<T> Play<T, Sight<T>> for Finishes {
+impl<T> Play<T, FourSlotSight<T>> for Finishes {
     ghost then = { finishes };
 }
 
 pub(super) struct Asks;
 
-impl<T> Play<T, Sight<T>> for Asks {
+impl<T> Play<T, FourSlotSight<T>> for Asks {
     ghost then = { asks };
 }
 
 pub(super) struct Says;
 
-impl<T> Play<T, Sight<T>> for Says {
+impl<T> Play<T, FourSlotSight<T>> for Says {
     ghost then = { says };
 }
 
 pub(super) struct Takes;
 
-impl<T: Lawful> Play<T, Sight<T>> for Takes {
+impl<T: Lawful> Play<T, FourSlotSight<T>> for Takes {
     ghost then = { takes T.fits T.rises };
-}
-
-pub(super) struct Parts;
-
-impl<T> Split<Sight<T>> for Parts {
-    ghost left = { writer_part };
-
-    ghost right = { reader_part };
 }
 
 pub(super) struct Tells;
 
-impl<T> Split<Sight<T>> for Tells {
+impl<T> Split<FourSlotSight<T>> for Tells {
     ghost left = { λ v. v };
 
     ghost right = { receipt_for };
@@ -73,7 +65,7 @@ impl<T> Split<Sight<T>> for Tells {
 
 pub(super) struct Hears;
 
-impl<T> Join<Sight<T>> for Hears {
+impl<T> Join<FourSlotSight<T>> for Hears {
     ghost both = { hears_of };
 
     ghost spent = { Spent };
@@ -81,7 +73,7 @@ impl<T> Join<Sight<T>> for Hears {
 
 pub(super) struct Ends;
 
-impl<T> Join<Sight<T>> for Ends {
+impl<T> Join<FourSlotSight<T>> for Ends {
     ghost both = { whole_of };
 
     ghost spent = { Spent };

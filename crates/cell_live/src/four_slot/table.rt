@@ -9,17 +9,20 @@ ghost use Rattle.fourslot_core.specs.declared.state.Stage.TheVariants.{W3, W4, W
 ghost use Rattle.fourslot_core.specs.declared.state.ReaderStage.TheVariants.{R1, R2, R5};
 ghost use Rattle.fourslot_core.specs.Events.{bit_number, slot_number};
 ghost use Rattle.cell_live.specs.Running.{last_or, Settled, held_slots};
-ghost use Rattle.cell_live.specs.four_slot.Steps.{begins, stores, finishes, asks, says, takes, first_sight, writer_part, reader_part, receipt_for, hears_of, whole_of, slot_of_choice};
+ghost use Rattle.cell_live.specs.Sights.{writer_part, reader_part};
+ghost use Rattle.cell_live.specs.four_slot.Steps.{begins, stores, finishes, asks, says, takes, first_sight, receipt_for, hears_of};
+ghost use Rattle.cell_live.specs.four_slot.Steps.{whole_of, slot_of_choice};
 ghost use Rattle.cell_live.specs.declared.four_slot.notes.WriterNotes.{WriterNotes};
 ghost use Rattle.cell_live.specs.declared.four_slot.notes.ReaderNotes.{ReaderNotes};
-ghost use Rattle.cell_live.specs.declared.four_slot.notes.Sight.TheVariants.{Writer, Reader, Told, Both};
+ghost use Rattle.cell_live.specs.declared.sight.Sight.TheVariants.{Writer, Reader, Told, Both};
 
 use super::FourSlot;
-use super::notes::Sight;
-use super::plays::{Asks, Begins, Ends, Finishes, Hears, Item, Parts, Says, Stores, Takes, Tells};
+use super::notes::FourSlotSight;
+use super::plays::{Asks, Begins, Ends, Finishes, Hears, Item, Says, Stores, Takes, Tells};
 use crate::cell::Lawful;
 use crate::closed::empty;
 use crate::lays::Lays;
+use crate::sight::Parts;
 use atomic_table::{Seat, Table};
 use std::alloc::{AllocError, Global};
 use std::snapshot::Snapshot;
@@ -27,14 +30,14 @@ use std::snapshot::Snapshot;
 /// Four words of one bit and four slots.
 #[derive(Drop)]
 pub struct FourSlotTable<T: Lawful> {
-    inner: Table<T, Sight<T>, T, FourSlot, Global>,
+    inner: Table<T, FourSlotSight<T>, T, FourSlot, Global>,
     ghost sized: { inner.shared.table_id.words ≡ 4 },
 }
 
 /// A seat at the table.
 #[derive(Drop)]
 pub struct FourSlotSeat<T: Copy> {
-    inner: Seat<T, Sight<T>>,
+    inner: Seat<T, FourSlotSight<T>>,
 }
 
 impl<T: Lawful> FourSlotTable<T> {
@@ -60,7 +63,8 @@ impl<T: Lawful> FourSlotTable<T> {
         requires own { seat.old.inner.table_id ≡ self.now.inner.shared.table_id }
         requires whole { (p : WriterNotes T) × (g : ReaderNotes T) × (seat.old.inner.me.0 ≡ Both p g) }
         ensures own { (seat.new.inner.table_id ≡ seat.old.inner.table_id) × (result.inner.table_id ≡ seat.old.inner.table_id) }
-        ensures parted { (seat.new.inner.me ≡ (writer_part seat.old.inner.me.0, seat.old.inner.me.1)) × (result.inner.me ≡ (reader_part seat.old.inner.me.0, [])) }
+        ensures parted { (seat.new.inner.me ≡ (writer_part seat.old.inner.me.0, seat.old.inner.me.1))
+            × (result.inner.me ≡ (reader_part seat.old.inner.me.0, [])) }
     {
         let parted = self.inner.shared.split_seat::<Parts>(&mut seat.inner);
         FourSlotSeat { inner: parted }
@@ -79,7 +83,8 @@ impl<T: Lawful> FourSlotTable<T> {
 
     /// Joins a receipt into the reader's seat.
     pub(super) fn hear(&self, seat: &mut FourSlotSeat<T>, receipt: FourSlotSeat<T>)
-        requires own { (seat.old.inner.table_id ≡ self.now.inner.shared.table_id) × (receipt.inner.table_id ≡ self.now.inner.shared.table_id) }
+        requires own { (seat.old.inner.table_id ≡ self.now.inner.shared.table_id)
+            × (receipt.inner.table_id ≡ self.now.inner.shared.table_id) }
         requires idle { (g : ReaderNotes T) × (seat.old.inner.me.0 ≡ Reader g) × (g.stage ≡ R5) }
         requires receipt { (x : Snapshot T) × (receipt.inner.me ≡ (Told x, [])) }
         ensures own { seat.new.inner.table_id ≡ seat.old.inner.table_id }
@@ -93,7 +98,8 @@ impl<T: Lawful> FourSlotTable<T> {
 
     /// Joins the reader's seat, which has no slot, into the writer's.
     pub(super) fn end(&self, seat: &mut FourSlotSeat<T>, reader: FourSlotSeat<T>)
-        requires own { (seat.old.inner.table_id ≡ self.now.inner.shared.table_id) × (reader.inner.table_id ≡ self.now.inner.shared.table_id) }
+        requires own { (seat.old.inner.table_id ≡ self.now.inner.shared.table_id)
+            × (reader.inner.table_id ≡ self.now.inner.shared.table_id) }
         requires writer { (p : WriterNotes T) × (seat.old.inner.me.0 ≡ Writer p) }
         requires reader { (g : ReaderNotes T) × (reader.inner.me ≡ (Reader g, [])) }
         ensures own { seat.new.inner.table_id ≡ seat.old.inner.table_id }
@@ -106,7 +112,8 @@ impl<T: Lawful> FourSlotTable<T> {
     /// Frees the table. Here the seat's two lists meet.
     pub(super) fn close(self, seat: FourSlotSeat<T>)
         requires { seat.inner.table_id ≡ self.inner.shared.table_id }
-        ensures { (p : WriterNotes T) (g : ReaderNotes T) → seat.inner.me.0 ≡ Both p g → Settled (self.inner.shared.key ∷ p.written) g.answers }
+        ensures { (p : WriterNotes T) (g : ReaderNotes T) → seat.inner.me.0 ≡ Both p g →
+            Settled (self.inner.shared.key ∷ p.written) g.answers }
     {
         let FourSlotTable { inner: table } = self;
         let FourSlotSeat { inner: seat } = seat;
@@ -118,7 +125,8 @@ impl<T: Lawful> FourSlotTable<T> {
     pub(super) fn begin<K: Item<T>>(&self, seat: &mut FourSlotSeat<T>, item: Snapshot<T>) -> u64
         requires own { seat.old.inner.table_id ≡ self.now.inner.shared.table_id }
         requires item { K.item ≡ item.value ∷ [] }
-        requires idle { (p : WriterNotes T) × (seat.old.inner.me ≡ (Writer p, [])) × (p.stage ≡ W5) × T.fits item.value × T.rises (last_or p.opening.value p.written) item.value }
+        requires idle { (p : WriterNotes T) × (seat.old.inner.me ≡ (Writer p, [])) × (p.stage ≡ W5) × T.fits item.value
+            × T.rises (last_or p.opening.value p.written) item.value }
         ensures own { seat.new.inner.table_id ≡ seat.old.inner.table_id }
         ensures begun { begins K.item (step self.now.inner.shared.table_id.slots 1 0 0 none) seat.old.inner.me result seat.new.inner.me }
     {
@@ -129,7 +137,8 @@ impl<T: Lawful> FourSlotTable<T> {
     #[inline]
     pub(super) fn store(&self, seat: &mut FourSlotSeat<T>, word: usize, index: u64)
         requires own { seat.old.inner.table_id ≡ self.now.inner.shared.table_id }
-        requires filled { (p : WriterNotes T) × (seat.old.inner.me ≡ (Writer p, (slot_number p.place, p.item.value) ∷ [])) × (p.stage ≡ W3) × (word ≡ 2 + bit_number p.place.pair) × (index ≡ bit_number p.place.index) }
+        requires filled { (p : WriterNotes T) × (seat.old.inner.me ≡ (Writer p, (slot_number p.slot, p.item.value) ∷ [])) × (p.stage ≡ W3)
+            × (word ≡ 2 + bit_number p.slot.pair) × (index ≡ bit_number p.slot.index) }
         ensures own { seat.new.inner.table_id ≡ seat.old.inner.table_id }
         ensures stored { stores (step self.now.inner.shared.table_id.slots word index 0 none) seat.old.inner.me index seat.new.inner.me }
     {
@@ -142,7 +151,7 @@ impl<T: Lawful> FourSlotTable<T> {
     #[inline]
     pub(super) fn finish(&self, seat: &mut FourSlotSeat<T>, pair: u64)
         requires own { seat.old.inner.table_id ≡ self.now.inner.shared.table_id }
-        requires stored { (p : WriterNotes T) × (seat.old.inner.me.0 ≡ Writer p) × (p.stage ≡ W4) × (pair ≡ bit_number p.place.pair) }
+        requires stored { (p : WriterNotes T) × (seat.old.inner.me.0 ≡ Writer p) × (p.stage ≡ W4) × (pair ≡ bit_number p.slot.pair) }
         ensures own { seat.new.inner.table_id ≡ seat.old.inner.table_id }
         ensures finished { finishes (step self.now.inner.shared.table_id.slots 0 pair 0 none) seat.old.inner.me pair seat.new.inner.me }
     {
@@ -166,7 +175,8 @@ impl<T: Lawful> FourSlotTable<T> {
     #[inline]
     pub(super) fn say(&self, seat: &mut FourSlotSeat<T>, pair: u64)
         requires own { seat.old.inner.table_id ≡ self.now.inner.shared.table_id }
-        requires asked { (g : ReaderNotes T) × (seat.old.inner.me ≡ (Reader g, slot_of_choice g.chosen g.at_hand.value)) × (g.stage ≡ R1) × (pair ≡ bit_number g.place.pair) }
+        requires asked { (g : ReaderNotes T) × (seat.old.inner.me ≡ (Reader g, slot_of_choice g.chosen g.at_hand.value)) × (g.stage ≡ R1)
+            × (pair ≡ bit_number g.slot.pair) }
         ensures own { seat.new.inner.table_id ≡ seat.old.inner.table_id }
         ensures said { says (step self.now.inner.shared.table_id.slots 1 pair 0 none) seat.old.inner.me pair seat.new.inner.me }
     {
@@ -177,9 +187,10 @@ impl<T: Lawful> FourSlotTable<T> {
     #[inline]
     pub(super) fn take(&self, seat: &mut FourSlotSeat<T>, word: usize) -> u64
         requires own { seat.old.inner.table_id ≡ self.now.inner.shared.table_id }
-        requires said { (g : ReaderNotes T) × (seat.old.inner.me ≡ (Reader g, [])) × (g.stage ≡ R2) × (word ≡ 2 + bit_number g.place.pair) }
+        requires said { (g : ReaderNotes T) × (seat.old.inner.me ≡ (Reader g, [])) × (g.stage ≡ R2) × (word ≡ 2 + bit_number g.slot.pair) }
         ensures own { seat.new.inner.table_id ≡ seat.old.inner.table_id }
-        ensures taken { takes T.fits T.rises (step self.now.inner.shared.table_id.slots word 0 0 none) seat.old.inner.me result seat.new.inner.me }
+        ensures taken { takes T.fits T.rises (step self.now.inner.shared.table_id.slots word 0 0 none) seat.old.inner.me
+            result seat.new.inner.me }
     {
         self.inner.shared.load::<Takes>(&mut seat.inner, word)
     }

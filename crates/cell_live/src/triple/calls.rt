@@ -2,7 +2,8 @@
 ghost use Rattle.std.specs.Prelude.{◌≡◌, ℕ, ◌+◌, ◌<◌, ◌≤◌, [], ◌∷◌, ◌++◌};
 ghost use Rattle.std.specs.Fn.{FnOnceTakesAt, FnOnceReturnsAt};
 ghost use Rattle.cell_live.specs.Running.{last_or, IsAnswer};
-ghost use Rattle.cell_live.specs.triple.Words.{opening_of, is_put_of, is_get_of, is_told_of, written_by, answers_of, at_hand_of, told_to, named_by, swaps_of_put, loads_of, swaps_of, held_by, found_by, HasLooked};
+ghost use Rattle.cell_live.specs.triple.Words.{opening_of, is_put_of, is_get_of, is_told_of, written_by, answers_of, at_hand_of, told_to};
+ghost use Rattle.cell_live.specs.triple.Words.{named_by, swaps_of_put, loads_of, swaps_of, held_by, found_by, HasLooked};
 
 use super::table::TripleTable;
 use super::{TripleCell, TripleGet, TriplePut, TripleTold};
@@ -136,7 +137,8 @@ impl<T: Lawful> Calls<T> for TripleCell<T> {
     #[inline]
     fn read_with<R, F: FnOnce(&T) -> R>(&self, get: &mut TripleGet<T>, look: F) -> R
         requires own { is_get_of self.now get.old }
-        requires callable { (x : T) → IsAnswer T.fits T.rises (opening_of self.now) (answers_of get.old) (told_to get.old) x → FnOnceTakesAt F.FnOnce look x }
+        requires callable { (x : T) → IsAnswer T.fits T.rises (opening_of self.now) (answers_of get.old) (told_to get.old) x →
+            FnOnceTakesAt F.FnOnce look x }
         ensures own { is_get_of self.now get.new }
         ensures answers { answers_of get.new ≡ answers_of get.old ++ at_hand_of get.new ∷ [] }
         ensures told { told_to get.new ≡ told_to get.old }

@@ -1,5 +1,5 @@
-//! What the seats of a triple buffer know. No value of these types is made. A record stands in them as a snapshot, since the
-//! size of a view's type must be known.
+//! What the seats of a triple buffer know. No value of these types is made.
+use crate::sight::Sight;
 use std::collections::LinkedList;
 use std::snapshot::Snapshot;
 
@@ -32,11 +32,5 @@ pub struct ReaderNotes<T> {
     pub swaps: u64,
 }
 
-/// What a seat knows.
-pub enum Sight<T> {
-    Spent,
-    Told(Snapshot<T>),
-    Writer(WriterNotes<T>),
-    Reader(ReaderNotes<T>),
-    Both(WriterNotes<T>, ReaderNotes<T>),
-}
+/// What a seat of this cell knows.
+pub type TripleSight<T> = Sight<T, WriterNotes<T>, ReaderNotes<T>>;

@@ -1,52 +1,44 @@
 //! What each step tells.
-ghost use Rattle.cell_live.specs.triple.Steps.{put_took, get_took, put_swapped, looked, get_swapped, writer_part, reader_part, receipt_for, hears_of, whole_of};
-ghost use Rattle.cell_live.specs.declared.triple.notes.Sight.TheVariants.{Spent};
+ghost use Rattle.cell_live.specs.triple.Steps.{put_took, get_took, put_swapped, looked, get_swapped, receipt_for, hears_of, whole_of};
+ghost use Rattle.cell_live.specs.declared.sight.Sight.TheVariants.{Spent};
 
-use super::notes::Sight;
+use super::notes::TripleSight;
 use crate::cell::Lawful;
 use atomic_table::{Join, Play, Split};
 
 pub(super) struct PutTakes;
 
-impl<T> Play<T, Sight<T>> for PutTakes {
+impl<T> Play<T, TripleSight<T>> for PutTakes {
     ghost then = { put_took };
 }
 
 pub(super) struct GetTakes;
 
-impl<T> Play<T, Sight<T>> for GetTakes {
+impl<T> Play<T, TripleSight<T>> for GetTakes {
     ghost then = { get_took };
 }
 
 pub(super) struct PutSwaps;
 
-impl<T> Play<T, Sight<T>> for PutSwaps {
+impl<T> Play<T, TripleSight<T>> for PutSwaps {
     ghost then = { put_swapped };
 }
 
 pub(super) struct Looks;
 
-impl<T: Lawful> Play<T, Sight<T>> for Looks {
+impl<T: Lawful> Play<T, TripleSight<T>> for Looks {
     ghost then = { looked T.fits T.rises };
 }
 
 pub(super) struct GetSwaps;
 
-impl<T: Lawful> Play<T, Sight<T>> for GetSwaps {
+impl<T: Lawful> Play<T, TripleSight<T>> for GetSwaps {
     ghost then = { get_swapped T.fits T.rises };
-}
-
-pub(super) struct Parts;
-
-impl<T> Split<Sight<T>> for Parts {
-    ghost left = { writer_part };
-
-    ghost right = { reader_part };
 }
 
 pub(super) struct Tells;
 
-impl<T> Split<Sight<T>> for Tells {
+impl<T> Split<TripleSight<T>> for Tells {
     ghost left = { λ v. v };
 
     ghost right = { receipt_for };
@@ -54,7 +46,7 @@ impl<T> Split<Sight<T>> for Tells {
 
 pub(super) struct Yields;
 
-impl<T> Split<Sight<T>> for Yields {
+impl<T> Split<TripleSight<T>> for Yields {
     ghost left = { λ _. Spent };
 
     ghost right = { λ v. v };
@@ -62,7 +54,7 @@ impl<T> Split<Sight<T>> for Yields {
 
 pub(super) struct Hears;
 
-impl<T> Join<Sight<T>> for Hears {
+impl<T> Join<TripleSight<T>> for Hears {
     ghost both = { hears_of };
 
     ghost spent = { Spent };
@@ -70,7 +62,7 @@ impl<T> Join<Sight<T>> for Hears {
 
 pub(super) struct Ends;
 
-impl<T> Join<Sight<T>> for Ends {
+impl<T> Join<TripleSight<T>> for Ends {
     ghost both = { whole_of };
 
     ghost spent = { Spent };

@@ -6,33 +6,34 @@ ghost use mathlib.Core.Option.{none};
 ghost use Rattle.std.specs.declared.snapshot.Snapshot.{Snapshot};
 ghost use Rattle.atomic_table.specs.Table.{step};
 ghost use Rattle.cell_live.specs.Running.{last_or, Settled, held_slots};
-ghost use Rattle.cell_live.specs.triple.Steps.{put_took, get_took, put_swapped, looked, get_swapped, first_sight, writer_part, reader_part, receipt_for, hears_of, whole_of};
+ghost use Rattle.cell_live.specs.Sights.{writer_part, reader_part};
+ghost use Rattle.cell_live.specs.triple.Steps.{put_took, get_took, put_swapped, looked, get_swapped, first_sight, receipt_for, hears_of};
+ghost use Rattle.cell_live.specs.triple.Steps.{whole_of};
 ghost use Rattle.cell_live.specs.declared.triple.notes.WriterNotes.{WriterNotes};
 ghost use Rattle.cell_live.specs.declared.triple.notes.ReaderNotes.{ReaderNotes};
-ghost use Rattle.cell_live.specs.declared.triple.notes.Sight.TheVariants.{Spent, Writer, Reader, Told, Both};
+ghost use Rattle.cell_live.specs.declared.sight.Sight.TheVariants.{Spent, Writer, Reader, Told, Both};
 
 use super::Triple;
-use super::notes::Sight;
-use super::plays::{
-    Ends, GetSwaps, GetTakes, Hears, Looks, Parts, PutSwaps, PutTakes, Tells, Yields,
-};
+use super::notes::TripleSight;
+use super::plays::{Ends, GetSwaps, GetTakes, Hears, Looks, PutSwaps, PutTakes, Tells, Yields};
 use crate::cell::Lawful;
 use crate::closed::empty;
 use crate::lays::Lays;
+use crate::sight::Parts;
 use atomic_table::{Seat, Table};
 use std::alloc::{AllocError, Global};
 
 /// One word and three slots.
 #[derive(Drop)]
 pub struct TripleTable<T: Lawful> {
-    inner: Table<T, Sight<T>, T, Triple, Global>,
+    inner: Table<T, TripleSight<T>, T, Triple, Global>,
     ghost sized: { inner.shared.table_id.words ≡ 1 },
 }
 
 /// A seat at the table.
 #[derive(Drop)]
 pub struct TripleSeat<T: Copy> {
-    inner: Seat<T, Sight<T>>,
+    inner: Seat<T, TripleSight<T>>,
 }
 
 impl<T: Lawful> TripleTable<T> {
@@ -55,7 +56,8 @@ impl<T: Lawful> TripleTable<T> {
         requires own { seat.old.inner.table_id ≡ self.now.inner.shared.table_id }
         requires whole { (p : WriterNotes T) × (g : ReaderNotes T) × (seat.old.inner.me.0 ≡ Both p g) }
         ensures own { (seat.new.inner.table_id ≡ seat.old.inner.table_id) × (result.inner.table_id ≡ seat.old.inner.table_id) }
-        ensures parted { (seat.new.inner.me ≡ (writer_part seat.old.inner.me.0, seat.old.inner.me.1)) × (result.inner.me ≡ (reader_part seat.old.inner.me.0, [])) }
+        ensures parted { (seat.new.inner.me ≡ (writer_part seat.old.inner.me.0, seat.old.inner.me.1))
+            × (result.inner.me ≡ (reader_part seat.old.inner.me.0, [])) }
     {
         let parted = self.inner.shared.split_seat::<Parts>(&mut seat.inner);
         TripleSeat { inner: parted }
@@ -85,7 +87,8 @@ impl<T: Lawful> TripleTable<T> {
 
     /// Joins a receipt into the reader's seat.
     pub(super) fn hear(&self, seat: &mut TripleSeat<T>, receipt: TripleSeat<T>)
-        requires own { (seat.old.inner.table_id ≡ self.now.inner.shared.table_id) × (receipt.inner.table_id ≡ self.now.inner.shared.table_id) }
+        requires own { (seat.old.inner.table_id ≡ self.now.inner.shared.table_id)
+            × (receipt.inner.table_id ≡ self.now.inner.shared.table_id) }
         requires reader { (g : ReaderNotes T) × (seat.old.inner.me.0 ≡ Reader g) }
         requires receipt { (x : Snapshot T) × (receipt.inner.me ≡ (Told x, [])) }
         ensures own { seat.new.inner.table_id ≡ seat.old.inner.table_id }
@@ -99,7 +102,8 @@ impl<T: Lawful> TripleTable<T> {
 
     /// Joins the writer's notes into the reader's seat.
     pub(super) fn end(&self, seat: &mut TripleSeat<T>, notes: TripleSeat<T>)
-        requires own { (seat.old.inner.table_id ≡ self.now.inner.shared.table_id) × (notes.inner.table_id ≡ self.now.inner.shared.table_id) }
+        requires own { (seat.old.inner.table_id ≡ self.now.inner.shared.table_id)
+            × (notes.inner.table_id ≡ self.now.inner.shared.table_id) }
         requires reader { (g : ReaderNotes T) × (seat.old.inner.me.0 ≡ Reader g) }
         requires writer { (p : WriterNotes T) × (notes.inner.me ≡ (Writer p, [])) }
         ensures own { seat.new.inner.table_id ≡ seat.old.inner.table_id }
@@ -112,7 +116,8 @@ impl<T: Lawful> TripleTable<T> {
     /// Frees the table. Here the seat's two lists meet.
     pub(super) fn close(self, seat: TripleSeat<T>)
         requires { seat.inner.table_id ≡ self.inner.shared.table_id }
-        ensures { (p : WriterNotes T) (g : ReaderNotes T) → seat.inner.me.0 ≡ Both p g → Settled (self.inner.shared.key ∷ p.written) g.answers }
+        ensures { (p : WriterNotes T) (g : ReaderNotes T) → seat.inner.me.0 ≡ Both p g →
+            Settled (self.inner.shared.key ∷ p.written) g.answers }
     {
         let TripleTable { inner: table } = self;
         let TripleSeat { inner: seat } = seat;
@@ -124,7 +129,8 @@ impl<T: Lawful> TripleTable<T> {
         requires own { seat.old.inner.table_id ≡ self.now.inner.shared.table_id }
         requires bare { (p : WriterNotes T) × (seat.old.inner.me ≡ (Writer p, [])) × (p.has ≡ 0) }
         ensures own { seat.new.inner.table_id ≡ seat.old.inner.table_id }
-        ensures taken { (p : WriterNotes T) → seat.old.inner.me.0 ≡ Writer p → seat.new.inner.me ≡ (Writer (record p { has = 1 }), (p.slot, p.opening.value) ∷ []) }
+        ensures taken { (p : WriterNotes T) → seat.old.inner.me.0 ≡ Writer p →
+            seat.new.inner.me ≡ (Writer (record p { has = 1 }), (p.slot, p.opening.value) ∷ []) }
     {
         self.inner.shared.load::<PutTakes>(&mut seat.inner, 0);
     }
@@ -134,7 +140,8 @@ impl<T: Lawful> TripleTable<T> {
         requires own { seat.old.inner.table_id ≡ self.now.inner.shared.table_id }
         requires bare { (g : ReaderNotes T) × (seat.old.inner.me ≡ (Reader g, [])) × (g.has ≡ 0) }
         ensures own { seat.new.inner.table_id ≡ seat.old.inner.table_id }
-        ensures taken { (g : ReaderNotes T) → seat.old.inner.me.0 ≡ Reader g → seat.new.inner.me ≡ (Reader (record g { has = 1 }), (g.slot, g.at_hand.value) ∷ []) }
+        ensures taken { (g : ReaderNotes T) → seat.old.inner.me.0 ≡ Reader g →
+            seat.new.inner.me ≡ (Reader (record g { has = 1 }), (g.slot, g.at_hand.value) ∷ []) }
     {
         self.inner.shared.load::<GetTakes>(&mut seat.inner, 0);
     }
@@ -143,7 +150,8 @@ impl<T: Lawful> TripleTable<T> {
     #[inline]
     pub(super) fn publish(&self, seat: &mut TripleSeat<T>, new: u64) -> u64
         requires own { seat.old.inner.table_id ≡ self.now.inner.shared.table_id }
-        requires filled { (p : WriterNotes T) × (x : T) × (seat.old.inner.me ≡ (Writer p, (p.slot, x) ∷ [])) × (p.has ≡ 1) × T.fits x × T.rises (last_or p.opening.value p.written) x × (new ≡ p.slot + 4) }
+        requires filled { (p : WriterNotes T) × (x : T) × (seat.old.inner.me ≡ (Writer p, (p.slot, x) ∷ [])) × (p.has ≡ 1) × T.fits x
+            × T.rises (last_or p.opening.value p.written) x × (new ≡ p.slot + 4) }
         ensures own { seat.new.inner.table_id ≡ seat.old.inner.table_id }
         ensures swapped { put_swapped (step self.now.inner.shared.table_id.slots 0 new 0 none) seat.old.inner.me result seat.new.inner.me }
     {
@@ -156,7 +164,8 @@ impl<T: Lawful> TripleTable<T> {
         requires own { seat.old.inner.table_id ≡ self.now.inner.shared.table_id }
         requires idle { (g : ReaderNotes T) × (seat.old.inner.me.0 ≡ Reader g) × (g.asked ≡ 0) }
         ensures own { seat.new.inner.table_id ≡ seat.old.inner.table_id }
-        ensures looked { looked T.fits T.rises (step self.now.inner.shared.table_id.slots 0 0 0 none) seat.old.inner.me result seat.new.inner.me }
+        ensures looked { looked T.fits T.rises (step self.now.inner.shared.table_id.slots 0 0 0 none) seat.old.inner.me
+            result seat.new.inner.me }
     {
         self.inner.shared.load::<Looks>(&mut seat.inner, 0)
     }
@@ -165,9 +174,11 @@ impl<T: Lawful> TripleTable<T> {
     #[inline]
     pub(super) fn fetch(&self, seat: &mut TripleSeat<T>, new: u64) -> u64
         requires own { seat.old.inner.table_id ≡ self.now.inner.shared.table_id }
-        requires marked { (g : ReaderNotes T) × (seat.old.inner.me ≡ (Reader g, (g.slot, g.at_hand.value) ∷ [])) × (g.has ≡ 1) × (g.asked ≡ 1) × (new ≡ g.slot) }
+        requires marked { (g : ReaderNotes T) × (seat.old.inner.me ≡ (Reader g, (g.slot, g.at_hand.value) ∷ [])) × (g.has ≡ 1)
+            × (g.asked ≡ 1) × (new ≡ g.slot) }
         ensures own { seat.new.inner.table_id ≡ seat.old.inner.table_id }
-        ensures swapped { get_swapped T.fits T.rises (step self.now.inner.shared.table_id.slots 0 new 0 none) seat.old.inner.me result seat.new.inner.me }
+        ensures swapped { get_swapped T.fits T.rises (step self.now.inner.shared.table_id.slots 0 new 0 none) seat.old.inner.me
+            result seat.new.inner.me }
     {
         self.inner.shared.swap::<GetSwaps>(&mut seat.inner, 0, new)
     }

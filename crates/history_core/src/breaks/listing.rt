@@ -2,7 +2,7 @@
 
 ghost use Rattle.std.specs.Prelude.{◌≡◌, ◌+◌, ◌<◌, ◌≤◌, ◌^◌, ◌↔◌, ℕ, IfNone, IfSome, IsTrue, length, slice_index};
 ghost use Rattle.history_core.specs.Breaks.{IsMiscounted, IsNoPlace};
-ghost use Rattle.history_core.specs.Searches.{AddsOne};
+ghost use Rattle.history_core.specs.inner.Searches.{AddsOne};
 ghost use Rattle.history_core.specs.Orders.{EachStands, ListsPlaces, MayStand, times_of};
 
 use crate::history::{Kind, Op};

@@ -3,7 +3,7 @@
 ghost use Rattle.std.specs.Prelude.{◌≡◌, ◌<◌, ◌≤◌, ◌↔◌, ℕ, IfNone, IfSome, IsSomeAnd, IsTrue, MatchOption};
 ghost use Rattle.history_core.specs.Breaks.{IsOvertaken};
 ghost use Rattle.history_core.specs.Orders.{KeepsPrecedence, ListsPlaces};
-ghost use Rattle.history_core.specs.Searches.{later_of};
+ghost use Rattle.history_core.specs.inner.Searches.{later_of};
 
 use crate::history::Op;
 

@@ -3,7 +3,7 @@
 ghost use Rattle.std.specs.Prelude.{◌≡◌, IfErr, IfNone, IfOk, IfSome, IsTrue, Some};
 ghost use Rattle.history_core.specs.Breaks.{IsReadingBreak};
 ghost use Rattle.history_core.specs.Orders.{left_by, ListsPlaces, ReadsLatest, ReadsRight};
-ghost use Rattle.history_core.specs.Searches.{IsWrongAt, write_after};
+ghost use Rattle.history_core.specs.inner.Searches.{IsWrongAt, write_after};
 
 use super::Break;
 use crate::history::{Kind, Op};

@@ -3,8 +3,8 @@
 ghost use Rattle.std.specs.Prelude.{◌≡◌, ◌<◌, ◌≤◌, ◌⊎◌, IfNone, IfSome, length, take};
 ghost use Rattle.history_core.specs.Breaks.{IsRefusedEarly};
 ghost use Rattle.history_core.specs.Orders.{KeepsLimit, ListsPlaces, RefusesLawfully};
-ghost use Rattle.history_core.specs.Ranges.{is_between};
-ghost use Rattle.history_core.specs.Searches.{end_of, entry_of, IsEarly};
+ghost use Rattle.history_core.specs.inner.Ranges.{is_between};
+ghost use Rattle.history_core.specs.inner.Searches.{end_of, entry_of, IsEarly};
 
 use crate::check::refusal::{count, is_within};
 use crate::history::{Op, Term};

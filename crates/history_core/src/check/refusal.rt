@@ -2,7 +2,7 @@
 
 ghost use Rattle.std.specs.Prelude.{◌≡◌, ◌+◌, ◌<◌, ◌^◌, ◌↔◌, IsTrue, IfNone, IfSome};
 ghost use Rattle.history_core.specs.Orders.{KeepsLimit, ListsPlaces, RefusesLawfully};
-ghost use Rattle.history_core.specs.Ranges.{is_between, MayRefuse, writes_after};
+ghost use Rattle.history_core.specs.inner.Ranges.{is_between, MayRefuse, writes_after};
 
 use crate::history::{Kind, Op, Term};
 

@@ -16,7 +16,7 @@ use Rattle.history_core.proofs.Positions.{position_exists, position_made, positi
 use Rattle.fourslot_core.specs.Accesses.{Accesses, IsFreshRead, IsSource}
 use Rattle.fourslot_core.specs.Traces.{Moment, source_record, trace}
 use Rattle.fourslot_core.proofs.Pushed.{of_before}
-use Rattle.fourslot_core.proofs.TraceMapped.{trace_mapped}
+use Rattle.fourslot_core.proofs.traces.Mapped.{trace_mapped}
 use Rattle.matrix_core.specs.declared.stamp.Stamp.{Stamp}
 use Rattle.matrix_core.specs.declared.stamp.Stamped.{Stamped}
 use Rattle.matrix_core.specs.Answers.{greatest}

@@ -16,7 +16,7 @@ use Rattle.fourslot_core.specs.declared.schedule.Turn.TheVariants.{Writer, Reade
 use Rattle.fourslot_core.specs.Accesses.{Accesses, IsBefore, IsFreshRead}
 use Rattle.fourslot_core.specs.Traces.{Moment, moment_at, moments_of, reads_of, RisesFrom, source_record, then_step, Trace, trace}
 use Rattle.fourslot_core.specs.Traces.{writes_of}
-use Rattle.fourslot_core.proofs.TraceLaws.{moments_of_more, moments_of_rise, trace_more, traces_fresh}
+use Rattle.fourslot_core.proofs.traces.Laws.{moments_of_more, moments_of_rise, trace_more, traces_fresh}
 use Rattle.matrix_core.specs.declared.stamp.Stamped.{Stamped}
 use Rattle.matrix_core.specs.Events.{first_record, other}
 use Rattle.matrix_core.specs.Answers.{IsReadOf}

@@ -16,7 +16,7 @@ use Rattle.fourslot_core.specs.declared.state.State.{State}
 use Rattle.fourslot_core.specs.Events.{after_read, answer, next_read, slot_number}
 use Rattle.fourslot_core.specs.Traces.{then_step, Trace}
 use Rattle.fourslot_core.proofs.Pushed.{get_cases, get_last}
-use Rattle.fourslot_core.proofs.TraceCounts.{has_chosen, made}
+use Rattle.fourslot_core.proofs.traces.Counts.{has_chosen, made}
 use Rattle.matrix_core.specs.declared.stamp.Stamped.{Stamped}
 use Rattle.matrix_core.specs.declared.matrix.Progress.{Progress}
 use Rattle.matrix_core.specs.declared.matrix.Outcome.{Outcome}

@@ -16,7 +16,7 @@ use Rattle.fourslot_core.specs.declared.state.Stage.TheVariants.{W1}
 use Rattle.fourslot_core.specs.Events.{after_write, next_write, slot_number}
 use Rattle.fourslot_core.specs.Traces.{then_step, Trace}
 use Rattle.fourslot_core.proofs.Pushed.{get_last}
-use Rattle.fourslot_core.proofs.TraceCounts.{left}
+use Rattle.fourslot_core.proofs.traces.Counts.{left}
 use Rattle.matrix_core.specs.declared.stamp.Stamped.{Stamped}
 use Rattle.matrix_core.specs.declared.matrix.Progress.{Progress}
 use Rattle.matrix_core.specs.declared.matrix.Outcome.{Outcome}

@@ -8,7 +8,7 @@ use Rattle.history_core.specs.Schedules.{access_at, board_accesses, IsPlayed, Sp
 use Rattle.fourslot_core.specs.Accesses.{Accesses, Fills, IsBefore, IsClear, IsFreshRead, IsSameSlot, IsSource}
 use Rattle.fourslot_core.specs.Traces.{reads_of, source_record, Trace, writes_of}
 use Rattle.fourslot_core.proofs.Pushed.{some_of}
-use Rattle.fourslot_core.proofs.TraceLaws.{traces_answered, traces_clear, traces_fresh}
+use Rattle.fourslot_core.proofs.traces.Laws.{traces_answered, traces_clear, traces_fresh}
 use Rattle.matrix_core.specs.declared.stamp.Stamp.{Stamp}
 use Rattle.matrix_core.specs.declared.stamp.Stamped.{Stamped}
 use Rattle.matrix_core.specs.Events.{first_record, other}

@@ -14,7 +14,7 @@ use Rattle.fourslot_core.specs.declared.state.ReaderStage.{ReaderStage}
 use Rattle.fourslot_core.specs.declared.state.ReaderStage.TheVariants as rs
 use Rattle.fourslot_core.specs.Events.{after_read, after_write, next_read, next_write, slot_number}
 use Rattle.fourslot_core.specs.Traces.{Trace}
-use Rattle.fourslot_core.proofs.TraceCounts.{left, made}
+use Rattle.fourslot_core.proofs.traces.Counts.{left, made}
 use Rattle.matrix_core.specs.declared.stamp.Stamped.{Stamped}
 use Rattle.matrix_core.specs.declared.matrix.Progress.{Progress}
 use Rattle.matrix_core.specs.declared.matrix.Outcome.{Outcome}

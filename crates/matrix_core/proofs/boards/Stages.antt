@@ -13,8 +13,8 @@ use Rattle.fourslot_core.specs.declared.state.ReaderStage.TheVariants as rs
 use Rattle.fourslot_core.specs.Events.{after_write, answer, next_read, next_write}
 use Rattle.fourslot_core.specs.Traces.{answered_by_read, shown_by_read, shown_by_write, Moment, moment_at, then_step, Trace, trace}
 use Rattle.fourslot_core.proofs.Pushed.{get_before}
-use Rattle.fourslot_core.proofs.TraceCounts.{has_chosen, left, made}
-use Rattle.fourslot_core.proofs.TraceLaws.{trace_more}
+use Rattle.fourslot_core.proofs.traces.Counts.{has_chosen, left, made}
+use Rattle.fourslot_core.proofs.traces.Laws.{trace_more}
 use Rattle.matrix_core.specs.declared.stamp.Stamped.{Stamped}
 use Rattle.matrix_core.specs.declared.matrix.Progress.{Progress}
 use Rattle.matrix_core.specs.Events.{begun, chosen as chosen_by, gathered, other}

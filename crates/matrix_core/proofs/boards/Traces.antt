@@ -12,8 +12,8 @@ use Rattle.fourslot_core.specs.declared.schedule.Turn.{Turn}
 use Rattle.fourslot_core.specs.declared.schedule.Turn.TheVariants.{Writer, Reader}
 use Rattle.fourslot_core.specs.declared.state.State.{State}
 use Rattle.fourslot_core.specs.Traces.{moments_of, source_record, then_step, Trace, trace}
-use Rattle.fourslot_core.proofs.TraceCounts.{IsCounted, left, made}
-use Rattle.fourslot_core.proofs.TraceLaws.{moments_of_rise, traces_counted}
+use Rattle.fourslot_core.proofs.traces.Counts.{IsCounted, left, made}
+use Rattle.fourslot_core.proofs.traces.Laws.{moments_of_rise, traces_counted}
 use Rattle.matrix_core.specs.declared.stamp.Stamped.{Stamped}
 use Rattle.matrix_core.specs.declared.matrix.Progress.{Progress}
 use Rattle.matrix_core.specs.declared.matrix.Outcome.{Outcome}

@@ -1,5 +1,5 @@
 -- Both definitions name the five events and the slot of each access, and nothing else of it.
-use Rattle.fourslot_core.proofs.AccessesAgree.{clear_as, fresh_as}
+use Rattle.fourslot_core.proofs.traces.AccessesAgree.{clear_as, fresh_as}
 use Rattle.fourslot_core.proofs.laws.agreeing_accesses_are_alike.Goals as goal
 
 pub returns : goal.returns

@@ -1,5 +1,5 @@
 -- By cases on the event: only W4 turns a pair's bit, and it turns it to the newest record, so no pair's record grows older.
-use Rattle.fourslot_core.proofs.KeepingFresh.{opening_is_fresh, numbers_after_write, numbers_after_read}
+use Rattle.fourslot_core.proofs.events.KeepingFresh.{opening_is_fresh, numbers_after_write, numbers_after_read}
 use Rattle.fourslot_core.proofs.laws.events_keep_freshness.Goals as goal
 
 pub returns : goal.returns

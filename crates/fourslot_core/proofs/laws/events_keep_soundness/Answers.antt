@@ -1,5 +1,5 @@
 -- By cases on the event: W1 takes the pair that `reading` isn't and R3 an index that no writer has, so their slots stay two.
-use Rattle.fourslot_core.proofs.Keeping.{opening_is_sound, write_is_sound, read_is_sound}
+use Rattle.fourslot_core.proofs.events.Keeping.{opening_is_sound, write_is_sound, read_is_sound}
 use Rattle.fourslot_core.proofs.laws.events_keep_soundness.Goals as goal
 
 pub returns : goal.returns

@@ -1,5 +1,5 @@
 -- By induction over the trace: a new position is above all before it, so what was clear and fresh stays, and an event keeps it.
-use Rattle.fourslot_core.proofs.TraceLaws.{moments_rise, rises_first, rises_from_first, traces_answered, traces_clear, traces_fresh}
+use Rattle.fourslot_core.proofs.traces.Laws.{moments_rise, rises_first, rises_from_first, traces_answered, traces_clear, traces_fresh}
 use Rattle.fourslot_core.proofs.laws.interleavings_are_clear_and_fresh.Goals as goal
 
 pub returns : goal.returns

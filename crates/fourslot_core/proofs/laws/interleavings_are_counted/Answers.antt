@@ -1,5 +1,5 @@
 -- By cases on the stage, at each step of the trace.
-use Rattle.fourslot_core.proofs.TraceLaws.{rises_from_first, traces_counted}
+use Rattle.fourslot_core.proofs.traces.Laws.{rises_from_first, traces_counted}
 use Rattle.fourslot_core.proofs.laws.interleavings_are_counted.Goals as goal
 
 pub returns : goal.returns

@@ -1,6 +1,6 @@
 -- A trace is a fold over its steps, and an item is taken at W1 alone.
-use Rattle.fourslot_core.proofs.TraceItems.{trace_of_items}
-use Rattle.fourslot_core.proofs.TraceLaws.{trace_more}
+use Rattle.fourslot_core.proofs.traces.Items.{trace_of_items}
+use Rattle.fourslot_core.proofs.traces.Laws.{trace_more}
 use Rattle.fourslot_core.proofs.laws.interleavings_go_on.Goals as goal
 
 pub returns : goal.returns

@@ -7,12 +7,16 @@ use Rattle.history_core.proofs.breaks.breaking.Goals as goal
 
 pub returns-in-Listing : goal.returns-in-Listing
 returns-in-Listing g c =
-    let P : Verdict → Type 0 = λ v. IsVerdict (λ x y. IsTrue (g.R.PartialEq.eq x y)) c.args.opening c.args.terms.now c.args.ops.now c.args.order.now v in
-    let h = listing_found (λ x y. IsTrue (g.R.PartialEq.eq x y)) c.args.opening c.args.terms.now c.args.ops.now c.args.order.now _ (subst P c.in-Listing.is c.requires) c.listing_break.ensures in
+    let P : Verdict → Type 0 =
+    λ v. IsVerdict (λ x y. IsTrue (g.R.PartialEq.eq x y)) c.args.opening c.args.terms.now c.args.ops.now c.args.order.now v in
+    let h = listing_found (λ x y. IsTrue (g.R.PartialEq.eq x y)) c.args.opening c.args.terms.now c.args.ops.now c.args.order.now _
+    (subst P c.in-Listing.is c.requires) c.listing_break.ensures in
     record { rule = h.0; first = h.1 }
 
 pub returns-in-Reading : goal.returns-in-Reading
 returns-in-Reading g c =
-    let P : Verdict → Type 0 = λ v. IsVerdict (λ x y. IsTrue (g.R.PartialEq.eq x y)) c.args.opening c.args.terms.now c.args.ops.now c.args.order.now v in
-    let h = reading_found (λ x y. IsTrue (g.R.PartialEq.eq x y)) c.args.opening c.args.terms.now c.args.ops.now c.args.order.now _ (subst P c.in-Reading.is c.requires) c.reading_break.ensures.none c.reading_break.ensures.some in
+    let P : Verdict → Type 0 =
+    λ v. IsVerdict (λ x y. IsTrue (g.R.PartialEq.eq x y)) c.args.opening c.args.terms.now c.args.ops.now c.args.order.now v in
+    let h = reading_found (λ x y. IsTrue (g.R.PartialEq.eq x y)) c.args.opening c.args.terms.now c.args.ops.now c.args.order.now _
+    (subst P c.in-Reading.is c.requires) c.reading_break.ensures.none c.reading_break.ensures.some in
     record { rule = h.0; first = h.1 }

@@ -1,6 +1,7 @@
 -- Each rule was tested alone, so the first test that fails names the first broken rule.
 use Rattle.history_core.proofs.check.verdict.Goals as goal
-use Rattle.history_core.proofs.check.verdict.Goals.{then-not-lists_places-via-then-not-lists_places, then-not-lists_places-via-else-not-lists_places+then-not-stands}
+use Rattle.history_core.proofs.check.verdict.Goals.{then-not-lists_places-via-then-not-lists_places}
+use Rattle.history_core.proofs.check.verdict.Goals.{then-not-lists_places-via-else-not-lists_places+then-not-stands}
 
 pub returns-then-not-lists_places : goal.returns-then-not-lists_places
 returns-then-not-lists_places g c = elim c.then-not-lists_places.branch [

@@ -10,17 +10,21 @@ use Rattle.history_core.specs.declared.history.Term.{Term}
 use Rattle.history_core.specs.Orders.{IsListing, IsVerdict, KeepsPrecedence, latest, ReadsLatest, ReadsRight, RefusesLawfully}
 use Rattle.history_core.proofs.laws.atomic_is_lawful.Goals as goal
 
-equal_item : {R : Type 0} (eq : R → R → Bool) → ((x : R) → IsTrue (eq x x)) → (item before : Option R) → IsSomeAnd item (λ x. IsSomeAnd before (λ y. x ≡ y)) → IsSomeAnd item (λ x. IsSomeAnd before (λ y. IsTrue (eq x y)))
+equal_item : {R : Type 0} (eq : R → R → Bool) → ((x : R) → IsTrue (eq x x)) → (item before : Option R) →
+    IsSomeAnd item (λ x. IsSomeAnd before (λ y. x ≡ y)) → IsSomeAnd item (λ x. IsSomeAnd before (λ y. IsTrue (eq x y)))
 equal_item eq same None before h = h
 equal_item eq same (Some x) None h = h
 equal_item eq same (Some x) (Some y) h = subst (λ z. IsTrue (eq x z)) h (same x)
 
-equal_right : {R : Type 0} (eq : R → R → Bool) → ((x : R) → IsTrue (eq x x)) → (kind : Kind) (item before : Option R) → ReadsRight (λ x y. x ≡ y) kind item before → ReadsRight (λ x y. IsTrue (eq x y)) kind item before
+equal_right : {R : Type 0} (eq : R → R → Bool) → ((x : R) → IsTrue (eq x x)) → (kind : Kind) (item before : Option R) →
+    ReadsRight (λ x y. x ≡ y) kind item before → ReadsRight (λ x y. IsTrue (eq x y)) kind item before
 equal_right eq same Write item before h = h
 equal_right eq same Read item before h = equal_item eq same item before h
 equal_right eq same Refused item before h = equal_item eq same item before h
 
-lawful_alone : {R : Type 0} (Same : R → R → Type 0) (opening : R) (terms : List Term) (ops : List (Op R)) (order : List ℕ) (verdict : Verdict) → IsListing ops order → KeepsPrecedence ops order → ReadsLatest Same opening ops order → RefusesLawfully terms ops order → IsVerdict Same opening terms ops order verdict → verdict ≡ Lawful
+lawful_alone : {R : Type 0} (Same : R → R → Type 0) (opening : R) (terms : List Term) (ops : List (Op R)) (order : List ℕ)
+    (verdict : Verdict) → IsListing ops order → KeepsPrecedence ops order → ReadsLatest Same opening ops order →
+    RefusesLawfully terms ops order → IsVerdict Same opening terms ops order verdict → verdict ≡ Lawful
 lawful_alone Same opening terms ops order Lawful listing precedence reading refusal is = refl
 lawful_alone Same opening terms ops order Listing listing precedence reading refusal is = absurd (is listing)
 lawful_alone Same opening terms ops order Precedence listing precedence reading refusal is = absurd (is.1 precedence)

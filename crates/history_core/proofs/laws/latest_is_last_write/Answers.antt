@@ -7,7 +7,8 @@ use Rattle.history_core.specs.Orders.{HasNoWrites, latest, left_at, left_by}
 use Rattle.history_core.proofs.Latest.{left_unwritten}
 use Rattle.history_core.proofs.laws.latest_is_last_write.Goals as goal
 
-kept : {R : Type 0} (ops : List (Op R)) (order : List ℕ) (r : Option R) → HasNoWrites ops order → fold (λ r p. left_at r (slice_get ops p)) r order ≡ r
+kept : {R : Type 0} (ops : List (Op R)) (order : List ℕ) (r : Option R) → HasNoWrites ops order →
+    fold (λ r p. left_at r (slice_get ops p)) r order ≡ r
 kept ops [] r h = refl
 kept {R} ops (p ∷ order) r h =
     kept ops order (left_at r (slice_get ops p)) (λ i q e. h (suc i) q e) ∙ left_unwritten r (slice_get ops p) (h 0 p refl)

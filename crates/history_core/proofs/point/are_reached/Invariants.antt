@@ -1,6 +1,6 @@
 -- No operation met so far ends before its point.
 use Rattle.std.proofs.Common.{ℕ, ◌<◌, get_or}
-use Rattle.history_core.specs.Earliest.{IsReached}
+use Rattle.history_core.specs.inner.Earliest.{IsReached}
 use Rattle.history_core.proofs.point.are_reached.Given as goal
 
 abbrev pub invariant-loop-i : goal.invariant-loop-i

@@ -1,56 +1,99 @@
 -- Each step tells the notes what it did: after the fifth event the record is the last one written, and both bits are remembered.
 use Rattle.std.proofs.Common.{rules, arith, ◌≡◌, ◌+◌, ◌∷◌, [], not, Bool, sym, ap, ◌∙◌, subst, refl}
-use Rattle.fourslot_core.specs.Events.{side, with_side, place_of, bit_number, slot_number}
+use Rattle.fourslot_core.specs.Events.{side, with_side, slot_with, bit_number, slot_number}
 use Rattle.cell_live.specs.Running.{last_or, held_slots, snap}
-use Rattle.cell_live.specs.four_slot.Steps.{first_writer, writer_or, begun_with, stored_by}
+use Rattle.cell_live.specs.Sights.{writer_or}
+use Rattle.cell_live.specs.four_slot.Steps.{first_writer, begun_with, stored_by}
 use Rattle.cell_live.specs.declared.four_slot.notes.WriterNotes.{WriterNotes}
-use Rattle.cell_live.specs.declared.four_slot.notes.Sight.TheVariants.{Writer}
+use Rattle.cell_live.specs.declared.sight.Sight.TheVariants.{Writer}
 use Rattle.fourslot_core.specs.declared.event.WriteEvent.TheVariants.{W1, W2, W3, W4, W5}
 use Rattle.fourslot_core.specs.declared.state.Stage.TheVariants as stage
 use Rattle.cell_live.proofs.ListLaws.{last_snoc}
-use Rattle.cell_live.proofs.FourEvents.{write_joined}
+use Rattle.cell_live.proofs.four_slot.Events.{write_joined}
 use Rattle.cell_live.proofs.four_slot.FourSlotCell.write_laid.Goals as goal
 
 pub begin-reading-requires-clause-idle : goal.begin-reading-requires-clause-idle
-begin-reading-requires-clause-idle g c = let item : g.row.T.Denot = g.L.Lays.whole c.args.parts.now in let put = c.args.put.now in let p : WriterNotes g.row.T.Denot = writer_or (first_writer put.spare) put.seat.inner.me.0 in let named = c.name-named.ensures in
-    subst (λ (x : g.row.T.Denot). (q : WriterNotes g.row.T.Denot) × (put.seat.inner.me ≡ (Writer q, [])) × (q.stage ≡ stage.W5) × g.T.Lawful.fits x × g.T.Lawful.rises (last_or q.opening.value q.written) x) (sym named)
-    (p, put.known, put.idle, c.requires.lawful.0, subst (λ z. g.T.Lawful.rises (last_or z p.written) item) (sym (ap (λ n. n.opening) c.requires.own)) c.requires.lawful.1)
+begin-reading-requires-clause-idle g c =
+    let item : g.row.T.Denot = g.L.Lays.whole c.args.parts.now in
+    let put = c.args.put.now in
+    let p : WriterNotes g.row.T.Denot = writer_or (first_writer put.spare) put.seat.inner.me.0 in
+    let named = c.name-named.ensures in
+    subst (λ (x : g.row.T.Denot). (q : WriterNotes g.row.T.Denot) × (put.seat.inner.me ≡ (Writer q, [])) × (q.stage ≡ stage.W5)
+    × g.T.Lawful.fits x × g.T.Lawful.rises (last_or q.opening.value q.written) x) (sym named) (
+      p,
+      put.known,
+      put.idle,
+      c.requires.lawful.0,
+      subst (λ z. g.T.Lawful.rises (last_or z p.written) item) (sym (ap (λ n. n.opening) c.requires.own)) c.requires.lawful.1,
+    )
 
 pub fill-requires-clause-held : goal.fill-requires-clause-held
-fill-requires-clause-held g c = let item : g.row.T.Denot = g.L.Lays.whole c.args.parts.now in let put = c.args.put.now in let d : WriterNotes g.row.T.Denot = first_writer put.spare in let p : WriterNotes g.row.T.Denot = writer_or d put.seat.inner.me.0 in let is : put.seat.inner.me.0 ≡ Writer p = ap (λ m. m.0) put.known in
-    let t = c.begin-reading.ensures.begun p item is (ap (λ z. z ∷ []) c.name-named.ensures) in let b : Bool = t.0 in let q : WriterNotes g.row.T.Denot = begun_with p b item in
+fill-requires-clause-held g c =
+    let item : g.row.T.Denot = g.L.Lays.whole c.args.parts.now in
+    let put = c.args.put.now in
+    let d : WriterNotes g.row.T.Denot = first_writer put.spare in
+    let p : WriterNotes g.row.T.Denot = writer_or d put.seat.inner.me.0 in
+    let is : put.seat.inner.me.0 ≡ Writer p = ap (λ m. m.0) put.known in
+    let t = c.begin-reading.ensures.begun p item is (ap (λ z. z ∷ []) c.name-named.ensures) in
+    let b : Bool = t.0 in
+    let q : WriterNotes g.row.T.Denot = begun_with p b item in
     let pair : not c.is_one-pair.result ≡ not b = ap not (c.is_one-pair.ensures b t.2) in
-    let index : not c.bit_of-index.result ≡ not (side p.remembered (not b)) = ap not (c.bit_of-index.ensures ∙ (λ i. side (sym put.bits i) (pair i))) in
-    let slot : c.slot_of-slot.result ≡ slot_number q.place = c.slot_of-slot.ensures ∙ (λ i. slot_number (place_of (pair i) (index i))) in
+    let index : not c.bit_of-index.result ≡ not (side p.remembered (not b)) =
+    ap not (c.bit_of-index.ensures ∙ (λ i. side (sym put.bits i) (pair i))) in
+    let slot : c.slot_of-slot.result ≡ slot_number q.slot = c.slot_of-slot.ensures ∙ (λ i. slot_number (slot_with (pair i) (index i))) in
     ap held_slots t.4 ∙ ap (λ z. z ∷ []) (sym slot)
 
 pub store-requires-clause-filled : goal.store-requires-clause-filled
-store-requires-clause-filled g c = let item : g.row.T.Denot = g.L.Lays.whole c.args.parts.now in let put = c.args.put.now in let d : WriterNotes g.row.T.Denot = first_writer put.spare in let p : WriterNotes g.row.T.Denot = writer_or d put.seat.inner.me.0 in let is : put.seat.inner.me.0 ≡ Writer p = ap (λ m. m.0) put.known in
-    let t = c.begin-reading.ensures.begun p item is (ap (λ z. z ∷ []) c.name-named.ensures) in let b : Bool = t.0 in let q : WriterNotes g.row.T.Denot = begun_with p b item in
+store-requires-clause-filled g c =
+    let item : g.row.T.Denot = g.L.Lays.whole c.args.parts.now in
+    let put = c.args.put.now in
+    let d : WriterNotes g.row.T.Denot = first_writer put.spare in
+    let p : WriterNotes g.row.T.Denot = writer_or d put.seat.inner.me.0 in
+    let is : put.seat.inner.me.0 ≡ Writer p = ap (λ m. m.0) put.known in
+    let t = c.begin-reading.ensures.begun p item is (ap (λ z. z ∷ []) c.name-named.ensures) in
+    let b : Bool = t.0 in
+    let q : WriterNotes g.row.T.Denot = begun_with p b item in
     let pair : not c.is_one-pair.result ≡ not b = ap not (c.is_one-pair.ensures b t.2) in
-    let index : not c.bit_of-index.result ≡ not (side p.remembered (not b)) = ap not (c.bit_of-index.ensures ∙ (λ i. side (sym put.bits i) (pair i))) in
-    let slot : c.slot_of-slot.result ≡ slot_number q.place = c.slot_of-slot.ensures ∙ (λ i. slot_number (place_of (pair i) (index i))) in
+    let index : not c.bit_of-index.result ≡ not (side p.remembered (not b)) =
+    ap not (c.bit_of-index.ensures ∙ (λ i. side (sym put.bits i) (pair i))) in
+    let slot : c.slot_of-slot.result ≡ slot_number q.slot = c.slot_of-slot.ensures ∙ (λ i. slot_number (slot_with (pair i) (index i))) in
     let now = c.fill.ensures.filled in let me0 = ap (λ m. m.0) now ∙ t.3 in let me1 = ap (λ m. m.1) now ∙ (λ i. (slot i, item) ∷ []) in
     let word : c.word_of-word.result ≡ 2 + bit_number (not b) = c.word_of-word.ensures ∙ ap (λ z. 2 + bit_number z) pair in
     (q, (λ i. (me0 i, me1 i)), refl, word, c.bit_word.ensures ∙ ap bit_number index)
 
 pub finish-requires-clause-stored : goal.finish-requires-clause-stored
-finish-requires-clause-stored g c = let item : g.row.T.Denot = g.L.Lays.whole c.args.parts.now in let put = c.args.put.now in let d : WriterNotes g.row.T.Denot = first_writer put.spare in let p : WriterNotes g.row.T.Denot = writer_or d put.seat.inner.me.0 in let is : put.seat.inner.me.0 ≡ Writer p = ap (λ m. m.0) put.known in
-    let t = c.begin-reading.ensures.begun p item is (ap (λ z. z ∷ []) c.name-named.ensures) in let b : Bool = t.0 in let q : WriterNotes g.row.T.Denot = begun_with p b item in
+finish-requires-clause-stored g c =
+    let item : g.row.T.Denot = g.L.Lays.whole c.args.parts.now in
+    let put = c.args.put.now in
+    let d : WriterNotes g.row.T.Denot = first_writer put.spare in
+    let p : WriterNotes g.row.T.Denot = writer_or d put.seat.inner.me.0 in
+    let is : put.seat.inner.me.0 ≡ Writer p = ap (λ m. m.0) put.known in
+    let t = c.begin-reading.ensures.begun p item is (ap (λ z. z ∷ []) c.name-named.ensures) in
+    let b : Bool = t.0 in
+    let q : WriterNotes g.row.T.Denot = begun_with p b item in
     let pair : not c.is_one-pair.result ≡ not b = ap not (c.is_one-pair.ensures b t.2) in
-    let index : not c.bit_of-index.result ≡ not (side p.remembered (not b)) = ap not (c.bit_of-index.ensures ∙ (λ i. side (sym put.bits i) (pair i))) in
-    let slot : c.slot_of-slot.result ≡ slot_number q.place = c.slot_of-slot.ensures ∙ (λ i. slot_number (place_of (pair i) (index i))) in
+    let index : not c.bit_of-index.result ≡ not (side p.remembered (not b)) =
+    ap not (c.bit_of-index.ensures ∙ (λ i. side (sym put.bits i) (pair i))) in
+    let slot : c.slot_of-slot.result ≡ slot_number q.slot = c.slot_of-slot.ensures ∙ (λ i. slot_number (slot_with (pair i) (index i))) in
     let now = c.fill.ensures.filled in let me0 = ap (λ m. m.0) now ∙ t.3 in let me1 = ap (λ m. m.1) now ∙ (λ i. (slot i, item) ∷ []) in
     let word : c.word_of-word.result ≡ 2 + bit_number (not b) = c.word_of-word.ensures ∙ ap (λ z. 2 + bit_number z) pair in
     let v = c.store.ensures.stored q me0 me1 in let q2 : WriterNotes g.row.T.Denot = stored_by q in
     (q2, v.0, refl, c.bit_word-2.ensures ∙ ap bit_number pair)
 
 pub invariant_of-put : goal.invariant_of-put
-invariant_of-put g c = let item : g.row.T.Denot = g.L.Lays.whole c.args.parts.now in let put = c.args.put.now in let d : WriterNotes g.row.T.Denot = first_writer put.spare in let p : WriterNotes g.row.T.Denot = writer_or d put.seat.inner.me.0 in let is : put.seat.inner.me.0 ≡ Writer p = ap (λ m. m.0) put.known in
-    let t = c.begin-reading.ensures.begun p item is (ap (λ z. z ∷ []) c.name-named.ensures) in let b : Bool = t.0 in let q : WriterNotes g.row.T.Denot = begun_with p b item in
+invariant_of-put g c =
+    let item : g.row.T.Denot = g.L.Lays.whole c.args.parts.now in
+    let put = c.args.put.now in
+    let d : WriterNotes g.row.T.Denot = first_writer put.spare in
+    let p : WriterNotes g.row.T.Denot = writer_or d put.seat.inner.me.0 in
+    let is : put.seat.inner.me.0 ≡ Writer p = ap (λ m. m.0) put.known in
+    let t = c.begin-reading.ensures.begun p item is (ap (λ z. z ∷ []) c.name-named.ensures) in
+    let b : Bool = t.0 in
+    let q : WriterNotes g.row.T.Denot = begun_with p b item in
     let pair : not c.is_one-pair.result ≡ not b = ap not (c.is_one-pair.ensures b t.2) in
-    let index : not c.bit_of-index.result ≡ not (side p.remembered (not b)) = ap not (c.bit_of-index.ensures ∙ (λ i. side (sym put.bits i) (pair i))) in
-    let slot : c.slot_of-slot.result ≡ slot_number q.place = c.slot_of-slot.ensures ∙ (λ i. slot_number (place_of (pair i) (index i))) in
+    let index : not c.bit_of-index.result ≡ not (side p.remembered (not b)) =
+    ap not (c.bit_of-index.ensures ∙ (λ i. side (sym put.bits i) (pair i))) in
+    let slot : c.slot_of-slot.result ≡ slot_number q.slot = c.slot_of-slot.ensures ∙ (λ i. slot_number (slot_with (pair i) (index i))) in
     let now = c.fill.ensures.filled in let me0 = ap (λ m. m.0) now ∙ t.3 in let me1 = ap (λ m. m.1) now ∙ (λ i. (slot i, item) ∷ []) in
     let word : c.word_of-word.result ≡ 2 + bit_number (not b) = c.word_of-word.ensures ∙ ap (λ z. 2 + bit_number z) pair in
     let v = c.store.ensures.stored q me0 me1 in let q2 : WriterNotes g.row.T.Denot = stored_by q in
@@ -59,18 +102,30 @@ invariant_of-put g c = let item : g.row.T.Denot = g.L.Lays.whole c.args.parts.no
       known = λ i. ((w ∙ ap (λ z. Writer (writer_or d' z)) (sym w)) i, (u.1 ∙ v.1) i);
       idle = ap (λ z. (writer_or d' z).stage) w;
       bits = ap (λ z. (writer_or d' z).remembered) w ∙ ((λ i. with_side (put.bits i) (sym pair i) (sym index i)) ∙ sym c.set_bit.ensures);
-      newest = ap (λ z. (writer_or d' z).finished.value) w ∙ sym (ap (λ z. last_or {T = g.row.T.Denot} (writer_or d' z).opening.value (writer_or d' z).written) w ∙ last_snoc p.opening.value p.written item);
+      newest = ap (λ z. (writer_or d' z).finished.value) w
+          ∙ sym (ap (λ z. last_or {T = g.row.T.Denot} (writer_or d' z).opening.value (writer_or d' z).written) w
+          ∙ last_snoc p.opening.value p.written item);
     }
 
 pub returns : goal.returns
-returns g c = let item : g.row.T.Denot = g.L.Lays.whole c.args.parts.now in let put = c.args.put.now in let d : WriterNotes g.row.T.Denot = first_writer put.spare in let p : WriterNotes g.row.T.Denot = writer_or d put.seat.inner.me.0 in let is : put.seat.inner.me.0 ≡ Writer p = ap (λ m. m.0) put.known in
-    let t = c.begin-reading.ensures.begun p item is (ap (λ z. z ∷ []) c.name-named.ensures) in let b : Bool = t.0 in let q : WriterNotes g.row.T.Denot = begun_with p b item in
+returns g c =
+    let item : g.row.T.Denot = g.L.Lays.whole c.args.parts.now in
+    let put = c.args.put.now in
+    let d : WriterNotes g.row.T.Denot = first_writer put.spare in
+    let p : WriterNotes g.row.T.Denot = writer_or d put.seat.inner.me.0 in
+    let is : put.seat.inner.me.0 ≡ Writer p = ap (λ m. m.0) put.known in
+    let t = c.begin-reading.ensures.begun p item is (ap (λ z. z ∷ []) c.name-named.ensures) in
+    let b : Bool = t.0 in
+    let q : WriterNotes g.row.T.Denot = begun_with p b item in
     let pair : not c.is_one-pair.result ≡ not b = ap not (c.is_one-pair.ensures b t.2) in
-    let index : not c.bit_of-index.result ≡ not (side p.remembered (not b)) = ap not (c.bit_of-index.ensures ∙ (λ i. side (sym put.bits i) (pair i))) in
-    let slot : c.slot_of-slot.result ≡ slot_number q.place = c.slot_of-slot.ensures ∙ (λ i. slot_number (place_of (pair i) (index i))) in
+    let index : not c.bit_of-index.result ≡ not (side p.remembered (not b)) =
+    ap not (c.bit_of-index.ensures ∙ (λ i. side (sym put.bits i) (pair i))) in
+    let slot : c.slot_of-slot.result ≡ slot_number q.slot = c.slot_of-slot.ensures ∙ (λ i. slot_number (slot_with (pair i) (index i))) in
     let now = c.fill.ensures.filled in let me0 = ap (λ m. m.0) now ∙ t.3 in let me1 = ap (λ m. m.1) now ∙ (λ i. (slot i, item) ∷ []) in
     let v = c.store.ensures.stored q me0 me1 in let q2 : WriterNotes g.row.T.Denot = stored_by q in
-    let w = (c.finish.ensures.finished q2 v.0).0 in let same : c.finish.new.seat.inner.table_id ≡ put.seat.inner.table_id = search rules in record {
+    let w = (c.finish.ensures.finished q2 v.0).0 in
+    let same : c.finish.new.seat.inner.table_id ≡ put.seat.inner.table_id = search rules in
+    record {
       own = (λ i. record { table = same i; opening = (writer_or d (w i)).opening.value }) ∙ c.requires.own;
       written = ap (λ z. (writer_or d z).written) w;
       accesses = ap (λ z. (writer_or d z).accesses) w ∙ (let e : p.accesses + 1 + 1 + 1 ≡ p.accesses + 3 = omega arith in e);

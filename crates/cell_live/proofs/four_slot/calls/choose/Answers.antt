@@ -1,25 +1,33 @@
--- Each access tells the notes what it found: after the third the pass holds the slot that it named, and the rule says that the record in it may be the answer.
+-- Each access tells the notes what it found: after the third the pass holds the slot that it named, and the rule says that the record in it
+-- may be the answer.
 use Rattle.std.proofs.Common.{rules, arith, ◌≡◌, ◌+◌, ◌∷◌, ◌++◌, [], sym, ap, ◌∙◌, subst, refl}
-use Rattle.fourslot_core.specs.Events.{place_of, bit_number, slot_number}
+use Rattle.fourslot_core.specs.Events.{slot_with, bit_number, slot_number}
 use Rattle.cell_live.specs.Running.{IsAnswer, snap}
-use Rattle.cell_live.specs.four_slot.Steps.{first_reader, reader_or, asked_by, said_by, slot_of_choice}
+use Rattle.cell_live.specs.Sights.{reader_or}
+use Rattle.cell_live.specs.four_slot.Steps.{first_reader, asked_by, said_by, slot_of_choice}
 use Rattle.cell_live.specs.declared.four_slot.notes.ReaderNotes.{ReaderNotes}
-use Rattle.cell_live.specs.declared.four_slot.notes.Sight.TheVariants.{Reader}
+use Rattle.cell_live.specs.declared.sight.Sight.TheVariants.{Reader}
 use Rattle.fourslot_core.specs.declared.event.ReadEvent.TheVariants.{R1, R2, R3, R4, R5}
-use Rattle.cell_live.proofs.FourEvents.{read_joined}
+use Rattle.cell_live.proofs.four_slot.Events.{read_joined}
 use Rattle.cell_live.proofs.four_slot.calls.choose.Goals as goal
 
 pub ask-latest-requires-clause-idle : goal.ask-latest-requires-clause-idle
-ask-latest-requires-clause-idle g c = let get = c.args.get.now in let n : ReaderNotes g.row.T.Denot = reader_or (first_reader get.spare) get.seat.inner.me.0 in
+ask-latest-requires-clause-idle g c =
+    let get = c.args.get.now in
+    let n : ReaderNotes g.row.T.Denot = reader_or (first_reader get.spare) get.seat.inner.me.0 in
     (n, get.known, get.idle)
 
 pub say-requires-clause-asked : goal.say-requires-clause-asked
-say-requires-clause-asked g c = let get = c.args.get.now in let n : ReaderNotes g.row.T.Denot = reader_or (first_reader get.spare) get.seat.inner.me.0 in
+say-requires-clause-asked g c =
+    let get = c.args.get.now in
+    let n : ReaderNotes g.row.T.Denot = reader_or (first_reader get.spare) get.seat.inner.me.0 in
     let a = c.ask-latest.ensures.asked n get.known in let n1 : ReaderNotes g.row.T.Denot = asked_by n a.0 in
     (n1, (λ i. (a.2 i, (a.3 ∙ get.holds) i)), refl, a.1)
 
 pub take-bit-requires-clause-said : goal.take-bit-requires-clause-said
-take-bit-requires-clause-said g c = let get = c.args.get.now in let n : ReaderNotes g.row.T.Denot = reader_or (first_reader get.spare) get.seat.inner.me.0 in
+take-bit-requires-clause-said g c =
+    let get = c.args.get.now in
+    let n : ReaderNotes g.row.T.Denot = reader_or (first_reader get.spare) get.seat.inner.me.0 in
     let a = c.ask-latest.ensures.asked n get.known in let n1 : ReaderNotes g.row.T.Denot = asked_by n a.0 in
     let b = c.say.ensures.said n1 a.2 (a.3 ∙ get.holds) in let n2 : ReaderNotes g.row.T.Denot = said_by n1 in
     let pair : c.is_one-pair.result ≡ a.0 = c.is_one-pair.ensures a.0 a.1 in
@@ -27,7 +35,9 @@ take-bit-requires-clause-said g c = let get = c.args.get.now in let n : ReaderNo
     (n2, (λ i. (b.0 i, b.1 i)), refl, word)
 
 pub invariant_of-get : goal.invariant_of-get
-invariant_of-get g c = let get = c.args.get.now in let n : ReaderNotes g.row.T.Denot = reader_or (first_reader get.spare) get.seat.inner.me.0 in
+invariant_of-get g c =
+    let get = c.args.get.now in
+    let n : ReaderNotes g.row.T.Denot = reader_or (first_reader get.spare) get.seat.inner.me.0 in
     let a = c.ask-latest.ensures.asked n get.known in let n1 : ReaderNotes g.row.T.Denot = asked_by n a.0 in
     let b = c.say.ensures.said n1 a.2 (a.3 ∙ get.holds) in let n2 : ReaderNotes g.row.T.Denot = said_by n1 in
     let t = c.take-bit.ensures.taken n2 b.0 in let d : ReaderNotes g.row.T.Denot = first_reader get.spare in let v = t.3 in
@@ -44,14 +54,17 @@ returns g c = let get = c.args.get.now in let n : ReaderNotes g.row.T.Denot = re
     let t = c.take-bit.ensures.taken n2 b.0 in let d : ReaderNotes g.row.T.Denot = first_reader get.spare in let v = t.3 in
     let pair : c.is_one-pair.result ≡ a.0 = c.is_one-pair.ensures a.0 a.1 in
     let index : c.is_one-index.result ≡ t.0 = c.is_one-index.ensures t.0 t.2 in
-    let slot : c.slot_of.result ≡ slot_number (place_of a.0 t.0) = c.slot_of.ensures ∙ (λ i. slot_number (place_of (pair i) (index i))) in
+    let slot : c.slot_of.result ≡ slot_number (slot_with a.0 t.0) = c.slot_of.ensures ∙ (λ i. slot_number (slot_with (pair i) (index i))) in
     let same : c.take-bit.new.seat.inner.table_id ≡ get.seat.inner.table_id = search rules in record {
       own = (λ i. record { table = same i; opening = (reader_or d (v i)).opening.value }) ∙ c.requires;
       answers = ap (λ z. (reader_or d z).answers) v ∙ (λ i. n.answers ++ (reader_or d (sym v i)).at_hand.value ∷ []);
       told = ap (λ z. (reader_or d z).told) v;
-      running = subst (λ (z : g.row.T.Denot × g.row.T.Denot). IsAnswer g.T.Lawful.fits g.T.Lawful.rises z.0 n.answers n.told z.1) (λ i. ((c.requires i).opening, (reader_or d (sym v i)).at_hand.value)) t.5;
+      running = subst (λ (z : g.row.T.Denot × g.row.T.Denot). IsAnswer g.T.Lawful.fits g.T.Lawful.rises z.0 n.answers n.told z.1)
+          (λ i. ((c.requires i).opening, (reader_or d (sym v i)).at_hand.value)) t.5;
       accesses = ap (λ z. (reader_or d z).accesses) v ∙ (let f : n.accesses + 1 + 1 + 1 ≡ n.accesses + 3 = omega arith in f);
-      events = ap (λ z. (reader_or d z).events) v ∙ ((λ i. ((n.events ++ R1 ∷ []) ++ R2 ∷ []) ++ R3 ∷ R4 ∷ R5 (snap (reader_or d (sym v i)).at_hand.value) ∷ []) ∙ read_joined n.events R1 R2 R3 R4 (R5 (snap (reader_or d c.take-bit.new.seat.inner.me.0).at_hand.value)));
+      events = ap (λ z. (reader_or d z).events) v
+          ∙ ((λ i. ((n.events ++ R1 ∷ []) ++ R2 ∷ []) ++ R3 ∷ R4 ∷ R5 (snap (reader_or d (sym v i)).at_hand.value) ∷ [])
+          ∙ read_joined n.events R1 R2 R3 R4 (R5 (snap (reader_or d c.take-bit.new.seat.inner.me.0).at_hand.value)));
       held = t.4 ∙ (λ i. (sym slot i, (reader_or d (sym v i)).at_hand.value) ∷ []);
-      chosen = ap (λ z. slot_number (reader_or d z).place) v ∙ sym slot;
+      chosen = ap (λ z. slot_number (reader_or d z).slot) v ∙ sym slot;
     }

@@ -9,5 +9,6 @@ pub loop-i-preserved : goal.loop-i-preserved
 loop-i-preserved g c =
     let o = g.C.Calls.opening c.args.cell.now in (
       c.write.ensures.own,
-      ap (λ (xs : List Three). (last_or o xs).first) c.write.ensures.written ∙ ap (λ (x : Three). x.first) (last_snoc o (g.C.Calls.written c.loop-i.put) c.of.result) ∙ c.of.ensures.0,
+      ap (λ (xs : List Three). (last_or o xs).first) c.write.ensures.written
+          ∙ ap (λ (x : Three). x.first) (last_snoc o (g.C.Calls.written c.loop-i.put) c.of.result) ∙ c.of.ensures.0,
     )

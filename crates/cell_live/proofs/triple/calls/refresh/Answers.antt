@@ -1,32 +1,51 @@
 -- The load tells the notes whether the word had the mark: without it the answer is at hand, with it the swap brings it.
 use Rattle.std.proofs.Common.{rules, arith, ◌≡◌, ◌+◌, ◌%◌, ◌∷◌, ◌++◌, [], sym, ap, ◌∙◌, subst, refl}
 use Rattle.cell_live.specs.Running.{IsAnswer}
-use Rattle.cell_live.specs.triple.Steps.{first_reader, reader_or}
+use Rattle.cell_live.specs.Sights.{reader_or}
+use Rattle.cell_live.specs.triple.Steps.{first_reader}
 use Rattle.cell_live.specs.declared.triple.notes.ReaderNotes.{ReaderNotes}
-use Rattle.cell_live.specs.declared.triple.notes.Sight.TheVariants.{Reader}
+use Rattle.cell_live.specs.declared.sight.Sight.TheVariants.{Reader}
 use Rattle.cell_live.proofs.triple.calls.refresh.Goals as goal
 
 pub look-found-requires-clause-idle : goal.look-found-requires-clause-idle
-look-found-requires-clause-idle g c = let get = c.args.get.now in let n : ReaderNotes g.row.T.Denot = reader_or (first_reader get.spare) get.seat.inner.me.0 in (n, get.known, get.ready.2)
+look-found-requires-clause-idle g c =
+    let get = c.args.get.now in
+    let n : ReaderNotes g.row.T.Denot = reader_or (first_reader get.spare) get.seat.inner.me.0 in
+    (n, get.known, get.ready.2)
 
 pub invariant_of-get : goal.invariant_of-get
-invariant_of-get g c = let get = c.args.get.now in let d : ReaderNotes g.row.T.Denot = first_reader get.spare in let n : ReaderNotes g.row.T.Denot = reader_or d get.seat.inner.me.0 in
+invariant_of-get g c =
+    let get = c.args.get.now in
+    let d : ReaderNotes g.row.T.Denot = first_reader get.spare in
+    let n : ReaderNotes g.row.T.Denot = reader_or d get.seat.inner.me.0 in
     let t = c.look-found.ensures.looked n get.known in let v = (t.2 c.if-found-lt4.true).0 in let had = t.0 ∙ get.held in record {
       known = v ∙ ap (λ z. Reader (reader_or d z)) (sym v);
-      ready = (ap (λ z. (reader_or d z).has) v ∙ get.ready.0, ap (λ z. (reader_or d z).slot) v ∙ get.ready.1, ap (λ z. (reader_or d z).asked) v);
+      ready = (
+        ap (λ z. (reader_or d z).has) v ∙ get.ready.0,
+        ap (λ z. (reader_or d z).slot) v ∙ get.ready.1,
+        ap (λ z. (reader_or d z).asked) v,
+      );
       held = had ∙ (λ i. (get.slot, (reader_or d (sym v i)).at_hand.value) ∷ []);
       low = get.low;
     }
 
 pub returns-then-found-lt4 : goal.returns-then-found-lt4
-returns-then-found-lt4 g c = let get = c.args.get.now in let d : ReaderNotes g.row.T.Denot = first_reader get.spare in let n : ReaderNotes g.row.T.Denot = reader_or d get.seat.inner.me.0 in
+returns-then-found-lt4 g c =
+    let get = c.args.get.now in
+    let d : ReaderNotes g.row.T.Denot = first_reader get.spare in
+    let n : ReaderNotes g.row.T.Denot = reader_or d get.seat.inner.me.0 in
     let u = (c.look-found.ensures.looked n get.known).2 c.if-found-lt4.true in let v = u.0 in
-    let same : c.look-found.new.seat.inner.table_id ≡ get.seat.inner.table_id = search rules in let loads = ap (λ z. (reader_or d z).loads) v in
-    let swaps = ap (λ z. (reader_or d z).swaps) v in let found = ap (λ z. (reader_or d z).found) v in let low = c.if-found-lt4.true in record {
+    let same : c.look-found.new.seat.inner.table_id ≡ get.seat.inner.table_id = search rules in
+    let loads = ap (λ z. (reader_or d z).loads) v in
+    let swaps = ap (λ z. (reader_or d z).swaps) v in
+    let found = ap (λ z. (reader_or d z).found) v in
+    let low = c.if-found-lt4.true in
+    record {
       own = (λ i. record { table = same i; opening = (reader_or d (v i)).opening.value }) ∙ c.requires;
       answers = ap (λ z. (reader_or d z).answers) v ∙ (λ i. n.answers ++ (reader_or d (sym v i)).at_hand.value ∷ []);
       told = ap (λ z. (reader_or d z).told) v;
-      running = subst (λ (z : g.row.T.Denot × g.row.T.Denot). IsAnswer g.T.Lawful.fits g.T.Lawful.rises z.0 n.answers n.told z.1) (λ i. ((c.requires i).opening, (reader_or d (sym v i)).at_hand.value)) u.1;
+      running = subst (λ (z : g.row.T.Denot × g.row.T.Denot). IsAnswer g.T.Lawful.fits g.T.Lawful.rises z.0 n.answers n.told z.1)
+          (λ i. ((c.requires i).opening, (reader_or d (sym v i)).at_hand.value)) u.1;
       loaded = loads;
       unmarked = λ _. swaps;
       marked = λ high. omega arith;
@@ -34,15 +53,27 @@ returns-then-found-lt4 g c = let get = c.args.get.now in let d : ReaderNotes g.r
     }
 
 pub fetch-taken-requires-clause-marked : goal.fetch-taken-requires-clause-marked
-fetch-taken-requires-clause-marked g c = let get = c.args.get.now in let n : ReaderNotes g.row.T.Denot = reader_or (first_reader get.spare) get.seat.inner.me.0 in
-    let m : ReaderNotes g.row.T.Denot = record n { found = c.look-found.result; asked = 1; loads = n.loads + 1 } in let t = c.look-found.ensures.looked n get.known in let had = t.0 ∙ get.held in
-    let view : c.look-found.new.seat.inner.me.0 ≡ Reader m = t.1 c.if-found-lt4.false in (m, (λ i. (view i, (had ∙ (λ i. (sym get.ready.1 i, n.at_hand.value) ∷ [])) i)), get.ready.0, refl, sym get.ready.1)
+fetch-taken-requires-clause-marked g c =
+    let get = c.args.get.now in
+    let n : ReaderNotes g.row.T.Denot = reader_or (first_reader get.spare) get.seat.inner.me.0 in
+    let m : ReaderNotes g.row.T.Denot = record n { found = c.look-found.result; asked = 1; loads = n.loads + 1 } in
+    let t = c.look-found.ensures.looked n get.known in
+    let had = t.0 ∙ get.held in
+    let view : c.look-found.new.seat.inner.me.0 ≡ Reader m = t.1 c.if-found-lt4.false in
+    (m, (λ i. (view i, (had ∙ (λ i. (sym get.ready.1 i, n.at_hand.value) ∷ [])) i)), get.ready.0, refl, sym get.ready.1)
 
 pub invariant_of-get-2 : goal.invariant_of-get-2
-invariant_of-get-2 g c = let get = c.args.get.now in let d : ReaderNotes g.row.T.Denot = first_reader get.spare in let n : ReaderNotes g.row.T.Denot = reader_or d get.seat.inner.me.0 in
-    let m : ReaderNotes g.row.T.Denot = record n { found = c.look-found.result; asked = 1; loads = n.loads + 1 } in let t = c.look-found.ensures.looked n get.known in let had = t.0 ∙ get.held in
+invariant_of-get-2 g c =
+    let get = c.args.get.now in
+    let d : ReaderNotes g.row.T.Denot = first_reader get.spare in
+    let n : ReaderNotes g.row.T.Denot = reader_or d get.seat.inner.me.0 in
+    let m : ReaderNotes g.row.T.Denot = record n { found = c.look-found.result; asked = 1; loads = n.loads + 1 } in
+    let t = c.look-found.ensures.looked n get.known in
+    let had = t.0 ∙ get.held in
     let view : c.look-found.new.seat.inner.me.0 ≡ Reader m = t.1 c.if-found-lt4.false in
-    let u = c.fetch-taken.ensures.swapped m n.at_hand.value view (had ∙ (λ i. (sym get.ready.1 i, n.at_hand.value) ∷ [])) refl in let v = u.2 in record {
+    let u = c.fetch-taken.ensures.swapped m n.at_hand.value view (had ∙ (λ i. (sym get.ready.1 i, n.at_hand.value) ∷ [])) refl in
+    let v = u.2 in
+    record {
       known = v ∙ ap (λ z. Reader (reader_or d z)) (sym v);
       ready = (ap (λ z. (reader_or d z).has) v ∙ get.ready.0, ap (λ z. (reader_or d z).slot) v, ap (λ z. (reader_or d z).asked) v);
       held = u.3 ∙ (λ i. ((c.fetch-taken.result % 4), (reader_or d (sym v i)).at_hand.value) ∷ []);
@@ -50,16 +81,27 @@ invariant_of-get-2 g c = let get = c.args.get.now in let d : ReaderNotes g.row.T
     }
 
 pub returns : goal.returns
-returns g c = let get = c.args.get.now in let d : ReaderNotes g.row.T.Denot = first_reader get.spare in let n : ReaderNotes g.row.T.Denot = reader_or d get.seat.inner.me.0 in
-    let m : ReaderNotes g.row.T.Denot = record n { found = c.look-found.result; asked = 1; loads = n.loads + 1 } in let t = c.look-found.ensures.looked n get.known in let had = t.0 ∙ get.held in
+returns g c =
+    let get = c.args.get.now in
+    let d : ReaderNotes g.row.T.Denot = first_reader get.spare in
+    let n : ReaderNotes g.row.T.Denot = reader_or d get.seat.inner.me.0 in
+    let m : ReaderNotes g.row.T.Denot = record n { found = c.look-found.result; asked = 1; loads = n.loads + 1 } in
+    let t = c.look-found.ensures.looked n get.known in
+    let had = t.0 ∙ get.held in
     let view : c.look-found.new.seat.inner.me.0 ≡ Reader m = t.1 c.if-found-lt4.false in
-    let u = c.fetch-taken.ensures.swapped m n.at_hand.value view (had ∙ (λ i. (sym get.ready.1 i, n.at_hand.value) ∷ [])) refl in let v = u.2 in
-    let same : c.fetch-taken.new.seat.inner.table_id ≡ get.seat.inner.table_id = search rules in let loads = ap (λ z. (reader_or d z).loads) v in
-    let swaps = ap (λ z. (reader_or d z).swaps) v in let found = ap (λ z. (reader_or d z).found) v in let high = c.if-found-lt4.false in record {
+    let u = c.fetch-taken.ensures.swapped m n.at_hand.value view (had ∙ (λ i. (sym get.ready.1 i, n.at_hand.value) ∷ [])) refl in
+    let v = u.2 in
+    let same : c.fetch-taken.new.seat.inner.table_id ≡ get.seat.inner.table_id = search rules in
+    let loads = ap (λ z. (reader_or d z).loads) v in
+    let swaps = ap (λ z. (reader_or d z).swaps) v in
+    let found = ap (λ z. (reader_or d z).found) v in
+    let high = c.if-found-lt4.false in
+    record {
       own = (λ i. record { table = same i; opening = (reader_or d (v i)).opening.value }) ∙ c.requires;
       answers = ap (λ z. (reader_or d z).answers) v ∙ (λ i. n.answers ++ (reader_or d (sym v i)).at_hand.value ∷ []);
       told = ap (λ z. (reader_or d z).told) v;
-      running = subst (λ (z : g.row.T.Denot × g.row.T.Denot). IsAnswer g.T.Lawful.fits g.T.Lawful.rises z.0 n.answers n.told z.1) (λ i. ((c.requires i).opening, (reader_or d (sym v i)).at_hand.value)) u.4;
+      running = subst (λ (z : g.row.T.Denot × g.row.T.Denot). IsAnswer g.T.Lawful.fits g.T.Lawful.rises z.0 n.answers n.told z.1)
+          (λ i. ((c.requires i).opening, (reader_or d (sym v i)).at_hand.value)) u.4;
       loaded = loads;
       unmarked = λ low. omega arith;
       marked = λ _. swaps;

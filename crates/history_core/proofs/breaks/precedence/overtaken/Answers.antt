@@ -10,15 +10,21 @@ loop-entry-init g c = record { none = λ x y a b xy l. absurd (omega arith); las
 
 pub returns-then-is_before-clause-some : goal.returns-then-is_before-clause-some
 returns-then-is_before-clause-some g c =
-    let at = listed_read c.args.ops.now c.args.order.now c.loop-entry.entry c.index-ops-place.result c.requires (omega arith) c.index-ops-place.is in
+    let at = listed_read c.args.ops.now c.args.order.now c.loop-entry.entry c.index-ops-place.result c.requires
+    (omega arith) c.index-ops-place.is in
     overtaken_at _ _ _ _ _ at c.loop-entry.invariant.last c.loop-entry.invariant.none (c.is_before.ensures.0 c.if-is_before.true)
 
 pub loop-entry-preserved : goal.loop-entry-preserved
 loop-entry-preserved g c =
-    let at = listed_read c.args.ops.now c.args.order.now c.loop-entry.entry c.index-ops-place.result c.requires (omega arith) c.index-ops-place.is in
+    let at = listed_read c.args.ops.now c.args.order.now c.loop-entry.entry c.index-ops-place.result c.requires
+    (omega arith) c.index-ops-place.is in
     record {
-      none = none_more _ _ _ _ _ at c.loop-entry.invariant.last (λ before. let t = c.is_before.ensures.1 before in cc) c.loop-entry.invariant.none;
-      last = let P : Begun → Type 0 = λ z. IsLast c.args.ops.now c.args.order.now (c.loop-entry.entry + 1) z in subst P (sym c.later-last.ensures) (last_more _ _ _ _ _ at c.loop-entry.invariant.last);
+      none = none_more _ _ _ _ _ at c.loop-entry.invariant.last (λ before.
+          let t = c.is_before.ensures.1 before in
+          cc) c.loop-entry.invariant.none;
+      last =
+          let P : Begun → Type 0 = λ z. IsLast c.args.ops.now c.args.order.now (c.loop-entry.entry + 1) z in
+          subst P (sym c.later-last.ensures) (last_more _ _ _ _ _ at c.loop-entry.invariant.last);
     }
 
 pub returns-clause-none : goal.returns-clause-none

@@ -9,12 +9,15 @@ use Rattle.history_core.proofs.breaks.reading.reading_break.Goals as goal
 
 pub returns-in-Err-clause-some : goal.returns-in-Err-clause-some
 returns-in-Err-clause-some g c =
-    let at = listed_read c.args.ops.now c.args.order.now c.loop-entry.entry c.index-ops-place.result c.requires (omega arith) c.index-ops-place.is in
-    reading_at _ _ _ _ _ _ _ _ _ at c.loop-entry.invariant.held c.loop-entry.invariant.reads c.loop-entry.invariant.last c.in-Err.ensures.wrong
+    let at = listed_read c.args.ops.now c.args.order.now c.loop-entry.entry c.index-ops-place.result c.requires
+    (omega arith) c.index-ops-place.is in
+    reading_at _ _ _ _ _ _ _ _ _ at c.loop-entry.invariant.held c.loop-entry.invariant.reads
+    c.loop-entry.invariant.last c.in-Err.ensures.wrong
 
 pub loop-entry-preserved : goal.loop-entry-preserved
 loop-entry-preserved g c =
-    let at = listed_read c.args.ops.now c.args.order.now c.loop-entry.entry c.index-ops-place.result c.requires (omega arith) c.index-ops-place.is in
+    let at = listed_read c.args.ops.now c.args.order.now c.loop-entry.entry c.index-ops-place.result c.requires
+    (omega arith) c.index-ops-place.is in
     let L : Option ℕ → Type 0 = λ z. IsLastWrite c.args.ops.now c.args.order.now (c.loop-entry.entry + 1) z in
     record {
       reads = reads_step _ _ _ _ _ _ _ at c.loop-entry.invariant.held c.in-Ok.ensures.right c.loop-entry.invariant.reads;

@@ -18,7 +18,8 @@ loop-k-preserved g c =
     let t : Term = get_or c.args.terms.now (c.loop-k.k - 1) (record { first = 0; limit = 0 }) in
     let is : t ≡ get_or c.args.terms.now (c.loop-k.k - 1) t = get_or_default c.args.terms.now (c.loop-k.k - 1) _ _ (omega arith) in
     rw c.min-next.ensures
-    (searched_more c.args.terms.now c.args.ops.now c.args.order.now c.loop-k.k (c.loop-k.k - 1) c.loop-k.next t c.loop-k.found _ c.requires (omega arith) (omega arith) is c.loop-k.invariant c.early_before-found.ensures.lawful c.early_before-found.ensures.early)
+    (searched_more c.args.terms.now c.args.ops.now c.args.order.now c.loop-k.k (c.loop-k.k - 1) c.loop-k.next t c.loop-k.found _ c.requires
+    (omega arith) (omega arith) is c.loop-k.invariant c.early_before-found.ensures.lawful c.early_before-found.ensures.early)
 
 pub early_before-found-requires-clause-within : goal.early_before-found-requires-clause-within
 early_before-found-requires-clause-within g c = c.loop-k.invariant.within

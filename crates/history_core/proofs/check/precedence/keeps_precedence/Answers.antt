@@ -6,18 +6,24 @@ use Rattle.history_core.proofs.check.precedence.keeps_precedence.Goals as goal
 
 pub returns-then-is_before : goal.returns-then-is_before
 returns-then-is_before g c =
-    let at = listed_read c.args.ops.now c.args.order.now (c.loop-i.i - 1) c.index-ops-order.result c.requires (omega arith) c.index-ops-order.is in (
+    let at = listed_read c.args.ops.now c.args.order.now (c.loop-i.i - 1) c.index-ops-order.result c.requires
+    (omega arith) c.index-ops-order.is in (
       λ t. cc,
-      λ kept. absurd (broken_at _ _ c.loop-i.i _ _ _ (omega arith) at c.loop-i.invariant.least (c.is_before.ensures.0 c.if-is_before.true) kept),
+      λ kept. absurd
+          (broken_at _ _ c.loop-i.i _ _ _ (omega arith) at c.loop-i.invariant.least (c.is_before.ensures.0 c.if-is_before.true) kept),
     )
 
 pub loop-i-preserved : goal.loop-i-preserved
 loop-i-preserved g c =
-    let at = listed_read c.args.ops.now c.args.order.now (c.loop-i.i - 1) c.index-ops-order.result c.requires (omega arith) c.index-ops-order.is in
+    let at = listed_read c.args.ops.now c.args.order.now (c.loop-i.i - 1) c.index-ops-order.result c.requires
+    (omega arith) c.index-ops-order.is in
     record {
       least = rw c.earlier-least.ensures (least_step _ _ c.loop-i.i _ _ _ (omega arith) at c.loop-i.invariant.least);
-      none = none_step _ _ c.loop-i.i _ _ _ (omega arith) at c.loop-i.invariant.least (λ before. let t = c.is_before.ensures.1 before in cc) c.loop-i.invariant.none;
+      none = none_step _ _ c.loop-i.i _ _ _ (omega arith) at c.loop-i.invariant.least (λ before.
+          let t = c.is_before.ensures.1 before in
+          cc) c.loop-i.invariant.none;
     }
 
 pub returns : goal.returns
-returns g c = (λ t. keeps_from_none _ _ (λ x y a b ix xy ax by pre. c.loop-i.invariant.none x y a b (omega arith) xy ax by pre), λ kept. refl)
+returns g c =
+    (λ t. keeps_from_none _ _ (λ x y a b ix xy ax by pre. c.loop-i.invariant.none x y a b (omega arith) xy ax by pre), λ kept. refl)

@@ -7,12 +7,14 @@ use Rattle.history_core.proofs.check.reading.reads_latest.Goals as goal
 
 pub returns-in-None : goal.returns-in-None
 returns-in-None g c =
-    let at = listed_read c.args.ops.now c.args.order.now c.loop-place.place-index c.index-ops-place.result c.requires (omega arith) c.index-ops-place.is in
+    let at = listed_read c.args.ops.now c.args.order.now c.loop-place.place-index c.index-ops-place.result c.requires
+    (omega arith) c.index-ops-place.is in
     (λ t. cc, λ all. absurd (c.in-None.ensures.wrong (reads_broken _ _ _ _ _ _ _ at c.loop-place.invariant.held all)))
 
 pub loop-place-preserved : goal.loop-place-preserved
 loop-place-preserved g c =
-    let at = listed_read c.args.ops.now c.args.order.now c.loop-place.place-index c.index-ops-place.result c.requires (omega arith) c.index-ops-place.is in
+    let at = listed_read c.args.ops.now c.args.order.now c.loop-place.place-index c.index-ops-place.result c.requires
+    (omega arith) c.index-ops-place.is in
     record {
       reads = reads_step _ _ _ _ _ _ _ at c.loop-place.invariant.held c.in-Some.ensures.right c.loop-place.invariant.reads;
       held =

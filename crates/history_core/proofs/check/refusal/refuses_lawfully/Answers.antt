@@ -13,7 +13,9 @@ returns-then-not-keeps_limit g c =
     let t : Term = get_or c.args.terms.now (c.loop-k.k - 1) (record { first = 0; limit = 0 }) in
     let is : t ≡ get_or c.args.terms.now (c.loop-k.k - 1) t = get_or_default c.args.terms.now (c.loop-k.k - 1) _ _ (omega arith) in (
       λ h. cc,
-      λ all. let kept = terms_broken c.args.terms.now c.args.ops.now c.args.order.now c.loop-k.k (c.loop-k.k - 1) c.loop-k.next t c.requires (omega arith) (omega arith) is c.loop-k.invariant all in
+      λ all.
+          let kept = terms_broken c.args.terms.now c.args.ops.now c.args.order.now c.loop-k.k (c.loop-k.k - 1) c.loop-k.next t c.requires
+          (omega arith) (omega arith) is c.loop-k.invariant all in
           let yes = c.keeps_limit.ensures.1 kept in cc,
     )
 
@@ -22,7 +24,8 @@ loop-k-preserved g c =
     let t : Term = get_or c.args.terms.now (c.loop-k.k - 1) (record { first = 0; limit = 0 }) in
     let is : t ≡ get_or c.args.terms.now (c.loop-k.k - 1) t = get_or_default c.args.terms.now (c.loop-k.k - 1) _ _ (omega arith) in
     rw c.min-next.ensures
-    (terms_step c.args.terms.now c.args.ops.now c.args.order.now c.loop-k.k (c.loop-k.k - 1) c.loop-k.next t c.requires (omega arith) (omega arith) is c.loop-k.invariant (c.keeps_limit.ensures.0 c.if-not-keeps_limit.false))
+    (terms_step c.args.terms.now c.args.ops.now c.args.order.now c.loop-k.k (c.loop-k.k - 1) c.loop-k.next t c.requires (omega arith)
+    (omega arith) is c.loop-k.invariant (c.keeps_limit.ensures.0 c.if-not-keeps_limit.false))
 
 pub returns : goal.returns
 returns g c = (λ t j u e. c.loop-k.invariant.kept j u (omega arith) e, λ all. refl)

@@ -1,20 +1,30 @@
 -- Between two writes the last finished record is the last one written, and the seat parted off names it.
 use Rattle.std.proofs.Common.{◌≡◌, ap, sym, ◌∙◌, []}
 use Rattle.cell_live.specs.Running.{last_or, snap}
-use Rattle.cell_live.specs.four_slot.Steps.{receipt_for, receipt_or, first_writer, writer_or}
+use Rattle.cell_live.specs.Sights.{receipt_or, writer_or}
+use Rattle.cell_live.specs.four_slot.Steps.{receipt_for, first_writer}
 use Rattle.cell_live.specs.declared.four_slot.notes.WriterNotes.{WriterNotes}
-use Rattle.cell_live.specs.declared.four_slot.notes.Sight.TheVariants.{Told}
+use Rattle.cell_live.specs.declared.sight.Sight.TheVariants.{Told}
 use Rattle.cell_live.proofs.four_slot.calls.FourSlotCellCalls.tell.Goals as goal
 
 pub tell-seat-requires-clause-idle : goal.tell-seat-requires-clause-idle
-tell-seat-requires-clause-idle g c = let put = c.args.put.now in let p : WriterNotes g.row.T.Denot = writer_or (first_writer put.spare) put.seat.inner.me.0 in (p, ap (λ m. m.0) put.known, put.idle)
+tell-seat-requires-clause-idle g c =
+    let put = c.args.put.now in
+    let p : WriterNotes g.row.T.Denot = writer_or (first_writer put.spare) put.seat.inner.me.0 in
+    (p, ap (λ m. m.0) put.known, put.idle)
 
 pub invariant_of-result : goal.invariant_of-result
-invariant_of-result g c = let put = c.args.put.now in let p : WriterNotes g.row.T.Denot = writer_or (first_writer put.spare) put.seat.inner.me.0 in
-    let e : c.tell-seat.result.inner.me ≡ (Told p.finished, []) = c.tell-seat.ensures.parted.1 ∙ (λ i. (receipt_for ((ap (λ m. m.0) put.known) i), [])) in
+invariant_of-result g c =
+    let put = c.args.put.now in
+    let p : WriterNotes g.row.T.Denot = writer_or (first_writer put.spare) put.seat.inner.me.0 in
+    let e : c.tell-seat.result.inner.me ≡ (Told p.finished, []) =
+    c.tell-seat.ensures.parted.1 ∙ (λ i. (receipt_for ((ap (λ m. m.0) put.known) i), [])) in
     record { known = e ∙ (λ i. (Told (snap (receipt_or put.spare (sym e i).0)), [])) }
 
 pub returns-clause-named : goal.returns-clause-named
-returns-clause-named g c = let put = c.args.put.now in let p : WriterNotes g.row.T.Denot = writer_or (first_writer put.spare) put.seat.inner.me.0 in
-    let e : c.tell-seat.result.inner.me ≡ (Told p.finished, []) = c.tell-seat.ensures.parted.1 ∙ (λ i. (receipt_for ((ap (λ m. m.0) put.known) i), [])) in
+returns-clause-named g c =
+    let put = c.args.put.now in
+    let p : WriterNotes g.row.T.Denot = writer_or (first_writer put.spare) put.seat.inner.me.0 in
+    let e : c.tell-seat.result.inner.me ≡ (Told p.finished, []) =
+    c.tell-seat.ensures.parted.1 ∙ (λ i. (receipt_for ((ap (λ m. m.0) put.known) i), [])) in
     ap (λ m. receipt_or put.spare m.0) e ∙ (put.newest ∙ ap (λ n. last_or {T = g.row.T.Denot} n.opening p.written) c.requires)

@@ -1,5 +1,5 @@
 -- The last state has the view with both lists, and the rule says that they are settled.
-use Rattle.cell_live.proofs.FourKeeps.{told_at_end}
+use Rattle.cell_live.proofs.four_slot.Keeps.{told_at_end}
 use Rattle.cell_live.proofs.four_slot.table.FourSlotTable.close.Goals as goal
 
 pub returns : goal.returns

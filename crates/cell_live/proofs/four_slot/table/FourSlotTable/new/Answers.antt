@@ -3,9 +3,10 @@ use Rattle.std.proofs.Common.{rules, ◌≡◌, [], ◌∷◌, List, sym, subst}
 use Rattle.atomic_table.specs.Table.{opening}
 use Rattle.cell_live.specs.four_slot.Rule.{FourSlotRule}
 use Rattle.cell_live.specs.four_slot.Steps.{first_sight}
-use Rattle.cell_live.proofs.FourKeeps.{starts}
+use Rattle.cell_live.proofs.four_slot.Keeps.{starts}
 use Rattle.cell_live.proofs.four_slot.table.FourSlotTable.new.Goals as goal
 
 pub new-requires : goal.new-requires
 new-requires g c = let e : c.push-4.new.self.items ≡ c.args.first ∷ c.args.first ∷ c.args.first ∷ c.args.first ∷ [] = search rules in
-    subst (λ (xs : List g.row.T.Denot). FourSlotRule g.T.Lawful.fits g.T.Lawful.rises c.args.first (opening (0 ∷ 0 ∷ 0 ∷ 0 ∷ []) xs (first_sight c.args.first))) (sym e) (starts g.T.Lawful.fits g.T.Lawful.rises c.args.first c.requires)
+    subst (λ (xs : List g.row.T.Denot). FourSlotRule g.T.Lawful.fits g.T.Lawful.rises c.args.first (opening (0 ∷ 0 ∷ 0 ∷ 0 ∷ []) xs
+    (first_sight c.args.first))) (sym e) (starts g.T.Lawful.fits g.T.Lawful.rises c.args.first c.requires)

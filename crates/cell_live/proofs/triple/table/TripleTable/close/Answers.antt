@@ -1,5 +1,5 @@
 -- The last state has the view with both lists, and the rule says that they are settled.
-use Rattle.cell_live.proofs.TripleKeeps.{told_at_end}
+use Rattle.cell_live.proofs.triple.Keeps.{told_at_end}
 use Rattle.cell_live.proofs.triple.table.TripleTable.close.Goals as goal
 
 pub returns : goal.returns

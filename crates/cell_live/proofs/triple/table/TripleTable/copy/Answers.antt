@@ -7,4 +7,5 @@ pub slot_mut-requires : goal.slot_mut-requires
 slot_mut-requires g c = (c.requires.own, may_exchange _ _ c.requires.held)
 
 pub returns-clause-copied : goal.returns-clause-copied
-returns-clause-copied g c = c.slot_mut.ensures.value ∙ ap (λ cs. (c.args.slot, c.slot_mut.result.now) ∷ cs) (none_behind _ _ c.requires.held)
+returns-clause-copied g c =
+    c.slot_mut.ensures.value ∙ ap (λ cs. (c.args.slot, c.slot_mut.result.now) ∷ cs) (none_behind _ _ c.requires.held)

@@ -3,9 +3,10 @@ use Rattle.std.proofs.Common.{rules, ◌≡◌, sym, subst, List, [], ◌∷◌}
 use Rattle.atomic_table.specs.Table.{opening}
 use Rattle.cell_live.specs.triple.Rule.{TripleRule}
 use Rattle.cell_live.specs.triple.Steps.{first_sight}
-use Rattle.cell_live.proofs.TripleKeeps.{starts}
+use Rattle.cell_live.proofs.triple.Keeps.{starts}
 use Rattle.cell_live.proofs.triple.table.TripleTable.new.Goals as goal
 
 pub new-requires : goal.new-requires
 new-requires g c = let e : c.push-3.new.self.items ≡ c.args.first ∷ c.args.first ∷ c.args.first ∷ [] = search rules in
-    subst (λ (xs : List g.row.T.Denot). TripleRule g.T.Lawful.fits g.T.Lawful.rises c.args.first (opening (1 ∷ []) xs (first_sight c.args.first))) (sym e) (starts g.T.Lawful.fits g.T.Lawful.rises c.args.first c.requires)
+    subst (λ (xs : List g.row.T.Denot). TripleRule g.T.Lawful.fits g.T.Lawful.rises c.args.first
+    (opening (1 ∷ []) xs (first_sight c.args.first))) (sym e) (starts g.T.Lawful.fits g.T.Lawful.rises c.args.first c.requires)

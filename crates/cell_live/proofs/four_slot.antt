@@ -1,0 +1,6 @@
+-- The rule of the four-slot cell is kept by each step.
+pub mod Clear
+pub mod Events
+pub mod Fresh
+pub mod Keeps
+pub mod Slots

@@ -1,0 +1,2 @@
+-- The rule of the triple buffer is kept by each step.
+pub mod Keeps

@@ -1,0 +1,3 @@
+-- What a report has of its operations, its run and its order.
+pub mod Accesses
+pub mod CellReports

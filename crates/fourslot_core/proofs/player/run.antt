@@ -1,0 +1,3 @@
+-- The run over numbered records.
+pub mod Numbers
+pub mod Traces

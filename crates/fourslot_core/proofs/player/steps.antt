@@ -1,0 +1,3 @@
+-- What the steps say of the operations.
+pub mod Counts
+pub mod Shape

@@ -1,0 +1,3 @@
+-- Slots, as intervals.
+pub mod Records
+pub mod Steps

@@ -1,0 +1,5 @@
+pub mod Earliest
+pub mod Ends
+pub mod Marks
+pub mod Ranges
+pub mod Searches
