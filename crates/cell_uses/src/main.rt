@@ -100,7 +100,8 @@ where
         rt,
         &mut ||
             requires { C.is_put cell.now sensor.now.put × ((last_or (C.opening cell.now) (C.written sensor.now.put)).number ≡ 0) }
-            ensures { C.is_put cell.entry.now sensor.exit.now.put × ((last_or (C.opening cell.entry.now) (C.written sensor.exit.now.put)).number ≡ 1_000) }
+            ensures { C.is_put cell.entry.now sensor.exit.now.put
+                × ((last_or (C.opening cell.entry.now) (C.written sensor.exit.now.put)).number ≡ 1_000) }
         { publish(cell, sensor, 1_000) },
         &mut ||
             requires { C.is_get cell.now loops.now.get }
