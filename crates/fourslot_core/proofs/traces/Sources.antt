@@ -127,7 +127,8 @@ contents_write {R} W2 num x s xs slots at c hs ni h q = elim (slot_cases q s.wri
     was k f ne = elim (get_cases xs at (k * 5 + 2) f.1.0 f.1.1) [
       | inl old ↦ (f.0, (f.1.0, old))
       | inr here ↦
-          absurd (ne (slot_by_number q s.write (same_Some (slot_number q) (slot_number s.write) (sym f.0 ∙ hs tt k (omega (arith, here.0))))))
+          absurd
+          (ne (slot_by_number q s.write (same_Some (slot_number q) (slot_number s.write) (sym f.0 ∙ hs tt k (omega (arith, here.0))))))
     ]
 
 -- a source stays the source: later steps of the writer come after the read's R4, and later steps of the reader are of others

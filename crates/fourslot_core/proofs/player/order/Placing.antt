@@ -92,7 +92,8 @@ place_added n turn count parts places k s here less is h = record {
   ];
 }
 
-pub places_more : (n : ℕ) (turn : Turn) (count : ℕ) (parts : List Started) (places : List ℕ) (part : Started) (here : Bool) → SidesInTurn parts →
+pub places_more : (n : ℕ) (turn : Turn) (count : ℕ) (parts : List Started) (places : List ℕ) (part : Started)
+    (here : Bool) → SidesInTurn parts →
     slice_get parts n ≡ Some part → (IsTrue here ↔ ((actor part.turn ≡ actor turn) × (part.number < count))) →
     IsPlacesBefore n turn count parts places → IsPlacesBefore (n + 1) turn count parts (places ++ noted here n)
 places_more n turn count parts places part true t at is h =

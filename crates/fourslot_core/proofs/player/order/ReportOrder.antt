@@ -32,7 +32,8 @@ use Rattle.fourslot_core.specs.Reports.{AnswersSources, reader_of, writer_of}
 use Rattle.fourslot_core.specs.ReportOrders.{ComesFirst, HasNumber, IsListed, IsReportOrder, IsStoredWrite}
 use Rattle.fourslot_core.specs.inner.Runs.{IsAssembled, log_of, numbered, opening_record}
 use Rattle.fourslot_core.specs.inner.Weaves.{Entry, entry, GoesBy, IsAmongBy}
-use Rattle.fourslot_core.proofs.player.order.Entries.{Begins, Ends, acts, answer_at, entry_after_write, entry_by_beginning, entry_rises, entry_sorted}
+use Rattle.fourslot_core.proofs.player.order.Entries.{Begins, Ends, acts, answer_at, entry_after_write, entry_by_beginning, entry_rises}
+use Rattle.fourslot_core.proofs.player.order.Entries.{entry_sorted}
 use Rattle.fourslot_core.proofs.player.order.Entries.{entry_write_first, number_by, played}
 use Rattle.fourslot_core.proofs.player.steps.Shape.{mapped_from, mapped_to, parts_are_played, starts_of}
 use Rattle.fourslot_core.proofs.player.order.Placing.{parts_in_turn}

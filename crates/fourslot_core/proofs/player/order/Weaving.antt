@@ -10,7 +10,8 @@ use Rattle.fourslot_core.specs.declared.schedule.Turn.TheVariants.{Writer, Reade
 use Rattle.fourslot_core.specs.declared.player.run.Numbered.{Numbered}
 use Rattle.fourslot_core.specs.declared.player.steps.Started.{Started}
 use Rattle.fourslot_core.specs.inner.Parts.{started}
-use Rattle.fourslot_core.specs.inner.Weaves.{IsPlacesOf, Entry, entry, GoesBy, Goes, IsAmongBy, IsAmong, IsWoven, list_of, IsWeave, IsOrdered}
+use Rattle.fourslot_core.specs.inner.Weaves.{IsPlacesOf, Entry, entry, GoesBy, Goes, IsAmongBy, IsAmong, IsWoven, list_of, IsWeave}
+use Rattle.fourslot_core.specs.inner.Weaves.{IsOrdered}
 use Rattle.fourslot_core.proofs.Pushed.{get_within}
 
 module _ {R : Type 0} (answers : List (Numbered R)) where

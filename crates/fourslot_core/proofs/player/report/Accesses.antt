@@ -31,7 +31,8 @@ use Rattle.fourslot_core.proofs.Pushed.{some_of, get_within}
 use Rattle.fourslot_core.proofs.traces.Counts.{left, made, has_chosen}
 use Rattle.fourslot_core.proofs.traces.Good.{IsGood, numbered_read_fresh}
 use Rattle.fourslot_core.proofs.player.steps.Shape.{mapped_from, starts_of}
-use Rattle.fourslot_core.proofs.player.run.Traces.{number_of, record_of, run_shown, run_good, run_mapped, writer_positions, reader_positions}
+use Rattle.fourslot_core.proofs.player.run.Traces.{number_of, record_of, run_shown, run_good, run_mapped, writer_positions}
+use Rattle.fourslot_core.proofs.player.run.Traces.{reader_positions}
 
 -- the slot beside the first operation with a beginning that no earlier one has
 slot_found : {R : Type 0} (make : Started → Op R) (slot : Started → Option ℕ) → ((part : Started) → (make part).starts ≡ part.starts) →

@@ -19,7 +19,8 @@ use Rattle.fourslot_core.specs.declared.player.steps.Made.{Made}
 use Rattle.fourslot_core.specs.declared.player.steps.Started.{Started}
 use Rattle.history_core.proofs.Overruns.{has_left, has_none_left}
 use Rattle.fourslot_core.specs.Play.{actor, span_of}
-use Rattle.fourslot_core.specs.inner.Parts.{plan_of, made_by, counted, started, begun_by, IsPartsOf, noted, makes, IsAccessesOf, IsOperationsOf}
+use Rattle.fourslot_core.specs.inner.Parts.{plan_of, made_by, counted, started, begun_by, IsPartsOf, noted, makes, IsAccessesOf}
+use Rattle.fourslot_core.specs.inner.Parts.{IsOperationsOf}
 use Rattle.fourslot_core.proofs.events.Keeping.{and_parts}
 
 -- the actors of the first steps

@@ -10,7 +10,8 @@ use Rattle.fourslot_core.proofs.player.order.Placing.{places_full}
 use Rattle.fourslot_core.proofs.player.report.Played.order.Goals as goal
 
 -- what the slices have is what the lists have
-ordered_along : {R : Type 0} (parts : List Started) (count : ℕ) (writes w reads r : List ℕ) (answers a : List (Numbered R)) (order : List ℕ) →
+ordered_along : {R : Type 0} (parts : List Started) (count : ℕ) (writes w reads r : List ℕ)
+    (answers a : List (Numbered R)) (order : List ℕ) →
     w ≡ writes → r ≡ reads → a ≡ answers → HasFirst Writer count parts → HasFirst Reader (length answers) parts →
     IsPlacesOf Writer count parts writes → IsPlacesOf Reader (length answers) parts reads → IsWeave w r a (length w) (length r) order →
     IsOrdered parts count answers order
