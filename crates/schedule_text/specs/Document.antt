@@ -10,11 +10,12 @@ use Rattle.schedule_text.specs.declared.document.Document.{Document}
 use Rattle.schedule_text.specs.declared.document.DocError.{DocError}
 use Rattle.schedule_text.specs.declared.document.DocError.TheVariants.{Long, NotJson, Kind}
 use Rattle.schedule_text.specs.declared.document.Want.{Want}
-use Rattle.schedule_text.specs.declared.document.Want.TheVariants.{Check, Play}
+use Rattle.schedule_text.specs.declared.document.Want.TheVariants.{Check, Play, Race}
 use Rattle.schedule_text.specs.Board.{board_in}
 use Rattle.schedule_text.specs.Cell.{cell_in}
 use Rattle.schedule_text.specs.Check.{check_in}
 use Rattle.schedule_text.specs.Matrix.{matrix_in}
+use Rattle.schedule_text.specs.Race.{race_in}
 use Rattle.schedule_text.specs.Refusals.{◌>>=◌, must, some_or}
 
 -- what the bytes are, as serde_json reads them
@@ -44,6 +45,7 @@ document_in Play d =
     else (if is_kind (codes "matrix") d then matrix_in d
     else (if is_kind (codes "board") d then board_in d
     else Err Kind))
+document_in Race d = if is_kind (codes "race") d then race_in d else Err Kind
 
 unfoldable pub document_of : Want → List ℕ → Result Document DocError
 document_of want bytes = do

@@ -1,7 +1,7 @@
 -- The keys of a document (this project's own).
 use Rattle.std.specs.Prelude.{ℕ, List, codes}
 use Rattle.schedule_text.specs.declared.key.Key.{Key}
-use Rattle.schedule_text.specs.declared.key.Key.TheVariants.{Opening, Noise, Limit, Ops, Order, Writes, Reads, Steps, Plans, Terms}
+use Rattle.schedule_text.specs.declared.key.Key.TheVariants.{Opening, Noise, Limit, Ops, Order, Writes, Reads, Steps, Plans, Scripts, Terms}
 
 abbrev pub name_of : Key → List ℕ
 name_of Opening = codes "opening"
@@ -13,4 +13,5 @@ name_of Writes = codes "writes"
 name_of Reads = codes "reads"
 name_of Steps = codes "steps"
 name_of Plans = codes "plans"
+name_of Scripts = codes "scripts"
 name_of Terms = codes "terms"

@@ -6,6 +6,7 @@ pub mod Keys
 pub mod Matrix
 pub mod Plans
 pub mod Players
+pub mod Race
 pub mod Ranges
 pub mod Refusals
 pub mod Shapes

@@ -1,11 +1,27 @@
--- What the schedule of an accepted document has for its player (this project's own).
+-- What an accepted document has for its command (this project's own).
+use Rattle.std.specs.Prelude.{ℕ, ◌≤◌, List, length, All, IsTrue}
+use Rattle.history_core.specs.Band.{fits}
+use Rattle.history_core.specs.Schedules.{max_limit}
+use Rattle.history_core.specs.declared.band.Band.{Band}
+use Rattle.history_core.specs.declared.play.Wish.{Wish}
 use Rattle.matrix_core.specs.Runs.{CanPlay}
+use Rattle.schedule_text.specs.Plans.{wish_fits}
 use Rattle.schedule_text.specs.declared.document.Document.{Document}
-use Rattle.schedule_text.specs.declared.document.Document.TheVariants.{Check, Cell, Matrix, Board}
+use Rattle.schedule_text.specs.declared.document.Document.TheVariants.{Check, Cell, Matrix, Board, Race}
 
--- It can be played. Every schedule of a cell can.
+-- A race that can be run: a board can be made for its tasks, and each record that is to be written fits.
+pub record CanRace (opening : Band) (limit : ℕ) (scripts : List (List (Wish Band))) : Type 0 where
+  pub opens : IsTrue (fits opening)
+  pub limit_least : 1 ≤ limit
+  pub limit_most : limit ≤ max_limit
+  pub at_least : 2 ≤ length scripts
+  pub at_most : length scripts ≤ 16
+  pub writes : All (λ script. All (λ wish. IsTrue (wish_fits wish)) script) scripts
+
+-- Its schedule can be played, or its race be run. Every schedule of a cell can be played.
 abbrev pub CanBePlayed : Document → Type 0
 CanBePlayed (Check history order) = Unit {0}
 CanBePlayed (Cell schedule) = Unit {0}
 CanBePlayed (Matrix schedule titled) = CanPlay schedule.terms
 CanBePlayed (Board schedule titled) = CanPlay schedule.terms
+CanBePlayed (Race opening limit scripts) = CanRace opening limit scripts

@@ -14,8 +14,9 @@ use Rattle.history_core.specs.declared.history.Verdict.TheVariants.{Lawful, List
 use Rattle.matrix_core.specs.declared.schedule.BoardReport.{BoardReport}
 use Rattle.matrix_core.specs.declared.schedule.MatrixReport.{MatrixReport}
 use Rattle.matrix_core.specs.declared.stamp.Stamp.{Stamp}
+use Rattle.schedule_text.specs.declared.report.Counts.{Counts}
 use Rattle.schedule_text.specs.declared.report.Report.{Report}
-use Rattle.schedule_text.specs.declared.report.Report.TheVariants.{Verdict, Cell, Matrix, Board}
+use Rattle.schedule_text.specs.declared.report.Report.TheVariants.{Verdict, Cell, Matrix, Board, Race}
 
 abbrev pub line_feed : ℕ
 line_feed = 10
@@ -116,8 +117,28 @@ matrix_text r titled = history_lines (stamp_mark r.stamps) r.history titled ++ o
 abbrev pub board_text : BoardReport Band → Bool → List ℕ
 board_text r titled = history_lines (board_mark r.stamps r.slots) r.history titled ++ order_text r.order
 
+-- ---- races
+
+unfoldable pub task_line : ℕ → Counts → List ℕ
+task_line task counts = codes "task " ++ decimal task ++ codes ": " ++ decimal counts.writes ++ codes " writes, "
+    ++ decimal counts.reads ++ codes " reads, " ++ decimal counts.refused ++ codes " refused\n"
+
+-- a line for each task, the first of them with this number
+abbrev pub task_lines : ℕ → List Counts → List ℕ
+task_lines task [] = []
+task_lines task (counts ∷ rest) = task_line task counts ++ task_lines (task + 1) rest
+
+-- whether each record has its origin, or the task and the call of the first that has none
+abbrev pub origin_line : Option (ℕ × ℕ) → List ℕ
+origin_line None = codes "origin: sound\n"
+origin_line (Some broken) = codes "origin: broken at task " ++ decimal broken.0 ++ codes " call " ++ decimal broken.1 ++ line_feed ∷ []
+
+abbrev pub race_text : List Counts → Option (ℕ × ℕ) → List ℕ
+race_text tasks broken = task_lines 0 tasks ++ origin_line broken
+
 abbrev pub text_of : Report → List ℕ
 text_of (Verdict v) = verdict_text v
 text_of (Cell r) = cell_text r
 text_of (Matrix r titled) = matrix_text r titled
 text_of (Board r titled) = board_text r titled
+text_of (Race tasks broken) = race_text tasks broken

@@ -3,7 +3,7 @@ ghost use Rattle.schedule_text.specs.declared.document.DocError.TheVariants.{NoM
 
 use crate::Key;
 use fourslot_core::CellSchedule;
-use history_core::{Band, History, Items};
+use history_core::{Band, History, Items, Wish};
 use matrix_core::{BoardSchedule, MatrixSchedule};
 use std::alloc::AllocError;
 use thiserror::Error;
@@ -13,6 +13,7 @@ use thiserror::Error;
 pub enum Want {
     Check,
     Play,
+    Race,
 }
 
 /// What a document stands for.
@@ -34,6 +35,12 @@ pub enum Document {
     Board {
         schedule: BoardSchedule<Band>,
         titled: bool,
+    },
+    /// What each of several tasks is to do with one board, in this order.
+    Race {
+        opening: Band,
+        limit: u64,
+        scripts: Items<Items<Wish<Band>>>,
     },
 }
 

@@ -14,6 +14,7 @@ pub enum Key {
     Reads,
     Steps,
     Plans,
+    Scripts,
     Terms,
 }
 
@@ -34,6 +35,7 @@ impl Key {
             Key::Reads => "reads",
             Key::Steps => "steps",
             Key::Plans => "plans",
+            Key::Scripts => "scripts",
             Key::Terms => "terms",
         }
     }

@@ -9,6 +9,7 @@ use crate::cell::cell_in;
 use crate::check::check_in;
 use crate::fields::must;
 use crate::matrix::matrix_in;
+use crate::race::race_in;
 use crate::{DocError, Document, Want};
 use serde_json::Value;
 use std::alloc::Global;
@@ -56,6 +57,7 @@ pub fn document_in(alloc: Global, want: Want, value: &Value) -> Result<Document,
         Want::Play if is_kind(value, "cell") => cell_in(alloc, value),
         Want::Play if is_kind(value, "matrix") => matrix_in(alloc, value),
         Want::Play if is_kind(value, "board") => board_in(alloc, value),
+        Want::Race if is_kind(value, "race") => race_in(alloc, value),
         _ => Err(DocError::Kind),
     }
 }

@@ -1,5 +1,5 @@
 use fourslot_core::CellReport;
-use history_core::{Band, Verdict};
+use history_core::{Band, Items, Verdict};
 use matrix_core::{BoardReport, MatrixReport};
 
 /// What a command prints.
@@ -18,4 +18,18 @@ pub enum Report {
         report: BoardReport<Band>,
         titled: bool,
     },
+    /// What each task of a race did, and the task and the call of the first record that has no origin, if there is one. Tasks
+    /// count from 0 and calls from 1.
+    Race {
+        tasks: Items<Counts>,
+        broken: Option<(usize, usize)>,
+    },
+}
+
+/// How many writes and reads a task made, and how many of its writes were refused.
+#[derive(Clone, Copy, Debug, PartialEq, Eq)]
+pub struct Counts {
+    pub writes: u64,
+    pub reads: u64,
+    pub refused: u64,
 }

@@ -1,7 +1,8 @@
 ghost use Rattle.std.specs.Prelude.{◌≡◌, ◌++◌, [], IfOk};
-ghost use Rattle.schedule_text.specs.Text.{history_lines, order_text, text_of, verdict_text};
+ghost use Rattle.schedule_text.specs.Text.{history_lines, order_text, race_text, text_of, verdict_text};
 
-use crate::Report;
+use crate::races::{push_origin, push_tasks};
+use crate::{Counts, Report};
 use crate::lines::{Marks, push_history, push_order};
 use history_core::{Band, History, Verdict};
 use std::alloc::{AllocError, Global};
@@ -43,6 +44,7 @@ pub fn report_text(alloc: Global, report: &Report) -> Result<Vec<u8>, AllocError
                 report.order.as_slice(),
             )
         }
+        Report::Race { tasks, broken } => race_text(alloc, tasks.as_slice(), *broken),
     }
 }
 
@@ -59,6 +61,20 @@ fn played_text<M: Marks>(
     let mut text = with_room(alloc, history.ops.as_slice().len(), order.len())?;
     push_history(&mut text, marks, history, titled)?;
     push_order(&mut text, order)?;
+    Ok(text)
+}
+
+/// A line for each task of a race, and that of its origins.
+fn race_text(
+    alloc: Global,
+    tasks: &[Counts],
+    broken: Option<(usize, usize)>,
+) -> Result<Vec<u8>, AllocError>
+    ensures { IfOk result (λ v. v.items ≡ race_text tasks.now broken) }
+{
+    let mut text = Vec::with_capacity(alloc, 64 * tasks.len().min(MOST_ROOM))?;
+    push_tasks(&mut text, tasks)?;
+    push_origin(&mut text, broken)?;
     Ok(text)
 }
 
