@@ -7,6 +7,8 @@ use Rattle.history_core.specs.declared.play.Wish.{Wish}
 use Rattle.matrix_core.specs.Runs.{CanPlay}
 use Rattle.schedule_text.specs.Plans.{wish_fits}
 use Rattle.schedule_text.specs.declared.document.Document.{Document}
+use Rattle.schedule_text.specs.declared.document.Want.{Want}
+use Rattle.schedule_text.specs.declared.document.Want.TheVariants as want
 use Rattle.schedule_text.specs.declared.document.Document.TheVariants.{Check, Cell, Matrix, Board, Race}
 
 -- A race that can be run: a board can be made for its tasks, and each record that is to be written fits.
@@ -25,3 +27,11 @@ CanBePlayed (Cell schedule) = Unit {0}
 CanBePlayed (Matrix schedule titled) = CanPlay schedule.terms
 CanBePlayed (Board schedule titled) = CanPlay schedule.terms
 CanBePlayed (Race opening limit scripts) = CanRace opening limit scripts
+
+-- the command that takes documents of its kind
+abbrev pub taken_by : Document → Want
+taken_by (Check history order) = want.Check
+taken_by (Cell schedule) = want.Play
+taken_by (Matrix schedule titled) = want.Play
+taken_by (Board schedule titled) = want.Play
+taken_by (Race opening limit scripts) = want.Race

@@ -128,10 +128,13 @@ abbrev pub task_lines : ℕ → List Counts → List ℕ
 task_lines task [] = []
 task_lines task (counts ∷ rest) = task_line task counts ++ task_lines (task + 1) rest
 
+abbrev pub broken_line : ℕ → ℕ → List ℕ
+broken_line task call = codes "origin: broken at task " ++ decimal task ++ codes " call " ++ decimal call ++ line_feed ∷ []
+
 -- whether each record has its origin, or the task and the call of the first that has none
 abbrev pub origin_line : Option (ℕ × ℕ) → List ℕ
 origin_line None = codes "origin: sound\n"
-origin_line (Some broken) = codes "origin: broken at task " ++ decimal broken.0 ++ codes " call " ++ decimal broken.1 ++ line_feed ∷ []
+origin_line (Some broken) = broken_line broken.0 broken.1
 
 abbrev pub race_text : List Counts → Option (ℕ × ℕ) → List ℕ
 race_text tasks broken = task_lines 0 tasks ++ origin_line broken

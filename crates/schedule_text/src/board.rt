@@ -2,8 +2,9 @@
 ghost use Rattle.std.specs.Prelude.{◌≡◌, IfOk};
 ghost use Rattle.serde_json.specs.View.{view};
 ghost use Rattle.schedule_text.specs.Board.{board_in};
-ghost use Rattle.schedule_text.specs.Players.{CanBePlayed};
+ghost use Rattle.schedule_text.specs.Players.{CanBePlayed, taken_by};
 ghost use Rattle.schedule_text.specs.Refusals.{Gives};
+ghost use Rattle.schedule_text.specs.declared.document.Want.TheVariants.{Play};
 
 use crate::fields::{field, must, required};
 use crate::plans::terms_fit;
@@ -18,6 +19,7 @@ use std::alloc::Global;
 pub fn board_in(alloc: Global, value: &Value) -> Result<Document, DocError>
     ensures document { Gives (λ d. d) result (board_in (view value.now)) }
     ensures playable { IfOk result CanBePlayed }
+    ensures taken { IfOk result (λ d. taken_by d ≡ Play) }
 {
     let titled = is_titled(value);
     required(value, &[Key::Opening, Key::Noise])?;

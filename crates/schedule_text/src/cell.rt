@@ -5,8 +5,9 @@ ghost use Rattle.history_core.specs.Band.{fits};
 ghost use Rattle.serde_json.specs.View.{view};
 ghost use Rattle.schedule_text.specs.Cell.{cell_in};
 ghost use Rattle.schedule_text.specs.Ranges.{count_in_range};
-ghost use Rattle.schedule_text.specs.Players.{CanBePlayed};
+ghost use Rattle.schedule_text.specs.Players.{CanBePlayed, taken_by};
 ghost use Rattle.schedule_text.specs.Refusals.{Gives};
+ghost use Rattle.schedule_text.specs.declared.document.Want.TheVariants.{Play};
 
 use crate::fields::{field, list_field, must, required};
 use crate::ranges::{MAX_OPERATIONS, count_in_range, steps_in_range};
@@ -20,6 +21,7 @@ use std::alloc::Global;
 pub fn cell_in(alloc: Global, value: &Value) -> Result<Document, DocError>
     ensures document { Gives (λ d. d) result (cell_in (view value.now)) }
     ensures playable { IfOk result CanBePlayed }
+    ensures taken { IfOk result (λ d. taken_by d ≡ Play) }
 {
     required(
         value,

@@ -4,8 +4,9 @@ ghost use Rattle.std.specs.List.{list_all};
 ghost use Rattle.history_core.specs.Band.{fits};
 ghost use Rattle.serde_json.specs.View.{view};
 ghost use Rattle.schedule_text.specs.Check.{check_in, has_item, is_actor, is_lawful, is_place, one_term, ops_in_range, order_in_range};
-ghost use Rattle.schedule_text.specs.Players.{CanBePlayed};
+ghost use Rattle.schedule_text.specs.Players.{CanBePlayed, taken_by};
 ghost use Rattle.schedule_text.specs.Refusals.{Gives};
+ghost use Rattle.schedule_text.specs.declared.document.Want.TheVariants.{Check};
 
 use crate::fields::{field, list_field, must, required};
 use crate::ranges::{count_in_range, limit_in_range};
@@ -22,6 +23,7 @@ const LAST_ACTOR: usize = 15;
 pub fn check_in(alloc: Global, value: &Value) -> Result<Document, DocError>
     ensures document { Gives (λ d. d) result (check_in (view value.now)) }
     ensures playable { IfOk result CanBePlayed }
+    ensures taken { IfOk result (λ d. taken_by d ≡ Check) }
 {
     required(value, &[Key::Opening, Key::Limit, Key::Ops, Key::Order])?;
     let opening: Band = field(alloc, value, Key::Opening)?;

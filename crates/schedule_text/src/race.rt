@@ -1,9 +1,10 @@
 //! Documents of kind `race`.
 ghost use Rattle.std.specs.Prelude.{◌≡◌, IfOk};
 ghost use Rattle.serde_json.specs.View.{view};
-ghost use Rattle.schedule_text.specs.Players.{CanBePlayed};
+ghost use Rattle.schedule_text.specs.Players.{CanBePlayed, taken_by};
 ghost use Rattle.schedule_text.specs.Race.{race_in};
 ghost use Rattle.schedule_text.specs.Refusals.{Gives};
+ghost use Rattle.schedule_text.specs.declared.document.Want.TheVariants.{Race};
 
 use crate::fields::{field, list_field, must, required};
 use crate::plans::{plans_fit, plans_in_range};
@@ -17,6 +18,7 @@ use std::alloc::Global;
 pub fn race_in(alloc: Global, value: &Value) -> Result<Document, DocError>
     ensures document { Gives (λ d. d) result (race_in (view value.now)) }
     ensures playable { IfOk result CanBePlayed }
+    ensures taken { IfOk result (λ d. taken_by d ≡ Race) }
 {
     required(value, &[Key::Opening, Key::Limit, Key::Scripts])?;
     let opening: Band = field(alloc, value, Key::Opening)?;

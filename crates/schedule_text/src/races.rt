@@ -1,6 +1,6 @@
 //! The lines of a race's report.
 ghost use Rattle.std.specs.Prelude.{◌≡◌, ◌+◌, ◌≤◌, ◌++◌, OnOk, codes, length};
-ghost use Rattle.schedule_text.specs.Text.{origin_line, task_line, task_lines};
+ghost use Rattle.schedule_text.specs.Text.{broken_line, origin_line, task_line, task_lines};
 
 use crate::Counts;
 use crate::line::Line;
@@ -36,20 +36,25 @@ fn put_task(line: &mut Line, task: usize, counts: &Counts)
 }
 
 /// The line of the origins.
-#[tactic(auto, using(std::proofs::Common::append_assoc))]
 pub fn push_origin(text: &mut Vec<u8>, broken: Option<(usize, usize)>) -> Result<(), AllocError>
     ensures { OnOk result (text.new.items ≡ text.old.items ++ origin_line broken) }
 {
-    let mut line = Line::new();
     match broken {
-        Some((task, call)) => {
-            line.put(b"\n");
-            line.put_number(call as u64);
-            line.put(b" call ");
-            line.put_number(task as u64);
-            line.put(b"origin: broken at task ");
-        }
-        None => line.put(b"origin: sound\n"),
+        Some((task, call)) => push_broken(text, task, call),
+        None => text.extend_from_slice(b"origin: sound\n"),
     }
+}
+
+/// The line of the first call whose record has no origin.
+#[tactic(auto, using(std::proofs::Common::append_assoc))]
+fn push_broken(text: &mut Vec<u8>, task: usize, call: usize) -> Result<(), AllocError>
+    ensures { OnOk result (text.new.items ≡ text.old.items ++ broken_line task call) }
+{
+    let mut line = Line::new();
+    line.put(b"\n");
+    line.put_number(call as u64);
+    line.put(b" call ");
+    line.put_number(task as u64);
+    line.put(b"origin: broken at task ");
     text.extend_from_slice(line.as_bytes())
 }

@@ -1,7 +1,7 @@
 ghost use Rattle.std.specs.Prelude.{◌≡◌, IfOk};
 ghost use Rattle.serde_json.specs.View.{view};
 ghost use Rattle.schedule_text.specs.Document.{document_in, document_of, is_kind, json_of, value_of};
-ghost use Rattle.schedule_text.specs.Players.{CanBePlayed};
+ghost use Rattle.schedule_text.specs.Players.{CanBePlayed, taken_by};
 ghost use Rattle.schedule_text.specs.Refusals.{Gives, some_or};
 
 use crate::board::board_in;
@@ -22,6 +22,7 @@ const MAX_BYTES: usize = 1_048_576;
 pub fn read_document(alloc: Global, want: Want, bytes: &[u8]) -> Result<Document, DocError>
     ensures document { Gives (λ d. d) result (document_of want bytes.now) }
     ensures playable { IfOk result CanBePlayed }
+    ensures taken { IfOk result (λ d. taken_by d ≡ want) }
 {
     let value = read_value(alloc, bytes)?;
     document_in(alloc, want, &value)
@@ -51,6 +52,7 @@ fn json_of(alloc: Global, bytes: &[u8]) -> Result<Value, DocError>
 pub fn document_in(alloc: Global, want: Want, value: &Value) -> Result<Document, DocError>
     ensures document { Gives (λ d. d) result (document_in want (view value.now)) }
     ensures playable { IfOk result CanBePlayed }
+    ensures taken { IfOk result (λ d. taken_by d ≡ want) }
 {
     match want {
         Want::Check if is_kind(value, "check") => check_in(alloc, value),
