@@ -4,6 +4,7 @@ mod board;
 mod cell;
 mod check;
 mod matrix;
+mod race;
 
 use crate::{DocError, Key, Report, Want, read_document, report_text};
 use history_core::{Band, Verdict};

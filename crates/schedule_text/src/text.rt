@@ -1,9 +1,9 @@
 ghost use Rattle.std.specs.Prelude.{◌≡◌, ◌++◌, [], IfOk};
 ghost use Rattle.schedule_text.specs.Text.{history_lines, order_text, race_text, text_of, verdict_text};
 
+use crate::lines::{Marks, push_history, push_order};
 use crate::races::{push_origin, push_tasks};
 use crate::{Counts, Report};
-use crate::lines::{Marks, push_history, push_order};
 use history_core::{Band, History, Verdict};
 use std::alloc::{AllocError, Global};
 
