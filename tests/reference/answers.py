@@ -17,6 +17,8 @@ def answer(command, data):
 
 
 def printed(kind, found):
+    if kind == "race":
+        return race(found["limit"], found["scripts"]), "", 0
     if kind == "check":
         line = players.verdict(found["opening"], found["limit"], found["ops"], found["order"])
         return line + "\n", "", 0 if line == "lawful" else 1
@@ -27,6 +29,27 @@ def printed(kind, found):
     terms = found.get("terms") or [found]
     ops, order, begins = players.play_terms(access, found["opening"], found.get("noise"), terms)
     return report(kind, ops, order, begins if "terms" in found else []), "", 0
+
+
+def race(limit, scripts):
+    """The lines of a race. Where it depends on the run which writes are refused, they stand together with those made."""
+    lines, settled = [], is_settled(limit, scripts)
+    for task, script in enumerate(scripts):
+        reads, writes = script.count("read"), writes_of(script)
+        made = min(writes, limit)
+        told = f"{made} writes, {reads} reads, {writes - made} refused" if settled else f"{writes} writes or refused, {reads} reads"
+        lines.append(f"task {task}: {told}")
+    return "\n".join(lines + ["origin: sound"]) + "\n"
+
+
+def is_settled(limit, scripts):
+    """Whether every run refuses the same writes: none of them, or those of the only task that writes."""
+    writes = [writes_of(script) for script in scripts]
+    return sum(writes) <= limit or sum(1 for count in writes if count) == 1
+
+
+def writes_of(script):
+    return len(script) - script.count("read")
 
 
 def report(kind, ops, order, begins):

@@ -111,7 +111,14 @@ def claim(random, ops, order):
         order[at], order[at + 1] = order[at + 1], order[at]
 
 
-KINDS = {"check": check, "cell": cell, "matrix": matrix, "board": board}
+def race(random):
+    scripts = plans(random, processes_of(random))
+    return {"kind": "race", "opening": record(random), "limit": random.choice([1, 2, 3, 9, 99, number(random)]), "scripts": scripts}
+
+
+KINDS = {"check": check, "cell": cell, "matrix": matrix, "board": board, "race": race}
+
+COMMANDS = {"check": "check", "cell": "play", "matrix": "play", "board": "play", "race": "race"}
 
 
 def places(value, path=()):
@@ -159,9 +166,9 @@ def make_document(random, kinds):
     """A command and the bytes of a document."""
     kind = random.choice(kinds)
     made = KINDS[kind](random)
-    command = "check" if kind == "check" else "play"
+    command = COMMANDS[kind]
     if random.random() < 0.02:
-        command = random.choice(["check", "play"])
+        command = random.choice([COMMANDS[each] for each in kinds])
     hostile = random.random()
     if hostile < 0.25:
         for _ in range(random.choice([1, 1, 2])):
