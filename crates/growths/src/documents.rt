@@ -3,7 +3,7 @@ ghost use Rattle.schedule_text.specs.Players.{CanBePlayed};
 
 use history_core::PlayError;
 use schedule_text::{DocError, Document, Want, read_document};
-use std::alloc::Global;
+use std::alloc::{AllocError, Global};
 
 /// A write, and a read of its record.
 const CHECK: &str =
@@ -41,6 +41,10 @@ const BOARD: &str =
 const BOARD_TERMS: &str =
     r#"{"kind":"board","opening":[0,0,0],"noise":[9,8,7],"terms":[{"limit":1,"plans":[[[1,1,1]],[]],"steps":[0,0,0,0,0,0,0,0,0,0]},{"limit":1,"plans":[[],[[2,2,2]]],"steps":[1,1,1,1,1,1,1,1,1,1]}]}"#;
 
+/// A task that writes and reads, and one that reads.
+const RACE: &str =
+    r#"{"kind":"race","opening":[0,0,0],"limit":9,"scripts":[[[1,1,1],"read"],["read"]]}"#;
+
 /// Why a call has no answer.
 #[derive(Clone, Copy, Debug, PartialEq, Eq)]
 pub enum Stopped {
@@ -54,6 +58,12 @@ impl From<PlayError> for Stopped {
             PlayError::NoMemory => Stopped::NoMemory,
             PlayError::TooManySteps { .. } => Stopped::NoSuchCall,
         }
+    }
+}
+
+impl From<AllocError> for Stopped {
+    fn from(_error: AllocError) -> Stopped {
+        Stopped::NoMemory
     }
 }
 
@@ -71,6 +81,7 @@ pub fn document(alloc: Global, name: &str) -> Result<Document, Stopped>
         "terms" => (Want::Play, TERMS),
         "board" => (Want::Play, BOARD),
         "board_terms" => (Want::Play, BOARD_TERMS),
+        "race" => (Want::Race, RACE),
         _ => return Err(Stopped::NoSuchCall),
     };
     match read_document(alloc, want, text.as_bytes()) {

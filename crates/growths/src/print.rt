@@ -36,6 +36,18 @@ pub fn document(rt: &impl Print, document: &Document) -> io::Result<()> {
             terms(rt, schedule.terms.as_slice())?;
             println!(rt; "{titled}")
         }
+        Document::Race {
+            opening,
+            limit,
+            scripts,
+        } => {
+            println!(rt; "{opening:?}")?;
+            print!(rt; "{limit}")?;
+            for script in scripts.as_slice() {
+                print!(rt; " {:?}", script.as_slice())?;
+            }
+            println!(rt)
+        }
     }
 }
 

@@ -21,7 +21,7 @@ use Rattle.schedule_text.specs.Refusals.{◌>>=◌}
 use Rattle.schedule_text.specs.declared.document.DocError.{DocError}
 use Rattle.schedule_text.specs.declared.document.DocError.TheVariants as doc
 use Rattle.schedule_text.specs.declared.document.Document.{Document}
-use Rattle.schedule_text.specs.declared.document.Document.TheVariants.{Check, Cell, Matrix, Board}
+use Rattle.schedule_text.specs.declared.document.Document.TheVariants.{Check, Cell, Matrix, Board, Race}
 use Rattle.schedule_text.specs.declared.document.Want.TheVariants as want
 use Rattle.serde_json.specs.Data.{Data}
 use Rattle.picture.specs.Scenes.{ShowsBoard, ShowsCell, ShowsCheck, ShowsMatrix}
@@ -82,12 +82,13 @@ AnswersBoard schedule (Err (fault.Document refusal)) = ⊥
 AnswersBoard schedule (Err (fault.Schedule position)) = IsFirstOverrun (board_spans schedule.terms) position
 AnswersBoard schedule (Err fault.NoMemory) = ⊥
 
--- the answer to what a document stands for
+-- the answer to what a document stands for; none is a race
 abbrev pub Answers : Document → Result Answer Fault → Type 0
 Answers (Check history order) reply = AnswersCheck history order reply
 Answers (Cell schedule) reply = AnswersCell schedule reply
 Answers (Matrix schedule titled) reply = AnswersMatrix schedule reply
 Answers (Board schedule titled) reply = AnswersBoard schedule reply
+Answers (Race opening limit scripts) reply = ⊥
 
 -- the same where a document may be refused, which is the fault then
 abbrev pub AnswersReading : Result Document DocError → Result Answer Fault → Type 0

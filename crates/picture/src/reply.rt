@@ -1,7 +1,8 @@
-ghost use Rattle.std.specs.Prelude.{◌≡◌, IfOk};
+ghost use Rattle.std.specs.Prelude.{◌≡◌, ◌≢◌, IfOk};
 ghost use Rattle.matrix_core.specs.Runs.{CanPlay};
-ghost use Rattle.schedule_text.specs.Players.{CanBePlayed};
+ghost use Rattle.schedule_text.specs.Players.{CanBePlayed, taken_by};
 ghost use Rattle.schedule_text.specs.Refusals.{Gives as Reads};
+ghost use Rattle.schedule_text.specs.declared.document.Want.TheVariants.{Race};
 ghost use Rattle.serde_json.specs.View.{view};
 ghost use Rattle.picture.specs.Answers.{AnswersBoard, AnswersCell, AnswersCheck, AnswersMatrix, document_of, drawn, Gives, IsAnswer, shown_in, status_of};
 
@@ -25,6 +26,7 @@ pub fn answer(alloc: Global, bytes: &[u8]) -> Result<Answer, Fault>
         Document::Cell(schedule) => cell(alloc, &schedule),
         Document::Matrix { schedule, .. } => matrix(alloc, &schedule),
         Document::Board { schedule, .. } => board(alloc, &schedule),
+        Document::Race { .. } => unreachable!(),
     }
 }
 
@@ -34,6 +36,7 @@ pub fn answer(alloc: Global, bytes: &[u8]) -> Result<Answer, Fault>
 fn read(alloc: Global, bytes: &[u8]) -> Result<Document, DocError>
     ensures document { Reads (λ d. d) result (document_of bytes.now) }
     ensures playable { IfOk result CanBePlayed }
+    ensures no_race { IfOk result (λ d. taken_by d ≢ Race) }
 {
     let value = read_value(alloc, bytes)?;
     let document = shown_in(alloc, &value);
@@ -44,6 +47,7 @@ fn read(alloc: Global, bytes: &[u8]) -> Result<Document, DocError>
 fn shown_in(alloc: Global, value: &Value) -> Result<Document, DocError>
     ensures document { Reads (λ d. d) result (shown_in (view value.now)) }
     ensures playable { IfOk result CanBePlayed }
+    ensures no_race { IfOk result (λ d. taken_by d ≢ Race) }
 {
     match document_in(alloc, Want::Check, value) {
         Err(DocError::Kind) => document_in(alloc, Want::Play, value),
