@@ -65,7 +65,7 @@ elif ! "$compiler" -O1 -shared -fPIC -o "$room/refuse.so" tests/refuse.c -ldl; t
 else
     wanted_status=0
     : >"$room/wanted_line"
-    for name in lawful cell matrix refused_write terms board; do
+    for name in lawful cell matrix refused_write terms board race; do
         document=examples/$name.json
         cp "examples/$name.txt" "$room/wanted"
         refuse_each fsr "$document" "$(command_for "$document")"

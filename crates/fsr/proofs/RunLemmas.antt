@@ -7,11 +7,13 @@ use Rattle.std.specs.Io.KnownBytes.{Appends}
 use Rattle.history_core.specs.declared.history.Verdict.{Verdict}
 use Rattle.history_core.specs.declared.history.Verdict.TheVariants.{Lawful, Listing, Precedence, Reading, Limit}
 use Rattle.schedule_text.specs.declared.document.Document.{Document}
-use Rattle.schedule_text.specs.declared.document.Document.TheVariants.{Check, Cell, Matrix, Board}
+use Rattle.schedule_text.specs.declared.document.Document.TheVariants.{Check, Cell, Matrix, Board, Race}
 use Rattle.schedule_text.specs.declared.document.DocError.{DocError}
 use Rattle.schedule_text.specs.declared.document.Want.{Want}
+use Rattle.schedule_text.specs.declared.report.Report.{Report}
+use Rattle.schedule_text.specs.declared.report.Report.TheVariants as report
 use Rattle.schedule_text.specs.Document.{document_of}
-use Rattle.fsr.specs.Answers.{AnswersReading, Gives, IsAnswer, status_of}
+use Rattle.fsr.specs.Answers.{AnswersReading, Gives, IsAnswer, origin_status, race_status, status_of}
 use Rattle.fsr.specs.Run.{Runs, fault_status}
 use Rattle.streams.specs.Transfer.{IsWhole, TakesBytes}
 use Rattle.fsr.specs.declared.fault.Answer.{Answer}
@@ -98,6 +100,17 @@ verdict_is_low Precedence = search rules
 verdict_is_low Reading = search rules
 verdict_is_low Limit = search rules
 
+origin_is_low : (broken : Option (ℕ × ℕ)) → origin_status broken ≤ 1
+origin_is_low None = search rules
+origin_is_low (Some broken) = search rules
+
+race_is_low : (r : Report) → race_status r ≤ 1
+race_is_low (report.Verdict v) = search rules
+race_is_low (report.Cell r) = search rules
+race_is_low (report.Matrix r titled) = search rules
+race_is_low (report.Board r titled) = search rules
+race_is_low (report.Race tasks broken) = origin_is_low broken
+
 -- an answer has status 0 or 1
 status_is_low : (r : Result Document DocError) (a : Answer) → AnswersReading r (Ok a) → a.status ≤ 1
 status_is_low (Ok (Check history order)) a answered =
@@ -106,6 +119,7 @@ status_is_low (Ok (Check history order)) a answered =
 status_is_low (Ok (Cell schedule)) a answered = let same : a.status ≡ 0 = ap (λ b. b.status) answered.2 in omega (arith, same)
 status_is_low (Ok (Matrix schedule titled)) a answered = let same : a.status ≡ 0 = ap (λ b. b.status) answered.3 in omega (arith, same)
 status_is_low (Ok (Board schedule titled)) a answered = let same : a.status ≡ 0 = ap (λ b. b.status) answered.3 in omega (arith, same)
+status_is_low (Ok (Race opening limit scripts)) a answered = let same : a.status ≡ race_status answered.0 = ap (λ b. b.status) answered.2 in rw same (race_is_low answered.0)
 status_is_low (Err refusal) a answered = absurd (cc)
 
 -- the text went out whole

@@ -1,5 +1,5 @@
 -- The answer to a document: what is printed with which status, or the fault (this project's own).
-use Rattle.std.specs.Prelude.{◌≡◌, ◌≢◌, ℕ, Bool, List, [], ◌∷◌, Result, Ok, Err}
+use Rattle.std.specs.Prelude.{◌≡◌, ◌≢◌, ℕ, Bool, List, [], ◌∷◌, Option, Some, None, Result, Ok, Err}
 use Rattle.fourslot_core.specs.declared.schedule.CellReport.{CellReport}
 use Rattle.fourslot_core.specs.declared.schedule.CellSchedule.{CellSchedule}
 use Rattle.history_core.specs.Orders.{IsVerdict}
@@ -8,6 +8,7 @@ use Rattle.history_core.specs.declared.history.History.{History}
 use Rattle.history_core.specs.declared.history.Verdict.{Verdict}
 use Rattle.history_core.specs.declared.history.Verdict.TheVariants.{Lawful, Listing, Precedence, Reading, Limit}
 use Rattle.history_core.specs.declared.band.Band.{Band}
+use Rattle.history_core.specs.declared.play.Wish.{Wish}
 use Rattle.matrix_core.specs.BoardReports.{IsBoardReport, board_spans}
 use Rattle.matrix_core.specs.Listings.{IsMatrixReport}
 use Rattle.matrix_core.specs.Runs.{spans_of}
@@ -19,11 +20,12 @@ use Rattle.schedule_text.specs.Document.{document_of}
 use Rattle.schedule_text.specs.Text.{text_of}
 use Rattle.schedule_text.specs.declared.document.Want.{Want}
 use Rattle.schedule_text.specs.declared.document.Document.{Document}
-use Rattle.schedule_text.specs.declared.document.Document.TheVariants.{Check, Cell, Matrix, Board}
+use Rattle.schedule_text.specs.declared.document.Document.TheVariants.{Check, Cell, Matrix, Board, Race}
 use Rattle.schedule_text.specs.declared.document.DocError.{DocError}
 use Rattle.schedule_text.specs.declared.report.Report.{Report}
 use Rattle.schedule_text.specs.declared.report.Report.TheVariants as report
 use Rattle.fourslot_core.specs.CellReports.{IsCellReport, cell_span}
+use Rattle.fsr.specs.Races.{IsRace}
 use Rattle.fsr.specs.declared.fault.Answer.{Answer}
 use Rattle.fsr.specs.declared.fault.Fault.{Fault}
 use Rattle.fsr.specs.declared.fault.Fault.TheVariants as fault
@@ -35,6 +37,15 @@ status_of Listing = 1
 status_of Precedence = 1
 status_of Reading = 1
 status_of Limit = 1
+
+-- the status of a race: 0 where each record has its origin, else 1
+abbrev pub origin_status : Option (ℕ × ℕ) → ℕ
+origin_status None = 0
+origin_status (Some broken) = 1
+
+abbrev pub race_status : Report → ℕ
+race_status (report.Race tasks broken) = origin_status broken
+race_status other = 0
 
 -- the text of a report, with this status
 abbrev pub printed : Report → ℕ → Answer
@@ -73,12 +84,18 @@ AnswersMatrix schedule titled reply = AnswersTerms (spans_of schedule.terms) (Is
 abbrev pub AnswersBoard : BoardSchedule Band → Bool → Result Answer Fault → Type 0
 AnswersBoard schedule titled reply = AnswersTerms (board_spans schedule.terms) (IsBoardReport schedule) (λ r. report.Board r titled) reply
 
+-- the answer to the scripts of a race: the text of what a race tells that nothing stops
+abbrev pub AnswersRace : Band → ℕ → List (List (Wish Band)) → Result Answer Fault → Type 0
+AnswersRace opening limit scripts (Ok answer) = (r : Report) × IsRace (λ task call. ⊥) opening limit scripts r × (answer ≡ printed r (race_status r))
+AnswersRace opening limit scripts (Err fault) = ⊥
+
 -- the answer to what a document stands for
 abbrev pub Answers : Document → Result Answer Fault → Type 0
 Answers (Check history order) reply = AnswersCheck history order reply
 Answers (Cell schedule) reply = AnswersCell schedule reply
 Answers (Matrix schedule titled) reply = AnswersMatrix schedule titled reply
 Answers (Board schedule titled) reply = AnswersBoard schedule titled reply
+Answers (Race opening limit scripts) reply = AnswersRace opening limit scripts reply
 
 -- the same where a document may be refused, which is the fault then
 abbrev pub AnswersReading : Result Document DocError → Result Answer Fault → Type 0

@@ -7,14 +7,18 @@ use Rattle.clap.specs.Simple.{on_top}
 use Rattle.fsr.specs.declared.command.NoCommand.{NoCommand}
 use Rattle.fsr.specs.declared.command.NoCommand.TheVariants.{Refused, Unknown, NoMemory}
 use Rattle.schedule_text.specs.declared.document.Want.{Want}
-use Rattle.schedule_text.specs.declared.document.Want.TheVariants.{Check, Play}
+use Rattle.schedule_text.specs.declared.document.Want.TheVariants.{Check, Play, Race}
 
 -- the command line of `fsr`: one of the subcommands is required, and none has an argument
 abbrev pub fsr : App
-fsr = with_subcommand (with_subcommand (on_top (λ s. record s { subcommand_required = true }) (new_app (codes "fsr"))) (new_app (codes "check")).top) (new_app (codes "play")).top
+fsr = with_subcommand (with_subcommand (with_subcommand (on_top (λ s. record s { subcommand_required = true }) (new_app (codes "fsr")))
+    (new_app (codes "check")).top) (new_app (codes "play")).top) (new_app (codes "race")).top
 
 abbrev pub want_named : Text → Option Want
-want_named name = if bytes_eq name (codes "check") then Some Check else (if bytes_eq name (codes "play") then Some Play else None)
+want_named name = if bytes_eq name (codes "check") then Some Check
+    else (if bytes_eq name (codes "play") then Some Play
+    else (if bytes_eq name (codes "race") then Some Race
+    else None))
 
 -- nothing where clap refuses the words
 abbrev pub command_of : List Text → Option Want

@@ -24,11 +24,13 @@ fn command_line<'a>(alloc: Global) -> Result<Command<'a>, AllocError>
 {
     let check = Command::new(alloc, "check").about("Checks that an order of a history is atomic");
     let play = Command::new(alloc, "play").about("Plays a schedule and reports its history");
+    let race = Command::new(alloc, "race").about("Runs tasks over a board and checks their logs");
     Command::new(alloc, "fsr")
         .about("Reads a document on standard input")
         .subcommand_required(true)
         .subcommand(check)?
-        .subcommand(play)
+        .subcommand(play)?
+        .subcommand(race)
 }
 
 /// The command that the words name. The first word is the program's name.
@@ -43,6 +45,7 @@ pub fn command_of<'a, S: AsStr>(alloc: Global, words: &'a [S]) -> Result<Want, N
         Ok(matches) => match matches.subcommand_name() {
             Some("check") => Ok(Want::Check),
             Some("play") => Ok(Want::Play),
+            Some("race") => Ok(Want::Race),
             _ => Err(NoCommand::Unknown),
         },
         Err(e) => {

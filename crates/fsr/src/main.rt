@@ -1,8 +1,9 @@
-//! `fsr`: checks a history, or plays a schedule, that comes as a document on standard input.
+//! `fsr`: checks a history, plays a schedule, or runs a race, that comes as a document on standard input.
 #![tactic(auto)]
 
 mod command;
 mod fault;
+mod race;
 mod reply;
 mod run;
 
@@ -35,7 +36,7 @@ fn main(rt: HostRuntime) -> ExitCode {
     };
     let mut input = Over::new(rt.stdin());
     let mut out = Over::new(rt.stdout());
-    let status = run(alloc, words.as_slice(), &mut input, &mut out, &mut faults);
+    let status = run(&rt, alloc, words.as_slice(), &mut input, &mut out, &mut faults);
     ExitCode::from(status)
 }
 

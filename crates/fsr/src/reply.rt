@@ -1,20 +1,28 @@
 ghost use Rattle.std.specs.Prelude.{◌≡◌, IfOk};
 ghost use Rattle.matrix_core.specs.Runs.{CanPlay};
 ghost use Rattle.schedule_text.specs.Document.{document_of};
-ghost use Rattle.schedule_text.specs.Players.{CanBePlayed};
+ghost use Rattle.schedule_text.specs.Players.{CanBePlayed, CanRace};
 ghost use Rattle.schedule_text.specs.Refusals.{Gives as Reads};
-ghost use Rattle.fsr.specs.Answers.{AnswersBoard, AnswersCell, AnswersCheck, AnswersMatrix, Gives, IsAnswer, printed, status_of};
+ghost use Rattle.fsr.specs.Answers.{AnswersBoard, AnswersCell, AnswersCheck, AnswersMatrix, AnswersRace, Gives, IsAnswer, printed, race_status, status_of};
 
 use crate::fault::{Answer, Fault};
+use crate::race::race;
+use board_live::OpenGate;
 use fourslot_core::{CellSchedule, play_cell};
-use history_core::{Band, History, Items, Verdict, check_order};
+use history_core::{Band, History, Items, Verdict, Wish, check_order};
 use matrix_core::{BoardSchedule, MatrixSchedule, play_board, play_matrix};
 use schedule_text::{DocError, Document, Report, Want, document_in, read_value, report_text};
 use std::alloc::{AllocError, Global};
 use std::mem::forget;
+use std::thread::Threads;
 
 /// The answer of a command to the bytes of a document.
-pub fn answer(alloc: Global, want: Want, bytes: &[u8]) -> Result<Answer, Fault>
+pub fn answer<R: Threads + Sync>(
+    rt: &R,
+    alloc: Global,
+    want: Want,
+    bytes: &[u8],
+) -> Result<Answer, Fault>
     ensures { Gives (IsAnswer want bytes.now) result }
 {
     match read(alloc, want, bytes)? {
@@ -22,6 +30,11 @@ pub fn answer(alloc: Global, want: Want, bytes: &[u8]) -> Result<Answer, Fault>
         Document::Cell(schedule) => cell(alloc, &schedule),
         Document::Matrix { schedule, titled } => matrix(alloc, &schedule, titled),
         Document::Board { schedule, titled } => board(alloc, &schedule, titled),
+        Document::Race {
+            opening,
+            limit,
+            scripts,
+        } => race_to_the_end(rt, alloc, opening, limit, scripts),
     }
 }
 
@@ -76,6 +89,22 @@ fn board(alloc: Global, schedule: &BoardSchedule<Band>, titled: bool) -> Result<
     Ok(answer)
 }
 
+/// The report of a race whose gate lets every call through.
+fn race_to_the_end<R: Threads + Sync>(
+    rt: &R,
+    alloc: Global,
+    opening: Band,
+    limit: u64,
+    scripts: Items<Items<Wish<Band>>>,
+) -> Result<Answer, Fault>
+    requires { CanRace opening limit scripts }
+    ensures { Gives (AnswersRace opening limit scripts) result }
+{
+    let report = race(rt, alloc, opening, limit, scripts, &OpenGate)?;
+    let answer = print(alloc, &report, race_status(&report))?;
+    Ok(answer)
+}
+
 /// The text of a report, with this status.
 fn print(alloc: Global, report: &Report, status: u8) -> Result<Answer, AllocError>
     ensures { IfOk result (λ answer. answer ≡ printed report.now status) }
@@ -90,5 +119,16 @@ fn status_of(verdict: Verdict) -> u8
     match verdict {
         Verdict::Lawful => 0,
         _ => 1,
+    }
+}
+
+fn race_status(report: &Report) -> u8
+    ensures { result ≡ race_status report.now }
+{
+    match report {
+        Report::Race {
+            broken: Some(_), ..
+        } => 1,
+        _ => 0,
     }
 }

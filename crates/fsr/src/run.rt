@@ -10,6 +10,7 @@ use crate::{Sink, Source};
 use schedule_text::Want;
 use std::alloc::Global;
 use std::convert::AsStr;
+use std::thread::Threads;
 use streams::{InputFault, read_input, tell, write_text};
 
 /// The line of a run that found no memory.
@@ -17,7 +18,8 @@ pub const NO_MEMORY: &str = "fsr: out of memory\n";
 
 /// Runs the program over its words, of which the first is its name, and its streams, and gives the status that it ends with.
 /// The text goes to `out`, and what is to be told besides goes to `faults`, whose failures change no status.
-pub fn run<'a, S: AsStr, I: Source, O: Sink, E: Sink>(
+pub fn run<'a, R: Threads + Sync, S: AsStr, I: Source, O: Sink, E: Sink>(
+    rt: &R,
     alloc: Global,
     words: &'a [S],
     input: &mut I,
@@ -34,7 +36,7 @@ pub fn run<'a, S: AsStr, I: Source, O: Sink, E: Sink>(
     ensures faults { E.failed faults.new ≤ E.failed faults.old + 1 }
 {
     match command_of(alloc, words) {
-        Ok(want) => run_command(alloc, want, input, out, faults),
+        Ok(want) => run_command(rt, alloc, want, input, out, faults),
         Err(NoCommand::NoMemory) => {
             tell(faults, NO_MEMORY);
             4
@@ -53,7 +55,8 @@ pub fn run<'a, S: AsStr, I: Source, O: Sink, E: Sink>(
     }
 }
 
-fn run_command<I: Source, O: Sink, E: Sink>(
+fn run_command<R: Threads + Sync, I: Source, O: Sink, E: Sink>(
+    rt: &R,
     alloc: Global,
     want: Want,
     input: &mut I,
@@ -80,7 +83,7 @@ fn run_command<I: Source, O: Sink, E: Sink>(
             return 4;
         }
     };
-    match answer(alloc, want, bytes.as_slice()) {
+    match answer(rt, alloc, want, bytes.as_slice()) {
         Ok(answer) => match write_text(out, answer.text.as_slice()) {
             Ok(()) => answer.status,
             Err(_) => {

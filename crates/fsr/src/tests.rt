@@ -2,6 +2,7 @@ mod boards;
 mod cells;
 mod long;
 mod matrices;
+mod races;
 mod refusals;
 mod runs;
 mod streams;

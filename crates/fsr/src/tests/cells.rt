@@ -1,6 +1,7 @@
 use crate::tests::runs::play;
 use std::alloc::{AllocError, Global};
 use std::process::Abort;
+use std::thread::Threads;
 use std::test::Fail;
 
 /// A document of kind `cell` with these writes, reads and steps. Its opening is `[0,0,0]` and its noise `[9,8,7]`.
@@ -65,7 +66,7 @@ const WITH_WRITES: [Row; 4] = [
 ];
 
 /// Plays the schedule of a row, and sees its lines.
-fn plays(rt: &impl Abort, alloc: Global, row: Row) -> Result<(), AllocError> {
+fn plays<R: Abort + Threads + Sync>(rt: &R, alloc: Global, row: Row) -> Result<(), AllocError> {
     let (writes, reads, steps, lines) = row;
     let text = document(alloc, writes, reads, steps)?;
     play(rt, alloc, text.as_bytes(), 0, lines, "");

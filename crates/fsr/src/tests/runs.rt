@@ -3,22 +3,28 @@ use crate::Over;
 use crate::tests::streams::{Full, Kept, Pieces};
 use std::alloc::{AllocError, Global};
 use std::process::Abort;
+use std::thread::Threads;
 
 /// More bytes than any test gives or prints.
 pub const AMPLE: usize = 2_000_000;
 
 /// Runs `fsr check` on a document, and sees that it ends with this status, prints this text and tells this fault.
-pub fn check(rt: &impl Abort, alloc: Global, document: &[u8], status: u8, text: &str, fault: &str) {
+pub fn check<R: Abort + Threads + Sync>(rt: &R, alloc: Global, document: &[u8], status: u8, text: &str, fault: &str) {
     sees(rt, alloc, "check", document, status, text, fault);
 }
 
 /// The same of `fsr play`.
-pub fn play(rt: &impl Abort, alloc: Global, document: &[u8], status: u8, text: &str, fault: &str) {
+pub fn play<R: Abort + Threads + Sync>(rt: &R, alloc: Global, document: &[u8], status: u8, text: &str, fault: &str) {
     sees(rt, alloc, "play", document, status, text, fault);
 }
 
-fn sees(
-    rt: &impl Abort,
+/// The same of `fsr race`.
+pub fn race<R: Abort + Threads + Sync>(rt: &R, alloc: Global, document: &[u8], status: u8, text: &str, fault: &str) {
+    sees(rt, alloc, "race", document, status, text, fault);
+}
+
+fn sees<R: Abort + Threads + Sync>(
+    rt: &R,
     alloc: Global,
     command: &str,
     document: &[u8],
@@ -29,7 +35,7 @@ fn sees(
     let mut input = Over::new(Pieces::new(document, 4096, AMPLE));
     let mut out = Over::new(Kept::new(alloc, AMPLE, Full::Fails));
     let mut faults = Over::new(Kept::new(alloc, AMPLE, Full::Fails));
-    let ended = run(alloc, &["fsr", command], &mut input, &mut out, &mut faults);
+    let ended = run(rt, alloc, &["fsr", command], &mut input, &mut out, &mut faults);
     assert_eq!(rt; ended, status);
     assert!(rt; out.stream().as_slice() == text.as_bytes());
     assert!(rt; faults.stream().as_slice() == fault.as_bytes());

@@ -27,6 +27,7 @@ fn runs_over_hostile_streams(rt: HostRuntime) {
         let mut out = Over::new(Kept::new(rt.alloc(), room, full));
         let mut faults = Over::new(Kept::new(rt.alloc(), AMPLE, Full::Fails));
         let ended = run(
+            &rt,
             rt.alloc(),
             &["fsr", "check"],
             &mut input,
@@ -48,6 +49,7 @@ fn ends_at_an_interrupted_read(rt: HostRuntime) {
     let mut out = Over::new(Kept::new(rt.alloc(), AMPLE, Full::Fails));
     let mut faults = Over::new(Kept::new(rt.alloc(), AMPLE, Full::Fails));
     let ended = run(
+            &rt,
         rt.alloc(),
         &["fsr", "check"],
         &mut input,
@@ -69,6 +71,7 @@ fn ends_at_an_interrupted_write(rt: HostRuntime) {
     let mut out = Over::new(InterruptedWriter::new(rt.alloc(), 3));
     let mut faults = Over::new(Kept::new(rt.alloc(), AMPLE, Full::Fails));
     let ended = run(
+            &rt,
         rt.alloc(),
         &["fsr", "check"],
         &mut input,
@@ -91,6 +94,7 @@ fn leaves_the_rest_unread(rt: HostRuntime) -> Result<(), Fail> {
     let mut out = Over::new(Kept::new(rt.alloc(), AMPLE, Full::Fails));
     let mut faults = Over::new(Kept::new(rt.alloc(), 5, Full::TakesNothing));
     let ended = run(
+            &rt,
         rt.alloc(),
         &["fsr", "check"],
         &mut input,

@@ -4,20 +4,21 @@ use crate::tests::runs::{AMPLE, ROW};
 use crate::tests::streams::{Full, Kept, Pieces};
 use std::alloc::Global;
 use std::process::Abort;
+use std::thread::Threads;
 
 /// Sees that the words are refused with nothing read and nothing on standard output, and how the text begins that a standard
 /// error with this room has taken.
-fn refuses_with_room(rt: &impl Abort, alloc: Global, words: &[&str], room: usize, begins: &str) {
+fn refuses_with_room<R: Abort + Threads + Sync>(rt: &R, alloc: Global, words: &[&str], room: usize, begins: &str) {
     let mut input = Over::new(Pieces::new(ROW.as_bytes(), 4096, 0));
     let mut out = Over::new(Kept::new(alloc, AMPLE, Full::Fails));
     let mut faults = Over::new(Kept::new(alloc, room, Full::Fails));
-    let ended = run(alloc, words, &mut input, &mut out, &mut faults);
+    let ended = run(rt, alloc, words, &mut input, &mut out, &mut faults);
     assert_eq!(rt; ended, 2);
     assert!(rt; out.stream().as_slice().is_empty());
     assert!(rt; faults.stream().as_slice().starts_with(begins.as_bytes()));
 }
 
-fn refuses(rt: &impl Abort, alloc: Global, words: &[&str], begins: &str) {
+fn refuses<R: Abort + Threads + Sync>(rt: &R, alloc: Global, words: &[&str], begins: &str) {
     refuses_with_room(rt, alloc, words, AMPLE, begins);
 }
 

@@ -1,0 +1,154 @@
+-- What a race tells of scripts that were run whole: each entry of a log answers its wish, so the counts are those of the wishes.
+use Rattle.std.proofs.Common.{◌≡◌, Bool, true, false, ℕ, zero, suc, ◌+◌, ◌<◌, List, [], ◌∷◌, ◌++◌, length, get_or, map, take, drop, refl, sym, ◌∙◌, ap, subst, arith, inl, inr, ◌⊎◌, ⊎_elim}
+use Rattle.std.specs.Prelude.{slice_get, Option, Some, All, IsTrue, cond, count_by}
+use Rattle.std.proofs.lemmas.List.{length-map, take_all}
+use Rattle.std.proofs.lemmas.List.Sums.{sum_by-cons}
+use Rattle.std.proofs.lemmas.Option.{same_Some, slice_get_within}
+use Rattle.history_core.specs.Band.{fits}
+use Rattle.history_core.specs.declared.band.Band.{Band}
+use Rattle.history_core.specs.declared.play.Wish.{Wish}
+use Rattle.history_core.specs.declared.play.Wish.TheVariants.{Write, Read}
+use Rattle.matrix_core.specs.Stamps.{first_stamp}
+use Rattle.matrix_core.proofs.Listing.{get_map_back}
+use Rattle.board_live.proofs.LaneLists.{all_ready, lane_at, lanes_length}
+use Rattle.board_live.specs.declared.clocked.Clocked.{Clocked}
+use Rattle.board_live.specs.declared.lane.Entry.{Entry}
+use Rattle.board_live.specs.declared.lane.Reply.{Reply}
+use Rattle.board_live.specs.declared.lane.Reply.TheVariants.{Written, Seen, Ended}
+use Rattle.board_live.specs.declared.origin.Origin.{Origin}
+use Rattle.board_live.specs.Boards.{IsPass}
+use Rattle.board_live.specs.Deals.{IsNew}
+use Rattle.board_live.specs.Jobs.{AllReady, EachStep}
+use Rattle.board_live.specs.Lanes.{AreLanes}
+use Rattle.board_live.specs.Logs.{Obeys}
+use Rattle.board_live.specs.Origins.{IsOrigin}
+use Rattle.board_live.specs.Tasks.{AreCalls, Ran, Replies}
+use Rattle.schedule_text.specs.Plans.{wish_fits}
+use Rattle.fsr.specs.Races.{CountsAll, CountsScript, IsRace, RaceBoard, RaceLane, RacePass, broken_at, counts_in, counts_of, is_read, is_refused, is_seen, is_write, is_written, logs_of, replies, same_band}
+use Rattle.schedule_text.specs.declared.report.Counts.{Counts}
+use Rattle.schedule_text.specs.declared.report.Report.{Report}
+use Rattle.schedule_text.specs.declared.report.Report.TheVariants.{Race}
+
+-- how much an element that passes a test adds to a count
+abbrev one : Bool → ℕ
+one b = cond b 1 0
+
+some_at : {X : Type 0} (xs : List X) (k : ℕ) → k < length xs → (x : X) × (slice_get xs k ≡ Some x)
+some_at [] k lt = absurd (omega arith)
+some_at (x ∷ xs) zero lt = (x, refl)
+some_at (x ∷ xs) (suc k) lt = some_at xs k (omega arith)
+
+wish_obeys : (wish : Wish Band) → IsTrue (wish_fits wish) → Obeys fits wish
+wish_obeys (Write item) h = h
+wish_obeys Read h = h
+
+-- scripts of records that fit may be run
+pub scripts_obey : (scripts : List (List (Wish Band))) → All (λ script. All (λ wish. IsTrue (wish_fits wish)) script) scripts → All (λ script. All (Obeys fits) script) scripts
+scripts_obey scripts h = λ k d l. λ j e m. wish_obeys (get_or (get_or scripts k d) j e) (h k d l j e m)
+
+seen_as_read : (limit process : ℕ) (wish : Wish Band) (seen chosen : Clocked Band) (reply : Reply Band) → Replies limit process wish seen chosen reply
+    → one (is_seen reply) ≡ one (is_read wish)
+seen_as_read limit process Read seen chosen reply h = rw h.0 refl
+seen_as_read limit process (Write item) seen chosen (Written s) h = refl
+seen_as_read limit process (Write item) seen chosen (Seen p) h = absurd h
+seen_as_read limit process (Write item) seen chosen (Ended p) h = refl
+
+written_as_write : (limit process : ℕ) (wish : Wish Band) (seen chosen : Clocked Band) (reply : Reply Band) → Replies limit process wish seen chosen reply
+    → one (is_written reply) + one (is_refused reply) ≡ one (is_write wish)
+written_as_write limit process Read seen chosen reply h = rw h.0 refl
+written_as_write limit process (Write item) seen chosen (Written s) h = refl
+written_as_write limit process (Write item) seen chosen (Seen p) h = absurd h
+written_as_write limit process (Write item) seen chosen (Ended p) h = refl
+
+reads_answered : (board : RaceBoard) (old : RacePass) (log : List (Entry Band)) (new : RacePass) → AreCalls board old log new → replies is_seen log ≡ count_by is_read (map (λ e. e.wish) log)
+reads_answered board old [] new h = refl
+reads_answered board old (e ∷ es) new h =
+    let here_one = seen_as_read _ _ e.wish _ _ e.reply h.1.replies in
+    let rest = reads_answered board h.0 es new h.2 in
+    let here = sum_by-cons (λ (d : Entry Band). one (is_seen d.reply)) e es in
+    let there = sum_by-cons (λ w. one (is_read w)) e.wish (map (λ (d : Entry Band). d.wish) es) in
+    omega (arith, here_one, rest, here, there)
+
+writes_answered : (board : RaceBoard) (old : RacePass) (log : List (Entry Band)) (new : RacePass) → AreCalls board old log new
+    → replies is_written log + replies is_refused log ≡ count_by is_write (map (λ e. e.wish) log)
+writes_answered board old [] new h = refl
+writes_answered board old (e ∷ es) new h =
+    let here_one = written_as_write _ _ e.wish _ _ e.reply h.1.replies in
+    let rest = writes_answered board h.0 es new h.2 in
+    let here = sum_by-cons (λ (d : Entry Band). one (is_written d.reply)) e es in
+    let beside = sum_by-cons (λ (d : Entry Band). one (is_refused d.reply)) e es in
+    let there = sum_by-cons (λ w. one (is_write w)) e.wish (map (λ (d : Entry Band). d.wish) es) in
+    omega (arith, here_one, rest, here, beside, there)
+
+-- the counts of a lane that began with an empty log and ran to its end
+lane_counts : (may_stop : ℕ → ℕ → Type 0) → ((task call : ℕ) → may_stop task call → ⊥) → (board : RaceBoard) (task : ℕ) (script : List (Wish Band)) (old new : RaceLane)
+    → old.script.items ≡ script → old.log.items ≡ [] → Ran may_stop board task old new → CountsScript script (counts_of new.log.items)
+lane_counts may_stop never board task script old new plans empty ran =
+    let log = new.log.items in
+    let is_log : log ≡ ran.added = ran.log ∙ ap (λ z. z ++ ran.added) empty in
+    let same : new.script.items ≡ script = ap (λ v. v.items) ran.script ∙ plans in
+    let whole : length log ≡ length script = ⊎_elim (λ (e : length log ≡ length new.script.items). e ∙ ap length same) (λ stops. absurd (never task _ stops)) ran.whole in
+    let wishes : map (λ (e : Entry Band). e.wish) log ≡ script = new.kept.wishes ∙ ap (take (length log)) same ∙ take_all (length log) script (omega (arith, whole)) in
+    let calls : AreCalls board old.pass log new.pass = subst (λ z. AreCalls board old.pass z new.pass) (sym is_log) ran.calls in
+    record {
+      reads = reads_answered board old.pass log new.pass calls ∙ ap (count_by is_read) wishes;
+      writes = writes_answered board old.pass log new.pass calls ∙ ap (count_by is_write) wishes;
+    }
+
+-- under a gate that never stops a race has the counts of its scripts
+pub race_counts : (may_stop : ℕ → ℕ → Type 0) → ((task call : ℕ) → may_stop task call → ⊥) → (opening : Band) (limit : ℕ) (scripts : List (List (Wish Band))) (report : Report)
+    → IsRace may_stop opening limit scripts report → CountsAll scripts report
+race_counts may_stop never opening limit scripts report h =
+    let tell : RaceLane → Counts = λ (l : RaceLane). counts_of l.log.items in
+    let all = length-map h.ended tell ∙ h.ran.lengths ∙ lanes_length h.passes scripts h.lanes h.begins ∙ h.new.count in
+    subst (CountsAll scripts) (sym h.told) (record {
+      all = all;
+      each = λ k script counts at_script at_counts.
+          let ended = get_map_back tell h.ended k counts at_counts in
+          let began = some_at h.lanes k (let n : k < length h.ended = slice_get_within h.ended k ended.0 ended.1 in omega (arith, n, h.ran.lengths)) in
+          let at = lane_at h.passes scripts h.lanes h.begins k began.0 began.1 in
+          let same : script ≡ at.1 = same_Some script at.1 (sym at_script ∙ at.3) in
+          subst (CountsScript script) ended.2
+              (lane_counts may_stop never h.board (0 + k) script began.0 ended.0 (at.4.plans ∙ sym same) at.4.empty (h.ran.each k began.0 ended.0 began.1 ended.1));
+    })
+
+drop_past : {X : Type 0} (old new : List X) → length new ≡ length old → drop (length new) old ≡ []
+drop_past [] [] e = refl
+drop_past [] (y ∷ new) e = refl
+drop_past (x ∷ old) [] e = absurd (omega (arith, e))
+drop_past (x ∷ old) (y ∷ new) e = drop_past old new (omega (arith, e))
+
+append_nothing : {X : Type 0} (xs : List X) → xs ++ [] ≡ xs
+append_nothing [] = refl
+append_nothing (x ∷ xs) = ap (λ z. x ∷ z) (append_nothing xs)
+
+-- what a vector holds after its slice was changed
+pub changed_whole : {X : Type 0} (n : ℕ) (old before new now : List X) → n ≡ length old → before ≡ old → length new ≡ length before → now ≡ take n (new ++ drop (length new) old) → now ≡ new
+changed_whole n old before new now count same lengths changed =
+    let long : length new ≡ length old = lengths ∙ ap length same in
+    let rest : new ++ drop (length new) old ≡ new = ap (λ z. new ++ z) (drop_past old new long) ∙ append_nothing new in
+    changed ∙ ap (take n) rest ∙ take_all n new (omega (arith, count, long))
+
+-- the lanes of a new board may run
+pub race_ready : (board : RaceBoard) (n limit : ℕ) (first : Clocked Band) (passes : List RacePass) (scripts : List (List (Wish Band))) (lanes now : List RaceLane) → IsNew n limit first board passes
+    → AreLanes passes scripts lanes → now ≡ lanes → AllReady (λ (l : RaceLane). IsPass board l.pass) 0 now
+race_ready board n limit first passes scripts lanes now new are same =
+    subst (λ z. AllReady (λ (l : RaceLane). IsPass board l.pass) 0 z) (sym same) (all_ready board passes scripts lanes new.passes_of are)
+
+-- what was made and run is a race
+pub race_of : (may_stop : ℕ → ℕ → Type 0) (opening : Band) (limit n : ℕ) (scripts : List (List (Wish Band))) (board : RaceBoard) (passes : List RacePass) (lanes before after ended : List RaceLane) (origin : Origin)
+    (tasks : List Counts) (broken : Option (ℕ × ℕ)) → n ≡ length scripts → IsNew n limit (record { stamp = first_stamp; item = opening; clock = 0 }) board passes → AreLanes passes scripts lanes
+    → before ≡ lanes → EachStep (Ran may_stop board) 0 before after → ended ≡ after → IsOrigin same_band opening (logs_of ended) origin → tasks ≡ counts_in ended → broken ≡ broken_at origin
+    → IsRace may_stop opening limit scripts (Race tasks broken)
+race_of may_stop opening limit n scripts board passes lanes before after ended origin tasks broken count new are same ran end checked told first = record {
+  board = board;
+  passes = passes;
+  lanes = lanes;
+  ended = ended;
+  origin = origin;
+  new = subst (λ m. IsNew m limit (record { stamp = first_stamp; item = opening; clock = 0 }) board passes) count new;
+  begins = are;
+  ran = subst (λ z. EachStep (Ran may_stop board) 0 z ended) same (subst (λ z. EachStep (Ran may_stop board) 0 before z) (sym end) ran);
+  checked = checked;
+  told = rw (told, first) refl;
+}

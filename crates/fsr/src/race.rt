@@ -1,0 +1,115 @@
+//! Races: the scripts of a document, each run by a task of its own over one board.
+ghost use Rattle.std.specs.Prelude.{◌≡◌, ℕ, IfErr, IfOk};
+ghost use Rattle.schedule_text.specs.Players.{CanRace};
+ghost use Rattle.fsr.specs.Races.{CountsAll, IsRace, broken_at, counts_in, counts_of, is_refused, is_seen, is_written, replies};
+ghost use Rattle.fsr.specs.declared.fault.Fault.TheVariants.{NoMemory};
+
+use crate::fault::Fault;
+use board_live::{
+    Board, BoardError, Clocked, Entry, Gate, Lane, Origin, Reply, check_origin, make_lanes,
+    run_tasks,
+};
+use cell_live::FourSlotCell;
+use history_core::{Band, Items};
+use matrix_core::Wish;
+use schedule_text::{Counts, Report};
+use std::alloc::{AllocError, Global};
+use std::thread::Threads;
+
+/// Runs each script as a task of its own, in threads, over a board of four-slot cells, and tells what the logs say.
+pub fn race<R: Threads + Sync, G: Gate + Sync>(
+    rt: &R,
+    alloc: Global,
+    opening: Band,
+    limit: u64,
+    scripts: Items<Items<Wish<Band>>>,
+    gate: &G,
+) -> Result<Report, Fault>
+    requires { CanRace opening limit scripts }
+    ensures report { IfOk result (IsRace (G.may_stop gate.now) opening limit scripts) }
+    ensures counted { ((task call : ℕ) → G.may_stop gate.now task call → ⊥) → IfOk result (CountsAll scripts) }
+    ensures refused { IfErr result (λ e. e ≡ NoMemory) }
+{
+    let processes = scripts.as_slice().len();
+    let (board, passes) = match Board::<Band, FourSlotCell<Clocked<Band>>>::new(alloc, processes, limit, opening) {
+        Ok(made) => made,
+        Err(BoardError::NoMemory) => return Err(Fault::NoMemory),
+        Err(BoardError::Processes | BoardError::Limit | BoardError::Opening) => unreachable!(),
+    };
+    let mut lanes = make_lanes(alloc, passes, scripts)?;
+    run_tasks(rt, &board, lanes.as_mut_slice(), gate);
+    let tasks = Items::new(counts(alloc, lanes.as_slice())?);
+    let broken = broken_at(check_origin(opening, lanes.as_slice()));
+    Ok(Report::Race { tasks, broken })
+}
+
+/// Where the check of the logs found an entry without its origin.
+fn broken_at(origin: Origin) -> Option<(usize, usize)>
+    ensures { result ≡ broken_at origin }
+{
+    match origin {
+        Origin::Sound => None,
+        Origin::Broken { task, call } => Some((task, call)),
+    }
+}
+
+/// The counts of each lane's log.
+fn counts(
+    alloc: Global,
+    lanes: &[Lane<Band, FourSlotCell<Clocked<Band>>>],
+) -> Result<Vec<Counts>, AllocError>
+    ensures { IfOk result (λ counts. counts.items ≡ counts_in lanes.now) }
+{
+    let mut counts = Vec::new(alloc);
+    for lane in lanes {
+        counts.push(counts_of(lane.log()))?;
+    }
+    Ok(counts)
+}
+
+/// How many entries of the log were answered in each way.
+fn counts_of(log: &[Entry<Band>]) -> Counts
+    ensures { result ≡ counts_of log.now }
+{
+    Counts {
+        writes: written(log),
+        reads: seen(log),
+        refused: refused(log),
+    }
+}
+
+fn written(log: &[Entry<Band>]) -> u64
+    ensures { result ≡ replies is_written log.now }
+{
+    log.iter().filter(|entry| is_written(&entry.reply)).count() as u64
+}
+
+fn seen(log: &[Entry<Band>]) -> u64
+    ensures { result ≡ replies is_seen log.now }
+{
+    log.iter().filter(|entry| is_seen(&entry.reply)).count() as u64
+}
+
+fn refused(log: &[Entry<Band>]) -> u64
+    ensures { result ≡ replies is_refused log.now }
+{
+    log.iter().filter(|entry| is_refused(&entry.reply)).count() as u64
+}
+
+fn is_written(reply: &Reply<Band>) -> bool
+    ensures { result ≡ is_written reply.now }
+{
+    matches!(reply, Reply::Written(_))
+}
+
+fn is_seen(reply: &Reply<Band>) -> bool
+    ensures { result ≡ is_seen reply.now }
+{
+    matches!(reply, Reply::Seen(_))
+}
+
+fn is_refused(reply: &Reply<Band>) -> bool
+    ensures { result ≡ is_refused reply.now }
+{
+    matches!(reply, Reply::Ended(_))
+}
