@@ -3,13 +3,12 @@ use Rattle.std.proofs.Common.{◌≡◌, Bool, true, false, ℕ, zero, suc, ◌+
 use Rattle.std.specs.Prelude.{slice_get, Option, Some, All, IsTrue, cond, count_by}
 use Rattle.std.proofs.lemmas.List.{length-map, take_all}
 use Rattle.std.proofs.lemmas.List.Sums.{sum_by-cons}
-use Rattle.std.proofs.lemmas.Option.{same_Some, slice_get_within}
+use Rattle.std.proofs.lemmas.Option.{none-some, same_Some, slice_get_within}
 use Rattle.history_core.specs.Band.{fits}
 use Rattle.history_core.specs.declared.band.Band.{Band}
 use Rattle.history_core.specs.declared.play.Wish.{Wish}
 use Rattle.history_core.specs.declared.play.Wish.TheVariants.{Write, Read}
 use Rattle.matrix_core.specs.Stamps.{first_stamp}
-use Rattle.matrix_core.proofs.Listing.{get_map_back}
 use Rattle.board_live.proofs.LaneLists.{all_ready, lane_at, lanes_length}
 use Rattle.board_live.specs.declared.clocked.Clocked.{Clocked}
 use Rattle.board_live.specs.declared.lane.Entry.{Entry}
@@ -28,6 +27,11 @@ use Rattle.fsr.specs.Races.{CountsAll, CountsScript, IsRace, RaceBoard, RaceLane
 use Rattle.schedule_text.specs.declared.report.Counts.{Counts}
 use Rattle.schedule_text.specs.declared.report.Report.{Report}
 use Rattle.schedule_text.specs.declared.report.Report.TheVariants.{Race}
+
+get_map_back : {A B : Type 0} (f : A → B) (xs : List A) (k : ℕ) (y : B) → slice_get (map f xs) k ≡ Some y → (x : A) × (slice_get xs k ≡ Some x) × (f x ≡ y)
+get_map_back f [] k y h = absurd (none-some y h)
+get_map_back f (x ∷ xs) zero y h = (x, refl, same_Some (f x) y h)
+get_map_back f (x ∷ xs) (suc k) y h = get_map_back f xs k y h
 
 -- how much an element that passes a test adds to a count
 abbrev one : Bool → ℕ

@@ -10,9 +10,12 @@ use Rattle.schedule_text.specs.declared.document.Want.{Want}
 use Rattle.schedule_text.specs.declared.document.Want.TheVariants.{Check, Play, Race}
 
 -- the command line of `fsr`: one of the subcommands is required, and none has an argument
+abbrev pub without_race : App
+without_race = with_subcommand (with_subcommand (on_top (λ s. record s { subcommand_required = true }) (new_app (codes "fsr")))
+    (new_app (codes "check")).top) (new_app (codes "play")).top
+
 abbrev pub fsr : App
-fsr = with_subcommand (with_subcommand (with_subcommand (on_top (λ s. record s { subcommand_required = true }) (new_app (codes "fsr")))
-    (new_app (codes "check")).top) (new_app (codes "play")).top) (new_app (codes "race")).top
+fsr = with_subcommand without_race (new_app (codes "race")).top
 
 abbrev pub want_named : Text → Option Want
 want_named name = if bytes_eq name (codes "check") then Some Check

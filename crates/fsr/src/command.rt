@@ -1,6 +1,6 @@
 ghost use Rattle.std.specs.Prelude.{◌≡◌, ◌≢◌, None, Some, map, IfOk, IfErr};
 ghost use Rattle.clap.specs.Words.{app_of};
-ghost use Rattle.fsr.specs.Command.{fsr, command_of, Refuses};
+ghost use Rattle.fsr.specs.Command.{fsr, command_of, want_named, without_race, Refuses};
 
 use clap::error::ErrorKind;
 use clap::{Command, Error};
@@ -18,19 +18,36 @@ pub enum NoCommand {
     NoMemory,
 }
 
-/// The command line of `fsr`.
-fn command_line<'a>(alloc: Global) -> Result<Command<'a>, AllocError>
-    ensures { IfOk result (λ c. app_of c ≡ fsr) }
+/// The command line of `fsr`, but for the command `race`.
+fn line_without_race<'a>(alloc: Global) -> Result<Command<'a>, AllocError>
+    ensures { IfOk result (λ c. app_of c ≡ without_race) }
 {
     let check = Command::new(alloc, "check").about("Checks that an order of a history is atomic");
     let play = Command::new(alloc, "play").about("Plays a schedule and reports its history");
-    let race = Command::new(alloc, "race").about("Runs tasks over a board and checks their logs");
     Command::new(alloc, "fsr")
         .about("Reads a document on standard input")
         .subcommand_required(true)
         .subcommand(check)?
-        .subcommand(play)?
-        .subcommand(race)
+        .subcommand(play)
+}
+
+/// The command line of `fsr`.
+fn command_line<'a>(alloc: Global) -> Result<Command<'a>, AllocError>
+    ensures { IfOk result (λ c. app_of c ≡ fsr) }
+{
+    let race = Command::new(alloc, "race").about("Runs tasks over a board and checks their logs");
+    line_without_race(alloc)?.subcommand(race)
+}
+
+fn want_named(name: &str) -> Option<Want>
+    ensures { result ≡ want_named name.now }
+{
+    match name {
+        "check" => Some(Want::Check),
+        "play" => Some(Want::Play),
+        "race" => Some(Want::Race),
+        _ => None,
+    }
 }
 
 /// The command that the words name. The first word is the program's name.
@@ -43,10 +60,11 @@ pub fn command_of<'a, S: AsStr>(alloc: Global, words: &'a [S]) -> Result<Want, N
     };
     match line.try_get_matches_from(words) {
         Ok(matches) => match matches.subcommand_name() {
-            Some("check") => Ok(Want::Check),
-            Some("play") => Ok(Want::Play),
-            Some("race") => Ok(Want::Race),
-            _ => Err(NoCommand::Unknown),
+            Some(name) => match want_named(name) {
+                Some(want) => Ok(want),
+                None => Err(NoCommand::Unknown),
+            },
+            None => Err(NoCommand::Unknown),
         },
         Err(e) => {
             if e.kind() == ErrorKind::OutOfMemory {

@@ -1,11 +1,11 @@
 mod boards;
 mod cells;
+mod fakes;
 mod long;
 mod matrices;
 mod races;
 mod refusals;
 mod runs;
-mod streams;
 mod transfers;
 mod verdicts;
 mod words;

@@ -1,6 +1,6 @@
 use crate::run::run;
 use crate::Over;
-use crate::tests::streams::{Full, Kept, Pieces};
+use crate::tests::fakes::{Full, Kept, Pieces};
 use std::alloc::{AllocError, Global};
 use std::process::Abort;
 use std::thread::Threads;

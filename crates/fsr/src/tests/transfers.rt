@@ -1,7 +1,7 @@
 use crate::run::run;
 use crate::tests::long::padded;
 use crate::tests::runs::{AMPLE, ROW};
-use crate::tests::streams::{Full, InterruptedReader, InterruptedWriter, Kept, Pieces};
+use crate::tests::fakes::{Full, InterruptedReader, InterruptedWriter, Kept, Pieces};
 use crate::{Over, Sink, Source};
 use std::test::Fail;
 

@@ -1,7 +1,7 @@
 use crate::run::run;
 use crate::Over;
 use crate::tests::runs::{AMPLE, ROW};
-use crate::tests::streams::{Full, Kept, Pieces};
+use crate::tests::fakes::{Full, Kept, Pieces};
 use std::alloc::Global;
 use std::process::Abort;
 use std::thread::Threads;
