@@ -6,7 +6,7 @@ use Rattle.std.specs.Io.{StartsWith}
 use Rattle.std.specs.Io.KnownBytes.{Appends}
 use Rattle.picture_text.specs.declared.scene.Scene.{Scene}
 use Rattle.schedule_text.specs.declared.document.Document.{Document}
-use Rattle.schedule_text.specs.declared.document.Document.TheVariants.{Check, Cell, Matrix, Board}
+use Rattle.schedule_text.specs.declared.document.Document.TheVariants.{Check, Cell, Matrix, Board, Race}
 use Rattle.schedule_text.specs.declared.document.DocError.{DocError}
 use Rattle.picture.specs.Answers.{document_of}
 use Rattle.picture.specs.Answers.{AnswersReading, Gives, IsAnswer, status_of}
@@ -106,6 +106,7 @@ status_is_low (Ok (Matrix schedule titled)) a answered =
 status_is_low (Ok (Board schedule titled)) a answered =
     let same : a.status ≡ status_of answered.3.broken = ap (λ b. b.status) answered.5 in
     rw same (drawn_is_low answered.3)
+status_is_low (Ok (Race opening limit scripts)) a answered = elim answered [ ]
 status_is_low (Err refusal) a answered = absurd (cc)
 
 -- the text went out whole
