@@ -10,22 +10,5 @@ command_for() {
 }
 
 for document in examples/*.json tests/schedules/*.json; do
-    name=${document%.json}
-    wanted=0
-    if [ -f "$name.status" ]; then
-        wanted=$(cat "$name.status")
-    fi
-    if ! has_program fsr; then
-        fail "$document" "fsr wasn't built"
-        continue
-    fi
-    crates/fsr/out/fsr "$(command_for "$document")" <"$document" >"$room/out" 2>&1
-    status=$?
-    if [ "$status" != "$wanted" ]; then
-        fail "$document" "status $status and not $wanted"
-    elif ! cmp -s "$room/out" "$name.txt"; then
-        fail "$document" "it printed something else than $name.txt"
-    else
-        pass "$document"
-    fi
+    sees "$document" fsr "$document" "${document%.json}.txt" "$(command_for "$document")"
 done

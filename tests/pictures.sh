@@ -3,34 +3,13 @@
 
 for file in docs/pictures/*.svg; do
     name=${file##*/}
-    document=examples/${name%.svg}.json
-    if ! has_program picture; then
-        fail "$file" "picture wasn't built"
-        continue
-    fi
-    wanted=0
-    [ -f "examples/${name%.svg}.status" ] && wanted=$(cat "examples/${name%.svg}.status")
-    crates/picture/out/picture <"$document" >"$room/out" 2>"$room/err"
-    status=$?
-    if [ "$status" != "$wanted" ]; then
-        fail "$file" "the picture of $document ended with status $status and not $wanted"
-    elif ! cmp -s "$room/out" "$file"; then
-        fail "$file" "it isn't what is drawn of $document"
-    else
-        pass "$file"
-    fi
+    sees "$file" picture "examples/${name%.svg}.json" "$file"
 done
 
 # What has no picture: the status and the line are those of `fsr`, under the name of the program.
 for name in no_limit too_many_steps; do
     sed 's/^fsr: /picture: /' "examples/$name.txt" >"$room/wanted_line"
-    crates/picture/out/picture <"examples/$name.json" >"$room/out" 2>"$room/err"
-    status=$?
-    if [ "$status" != "$(cat "examples/$name.status")" ] || [ -s "$room/out" ] || ! cmp -s "$room/err" "$room/wanted_line"; then
-        fail "picture < examples/$name.json" "status $status: $(head -c 200 "$room/err")"
-    else
-        pass "picture < examples/$name.json"
-    fi
+    sees "picture < examples/$name.json" picture "examples/$name.json" "$room/wanted_line"
 done
 
 if ! command -v python3 >/dev/null 2>&1; then

@@ -77,7 +77,7 @@ AnswersMatrix schedule (Err fault.NoMemory) = ⊥
 abbrev pub AnswersBoard : BoardSchedule Band → Result Answer Fault → Type 0
 AnswersBoard schedule (Ok answer) =
     (r : BoardReport Band) × HasOperations (board_spans schedule.terms) × IsBoardReport schedule r
-    × (scene : Scene) × ShowsBoard r scene × (answer ≡ drawn scene)
+    × (scene : Scene) × ShowsBoard schedule r scene × (answer ≡ drawn scene)
 AnswersBoard schedule (Err (fault.Document refusal)) = ⊥
 AnswersBoard schedule (Err (fault.Schedule position)) = IsFirstOverrun (board_spans schedule.terms) position
 AnswersBoard schedule (Err fault.NoMemory) = ⊥

@@ -1,7 +1,7 @@
 -- What a run of the program does to its streams (this project's own).
 use Rattle.std.specs.Prelude.{◌≡◌, ◌≢◌, ◌≤◌, ◌<◌, ◌+◌, ◌⊎◌, ◌↔◌, ℕ, Bool, true, false, List, [], length, Option, Result, Ok, Err}
 use Rattle.std.specs.Io.{StartsWith}
-use Rattle.std.specs.Io.KnownBytes.{Consumes, Appends, IsAtEnd}
+use Rattle.std.specs.Io.KnownBytes.{Consumes, Appends}
 use Rattle.streams.specs.Transfer.{IsWhole, most_taken}
 use Rattle.picture.specs.Answers.{IsAnswer}
 use Rattle.picture.specs.declared.fault.Answer.{Answer}

@@ -1,54 +1,60 @@
 -- What the picture of a document shows (this project's own): its history and order, or those that its player made of it, with their
 -- points and with what breaks the order.
-use Rattle.std.specs.Prelude.{◌≡◌, ◌==◌, ◌&&◌, ◌⊎◌, IsTrue, List, ℕ, [], false, true, IfSome, None}
+use Rattle.std.specs.Prelude.{◌≡◌, ◌==◌, ◌&&◌, ◌⊎◌, IsTrue, List, ℕ, [], IfSome, Option, None}
 use Rattle.fourslot_core.specs.declared.schedule.CellReport.{CellReport}
 use Rattle.fourslot_core.specs.declared.schedule.CellSchedule.{CellSchedule}
 use Rattle.history_core.specs.Breaks.{IsFirstBreak, verdict_of}
 use Rattle.history_core.specs.Orders.{IsVerdict}
 use Rattle.history_core.specs.Points.{AreEarliest, HasPoints}
 use Rattle.history_core.specs.declared.band.Band.{Band}
+use Rattle.history_core.specs.declared.breaks.Break.{Break}
 use Rattle.history_core.specs.declared.history.History.{History}
+use Rattle.history_core.specs.declared.history.Op.{Op}
 use Rattle.matrix_core.specs.declared.schedule.MatrixReport.{MatrixReport}
 use Rattle.matrix_core.specs.declared.schedule.BoardReport.{BoardReport}
-use Rattle.picture_text.specs.Visits.{visits_of}
+use Rattle.matrix_core.specs.declared.schedule.BoardSchedule.{BoardSchedule}
+use Rattle.matrix_core.specs.declared.stamp.Stamp.{Stamp}
+use Rattle.picture_text.specs.Visits.{board_lanes, board_visits, cell_visits}
+use Rattle.picture_text.specs.declared.scene.Lanes.{Lanes}
+use Rattle.picture_text.specs.declared.scene.Lanes.TheVariants.{Actors, Cell}
 use Rattle.picture_text.specs.declared.scene.Scene.{Scene}
+use Rattle.picture_text.specs.declared.scene.Visit.{Visit}
 
 -- two records are the same where their three numbers are
 abbrev pub AreSame : Band → Band → Type 0
 AreSame x y = IsTrue ((x.lo == y.lo) && ((x.now == y.now) && (x.hi == y.hi)))
 
--- a history with an order of it, whose points are the earliest, where it has some
-pub record Shows (history : History Band) (order : List ℕ) (scene : Scene) : Type 0 where
+-- the points of an order: the earliest, where it has some
+abbrev pub ArePointsOf : List (Op Band) → List ℕ → List ℕ → Type 0
+ArePointsOf ops order points = AreEarliest ops order points ⊎ ((¬ HasPoints ops order) × (points ≡ []))
+
+-- a history with an order of it and its points, and what breaks it; these stamps, lanes and slot accesses
+pub record Shows (history : History Band) (order : List ℕ) (broken : Option Break) (stamps : List (Option Stamp)) (lanes : Lanes)
+    (visits : List Visit) (scene : Scene) : Type 0 where
   pub history_is : scene.history ≡ history
   pub order_is : scene.order ≡ order
-  pub points_are : AreEarliest history.ops order scene.points ⊎ ((¬ HasPoints history.ops order) × (scene.points ≡ []))
+  pub points_are : ArePointsOf history.ops order scene.points
+  pub broken_is : scene.broken ≡ broken
+  pub stamps_are : scene.stamps ≡ stamps
+  pub lanes_are : scene.lanes ≡ lanes
+  pub visits_are : scene.visits ≡ visits
 
--- what breaks the order, if something does
+-- of a check what breaks the order, if something does
 pub record ShowsCheck (history : History Band) (order : List ℕ) (scene : Scene) : Type 0 where
-  pub shown : Shows history order scene
-  pub rule : IsVerdict AreSame history.opening history.terms history.ops order (verdict_of scene.broken)
-  pub first : IfSome scene.broken (IsFirstBreak AreSame history.opening history.terms history.ops order)
-  pub lanes : scene.slots ≡ false
-  pub stamps : scene.stamps ≡ []
-  pub visits : scene.visits ≡ []
+  pub broken : Option Break
+  pub shown : Shows history order broken [] Actors [] scene
+  pub rule : IsVerdict AreSame history.opening history.terms history.ops order (verdict_of broken)
+  pub first : IfSome broken (IsFirstBreak AreSame history.opening history.terms history.ops order)
 
-pub record ShowsCell (schedule : CellSchedule Band) (report : CellReport Band) (scene : Scene) : Type 0 where
-  pub shown : Shows report.history report.order scene
-  pub lawful : scene.broken ≡ None
-  pub lanes : scene.slots ≡ true
-  pub stamps : scene.stamps ≡ []
-  pub visits : scene.visits ≡ visits_of schedule.steps report.slots
+abbrev pub ShowsCell : CellSchedule Band → CellReport Band → Scene → Type 0
+ShowsCell schedule report scene =
+    Shows report.history report.order None [] Cell (cell_visits schedule report.history.ops report.slots) scene
 
-pub record ShowsMatrix (report : MatrixReport Band) (scene : Scene) : Type 0 where
-  pub shown : Shows report.history report.order scene
-  pub lawful : scene.broken ≡ None
-  pub lanes : scene.slots ≡ false
-  pub stamps : scene.stamps ≡ report.stamps
-  pub visits : scene.visits ≡ []
+abbrev pub ShowsMatrix : MatrixReport Band → Scene → Type 0
+ShowsMatrix report scene = Shows report.history report.order None report.stamps Actors [] scene
 
-pub record ShowsBoard (report : BoardReport Band) (scene : Scene) : Type 0 where
-  pub shown : Shows report.history report.order scene
-  pub lawful : scene.broken ≡ None
-  pub lanes : scene.slots ≡ false
-  pub stamps : scene.stamps ≡ report.stamps
-  pub visits : scene.visits ≡ []
+-- of a board also its cells, where they fit
+abbrev pub ShowsBoard : BoardSchedule Band → BoardReport Band → Scene → Type 0
+ShowsBoard schedule report scene =
+    Shows report.history report.order None report.stamps (board_lanes schedule.terms)
+    (board_visits schedule.terms report.history.terms report.history.ops report.slots) scene

@@ -87,7 +87,7 @@ fn board(alloc: Global, schedule: &BoardSchedule<Band>) -> Result<Answer, Fault>
     ensures { Gives (AnswersBoard schedule.now) result }
 {
     let report = play_board(alloc, schedule)?;
-    let scene = board_scene(alloc, report)?;
+    let scene = board_scene(alloc, schedule, report)?;
     let answer = draw(alloc, &scene)?;
     Ok(answer)
 }

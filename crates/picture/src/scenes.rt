@@ -1,13 +1,13 @@
 //! The scenes of the documents of each kind.
 
-ghost use Rattle.std.specs.Prelude.{◌≡◌, ◌⊎◌, [], IfOk};
-ghost use Rattle.history_core.specs.Points.{AreEarliest, HasPoints};
-ghost use Rattle.picture.specs.Scenes.{ShowsBoard, ShowsCell, ShowsCheck, ShowsMatrix};
+ghost use Rattle.std.specs.Prelude.{◌≡◌, [], IfOk};
+ghost use Rattle.matrix_core.specs.Runs.{CanPlay};
+ghost use Rattle.picture.specs.Scenes.{ArePointsOf, Shows, ShowsBoard, ShowsCell, ShowsCheck, ShowsMatrix};
 
 use fourslot_core::{CellReport, CellSchedule};
-use history_core::{Band, History, Items, first_break, points};
-use matrix_core::{BoardReport, MatrixReport};
-use picture_text::{Scene, slot_visits};
+use history_core::{Band, Break, History, Items, first_break, points};
+use matrix_core::{BoardReport, BoardSchedule, MatrixReport, Stamp};
+use picture_text::{Lanes, Scene, Visit, board_lanes, board_visits, cell_visits};
 use std::alloc::{AllocError, Global};
 
 pub fn check_scene(
@@ -17,17 +17,10 @@ pub fn check_scene(
 ) -> Result<Scene, AllocError>
     ensures { IfOk result (ShowsCheck history order) }
 {
-    let points = points_of(alloc, &history, &order)?;
     let broken = first_break(&history, order.as_slice());
-    Ok(Scene {
-        history,
-        order,
-        points,
-        broken,
-        stamps: Items::new(Vec::new(alloc)),
-        slots: false,
-        visits: Items::new(Vec::new(alloc)),
-    })
+    let stamps = Items::new(Vec::new(alloc));
+    let visits = Items::new(Vec::new(alloc));
+    scene_of(alloc, history, order, broken, stamps, Lanes::Actors, visits)
 }
 
 pub fn cell_scene(
@@ -42,17 +35,10 @@ pub fn cell_scene(
         slots,
         order,
     } = report;
-    let visits = Items::new(slot_visits(alloc, schedule.steps.as_slice(), slots.as_slice())?);
-    let points = points_of(alloc, &history, &order)?;
-    Ok(Scene {
-        history,
-        order,
-        points,
-        broken: None,
-        stamps: Items::new(Vec::new(alloc)),
-        slots: true,
-        visits,
-    })
+    let visits = cell_visits(alloc, schedule, history.ops.as_slice(), slots.as_slice())?;
+    let stamps = Items::new(Vec::new(alloc));
+    let visits = Items::new(visits);
+    scene_of(alloc, history, order, None, stamps, Lanes::Cell, visits)
 }
 
 pub fn matrix_scene(alloc: Global, report: MatrixReport<Band>) -> Result<Scene, AllocError>
@@ -63,36 +49,66 @@ pub fn matrix_scene(alloc: Global, report: MatrixReport<Band>) -> Result<Scene, 
         stamps,
         order,
     } = report;
-    let points = points_of(alloc, &history, &order)?;
-    Ok(Scene {
-        history,
-        order,
-        points,
-        broken: None,
-        stamps,
-        slots: false,
-        visits: Items::new(Vec::new(alloc)),
-    })
+    let visits = Items::new(Vec::new(alloc));
+    scene_of(alloc, history, order, None, stamps, Lanes::Actors, visits)
 }
 
-pub fn board_scene(alloc: Global, report: BoardReport<Band>) -> Result<Scene, AllocError>
-    ensures { IfOk result (ShowsBoard report) }
+pub fn board_scene(
+    alloc: Global,
+    schedule: &BoardSchedule<Band>,
+    report: BoardReport<Band>,
+) -> Result<Scene, AllocError>
+    requires { CanPlay schedule.now.terms }
+    ensures { IfOk result (ShowsBoard schedule.now report) }
 {
     let BoardReport {
         history,
         stamps,
+        slots,
         order,
-        ..
     } = report;
+    let terms = schedule.terms.as_slice();
+    let marks = history.terms.as_slice();
+    let visits = board_visits(
+        alloc,
+        terms,
+        marks,
+        history.ops.as_slice(),
+        slots.as_slice(),
+    )?;
+    let visits = Items::new(visits);
+    scene_of(
+        alloc,
+        history,
+        order,
+        None,
+        stamps,
+        board_lanes(terms),
+        visits,
+    )
+}
+
+/// The scene of a history with an order, and with its points.
+fn scene_of(
+    alloc: Global,
+    history: History<Band>,
+    order: Items<usize>,
+    broken: Option<Break>,
+    stamps: Items<Option<Stamp>>,
+    lanes: Lanes,
+    visits: Items<Visit>,
+) -> Result<Scene, AllocError>
+    ensures { IfOk result (Shows history order broken stamps lanes visits) }
+{
     let points = points_of(alloc, &history, &order)?;
     Ok(Scene {
         history,
         order,
         points,
-        broken: None,
+        broken,
         stamps,
-        slots: false,
-        visits: Items::new(Vec::new(alloc)),
+        lanes,
+        visits,
     })
 }
 
@@ -102,7 +118,7 @@ fn points_of(
     history: &History<Band>,
     order: &Items<usize>,
 ) -> Result<Items<u64>, AllocError>
-    ensures { IfOk result (λ p. AreEarliest history.now.ops order.now p ⊎ ((¬ HasPoints history.now.ops order.now) × (p ≡ []))) }
+    ensures { IfOk result (ArePointsOf history.now.ops order.now) }
 {
     match points(alloc, history, order.as_slice())? {
         Some(points) => Ok(points),

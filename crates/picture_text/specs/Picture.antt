@@ -14,10 +14,13 @@ use Rattle.matrix_core.specs.declared.stamp.Stamp.{Stamp}
 use Rattle.schedule_text.specs.Text.{entry_at}
 use Rattle.picture_text.specs.Looks.{looks}
 use Rattle.picture_text.specs.Scales.{actors_of, far_of, scale_of, unit_in, x_of, y_of}
-use Rattle.picture_text.specs.Shapes.{bar_of, bar_text, class_of, join_text, lane_text, op_shapes, point_text, term_text, tick_text, words_end}
+use Rattle.picture_text.specs.Shapes.{bar_of, bar_text, class_of, join_text, lane_text, op_shapes, row_y, point_text, term_text, tick_text, words_end}
 use Rattle.picture_text.specs.declared.scale.Scale.{Scale}
+use Rattle.picture_text.specs.declared.scene.Lanes.{Lanes}
+use Rattle.picture_text.specs.declared.scene.Lanes.TheVariants.{Actors, Cell, Board}
 use Rattle.picture_text.specs.declared.scene.Scene.{Scene}
 use Rattle.picture_text.specs.declared.scene.Visit.{Visit}
+use Rattle.picture_text.specs.declared.shape.Bar.{Bar}
 use Rattle.picture_text.specs.declared.shape.Class.TheVariants as class
 use Rattle.picture_text.specs.declared.shape.Spot.{Spot}
 
@@ -29,9 +32,9 @@ size_text far high = codes "<svg xmlns=\"http://www.w3.org/2000/svg\" width=\"" 
 abbrev pub head_text : ℕ → ℕ → List ℕ
 head_text far high = size_text far high ++ looks
 
-abbrev pub lanes_text : Bool → ℕ → ℕ → List ℕ
-lanes_text slots far zero = []
-lanes_text slots far (suc n) = lanes_text slots far n ++ lane_text slots far n
+abbrev pub lanes_text : Lanes → ℕ → ℕ → List ℕ
+lanes_text lanes far zero = []
+lanes_text lanes far (suc n) = lanes_text lanes far n ++ lane_text lanes far n
 
 -- every fifth column has its moment on the axis
 abbrev pub tick_moment : Scale → ℕ → ℕ
@@ -62,8 +65,20 @@ abbrev pub ops_text : Scale → List (Option Stamp) → ℕ → List (Op Band) �
 ops_text s stamps place [] = []
 ops_text s stamps place (op ∷ ops) = op_shapes s (entry_at stamps place) op ++ ops_text s stamps (place + 1) ops
 
-abbrev pub visit_text : Scale → Visit → List ℕ
-visit_text s v = bar_text (bar_of (class_of v.kind) s (2 + v.slot) v.starts v.ends)
+-- in the lane of its slot, or in the row of its slot in the lane of its cell
+abbrev pub slot_bar : Scale → Visit → Bar
+slot_bar s v = bar_of (class_of v.kind) s (min (2 ^ 64 - 1) (v.lane + v.slot)) v.starts v.ends
+
+abbrev pub row_bar : Scale → Visit → Bar
+row_bar s v = record (bar_of (class_of v.kind) s v.lane v.starts v.ends) { y = row_y v.lane v.slot; high = 10 }
+
+abbrev pub visit_bar : Lanes → Scale → Visit → Bar
+visit_bar Actors s v = slot_bar s v
+visit_bar Cell s v = slot_bar s v
+visit_bar (Board n) s v = row_bar s v
+
+abbrev pub visit_text : Lanes → Scale → Visit → List ℕ
+visit_text lanes s v = bar_text (visit_bar lanes s v)
 
 -- ---- the order
 
@@ -135,15 +150,20 @@ break_text s ops order points (Some (Limit entry writes)) = mark_text s (listed_
 
 -- ---- the whole
 
-abbrev pub lanes_of : Bool → List (Op Band) → ℕ
-lanes_of slots ops = if slots then 6 else actors_of ops
+-- how many lanes there are; a board with cells has 4 processes at most
+abbrev pub lanes_of : Lanes → List (Op Band) → ℕ
+lanes_of Actors ops = actors_of ops
+lanes_of Cell ops = 6
+lanes_of (Board n) ops = min 4 n * min 4 n
 
-abbrev pub shown_terms : Bool → List Term → List Term
-shown_terms slots terms = if slots then [] else terms
+abbrev pub shown_terms : Lanes → List Term → List Term
+shown_terms Actors terms = terms
+shown_terms Cell terms = []
+shown_terms (Board n) terms = terms
 
-unfoldable pub frame_text : Bool → Scale → ℕ → ℕ → List (Op Band) → List Term → List ℕ
-frame_text slots s lanes high ops terms =
-    head_text (far_of s) high ++ lanes_text slots (far_of s) lanes ++ ticks_text s high (ticks_of s) ++ terms_text s high ops 1 terms
+unfoldable pub frame_text : Lanes → Scale → ℕ → ℕ → List (Op Band) → List Term → List ℕ
+frame_text lanes s count high ops terms =
+    head_text (far_of s) high ++ lanes_text lanes (far_of s) count ++ ticks_text s high (ticks_of s) ++ terms_text s high ops 1 terms
 
 unfoldable pub order_shapes : Scale → List (Op Band) → List ℕ → List ℕ → List ℕ
 order_shapes s ops order points = joins_text s ops points 0 None order ++ points_text s ops points 0 order
@@ -157,7 +177,7 @@ high_of lanes = y_of lanes + 24
 unfoldable pub picture_of : Scene → List ℕ
 picture_of c =
     let s = scale_of c.history.ops in
-    let lanes = lanes_of c.slots c.history.ops in
-    frame_text c.slots s lanes (high_of lanes) c.history.ops (shown_terms c.slots c.history.terms)
-    ++ ops_text s c.stamps 0 c.history.ops ++ flat_map (visit_text s) c.visits
+    let count = lanes_of c.lanes c.history.ops in
+    frame_text c.lanes s count (high_of count) c.history.ops (shown_terms c.lanes c.history.terms)
+    ++ ops_text s c.stamps 0 c.history.ops ++ flat_map (visit_text c.lanes s) c.visits
     ++ break_text s c.history.ops c.order c.points c.broken ++ order_shapes s c.history.ops c.order c.points ++ end_text c.broken

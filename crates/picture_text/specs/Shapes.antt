@@ -1,14 +1,17 @@
 -- The text of each shape of a picture, in SVG 1.1 (W3C, Scalable Vector Graphics). Which shapes there are is this project's own.
-use Rattle.std.specs.Prelude.{ℕ, ◌+◌, ◌-◌, ◌*◌, ◌%◌, ◌++◌, List, [], codes, Bool, true, false, Option, None, Some, is_some, nat_eq, if◌then◌else◌}
+use Rattle.std.specs.Prelude.{ℕ, ◌+◌, ◌-◌, ◌*◌, ◌/◌, ◌%◌, ◌++◌, max, List, [], codes, Bool, true, false, Option, None, Some, is_some, nat_eq, nat_lt, if◌then◌else◌}
 use Rattle.std.specs.Fmt.{decimal}
 use Rattle.history_core.specs.declared.band.Band.{Band}
 use Rattle.history_core.specs.declared.history.Kind.{Kind}
 use Rattle.history_core.specs.declared.history.Kind.TheVariants.{Write, Read, Refused}
 use Rattle.history_core.specs.declared.history.Op.{Op}
+use Rattle.matrix_core.specs.Events.{other}
 use Rattle.matrix_core.specs.declared.stamp.Stamp.{Stamp}
 use Rattle.schedule_text.specs.Text.{item_text, kind_text, stamp_text}
 use Rattle.picture_text.specs.Scales.{far_of, x_of, y_of}
 use Rattle.picture_text.specs.declared.scale.Scale.{Scale}
+use Rattle.picture_text.specs.declared.scene.Lanes.{Lanes}
+use Rattle.picture_text.specs.declared.scene.Lanes.TheVariants.{Actors, Cell, Board}
 use Rattle.picture_text.specs.declared.shape.Bar.{Bar}
 use Rattle.picture_text.specs.declared.shape.Class.{Class}
 use Rattle.picture_text.specs.declared.shape.Class.TheVariants as class
@@ -28,7 +31,7 @@ bar_end true = codes "z\"/>\n"
 bar_end false = codes "\"/>\n"
 
 unfoldable pub bar_sides : Bar → List ℕ
-bar_sides b = codes "H" ++ decimal b.from ++ codes "v24H" ++ decimal b.to ++ bar_end b.closed
+bar_sides b = codes "H" ++ decimal b.from ++ codes "v" ++ decimal b.high ++ codes "H" ++ decimal b.to ++ bar_end b.closed
 
 unfoldable pub bar_text : Bar → List ℕ
 bar_text b = bar_head b.class ++ decimal b.to ++ codes " " ++ decimal b.y ++ bar_sides b
@@ -44,7 +47,8 @@ end_of s None = far_of s
 end_of s (Some end) = x_of s end
 
 abbrev pub bar_of : Class → Scale → ℕ → ℕ → Option ℕ → Bar
-bar_of c s lane starts ends = record { class = c; y = y_of lane + 32; from = x_of s starts; to = end_of s ends; closed = is_some ends }
+bar_of c s lane starts ends =
+    record { class = c; y = y_of lane + 32; high = 24; from = x_of s starts; to = end_of s ends; closed = is_some ends }
 
 -- ---- words
 
@@ -93,16 +97,48 @@ join_text broken a b = join_head broken ++ spot_text a ++ codes "L" ++ spot_text
 
 -- ---- the frame
 
--- of a cell's picture the first two lanes are its sides, and the others its slots
-abbrev pub lane_name : Bool → ℕ → List ℕ
-lane_name false k = codes "actor " ++ decimal k
-lane_name true k = if nat_eq k 0 then codes "writer" else (if nat_eq k 1 then codes "reader" else codes "slot " ++ decimal (k - 2))
+abbrev pub actor_name : ℕ → List ℕ
+actor_name k = codes "actor " ++ decimal k
 
-unfoldable pub lane_words : Bool → ℕ → List ℕ
-lane_words slots k = codes "\"/><text x=\"8\" y=\"" ++ decimal (y_of k + 48) ++ codes "\">" ++ lane_name slots k ++ words_end
+unfoldable pub cell_name : ℕ → ℕ → List ℕ
+cell_name writer reader = codes "cell (" ++ decimal writer ++ codes "," ++ decimal reader ++ codes ")"
 
-unfoldable pub lane_text : Bool → ℕ → ℕ → List ℕ
-lane_text slots far k = codes "<path class=\"l\" d=\"M0 " ++ decimal (y_of k) ++ codes "H" ++ decimal far ++ lane_words slots k
+abbrev pub side_name : ℕ → List ℕ
+side_name k = if nat_eq k 0 then codes "writer" else (if nat_eq k 1 then codes "reader" else codes "slot " ++ decimal (k - 2))
+
+-- of n processes, cell number `cell` by writer and reader
+abbrev pub board_cell_name : ℕ → ℕ → List ℕ
+board_cell_name n cell = cell_name (cell / max 1 (n - 1)) (other (cell / max 1 (n - 1)) (cell % max 1 (n - 1)))
+
+-- of a cell's picture the first two lanes are its sides, and the others its slots; of a board's the first lanes are the processes
+abbrev pub lane_name : Lanes → ℕ → List ℕ
+lane_name Actors k = actor_name k
+lane_name Cell k = side_name k
+lane_name (Board n) k = if nat_lt k n then actor_name k else board_cell_name n (k - n)
+
+unfoldable pub lane_words : Lanes → ℕ → List ℕ
+lane_words lanes k = codes "\"/><text x=\"8\" y=\"" ++ decimal (y_of k + 48) ++ codes "\">" ++ lane_name lanes k ++ words_end
+
+unfoldable pub lane_head : Lanes → ℕ → ℕ → List ℕ
+lane_head lanes far k = codes "<path class=\"l\" d=\"M0 " ++ decimal (y_of k) ++ codes "H" ++ decimal far ++ lane_words lanes k
+
+-- the lane of a board's cell has a row for each slot
+abbrev pub row_y : ℕ → ℕ → ℕ
+row_y lane slot = y_of lane + 6 + 14 * slot
+
+unfoldable pub row_text : ℕ → ℕ → List ℕ
+row_text lane slot = codes "<text class=\"a\" x=\"82\" y=\"" ++ decimal (row_y lane slot + 9) ++ codes "\">" ++ decimal slot ++ words_end
+
+unfoldable pub cell_rows : ℕ → List ℕ
+cell_rows lane = row_text lane 0 ++ row_text lane 1 ++ row_text lane 2 ++ row_text lane 3
+
+abbrev pub rows_text : Lanes → ℕ → List ℕ
+rows_text Actors k = []
+rows_text Cell k = []
+rows_text (Board n) k = if nat_lt k n then [] else cell_rows k
+
+abbrev pub lane_text : Lanes → ℕ → ℕ → List ℕ
+lane_text lanes far k = lane_head lanes far k ++ rows_text lanes k
 
 -- a moment on the axis
 unfoldable pub tick_words : ℕ → ℕ → List ℕ

@@ -2,11 +2,12 @@
 
 ghost use Rattle.std.specs.Prelude.{◌≡◌, ◌<◌, ◌≤◌, ◌^◌, ◌++◌, OnOk, length, slice_get};
 ghost use Rattle.picture_text.specs.Picture.{begin_x, frame_text, head_text, lanes_text, size_text, terms_text, tick_at, tick_moment, ticks_of, ticks_text};
-ghost use Rattle.picture_text.specs.Shapes.{lane_text};
+ghost use Rattle.picture_text.specs.Shapes.{cell_rows, lane_text, row_text};
 
 use crate::looks::looks;
 use crate::scale::Scale;
-use crate::shape::{put_lane, put_term, put_tick};
+use crate::scene::Lanes;
+use crate::shape::{put_lane, put_row, put_term, put_tick};
 use history_core::{Band, Op, Term};
 use schedule_text::Line;
 use std::alloc::AllocError;
@@ -14,18 +15,18 @@ use std::alloc::AllocError;
 #[tactic(auto, unfolding(crate::specs::Picture::frame_text), using(std::proofs::Common::append_assoc))]
 pub fn push_frame(
     text: &mut Vec<u8>,
-    slots: bool,
+    lanes: Lanes,
     scale: &Scale,
-    lanes: usize,
+    count: usize,
     high: u64,
     ops: &[Op<Band>],
     terms: &[Term],
 ) -> Result<(), AllocError>
-    ensures { OnOk result (text.new.items ≡ text.old.items ++ frame_text slots scale.now lanes high ops.now terms.now) }
+    ensures { OnOk result (text.new.items ≡ text.old.items ++ frame_text lanes scale.now count high ops.now terms.now) }
 {
     let far = scale.far();
     push_head(text, far, high)?;
-    push_lanes(text, slots, far, lanes)?;
+    push_lanes(text, lanes, far, count)?;
     push_ticks(text, scale, high, ticks_of(scale))?;
     push_terms(text, scale, high, ops, terms)
 }
@@ -51,27 +52,51 @@ fn put_size(line: &mut Line, far: u64, high: u64)
     line.put(b"<svg xmlns=\"http://www.w3.org/2000/svg\" width=\"");
 }
 
-fn push_lanes(text: &mut Vec<u8>, slots: bool, far: u64, lanes: usize) -> Result<(), AllocError>
-    ensures { OnOk result (text.new.items ≡ text.old.items ++ lanes_text slots far lanes) }
+fn push_lanes(text: &mut Vec<u8>, lanes: Lanes, far: u64, count: usize) -> Result<(), AllocError>
+    ensures { OnOk result (text.new.items ≡ text.old.items ++ lanes_text lanes far count) }
 {
     let mut line = Line::new();
-    for lane in 0..lanes {
-        push_lane(text, &mut line, slots, far, lane)?;
+    for lane in 0..count {
+        push_lane(text, &mut line, lanes, far, lane)?;
     }
     Ok(())
 }
 
+#[tactic(auto, using(std::proofs::Common::append_assoc))]
 fn push_lane(
     text: &mut Vec<u8>,
     line: &mut Line,
-    slots: bool,
+    lanes: Lanes,
     far: u64,
     lane: usize,
 ) -> Result<(), AllocError>
-    ensures { OnOk result (text.new.items ≡ text.old.items ++ lane_text slots far lane) }
+    ensures { OnOk result (text.new.items ≡ text.old.items ++ lane_text lanes far lane) }
 {
     line.clear();
-    put_lane(line, slots, far, lane);
+    put_lane(line, lanes, far, lane);
+    text.extend_from_slice(line.as_bytes())?;
+    match lanes {
+        Lanes::Board { processes } if lane >= processes => push_cell_rows(text, line, lane),
+        _ => Ok(()),
+    }
+}
+
+/// The rows of the slots, in the lane of a board's cell.
+#[tactic(auto, unfolding(crate::specs::Shapes::cell_rows), using(std::proofs::Common::append_assoc))]
+fn push_cell_rows(text: &mut Vec<u8>, line: &mut Line, lane: usize) -> Result<(), AllocError>
+    ensures { OnOk result (text.new.items ≡ text.old.items ++ cell_rows lane) }
+{
+    push_row(text, line, lane, 0)?;
+    push_row(text, line, lane, 1)?;
+    push_row(text, line, lane, 2)?;
+    push_row(text, line, lane, 3)
+}
+
+fn push_row(text: &mut Vec<u8>, line: &mut Line, lane: usize, slot: u8) -> Result<(), AllocError>
+    ensures { OnOk result (text.new.items ≡ text.old.items ++ row_text lane slot) }
+{
+    line.clear();
+    put_row(line, lane, slot);
     text.extend_from_slice(line.as_bytes())
 }
 

@@ -14,6 +14,6 @@ mod visits;
 
 pub use picture::picture_text;
 pub use scale::Scale;
-pub use scene::{Scene, Visit};
+pub use scene::{Lanes, Scene, Visit};
 pub use shape::{Bar, Class, Spot};
-pub use visits::slot_visits;
+pub use visits::{board_lanes, board_visits, cell_visits};

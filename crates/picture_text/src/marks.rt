@@ -3,14 +3,15 @@
 ghost use Rattle.std.specs.Prelude.{◌≡◌, ◌≤◌, ◌++◌, None, OnOk, slice_get};
 ghost use Rattle.std.specs.List.{flat_map};
 ghost use Rattle.schedule_text.specs.Text.{entry_at};
-ghost use Rattle.picture_text.specs.Picture.{join_at, joins_text, ops_text, order_shapes, point_at, points_text, spot_of, visit_text, write_after};
+ghost use Rattle.picture_text.specs.Picture.{join_at, joins_text, ops_text, order_shapes, point_at, points_text, row_bar, slot_bar, spot_of, visit_bar, visit_text, write_after};
 ghost use Rattle.picture_text.specs.Shapes.{op_shapes};
 
 use crate::places::y_of;
 use crate::scale::Scale;
-use crate::scene::Visit;
+use crate::scene::{Lanes, Visit};
 use crate::shape::{
-    Spot, bar_of, class_of, put_bar, put_item_words, put_join, put_kind_words, put_point,
+    Bar, ROW_BAR, Spot, bar_of, class_of, put_bar, put_item_words, put_join, put_kind_words,
+    put_point, row_y,
 };
 use history_core::{Band, Kind, Op};
 use matrix_core::Stamp;
@@ -62,18 +63,56 @@ fn stamp_at(stamps: &[Option<Stamp>], place: usize) -> Option<Stamp>
     *stamps.get(place)?
 }
 
-pub fn push_visits(text: &mut Vec<u8>, scale: &Scale, visits: &[Visit]) -> Result<(), AllocError>
-    ensures { OnOk result (text.new.items ≡ text.old.items ++ flat_map (visit_text scale.now) visits.now) }
+pub fn push_visits(
+    text: &mut Vec<u8>,
+    lanes: Lanes,
+    scale: &Scale,
+    visits: &[Visit],
+) -> Result<(), AllocError>
+    ensures { OnOk result (text.new.items ≡ text.old.items ++ flat_map (visit_text lanes scale.now) visits.now) }
 {
     let mut line = Line::new();
     for visit in visits {
-        let lane = 2 + visit.slot as usize;
-        let bar = bar_of(class_of(visit.kind), scale, lane, visit.starts, visit.ends);
         line.clear();
-        put_bar(&mut line, &bar);
+        put_bar(&mut line, &visit_bar(lanes, scale, visit));
         text.extend_from_slice(line.as_bytes())?;
     }
     Ok(())
+}
+
+fn visit_bar(lanes: Lanes, scale: &Scale, visit: &Visit) -> Bar
+    ensures { result ≡ visit_bar lanes scale.now visit.now }
+{
+    match lanes {
+        Lanes::Actors | Lanes::Cell => slot_bar(scale, visit),
+        Lanes::Board { .. } => row_bar(scale, visit),
+    }
+}
+
+/// An access in the lane of its slot.
+fn slot_bar(scale: &Scale, visit: &Visit) -> Bar
+    ensures { result ≡ slot_bar scale.now visit.now }
+{
+    let lane = visit.lane.saturating_add(visit.slot as usize);
+    bar_of(class_of(visit.kind), scale, lane, visit.starts, visit.ends)
+}
+
+/// An access in its slot's row of the lane of its cell.
+fn row_bar(scale: &Scale, visit: &Visit) -> Bar
+    ensures { result ≡ row_bar scale.now visit.now }
+{
+    let bar = bar_of(
+        class_of(visit.kind),
+        scale,
+        visit.lane,
+        visit.starts,
+        visit.ends,
+    );
+    Bar {
+        y: row_y(visit.lane, visit.slot),
+        high: ROW_BAR,
+        ..bar
+    }
 }
 
 #[tactic(auto, unfolding(crate::specs::Picture::order_shapes), using(std::proofs::Common::append_assoc))]

@@ -8,7 +8,8 @@ use crate::frame::push_frame;
 use crate::marks::{push_ops, push_order, push_visits};
 use crate::places::{actors_of, y_of};
 use crate::scale::Scale;
-use crate::scene::Scene;
+use crate::scene::{Lanes, Scene};
+use crate::visits::WIDEST;
 use history_core::{Band, Op, Term};
 use std::alloc::{AllocError, Global};
 
@@ -23,21 +24,21 @@ pub fn picture_text(alloc: Global, scene: &Scene) -> Result<Vec<u8>, AllocError>
     let ops = scene.history.ops.as_slice();
     let order = scene.order.as_slice();
     let points = scene.points.as_slice();
-    let terms = shown_terms(scene.slots, scene.history.terms.as_slice());
+    let terms = shown_terms(scene.lanes, scene.history.terms.as_slice());
     let scale = Scale::of(ops);
-    let lanes = lanes_of(scene.slots, ops);
+    let count = lanes_of(scene.lanes, ops);
     let mut text = with_room(alloc, ops.len())?;
     push_frame(
         &mut text,
-        scene.slots,
+        scene.lanes,
         &scale,
-        lanes,
-        high_of(lanes),
+        count,
+        high_of(count),
         ops,
         terms,
     )?;
     push_ops(&mut text, &scale, scene.stamps.as_slice(), ops)?;
-    push_visits(&mut text, &scale, scene.visits.as_slice())?;
+    push_visits(&mut text, scene.lanes, &scale, scene.visits.as_slice())?;
     push_break(&mut text, &scale, ops, order, points, scene.broken)?;
     push_order(&mut text, &scale, ops, order, points)?;
     push_end(&mut text, scene.broken)?;
@@ -51,16 +52,24 @@ fn with_room(alloc: Global, operations: usize) -> Result<Vec<u8>, AllocError>
     Vec::with_capacity(alloc, 2048 + 400 * operations.min(MOST_ROOM))
 }
 
-fn lanes_of(slots: bool, ops: &[Op<Band>]) -> usize
-    ensures { result ≡ lanes_of slots ops.now }
+/// How many lanes there are. A board with its cells has four processes at most.
+fn lanes_of(lanes: Lanes, ops: &[Op<Band>]) -> usize
+    ensures { result ≡ lanes_of lanes ops.now }
 {
-    if slots { 6 } else { actors_of(ops) }
+    match lanes {
+        Lanes::Actors => actors_of(ops),
+        Lanes::Cell => 6,
+        Lanes::Board { processes } => processes.min(WIDEST) * processes.min(WIDEST),
+    }
 }
 
-fn shown_terms(slots: bool, terms: &[Term]) -> &[Term]
-    ensures { result.now ≡ shown_terms slots terms.now }
+fn shown_terms(lanes: Lanes, terms: &[Term]) -> &[Term]
+    ensures { result.now ≡ shown_terms lanes terms.now }
 {
-    if slots { &[] } else { terms }
+    match lanes {
+        Lanes::Cell => &[],
+        _ => terms,
+    }
 }
 
 fn high_of(lanes: usize) -> u64

@@ -1,9 +1,22 @@
 use history_core::{Band, Break, History, Items, Kind};
 use matrix_core::Stamp;
 
+/// What the lanes of a picture are.
+#[derive(Clone, Copy, Debug, PartialEq, Eq)]
+pub enum Lanes {
+    /// A lane for each actor.
+    Actors,
+    /// The writer and the reader of a cell, and its four slots.
+    Cell,
+    /// So many processes, and the cells of their board: those that process 0 writes, then those of process 1, and so on.
+    Board { processes: usize },
+}
+
 /// A slot access of a cell, from its beginning to its end.
 #[derive(Clone, Copy, Debug, PartialEq, Eq)]
 pub struct Visit {
+    /// The lane of its cell; where each slot has its own lane, that of slot 0.
+    pub lane: usize,
     pub slot: u8,
     pub kind: Kind,
     pub starts: u64,
@@ -23,7 +36,6 @@ pub struct Scene {
     pub broken: Option<Break>,
     /// The stamps of the operations, where they have some.
     pub stamps: Items<Option<Stamp>>,
-    /// Whether the first two lanes are the sides of a cell, and the next four its slots.
-    pub slots: bool,
+    pub lanes: Lanes,
     pub visits: Items<Visit>,
 }

@@ -3,14 +3,22 @@
 
 ghost use Rattle.std.specs.Prelude.{◌≡◌, ◌+◌, ◌≤◌, ◌++◌, length};
 ghost use Rattle.schedule_text.specs.Text.{item_text, kind_text};
-ghost use Rattle.picture_text.specs.Shapes.{bar_end, bar_head, bar_of, bar_sides, bar_text, circle_text, class_of, end_of, item_words, join_head, join_text, kind_words, lane_name, lane_text, lane_words, point_number, point_text, spot_text, stamp_words, term_name, term_text, term_words, tick_text, tick_words, words_end, words_head};
+ghost use Rattle.picture_text.specs.Shapes.{actor_name, bar_end, bar_head, bar_of, bar_sides, bar_text, cell_name, circle_text, class_of, end_of, item_words, join_head, join_text, kind_words, lane_head, lane_name, lane_words, point_number, point_text, row_text, row_y, side_name, spot_text, stamp_words, term_name, term_text, term_words, tick_text, tick_words, words_end, words_head};
 ghost use Rattle.picture_text.specs.Scales.{y_of};
 
 use crate::places::y_of;
 use crate::scale::Scale;
+use crate::scene::Lanes;
+use crate::visits::other;
 use history_core::{Band, Kind};
 use matrix_core::Stamp;
 use schedule_text::{Line, put_item, put_stamp};
+
+/// The height of a row in the lane of a board's cell.
+const ROW: u64 = 14;
+
+/// The height of a bar in such a row.
+pub const ROW_BAR: u64 = 10;
 
 /// What a bar shows. The kinds differ in filling and outline, not in colour alone.
 #[derive(Clone, Copy, Debug, PartialEq, Eq)]
@@ -27,6 +35,7 @@ pub enum Class {
 pub struct Bar {
     pub class: Class,
     pub y: u64,
+    pub high: u64,
     pub from: u64,
     pub to: u64,
     pub closed: bool,
@@ -55,6 +64,7 @@ pub fn bar_of(class: Class, scale: &Scale, lane: usize, starts: u64, ends: Optio
     Bar {
         class,
         y: y_of(lane) + 32,
+        high: 24,
         from: scale.x_of(starts),
         to: end_of(scale, ends),
         closed: ends.is_some(),
@@ -84,13 +94,15 @@ pub fn put_bar(line: &mut Line, bar: &Bar)
 
 #[tactic(auto, unfolding(crate::specs::Shapes::bar_sides), using(std::proofs::Common::append_assoc))]
 fn put_bar_sides(line: &mut Line, bar: &Bar)
-    requires { length line.old + 60 ≤ 256 }
+    requires { length line.old + 80 ≤ 256 }
     ensures text { line.new ≡ bar_sides bar.now ++ line.old }
-    ensures len { length line.new ≤ length line.old + 60 }
+    ensures len { length line.new ≤ length line.old + 80 }
 {
     put_bar_end(line, bar.closed);
     line.put_number(bar.to);
-    line.put(b"v24H");
+    line.put(b"H");
+    line.put_number(bar.high);
+    line.put(b"v");
     line.put_number(bar.from);
     line.put(b"H");
 }
@@ -248,12 +260,13 @@ fn put_join_head(line: &mut Line, broken: bool)
     }
 }
 
-#[tactic(auto, unfolding(crate::specs::Shapes::lane_text), using(std::proofs::Common::append_assoc))]
-pub fn put_lane(line: &mut Line, slots: bool, far: u64, lane: usize)
+/// The head of a lane.
+#[tactic(auto, unfolding(crate::specs::Shapes::lane_head), using(std::proofs::Common::append_assoc))]
+pub fn put_lane(line: &mut Line, lanes: Lanes, far: u64, lane: usize)
     requires { length line.old ≡ 0 }
-    ensures { line.new ≡ lane_text slots far lane ++ line.old }
+    ensures { line.new ≡ lane_head lanes far lane ++ line.old }
 {
-    put_lane_words(line, slots, lane);
+    put_lane_words(line, lanes, lane);
     line.put_number(far);
     line.put(b"H");
     line.put_number(y_of(lane));
@@ -261,28 +274,67 @@ pub fn put_lane(line: &mut Line, slots: bool, far: u64, lane: usize)
 }
 
 #[tactic(auto, unfolding(crate::specs::Shapes::lane_words), using(std::proofs::Common::append_assoc))]
-fn put_lane_words(line: &mut Line, slots: bool, lane: usize)
+fn put_lane_words(line: &mut Line, lanes: Lanes, lane: usize)
     requires { length line.old ≡ 0 }
-    ensures text { line.new ≡ lane_words slots lane ++ line.old }
-    ensures len { length line.new ≤ length line.old + 100 }
+    ensures text { line.new ≡ lane_words lanes lane ++ line.old }
+    ensures len { length line.new ≤ length line.old + 120 }
 {
     line.put(b"</text>\n");
-    put_lane_name(line, slots, lane);
+    put_lane_name(line, lanes, lane);
     line.put(b"\">");
     line.put_number(y_of(lane) + 48);
     line.put(b"\"/><text x=\"8\" y=\"");
 }
 
 #[tactic(auto, using(std::proofs::Common::append_assoc))]
-fn put_lane_name(line: &mut Line, slots: bool, lane: usize)
-    requires { length line.old + 30 ≤ 256 }
-    ensures text { line.new ≡ lane_name slots lane ++ line.old }
-    ensures len { length line.new ≤ length line.old + 30 }
+fn put_lane_name(line: &mut Line, lanes: Lanes, lane: usize)
+    requires { length line.old + 50 ≤ 256 }
+    ensures text { line.new ≡ lane_name lanes lane ++ line.old }
+    ensures len { length line.new ≤ length line.old + 50 }
 {
-    if !slots {
-        line.put_number(lane as u64);
-        line.put(b"actor ");
-    } else if lane == 0 {
+    match lanes {
+        Lanes::Actors => put_actor_name(line, lane),
+        Lanes::Cell => put_side_name(line, lane),
+        Lanes::Board { processes } if lane < processes => put_actor_name(line, lane),
+        Lanes::Board { processes } => {
+            let seats = processes.saturating_sub(1).max(1);
+            let cell = lane.saturating_sub(processes);
+            let writer = cell / seats;
+            put_cell_name(line, writer, other(writer, cell % seats));
+        }
+    }
+}
+
+#[tactic(auto, using(std::proofs::Common::append_assoc))]
+fn put_actor_name(line: &mut Line, lane: usize)
+    requires { length line.old + 50 ≤ 256 }
+    ensures text { line.new ≡ actor_name lane ++ line.old }
+    ensures len { length line.new ≤ length line.old + 50 }
+{
+    line.put_number(lane as u64);
+    line.put(b"actor ");
+}
+
+#[tactic(auto, unfolding(crate::specs::Shapes::cell_name), using(std::proofs::Common::append_assoc))]
+fn put_cell_name(line: &mut Line, writer: usize, reader: usize)
+    requires { length line.old + 50 ≤ 256 }
+    ensures text { line.new ≡ cell_name writer reader ++ line.old }
+    ensures len { length line.new ≤ length line.old + 50 }
+{
+    line.put(b")");
+    line.put_number(reader as u64);
+    line.put(b",");
+    line.put_number(writer as u64);
+    line.put(b"cell (");
+}
+
+#[tactic(auto, using(std::proofs::Common::append_assoc))]
+fn put_side_name(line: &mut Line, lane: usize)
+    requires { length line.old + 50 ≤ 256 }
+    ensures text { line.new ≡ side_name lane ++ line.old }
+    ensures len { length line.new ≤ length line.old + 50 }
+{
+    if lane == 0 {
         line.put(b"writer");
     } else if lane == 1 {
         line.put(b"reader");
@@ -290,6 +342,27 @@ fn put_lane_name(line: &mut Line, slots: bool, lane: usize)
         line.put_number(lane as u64 - 2);
         line.put(b"slot ");
     }
+}
+
+/// The y of the row of a slot in the lane of a board's cell.
+pub fn row_y(lane: usize, slot: u8) -> u64
+    ensures y { result ≡ row_y lane slot }
+    ensures most { result ≤ 8000 }
+{
+    y_of(lane) + 6 + ROW * slot as u64
+}
+
+#[tactic(auto, unfolding(crate::specs::Shapes::row_text), using(std::proofs::Common::append_assoc))]
+pub fn put_row(line: &mut Line, lane: usize, slot: u8)
+    requires { length line.old ≡ 0 }
+    ensures { line.new ≡ row_text lane slot ++ line.old }
+{
+    line.put(b"</text>\n");
+    line.put_number(slot as u64);
+    line.put(b"\">");
+    line.put_number(row_y(lane, slot) + 9);
+    line.put(b"\" y=\"");
+    line.put(b"<text class=\"a\" x=\"82");
 }
 
 #[tactic(auto, unfolding(crate::specs::Shapes::tick_text), using(std::proofs::Common::append_assoc))]

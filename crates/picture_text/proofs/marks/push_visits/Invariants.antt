@@ -5,4 +5,4 @@ use Rattle.picture_text.specs.Picture.{visit_text}
 use Rattle.picture_text.proofs.marks.push_visits.Given as goal
 
 abbrev pub invariant-loop-visit : goal.invariant-loop-visit
-invariant-loop-visit l = l.text.items ≡ l.initial.text.items ++ flat_map (visit_text l.scale) (take l.visit-index l.visits)
+invariant-loop-visit l = l.text.items ≡ l.initial.text.items ++ flat_map (visit_text l.lanes l.scale) (take l.visit-index l.visits)
