@@ -8,7 +8,7 @@ race_document() {
         for (task = 0; task < tasks; task++) {
             printf "%s[", task ? "," : ""
             for (call = 0; call < calls; call++)
-                printf "%s%s", call ? "," : "", call % 2 ? "\"read\"" : "[" task "," call "," 9999 "]"
+                printf "%s%s", call ? "," : "", call % 2 ? "\"read\"" : "[" task "," task + call "," 9999 "]"
             printf "]"
         }
         print "]}"
