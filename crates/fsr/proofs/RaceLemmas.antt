@@ -113,7 +113,7 @@ race_counts may_stop never opening limit scripts report h =
           let at = lane_at h.passes scripts h.lanes h.begins k began.0 began.1 in
           let same : script ≡ at.1 = same_Some script at.1 (sym at_script ∙ at.3) in
           subst (CountsScript script) ended.2
-              (lane_counts may_stop never h.board (0 + k) script began.0 ended.0 (at.4.plans ∙ sym same) at.4.empty (h.ran.each k began.0 ended.0 began.1 ended.1));
+          (lane_counts may_stop never h.board (0 + k) script began.0 ended.0 (at.4.plans ∙ sym same) at.4.empty (h.ran.each k began.0 ended.0 began.1 ended.1));
     })
 
 drop_past : {X : Type 0} (old new : List X) → length new ≡ length old → drop (length new) old ≡ []

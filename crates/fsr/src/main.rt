@@ -11,7 +11,6 @@ use crate::run::{NO_MEMORY, run};
 use std::io::ErrorKind;
 use std::process::ExitCode;
 use streams::tell;
-
 pub use streams::{Failed, Over, Sink, Source};
 
 fn main(rt: HostRuntime) -> ExitCode {
@@ -36,7 +35,14 @@ fn main(rt: HostRuntime) -> ExitCode {
     };
     let mut input = Over::new(rt.stdin());
     let mut out = Over::new(rt.stdout());
-    let status = run(&rt, alloc, words.as_slice(), &mut input, &mut out, &mut faults);
+    let status = run(
+        &rt,
+        alloc,
+        words.as_slice(),
+        &mut input,
+        &mut out,
+        &mut faults,
+    );
     ExitCode::from(status)
 }
 

@@ -31,7 +31,9 @@ pub fn race<R: Threads + Sync, G: Gate + Sync>(
     ensures refused { IfErr result (λ e. e ≡ NoMemory) }
 {
     let processes = scripts.as_slice().len();
-    let (board, passes) = match Board::<Band, FourSlotCell<Clocked<Band>>>::new(alloc, processes, limit, opening) {
+    let (board, passes) = match Board::<Band, FourSlotCell<Clocked<Band>>>::new(
+        alloc, processes, limit, opening,
+    ) {
         Ok(made) => made,
         Err(BoardError::NoMemory) => return Err(Fault::NoMemory),
         Err(BoardError::Processes | BoardError::Limit | BoardError::Opening) => unreachable!(),

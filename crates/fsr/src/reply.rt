@@ -127,7 +127,8 @@ fn race_status(report: &Report) -> u8
 {
     match report {
         Report::Race {
-            broken: Some(_), ..
+            broken: Some(_),
+            ..
         } => 1,
         _ => 0,
     }

@@ -20,6 +20,6 @@ pub puts_piece : (a b c : Option (List ℕ)) (text : List ℕ) (done n : ℕ) �
     → Appends b c (take n (take (length text - done) (drop done text))) → Appends a c (take (done + n) text)
 puts_piece a b c text done n before more =
     let rest : take (length text - done) (drop done text) ≡ drop done text =
-      take_all (length text - done) (drop done text) (omega (arith, length-drop done text)) in
+    take_all (length text - done) (drop done text) (omega (arith, length-drop done text)) in
     let piece : Appends b c (take n (drop done text)) = subst (λ l. Appends b c (take n l)) rest more in
     subst (Appends a c) (sym (take-add done n text)) (Appends-trans a b c (take done text) (take n (drop done text)) before piece)

@@ -1,8 +1,8 @@
 use crate::tests::runs::play;
 use std::alloc::{AllocError, Global};
 use std::process::Abort;
-use std::thread::Threads;
 use std::test::Fail;
+use std::thread::Threads;
 
 /// A document of kind `cell` with these writes, reads and steps. Its opening is `[0,0,0]` and its noise `[9,8,7]`.
 fn document(alloc: Global, writes: &str, reads: &str, steps: &str) -> Result<String, AllocError> {

@@ -10,7 +10,8 @@ use std::test::Fail;
 use std::thread::Threads;
 
 /// One task writes and reads, the other reads.
-const WRITE_AND_READ: &str = r#"{"kind":"race","opening":[0,0,0],"limit":9,"scripts":[[[1,1,1],"read"],["read"]]}"#;
+const WRITE_AND_READ: &str =
+    r#"{"kind":"race","opening":[0,0,0],"limit":9,"scripts":[[[1,1,1],"read"],["read"]]}"#;
 
 const WRITE_AND_READ_TEXT: &str =
     "task 0: 1 writes, 1 reads, 0 refused\ntask 1: 0 writes, 1 reads, 0 refused\norigin: sound\n";
@@ -163,7 +164,10 @@ fn open_gate_lets_every_call_through(rt: HostRuntime) -> Result<(), Fail> {
 fn refuses_races(rt: HostRuntime) -> Result<(), Fail> {
     for (document, fault) in [
         (r#"{"kind":"matrix"}"#, "kind"),
-        (r#"{"kind":"race","opening":[0,0,0],"limit":9}"#, "missing scripts"),
+        (
+            r#"{"kind":"race","opening":[0,0,0],"limit":9}"#,
+            "missing scripts",
+        ),
         (
             r#"{"kind":"race","opening":[0,0,0],"limit":0,"scripts":["read",[]]}"#,
             "shape of scripts",

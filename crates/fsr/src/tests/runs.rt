@@ -1,5 +1,5 @@
-use crate::run::run;
 use crate::Over;
+use crate::run::run;
 use crate::tests::fakes::{Full, Kept, Pieces};
 use std::alloc::{AllocError, Global};
 use std::process::Abort;
@@ -9,17 +9,38 @@ use std::thread::Threads;
 pub const AMPLE: usize = 2_000_000;
 
 /// Runs `fsr check` on a document, and sees that it ends with this status, prints this text and tells this fault.
-pub fn check<R: Abort + Threads + Sync>(rt: &R, alloc: Global, document: &[u8], status: u8, text: &str, fault: &str) {
+pub fn check<R: Abort + Threads + Sync>(
+    rt: &R,
+    alloc: Global,
+    document: &[u8],
+    status: u8,
+    text: &str,
+    fault: &str,
+) {
     sees(rt, alloc, "check", document, status, text, fault);
 }
 
 /// The same of `fsr play`.
-pub fn play<R: Abort + Threads + Sync>(rt: &R, alloc: Global, document: &[u8], status: u8, text: &str, fault: &str) {
+pub fn play<R: Abort + Threads + Sync>(
+    rt: &R,
+    alloc: Global,
+    document: &[u8],
+    status: u8,
+    text: &str,
+    fault: &str,
+) {
     sees(rt, alloc, "play", document, status, text, fault);
 }
 
 /// The same of `fsr race`.
-pub fn race<R: Abort + Threads + Sync>(rt: &R, alloc: Global, document: &[u8], status: u8, text: &str, fault: &str) {
+pub fn race<R: Abort + Threads + Sync>(
+    rt: &R,
+    alloc: Global,
+    document: &[u8],
+    status: u8,
+    text: &str,
+    fault: &str,
+) {
     sees(rt, alloc, "race", document, status, text, fault);
 }
 
@@ -35,7 +56,14 @@ fn sees<R: Abort + Threads + Sync>(
     let mut input = Over::new(Pieces::new(document, 4096, AMPLE));
     let mut out = Over::new(Kept::new(alloc, AMPLE, Full::Fails));
     let mut faults = Over::new(Kept::new(alloc, AMPLE, Full::Fails));
-    let ended = run(rt, alloc, &["fsr", command], &mut input, &mut out, &mut faults);
+    let ended = run(
+        rt,
+        alloc,
+        &["fsr", command],
+        &mut input,
+        &mut out,
+        &mut faults,
+    );
     assert_eq!(rt; ended, status);
     assert!(rt; out.stream().as_slice() == text.as_bytes());
     assert!(rt; faults.stream().as_slice() == fault.as_bytes());

@@ -1,7 +1,7 @@
 use crate::run::run;
+use crate::tests::fakes::{Full, InterruptedReader, InterruptedWriter, Kept, Pieces};
 use crate::tests::long::padded;
 use crate::tests::runs::{AMPLE, ROW};
-use crate::tests::fakes::{Full, InterruptedReader, InterruptedWriter, Kept, Pieces};
 use crate::{Over, Sink, Source};
 use std::test::Fail;
 
@@ -49,7 +49,7 @@ fn ends_at_an_interrupted_read(rt: HostRuntime) {
     let mut out = Over::new(Kept::new(rt.alloc(), AMPLE, Full::Fails));
     let mut faults = Over::new(Kept::new(rt.alloc(), AMPLE, Full::Fails));
     let ended = run(
-            &rt,
+        &rt,
         rt.alloc(),
         &["fsr", "check"],
         &mut input,
@@ -71,7 +71,7 @@ fn ends_at_an_interrupted_write(rt: HostRuntime) {
     let mut out = Over::new(InterruptedWriter::new(rt.alloc(), 3));
     let mut faults = Over::new(Kept::new(rt.alloc(), AMPLE, Full::Fails));
     let ended = run(
-            &rt,
+        &rt,
         rt.alloc(),
         &["fsr", "check"],
         &mut input,
@@ -94,7 +94,7 @@ fn leaves_the_rest_unread(rt: HostRuntime) -> Result<(), Fail> {
     let mut out = Over::new(Kept::new(rt.alloc(), AMPLE, Full::Fails));
     let mut faults = Over::new(Kept::new(rt.alloc(), 5, Full::TakesNothing));
     let ended = run(
-            &rt,
+        &rt,
         rt.alloc(),
         &["fsr", "check"],
         &mut input,

@@ -1,14 +1,20 @@
-use crate::run::run;
 use crate::Over;
-use crate::tests::runs::{AMPLE, ROW};
+use crate::run::run;
 use crate::tests::fakes::{Full, Kept, Pieces};
+use crate::tests::runs::{AMPLE, ROW};
 use std::alloc::Global;
 use std::process::Abort;
 use std::thread::Threads;
 
 /// Sees that the words are refused with nothing read and nothing on standard output, and how the text begins that a standard
 /// error with this room has taken.
-fn refuses_with_room<R: Abort + Threads + Sync>(rt: &R, alloc: Global, words: &[&str], room: usize, begins: &str) {
+fn refuses_with_room<R: Abort + Threads + Sync>(
+    rt: &R,
+    alloc: Global,
+    words: &[&str],
+    room: usize,
+    begins: &str,
+) {
     let mut input = Over::new(Pieces::new(ROW.as_bytes(), 4096, 0));
     let mut out = Over::new(Kept::new(alloc, AMPLE, Full::Fails));
     let mut faults = Over::new(Kept::new(alloc, room, Full::Fails));
