@@ -18,7 +18,7 @@ returns-clause-report g c =
     let tasks = c.new-tasks.ensures ∙ c.in_ok-counts.ensures ∙ ap counts_in (first ∙ sym ended) in
     race_of (g.G.Gate.may_stop c.args.gate.now) c.args.opening c.args.limit _ c.args.scripts c.in-Ok.made.0 c.in-Ok.made.1.items old
     c.as_mut_slice.result.now c.run_tasks.new.lanes c.as_slice-2.result.now c.check_origin.result c.new-tasks.result c.broken_at-broken.result
-    (ap length c.as_slice-processes.ensures) c.in-Ok.ensures c.in_ok-lanes.ensures c.as_mut_slice.ensures.value c.run_tasks.ensures ended c.check_origin.ensures tasks c.broken_at-broken.ensures
+    (ap length c.as_slice-processes.ensures) c.in-Ok.ensures c.in_ok-lanes.ensures c.as_mut_slice.ensures.value c.run_tasks.ensures ended c.check_origin.ensures.origin tasks c.broken_at-broken.ensures
 
 pub returns-clause-counted : goal.returns-clause-counted
 returns-clause-counted g c never = race_counts (g.G.Gate.may_stop c.args.gate.now) never c.args.opening c.args.limit c.args.scripts
