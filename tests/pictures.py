@@ -1,7 +1,7 @@
 """Draws the documents that are named, and some hundreds that are made here, and parses each picture as XML.
 
-Besides that a picture is well formed it is asked that it has one bar, one kind and one record for each operation, and a point for each
-entry of the order that is a place. The documents are the same in each run.
+Besides that a picture is well formed it is asked of a history that it has a bar for each operation and a point for each entry of the
+order that is a place, and of a board that it has a lane for each cell. The documents are the same in each run.
 """
 
 import json
@@ -10,7 +10,7 @@ import subprocess
 import sys
 import xml.etree.ElementTree as tree
 
-MADE = 300
+MADE = 400
 SVG = "{http://www.w3.org/2000/svg}"
 
 
@@ -49,22 +49,36 @@ def cell(dice):
     }
 
 
-def term(dice, processes):
+def term(dice, processes, width):
     plans = [[dice.choice(["read", record(dice)]) for _ in range(dice.randrange(3))] for _ in range(processes)]
-    steps = [who for who, plan in enumerate(plans) for _ in range(2 * (processes - 1) * len(plan))]
+    steps = [who for who, plan in enumerate(plans) for _ in range(2 * width * (processes - 1) * len(plan))]
     dice.shuffle(steps)
     return {"limit": dice.randrange(1, 4), "plans": plans, "steps": steps[: dice.randrange(len(steps) + 1)]}
 
 
-def matrix(dice):
+def terms(dice, width):
+    """One term as a document's own members, or some as a list, whose accesses are of so many steps."""
     if dice.randrange(2):
-        return {"kind": "matrix", "opening": record(dice), **term(dice, dice.randrange(2, 6))}
-    terms = [term(dice, dice.randrange(2, 5)) for _ in range(dice.randrange(1, 4))]
-    return {"kind": "matrix", "opening": record(dice), "terms": terms}
+        return term(dice, dice.randrange(2, 6), width)
+    return {"terms": [term(dice, dice.randrange(2, 6), width) for _ in range(dice.randrange(1, 4))]}
+
+
+def matrix(dice):
+    return {"kind": "matrix", "opening": record(dice), **terms(dice, 1)}
+
+
+def board(dice):
+    return {"kind": "board", "opening": record(dice), "noise": record(dice), **terms(dice, 5)}
 
 
 def classes(picture, tag, named):
     return sum(1 for shape in picture.iter(SVG + tag) if shape.get("class") in named)
+
+
+def cells_drawn(document):
+    """How many cells of a board have a lane: all of its largest term, where no term has more than four processes."""
+    processes = max(len(term["plans"]) for term in document.get("terms", [document]))
+    return processes * (processes - 1) if processes <= 4 else 0
 
 
 def fault_of(document, answer):
@@ -80,6 +94,10 @@ def fault_of(document, answer):
             return "not a point for each entry"
         if (answer.returncode == 1) != any("unlawful" in (text.text or "") for text in picture.iter(SVG + "text")):
             return "the status isn't what the picture says"
+    if document.get("kind") == "board":
+        lanes = sum(1 for text in picture.iter(SVG + "text") if (text.text or "").startswith("cell ("))
+        if lanes != cells_drawn(document):
+            return "not a lane for each cell"
     return None
 
 
@@ -91,7 +109,7 @@ def main():
         with open(path, encoding="utf-8") as file:
             documents.append((path, file.read()))
     for number in range(MADE):
-        document = dice.choice([check, cell, matrix])(dice)
+        document = dice.choice([check, cell, matrix, board])(dice)
         documents.append((f"document {number}", json.dumps(document)))
     drawn = 0
     for name, text in documents:
