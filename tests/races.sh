@@ -1,4 +1,4 @@
-# `fsr race` on documents as large as they may be, whose tasks wear out the tags. What the tasks are answered differs from run to
+# `fsr race` on documents that are refused, and on some as large as they may be, whose tasks wear out the tags. What the tasks are answered differs from run to
 # run, so their counts are compared with their scripts, and the origin has to be sound.
 
 # Prints a document of so many tasks, each of which writes and reads by turns, so many calls in all, under this limit.
@@ -46,6 +46,67 @@ race_of() {
         pass "$title"
     fi
 }
+
+# Sees that a document with this opening, limit and scripts is refused for this, or, with none, that its race is sound.
+document_of() {
+    title="a race of opening $1, limit $2, scripts $3${4:+: $4}"
+    printf '{"kind":"race","opening":%s,"limit":%s,"scripts":%s}' "$1" "$2" "$3" >"$room/race.json"
+    whole_document "${4:-}"
+}
+
+# The same of the whole document that stands there.
+whole_document() {
+    if ! has_program fsr; then
+        fail "$title" "fsr wasn't built"
+        return
+    fi
+    wanted=${1:+fsr: document: $1}
+    crates/fsr/out/fsr race <"$room/race.json" >"$room/out" 2>"$room/err"
+    status=$?
+    if [ "$(cat "$room/err")" != "$wanted" ]; then
+        fail "$title" "it said '$(head -c 200 "$room/err")'"
+    elif [ -n "$wanted" ] && { [ "$status" != 3 ] || [ -s "$room/out" ]; }; then
+        fail "$title" "status $status, and it printed '$(head -c 200 "$room/out")'"
+    elif [ -z "$wanted" ] && { [ "$status" != 0 ] || [ "$(tail -n 1 "$room/out")" != "origin: sound" ]; }; then
+        fail "$title" "status $status, and it printed '$(head -c 200 "$room/out")'"
+    else
+        pass "$title"
+    fi
+}
+
+document_of '[0,0,0]' 9 '[["read"],["read","read"]]'
+document_of '[1,1,3]' 1 '[[],[]]'
+document_of '[1,1,3]' 18446744073709551614 '[[],[]]'
+document_of '[1,1,3]' 18446744073709551615 '[[],[]]' 'range of limit'
+document_of '[2,1,3]' 0 '[[],[]]' 'range of limit'
+document_of '[2,1,3]' 9 '[[]]' 'range of scripts'
+document_of '[2,1,3]' 9 '[]' 'range of scripts'
+document_of '[2,1,3]' 9 '[[[3,2,1]],[]]' 'law of opening'
+document_of '[0,0]' null 0 'shape of opening'
+document_of '[2,1,3]' null 0 'shape of limit'
+document_of '[2,1,3]' 1.0 '[]' 'shape of limit'
+document_of '[2,1,3]' -1 '[]' 'shape of limit'
+document_of '[2,1,3]' 0 '[[],{}]' 'shape of scripts'
+document_of '[2,1,3]' 0 '[["write"],[]]' 'shape of scripts'
+document_of '[2,1,3]' 0 '[[[1,2]],[]]' 'shape of scripts'
+document_of '[2,1,3]' 0 '[[null],[]]' 'shape of scripts'
+
+# Sees the same of a whole document.
+text_of() {
+    title="the race $1${2:+: $2}"
+    printf '%s' "$1" >"$room/race.json"
+    whole_document "${2:-}"
+}
+
+text_of '' 'not JSON'
+text_of '[]' 'kind'
+text_of '{"kind":"Race"}' 'kind'
+text_of '{"kind":"race"}' 'missing opening'
+text_of '{"kind":"race","limit":0,"scripts":0,"terms":[]}' 'missing opening'
+text_of '{"kind":"race","opening":0}' 'missing limit'
+text_of '{"kind":"race","opening":[0,0],"limit":0,"plans":[[],[]]}' 'missing scripts'
+text_of '{"kind":"race","opening":[0,0,0],"limit":9,"scripts":[[],[]],"terms":null,"noise":0,"plans":[[]],"steps":"x","reads":-1}'
+text_of '{"kind":"race","opening":[0,0,0],"limit":0,"limit":9,"scripts":[[],[]]}'
 
 race_of 8 1250 50
 race_of 16 625 50

@@ -40,60 +40,20 @@ fn race_document(
     )
 }
 
-const NO_LIMIT: Option<DocError> = Some(DocError::Shape(Key::Limit));
-
-const NO_SCRIPTS: Option<DocError> = Some(DocError::Shape(Key::Scripts));
-
-const FAR_LIMIT: Option<DocError> = Some(DocError::Range(Key::Limit));
-
 const FAR_SCRIPTS: Option<DocError> = Some(DocError::Range(Key::Scripts));
 
-const REFUSALS_OF_KEYS: [(&str, &str, &str, Option<DocError>); 22] = [
-    ("[0,0,0]", "9", "[[[1,1,1],\"read\"],[\"read\"]]", None),
-    ("[0,0,0]", "9", "[[\"read\"],[\"read\",\"read\"]]", None),
+/// One of each kind of refusal, and what is accepted; `tests/races.sh` has more of them.
+const REFUSALS_OF_KEYS: [(&str, &str, &str, Option<DocError>); 5] = [
     ("[0,0,0]", "1", "[[[1,1,1],[2,2,2]],[\"read\"]]", None),
-    ("[1,1,3]", "1", "[[],[]]", None),
-    ("[1,1,3]", "18446744073709551614", "[[],[]]", None),
-    ("[1,1,3]", "18446744073709551615", "[[],[]]", FAR_LIMIT),
-    ("[2,1,3]", "0", "[[],[]]", FAR_LIMIT),
-    ("[2,1,3]", "0", "[[]]", FAR_LIMIT),
-    ("[2,1,3]", "9", "[[]]", FAR_SCRIPTS),
-    ("[2,1,3]", "9", "[]", FAR_SCRIPTS),
+    ("[2,1,3]", "0", "[[]]", Some(DocError::Range(Key::Limit))),
     ("[2,1,3]", "9", "[[[3,2,1]]]", FAR_SCRIPTS),
-    (
-        "[2,1,3]",
-        "9",
-        "[[[3,2,1]],[]]",
-        Some(DocError::Law(Key::Opening)),
-    ),
     (
         "[1,1,3]",
         "9",
         "[[\"read\"],[[1,1,1],[3,2,1]]]",
         Some(DocError::Law(Key::Scripts)),
     ),
-    ("[0,0]", "null", "0", Some(DocError::Shape(Key::Opening))),
-    ("[2,1,3]", "null", "0", NO_LIMIT),
-    ("[2,1,3]", "1.0", "[]", NO_LIMIT),
-    ("[2,1,3]", "-1", "[]", NO_LIMIT),
-    ("[2,1,3]", "0", "null", NO_SCRIPTS),
-    ("[2,1,3]", "0", "[[],{}]", NO_SCRIPTS),
-    ("[2,1,3]", "0", "[[\"write\"],[]]", NO_SCRIPTS),
-    ("[2,1,3]", "0", "[[[1,2]],[]]", NO_SCRIPTS),
-    ("[2,1,3]", "0", "[[null],[]]", NO_SCRIPTS),
-];
-
-const MISSING_KEYS: [(&str, Key); 4] = [
-    (r#"{"kind":"race"}"#, Key::Opening),
-    (
-        r#"{"kind":"race","limit":0,"scripts":0,"terms":[]}"#,
-        Key::Opening,
-    ),
-    (r#"{"kind":"race","opening":0}"#, Key::Limit),
-    (
-        r#"{"kind":"race","opening":[0,0],"limit":0,"plans":[[],[]]}"#,
-        Key::Scripts,
-    ),
+    ("[2,1,3]", "0", "null", Some(DocError::Shape(Key::Scripts))),
 ];
 
 #[test]
@@ -101,46 +61,6 @@ fn refuses_in_order(rt: HostRuntime) -> Result<(), Fail> {
     let alloc = rt.alloc();
     for (opening, limit, scripts, refused) in REFUSALS_OF_KEYS {
         let text = race_document(alloc, opening, limit, scripts)?;
-        assert_eq!(rt;
-            refusal(alloc, Want::Race, text.as_bytes()),
-            refused,
-            "{text}"
-        );
-    }
-    for (text, key) in MISSING_KEYS {
-        assert_eq!(rt;
-            refusal(alloc, Want::Race, text.as_bytes()),
-            Some(DocError::Missing(key)),
-            "{text}"
-        );
-    }
-    Ok(())
-}
-
-/// The other refusals, and keys of other kinds, which are ignored whatever they are.
-const WHOLE_DOCUMENTS: [(&str, Option<DocError>); 7] = [
-    ("", Some(DocError::NotJson)),
-    ("{", Some(DocError::NotJson)),
-    ("[]", Some(DocError::Kind)),
-    (r#"{"kind":"Race"}"#, Some(DocError::Kind)),
-    (
-        r#"{"kind":"race","opening":[0,0,0],"limit":9,"scripts":[[],[]],"terms":null}"#,
-        None,
-    ),
-    (
-        r#"{"terms":[],"noise":0,"plans":[[]],"steps":"x","ops":1,"order":{},"writes":[[3,2,1]],"reads":-1,"kind":"race","opening":[0,0,0],"limit":9,"scripts":[[],[]]}"#,
-        None,
-    ),
-    (
-        r#"{"kind":"race","opening":[0,0,0],"limit":0,"limit":9,"scripts":[[],[]]}"#,
-        None,
-    ),
-];
-
-#[test]
-fn ignores_other_keys(rt: HostRuntime) -> Result<(), Fail> {
-    let alloc = rt.alloc();
-    for (text, refused) in WHOLE_DOCUMENTS {
         assert_eq!(rt;
             refusal(alloc, Want::Race, text.as_bytes()),
             refused,
