@@ -1,6 +1,8 @@
--- What a race tells of scripts that were run whole: each entry of a log answers its wish, so the counts are those of the wishes.
-use Rattle.std.proofs.Common.{◌≡◌, Bool, true, false, ℕ, zero, suc, ◌+◌, ◌<◌, List, [], ◌∷◌, ◌++◌, length, get_or, map, take, drop, refl, sym, ◌∙◌, ap, subst, arith, inl, inr, ◌⊎◌, ⊎_elim}
-use Rattle.std.specs.Prelude.{slice_get, Option, Some, All, IsTrue, cond, count_by}
+-- What a race tells of scripts that were run whole: each entry of a log answers its wish, so the counts are those of the wishes. And
+-- lanes of a new board have worked with fresh passes, so their logs have one order, and are sound.
+use Rattle.std.proofs.Common.{◌≡◌, Bool, true, false, ℕ, zero, suc, ◌+◌, ◌<◌, ◌≤◌, List, [], ◌∷◌, ◌++◌, length, get_or, map, take, refl, sym, ◌∙◌, ap, subst, arith, inl, inr, ◌⊎◌, ⊎_elim, Global}
+use Rattle.std.specs.Prelude.{slice_get, Option, Some, None, All, IsTrue, Vec, cond, count_by}
+use mathlib.Core.List.{map-map}
 use Rattle.std.proofs.lemmas.List.{length-map, take_all}
 use Rattle.std.proofs.lemmas.List.Sums.{sum_by-cons}
 use Rattle.std.proofs.lemmas.Option.{none-some, same_Some, slice_get_within}
@@ -10,20 +12,25 @@ use Rattle.history_core.specs.declared.play.Wish.{Wish}
 use Rattle.history_core.specs.declared.play.Wish.TheVariants.{Write, Read}
 use Rattle.matrix_core.specs.Stamps.{first_stamp}
 use Rattle.board_live.proofs.LaneLists.{all_ready, lane_at, lanes_length}
+use Rattle.board_live.proofs.Works.{have_worked, moved_order}
 use Rattle.board_live.specs.declared.clocked.Clocked.{Clocked}
 use Rattle.board_live.specs.declared.lane.Entry.{Entry}
 use Rattle.board_live.specs.declared.lane.Reply.{Reply}
 use Rattle.board_live.specs.declared.lane.Reply.TheVariants.{Written, Seen, Ended}
 use Rattle.board_live.specs.declared.origin.Origin.{Origin}
+use Rattle.board_live.specs.declared.origin.Origin.TheVariants.{Sound}
+use Rattle.board_live.specs.declared.posted.Posted.{Posted}
 use Rattle.board_live.specs.Boards.{IsPass}
 use Rattle.board_live.specs.Deals.{IsNew}
 use Rattle.board_live.specs.Jobs.{AllReady, EachStep}
 use Rattle.board_live.specs.Lanes.{AreLanes}
+use Rattle.board_live.specs.LogOrders.{LogsInOrder}
 use Rattle.board_live.specs.Logs.{Obeys}
 use Rattle.board_live.specs.Origins.{IsOrigin}
 use Rattle.board_live.specs.Tasks.{AreCalls, Ran, Replies}
-use Rattle.schedule_text.specs.Plans.{wish_fits}
-use Rattle.fsr.specs.Races.{CountsAll, CountsScript, IsRace, RaceBoard, RaceLane, RacePass, broken_at, counts_in, counts_of, is_read, is_refused, is_seen, is_write, is_written, logs_of, replies, same_band}
+use Rattle.board_live.specs.Worked.{HaveWorked, logs_of, wishes_in}
+use Rattle.schedule_text.specs.Plans.{members, wish_fits}
+use Rattle.fsr.specs.Races.{CountsAll, CountsScript, IsRace, RaceBoard, RaceLane, RacePass, broken_at, counts_in, counts_of, is_read, is_refused, is_seen, is_write, is_written, replies, same_band}
 use Rattle.schedule_text.specs.declared.report.Counts.{Counts}
 use Rattle.schedule_text.specs.declared.report.Report.{Report}
 use Rattle.schedule_text.specs.declared.report.Report.TheVariants.{Race}
@@ -116,43 +123,69 @@ race_counts may_stop never opening limit scripts report h =
           (lane_counts may_stop never h.board (0 + k) script began.0 ended.0 (at.4.plans ∙ sym same) at.4.empty (h.ran.each k began.0 ended.0 began.1 ended.1));
     })
 
-drop_past : {X : Type 0} (old new : List X) → length new ≡ length old → drop (length new) old ≡ []
-drop_past [] [] e = refl
-drop_past [] (y ∷ new) e = refl
-drop_past (x ∷ old) [] e = absurd (omega (arith, e))
-drop_past (x ∷ old) (y ∷ new) e = drop_past old new (omega (arith, e))
-
-append_nothing : {X : Type 0} (xs : List X) → xs ++ [] ≡ xs
-append_nothing [] = refl
-append_nothing (x ∷ xs) = ap (λ z. x ∷ z) (append_nothing xs)
-
--- what a vector holds after its slice was changed
-pub changed_whole : {X : Type 0} (n : ℕ) (old before new now : List X) → n ≡ length old → before ≡ old → length new ≡ length before → now ≡ take n (new ++ drop (length new) old) → now ≡ new
-changed_whole n old before new now count same lengths changed =
-    let long : length new ≡ length old = lengths ∙ ap length same in
-    let rest : new ++ drop (length new) old ≡ new = ap (λ z. new ++ z) (drop_past old new long) ∙ append_nothing new in
-    changed ∙ ap (take n) rest ∙ take_all n new (omega (arith, count, long))
-
 -- the lanes of a new board may run
 pub race_ready : (board : RaceBoard) (n limit : ℕ) (first : Clocked Band) (passes : List RacePass) (scripts : List (List (Wish Band))) (lanes now : List RaceLane) → IsNew n limit first board passes
     → AreLanes passes scripts lanes → now ≡ lanes → AllReady (λ (l : RaceLane). IsPass board l.pass) 0 now
 race_ready board n limit first passes scripts lanes now new are same =
     subst (λ z. AllReady (λ (l : RaceLane). IsPass board l.pass) 0 z) (sym same) (all_ready board passes scripts lanes new.passes_of are)
 
--- what was made and run is a race
-pub race_of : (may_stop : ℕ → ℕ → Type 0) (opening : Band) (limit n : ℕ) (scripts : List (List (Wish Band))) (board : RaceBoard) (passes : List RacePass) (lanes before after ended : List RaceLane) (origin : Origin)
-    (tasks : List Counts) (broken : Option (ℕ × ℕ)) → n ≡ length scripts → IsNew n limit (record { stamp = first_stamp; item = opening; clock = 0 }) board passes → AreLanes passes scripts lanes
-    → before ≡ lanes → EachStep (Ran may_stop board) 0 before after → ended ≡ after → IsOrigin same_band opening (logs_of ended) origin → tasks ≡ counts_in ended → broken ≡ broken_at origin
+-- a document's scripts ask for few calls
+few_wishes : (scripts : List (List (Wish Band))) → members scripts ≡ wishes_in scripts
+few_wishes [] = refl
+few_wishes (script ∷ scripts) = sum_by-cons (λ (s : List (Wish Band)). length s) script scripts ∙ ap (λ n. length script + n) (few_wishes scripts)
+
+-- the lanes of a new board that ran may be ended
+pub race_worked : (may_stop : ℕ → ℕ → Type 0) (opening : Band) (limit n : ℕ) (scripts : List (List (Wish Band))) (board : RaceBoard)
+    (passes : List RacePass) (lanes before after ended : List RaceLane) → members scripts ≤ 10000
+    → IsNew n limit (record { stamp = first_stamp; item = opening; clock = 0 }) board passes → AreLanes passes scripts lanes
+    → before ≡ lanes → EachStep (Ran may_stop board) 0 before after → ended ≡ after → HaveWorked board ended
+race_worked may_stop opening limit n scripts board passes lanes before after ended few new are same ran end =
+    let asked : members scripts ≡ wishes_in scripts = few_wishes scripts in
+    let begun : AreLanes passes scripts before = subst (AreLanes passes scripts) (sym same) are in
+    let few_calls : wishes_in scripts < 18446744073709551615 = omega (arith, asked, few) in
+    subst (HaveWorked board) (sym end) (have_worked may_stop n limit opening board passes scripts before after new begun ran few_calls)
+
+-- the counts of the logs, as vectors or as lists
+counts_same : (logs : List (Vec (Entry Band) Global)) (lanes : List RaceLane) → map (λ v. v.items) logs ≡ logs_of lanes
+    → map (λ v. counts_of v.items) logs ≡ counts_in lanes
+counts_same logs lanes same =
+    sym (map-map counts_of (λ (v : Vec (Entry Band) Global). v.items) logs)
+    ∙ (ap (map counts_of) same ∙ map-map counts_of (λ (l : RaceLane). l.log.items) lanes)
+
+-- what was made, run and ended is a race
+pub race_of : (may_stop : ℕ → ℕ → Type 0) (opening : Band) (limit n : ℕ) (scripts : List (List (Wish Band))) (board : RaceBoard)
+    (passes : List RacePass) (lanes before after ended : List RaceLane)
+    (logs counted checked : List (Vec (Entry Band) Global)) (last : Posted Band) (origin : Origin) (tasks : List Counts)
+    (broken : Option (ℕ × ℕ)) → n ≡ length scripts
+    → IsNew n limit (record { stamp = first_stamp; item = opening; clock = 0 }) board passes → AreLanes passes scripts lanes
+    → before ≡ lanes → EachStep (Ran may_stop board) 0 before after → ended ≡ after
+    → map (λ v. v.items) logs ≡ logs_of ended → LogsInOrder board.first.item board.limit (logs_of ended) last
+    → counted ≡ logs → tasks ≡ map (λ v. counts_of v.items) counted
+    → checked ≡ logs → IsOrigin same_band opening (map (λ v. v.items) checked) origin
+    → ((most : ℕ) (latest : Posted Band) → LogsInOrder opening most (map (λ v. v.items) checked) latest → origin ≡ Sound)
+    → broken ≡ broken_at origin
     → IsRace may_stop opening limit scripts (Race tasks broken)
-race_of may_stop opening limit n scripts board passes lanes before after ended origin tasks broken count new are same ran end checked told first = record {
-  board = board;
-  passes = passes;
-  lanes = lanes;
-  ended = ended;
-  origin = origin;
-  new = subst (λ m. IsNew m limit (record { stamp = first_stamp; item = opening; clock = 0 }) board passes) count new;
-  begins = are;
-  ran = subst (λ z. EachStep (Ran may_stop board) 0 z ended) same (subst (λ z. EachStep (Ran may_stop board) 0 before z) (sym end) ran);
-  checked = checked;
-  told = rw (told, first) refl;
-}
+race_of may_stop opening limit n scripts board passes lanes before after ended logs counted checked last origin tasks broken count new are
+    same ran end given order these counts those found finds told =
+    let items : List (Vec (Entry Band) Global) → List (List (Entry Band)) = map (λ (v : Vec (Entry Band) Global). v.items) in
+    let first : board.first.item ≡ opening = ap (λ z. z.item) new.opened in
+    let ordered : LogsInOrder opening limit (logs_of ended) last =
+    moved_order board.first.item opening board.limit limit (logs_of ended) (logs_of ended) last first new.limited refl order in
+    let seen : items checked ≡ logs_of ended = ap items those ∙ given in
+    let sound : origin ≡ Sound = finds limit last (subst (λ ls. LogsInOrder opening limit ls last) (sym seen) ordered) in
+    let tell : tasks ≡ counts_in ended =
+    counts ∙ (ap (map (λ (v : Vec (Entry Band) Global). counts_of v.items)) these ∙ counts_same logs ended given) in
+    let unbroken : broken ≡ None = told ∙ ap broken_at sound in
+    record {
+      board = board;
+      passes = passes;
+      lanes = lanes;
+      ended = ended;
+      last = last;
+      new = subst (λ m. IsNew m limit (record { stamp = first_stamp; item = opening; clock = 0 }) board passes) count new;
+      begins = are;
+      ran = subst (λ z. EachStep (Ran may_stop board) 0 z ended) same (subst (λ z. EachStep (Ran may_stop board) 0 before z) (sym end) ran);
+      ordered = ordered;
+      checked = subst (IsOrigin same_band opening (logs_of ended)) sound (subst (λ ls. IsOrigin same_band opening ls origin) seen found);
+      told = rw (tell, unbroken) refl;
+    }

@@ -18,14 +18,17 @@ use Rattle.board_live.specs.declared.clocked.Clocked.{Clocked}
 use Rattle.board_live.specs.declared.lane.Entry.{Entry}
 use Rattle.board_live.specs.declared.lane.Lane.{Lane}
 use Rattle.board_live.specs.declared.lane.Reply.{Reply}
+use Rattle.board_live.specs.declared.posted.Posted.{Posted}
 use Rattle.board_live.specs.declared.lane.Reply.TheVariants.{Written, Seen, Ended}
 use Rattle.board_live.specs.declared.origin.Origin.{Origin}
 use Rattle.board_live.specs.declared.origin.Origin.TheVariants.{Sound, Broken}
 use Rattle.board_live.specs.Deals.{IsNew}
 use Rattle.board_live.specs.Jobs.{EachStep}
 use Rattle.board_live.specs.Lanes.{AreLanes}
+use Rattle.board_live.specs.LogOrders.{LogsInOrder}
 use Rattle.board_live.specs.Origins.{IsOrigin}
 use Rattle.board_live.specs.Tasks.{Ran}
+use Rattle.board_live.specs.Worked.{logs_of}
 use Rattle.schedule_text.specs.declared.report.Counts.{Counts}
 use Rattle.schedule_text.specs.declared.report.Report.{Report}
 use Rattle.schedule_text.specs.declared.report.Report.TheVariants.{Race}
@@ -93,23 +96,21 @@ RaceLane = Lane Band (FourSlotCell (Clocked Band)) (FourSlotPut (Clocked Band)) 
 abbrev pub counts_in : List RaceLane → List Counts
 counts_in lanes = map (λ lane. counts_of lane.log.items) lanes
 
-abbrev pub logs_of : List RaceLane → List (List (Entry Band))
-logs_of lanes = map (λ lane. lane.log.items) lanes
-
 -- *Race*: a new board has a lane for each script. Each lane ran: the board calls that were made stand in its log, and the log is
--- whole, or the task may stop before the next call. What is told are the counts of the logs, and where the check of the logs
--- found an entry without its origin.
+-- whole, or the task may stop before the next call. The logs have one order, after which one register holds the last record, and each
+-- of their entries is sound. What is told are the counts of the logs, and that no entry is without its origin.
 pub record IsRace (may_stop : ℕ → ℕ → Type 0) (opening : Band) (limit : ℕ) (scripts : List (List (Wish Band))) (report : Report) : Type 0 where
   pub board : RaceBoard
   pub passes : List RacePass
   pub lanes : List RaceLane
   pub ended : List RaceLane
-  pub origin : Origin
+  pub last : Posted Band
   pub new : IsNew (length scripts) limit (record { stamp = first_stamp; item = opening; clock = 0 }) board passes
   pub begins : AreLanes passes scripts lanes
   pub ran : EachStep (Ran may_stop board) 0 lanes ended
-  pub checked : IsOrigin same_band opening (logs_of ended) origin
-  pub told : report ≡ Race (counts_in ended) (broken_at origin)
+  pub ordered : LogsInOrder opening limit (logs_of ended) last
+  pub checked : IsOrigin same_band opening (logs_of ended) Sound
+  pub told : report ≡ Race (counts_in ended) None
 
 -- ---- scripts that were run whole
 

@@ -1,12 +1,12 @@
 //! Races: the scripts of a document, each run by a task of its own over one board.
-ghost use Rattle.std.specs.Prelude.{◌≡◌, ℕ, IfErr, IfOk};
+ghost use Rattle.std.specs.Prelude.{◌≡◌, ℕ, IfErr, IfOk, map};
 ghost use Rattle.schedule_text.specs.Players.{CanRace};
-ghost use Rattle.fsr.specs.Races.{CountsAll, IsRace, broken_at, counts_in, counts_of, is_refused, is_seen, is_written, replies};
+ghost use Rattle.fsr.specs.Races.{CountsAll, IsRace, broken_at, counts_of, is_refused, is_seen, is_written, replies};
 ghost use Rattle.fsr.specs.declared.fault.Fault.TheVariants.{NoMemory};
 
 use crate::fault::Fault;
 use board_live::{
-    Board, BoardError, Clocked, Entry, Gate, Lane, Origin, Reply, check_origin, make_lanes,
+    Board, BoardError, Clocked, Entry, Gate, Origin, Reply, check_origin, finish_lanes, make_lanes,
     run_tasks,
 };
 use cell_live::FourSlotCell;
@@ -16,7 +16,8 @@ use schedule_text::{Counts, Report};
 use std::alloc::{AllocError, Global};
 use std::thread::Threads;
 
-/// Runs each script as a task of its own, in threads, over a board of four-slot cells, and tells what the logs say.
+/// Runs each script as a task of its own, in threads, over a board of four-slot cells, ends the board, and tells what the logs say:
+/// they have one order, so that no origin is broken.
 pub fn race<R: Threads + Sync, G: Gate + Sync>(
     rt: &R,
     alloc: Global,
@@ -40,8 +41,9 @@ pub fn race<R: Threads + Sync, G: Gate + Sync>(
     };
     let mut lanes = make_lanes(alloc, passes, scripts)?;
     run_tasks(rt, &board, lanes.as_mut_slice(), gate);
-    let tasks = Items::new(counts(alloc, lanes.as_slice())?);
-    let broken = broken_at(check_origin(opening, lanes.as_slice()));
+    let (logs, _last) = finish_lanes(alloc, board, lanes)?;
+    let tasks = Items::new(counts(alloc, logs.as_slice())?);
+    let broken = broken_at(check_origin(opening, logs.as_slice()));
     Ok(Report::Race { tasks, broken })
 }
 
@@ -55,16 +57,13 @@ fn broken_at(origin: Origin) -> Option<(usize, usize)>
     }
 }
 
-/// The counts of each lane's log.
-fn counts(
-    alloc: Global,
-    lanes: &[Lane<Band, FourSlotCell<Clocked<Band>>>],
-) -> Result<Vec<Counts>, AllocError>
-    ensures { IfOk result (λ counts. counts.items ≡ counts_in lanes.now) }
+/// The counts of each log.
+fn counts(alloc: Global, logs: &[Vec<Entry<Band>>]) -> Result<Vec<Counts>, AllocError>
+    ensures { IfOk result (λ counts. counts.items ≡ map (λ log. counts_of log.items) logs.now) }
 {
     let mut counts = Vec::new(alloc);
-    for lane in lanes {
-        counts.push(counts_of(lane.log()))?;
+    for log in logs {
+        counts.push(counts_of(log.as_slice()))?;
     }
     Ok(counts)
 }

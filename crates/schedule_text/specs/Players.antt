@@ -5,19 +5,21 @@ use Rattle.history_core.specs.Schedules.{max_limit}
 use Rattle.history_core.specs.declared.band.Band.{Band}
 use Rattle.history_core.specs.declared.play.Wish.{Wish}
 use Rattle.matrix_core.specs.Runs.{CanPlay}
-use Rattle.schedule_text.specs.Plans.{wish_fits}
+use Rattle.schedule_text.specs.Plans.{members, wish_fits}
 use Rattle.schedule_text.specs.declared.document.Document.{Document}
 use Rattle.schedule_text.specs.declared.document.Want.{Want}
 use Rattle.schedule_text.specs.declared.document.Want.TheVariants as want
 use Rattle.schedule_text.specs.declared.document.Document.TheVariants.{Check, Cell, Matrix, Board, Race}
 
--- A race that can be run: a board can be made for its tasks, and each record that is to be written fits.
+-- A race that can be run: a board can be made for its tasks, each record that is to be written fits, and a document has room for the
+-- scripts.
 pub record CanRace (opening : Band) (limit : ℕ) (scripts : List (List (Wish Band))) : Type 0 where
   pub opens : IsTrue (fits opening)
   pub limit_least : 1 ≤ limit
   pub limit_most : limit ≤ max_limit
   pub at_least : 2 ≤ length scripts
   pub at_most : length scripts ≤ 16
+  pub few : members scripts ≤ 10000
   pub writes : All (λ script. All (λ wish. IsTrue (wish_fits wish)) script) scripts
 
 -- Its schedule can be played, or its race be run. Every schedule of a cell can be played.

@@ -1,7 +1,10 @@
--- The counts of the lanes so far.
-use Rattle.std.proofs.Common.{◌≡◌, map, take}
-use Rattle.fsr.specs.Races.{counts_of, RaceLane}
+-- The counts of the logs so far.
+use Rattle.std.proofs.Common.{◌≡◌, map, take, Global}
+use Rattle.std.specs.Prelude.{Vec}
+use Rattle.history_core.specs.declared.band.Band.{Band}
+use Rattle.board_live.specs.declared.lane.Entry.{Entry}
+use Rattle.fsr.specs.Races.{counts_of}
 use Rattle.fsr.proofs.race.counts.Given as goal
 
-abbrev pub invariant-loop-lane : goal.invariant-loop-lane
-invariant-loop-lane l = l.counts.items ≡ map (λ (lane : RaceLane). counts_of lane.log.items) (take l.lane-index l.lanes)
+abbrev pub invariant-loop-log : goal.invariant-loop-log
+invariant-loop-log l = l.counts.items ≡ map (λ (v : Vec (Entry Band) Global). counts_of v.items) (take l.log-index l.logs)
