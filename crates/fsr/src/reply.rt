@@ -56,7 +56,7 @@ fn check(alloc: Global, history: &History<Band>, order: &Items<usize>) -> Result
     ensures { Gives (AnswersCheck history.now order.now) result }
 {
     let verdict = check_order(history, order.as_slice());
-    let answer = print(alloc, &Report::Verdict(verdict), status_of(verdict))?;
+    let answer = print(alloc, Report::Verdict(verdict), status_of(verdict))?;
     Ok(answer)
 }
 
@@ -65,7 +65,7 @@ fn cell(alloc: Global, schedule: &CellSchedule<Band>) -> Result<Answer, Fault>
     ensures { Gives (AnswersCell schedule.now) result }
 {
     let report = play_cell(alloc, schedule)?;
-    let answer = print(alloc, &Report::Cell(report), 0)?;
+    let answer = print(alloc, Report::Cell(report), 0)?;
     Ok(answer)
 }
 
@@ -75,7 +75,7 @@ fn matrix(alloc: Global, schedule: &MatrixSchedule<Band>, titled: bool) -> Resul
     ensures { Gives (AnswersMatrix schedule.now titled) result }
 {
     let report = play_matrix(alloc, schedule)?;
-    let answer = print(alloc, &Report::Matrix { report, titled }, 0)?;
+    let answer = print(alloc, Report::Matrix { report, titled }, 0)?;
     Ok(answer)
 }
 
@@ -85,7 +85,7 @@ fn board(alloc: Global, schedule: &BoardSchedule<Band>, titled: bool) -> Result<
     ensures { Gives (AnswersBoard schedule.now titled) result }
 {
     let report = play_board(alloc, schedule)?;
-    let answer = print(alloc, &Report::Board { report, titled }, 0)?;
+    let answer = print(alloc, Report::Board { report, titled }, 0)?;
     Ok(answer)
 }
 
@@ -101,15 +101,18 @@ fn race_to_the_end<R: Threads + Sync>(
     ensures { Gives (AnswersRace opening limit scripts) result }
 {
     let report = race(rt, alloc, opening, limit, scripts, &OpenGate)?;
-    let answer = print(alloc, &report, race_status(&report))?;
+    let status = race_status(&report);
+    let answer = print(alloc, report, status)?;
     Ok(answer)
 }
 
-/// The text of a report, with this status.
-fn print(alloc: Global, report: &Report, status: u8) -> Result<Answer, AllocError>
-    ensures { IfOk result (λ answer. answer ≡ printed report.now status) }
+/// The text of a report, with this status. The report, too, goes with the process: of a board each operation has a list of slots.
+fn print(alloc: Global, report: Report, status: u8) -> Result<Answer, AllocError>
+    ensures { IfOk result (λ answer. answer ≡ printed report status) }
 {
-    let text = Items::new(report_text(alloc, report)?);
+    let text = report_text(alloc, &report);
+    forget(report);
+    let text = Items::new(text?);
     Ok(Answer { text, status })
 }
 
