@@ -1,5 +1,6 @@
 -- The ends of a run: each says what was taken and what went out, and why the status tells it.
-use Rattle.std.proofs.Common.{rules, Bool, true, false, ◌≡◌, ◌⊎◌, inl, inr, ◌≤◌, ℕ, List, [], length, Option, Some, None, Result, Ok, Err, refl, ap, arith, subst}
+use Rattle.std.proofs.Common.{rules, Bool, true, false, ◌≡◌, ◌⊎◌, inl, inr, ◌≤◌, ℕ, List, [], length, Option, Some, None, Result, Ok, Err}
+use Rattle.std.proofs.Common.{refl, ap, arith, subst}
 use Rattle.std.proofs.lemmas.List.{take_all}
 use Rattle.std.proofs.KnownBytes.{Consumes-nil, Appends-nil}
 use Rattle.std.specs.Io.{StartsWith}
@@ -17,7 +18,8 @@ use Rattle.picture.specs.declared.fault.Fault.{Fault}
 use Rattle.picture.specs.declared.fault.Fault.TheVariants as fault
 
 -- memory ran out, and nothing went out
-pub ends_without_memory : (asked : Bool) (in_old in_new out : Option (List ℕ)) (taken : List ℕ) → TakesBytes in_old in_new taken → Runs asked in_old in_new out out 4
+pub ends_without_memory : (asked : Bool) (in_old in_new out : Option (List ℕ)) (taken : List ℕ) → TakesBytes in_old in_new taken
+    → Runs asked in_old in_new out out 4
 ends_without_memory asked in_old in_new out taken takes = record {
   taken = taken;
   sent = [];
@@ -52,7 +54,8 @@ ends_without_command asked left out none = record {
 }
 
 -- a read failed
-pub ends_unread : (asked : Bool) (in_old in_new out : Option (List ℕ)) (taken : List ℕ) → TakesBytes in_old in_new taken → Runs asked in_old in_new out out 5
+pub ends_unread : (asked : Bool) (in_old in_new out : Option (List ℕ)) (taken : List ℕ) → TakesBytes in_old in_new taken
+    → Runs asked in_old in_new out out 5
 ends_unread asked in_old in_new out taken takes = record {
   taken = taken;
   sent = [];
@@ -80,14 +83,19 @@ ends_with_fault in_old in_new out taken f takes whole answered = record {
   whole = λ not_two not_four not_five. whole;
 }
 
-pub ends_refused : (in_old in_new out : Option (List ℕ)) (taken given : List ℕ) (f : Fault) (status : ℕ) → TakesBytes in_old in_new taken → IsWhole taken in_new
-    → given ≡ taken → Gives (IsAnswer given) (Err f) → (status ≡ fault_status f) ⊎ (status ≡ 4) → Runs true in_old in_new out out status
-ends_refused in_old in_new out taken given f status takes whole same_bytes refused (inr four) = rw four (ends_without_memory true in_old in_new out taken takes)
-ends_refused in_old in_new out taken given fault.NoMemory status takes whole same_bytes refused (inl same) = rw same (ends_without_memory true in_old in_new out taken takes)
+pub ends_refused : (in_old in_new out : Option (List ℕ)) (taken given : List ℕ) (f : Fault) (status : ℕ)
+    → TakesBytes in_old in_new taken → IsWhole taken in_new → given ≡ taken
+    → Gives (IsAnswer given) (Err f) → (status ≡ fault_status f) ⊎ (status ≡ 4) → Runs true in_old in_new out out status
+ends_refused in_old in_new out taken given f status takes whole same_bytes refused (inr four) =
+    rw four (ends_without_memory true in_old in_new out taken takes)
+ends_refused in_old in_new out taken given fault.NoMemory status takes whole same_bytes refused (inl same) =
+    rw same (ends_without_memory true in_old in_new out taken takes)
 ends_refused in_old in_new out taken given (fault.Document refusal) status takes whole same_bytes refused (inl same) =
-    rw same (ends_with_fault in_old in_new out taken (fault.Document refusal) takes whole (subst (λ b. IsAnswer b (Err (fault.Document refusal))) same_bytes (refused (search rules))))
+    let answer = subst (λ b. IsAnswer b (Err (fault.Document refusal))) same_bytes (refused (search rules)) in
+    rw same (ends_with_fault in_old in_new out taken (fault.Document refusal) takes whole answer)
 ends_refused in_old in_new out taken given (fault.Schedule position) status takes whole same_bytes refused (inl same) =
-    rw same (ends_with_fault in_old in_new out taken (fault.Schedule position) takes whole (subst (λ b. IsAnswer b (Err (fault.Schedule position))) same_bytes (refused (search rules))))
+    let answer = subst (λ b. IsAnswer b (Err (fault.Schedule position))) same_bytes (refused (search rules)) in
+    rw same (ends_with_fault in_old in_new out taken (fault.Schedule position) takes whole answer)
 
 drawn_is_low : (scene : Scene) → status_of scene.broken ≤ 1
 drawn_is_low scene = elim scene.broken as (λ b. status_of b ≤ 1) [ None ↦ search rules | Some b ↦ search rules ]
@@ -110,8 +118,9 @@ status_is_low (Ok (Race opening limit scripts)) a answered = elim answered [ ]
 status_is_low (Err refusal) a answered = absurd (cc)
 
 -- the text went out whole
-pub ends_told : (in_old in_new out_old out_new : Option (List ℕ)) (taken given text : List ℕ) (a : Answer) → TakesBytes in_old in_new taken → IsWhole taken in_new
-    → given ≡ taken → IsAnswer given (Ok a) → text ≡ a.text → Appends out_old out_new text → Runs true in_old in_new out_old out_new a.status
+pub ends_told : (in_old in_new out_old out_new : Option (List ℕ)) (taken given text : List ℕ) (a : Answer)
+    → TakesBytes in_old in_new taken → IsWhole taken in_new → given ≡ taken → IsAnswer given (Ok a) → text ≡ a.text
+    → Appends out_old out_new text → Runs true in_old in_new out_old out_new a.status
 ends_told in_old in_new out_old out_new taken given text a takes whole same_bytes answered same_text sends =
     let answer : IsAnswer taken (Ok a) = subst (λ b. IsAnswer b (Ok a)) same_bytes answered in
     let low : a.status ≤ 1 = status_is_low (document_of taken) a answer in
@@ -128,8 +137,9 @@ ends_told in_old in_new out_old out_new taken given text a takes whole same_byte
     }
 
 -- a write failed after a front of the text
-pub ends_cut : (in_old in_new out_old out_new : Option (List ℕ)) (taken given text sent : List ℕ) (a : Answer) → TakesBytes in_old in_new taken → IsWhole taken in_new
-    → given ≡ taken → IsAnswer given (Ok a) → text ≡ a.text → StartsWith text sent → Appends out_old out_new sent → Runs true in_old in_new out_old out_new 5
+pub ends_cut : (in_old in_new out_old out_new : Option (List ℕ)) (taken given text sent : List ℕ) (a : Answer)
+    → TakesBytes in_old in_new taken → IsWhole taken in_new → given ≡ taken → IsAnswer given (Ok a) → text ≡ a.text
+    → StartsWith text sent → Appends out_old out_new sent → Runs true in_old in_new out_old out_new 5
 ends_cut in_old in_new out_old out_new taken given text sent a takes whole same_bytes answered same_text front sends =
     let answer : IsAnswer taken (Ok a) = subst (λ b. IsAnswer b (Ok a)) same_bytes answered in
     record {

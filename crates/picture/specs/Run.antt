@@ -27,8 +27,8 @@ IsOutcome true bytes told = (reply : Result Answer Fault) × IsAnswer bytes repl
 abbrev pub IsFront : Bool → List ℕ → List ℕ → Type 0
 IsFront asked taken sent = (told : Answer) × IsOutcome asked taken told × StartsWith told.text sent
 
--- A run ended with this status; it was asked for a picture where it was given no words. in_old and in_new are the bytes that were left of the input before and
--- after, out_old and out_new those that had gone out.
+-- A run ended with this status; it was asked for a picture where it was given no words. in_old and in_new are the bytes that were left
+-- of the input before and after, out_old and out_new those that had gone out.
 pub record Runs (asked : Bool) (in_old in_new out_old out_new : Option (List ℕ)) (status : ℕ) : Type 0 where
   pub taken : List ℕ
   pub sent : List ℕ

@@ -4,7 +4,8 @@ ghost use Rattle.schedule_text.specs.Players.{CanBePlayed, taken_by};
 ghost use Rattle.schedule_text.specs.Refusals.{Gives as Reads};
 ghost use Rattle.schedule_text.specs.declared.document.Want.TheVariants.{Race};
 ghost use Rattle.serde_json.specs.View.{view};
-ghost use Rattle.picture.specs.Answers.{AnswersBoard, AnswersCell, AnswersCheck, AnswersMatrix, document_of, drawn, Gives, IsAnswer, shown_in, status_of};
+ghost use Rattle.picture.specs.Answers.{AnswersBoard, AnswersCell, AnswersCheck, AnswersMatrix, document_of, drawn, Gives, IsAnswer};
+ghost use Rattle.picture.specs.Answers.{shown_in, status_of};
 
 use crate::fault::{Answer, Fault};
 use crate::scenes::{board_scene, cell_scene, check_scene, matrix_scene};

@@ -1,6 +1,7 @@
 -- The text of a picture (this project's own): lanes, axis and terms, then the operations, the slot accesses, the marks of what breaks
 -- the order, and its joins and points.
-use Rattle.std.specs.Prelude.{ℕ, ◌+◌, ◌-◌, ◌*◌, ◌/◌, ◌^◌, ◌++◌, min, List, [], ◌∷◌, codes, Bool, true, false, Option, None, Some, slice_get, zero, suc, if◌then◌else◌}
+use Rattle.std.specs.Prelude.{ℕ, ◌+◌, ◌-◌, ◌*◌, ◌/◌, ◌^◌, ◌++◌, min, List, [], ◌∷◌, codes, Bool, true, false, Option, None, Some, slice_get}
+use Rattle.std.specs.Prelude.{zero, suc, if◌then◌else◌}
 use Rattle.std.specs.Fmt.{decimal}
 use Rattle.std.specs.List.{flat_map}
 use Rattle.std.specs.Option.{unwrap_or}
@@ -14,7 +15,8 @@ use Rattle.matrix_core.specs.declared.stamp.Stamp.{Stamp}
 use Rattle.schedule_text.specs.Text.{entry_at}
 use Rattle.picture_text.specs.Looks.{looks}
 use Rattle.picture_text.specs.Scales.{actors_of, far_of, scale_of, unit_in, x_of, y_of}
-use Rattle.picture_text.specs.Shapes.{bar_of, bar_text, class_of, join_text, lane_text, op_shapes, row_y, point_text, term_text, tick_text, words_end}
+use Rattle.picture_text.specs.Shapes.{bar_of, bar_text, class_of, join_text, lane_text, op_shapes, row_y, point_text, term_text, tick_text}
+use Rattle.picture_text.specs.Shapes.{words_end}
 use Rattle.picture_text.specs.declared.scale.Scale.{Scale}
 use Rattle.picture_text.specs.declared.scene.Lanes.{Lanes}
 use Rattle.picture_text.specs.declared.scene.Lanes.TheVariants.{Actors, Cell, Board}
@@ -116,13 +118,22 @@ broken_head = codes "<text class=\"z\" x=\"8\" y=\"24\">unlawful "
 
 unfoldable pub break_words : Option Break → List ℕ
 break_words None = codes "<text x=\"8\" y=\"24\">lawful</text>\n"
-break_words (Some (NoPlace entry)) = broken_head ++ codes "listing: entry " ++ decimal entry ++ codes " of the order is no operation" ++ words_end
-break_words (Some (Times place times)) = broken_head ++ codes "listing: operation " ++ decimal place ++ codes " stands " ++ decimal times ++ codes " times" ++ words_end
-break_words (Some (Precedence earlier entry)) = broken_head ++ codes "precedence: entry " ++ decimal entry ++ codes " stands after entry " ++ decimal earlier ++ codes ", and ended before it began" ++ words_end
+break_words (Some (NoPlace entry)) =
+    broken_head ++ codes "listing: entry " ++ decimal entry ++ codes " of the order is no operation" ++ words_end
+break_words (Some (Times place times)) =
+    broken_head ++ codes "listing: operation " ++ decimal place ++ codes " stands " ++ decimal times ++ codes " times" ++ words_end
+break_words (Some (Precedence earlier entry)) =
+    broken_head ++ codes "precedence: entry " ++ decimal entry ++ codes " stands after entry " ++ decimal earlier
+    ++ codes ", and ended before it began" ++ words_end
 break_words (Some (NoItem entry)) = broken_head ++ codes "reading: entry " ++ decimal entry ++ codes " has no record" ++ words_end
-break_words (Some (Reading entry None)) = broken_head ++ codes "reading: entry " ++ decimal entry ++ codes " has another record than the opening" ++ words_end
-break_words (Some (Reading entry (Some write))) = broken_head ++ codes "reading: entry " ++ decimal entry ++ codes " has another record than entry " ++ decimal write ++ codes ", the last write before it" ++ words_end
-break_words (Some (Limit entry writes)) = broken_head ++ codes "limit: entry " ++ decimal entry ++ codes " was refused after " ++ decimal writes ++ codes " writes of its term" ++ words_end
+break_words (Some (Reading entry None)) =
+    broken_head ++ codes "reading: entry " ++ decimal entry ++ codes " has another record than the opening" ++ words_end
+break_words (Some (Reading entry (Some write))) =
+    broken_head ++ codes "reading: entry " ++ decimal entry ++ codes " has another record than entry " ++ decimal write
+    ++ codes ", the last write before it" ++ words_end
+break_words (Some (Limit entry writes)) =
+    broken_head ++ codes "limit: entry " ++ decimal entry ++ codes " was refused after " ++ decimal writes
+    ++ codes " writes of its term" ++ words_end
 
 abbrev pub mark_text : Scale → Option (Op Band) → List ℕ
 mark_text s None = []
@@ -136,7 +147,8 @@ broken_join s points m n (Some a) (Some b) = join_text true (spot_of s points m 
 -- the marks of two entries, with a join between them
 abbrev pub pair_text : Scale → List (Op Band) → List ℕ → List ℕ → ℕ → ℕ → List ℕ
 pair_text s ops order points m n =
-    mark_text s (listed_at ops order m) ++ mark_text s (listed_at ops order n) ++ broken_join s points m n (listed_at ops order m) (listed_at ops order n)
+    mark_text s (listed_at ops order m) ++ mark_text s (listed_at ops order n)
+    ++ broken_join s points m n (listed_at ops order m) (listed_at ops order n)
 
 unfoldable pub break_text : Scale → List (Op Band) → List ℕ → List ℕ → Option Break → List ℕ
 break_text s ops order points None = []

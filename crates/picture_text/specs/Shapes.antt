@@ -1,5 +1,6 @@
 -- The text of each shape of a picture, in SVG 1.1 (W3C, Scalable Vector Graphics). Which shapes there are is this project's own.
-use Rattle.std.specs.Prelude.{ℕ, ◌+◌, ◌-◌, ◌*◌, ◌/◌, ◌%◌, ◌++◌, max, List, [], codes, Bool, true, false, Option, None, Some, is_some, nat_eq, nat_lt, if◌then◌else◌}
+use Rattle.std.specs.Prelude.{ℕ, ◌+◌, ◌-◌, ◌*◌, ◌/◌, ◌%◌, ◌++◌, max, List, [], codes, Bool, true, false, Option, None, Some, is_some}
+use Rattle.std.specs.Prelude.{nat_eq, nat_lt, if◌then◌else◌}
 use Rattle.std.specs.Fmt.{decimal}
 use Rattle.history_core.specs.declared.band.Band.{Band}
 use Rattle.history_core.specs.declared.history.Kind.{Kind}
@@ -156,7 +157,8 @@ abbrev pub term_y : ℕ → ℕ
 term_y number = 36 + 12 * (number % 2)
 
 unfoldable pub term_words : ℕ → ℕ → ℕ → List ℕ
-term_words x number limit = codes "\"/><text x=\"" ++ decimal x ++ codes "\" y=\"" ++ decimal (term_y number) ++ codes "\">" ++ term_name number limit
+term_words x number limit =
+    codes "\"/><text x=\"" ++ decimal x ++ codes "\" y=\"" ++ decimal (term_y number) ++ codes "\">" ++ term_name number limit
 
 unfoldable pub term_text : ℕ → ℕ → ℕ → ℕ → List ℕ
 term_text x high number limit = codes "<path class=\"s\" d=\"M" ++ decimal x ++ codes " 52V" ++ decimal high ++ term_words x number limit

@@ -1,7 +1,8 @@
 -- The slot accesses of a schedule, by its positions and by the slots of its report (H. Simpson, Four-slot fully asynchronous
 -- communication mechanism, IEE Proceedings E, 1990): a write is in its slot from its second event to its third, a read from its
 -- fourth to its fifth. Events of an access are counted from 0.
-use Rattle.std.specs.Prelude.{ℕ, ◌≡◌, ◌≤◌, ◌+◌, ◌-◌, ◌*◌, List, [], ◌∷◌, ◌++◌, length, max, take, drop, get_or, slice_get, Option, None, Some, nat_eq, nat_le, nat_lt, zero, suc, if◌then◌else◌}
+use Rattle.std.specs.Prelude.{ℕ, ◌≡◌, ◌≤◌, ◌+◌, ◌-◌, ◌*◌, List, [], ◌∷◌, ◌++◌, length, max, take, drop, get_or, slice_get, Option, None}
+use Rattle.std.specs.Prelude.{Some, nat_eq, nat_le, nat_lt, zero, suc, if◌then◌else◌}
 use Rattle.std.specs.List.{fold}
 use Rattle.fourslot_core.specs.CellReports.{cell_span}
 use Rattle.fourslot_core.specs.declared.schedule.CellSchedule.{CellSchedule}

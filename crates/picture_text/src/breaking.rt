@@ -221,7 +221,8 @@ fn put_long_words(
 )
     requires empty { length line.old ≡ 0 }
     requires short { length before.now + length between.now + length after.now ≤ 100 }
-    ensures { line.new ≡ broken_head ++ before.now ++ decimal first ++ between.now ++ decimal second ++ after.now ++ codes "</text>\n" ++ line.old }
+    ensures { line.new ≡ broken_head ++ before.now ++ decimal first ++ between.now ++ decimal second ++ after.now
+        ++ codes "</text>\n" ++ line.old }
 {
     line.put(b"</text>\n");
     line.put(after);

@@ -1,10 +1,11 @@
 //! The frame of a picture: its head, its lanes, its axis and its terms.
 
 ghost use Rattle.std.specs.Prelude.{◌≡◌, ◌<◌, ◌≤◌, ◌^◌, ◌++◌, OnOk, length, slice_get};
-ghost use Rattle.picture_text.specs.Picture.{begin_x, frame_text, head_text, lanes_text, size_text, terms_text, tick_at, tick_moment, ticks_of, ticks_text};
+ghost use Rattle.picture_text.specs.Picture.{begin_x, frame_text, head_text, lanes_text, size_text, terms_text, tick_at, tick_moment};
+ghost use Rattle.picture_text.specs.Picture.{ticks_of, ticks_text};
 ghost use Rattle.picture_text.specs.Shapes.{cell_rows, lane_text, row_text};
 
-use crate::looks::looks;
+use crate::looks::push_looks;
 use crate::scale::Scale;
 use crate::scene::Lanes;
 use crate::shape::{put_lane, put_row, put_term, put_tick};
@@ -38,7 +39,7 @@ fn push_head(text: &mut Vec<u8>, far: u64, high: u64) -> Result<(), AllocError>
     let mut line = Line::new();
     put_size(&mut line, far, high);
     text.extend_from_slice(line.as_bytes())?;
-    text.extend_from_slice(looks().as_bytes())
+    push_looks(text)
 }
 
 #[tactic(auto, unfolding(crate::specs::Picture::size_text), using(std::proofs::Common::append_assoc))]

@@ -1,10 +1,29 @@
-ghost use Rattle.std.specs.Prelude.{◌≡◌};
+ghost use Rattle.std.specs.Prelude.{◌≡◌, ◌++◌, OnOk};
 ghost use Rattle.picture_text.specs.Looks.{looks};
 
+use std::alloc::AllocError;
+
 /// The end of the head, with the colours and lines of a picture.
-#[tactic(auto, unfolding(crate::specs::Looks::looks))]
-pub fn looks() -> &'static str
-    ensures { result.now ≡ looks }
+#[tactic(auto, unfolding(crate::specs::Looks::looks), using(std::proofs::Common::append_assoc))]
+pub fn push_looks(text: &mut Vec<u8>) -> Result<(), AllocError>
+    ensures { OnOk result (text.new.items ≡ text.old.items ++ looks) }
 {
-    "\">\n<style>text{font:11px monospace;fill:#222}.g{fill:#fff}.l,.t{stroke:#ddd;fill:none}.s{stroke:#777;stroke-dasharray:2 4;fill:none}.a{fill:#777}.w{fill:#9fc3e8;stroke:#12467a;stroke-width:2}.r{fill:#fff;stroke:#12467a;stroke-width:2}.f{fill:#fff;stroke:#7a4612;stroke-width:2;stroke-dasharray:4 3}.j{stroke:#12467a;fill:none}circle{fill:#222}.n{fill:#fff;font-size:9px;text-anchor:middle}.x{fill:none;stroke:#c00;stroke-width:5}.b{fill:none;stroke:#c00;stroke-width:3;stroke-dasharray:8 4}.z{fill:#c00;font-weight:bold}</style>\n<rect class=\"g\" width=\"100%\" height=\"100%\"/>\n"
+    text.extend_from_slice(
+        b"\">\n<style>text{font:11px monospace;fill:#222}.g{fill:#fff}.l,.t{stroke:#ddd;fill:none}",
+    )?;
+    text.extend_from_slice(
+        b".s{stroke:#777;stroke-dasharray:2 4;fill:none}.a{fill:#777}.w{fill:#9fc3e8;stroke:#12467a;stroke-width:2}",
+    )?;
+    text.extend_from_slice(
+        b".r{fill:#fff;stroke:#12467a;stroke-width:2}.f{fill:#fff;stroke:#7a4612;stroke-width:2;stroke-dasharray:4 3}",
+    )?;
+    text.extend_from_slice(
+        b".j{stroke:#12467a;fill:none}circle{fill:#222}.n{fill:#fff;font-size:9px;text-anchor:middle}",
+    )?;
+    text.extend_from_slice(
+        b".x{fill:none;stroke:#c00;stroke-width:5}.b{fill:none;stroke:#c00;stroke-width:3;stroke-dasharray:8 4}",
+    )?;
+    text.extend_from_slice(
+        b".z{fill:#c00;font-weight:bold}</style>\n<rect class=\"g\" width=\"100%\" height=\"100%\"/>\n",
+    )
 }

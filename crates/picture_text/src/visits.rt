@@ -1,13 +1,16 @@
 //! The slot accesses of a schedule.
 
-ghost use Rattle.std.specs.Prelude.{◌≡◌, ◌≤◌, ◌<◌, ◌+◌, ◌-◌, ◌*◌, ◌++◌, ◌^◌, [], ◌∷◌, IfOk, OnOk, drop, get_or, length, map, slice_get, nat_eq, if◌then◌else◌};
+ghost use Rattle.std.specs.Prelude.{◌≡◌, ◌≤◌, ◌<◌, ◌+◌, ◌-◌, ◌*◌, ◌++◌, ◌^◌, [], ◌∷◌, IfOk, OnOk, drop, get_or, length, map, slice_get};
+ghost use Rattle.std.specs.Prelude.{nat_eq, if◌then◌else◌};
 ghost use Rattle.fourslot_core.specs.Play.{actor};
 ghost use Rattle.history_core.specs.Schedules.{board_accesses, positions};
 ghost use Rattle.matrix_core.specs.BoardReports.{board_span};
 ghost use Rattle.matrix_core.specs.Events.{other};
 ghost use Rattle.matrix_core.specs.Runs.{CanPlay, max_position, step_count};
 ghost use Rattle.schedule_text.specs.Text.{entry_at};
-ghost use Rattle.picture_text.specs.Visits.{AllFit, access_lane, access_turn, access_visits, board_lanes, board_visits, cell_lane, cell_visits, enters, events_in, first_of, kind_by, made_after, ops_between, own_visits, row_visits, side_visits, term_visits, terms_visits, visit_of, widest};
+ghost use Rattle.picture_text.specs.Visits.{AllFit, access_lane, access_turn, access_visits, board_lanes, board_visits, cell_lane};
+ghost use Rattle.picture_text.specs.Visits.{cell_visits, enters, events_in, first_of, kind_by, made_after, ops_between, own_visits};
+ghost use Rattle.picture_text.specs.Visits.{row_visits, side_visits, term_visits, terms_visits, visit_of, widest};
 
 use crate::scene::{Lanes, Visit};
 use fourslot_core::{CellSchedule, Turn};

@@ -4,4 +4,6 @@ use Rattle.picture_text.specs.Picture.{terms_text}
 use Rattle.picture_text.proofs.frame.push_terms.Given as goal
 
 abbrev pub invariant-loop-k : goal.invariant-loop-k
-invariant-loop-k l = l.text.items ++ terms_text l.scale l.high l.ops (l.k + 1) (drop l.k l.terms) ≡ l.initial.text.items ++ terms_text l.scale l.high l.ops 1 l.terms
+invariant-loop-k l =
+    let all = terms_text l.scale l.high l.ops in
+    l.text.items ++ all (l.k + 1) (drop l.k l.terms) ≡ l.initial.text.items ++ all 1 l.terms

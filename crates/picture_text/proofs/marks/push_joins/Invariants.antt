@@ -4,4 +4,6 @@ use Rattle.picture_text.specs.Picture.{joins_text}
 use Rattle.picture_text.proofs.marks.push_joins.Given as goal
 
 abbrev pub invariant-loop-n : goal.invariant-loop-n
-invariant-loop-n l = l.text.items ++ joins_text l.scale l.ops l.points l.n l.write (drop l.n l.order) ≡ l.initial.text.items ++ joins_text l.scale l.ops l.points 0 None l.order
+invariant-loop-n l =
+    let all = joins_text l.scale l.ops l.points in
+    l.text.items ++ all l.n l.write (drop l.n l.order) ≡ l.initial.text.items ++ all 0 None l.order

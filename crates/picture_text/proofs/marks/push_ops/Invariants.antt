@@ -4,4 +4,6 @@ use Rattle.picture_text.specs.Picture.{ops_text}
 use Rattle.picture_text.proofs.marks.push_ops.Given as goal
 
 abbrev pub invariant-loop-place : goal.invariant-loop-place
-invariant-loop-place l = l.text.items ++ ops_text l.scale l.stamps l.place (drop l.place l.ops) ≡ l.initial.text.items ++ ops_text l.scale l.stamps 0 l.ops
+invariant-loop-place l =
+    let all = ops_text l.scale l.stamps in
+    l.text.items ++ all l.place (drop l.place l.ops) ≡ l.initial.text.items ++ all 0 l.ops

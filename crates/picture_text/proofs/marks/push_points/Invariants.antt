@@ -4,4 +4,6 @@ use Rattle.picture_text.specs.Picture.{points_text}
 use Rattle.picture_text.proofs.marks.push_points.Given as goal
 
 abbrev pub invariant-loop-n : goal.invariant-loop-n
-invariant-loop-n l = l.text.items ++ points_text l.scale l.ops l.points l.n (drop l.n l.order) ≡ l.initial.text.items ++ points_text l.scale l.ops l.points 0 l.order
+invariant-loop-n l =
+    let all = points_text l.scale l.ops l.points in
+    l.text.items ++ all l.n (drop l.n l.order) ≡ l.initial.text.items ++ all 0 l.order

@@ -4,4 +4,5 @@ use Rattle.picture_text.proofs.Terms.{all_fit}
 use Rattle.picture_text.proofs.visits.board_visits.Goals as goal
 
 pub terms_visits-requires-clause-fit : goal.terms_visits-requires-clause-fit
-terms_visits-requires-clause-fit c = all_fit c.args.terms.now _ c.widest-wide.ensures (omega (arith, c.if-wide-gt-WIDEST.false)) c.requires.each
+terms_visits-requires-clause-fit c =
+    all_fit c.args.terms.now _ c.widest-wide.ensures (omega (arith, c.if-wide-gt-WIDEST.false)) c.requires.each

@@ -5,4 +5,5 @@ use Rattle.fourslot_core.specs.Play.{actor}
 use Rattle.picture_text.proofs.visits.side_steps.Given as goal
 
 abbrev pub invariant-loop-i : goal.invariant-loop-i
-invariant-loop-i l = l.made.items ++ positions l.i (actor l.side) (map actor (drop l.i l.steps)) ≡ positions 0 (actor l.side) (map actor l.steps)
+invariant-loop-i l =
+    l.made.items ++ positions l.i (actor l.side) (map actor (drop l.i l.steps)) ≡ positions 0 (actor l.side) (map actor l.steps)

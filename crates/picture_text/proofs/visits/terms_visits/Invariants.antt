@@ -6,5 +6,6 @@ use Rattle.picture_text.proofs.visits.terms_visits.Given as goal
 
 abbrev pub invariant-loop-t : goal.invariant-loop-t
 invariant-loop-t l =
-    (l.visits.items ++ terms_visits l.wide l.marks l.ops l.rows l.at l.t (drop l.t l.terms) ≡ terms_visits l.wide l.marks l.ops l.rows 0 0 l.terms)
+    let all = terms_visits l.wide l.marks l.ops l.rows in
+    (l.visits.items ++ all l.at l.t (drop l.t l.terms) ≡ all 0 0 l.terms)
     × (l.at + step_count (drop l.t l.terms) ≡ step_count l.terms)
