@@ -90,6 +90,12 @@ document_of '[2,1,3]' 0 '[[],{}]' 'shape of scripts'
 document_of '[2,1,3]' 0 '[["write"],[]]' 'shape of scripts'
 document_of '[2,1,3]' 0 '[[[1,2]],[]]' 'shape of scripts'
 document_of '[2,1,3]' 0 '[[null],[]]' 'shape of scripts'
+document_of '[2,1,3]' 0 null 'shape of scripts'
+document_of '[0,0,0]' 1 '[[[1,1,1],[2,2,2]],["read"]]'
+document_of '[2,1,3]' 9 '[[[3,2,1]]]' 'range of scripts'
+document_of '[1,1,3]' 9 '[["read"],[[1,1,1],[3,2,1]]]' 'law of scripts'
+document_of '[0,0,0]' 9 '[[],[],[],[],[],[],[],[],[],[],[],[],[],[],[],[]]'
+document_of '[0,0,0]' 9 '[[],[],[],[],[],[],[],[],[],[],[],[],[],[],[],[],[]]' 'range of scripts'
 
 # Sees the same of a whole document.
 text_of() {
@@ -101,12 +107,30 @@ text_of() {
 text_of '' 'not JSON'
 text_of '[]' 'kind'
 text_of '{"kind":"Race"}' 'kind'
+text_of '{"kind":"check"}' 'kind'
+text_of '{"kind":"cell"}' 'kind'
+text_of '{"kind":"matrix"}' 'kind'
+text_of '{"kind":"board"}' 'kind'
 text_of '{"kind":"race"}' 'missing opening'
 text_of '{"kind":"race","limit":0,"scripts":0,"terms":[]}' 'missing opening'
 text_of '{"kind":"race","opening":0}' 'missing limit'
 text_of '{"kind":"race","opening":[0,0],"limit":0,"plans":[[],[]]}' 'missing scripts'
 text_of '{"kind":"race","opening":[0,0,0],"limit":9,"scripts":[[],[]],"terms":null,"noise":0,"plans":[[]],"steps":"x","reads":-1}'
 text_of '{"kind":"race","opening":[0,0,0],"limit":0,"limit":9,"scripts":[[],[]]}'
+
+# Sees the same of a race of so many reads and one write.
+reads_of() {
+    title="a race of $1 reads and one write${2:+: $2}"
+    awk -v reads="$1" 'BEGIN {
+        printf "{\"kind\":\"race\",\"opening\":[0,0,0],\"limit\":9,\"scripts\":[[\"read\""
+        for (k = 1; k < reads; k++) printf ",\"read\""
+        print "],[[1,2,3]]]}"
+    }' >"$room/race.json"
+    whole_document "${2:-}"
+}
+
+reads_of 9999
+reads_of 10000 'range of scripts'
 
 race_of 8 1250 50
 race_of 16 625 50

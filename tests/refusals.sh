@@ -1,0 +1,169 @@
+# What `fsr` tells of documents at the bounds of each refusal. Each line of tests/refusals/COMMAND.txt is what is told, a bar
+# and the document; documents that are too long for a line are made here.
+
+# Sees that a command tells this of the document in $room/document: a fault on standard error alone with status 3, or as the last
+# line of its text with status 0, or 1 for an unlawful order.
+#   tells COMMAND TOLD
+tells() {
+    crates/fsr/out/fsr "$1" <"$room/document" >"$room/out" 2>"$room/err"
+    status=$?
+    case $2 in
+    document:* | schedule:*) wanted_status=3 wanted="fsr: $2" told=$(cat "$room/err") other=out ;;
+    unlawful*) wanted_status=1 wanted=$2 told=$(tail -n 1 "$room/out") other=err ;;
+    *) wanted_status=0 wanted=$2 told=$(tail -n 1 "$room/out") other=err ;;
+    esac
+    [ "$status" = "$wanted_status" ] && [ "$told" = "$wanted" ] && [ ! -s "$room/$other" ]
+}
+
+# The same, counted as a test with this title.
+sees_told() {
+    title=$1
+    if tells "$2" "$3"; then
+        pass "$title: $3"
+    else
+        fail "$title" "not '$3' but status $status and '$(head -c 200 "$room/out" "$room/err")'"
+    fi
+}
+
+# Each line of a table.
+table_of() {
+    rows=0 missed=0
+    while IFS= read -r row; do
+        case $row in
+        '#'*) continue ;;
+        esac
+        rows=$((rows + 1))
+        printf '%s' "${row#* | }" >"$room/document"
+        if ! tells "$1" "${row%% | *}"; then
+            missed=$((missed + 1))
+            fail "fsr $1, ${row#* | }" "not '${row%% | *}' but status $status and '$(head -c 200 "$room/out" "$room/err")'"
+        fi
+    done <"tests/refusals/$1.txt"
+    if [ "$rows" = 0 ]; then
+        fail "tests/refusals/$1.txt" "it has no document"
+    elif [ "$missed" = 0 ]; then
+        pass "tests/refusals/$1.txt: $rows documents"
+    fi
+}
+
+# So many copies of a text, with a separator between each two.
+copies() {
+    awk -v count="$1" -v text="$2" -v between="$3" 'BEGIN { for (k = 0; k < count; k++) printf "%s%s", k ? between : "", text }'
+}
+
+# A `check` document of so many operations, so many entries in its order, and so many arrays in each other under another key.
+long_check() {
+    printf '{"kind":"check","opening":[0,0,0],"noise":0,"terms":null,"limit":0,"limit":9,"ops":['
+    copies "$1" '{"who":0,"kind":"read","begin":4}' ,
+    printf '],"order":['
+    copies "$2" 0 ,
+    printf '],"x":%snull%s}' "$(copies "$3" '[' '')" "$(copies "$3" ']' '')"
+}
+
+# A `cell` document of so many writes, this many reads and so many steps `w`, with a letter after them.
+long_cell() {
+    printf '{"kind":"cell","opening":[0,0,0],"noise":[9,8,7],"writes":['
+    copies "$1" '[1,2,3]' ,
+    printf '],"reads":%s,"steps":"' "$2"
+    copies "$3" w ''
+    printf '%s"}' "${4-}"
+}
+
+# A `matrix` document of so many processes without a plan.
+wide_matrix() {
+    printf '{"kind":"matrix","opening":[0,0,0],"limit":9,"plans":[%s],"steps":[15]}' "$(copies "$1" '[]' ,)"
+}
+
+# A `matrix` document of so many terms.
+many_terms() {
+    printf '{"kind":"matrix","opening":[0,0,0],"terms":[%s]}' "$(copies "$1" '{"limit":1,"plans":[[],[]],"steps":[0,1]}' ,)"
+}
+
+# A `matrix` document of so many reads and one more, and of so many steps and one more.
+long_matrix() {
+    printf '{"kind":"matrix","opening":[0,0,0],"limit":9,"plans":[['
+    copies "$1" '"read"' ,
+    printf '],["read"]],"steps":['
+    copies "$2" 0 ,
+    printf ',1]}'
+}
+
+# The same over two terms.
+long_terms() {
+    printf '{"kind":"matrix","opening":[0,0,0],"terms":[{"limit":1,"plans":[['
+    copies "$1" '"read"' ,
+    printf '],[]],"steps":['
+    copies "$2" 0 ,
+    printf ']},{"limit":1,"plans":[["read"],[]],"steps":[1]}]}'
+}
+
+# Sees what is told of the document that a function makes.
+#   sees_long COMMAND TOLD FUNCTION WORDS..
+sees_long() {
+    command=$1 told_of=$2
+    shift 2
+    "$@" >"$room/document"
+    sees_told "$*" "$command" "$told_of"
+}
+
+# Bytes that aren't UTF-8, and an object that UTF-8's byte order mark stands before.
+byte_255() {
+    printf '\377'
+}
+
+byte_order_mark() {
+    printf '\357\273\277{}'
+}
+
+# The first document with blanks after it, this many bytes in all.
+padded() {
+    cat examples/lawful.json
+    copies $(($1 - $(wc -c <examples/lawful.json))) ' ' ''
+}
+
+# Each part of the first document that ends before its last byte; the line feed after that doesn't count.
+sees_parts() {
+    title="the first document cut before each of its bytes" missed=0
+    for length in $(seq 0 $(($(wc -c <examples/lawful.json) - 2))); do
+        head -c "$length" examples/lawful.json >"$room/document"
+        tells check 'document: not JSON' || missed=$((missed + 1))
+    done
+    if [ "$missed" = 0 ]; then
+        pass "$title"
+    else
+        fail "$title" "$missed parts were told as something else"
+    fi
+}
+
+if ! has_program fsr; then
+    fail "refusals" "fsr wasn't built"
+else
+    table_of check
+    table_of play
+    sees_parts
+    sees_long check 'document: not JSON' byte_255
+    sees_long check 'document: not JSON' byte_order_mark
+    sees_long check lawful padded 1048576
+    sees_long check 'document: longer than 1048576 bytes' padded 1048577
+    sees_long check lawful long_check 0 0 126
+    sees_long check 'document: not JSON' long_check 0 0 127
+    sees_long check 'unlawful listing' long_check 10000 10000 0
+    sees_long check 'document: range of ops' long_check 10001 10001 0
+    sees_long check 'document: range of order' long_check 10000 10001 0
+    sees_long play 'schedule: no operation left at step 50000' long_cell 10000 0 100000
+    sees_long play 'document: range of reads' long_cell 10000 1 100001
+    sees_long play 'document: range of steps' long_cell 10000 0 100001
+    sees_long play 'document: range of writes' long_cell 10001 0 100001
+    sees_long play 'document: shape of steps' long_cell 10000 0 100000 x
+    sees_long play 'document: shape of steps' long_cell 10001 0 100001 x
+    sees_long play 'schedule: no operation left at step 0' wide_matrix 16
+    sees_long play 'document: range of plans' wide_matrix 17
+    sees_long play 'schedule: no operation left at step 0' many_terms 16
+    sees_long play 'document: range of terms' many_terms 17
+    sees_long play 'schedule: no operation left at step 19998' long_matrix 9999 99999
+    sees_long play 'document: range of steps' long_matrix 9999 100000
+    sees_long play 'document: range of plans' long_matrix 10000 99999
+    sees_long play 'schedule: no operation left at step 19998' long_terms 9999 99999
+    sees_long play 'document: range of terms' long_terms 9999 100000
+    sees_long play 'document: range of terms' long_terms 10000 99999
+fi
