@@ -1,4 +1,5 @@
 -- One order of a running board's calls.
+pub mod Chosen
 pub mod Clocks
 pub mod Histories
 pub mod Instances

@@ -20,7 +20,7 @@ use Rattle.matrix_core.proofs.lists.Sorting.{Sorted, sort, sorted_sort, sort_sor
 use Rattle.matrix_core.proofs.lists.Sorting.{in_append, append_left, append_right, filter_whole, filter_none}
 use Rattle.matrix_core.proofs.calls.Replays.{IsLatest, IsCut, replays, ends, end_is}
 
-same_is : (a b : ℕ) → a ≡ b → nat_eq a b ≡ true
+pub same_is : (a b : ℕ) → a ≡ b → nat_eq a b ≡ true
 same_is a b e = grind (arith, nat_tests)
 
 other_is : (a b : ℕ) → a ≢ b → nat_eq a b ≡ false
@@ -166,6 +166,13 @@ module _ {V : Type 0} where
           clock = o.turn.ticks d.chosen (inr (inr m));
         })
     later _ _ (then b d c p q) = later_trans b d c (later b d p) (later d c q)
+
+    -- and its stamp isn't above what the later call saw
+    pub saw : (d c : Call V) → HappenedBefore runs d c → IsAtMost d.chosen.stamp c.seen.stamp
+    saw _ _ (in_turn p i j cs d c e hd hc l) = (turns_at limit p first cs i j d c (timed p cs e) hd hc l).seen
+    saw _ _ (answered d c w m) = (owner c w).turn.call.greatest d.chosen (inr (inl m))
+    saw _ _ (told d c w m) = (owner c w).turn.call.greatest d.chosen (inr (inr m))
+    saw _ _ (then b d c p q) = at_most_trans b.chosen.stamp d.chosen.stamp c.seen.stamp (later b d p).stamps (saw d c q)
 
     -- so no call happened before itself, and no record goes round in a circle
     pub no_circle : (c : Call V) → HappenedBefore runs c c → ⊥
