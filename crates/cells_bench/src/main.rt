@@ -1,7 +1,9 @@
-//! Measures the running cells. `list` names them with their record sizes. `run` measures them all once and prints lines
-//! `impl,record_bytes,mode,metric,value`. `count IMPL BYTES OP N` makes one cell and N calls, for a counter of instructions.
+//! Measures the running cells and boards. `list` names them with their record sizes. `run` measures them all once and prints lines
+//! `impl,record_bytes,mode,metric,value`. `count IMPL BYTES OP N` makes one cell or board and N calls, for a counter of instructions.
 #![tactic(auto)]
 
+mod boards;
+mod boards_at_once;
 mod duo;
 mod measure;
 mod paced;
@@ -9,10 +11,12 @@ mod record;
 mod sides;
 mod solo;
 
+use board_live::Clocked;
+use boards::{Item, PROCESSES};
 use cell_live::{Cell, FourSlotCell, TripleCell};
 use measure::Op;
 use record::{Record, Shared};
-use std::alloc::Global;
+use std::alloc::{AllocError, Global};
 use std::io;
 use std::rt::Clock;
 use std::thread::Threads;
@@ -20,6 +24,10 @@ use std::thread::Threads;
 const FOUR_SLOT: &str = "proved_four_slot";
 
 const TRIPLE: &str = "proved_triple";
+
+const BOARD_FOUR_SLOT: &str = "proved_board_four_slot";
+
+const BOARD_TRIPLE: &str = "proved_board_triple";
 
 fn main(rt: HostRuntime) -> io::Result<()> {
     let words: Vec<String> = std::env::args(&rt)?.collect(rt.alloc())?;
@@ -47,6 +55,11 @@ fn all<R: Clock + Print + Threads + Sync>(rt: &R, alloc: Global, command: &str) 
                     println!(rt; "{name},{bytes}")?;
                 }
             }
+            for name in [BOARD_FOUR_SLOT, BOARD_TRIPLE] {
+                for n in PROCESSES {
+                    println!(rt; "{name}:{n},24")?;
+                }
+            }
             Ok(())
         }
         "run" => {
@@ -55,7 +68,9 @@ fn all<R: Clock + Print + Threads + Sync>(rt: &R, alloc: Global, command: &str) 
             one::<_, [u64; 512], FourSlotCell<Record<[u64; 512]>>>(rt, alloc, FOUR_SLOT, 4096)?;
             one::<_, [u64; 3], TripleCell<Record<[u64; 3]>>>(rt, alloc, TRIPLE, 24)?;
             one::<_, [u64; 32], TripleCell<Record<[u64; 32]>>>(rt, alloc, TRIPLE, 256)?;
-            one::<_, [u64; 512], TripleCell<Record<[u64; 512]>>>(rt, alloc, TRIPLE, 4096)
+            one::<_, [u64; 512], TripleCell<Record<[u64; 512]>>>(rt, alloc, TRIPLE, 4096)?;
+            boards::run::<R, FourSlotCell<Clocked<Item>>>(rt, alloc, BOARD_FOUR_SLOT)?;
+            boards::run::<R, TripleCell<Clocked<Item>>>(rt, alloc, BOARD_TRIPLE)
         }
         _ => println!(rt; "# list | run | count IMPL BYTES OP N"),
     }
@@ -105,7 +120,41 @@ fn count(
         ("proved_triple", "4096") => solo::calls::<[u64; 512], TripleCell<Record<[u64; 512]>>>(
             alloc, op, calls,
         )?,
+        (board, "24") => match board.split_once(':') {
+            Some((kind, n)) => {
+                let n = n.parse::<usize>().unwrap_or(0);
+                match of_board(alloc, kind, n, op, calls)? {
+                    Some(sum) => sum,
+                    None => return println!(rt; "# no such board"),
+                }
+            }
+            None => return println!(rt; "# no such cell"),
+        },
         _ => return println!(rt; "# no such cell"),
     };
     println!(rt; "# {sum}")
+}
+
+/// One board and the calls.
+fn of_board(
+    alloc: Global,
+    kind: &str,
+    n: usize,
+    op: Op,
+    calls: u64,
+) -> Result<Option<u64>, AllocError> {
+    if !PROCESSES.contains(&n) {
+        return Ok(None);
+    }
+    match kind {
+        "proved_board_four_slot" => {
+            let sum = boards::calls::<FourSlotCell<Clocked<Item>>>(alloc, n, op, calls)?;
+            Ok(Some(sum))
+        }
+        "proved_board_triple" => {
+            let sum = boards::calls::<TripleCell<Clocked<Item>>>(alloc, n, op, calls)?;
+            Ok(Some(sum))
+        }
+        _ => Ok(None),
+    }
 }

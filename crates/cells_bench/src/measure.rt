@@ -1,4 +1,5 @@
 //! Times, and the lines that are printed.
+use std::alloc::Global;
 use std::io;
 use std::rt::Clock;
 use std::time::Instant;
@@ -9,6 +10,16 @@ pub enum Op {
     Read,
     Look,
     Both,
+}
+
+/// What is called again and again in one thread.
+pub trait Batch {
+    ghost ready: { Self → Type 0 };
+
+    /// Makes so many calls, and gives a sum of what was read.
+    fn batch(&mut self, op: Op, calls: u64) -> u64
+        requires { ready self.old }
+        ensures { ready self.new };
 }
 
 /// The nanoseconds since then, 0 where the clock can't be read.
@@ -40,6 +51,31 @@ pub fn quantile(sorted: &[u64], part: usize) -> u64 {
         Some(time) => *time,
         None => 0,
     }
+}
+
+/// The picoseconds of one call, as the median of batches of at least 100 microseconds.
+pub fn per_call<B: Batch>(rt: &impl Clock, alloc: Global, called: &mut B, op: Op) -> io::Result<u64>
+    requires { B.ready called.old }
+    ensures { B.ready called.new }
+{
+    let mut size = 16u64;
+    for _ in 0..16 {
+        let start = Instant::now(rt)?;
+        called.batch(op, size);
+        if since(rt, start) > 100_000 {
+            break;
+        }
+        size = size.saturating_mul(2);
+    }
+    let mut times = Vec::new(alloc);
+    for _ in 0..61 {
+        let start = Instant::now(rt)?;
+        called.batch(op, size);
+        let time = since(rt, start).saturating_mul(1_000);
+        times.push(time.checked_div(size).unwrap_or(0))?;
+    }
+    times.sort()?;
+    Ok(quantile(times.as_slice(), 5_000))
 }
 
 /// Prints a value that is given in thousandths.

@@ -1,0 +1,161 @@
+//! Boards of 2 to 16 processes over records of 24 bytes, whose processes call in turn in one thread.
+ghost use Rattle.std.specs.Prelude.{Bool, IfOk, true};
+ghost use Rattle.board_live.specs.Deals.{AllPasses};
+
+use crate::boards_at_once;
+use crate::measure::{Batch, Op, per_call, say};
+use board_live::{Board, Clocked, Pass, RecordLaw};
+use cell_live::{Calls, Cell};
+use std::alloc::{AllocError, Global};
+use std::io;
+use std::rt::Clock;
+use std::thread::Threads;
+
+/// What the processes share: three times the number of a write. It has no law.
+#[derive(Clone, Copy, PartialEq, Eq)]
+pub struct Item {
+    words: [u64; 3],
+}
+
+impl Item {
+    pub fn of(number: u64) -> Item {
+        Item { words: [number; 3] }
+    }
+
+    /// One of its words, as the number says: the whole record has to be there.
+    fn word(&self, number: u64) -> u64 {
+        self.words[(number % 3) as usize]
+    }
+
+    /// Whether its words are of several writes.
+    pub fn is_torn(&self) -> bool {
+        let [first, middle, last] = self.words;
+        first != middle || middle != last
+    }
+}
+
+impl RecordLaw for Item {
+    ghost obeys = { λ _. true };
+
+    fn fits(&self) -> bool {
+        true
+    }
+}
+
+/// The numbers of processes that are measured.
+pub const PROCESSES: [usize; 4] = [2, 4, 8, 16];
+
+/// No write comes so far.
+const LIMIT: u64 = u64::MAX - 1;
+
+/// A board with the passes of its processes.
+#[derive(Drop)]
+pub struct Team<C: Calls<Clocked<Item>>> {
+    pub board: Board<Item, C>,
+    pub passes: Vec<Pass<Item, C>>,
+}
+
+impl<C: Calls<Clocked<Item>>> Team<C> {
+    pub fn new(alloc: Global, n: usize) -> Result<Team<C>, AllocError>
+        ensures { IfOk result (λ t. AllPasses t.board t.passes.items) }
+    {
+        let Ok((board, passes)) = Board::new(alloc, n, LIMIT, Item::of(0)) else {
+            return Err(AllocError);
+        };
+        Ok(Team { board, passes })
+    }
+
+    /// Each write is of the process after the one before.
+    fn write(&mut self, calls: u64)
+        requires { AllPasses self.old.board self.old.passes.items }
+        ensures { AllPasses self.new.board self.new.passes.items }
+    {
+        let n = self.passes.len();
+        if n == 0 {
+            return;
+        }
+        for number in 0..calls {
+            let who = (number % n as u64) as usize;
+            let _ = self.board.write(&mut self.passes[who], Item::of(number));
+        }
+    }
+
+    /// Each read is of the process after the one before. Gives a sum of what was read.
+    fn read(&mut self, calls: u64) -> u64
+        requires { AllPasses self.old.board self.old.passes.items }
+        ensures { AllPasses self.new.board self.new.passes.items }
+    {
+        let n = self.passes.len();
+        if n == 0 {
+            return 0;
+        }
+        let mut sum = 0;
+        for number in 0..calls {
+            let who = (number % n as u64) as usize;
+            sum |= self.board.read(&mut self.passes[who]).item.word(number);
+        }
+        sum
+    }
+}
+
+impl<C: Calls<Clocked<Item>>> Batch for Team<C> {
+    ghost ready = { λ t. AllPasses t.board t.passes.items };
+
+    fn batch(&mut self, op: Op, calls: u64) -> u64 {
+        match op {
+            Op::Read => self.read(calls),
+            _ => {
+                self.write(calls);
+                0
+            }
+        }
+    }
+}
+
+/// One board of so many processes and the calls, nothing else.
+pub fn calls<C: Calls<Clocked<Item>>>(
+    alloc: Global,
+    n: usize,
+    op: Op,
+    calls: u64,
+) -> Result<u64, AllocError> {
+    let mut team = Team::<C>::new(alloc, n)?;
+    Ok(team.batch(op, calls))
+}
+
+/// The nanoseconds of one call, where the processes of one board call in turn in one thread.
+fn alone<R: Clock + Print, C: Calls<Clocked<Item>>>(
+    rt: &R,
+    alloc: Global,
+    name: &str,
+    n: usize,
+) -> io::Result<()> {
+    let mut team = Team::<C>::new(alloc, n)?;
+    let write = per_call(rt, alloc, &mut team, Op::Write)?;
+    let read = per_call(rt, alloc, &mut team, Op::Read)?;
+    let mode = format!(in alloc; "n{n}_solo")?;
+    say(rt, name, 24, mode.as_str(), "write_ns", write)?;
+    say(rt, name, 24, mode.as_str(), "read_ns", read)
+}
+
+/// Measures boards over one cell.
+pub fn run<R: Clock + Print + Threads + Sync, C: Cell<Clocked<Item>>>(
+    rt: &R,
+    alloc: Global,
+    name: &str,
+) -> io::Result<()>
+where
+    C::Put: Send,
+    C::Get: Send,
+    C::Told: Send,
+{
+    for n in PROCESSES {
+        alone::<R, C>(rt, alloc, name, n)?;
+        for tasks in [2, 4] {
+            if tasks <= n {
+                boards_at_once::run::<R, C>(rt, alloc, name, n, tasks)?;
+            }
+        }
+    }
+    Ok(())
+}
