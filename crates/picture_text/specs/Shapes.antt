@@ -81,7 +81,7 @@ unfoldable pub point_number : ℕ → Spot → List ℕ
 point_number n at = decimal at.x ++ codes "\" y=\"" ++ decimal (at.y + 4) ++ codes "\">" ++ decimal n ++ words_end
 
 unfoldable pub circle_text : Spot → List ℕ
-circle_text at = codes "<circle cx=\"" ++ decimal at.x ++ codes "\" cy=\"" ++ decimal at.y ++ codes "\" r=\"9\"/>"
+circle_text at = codes "<circle cx=\"" ++ decimal at.x ++ codes "\" cy=\"" ++ decimal at.y ++ codes "\" r=\"12\"/>"
 
 unfoldable pub point_text : ℕ → Spot → List ℕ
 point_text n at = circle_text at ++ codes "<text class=\"n\" x=\"" ++ point_number n at

@@ -207,7 +207,7 @@ fn put_circle(line: &mut Line, at: Spot)
     requires { length line.old + 75 ≤ 256 }
     ensures { line.new ≡ circle_text at ++ line.old }
 {
-    line.put(b"\" r=\"9\"/>");
+    line.put(b"\" r=\"12\"/>");
     line.put_number(at.y);
     line.put(b"\" cy=\"");
     line.put_number(at.x);
