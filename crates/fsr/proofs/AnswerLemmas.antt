@@ -4,10 +4,10 @@ use Rattle.history_core.specs.Orders.{IsVerdict}
 use Rattle.history_core.specs.declared.band.Band.{Band}
 use Rattle.history_core.specs.declared.history.History.{History}
 use Rattle.history_core.specs.declared.history.Verdict.{Verdict}
-use Rattle.schedule_text.specs.Document.{document_of}
-use Rattle.schedule_text.specs.declared.document.Document.{Document}
-use Rattle.schedule_text.specs.declared.document.Want.{Want}
-use Rattle.schedule_text.specs.declared.report.Report.TheVariants as report
+use Rattle.schedule_text.specs.reading.Document.{document_of}
+use Rattle.schedule_text.specs.declared.reading.document.Document.{Document}
+use Rattle.schedule_text.specs.declared.reading.document.Want.{Want}
+use Rattle.schedule_text.specs.declared.telling.report.Report.TheVariants as report
 use Rattle.fsr.specs.Answers.{Answers, AnswersCheck, AnswersReading, Gives, IsAnswer, printed, status_of}
 use Rattle.fsr.specs.declared.fault.Answer.{Answer}
 use Rattle.fsr.specs.declared.fault.Fault.{Fault}

@@ -29,11 +29,11 @@ use Rattle.board_live.specs.Logs.{Obeys}
 use Rattle.board_live.specs.Origins.{IsOrigin}
 use Rattle.board_live.specs.Tasks.{AreCalls, Ran, Replies}
 use Rattle.board_live.specs.Worked.{HaveWorked, logs_of, wishes_in}
-use Rattle.schedule_text.specs.Plans.{members, wish_fits}
+use Rattle.schedule_text.specs.reading.Plans.{members, wish_fits}
 use Rattle.fsr.specs.Races.{CountsAll, CountsScript, IsRace, RaceBoard, RaceLane, RacePass, broken_at, counts_in, counts_of, is_read, is_refused, is_seen, is_write, is_written, replies, same_band}
-use Rattle.schedule_text.specs.declared.report.Counts.{Counts}
-use Rattle.schedule_text.specs.declared.report.Report.{Report}
-use Rattle.schedule_text.specs.declared.report.Report.TheVariants.{Race}
+use Rattle.schedule_text.specs.declared.telling.report.Counts.{Counts}
+use Rattle.schedule_text.specs.declared.telling.report.Report.{Report}
+use Rattle.schedule_text.specs.declared.telling.report.Report.TheVariants.{Race}
 
 get_map_back : {A B : Type 0} (f : A → B) (xs : List A) (k : ℕ) (y : B) → slice_get (map f xs) k ≡ Some y → (x : A) × (slice_get xs k ≡ Some x) × (f x ≡ y)
 get_map_back f [] k y h = absurd (none-some y h)

@@ -6,13 +6,13 @@ use Rattle.std.specs.Io.{StartsWith}
 use Rattle.std.specs.Io.KnownBytes.{Appends}
 use Rattle.history_core.specs.declared.history.Verdict.{Verdict}
 use Rattle.history_core.specs.declared.history.Verdict.TheVariants.{Lawful, Listing, Precedence, Reading, Limit}
-use Rattle.schedule_text.specs.declared.document.Document.{Document}
-use Rattle.schedule_text.specs.declared.document.Document.TheVariants.{Check, Cell, Matrix, Board, Race}
-use Rattle.schedule_text.specs.declared.document.DocError.{DocError}
-use Rattle.schedule_text.specs.declared.document.Want.{Want}
-use Rattle.schedule_text.specs.declared.report.Report.{Report}
-use Rattle.schedule_text.specs.declared.report.Report.TheVariants as report
-use Rattle.schedule_text.specs.Document.{document_of}
+use Rattle.schedule_text.specs.declared.reading.document.Document.{Document}
+use Rattle.schedule_text.specs.declared.reading.document.Document.TheVariants.{Check, Cell, Matrix, Board, Race}
+use Rattle.schedule_text.specs.declared.reading.document.DocError.{DocError}
+use Rattle.schedule_text.specs.declared.reading.document.Want.{Want}
+use Rattle.schedule_text.specs.declared.telling.report.Report.{Report}
+use Rattle.schedule_text.specs.declared.telling.report.Report.TheVariants as report
+use Rattle.schedule_text.specs.reading.Document.{document_of}
 use Rattle.fsr.specs.Answers.{AnswersReading, Gives, IsAnswer, origin_status, race_status, status_of}
 use Rattle.fsr.specs.Run.{Runs, fault_status}
 use Rattle.streams.specs.Transfer.{IsWhole, TakesBytes}

@@ -16,14 +16,14 @@ use Rattle.matrix_core.specs.declared.schedule.BoardReport.{BoardReport}
 use Rattle.matrix_core.specs.declared.schedule.BoardSchedule.{BoardSchedule}
 use Rattle.matrix_core.specs.declared.schedule.MatrixReport.{MatrixReport}
 use Rattle.matrix_core.specs.declared.schedule.MatrixSchedule.{MatrixSchedule}
-use Rattle.schedule_text.specs.Document.{document_of}
-use Rattle.schedule_text.specs.Text.{text_of}
-use Rattle.schedule_text.specs.declared.document.Want.{Want}
-use Rattle.schedule_text.specs.declared.document.Document.{Document}
-use Rattle.schedule_text.specs.declared.document.Document.TheVariants.{Check, Cell, Matrix, Board, Race}
-use Rattle.schedule_text.specs.declared.document.DocError.{DocError}
-use Rattle.schedule_text.specs.declared.report.Report.{Report}
-use Rattle.schedule_text.specs.declared.report.Report.TheVariants as report
+use Rattle.schedule_text.specs.reading.Document.{document_of}
+use Rattle.schedule_text.specs.telling.Text.{text_of}
+use Rattle.schedule_text.specs.declared.reading.document.Want.{Want}
+use Rattle.schedule_text.specs.declared.reading.document.Document.{Document}
+use Rattle.schedule_text.specs.declared.reading.document.Document.TheVariants.{Check, Cell, Matrix, Board, Race}
+use Rattle.schedule_text.specs.declared.reading.document.DocError.{DocError}
+use Rattle.schedule_text.specs.declared.telling.report.Report.{Report}
+use Rattle.schedule_text.specs.declared.telling.report.Report.TheVariants as report
 use Rattle.fourslot_core.specs.CellReports.{IsCellReport, cell_span}
 use Rattle.fsr.specs.Races.{IsRace}
 use Rattle.fsr.specs.declared.fault.Answer.{Answer}

@@ -6,8 +6,8 @@ use Rattle.clap.specs.Walk.{is_empty}
 use Rattle.clap.specs.Simple.{on_top}
 use Rattle.fsr.specs.declared.command.NoCommand.{NoCommand}
 use Rattle.fsr.specs.declared.command.NoCommand.TheVariants.{Refused, Unknown, NoMemory}
-use Rattle.schedule_text.specs.declared.document.Want.{Want}
-use Rattle.schedule_text.specs.declared.document.Want.TheVariants.{Check, Play, Race}
+use Rattle.schedule_text.specs.declared.reading.document.Want.{Want}
+use Rattle.schedule_text.specs.declared.reading.document.Want.TheVariants.{Check, Play, Race}
 
 -- the command line of `fsr`: one of the subcommands is required, and none has an argument
 abbrev pub without_race : App

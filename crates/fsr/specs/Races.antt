@@ -29,9 +29,9 @@ use Rattle.board_live.specs.LogOrders.{LogsInOrder}
 use Rattle.board_live.specs.Origins.{IsOrigin}
 use Rattle.board_live.specs.Tasks.{Ran}
 use Rattle.board_live.specs.Worked.{logs_of}
-use Rattle.schedule_text.specs.declared.report.Counts.{Counts}
-use Rattle.schedule_text.specs.declared.report.Report.{Report}
-use Rattle.schedule_text.specs.declared.report.Report.TheVariants.{Race}
+use Rattle.schedule_text.specs.declared.telling.report.Counts.{Counts}
+use Rattle.schedule_text.specs.declared.telling.report.Report.{Report}
+use Rattle.schedule_text.specs.declared.telling.report.Report.TheVariants.{Race}
 
 abbrev pub same_band : Band → Band → Bool
 same_band a b = nat_eq a.lo b.lo && (nat_eq a.now b.now && nat_eq a.hi b.hi)

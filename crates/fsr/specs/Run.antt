@@ -3,7 +3,7 @@ use Rattle.std.specs.Prelude.{◌≡◌, ◌≢◌, ◌≤◌, ◌<◌, ◌+◌,
 use Rattle.std.specs.Io.{StartsWith}
 use Rattle.std.specs.Io.KnownBytes.{Consumes, Appends}
 use Rattle.streams.specs.Transfer.{IsWhole, most_taken}
-use Rattle.schedule_text.specs.declared.document.Want.{Want}
+use Rattle.schedule_text.specs.declared.reading.document.Want.{Want}
 use Rattle.fsr.specs.Answers.{IsAnswer}
 use Rattle.fsr.specs.declared.fault.Answer.{Answer}
 use Rattle.fsr.specs.declared.fault.Fault.{Fault}

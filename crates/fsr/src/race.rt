@@ -1,6 +1,6 @@
 //! Races: the scripts of a document, each run by a task of its own over one board.
 ghost use Rattle.std.specs.Prelude.{◌≡◌, ℕ, IfErr, IfOk, map};
-ghost use Rattle.schedule_text.specs.Players.{CanRace};
+ghost use Rattle.schedule_text.specs.reading.Players.{CanRace};
 ghost use Rattle.fsr.specs.Races.{CountsAll, IsRace, broken_at, counts_of, is_refused, is_seen, is_written, replies};
 ghost use Rattle.fsr.specs.declared.fault.Fault.TheVariants.{NoMemory};
 

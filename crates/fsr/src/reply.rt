@@ -1,8 +1,8 @@
 ghost use Rattle.std.specs.Prelude.{◌≡◌, IfOk};
 ghost use Rattle.matrix_core.specs.Runs.{CanPlay};
-ghost use Rattle.schedule_text.specs.Document.{document_of};
-ghost use Rattle.schedule_text.specs.Players.{CanBePlayed, CanRace};
-ghost use Rattle.schedule_text.specs.Refusals.{Gives as Reads};
+ghost use Rattle.schedule_text.specs.reading.Document.{document_of};
+ghost use Rattle.schedule_text.specs.reading.Players.{CanBePlayed, CanRace};
+ghost use Rattle.schedule_text.specs.reading.Refusals.{Gives as Reads};
 ghost use Rattle.fsr.specs.Answers.{AnswersBoard, AnswersCell, AnswersCheck, AnswersMatrix, AnswersRace, Gives, IsAnswer, printed, race_status, status_of};
 
 use crate::fault::{Answer, Fault};
@@ -40,7 +40,7 @@ pub fn answer<R: Threads + Sync>(
 
 /// The document that the bytes stand for. The JSON value that they are is left unfreed: a run reads one document and ends, and
 /// the value goes with the process.
-#[tactic(auto, unfolding(schedule_text::specs::Document::document_of))]
+#[tactic(auto, unfolding(schedule_text::specs::reading::Document::document_of))]
 fn read(alloc: Global, want: Want, bytes: &[u8]) -> Result<Document, DocError>
     ensures document { Reads (λ d. d) result (document_of want bytes.now) }
     ensures playable { IfOk result CanBePlayed }

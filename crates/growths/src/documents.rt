@@ -1,5 +1,5 @@
 ghost use Rattle.std.specs.Prelude.{IfOk};
-ghost use Rattle.schedule_text.specs.Players.{CanBePlayed};
+ghost use Rattle.schedule_text.specs.reading.Players.{CanBePlayed};
 
 use history_core::PlayError;
 use schedule_text::{DocError, Document, Want, read_document};

@@ -6,9 +6,9 @@ use Rattle.std.proofs.KnownBytes.{Consumes-nil, Appends-nil}
 use Rattle.std.specs.Io.{StartsWith}
 use Rattle.std.specs.Io.KnownBytes.{Appends}
 use Rattle.picture_text.specs.declared.scene.Scene.{Scene}
-use Rattle.schedule_text.specs.declared.document.Document.{Document}
-use Rattle.schedule_text.specs.declared.document.Document.TheVariants.{Check, Cell, Matrix, Board, Race}
-use Rattle.schedule_text.specs.declared.document.DocError.{DocError}
+use Rattle.schedule_text.specs.declared.reading.document.Document.{Document}
+use Rattle.schedule_text.specs.declared.reading.document.Document.TheVariants.{Check, Cell, Matrix, Board, Race}
+use Rattle.schedule_text.specs.declared.reading.document.DocError.{DocError}
 use Rattle.picture.specs.Answers.{document_of}
 use Rattle.picture.specs.Answers.{AnswersReading, Gives, IsAnswer, status_of}
 use Rattle.picture.specs.Run.{Runs, fault_status}

@@ -16,13 +16,13 @@ use Rattle.matrix_core.specs.declared.schedule.BoardReport.{BoardReport}
 use Rattle.matrix_core.specs.declared.schedule.BoardSchedule.{BoardSchedule}
 use Rattle.picture_text.specs.Picture.{picture_of}
 use Rattle.picture_text.specs.declared.scene.Scene.{Scene}
-use Rattle.schedule_text.specs.Document.{document_in, value_of}
-use Rattle.schedule_text.specs.Refusals.{◌>>=◌}
-use Rattle.schedule_text.specs.declared.document.DocError.{DocError}
-use Rattle.schedule_text.specs.declared.document.DocError.TheVariants as doc
-use Rattle.schedule_text.specs.declared.document.Document.{Document}
-use Rattle.schedule_text.specs.declared.document.Document.TheVariants.{Check, Cell, Matrix, Board, Race}
-use Rattle.schedule_text.specs.declared.document.Want.TheVariants as want
+use Rattle.schedule_text.specs.reading.Document.{document_in, value_of}
+use Rattle.schedule_text.specs.reading.Refusals.{◌>>=◌}
+use Rattle.schedule_text.specs.declared.reading.document.DocError.{DocError}
+use Rattle.schedule_text.specs.declared.reading.document.DocError.TheVariants as doc
+use Rattle.schedule_text.specs.declared.reading.document.Document.{Document}
+use Rattle.schedule_text.specs.declared.reading.document.Document.TheVariants.{Check, Cell, Matrix, Board, Race}
+use Rattle.schedule_text.specs.declared.reading.document.Want.TheVariants as want
 use Rattle.serde_json.specs.Data.{Data}
 use Rattle.picture.specs.Scenes.{ShowsBoard, ShowsCell, ShowsCheck, ShowsMatrix}
 use Rattle.picture.specs.declared.fault.Answer.{Answer}

@@ -1,8 +1,8 @@
 ghost use Rattle.std.specs.Prelude.{◌≡◌, ◌≢◌, IfOk};
 ghost use Rattle.matrix_core.specs.Runs.{CanPlay};
-ghost use Rattle.schedule_text.specs.Players.{CanBePlayed, taken_by};
-ghost use Rattle.schedule_text.specs.Refusals.{Gives as Reads};
-ghost use Rattle.schedule_text.specs.declared.document.Want.TheVariants.{Race};
+ghost use Rattle.schedule_text.specs.reading.Players.{CanBePlayed, taken_by};
+ghost use Rattle.schedule_text.specs.reading.Refusals.{Gives as Reads};
+ghost use Rattle.schedule_text.specs.declared.reading.document.Want.TheVariants.{Race};
 ghost use Rattle.serde_json.specs.View.{view};
 ghost use Rattle.picture.specs.Answers.{AnswersBoard, AnswersCell, AnswersCheck, AnswersMatrix, document_of, drawn, Gives, IsAnswer};
 ghost use Rattle.picture.specs.Answers.{shown_in, status_of};

@@ -2,7 +2,7 @@
 //! much room as the longest such piece needs.
 
 ghost use Rattle.std.specs.Prelude.{◌≡◌, ◌+◌, ◌≤◌, ◌++◌, length};
-ghost use Rattle.schedule_text.specs.Text.{item_text, kind_text};
+ghost use Rattle.schedule_text.specs.telling.Text.{item_text, kind_text};
 ghost use Rattle.picture_text.specs.Shapes.{actor_name, bar_end, bar_head, bar_of, bar_sides, bar_text, cell_name, circle_text, class_of};
 ghost use Rattle.picture_text.specs.Shapes.{end_of, item_words, join_head, join_text, kind_words, lane_head, lane_name, lane_words};
 ghost use Rattle.picture_text.specs.Shapes.{point_number, point_text, row_text, row_y, side_name, spot_text, stamp_words, term_name};

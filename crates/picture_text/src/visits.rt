@@ -7,7 +7,7 @@ ghost use Rattle.history_core.specs.Schedules.{board_accesses, positions};
 ghost use Rattle.matrix_core.specs.BoardReports.{board_span};
 ghost use Rattle.matrix_core.specs.Events.{other};
 ghost use Rattle.matrix_core.specs.Runs.{CanPlay, max_position, step_count};
-ghost use Rattle.schedule_text.specs.Text.{entry_at};
+ghost use Rattle.schedule_text.specs.telling.Text.{entry_at};
 ghost use Rattle.picture_text.specs.Visits.{AllFit, access_lane, access_turn, access_visits, board_lanes, board_visits, cell_lane};
 ghost use Rattle.picture_text.specs.Visits.{cell_visits, enters, events_in, first_of, kind_by, made_after, ops_between, own_visits};
 ghost use Rattle.picture_text.specs.Visits.{row_visits, side_visits, term_visits, terms_visits, visit_of, widest};

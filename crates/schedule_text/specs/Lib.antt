@@ -1,14 +1,2 @@
-pub mod Board
-pub mod Cell
-pub mod Check
-pub mod Document
-pub mod Keys
-pub mod Matrix
-pub mod Plans
-pub mod Players
-pub mod Race
-pub mod Ranges
-pub mod Refusals
-pub mod Shapes
-pub mod Terms
-pub mod Text
+pub mod reading
+pub mod telling

@@ -1,7 +1,7 @@
 -- What the calls promise of the board, its lanes and their logs is the race.
 use Rattle.std.proofs.Common.{rules, ◌≡◌, length, ap, refl, ◌∙◌}
 use Rattle.board_live.proofs.Works.{changed_whole}
-use Rattle.schedule_text.specs.declared.report.Report.TheVariants.{Race}
+use Rattle.schedule_text.specs.declared.telling.report.Report.TheVariants.{Race}
 use Rattle.fsr.proofs.RaceLemmas.{race_counts, race_of, race_ready, race_worked}
 use Rattle.fsr.proofs.race.race.Goals as goal
 

@@ -1,0 +1,13 @@
+pub mod Board
+pub mod Cell
+pub mod Check
+pub mod Document
+pub mod Keys
+pub mod Matrix
+pub mod Plans
+pub mod Players
+pub mod Race
+pub mod Ranges
+pub mod Refusals
+pub mod Shapes
+pub mod Terms

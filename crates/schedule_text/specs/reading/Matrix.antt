@@ -1,0 +1,24 @@
+-- Documents of kind `matrix`: a schedule over a matrix of cells (this project's own).
+use Rattle.std.specs.Prelude.{[], ◌∷◌, Result, Ok}
+use Rattle.std.specs.List.{list_all}
+use Rattle.serde_json.specs.Data.{Data}
+use Rattle.history_core.specs.Band.{fits}
+use Rattle.schedule_text.specs.declared.reading.document.Document.{Document}
+use Rattle.schedule_text.specs.declared.reading.document.Document.TheVariants as document
+use Rattle.schedule_text.specs.declared.reading.document.DocError.{DocError}
+use Rattle.schedule_text.specs.declared.reading.document.DocError.TheVariants.{Law}
+use Rattle.schedule_text.specs.declared.reading.key.Key.TheVariants.{Opening}
+use Rattle.schedule_text.specs.reading.Plans.{term_fits}
+use Rattle.schedule_text.specs.reading.Refusals.{◌>>=◌, field, must, required}
+use Rattle.schedule_text.specs.reading.Shapes.{as_band}
+use Rattle.schedule_text.specs.reading.Terms.{is_titled, terms_in, terms_there, writes_key}
+
+unfoldable pub matrix_in : Data → Result Document DocError
+matrix_in d = do
+  opening_there ← required (Opening ∷ []) d
+  keys_there ← terms_there (is_titled d) d
+  opening ← field Opening as_band d
+  terms ← terms_in (is_titled d) d
+  opening_fits ← must (fits opening) (Law Opening)
+  writes_fit ← must (list_all term_fits terms) (Law (writes_key (is_titled d)))
+  Ok (document.Matrix (record { opening = opening; terms = terms }) (is_titled d))

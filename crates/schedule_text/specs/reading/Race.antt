@@ -1,0 +1,26 @@
+-- Documents of kind `race`: a script for each of several tasks that share one board (this project's own).
+use Rattle.std.specs.Prelude.{[], ◌∷◌, Result, Ok}
+use Rattle.serde_json.specs.Data.{Data}
+use Rattle.history_core.specs.Band.{fits}
+use Rattle.schedule_text.specs.declared.reading.document.Document.{Document}
+use Rattle.schedule_text.specs.declared.reading.document.Document.TheVariants as document
+use Rattle.schedule_text.specs.declared.reading.document.DocError.{DocError}
+use Rattle.schedule_text.specs.declared.reading.document.DocError.TheVariants.{Range, Law}
+use Rattle.schedule_text.specs.declared.reading.key.Key.TheVariants.{Opening, Limit, Scripts}
+use Rattle.schedule_text.specs.reading.Plans.{plans_fit, plans_in_range}
+use Rattle.schedule_text.specs.reading.Ranges.{limit_in_range}
+use Rattle.schedule_text.specs.reading.Refusals.{◌>>=◌, field, must, required}
+use Rattle.schedule_text.specs.reading.Shapes.{as_whole, as_band, as_list, as_plan}
+
+-- a script is a plan by another name
+unfoldable pub race_in : Data → Result Document DocError
+race_in d = do
+  all_there ← required (Opening ∷ Limit ∷ Scripts ∷ []) d
+  opening ← field Opening as_band d
+  limit ← field Limit as_whole d
+  scripts ← field Scripts (as_list as_plan) d
+  limit_ok ← must (limit_in_range limit) (Range Limit)
+  scripts_ok ← must (plans_in_range scripts) (Range Scripts)
+  opening_fits ← must (fits opening) (Law Opening)
+  writes_fit ← must (plans_fit scripts) (Law Scripts)
+  Ok (document.Race opening limit scripts)
