@@ -1,5 +1,6 @@
 -- A column that is read, and a row that is written, cell by cell.
-use Rattle.std.proofs.Common.{◌≡◌, ◌≢◌, ℕ, zero, suc, ◌+◌, ◌<◌, ◌≤◌, List, [], ◌∷◌, ◌++◌, length, map, take, set, get_or, refl, sym, ◌∙◌, ap, arith, Bool, true, false, ◌⊎◌, inl, inr, ⊎_elim}
+use Rattle.std.proofs.Common.{◌≡◌, ◌≢◌, ℕ, zero, suc, ◌+◌, ◌<◌, ◌≤◌, List, [], ◌∷◌, ◌++◌, length, map, take, set, get_or, refl, sym, ◌∙◌}
+use Rattle.std.proofs.Common.{ap, arith, Bool, true, false, ◌⊎◌, inl, inr, ⊎_elim}
 use Rattle.std.specs.Prelude.{IsTrue, ◌&&◌, ◌||◌, nat_lt, nat_eq, slice_get, Some, None, Option, if◌then◌else◌, All, MatchOption}
 use Rattle.std.proofs.lemmas.Option.{same_Some, none-some, slice_get_within, slice_get-get_or}
 use Rattle.std.proofs.lemmas.List.{take_more, take_more_set, map-append}
@@ -22,7 +23,8 @@ pub last_or-append : {A : Type 0} (d : A) (xs : List A) (a : A) → last_or d (x
 last_or-append d [] a = refl
 last_or-append d (x ∷ xs) a = last_or-append x xs a
 
-pub greatest-append : {V : Type 0} (own : Clocked V) (xs : List (Clocked V)) (a : Clocked V) → greatest own (xs ++ a ∷ []) ≡ greater (greatest own xs) a
+pub greatest-append : {V : Type 0} (own : Clocked V) (xs : List (Clocked V)) (a : Clocked V)
+    → greatest own (xs ++ a ∷ []) ≡ greater (greatest own xs) a
 greatest-append own [] a = refl
 greatest-append own (x ∷ xs) a = greatest-append (greater own x) xs a
 
@@ -40,7 +42,9 @@ same_stamp : (a b : Stamp) → a.tag ≡ b.tag → a.writer ≡ b.writer → a �
 same_stamp a b p q = rw (p, q) refl
 
 pub below_false : (a b : Stamp) → is_below a b ≡ false → IsAtMost b a
-below_false a b h = ⊎_elim (λ p. inr p) (λ (q : (b.tag ≡ a.tag) × (b.writer ≡ a.writer)). inl (same_stamp b a q.0 q.1)) (below_cases a.tag a.writer b.tag b.writer h)
+below_false a b h =
+    ⊎_elim (λ p. inr p) (λ (q : (b.tag ≡ a.tag) × (b.writer ≡ a.writer)). inl (same_stamp b a q.0 q.1))
+    (below_cases a.tag a.writer b.tag b.writer h)
 
 pub rises_greater : {V : Type 0} (a b : Clocked V) → Rises a (greater a b)
 rises_greater a b = go (is_below a.stamp b.stamp) refl where
@@ -51,7 +55,8 @@ rises_greater a b = go (is_below a.stamp b.stamp) refl where
 pub greater_either : {V : Type 0} (P : V → Type 0) (a b : Clocked V) → P a.item → P b.item → P (greater a b).item
 greater_either P a b p q = grind arith
 
-module _ {V C P G T : Type 0} (cells : CellWords C (Clocked V) P G T) (obeys : V → Bool) (at : ℕ → Option C) (old : List G) (first own : Clocked V) (start : ℕ) where
+module _ {V C P G T : Type 0} (cells : CellWords C (Clocked V) P G T) (obeys : V → Bool) (at : ℕ → Option C) (old : List G)
+    (first own : Clocked V) (start : ℕ) where
   -- the first cells were read, and the greatest record and the latest clock are of one's own and their answers
   pub record Half (i : ℕ) (gets : List G) (seen : Clocked V) (top : ℕ) : Type 0 where
     pub passes : Match (Hears cells first) at gets
@@ -64,7 +69,8 @@ module _ {V C P G T : Type 0} (cells : CellWords C (Clocked V) P G T) (obeys : V
   -- one more cell is read
   pub half_more : (i : ℕ) (now : List G) (seen : Clocked V) (top : ℕ) → Half i now seen top
       → (c : C) (g h : G) (a : Clocked V) → i < length now → at i ≡ Some c → slice_get now i ≡ Some g
-      → cells.is_get c h → cells.answers h ≡ cells.answers g ++ a ∷ [] → cells.told h ≡ cells.told g → IsAnswer (λ p. IsTrue (obeys p.item)) Rises (cells.opening c) (cells.answers g) (cells.told g) a
+      → cells.is_get c h → cells.answers h ≡ cells.answers g ++ a ∷ [] → cells.told h ≡ cells.told g
+      → IsAnswer (λ p. IsTrue (obeys p.item)) Rises (cells.opening c) (cells.answers g) (cells.told g) a
       → Half (i + 1) (set now i h) (greater seen a) (later top a.clock)
   half_more i now seen top inv c g h a lt at_c at_g of e_a e_t ok =
       let hears : Hears cells first c g = inv.passes.each i c g at_c at_g in
@@ -76,12 +82,14 @@ module _ {V C P G T : Type 0} (cells : CellWords C (Clocked V) P G T) (obeys : V
         stepped = stepped_more (OneMore cells obeys first) old i now inv.stepped g h lt at_g
             (record { answer = a; more = e_a; as_told = e_t; is_lawful = ok'.0; from_first = ok'.1; from_last = ok'.2; from_told = ok'.3 });
         is_greatest =
-            let taken : map (λ z. last_or own (cells.answers z)) (take (i + 1) (set now i h)) ≡ map (λ z. last_or own (cells.answers z)) (take i now) ++ last_or own (cells.answers h) ∷ [] =
+            let taken : map (λ z. last_or own (cells.answers z)) (take (i + 1) (set now i h))
+            ≡ map (λ z. last_or own (cells.answers z)) (take i now) ++ last_or own (cells.answers h) ∷ [] =
             rw take_more_set (map-append (λ z. last_or own (cells.answers z)) (take i now) (h ∷ [])) in
             let the_last : last_or own (cells.answers h) ≡ a = rw e_a (last_or-append own (cells.answers g) a) in
             rw (taken, the_last, greatest-append) (ap (λ s. greater s a) inv.is_greatest);
         is_latest =
-            let taken : map (λ z. (last_or own (cells.answers z)).clock) (take (i + 1) (set now i h)) ≡ map (λ z. (last_or own (cells.answers z)).clock) (take i now) ++ (last_or own (cells.answers h)).clock ∷ [] =
+            let taken : map (λ z. (last_or own (cells.answers z)).clock) (take (i + 1) (set now i h))
+            ≡ map (λ z. (last_or own (cells.answers z)).clock) (take i now) ++ (last_or own (cells.answers h)).clock ∷ [] =
             rw take_more_set (map-append (λ z. (last_or own (cells.answers z)).clock) (take i now) (h ∷ [])) in
             let the_last : last_or own (cells.answers h) ≡ a = rw e_a (last_or-append own (cells.answers g) a) in
             rw (taken, the_last, latest-append) (ap (λ s. later s a.clock) inv.is_latest);
@@ -135,23 +143,30 @@ rises_at_most a b (inr e) = inl e.0
 
 pub rises_greatest : {V : Type 0} (own : Clocked V) (xs : List (Clocked V)) → Rises own (greatest own xs)
 rises_greatest own [] = inr (refl, refl)
-rises_greatest own (x ∷ xs) = rises_on own (greater own x) (greatest (greater own x) xs) (rises_greater own x) (rises_greatest (greater own x) xs)
+rises_greatest own (x ∷ xs) =
+    rises_on own (greater own x) (greatest (greater own x) xs) (rises_greater own x) (rises_greatest (greater own x) xs)
 
 pub at_most_greatest : {V G : Type 0} (f : G → Clocked V) (own : Clocked V) (gets : List G) (k : ℕ) (g : G) → slice_get gets k ≡ Some g
     → IsAtMost (f g).stamp (greatest own (map f gets)).stamp
 at_most_greatest f own [] k g h = absurd (none-some g h)
 at_most_greatest f own (x ∷ gets) zero g h =
     let e : x ≡ g = same_Some x g h in
-    rw (← e) (at_most_trans (f x).stamp (greater own (f x)).stamp (greatest (greater own (f x)) (map f gets)).stamp (at_most_greater own (f x)) (rises_at_most (greater own (f x)) (greatest (greater own (f x)) (map f gets)) (rises_greatest (greater own (f x)) (map f gets))))
+    rw (← e) (at_most_trans (f x).stamp (greater own (f x)).stamp (greatest (greater own (f x)) (map f gets)).stamp
+    (at_most_greater own (f x))
+    (rises_at_most (greater own (f x)) (greatest (greater own (f x)) (map f gets)) (rises_greatest (greater own (f x)) (map f gets))))
 at_most_greatest f own (x ∷ gets) (suc k) g h = at_most_greatest f (greater own (f x)) gets k g h
 
-all_at_most : {V : Type 0} (a : Clocked V) (s : Clocked V) → IsAtMost a.stamp s.stamp → (ts : List (Clocked V)) → All (λ t. Rises t a) ts → All (λ t. IsAtMost t.stamp s.stamp) ts
-all_at_most a s le ts h = All-weaker (λ t. Rises t a) (λ t. IsAtMost t.stamp s.stamp) (λ t r. at_most_trans t.stamp a.stamp s.stamp (rises_at_most t a r) le) ts h
+all_at_most : {V : Type 0} (a : Clocked V) (s : Clocked V) → IsAtMost a.stamp s.stamp → (ts : List (Clocked V)) → All (λ t. Rises t a) ts
+    → All (λ t. IsAtMost t.stamp s.stamp) ts
+all_at_most a s le ts h =
+    All-weaker (λ t. Rises t a) (λ t. IsAtMost t.stamp s.stamp) (λ t r. at_most_trans t.stamp a.stamp s.stamp (rises_at_most t a r) le) ts h
 
 module _ {V C P G T : Type 0} (cells : CellWords C (Clocked V) P G T) (obeys : V → Bool) where
   -- nothing that the passes were told is above the greatest
-  pub heeds_all : (old now : List G) (first own : Clocked V) → length now ≡ length old → Match (OneMore cells obeys first) (slice_get old) now
-      → (k : ℕ) (g : G) → slice_get old k ≡ Some g → All (λ t. IsAtMost t.stamp (greatest own (map (λ h. last_or own (cells.answers h)) now)).stamp) (cells.told g)
+  pub heeds_all : (old now : List G) (first own : Clocked V) → length now ≡ length old
+      → Match (OneMore cells obeys first) (slice_get old) now
+      → (k : ℕ) (g : G) → slice_get old k ≡ Some g
+      → All (λ t. IsAtMost t.stamp (greatest own (map (λ h. last_or own (cells.answers h)) now)).stamp) (cells.told g)
   heeds_all old now first own len m k g at =
       let h : G = get_or now k g in
       let at_h : slice_get now k ≡ Some h = slice_get-get_or now k g (omega (arith, len, slice_get_within old k g at)) in
@@ -159,10 +174,13 @@ module _ {V C P G T : Type 0} (cells : CellWords C (Clocked V) P G T) (obeys : V
       let last : last_or own (cells.answers h) ≡ one.answer = rw one.more (last_or-append own (cells.answers g) one.answer) in
       let le : IsAtMost (last_or own (cells.answers h)).stamp (greatest own (map (λ h. last_or own (cells.answers h)) now)).stamp =
       at_most_greatest (λ h. last_or own (cells.answers h)) own now k h at_h in
-      all_at_most (last_or own (cells.answers h)) (greatest own (map (λ h. last_or own (cells.answers h)) now)) le (cells.told g) (rw last one.from_told)
+      all_at_most (last_or own (cells.answers h)) (greatest own (map (λ h. last_or own (cells.answers h)) now)) le (cells.told g)
+      (rw last one.from_told)
 
-pub raised_item : {V : Type 0} (own seen : Clocked V) (s : Stamp) (process : ℕ) → Rises own seen → s ≡ record { tag = seen.stamp.tag + 1; writer = process } → IsBelow own.stamp s
-raised_item own seen s process (inl p) e = rw e (below_on own.stamp seen.stamp (record { tag = seen.stamp.tag + 1; writer = process }) p (inl (omega arith)))
+pub raised_item : {V : Type 0} (own seen : Clocked V) (s : Stamp) (process : ℕ) → Rises own seen
+    → s ≡ record { tag = seen.stamp.tag + 1; writer = process } → IsBelow own.stamp s
+raised_item own seen s process (inl p) e =
+    rw e (below_on own.stamp seen.stamp (record { tag = seen.stamp.tag + 1; writer = process }) p (inl (omega arith)))
 raised_item own seen s process (inr f) e = let t : own.stamp.tag ≡ seen.stamp.tag = ap (λ z. z.tag) f.0 in rw e (inl (omega arith))
 
 -- the greatest of one more element
@@ -177,6 +195,7 @@ pub rises_at : {V : Type 0} (a b : Clocked V) (n : ℕ) → Rises a b → Rises 
 rises_at a b n (inl p) = inl p
 rises_at a b n (inr e) = inr e
 
-pub lawful_item : {V : Type 0} (obeys : V → Bool) (seen : Clocked V) (item : V) (o : Option Stamp) → IsTrue (obeys seen.item) → IsTrue (obeys item) → IsTrue (obeys (or_item seen o item).item)
+pub lawful_item : {V : Type 0} (obeys : V → Bool) (seen : Clocked V) (item : V) (o : Option Stamp) → IsTrue (obeys seen.item)
+    → IsTrue (obeys item) → IsTrue (obeys (or_item seen o item).item)
 lawful_item obeys seen item None p q = p
 lawful_item obeys seen item (Some s) p q = q

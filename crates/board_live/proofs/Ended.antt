@@ -1,5 +1,6 @@
 -- A board of which some rows were ended.
-use Rattle.std.proofs.Common.{◌≡◌, ◌≢◌, ℕ, ◌+◌, ◌-◌, ◌<◌, ◌≤◌, List, [], ◌∷◌, ◌++◌, length, length-append, get_or, refl, sym, subst, ◌∙◌, ap, arith, ◌⊎◌, inl, inr, ⊎_elim, Global}
+use Rattle.std.proofs.Common.{◌≡◌, ◌≢◌, ℕ, ◌+◌, ◌-◌, ◌<◌, ◌≤◌, List, [], ◌∷◌, ◌++◌, length, length-append, get_or, refl, sym, subst, ◌∙◌}
+use Rattle.std.proofs.Common.{ap, arith, ◌⊎◌, inl, inr, ⊎_elim, Global}
 use Rattle.std.specs.Prelude.{slice_get, Some, Vec, vec_len, nat_lt, if◌then◌else◌}
 use Rattle.std.specs.declared.cmp.PartialEq.{Ghosts as EqWords}
 use Rattle.std.proofs.lemmas.Option.{slice_get_within, same_Some, slice_get-get_or}
@@ -15,31 +16,24 @@ use Rattle.board_live.specs.Deals.{AllPasses, AllSettled, others_below}
 use Rattle.board_live.specs.Ends.{RowStands, RowEnded}
 use Rattle.board_live.specs.Lists.{other, seat, cell_of}
 use Rattle.board_live.proofs.Steps.{same_or_not}
-use Rattle.board_live.proofs.Seats.{other_seat, seat_other, other_apart}
+use Rattle.board_live.proofs.Seats.{all_others, last_other, more_others, other_apart, other_seat, same_others, seat_other}
 use Rattle.board_live.proofs.Ending.{get_front, get_end}
 
-all_others : (k n : ℕ) → k < n → others_below k n + 1 ≡ n
-all_others k n lt = grind (arith, nat_tests)
-
-last_other : (k w : ℕ) → k ≢ w → others_below k (w + 1) ≡ seat k w + 1
-last_other k w ne = grind (arith, nat_tests)
-
-more_others : (k w : ℕ) → k ≢ w → others_below k (w + 1) ≡ others_below k w + 1
-more_others k w ne = grind (arith, nat_tests)
-
-same_others : (w : ℕ) → others_below w (w + 1) ≡ others_below w w
-same_others w = grind (arith, nat_tests)
-
 module _ {V C P G T : Type 0} {law : LawWords V} {eq : EqWords V} {cells : CellWords C (Clocked V) P G T} where
-  pub record EndedSoFar (board : Board V C P G T law eq cells) (old : List (Pass V C P G T law eq cells)) (rows : List (Vec C Global)) (now : List (Pass V C P G T law eq cells)) : Type 0 where
+  pub record EndedSoFar (board : Board V C P G T law eq cells) (old : List (Pass V C P G T law eq cells)) (rows : List (Vec C Global))
+      (now : List (Pass V C P G T law eq cells)) : Type 0 where
     pub lengths : length now ≡ length old
     pub front : (k : ℕ) (r : Vec C Global) → slice_get rows k ≡ Some r → slice_get board.rows.items k ≡ Some r
     pub fewer : length rows ≤ length board.rows.items
-    pub puts : (k : ℕ) (p q : Pass V C P G T law eq cells) → k < length rows → slice_get old k ≡ Some p → slice_get now k ≡ Some q → q.puts ≡ p.puts
+    pub puts : (k : ℕ) (p q : Pass V C P G T law eq cells) → k < length rows → slice_get old k ≡ Some p → slice_get now k ≡ Some q
+        → q.puts ≡ p.puts
     pub gets_left : (k : ℕ) (p q : Pass V C P G T law eq cells) → slice_get old k ≡ Some p → slice_get now k ≡ Some q
-        → (length q.gets.items ≡ others_below k (length rows)) × ((m : ℕ) (get : G) → slice_get q.gets.items m ≡ Some get → slice_get p.gets.items m ≡ Some get)
-    pub settled : (i j : ℕ) (p q : Pass V C P G T law eq cells) (put : P) (get : G) → length rows ≤ i → i ≢ j → slice_get old i ≡ Some p → slice_get old j ≡ Some q
-        → slice_get p.puts.items (seat i j) ≡ Some put → slice_get q.gets.items (seat j i) ≡ Some get → Settled (board.first ∷ cells.written put) (cells.answers get)
+        → (length q.gets.items ≡ others_below k (length rows))
+        × ((m : ℕ) (get : G) → slice_get q.gets.items m ≡ Some get → slice_get p.gets.items m ≡ Some get)
+    pub settled : (i j : ℕ) (p q : Pass V C P G T law eq cells) (put : P) (get : G) → length rows ≤ i → i ≢ j → slice_get old i ≡ Some p
+        → slice_get old j ≡ Some q
+        → slice_get p.puts.items (seat i j) ≡ Some put → slice_get q.gets.items (seat j i) ≡ Some get
+        → Settled (board.first ∷ cells.written put) (cells.answers get)
 
   module _ (board : Board V C P G T law eq cells) (old : List (Pass V C P G T law eq cells)) (passes : AllPasses board old) where
     pub ended_none : EndedSoFar board old board.rows.items old
@@ -55,7 +49,8 @@ module _ {V C P G T : Type 0} {law : LawWords V} {eq : EqWords V} {cells : CellW
       settled = λ i j p q put get le ne a b at_p at_q. absurd (omega (arith, slice_get_within old i p a, passes.all));
     }
 
-    module _ (rows rest : List (Vec C Global)) (row : Vec C Global) (now : List (Pass V C P G T law eq cells)) (inv : EndedSoFar board old rows now) (is_rows : rows ≡ rest ++ row ∷ []) where
+    module _ (rows rest : List (Vec C Global)) (row : Vec C Global) (now : List (Pass V C P G T law eq cells))
+        (inv : EndedSoFar board old rows now) (is_rows : rows ≡ rest ++ row ∷ []) where
       one_more : length rows ≡ length rest + 1
       one_more = rw is_rows (length-append rest (row ∷ []))
 
@@ -83,11 +78,13 @@ module _ {V C P G T : Type 0} {law : LawWords V} {eq : EqWords V} {cells : CellW
         puts = λ p at.
             let p0 = get_or old (length rest) p in
             let len : vec_len p0.puts ≡ length p0.puts.items = p0.puts.ok.0 in
-            let n : length p0.puts.items ≡ length row.items = omega (arith, len, (passes.of (length rest) p0 (at_first (length rest) p at)).all_puts, row_long) in
+            let n : length p0.puts.items ≡ length row.items =
+            omega (arith, len, (passes.of (length rest) p0 (at_first (length rest) p at)).all_puts, row_long) in
             rw (writer_puts p at) n;
         gets = λ k q lt at.
             (inv.gets_left (other (length rest) k) (get_or old (other (length rest) k) q) q (at_first (other (length rest) k) q at) at).0
-            ∙ ap (λ z. others_below (other (length rest) k) z) one_more ∙ last_other (other (length rest) k) (length rest) (λ e. other_apart (length rest) k (sym e));
+            ∙ ap (λ z. others_below (other (length rest) k) z) one_more
+            ∙ last_other (other (length rest) k) (length rest) (λ e. other_apart (length rest) k (sym e));
         each = λ k c p q put get at_c at_p at_q at_put at_get.
             let w = length rest in
             let j = other w k in
@@ -95,7 +92,8 @@ module _ {V C P G T : Type 0} {law : LawWords V} {eq : EqWords V} {cells : CellW
             let q0 = get_or old j q in
             let old_p : slice_get old w ≡ Some p0 = at_first w p at_p in
             let old_q : slice_get old j ≡ Some q0 = at_first j q at_q in
-            let put0 : slice_get p0.puts.items k ≡ Some put = subst (λ (v : Vec P Global). slice_get v.items k ≡ Some put) (writer_puts p at_p) at_put in
+            let put0 : slice_get p0.puts.items k ≡ Some put =
+            subst (λ (v : Vec P Global). slice_get v.items k ≡ Some put) (writer_puts p at_p) at_put in
             let get0 : slice_get q0.gets.items (seat j w) ≡ Some get = (inv.gets_left j q0 q old_q at_q).1 (seat j w) get at_get in
             let cell : cell_of board.rows.items w j ≡ Some c = rw (at_row, seat_other w k) at_c in
             let wp : p0.process ≡ w = passes.processes w p0 old_p in
@@ -106,14 +104,16 @@ module _ {V C P G T : Type 0} {law : LawWords V} {eq : EqWords V} {cells : CellW
             (s.opened, s.of, h.of);
       }
 
-      pub ended_more : (new : List (Pass V C P G T law eq cells)) → RowEnded board.first (length rest) now new → EndedSoFar board old rest new
+      pub ended_more : (new : List (Pass V C P G T law eq cells)) → RowEnded board.first (length rest) now new
+          → EndedSoFar board old rest new
       ended_more new ended = record {
         lengths = ended.lengths ∙ inv.lengths;
         front = λ k r at. inv.front k r (rw is_rows (get_front rest (row ∷ []) k r at));
         fewer = omega (arith, one_more, inv.fewer);
         puts = λ k p q lt a b.
             let at_mid : slice_get now k ≡ Some (get_or now k q) = mid k q b in
-            (ended.of_reader k (get_or now k q) q (omega (arith, lt)) at_mid b).0 ∙ inv.puts k p (get_or now k q) (omega (arith, lt, one_more)) a at_mid;
+            (ended.of_reader k (get_or now k q) q (omega (arith, lt)) at_mid b).0
+            ∙ inv.puts k p (get_or now k q) (omega (arith, lt, one_more)) a at_mid;
         gets_left = λ k p q a b. left k p q a b (same_or_not k (length rest));
         settled = λ i j p q put get le ne a b at_p at_q. ⊎_elim
             (λ e. last_row i j p q put get ne a b at_p at_q e)
@@ -123,8 +123,10 @@ module _ {V C P G T : Type 0} {law : LawWords V} {eq : EqWords V} {cells : CellW
         mid : (k : ℕ) (q : Pass V C P G T law eq cells) → slice_get new k ≡ Some q → slice_get now k ≡ Some (get_or now k q)
         mid k q at = slice_get-get_or now k q (omega (arith, slice_get_within new k q at, ended.lengths))
 
-        last_row : (i j : ℕ) (p q : Pass V C P G T law eq cells) (put : P) (get : G) → i ≢ j → slice_get old i ≡ Some p → slice_get old j ≡ Some q
-            → slice_get p.puts.items (seat i j) ≡ Some put → slice_get q.gets.items (seat j i) ≡ Some get → i ≡ length rest → Settled (board.first ∷ cells.written put) (cells.answers get)
+        last_row : (i j : ℕ) (p q : Pass V C P G T law eq cells) (put : P) (get : G) → i ≢ j → slice_get old i ≡ Some p
+            → slice_get old j ≡ Some q
+            → slice_get p.puts.items (seat i j) ≡ Some put → slice_get q.gets.items (seat j i) ≡ Some get → i ≡ length rest
+            → Settled (board.first ∷ cells.written put) (cells.answers get)
         last_row i j p q put get ne a b at_p at_q e =
             let w = length rest in
             let pm = get_or now w p in
@@ -139,34 +141,55 @@ module _ {V C P G T : Type 0} {law : LawWords V} {eq : EqWords V} {cells : CellW
             let r = (ended.of_reader j qm qn ne_j at_qm at_qn).1 in
             let h = inv.gets_left j q qm b at_qm in
             let n : length qn.gets.items ≡ seat j w =
-            omega (arith, h.0, ap (λ z. others_below j z) one_more, last_other j w ne_j, ap length r.1, length-append qn.gets.items (r.0 ∷ [])) in
+            omega (
+              arith,
+              h.0,
+              ap (λ z. others_below j z) one_more,
+              last_other j w ne_j,
+              ap length r.1,
+              length-append qn.gets.items (r.0 ∷ []),
+            ) in
             let here : slice_get qm.gets.items (seat j w) ≡ Some r.0 = rw (r.1, ← n) (get_end qn.gets.items r.0) in
             let at_q' : slice_get q.gets.items (seat j w) ≡ Some get = subst (λ z. slice_get q.gets.items (seat j z) ≡ Some get) e at_q in
             let same : r.0 ≡ get = same_Some r.0 get (sym (h.1 (seat j w) r.0 here) ∙ at_q') in
             let at_p' : slice_get p.puts.items (seat w j) ≡ Some put = subst (λ z. slice_get p.puts.items (seat z j) ≡ Some put) e at_p in
             let puts : pm.puts ≡ p.puts = inv.puts w p pm (omega (arith, one_more)) a_w at_pm in
-            let at_put : slice_get pm.puts.items (seat w j) ≡ Some put = subst (λ (v : Vec P Global). slice_get v.items (seat w j) ≡ Some put) (sym puts) at_p' in
+            let at_put : slice_get pm.puts.items (seat w j) ≡ Some put =
+            subst (λ (v : Vec P Global). slice_get v.items (seat w j) ≡ Some put) (sym puts) at_p' in
             subst (λ z. Settled (board.first ∷ cells.written put) (cells.answers z)) same (r.2 pm put at_pm at_put)
 
-        left : (k : ℕ) (p q : Pass V C P G T law eq cells) → slice_get old k ≡ Some p → slice_get new k ≡ Some q → (k ≡ length rest) ⊎ (k ≢ length rest)
-            → (length q.gets.items ≡ others_below k (length rest)) × ((m : ℕ) (get : G) → slice_get q.gets.items m ≡ Some get → slice_get p.gets.items m ≡ Some get)
+        left : (k : ℕ) (p q : Pass V C P G T law eq cells) → slice_get old k ≡ Some p → slice_get new k ≡ Some q
+            → (k ≡ length rest) ⊎ (k ≢ length rest)
+            → (length q.gets.items ≡ others_below k (length rest))
+            × ((m : ℕ) (get : G) → slice_get q.gets.items m ≡ Some get → slice_get p.gets.items m ≡ Some get)
         left k p q a b (inl e) =
             let at_mid : slice_get now k ≡ Some (get_or now k q) = mid k q b in
-            let at_w : slice_get now (length rest) ≡ Some (get_or now k q) = subst (λ z. slice_get now z ≡ Some (get_or now k q)) e at_mid in
+            let at_w : slice_get now (length rest) ≡ Some (get_or now k q) =
+            subst (λ z. slice_get now z ≡ Some (get_or now k q)) e at_mid in
             let b_w : slice_get new (length rest) ≡ Some q = subst (λ z. slice_get new z ≡ Some q) e b in
             let same : q.gets ≡ (get_or now k q).gets = ended.of_writer (get_or now k q) q at_w b_w in
             let h = inv.gets_left k p (get_or now k q) a at_mid in (
-              ap (λ (v : Vec G Global). length v.items) same ∙ h.0 ∙ ap (λ z. others_below k z) one_more ∙ subst (λ z. others_below z (length rest + 1) ≡ others_below z (length rest)) (sym e) (same_others (length rest)),
+              ap (λ (v : Vec G Global). length v.items) same ∙ h.0 ∙ ap (λ z. others_below k z) one_more
+                  ∙ subst (λ z. others_below z (length rest + 1) ≡ others_below z (length rest)) (sym e) (same_others (length rest)),
               λ m get at. h.1 m get (subst (λ (v : Vec G Global). slice_get v.items m ≡ Some get) same at),
             )
         left k p q a b (inr ne) =
             let at_mid : slice_get now k ≡ Some (get_or now k q) = mid k q b in
             let r = (ended.of_reader k (get_or now k q) q ne at_mid b).1 in
             let h = inv.gets_left k p (get_or now k q) a at_mid in (
-              omega (arith, h.0, ap (λ z. others_below k z) one_more, more_others k (length rest) ne, ap length r.1, length-append q.gets.items (r.0 ∷ [])),
+              omega (
+                arith,
+                h.0,
+                ap (λ z. others_below k z) one_more,
+                more_others k (length rest) ne,
+                ap length r.1,
+                length-append q.gets.items (r.0 ∷ []),
+              ),
               λ m get at. h.1 m get (rw r.1 (get_front q.gets.items (r.0 ∷ []) m get at)),
             )
 
-  pub ended_all : (board : Board V C P G T law eq cells) (old : List (Pass V C P G T law eq cells)) (rows : List (Vec C Global)) (now : List (Pass V C P G T law eq cells))
+  pub ended_all : (board : Board V C P G T law eq cells) (old : List (Pass V C P G T law eq cells)) (rows : List (Vec C Global))
+      (now : List (Pass V C P G T law eq cells))
       → EndedSoFar board old rows now → length rows ≡ 0 → AllSettled board.first old
-  ended_all board old rows now inv none = λ i j p q put get ne a b at_p at_q. inv.settled i j p q put get (omega (arith, none)) ne a b at_p at_q
+  ended_all board old rows now inv none = λ i j p q put get ne a b at_p at_q.
+      inv.settled i j p q put get (omega (arith, none)) ne a b at_p at_q

@@ -1,5 +1,6 @@
 -- Jobs done to two halves of a list.
-use Rattle.std.proofs.Common.{◌≡◌, ℕ, zero, suc, ◌+◌, ◌<◌, List, [], ◌∷◌, ◌++◌, length, set, refl, sym, ◌∙◌, ap, arith, ◌⊎◌, inl, inr, ⊎_elim, length-append}
+use Rattle.std.proofs.Common.{◌≡◌, ℕ, zero, suc, ◌+◌, ◌<◌, List, [], ◌∷◌, ◌++◌, length, set, refl, sym, ◌∙◌, ap, arith, ◌⊎◌, inl, inr}
+use Rattle.std.proofs.Common.{⊎_elim, length-append}
 use Rattle.std.specs.Prelude.{slice_get, Some}
 use Rattle.std.proofs.lemmas.Option.{slice_get_within, none-some, same_Some, get_or_from_slice_get}
 use Rattle.std.proofs.lemmas.List.{length-set, get_or-set_same}
@@ -24,7 +25,8 @@ pub get_either : {X : Type 0} (a b : List X) (n : ℕ) (x : X) → slice_get (a 
     → (slice_get a n ≡ Some x) ⊎ ((k : ℕ) × (n ≡ length a + k) × (slice_get b k ≡ Some x))
 get_either [] b n x h = inr (n, omega arith, h)
 get_either (y ∷ a) b zero x h = inl h
-get_either (y ∷ a) b (suc n) x h = ⊎_elim (λ p. inl p) (λ q. inr (q.0, (let e : n ≡ length a + q.0 = q.1 in omega arith), q.2)) (get_either a b n x h)
+get_either (y ∷ a) b (suc n) x h =
+    ⊎_elim (λ p. inl p) (λ q. inr (q.0, (let e : n ≡ length a + q.0 = q.1 in omega arith), q.2)) (get_either a b n x h)
 
 pub ready_front : {X : Type 0} (R : X → Type 0) (first : ℕ) (all a b : List X) → all ≡ a ++ b → AllReady R first all → AllReady R first a
 ready_front R first all a b e h = record {
@@ -32,7 +34,8 @@ ready_front R first all a b e h = record {
   each = λ k x p. h.each k x (rw e (get_front a b k x p));
 }
 
-pub ready_back : {X : Type 0} (R : X → Type 0) (first second : ℕ) (all a b : List X) → all ≡ a ++ b → second ≡ first + length a → AllReady R first all → AllReady R second b
+pub ready_back : {X : Type 0} (R : X → Type 0) (first second : ℕ) (all a b : List X) → all ≡ a ++ b → second ≡ first + length a
+    → AllReady R first all → AllReady R second b
 ready_back R first second all a b e n h = record {
   fits = let f = h.fits in omega (arith, ap length e, length-append a b);
   each = λ k x p. h.each (length a + k) x (rw e (get_back a b (length a + k) k x refl p));
@@ -45,8 +48,11 @@ steps_both R first second a a' b b' e f s = record {
   lengths = let p = f.lengths in let q = s.lengths in omega (arith, length-append a b, length-append a' b');
   each = λ k x y p q. ⊎_elim
       (λ pa. ⊎_elim (λ qa. f.each k x y pa qa)
-      (λ (qb : (j : ℕ) × (k ≡ length a' + j) × (slice_get b' j ≡ Some y)). let e1 : k ≡ length a' + qb.0 = qb.1 in absurd (omega (arith, slice_get_within a k x pa, f.lengths))) (get_either a' b' k y q))
-      (λ (pb : (j : ℕ) × (k ≡ length a + j) × (slice_get b j ≡ Some x)). ⊎_elim (λ qa. let e1 : k ≡ length a + pb.0 = pb.1 in absurd (omega (arith, slice_get_within a' k y qa, f.lengths)))
+      (λ (qb : (j : ℕ) × (k ≡ length a' + j) × (slice_get b' j ≡ Some y)). let e1 : k ≡ length a' + qb.0 = qb.1 in
+      absurd (omega (arith, slice_get_within a k x pa, f.lengths)))
+      (get_either a' b' k y q))
+      (λ (pb : (j : ℕ) × (k ≡ length a + j) × (slice_get b j ≡ Some x)).
+      ⊎_elim (λ qa. let e1 : k ≡ length a + pb.0 = pb.1 in absurd (omega (arith, slice_get_within a' k y qa, f.lengths)))
       (λ (qb : (j : ℕ) × (k ≡ length a' + j) × (slice_get b' j ≡ Some y)).
       let e1 : k ≡ length a + pb.0 = pb.1 in let e2 : k ≡ length a' + qb.0 = qb.1 in
       let same : qb.0 ≡ pb.0 = omega (arith, f.lengths) in
@@ -57,7 +63,8 @@ steps_both R first second a a' b b' e f s = record {
 }
 
 -- one lane alone
-pub step_alone : {X : Type 0} (R : ℕ → X → X → Type 0) (first : ℕ) (all : List X) (x y : X) → length all ≡ 1 → slice_get all 0 ≡ Some x → R first x y → EachStep R first all (set all 0 y)
+pub step_alone : {X : Type 0} (R : ℕ → X → X → Type 0) (first : ℕ) (all : List X) (x y : X) → length all ≡ 1 → slice_get all 0 ≡ Some x
+    → R first x y → EachStep R first all (set all 0 y)
 step_alone R first all x y one at r = record {
   lengths = length-set all 0 y;
   each = λ k u v p q.

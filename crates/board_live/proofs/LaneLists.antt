@@ -1,5 +1,6 @@
 -- Lists of lanes and of passes, made from their ends: the last is made first, so what was made is turned round.
-use Rattle.std.proofs.Common.{◌≡◌, ℕ, zero, suc, ◌+◌, ◌<◌, ◌≤◌, ◌^◌, List, [], ◌∷◌, ◌++◌, length, length-append, append_assoc, map, reverse, refl, sym, ◌∙◌, ap, subst, arith}
+use Rattle.std.proofs.Common.{◌≡◌, ℕ, zero, suc, ◌+◌, ◌<◌, ◌≤◌, ◌^◌, List, [], ◌∷◌, ◌++◌, length, length-append, append_assoc, map, reverse}
+use Rattle.std.proofs.Common.{refl, sym, ◌∙◌, ap, subst, arith}
 use Rattle.std.specs.Prelude.{slice_get, Some, slice_index_or, All}
 use Rattle.std.specs.declared.cmp.PartialEq.{Ghosts as EqWords}
 use Rattle.std.proofs.lemmas.Option.{same_Some, none-some}
@@ -34,20 +35,23 @@ pub record MappedFrom {A B : Type 0} (f : A → B) (whole left : List A) (made :
 pub mapped_none : {A B : Type 0} (f : A → B) (whole : List A) → MappedFrom f whole whole []
 mapped_none f whole = record { done = []; of = append_nothing whole; are = refl }
 
-pub mapped_more : {A B : Type 0} (f : A → B) (whole before left : List A) (made : List B) (x : A) → MappedFrom f whole before made → before ≡ left ++ x ∷ [] → MappedFrom f whole left (made ++ f x ∷ [])
+pub mapped_more : {A B : Type 0} (f : A → B) (whole before left : List A) (made : List B) (x : A) → MappedFrom f whole before made
+    → before ≡ left ++ x ∷ [] → MappedFrom f whole left (made ++ f x ∷ [])
 mapped_more f whole before left made x h e = record {
   done = x ∷ h.done;
   of = h.of ∙ ap (λ z. z ++ h.done) e ∙ append_assoc left (x ∷ []) h.done;
   are = reverse-append made (f x ∷ []) ∙ ap (λ z. f x ∷ z) h.are;
 }
 
-pub mapped_all : {A B : Type 0} (f : A → B) (whole left : List A) (made : List B) → MappedFrom f whole left made → length left ≡ 0 → reverse made ≡ map f whole
+pub mapped_all : {A B : Type 0} (f : A → B) (whole left : List A) (made : List B) → MappedFrom f whole left made → length left ≡ 0
+    → reverse made ≡ map f whole
 mapped_all f whole [] made h e = h.are ∙ ap (map f) (sym h.of)
 mapped_all f whole (x ∷ xs) made h e = absurd (omega (arith, e))
 
 module _ {V C P G T : Type 0} {law : LawWords V} {eq : EqWords V} {cells : CellWords C (Clocked V) P G T} where
   -- the lanes of the last passes were made
-  pub record LanesFrom (passes : List (Pass V C P G T law eq cells)) (scripts : List (List (Wish V))) (left : List (Pass V C P G T law eq cells)) (left_scripts : List (List (Wish V)))
+  pub record LanesFrom (passes : List (Pass V C P G T law eq cells)) (scripts : List (List (Wish V)))
+      (left : List (Pass V C P G T law eq cells)) (left_scripts : List (List (Wish V)))
       (lanes : List (Lane V C P G T law eq cells)) : Type 0 where
     pub done : List (Pass V C P G T law eq cells)
     pub done_scripts : List (List (Wish V))
@@ -56,12 +60,17 @@ module _ {V C P G T : Type 0} {law : LawWords V} {eq : EqWords V} {cells : CellW
     pub are : AreLanes done done_scripts (reverse lanes)
     pub same : length left_scripts ≡ length left
 
-  pub lanes_none : (passes : List (Pass V C P G T law eq cells)) (scripts : List (List (Wish V))) → length scripts ≡ length passes → LanesFrom passes scripts passes scripts []
-  lanes_none passes scripts same = record { done = []; done_scripts = []; of_passes = append_nothing passes; of_scripts = append_nothing scripts; are = tt; same = same }
+  pub lanes_none : (passes : List (Pass V C P G T law eq cells)) (scripts : List (List (Wish V))) → length scripts ≡ length passes
+      → LanesFrom passes scripts passes scripts []
+  lanes_none passes scripts same =
+      record { done = []; done_scripts = []; of_passes = append_nothing passes; of_scripts = append_nothing scripts; are = tt; same = same }
 
-  pub lanes_more : (passes : List (Pass V C P G T law eq cells)) (scripts : List (List (Wish V))) (before left : List (Pass V C P G T law eq cells)) (before_scripts left_scripts : List (List (Wish V)))
-      (lanes : List (Lane V C P G T law eq cells)) (pass : Pass V C P G T law eq cells) (script : List (Wish V)) (lane : Lane V C P G T law eq cells)
-      → LanesFrom passes scripts before before_scripts lanes → before ≡ left ++ pass ∷ [] → before_scripts ≡ left_scripts ++ script ∷ [] → IsNewLane pass script lane
+  pub lanes_more : (passes : List (Pass V C P G T law eq cells)) (scripts : List (List (Wish V)))
+      (before left : List (Pass V C P G T law eq cells)) (before_scripts left_scripts : List (List (Wish V)))
+      (lanes : List (Lane V C P G T law eq cells)) (pass : Pass V C P G T law eq cells) (script : List (Wish V))
+      (lane : Lane V C P G T law eq cells)
+      → LanesFrom passes scripts before before_scripts lanes → before ≡ left ++ pass ∷ [] → before_scripts ≡ left_scripts ++ script ∷ []
+      → IsNewLane pass script lane
       → LanesFrom passes scripts left left_scripts (lanes ++ lane ∷ [])
   lanes_more passes scripts before left before_scripts left_scripts lanes pass script lane h e f new =
       let n : length before ≡ length left + 1 = ap length e ∙ length-append left (pass ∷ []) in
@@ -75,16 +84,20 @@ module _ {V C P G T : Type 0} {law : LawWords V} {eq : EqWords V} {cells : CellW
         same = omega (arith, n, m, h.same);
       }
 
-  pub lanes_all : (passes : List (Pass V C P G T law eq cells)) (scripts : List (List (Wish V))) (left : List (Pass V C P G T law eq cells)) (left_scripts : List (List (Wish V)))
-      (lanes : List (Lane V C P G T law eq cells)) → LanesFrom passes scripts left left_scripts lanes → length left ≡ 0 → AreLanes passes scripts (reverse lanes)
+  pub lanes_all : (passes : List (Pass V C P G T law eq cells)) (scripts : List (List (Wish V)))
+      (left : List (Pass V C P G T law eq cells)) (left_scripts : List (List (Wish V)))
+      (lanes : List (Lane V C P G T law eq cells)) → LanesFrom passes scripts left left_scripts lanes → length left ≡ 0
+      → AreLanes passes scripts (reverse lanes)
   lanes_all passes scripts [] [] lanes h e = rw (h.of_passes, h.of_scripts) h.are
   lanes_all passes scripts [] (s ∷ ss) lanes h e = absurd (omega (arith, h.same))
   lanes_all passes scripts (p ∷ ps) left_scripts lanes h e = absurd (omega (arith, e))
 
   -- the pass of a lane is the one at its place
-  pub lane_at : (passes : List (Pass V C P G T law eq cells)) (scripts : List (List (Wish V))) (lanes : List (Lane V C P G T law eq cells)) → AreLanes passes scripts lanes
+  pub lane_at : (passes : List (Pass V C P G T law eq cells)) (scripts : List (List (Wish V))) (lanes : List (Lane V C P G T law eq cells))
+      → AreLanes passes scripts lanes
       → (k : ℕ) (lane : Lane V C P G T law eq cells) → slice_get lanes k ≡ Some lane
-      → (pass : Pass V C P G T law eq cells) × (script : List (Wish V)) × (slice_get passes k ≡ Some pass) × (slice_get scripts k ≡ Some script) × IsNewLane pass script lane
+      → (pass : Pass V C P G T law eq cells) × (script : List (Wish V)) × (slice_get passes k ≡ Some pass)
+      × (slice_get scripts k ≡ Some script) × IsNewLane pass script lane
   lane_at [] [] [] h k lane at = absurd (none-some lane at)
   lane_at [] [] (l ∷ ls) h k lane at = absurd h
   lane_at [] (s ∷ ss) lanes h k lane at = absurd h
@@ -93,7 +106,9 @@ module _ {V C P G T : Type 0} {law : LawWords V} {eq : EqWords V} {cells : CellW
   lane_at (p ∷ ps) (s ∷ ss) (l ∷ ls) h zero lane at = (p, s, refl, refl, subst (IsNewLane p s) (same_Some l lane at) h.0)
   lane_at (p ∷ ps) (s ∷ ss) (l ∷ ls) h (suc k) lane at = lane_at ps ss ls h.1 k lane at
 
-  pub lanes_length : (passes : List (Pass V C P G T law eq cells)) (scripts : List (List (Wish V))) (lanes : List (Lane V C P G T law eq cells)) → AreLanes passes scripts lanes → length lanes ≡ length passes
+  pub lanes_length : (passes : List (Pass V C P G T law eq cells)) (scripts : List (List (Wish V)))
+      (lanes : List (Lane V C P G T law eq cells))
+      → AreLanes passes scripts lanes → length lanes ≡ length passes
   lanes_length [] [] [] h = refl
   lanes_length [] [] (l ∷ ls) h = absurd h
   lanes_length [] (s ∷ ss) lanes h = absurd h
@@ -102,8 +117,10 @@ module _ {V C P G T : Type 0} {law : LawWords V} {eq : EqWords V} {cells : CellW
   lanes_length (p ∷ ps) (s ∷ ss) (l ∷ ls) h = ap suc (lanes_length ps ss ls h.1)
 
   -- lanes of a board's passes may run
-  pub lanes_ready : (board : Board V C P G T law eq cells) (passes : List (Pass V C P G T law eq cells)) (scripts : List (List (Wish V))) (lanes : List (Lane V C P G T law eq cells))
-      → AreLanes passes scripts lanes → length passes < 2 ^ 64 → ((k : ℕ) (p : Pass V C P G T law eq cells) → slice_get passes k ≡ Some p → IsPass board p)
+  pub lanes_ready : (board : Board V C P G T law eq cells) (passes : List (Pass V C P G T law eq cells)) (scripts : List (List (Wish V)))
+      (lanes : List (Lane V C P G T law eq cells))
+      → AreLanes passes scripts lanes → length passes < 2 ^ 64
+      → ((k : ℕ) (p : Pass V C P G T law eq cells) → slice_get passes k ≡ Some p → IsPass board p)
       → AllReady (λ (l : Lane V C P G T law eq cells). IsPass board l.pass) 0 lanes
   lanes_ready board passes scripts lanes h few of = record {
     fits = rw (lanes_length passes scripts lanes h) (omega (arith, few));
@@ -111,7 +128,8 @@ module _ {V C P G T : Type 0} {law : LawWords V} {eq : EqWords V} {cells : CellW
   }
 
   -- likewise, of the passes of all processes
-  pub all_ready : (board : Board V C P G T law eq cells) (passes : List (Pass V C P G T law eq cells)) (scripts : List (List (Wish V))) (lanes : List (Lane V C P G T law eq cells))
+  pub all_ready : (board : Board V C P G T law eq cells) (passes : List (Pass V C P G T law eq cells)) (scripts : List (List (Wish V)))
+      (lanes : List (Lane V C P G T law eq cells))
       → AllPasses board passes → AreLanes passes scripts lanes → AllReady (λ (l : Lane V C P G T law eq cells). IsPass board l.pass) 0 lanes
   all_ready board passes scripts lanes all are =
       let n : length board.rows.items ≤ 16 = board.square.at_most in

@@ -1,5 +1,6 @@
 -- Logs that get one more entry.
-use Rattle.std.proofs.Common.{◌≡◌, ℕ, zero, suc, ◌+◌, ◌<◌, List, [], ◌∷◌, ◌++◌, length, length-append, refl, sym, ap, arith, true, ◌⊎◌, inl, inr, ⊎_elim}
+use Rattle.std.proofs.Common.{◌≡◌, ℕ, zero, suc, ◌+◌, ◌<◌, List, [], ◌∷◌, ◌++◌, length, length-append, refl, sym, ap, arith, true, ◌⊎◌, inl}
+use Rattle.std.proofs.Common.{inr, ⊎_elim}
 use Rattle.std.specs.Prelude.{slice_get, Some, not, ◌&&◌, ◌||◌, nat_lt, nat_eq}
 use Rattle.std.specs.declared.cmp.PartialEq.{Ghosts as EqWords}
 use Rattle.std.proofs.lemmas.Option.{same_Some, none-some, slice_get_within, get_or_from_slice_get}
@@ -22,7 +23,8 @@ use Rattle.board_live.specs.Boards.{seen_by}
 use Rattle.board_live.specs.Logs.{IsLog, is_at_most, stamp_of}
 use Rattle.board_live.specs.Tasks.{IsEntry, Replies, AreCalls}
 
-at_most_parts : (m v n w p x : ℕ) → not (nat_lt n m || (nat_eq n m && nat_lt w v)) ≡ true → not (nat_lt p n || (nat_eq p n && nat_lt x w)) ≡ true
+at_most_parts : (m v n w p x : ℕ) → not (nat_lt n m || (nat_eq n m && nat_lt w v)) ≡ true
+    → not (nat_lt p n || (nat_eq p n && nat_lt x w)) ≡ true
     → not (nat_lt p m || (nat_eq p m && nat_lt x v)) ≡ true
 at_most_parts m v n w p x h k = grind (arith, nat_tests)
 
@@ -40,7 +42,8 @@ at_most_rises a b (inl p) = at_most_below a.stamp b.stamp p
 at_most_rises a b (inr e) = rw e.0 (at_most_self b.stamp)
 
 -- an element of a list with one more is one of the list, or the one
-pub get_last : {X : Type 0} (a : List X) (z : X) (n : ℕ) (x : X) → slice_get (a ++ z ∷ []) n ≡ Some x → (slice_get a n ≡ Some x) ⊎ ((n ≡ length a) × (x ≡ z))
+pub get_last : {X : Type 0} (a : List X) (z : X) (n : ℕ) (x : X) → slice_get (a ++ z ∷ []) n ≡ Some x
+    → (slice_get a n ≡ Some x) ⊎ ((n ≡ length a) × (x ≡ z))
 get_last [] z zero x h = inr (refl, sym (same_Some z x h))
 get_last [] z (suc n) x h = absurd (none-some x h)
 get_last (y ∷ a) z zero x h = inl h
@@ -48,7 +51,8 @@ get_last (y ∷ a) z (suc n) x h = ⊎_elim (λ p. inl p) (λ q. inr (ap suc q.0
 
 -- a log of calls whose records rise
 pub log_more : {V : Type 0} (script : List (Wish V)) (log : List (Entry V)) (own new : Clocked V) (e : Entry V)
-    → IsLog script log own.stamp → slice_get script (length log) ≡ Some e.wish → Rises own new → stamp_of e.reply ≡ new.stamp → IsLog script (log ++ e ∷ []) new.stamp
+    → IsLog script log own.stamp → slice_get script (length log) ≡ Some e.wish → Rises own new → stamp_of e.reply ≡ new.stamp
+    → IsLog script (log ++ e ∷ []) new.stamp
 log_more script log own new e h at up same =
     let lt : length log < length script = slice_get_within script (length log) e.wish at in
     let long : length (log ++ e ∷ []) ≡ length log + 1 = length-append log (e ∷ []) in
@@ -57,19 +61,29 @@ log_more script log own new e h at up same =
     let old : (j : ℕ) (f : Entry _) → slice_get log j ≡ Some f → is_at_most (stamp_of f.reply) new.stamp ≡ true =
     λ j f p. at_most_trans (stamp_of f.reply) own.stamp new.stamp (h.below j f p) up' in
     record {
-      wishes = rw (long, take_more script (length log) e.wish lt, map-append (λ (d : Entry _). d.wish) log (e ∷ []), h.wishes, get_or_from_slice_get script (length log) e.wish e.wish at) refl;
+      wishes = rw (
+        long,
+        take_more script (length log) e.wish lt,
+        map-append (λ (d : Entry _). d.wish) log (e ∷ []),
+        h.wishes,
+        get_or_from_slice_get script (length log) e.wish e.wish at,
+      )
+          refl;
       within = rw long (omega arith);
       rising = λ j k f d l p q. ⊎_elim
           (λ qa. ⊎_elim (λ pa. h.rising j k f d l pa qa)
-          (λ (pb : (j ≡ length log) × (f ≡ e)). absurd (let e1 : j ≡ length log = pb.0 in omega (arith, slice_get_within log k d qa))) (get_last log e j f p))
+          (λ (pb : (j ≡ length log) × (f ≡ e)). absurd (let e1 : j ≡ length log = pb.0 in omega (arith, slice_get_within log k d qa)))
+          (get_last log e j f p))
           (λ (qb : (k ≡ length log) × (d ≡ e)). ⊎_elim
           (λ pa. rw (qb.1, same) (old j f pa))
-          (λ (pb : (j ≡ length log) × (f ≡ e)). absurd (let e1 : j ≡ length log = pb.0 in let e2 : k ≡ length log = qb.0 in omega arith)) (get_last log e j f p))
+          (λ (pb : (j ≡ length log) × (f ≡ e)). absurd (let e1 : j ≡ length log = pb.0 in let e2 : k ≡ length log = qb.0 in omega arith))
+          (get_last log e j f p))
           (get_last log e k d q);
       below = λ j f p. ⊎_elim (λ pa. old j f pa) (λ (pb : (j ≡ length log) × (f ≡ e)). rw pb.1 last) (get_last log e j f p);
     }
 
-pub stamp_replied : {V : Type 0} (limit process : ℕ) (wish : Wish V) (seen chosen : Clocked V) (reply : Reply V) → Replies limit process wish seen chosen reply → stamp_of reply ≡ chosen.stamp
+pub stamp_replied : {V : Type 0} (limit process : ℕ) (wish : Wish V) (seen chosen : Clocked V) (reply : Reply V)
+    → Replies limit process wish seen chosen reply → stamp_of reply ≡ chosen.stamp
 stamp_replied limit process Read seen chosen reply h = rw h.0 (sym (ap (λ p. p.stamp) h.1))
 stamp_replied limit process (Write item) seen chosen (Written s) h = sym (ap (λ p. p.stamp) h.2)
 stamp_replied limit process (Write item) seen chosen (Seen p) h = absurd h
@@ -77,14 +91,17 @@ stamp_replied limit process (Write item) seen chosen (Ended p) h = rw h.1 (sym (
 
 module _ {V C P G T : Type 0} {law : LawWords V} {eq : EqWords V} {cells : CellWords C (Clocked V) P G T} where
   -- the log after one more call
-  pub log_called : (board : Board V C P G T law eq cells) (script : List (Wish V)) (log : List (Entry V)) (old new : Pass V C P G T law eq cells) (e : Entry V)
-      → IsLog script log old.own.stamp → slice_get script (length log) ≡ Some e.wish → IsEntry board old e new → IsLog script (log ++ e ∷ []) new.own.stamp
+  pub log_called : (board : Board V C P G T law eq cells) (script : List (Wish V)) (log : List (Entry V))
+      (old new : Pass V C P G T law eq cells) (e : Entry V)
+      → IsLog script log old.own.stamp → slice_get script (length log) ≡ Some e.wish → IsEntry board old e new
+      → IsLog script (log ++ e ∷ []) new.own.stamp
   log_called board script log old new e h at entry = log_more script log old.own new.own e h at
       (rises_on old.own (seen_by old new) new.own entry.call.rises entry.call.onward)
       (stamp_replied board.limit old.process e.wish _ new.own e.reply entry.replies)
 
   -- one more call after others
-  pub calls_more : (board : Board V C P G T law eq cells) (old : Pass V C P G T law eq cells) (es : List (Entry V)) (mid : Pass V C P G T law eq cells) (e : Entry V) (new : Pass V C P G T law eq cells)
+  pub calls_more : (board : Board V C P G T law eq cells) (old : Pass V C P G T law eq cells) (es : List (Entry V))
+      (mid : Pass V C P G T law eq cells) (e : Entry V) (new : Pass V C P G T law eq cells)
       → AreCalls board old es mid → IsEntry board mid e new → AreCalls board old (es ++ e ∷ []) new
   calls_more board old [] mid e new h one = (new, rw h one, refl)
   calls_more board old (d ∷ es) mid e new h one = (h.0, h.1, calls_more board h.0 es mid e new h.2 one)

@@ -30,18 +30,30 @@ same_stamp chosen p e = ap (λ (z : Posted _). z.stamp) e
 same_item : {V : Type 0} (chosen : Clocked V) (p : Posted V) → posted chosen ≡ p → chosen.item ≡ p.item
 same_item chosen p e = ap (λ (z : Posted _). z.item) e
 
-chosen_by : {V : Type 0} (limit who : ℕ) (item : V) (seen chosen : Clocked V) (r : Result Stamp (TagsEnded V)) → Chooses limit who item seen chosen r → IsChosen limit who (kind_of r) (dated seen) (dated chosen)
+chosen_by : {V : Type 0} (limit who : ℕ) (item : V) (seen chosen : Clocked V) (r : Result Stamp (TagsEnded V))
+    → Chooses limit who item seen chosen r → IsChosen limit who (kind_of r) (dated seen) (dated chosen)
 chosen_by limit who item seen chosen (Ok s) h = (h.0, same_stamp chosen (record { stamp = s; item = item }) h.2 ∙ h.1)
 chosen_by limit who item seen chosen (Err e) h = (h.0, same_stamp chosen (posted seen) h.2, same_item chosen (posted seen) h.2)
 
-module _ {V C P G T : Type 0} {law : LawWords V} {eq : EqWords V} {cells : CellWords C (Clocked V) P G T} (board : Board V C P G T law eq cells) where
-  pub by_read : (p q : Pass V C P G T law eq cells) (result : Posted V) → IsPass board q → IsBoardCall board.first p q (seen_by p q) → HandsOn (seen_by p q) q.own result → MakesCall board Read p q
-  by_read p q result of call h = record { of = of; call = call; chosen = (same_stamp q.own (posted (seen_by p q)) h.chooses, same_item q.own (posted (seen_by p q)) h.chooses) }
+module _ {V C P G T : Type 0} {law : LawWords V} {eq : EqWords V} {cells : CellWords C (Clocked V) P G T}
+    (board : Board V C P G T law eq cells) where
+  pub by_read : (p q : Pass V C P G T law eq cells) (result : Posted V) → IsPass board q → IsBoardCall board.first p q (seen_by p q)
+      → HandsOn (seen_by p q) q.own result → MakesCall board Read p q
+  by_read p q result of call h =
+      record {
+        of = of;
+        call = call;
+        chosen = (same_stamp q.own (posted (seen_by p q)) h.chooses, same_item q.own (posted (seen_by p q)) h.chooses);
+      }
 
-  pub by_write : (p q : Pass V C P G T law eq cells) (item : V) (result : Result Stamp (TagsEnded V)) → IsPass board q → IsBoardCall board.first p q (seen_by p q) → Chooses board.limit p.process item (seen_by p q) q.own result → MakesCall board (kind_of result) p q
-  by_write p q item result of call h = record { of = of; call = call; chosen = chosen_by board.limit p.process item (seen_by p q) q.own result h }
+  pub by_write : (p q : Pass V C P G T law eq cells) (item : V) (result : Result Stamp (TagsEnded V)) → IsPass board q
+      → IsBoardCall board.first p q (seen_by p q) → Chooses board.limit p.process item (seen_by p q) q.own result
+      → MakesCall board (kind_of result) p q
+  by_write p q item result of call h =
+      record { of = of; call = call; chosen = chosen_by board.limit p.process item (seen_by p q) q.own result h }
 
-  pub fresh : (n limit : ℕ) (opening : V) (passes : List (Pass V C P G T law eq cells)) → IsNew n limit (record { stamp = first_stamp; item = opening; clock = 0 }) board passes
+  pub fresh : (n limit : ℕ) (opening : V) (passes : List (Pass V C P G T law eq cells))
+      → IsNew n limit (record { stamp = first_stamp; item = opening; clock = 0 }) board passes
       → (k : ℕ) (p : Pass V C P G T law eq cells) → slice_get passes k ≡ Some p → IsFresh board k p
   fresh n limit opening passes h k p at = record {
     of = h.passes_of.of k p at;

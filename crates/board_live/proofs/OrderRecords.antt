@@ -1,6 +1,7 @@
 -- The order of all calls has the records of one register, with their stamps: no call stands in it twice, so each write has a
 -- greater stamp than all writes before it; and every other call has the stamp of the last of them.
-use Rattle.std.proofs.Common.{◌≡◌, ℕ, zero, suc, ◌+◌, ◌<◌, ◌≤◌, Bool, true, false, List, [], ◌∷◌, refl, sym, ◌∙◌, ap, subst, arith, ◌⊎◌, inl, inr}
+use Rattle.std.proofs.Common.{◌≡◌, ℕ, zero, suc, ◌+◌, ◌<◌, ◌≤◌, Bool, true, false, List, [], ◌∷◌, refl, sym, ◌∙◌, ap, subst, arith, ◌⊎◌}
+use Rattle.std.proofs.Common.{inl, inr}
 use Rattle.std.specs.Prelude.{slice_get, Some, nat_eq}
 use mathlib.Core.Bool.{cond}
 use Rattle.std.specs.List.{filter}
@@ -33,7 +34,11 @@ place x (y ∷ ys) (inr m) = let w = place x ys m in (suc w.0, w.1)
 
 no_twice_by : {X : Type 0} (xs : List X) → ((i j : ℕ) (x : X) → i < j → slice_get xs i ≡ Some x → slice_get xs j ≡ Some x → ⊥) → NoTwice xs
 no_twice_by [] h = tt
-no_twice_by (x ∷ xs) h = (λ m. let w = place x xs m in h 0 (suc w.0) x (omega arith) refl w.1, no_twice_by xs (λ i j y l a b. h (suc i) (suc j) y (omega arith) a b))
+no_twice_by (x ∷ xs) h = (
+  λ m. let w = place x xs m in
+      h 0 (suc w.0) x (omega arith) refl w.1,
+  no_twice_by xs (λ i j y l a b. h (suc i) (suc j) y (omega arith) a b),
+)
 
 in_cond_here : {X : Type 0} (b : Bool) (x y : X) (fs : List X) → b ≡ true → x ≡ y → IsIn x (cond b (y ∷ fs) fs)
 in_cond_here true x y fs e f = inl f
@@ -75,7 +80,8 @@ module _ {V : Type 0} where
   all_once : (xs : List (Call V)) → ((c : Call V) → IsIn c xs → NoTwice (filter (is_by c.who) xs)) → NoTwice xs
   all_once [] h = tt
   all_once (x ∷ xs) h = (
-    λ m. first_once (is_by x.who x) x (filter (is_by x.who) xs) (is_itself x.who) (h x (inl refl)) (in_filtered (is_by x.who) x xs m (is_itself x.who)),
+    λ m. first_once (is_by x.who x) x (filter (is_by x.who) xs) (is_itself x.who) (h x (inl refl))
+        (in_filtered (is_by x.who) x xs m (is_itself x.who)),
     all_once xs (λ c m. rest_once (is_by c.who x) x (filter (is_by c.who) xs) (h c (inr m))),
   )
 
@@ -99,7 +105,8 @@ module _ {V : Type 0} where
   kept_by c Refused now rest e f g = g (λ w. cc)
 
   module _ (first : Dated V) (limit : ℕ) (all : List (Call V)) (is : IsHistory first limit all) where
-    module _ (past rest : List (Call V)) (c : Call V) (k : IsCut first limit all is past (c ∷ rest)) (stamp : Stamp) (now : V) (writes : ℕ) (h : IsLatest first limit all is past stamp now writes) where
+    module _ (past rest : List (Call V)) (c : Call V) (k : IsCut first limit all is past (c ∷ rest)) (stamp : Stamp) (now : V) (writes : ℕ)
+        (h : IsLatest first limit all is past stamp now writes) where
       in_all : IsIn c all
       in_all = k.in_rest c (inl refl)
 
@@ -149,26 +156,35 @@ module _ {V : Type 0} where
     }
 
     -- along the order
-    along : (last : Posted V) → ((past : List (Call V)) (now : Posted V) (writes : ℕ) → IsCut first limit all is past [] → IsLatest first limit all is past now.stamp now.item writes → last ≡ now)
-        → (rest past : List (Call V)) (now : Posted V) (writes : ℕ) → IsCut first limit all is past rest → IsLatest first limit all is past now.stamp now.item writes
+    along : (last : Posted V)
+        → ((past : List (Call V)) (now : Posted V) (writes : ℕ) → IsCut first limit all is past []
+        → IsLatest first limit all is past now.stamp now.item writes → last ≡ now)
+        → (rest past : List (Call V)) (now : Posted V) (writes : ℕ) → IsCut first limit all is past rest
+        → IsLatest first limit all is past now.stamp now.item writes
         → NoTwice rest → ((c : Call V) → IsIn c past → IsIn c rest → ⊥) → HasRecords now last rest
     along last end [] past now writes k h once far = end past now writes k h
     along last end (c ∷ rest) past now writes k h once far =
-        let far_on : (d : Call V) → IsIn d (c ∷ past) → IsIn d rest → ⊥ = λ d m n. elim m [ inl e ↦ once.0 (subst (λ z. IsIn z rest) e n) | inr p ↦ far d p (inr n) ] in
+        let far_on : (d : Call V) → IsIn d (c ∷ past) → IsIn d rest → ⊥ = λ d m n.
+        elim m [ inl e ↦ once.0 (subst (λ z. IsIn z rest) e n) | inr p ↦ far d p (inr n) ] in
         kept_by c c.kind now (λ p. HasRecords p last rest) refl
         (λ w. (
           above_all past rest c k now.stamp now.item writes h w (λ p. far c p (inl refl)),
           writer_of limit c.who c.kind c.seen c.chosen w (is.chosen c (k.in_rest c (inl refl))),
-          along last end rest (c ∷ past) (under c.chosen) (writes + 1) (cut_on past rest c k) (latest_write first limit all is past rest c k now.stamp now.item writes w h) once.1 far_on,
+          along last end rest (c ∷ past) (under c.chosen) (writes + 1) (cut_on past rest c k)
+              (latest_write first limit all is past rest c k now.stamp now.item writes w h) once.1 far_on,
         ))
         (λ nw. (
-          posted_same (under c.chosen) now (stamp_now past rest c k now.stamp now.item writes h nw) (stands first limit all is past rest c k now.stamp now.item writes nw h).0,
-          along last end rest (c ∷ past) now writes (cut_on past rest c k) (latest_other first limit all is past rest c k now.stamp now.item writes nw h) once.1 far_on,
+          posted_same (under c.chosen) now (stamp_now past rest c k now.stamp now.item writes h nw)
+              (stands first limit all is past rest c k now.stamp now.item writes nw h).0,
+          along last end rest (c ∷ past) now writes (cut_on past rest c k)
+              (latest_other first limit all is past rest c k now.stamp now.item writes nw h) once.1 far_on,
         ))
 
     -- the greatest record is the last
-    module _ (r : Dated V) (from : (r ≡ first) ⊎ ((c : Call V) × IsIn c all × (c.chosen ≡ r))) (above : (c : Call V) → IsIn c all → IsAtMost c.chosen.stamp r.stamp) where
-      at_most_end : (past : List (Call V)) (stamp : Stamp) (now : V) (writes : ℕ) → IsCut first limit all is past [] → IsLatest first limit all is past stamp now writes → IsAtMost r.stamp stamp
+    module _ (r : Dated V) (from : (r ≡ first) ⊎ ((c : Call V) × IsIn c all × (c.chosen ≡ r)))
+        (above : (c : Call V) → IsIn c all → IsAtMost c.chosen.stamp r.stamp) where
+      at_most_end : (past : List (Call V)) (stamp : Stamp) (now : V) (writes : ℕ) → IsCut first limit all is past []
+          → IsLatest first limit all is past stamp now writes → IsAtMost r.stamp stamp
       at_most_end past stamp now writes k h = elim from [
         | inl e ↦ subst (λ z. IsAtMost z stamp) (sym (ap (λ z. z.stamp) e ∙ is.opens)) (first_least stamp)
         | inr c ↦
@@ -182,13 +198,15 @@ module _ {V : Type 0} where
             ]
       ]
 
-      end_at_most : (past : List (Call V)) (stamp : Stamp) (now : V) (writes : ℕ) → IsCut first limit all is past [] → IsLatest first limit all is past stamp now writes → IsAtMost stamp r.stamp
+      end_at_most : (past : List (Call V)) (stamp : Stamp) (now : V) (writes : ℕ) → IsCut first limit all is past []
+          → IsLatest first limit all is past stamp now writes → IsAtMost stamp r.stamp
       end_at_most past stamp now writes k h = elim h.from [
         | inl o ↦ subst (λ z. IsAtMost z r.stamp) (sym o.0) (first_least r.stamp)
         | inr v ↦ subst (λ z. IsAtMost z r.stamp) v.3 (above v.0 (k.in_past v.0 v.1))
       ]
 
-      pub end_same : (past : List (Call V)) (now : Posted V) (writes : ℕ) → IsCut first limit all is past [] → IsLatest first limit all is past now.stamp now.item writes → under r ≡ now
+      pub end_same : (past : List (Call V)) (now : Posted V) (writes : ℕ) → IsCut first limit all is past []
+          → IsLatest first limit all is past now.stamp now.item writes → under r ≡ now
       end_same past now writes k h =
           posted_same (under r) now
           (at_most_same r.stamp now.stamp (at_most_end past now.stamp now.item writes k h) (end_at_most past now.stamp now.item writes k h))
@@ -222,7 +240,8 @@ module _ {V : Type 0} where
       counted = omega arith;
     }
 
-    pub has_records : (r : Dated V) → IsGreatest first runs r → HasRecords (record { stamp = first_stamp; item = first.item }) (under r) order
+    pub has_records : (r : Dated V) → IsGreatest first runs r
+        → HasRecords (record { stamp = first_stamp; item = first.item }) (under r) order
     has_records r g =
         along first limit (all_of runs) (history first limit runs is) (under r)
         (end_same first limit (all_of runs) (history first limit runs is) r

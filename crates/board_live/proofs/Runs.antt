@@ -24,11 +24,14 @@ module _ {V C P G T : Type 0} {law : LawWords V} {eq : EqWords V} {cells : CellW
     pub are_calls : AreCalls board old.pass added now.pass
     pub count : length now.log.items ≡ call
 
-  pub run_none : (board : Board V C P G T law eq cells) (lane : Lane V C P G T law eq cells) → IsPass board lane.pass → RunSoFar board lane lane (length lane.log.items)
-  run_none board lane of = record { of = of; same_script = refl; added = []; is_log = append_none lane.log.items; are_calls = refl; count = refl }
+  pub run_none : (board : Board V C P G T law eq cells) (lane : Lane V C P G T law eq cells) → IsPass board lane.pass
+      → RunSoFar board lane lane (length lane.log.items)
+  run_none board lane of =
+      record { of = of; same_script = refl; added = []; is_log = append_none lane.log.items; are_calls = refl; count = refl }
 
   pub run_more : (board : Board V C P G T law eq cells) (old now new : Lane V C P G T law eq cells) (call : ℕ) → RunSoFar board old now call
-      → IsPass board new.pass → new.script ≡ now.script → (e : Entry V) → new.log.items ≡ now.log.items ++ e ∷ [] → IsEntry board now.pass e new.pass
+      → IsPass board new.pass → new.script ≡ now.script → (e : Entry V) → new.log.items ≡ now.log.items ++ e ∷ []
+      → IsEntry board now.pass e new.pass
       → RunSoFar board old new (call + 1)
   run_more board old now new call h of same e log entry = record {
     of = of;
@@ -39,6 +42,9 @@ module _ {V C P G T : Type 0} {law : LawWords V} {eq : EqWords V} {cells : CellW
     count = let n = h.count in let l = log in omega (arith, ap length log, length-append now.log.items (e ∷ []));
   }
 
-  pub run_ends : (may_stop : ℕ → ℕ → Type 0) (board : Board V C P G T law eq cells) (task : ℕ) (old now : Lane V C P G T law eq cells) (call : ℕ) → RunSoFar board old now call
+  pub run_ends : (may_stop : ℕ → ℕ → Type 0) (board : Board V C P G T law eq cells) (task : ℕ) (old now : Lane V C P G T law eq cells)
+      (call : ℕ)
+      → RunSoFar board old now call
       → (length now.log.items ≡ length now.script.items) ⊎ may_stop task (length now.log.items + 1) → Ran may_stop board task old now
-  run_ends may_stop board task old now call h w = record { of = h.of; script = h.same_script; added = h.added; log = h.is_log; calls = h.are_calls; whole = w }
+  run_ends may_stop board task old now call h w =
+      record { of = h.of; script = h.same_script; added = h.added; log = h.is_log; calls = h.are_calls; whole = w }

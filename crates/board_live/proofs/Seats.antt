@@ -3,6 +3,7 @@ use Rattle.std.proofs.Common.{◌≡◌, ◌≢◌, ℕ, ◌+◌, ◌-◌, ◌<�
 use Rattle.std.specs.Prelude.{slice_get, Some, nat_lt, if◌then◌else◌}
 use Rattle.std.proofs.lemmas.Option.{same_Some}
 use Rattle.std.proofs.lemmas.Bool.Decides.{nat_tests}
+use Rattle.board_live.specs.Deals.{others_below}
 use Rattle.board_live.specs.Lists.{Match, other, seat}
 use Rattle.board_live.proofs.Steps.{get-set_same, get-set_other, same_or_not}
 
@@ -21,8 +22,25 @@ other_within i k = grind (arith, nat_tests)
 pub seat_within : (i j n : ℕ) → i < n → j < n → (i ≡ j → ⊥) → seat i j + 1 < n
 seat_within i j n p q ne = grind (arith, nat_tests)
 
+-- how many of the others have smaller numbers
+pub none_below : (k : ℕ) → others_below k 0 ≡ 0
+none_below k = grind (arith, nat_tests)
+
+pub same_others : (w : ℕ) → others_below w (w + 1) ≡ others_below w w
+same_others w = grind (arith, nat_tests)
+
+pub more_others : (k w : ℕ) → k ≢ w → others_below k (w + 1) ≡ others_below k w + 1
+more_others k w ne = grind (arith, nat_tests)
+
+pub last_other : (k w : ℕ) → k ≢ w → others_below k (w + 1) ≡ seat k w + 1
+last_other k w ne = grind (arith, nat_tests)
+
+pub all_others : (k n : ℕ) → k < n → others_below k n + 1 ≡ n
+all_others k n lt = grind (arith, nat_tests)
+
 -- one element of a list is changed, and the others are as they were
-pub match_one : {X : Type 0} (R : X → X → Type 0) (old : List X) (i : ℕ) (h : X) → ((x : X) → R x x) → i < length old → ((x : X) → slice_get old i ≡ Some x → R x h)
+pub match_one : {X : Type 0} (R : X → X → Type 0) (old : List X) (i : ℕ) (h : X) → ((x : X) → R x x) → i < length old
+    → ((x : X) → slice_get old i ≡ Some x → R x h)
     → Match R (slice_get old) (set old i h)
 match_one R old i h same lt r = record {
   each = λ k x y p q. ⊎_elim

@@ -1,5 +1,6 @@
 -- Logs that were found sound so far: one more sound entry, and one more sound log.
-use Rattle.std.proofs.Common.{◌≡◌, ℕ, ◌+◌, ◌<◌, List, [], ◌∷◌, ◌++◌, length, map, take, get_or, refl, sym, ◌∙◌, ap, subst, arith, Bool, true, ◌⊎◌, inl, inr, ⊎_elim}
+use Rattle.std.proofs.Common.{◌≡◌, ℕ, ◌+◌, ◌<◌, List, [], ◌∷◌, ◌++◌, length, map, take, get_or, refl, sym, ◌∙◌, ap, subst, arith, Bool}
+use Rattle.std.proofs.Common.{true, ◌⊎◌, inl, inr, ⊎_elim}
 use Rattle.std.specs.Prelude.{slice_get, Some, IsTrue}
 use Rattle.std.proofs.lemmas.Option.{same_Some, slice_get_within, get_or_from_slice_get}
 use Rattle.std.proofs.lemmas.Bool.{cases_lt}
@@ -17,11 +18,17 @@ below_more : (j k : ℕ) → j < k + 1 → (j < k) ⊎ (j ≡ k)
 below_more j k l = elim (cases_lt j k) [ inl lt ↦ inl lt | inr le ↦ inr (omega arith) ]
 
 -- after an entry its stamp is the one before
-pub stamp_after : {V : Type 0} (log : List (Entry V)) (k : ℕ) (e : Entry V) → slice_get log k ≡ Some e → stamp_before log (k + 1) ≡ stamp_of e.reply
+pub stamp_after : {V : Type 0} (log : List (Entry V)) (k : ℕ) (e : Entry V) → slice_get log k ≡ Some e
+    → stamp_before log (k + 1) ≡ stamp_of e.reply
 stamp_after log k e at =
     let f : Entry _ → Stamp = λ (d : Entry _). stamp_of d.reply in
     let taken : map f (take (k + 1) log) ≡ map f (take k log) ++ f e ∷ [] =
-    rw (take_more log k e (slice_get_within log k e at), map-append f (take k log) (get_or log k e ∷ []), get_or_from_slice_get log k e e at) refl in
+    rw (
+      take_more log k e (slice_get_within log k e at),
+      map-append f (take k log) (get_or log k e ∷ []),
+      get_or_from_slice_get log k e e at,
+    )
+    refl in
     ap (last_or first_stamp) taken ∙ last_or-append first_stamp (map f (take k log)) (f e)
 
 module _ {V : Type 0} (equal : V → V → Bool) (opening : V) (logs : List (List (Entry V))) where
@@ -30,7 +37,8 @@ module _ {V : Type 0} (equal : V → V → Bool) (opening : V) (logs : List (Lis
     pub stamp : before ≡ stamp_before log place
     pub sound : SoundBefore equal opening logs log place
 
-  pub sound_more : (log : List (Entry V)) (place : ℕ) (before : Stamp) (e : Entry V) → slice_get log place ≡ Some e → IsSoundSoFar log place before
+  pub sound_more : (log : List (Entry V)) (place : ℕ) (before : Stamp) (e : Entry V) → slice_get log place ≡ Some e
+      → IsSoundSoFar log place before
       → is_sound equal opening logs before e ≡ true → IsSoundSoFar log (place + 1) (stamp_of e.reply)
   sound_more log place before e at h is = record {
     stamp = sym (stamp_after log place e at);

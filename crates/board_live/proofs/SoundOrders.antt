@@ -1,5 +1,6 @@
 -- Logs that have one order are sound: along it the register's record has its write, and its stamp never falls.
-use Rattle.std.proofs.Common.{◌≡◌, ℕ, zero, suc, ◌+◌, ◌<◌, ◌≤◌, Bool, true, false, IsTrue, IsFalse, ◌&&◌, ◌||◌, List, [], ◌∷◌, length, map, take, refl, sym, ◌∙◌, ap, subst, arith, ◌⊎◌, inl, inr}
+use Rattle.std.proofs.Common.{◌≡◌, ℕ, zero, suc, ◌+◌, ◌<◌, ◌≤◌, Bool, true, false, IsTrue, IsFalse, ◌&&◌, ◌||◌, List, [], ◌∷◌, length, map}
+use Rattle.std.proofs.Common.{take, refl, sym, ◌∙◌, ap, subst, arith, ◌⊎◌, inl, inr}
 use Rattle.std.specs.Prelude.{slice_get, Some, nat_eq, nat_lt, not, Option}
 use mathlib.Core.Bool.{cond}
 use Rattle.std.specs.List.{filter, list_any}
@@ -19,6 +20,7 @@ use Rattle.board_live.specs.LogOrders.{AreOfOne, entries_of, is_of, IsLogOrder, 
 use Rattle.board_live.specs.Logs.{is_at_most, stamp_of}
 use Rattle.board_live.specs.Origins.{has_write, is_known, is_sound, IsFirstUnsound, same_stamp, sees_known, stamp_before, wrote}
 use Rattle.board_live.proofs.LogLaws.{at_most_trans}
+use Rattle.board_live.proofs.Steps.{get_at}
 
 at_most_below : (a b : Stamp) → IsBelow a b → is_at_most a b ≡ true
 at_most_below a b h = grind (arith, nat_tests)
@@ -49,11 +51,6 @@ any_in p [] x m e = absurd m
 any_in p (y ∷ ys) x (inl f) e = first_true (p y) (list_any p ys) (ap p (sym f) ∙ e)
 any_in p (y ∷ ys) x (inr m) e = second_true (p y) (list_any p ys) (any_in p ys x m e)
 
-get_at : {X : Type 0} (xs : List X) (k : ℕ) → k < length xs → (x : X) × (slice_get xs k ≡ Some x)
-get_at [] k l = absurd (omega arith)
-get_at (x ∷ xs) zero l = (x, refl)
-get_at (x ∷ xs) (suc k) l = get_at xs k (let m : suc k < suc (length xs) = l in omega arith)
-
 in_at : {X : Type 0} (xs : List X) (k : ℕ) (x : X) → slice_get xs k ≡ Some x → IsIn x xs
 in_at [] k x h = absurd (none-some x h)
 in_at (y ∷ ys) zero x h = inl (sym (same_Some y x h))
@@ -64,23 +61,28 @@ module _ {V : Type 0} where
   here_by true n F e = inl refl
   here_by false n F e = cc
 
-  there_by : (b : Bool) (n : Noted V) (F : List (Noted V)) (e : Entry V) → IsIn e (map (λ (m : Noted V). m.entry) F) → IsIn e (map (λ (m : Noted V). m.entry) (cond b (n ∷ F) F))
+  there_by : (b : Bool) (n : Noted V) (F : List (Noted V)) (e : Entry V) → IsIn e (map (λ (m : Noted V). m.entry) F)
+      → IsIn e (map (λ (m : Noted V). m.entry) (cond b (n ∷ F) F))
   there_by true n F e m = inr m
   there_by false n F e m = m
 
   -- an entry stands among those of its task
   pub entry_in : (order : List (Noted V)) (n : Noted V) → IsIn n order → IsIn n.entry (entries_of n.task order)
   entry_in [] n m = absurd m
-  entry_in (x ∷ order) n (inl e) = subst (λ (z : Noted V). IsIn z.entry (entries_of z.task (x ∷ order))) (sym e) (here_by (is_of x.task x) x (filter (is_of x.task) order) (task_itself x.task))
+  entry_in (x ∷ order) n (inl e) =
+      subst (λ (z : Noted V). IsIn z.entry (entries_of z.task (x ∷ order))) (sym e)
+      (here_by (is_of x.task x) x (filter (is_of x.task) order) (task_itself x.task))
   entry_in (x ∷ order) n (inr m) = there_by (is_of n.task x) x (filter (is_of n.task) order) n.entry (entry_in order n m)
 
-  back_by : (b : Bool) (x : Noted V) (F : List (Noted V)) (e : Entry V) → IsIn e (map (λ (m : Noted V). m.entry) (cond b (x ∷ F) F)) → (e ≡ x.entry) ⊎ IsIn e (map (λ (m : Noted V). m.entry) F)
+  back_by : (b : Bool) (x : Noted V) (F : List (Noted V)) (e : Entry V) → IsIn e (map (λ (m : Noted V). m.entry) (cond b (x ∷ F) F))
+      → (e ≡ x.entry) ⊎ IsIn e (map (λ (m : Noted V). m.entry) F)
   back_by true x F e (inl h) = inl h
   back_by true x F e (inr h) = inr h
   back_by false x F e h = inr h
 
   -- and such an entry is one of the order
-  noted_in : (task : ℕ) (order : List (Noted V)) (e : Entry V) → IsIn e (entries_of task order) → (n : Noted V) × IsIn n order × (e ≡ n.entry)
+  noted_in : (task : ℕ) (order : List (Noted V)) (e : Entry V) → IsIn e (entries_of task order)
+      → (n : Noted V) × IsIn n order × (e ≡ n.entry)
   noted_in task [] e m = absurd m
   noted_in task (x ∷ order) e m = elim (back_by (is_of task x) x (filter (is_of task) order) e m) [
     | inl h ↦ (x, inl refl, h)
@@ -95,12 +97,16 @@ module _ {V : Type 0} where
     pub stamp : stamp_of reply ≡ held.stamp
     pub up : is_at_most now.stamp held.stamp ≡ true
 
-  next : (limit task : ℕ) (now : Posted V) (writes : ℕ) (wish : Wish V) (reply : Reply V) (rest : Posted V → ℕ → Type 0) → Takes limit task now writes wish reply rest → Next reply now rest
-  next limit task now writes (Write item) (Written s) rest h = record { held = record { stamp = s; item = item }; writes = writes + 1; goes = h.2; stamp = refl; up = at_most_below now.stamp s h.0 }
+  next : (limit task : ℕ) (now : Posted V) (writes : ℕ) (wish : Wish V) (reply : Reply V) (rest : Posted V → ℕ → Type 0)
+      → Takes limit task now writes wish reply rest → Next reply now rest
+  next limit task now writes (Write item) (Written s) rest h =
+      record { held = record { stamp = s; item = item }; writes = writes + 1; goes = h.2; stamp = refl; up = at_most_below now.stamp s h.0 }
   next limit task now writes (Write item) (Seen p) rest h = absurd h
-  next limit task now writes (Write item) (Ended p) rest h = record { held = now; writes = writes; goes = h.2; stamp = ap (λ z. z.stamp) h.0; up = at_most_self now.stamp }
+  next limit task now writes (Write item) (Ended p) rest h =
+      record { held = now; writes = writes; goes = h.2; stamp = ap (λ z. z.stamp) h.0; up = at_most_self now.stamp }
   next limit task now writes Read (Written s) rest h = absurd h
-  next limit task now writes Read (Seen p) rest h = record { held = now; writes = writes; goes = h.1; stamp = ap (λ z. z.stamp) h.0; up = at_most_self now.stamp }
+  next limit task now writes Read (Seen p) rest h =
+      record { held = now; writes = writes; goes = h.1; stamp = ap (λ z. z.stamp) h.0; up = at_most_self now.stamp }
   next limit task now writes Read (Ended p) rest h = absurd h
 
   -- stamps that never fall, from this one on
@@ -109,19 +115,23 @@ module _ {V : Type 0} where
   RiseFrom before (e ∷ es) = (is_at_most before (stamp_of e.reply) ≡ true) × RiseFrom (stamp_of e.reply) es
 
   rise_by : (b : Bool) (before : Stamp) (n : Noted V) (F : List (Noted V)) → is_at_most before (stamp_of n.entry.reply) ≡ true
-      → RiseFrom (stamp_of n.entry.reply) (map (λ (m : Noted V). m.entry) F) → RiseFrom before (map (λ (m : Noted V). m.entry) F) → RiseFrom before (map (λ (m : Noted V). m.entry) (cond b (n ∷ F) F))
+      → RiseFrom (stamp_of n.entry.reply) (map (λ (m : Noted V). m.entry) F) → RiseFrom before (map (λ (m : Noted V). m.entry) F)
+      → RiseFrom before (map (λ (m : Noted V). m.entry) (cond b (n ∷ F) F))
   rise_by true before n F u h k = (u, h)
   rise_by false before n F u h k = k
 
-  rise : (limit task : ℕ) (last : Posted V) (order : List (Noted V)) (before : Stamp) (now : Posted V) (writes : ℕ) → is_at_most before now.stamp ≡ true
+  rise : (limit task : ℕ) (last : Posted V) (order : List (Noted V)) (before : Stamp) (now : Posted V) (writes : ℕ)
+      → is_at_most before now.stamp ≡ true
       → AreOfOne limit now writes last order → RiseFrom before (entries_of task order)
   rise limit task last [] before now writes u h = tt
   rise limit task last (n ∷ order) before now writes u h =
-      let x : Next n.entry.reply now (λ p m. AreOfOne limit p m last order) = next limit n.task now writes n.entry.wish n.entry.reply (λ p m. AreOfOne limit p m last order) h in
+      let x : Next n.entry.reply now (λ p m. AreOfOne limit p m last order) =
+      next limit n.task now writes n.entry.wish n.entry.reply (λ p m. AreOfOne limit p m last order) h in
       let v : is_at_most before x.held.stamp ≡ true = at_most_trans before now.stamp x.held.stamp u x.up in
       rise_by (is_of task n) before n (filter (is_of task) order)
       (subst (λ s. is_at_most before s ≡ true) (sym x.stamp) v)
-      (rise limit task last order (stamp_of n.entry.reply) x.held x.writes (subst (λ s. is_at_most s x.held.stamp ≡ true) (sym x.stamp) (at_most_self x.held.stamp)) x.goes)
+      (rise limit task last order (stamp_of n.entry.reply) x.held x.writes
+      (subst (λ s. is_at_most s x.held.stamp ≡ true) (sym x.stamp) (at_most_self x.held.stamp)) x.goes)
       (rise limit task last order before x.held x.writes v x.goes)
 
   rising_at : (log : List (Entry V)) (before : Stamp) (j : ℕ) (e : Entry V) → RiseFrom before log → slice_get log j ≡ Some e
@@ -130,15 +140,19 @@ module _ {V : Type 0} where
   rising_at (x ∷ log) before zero e h at = subst (λ (z : Entry V). is_at_most before (stamp_of z.reply) ≡ true) (same_Some x e at) h.0
   rising_at (x ∷ log) before (suc j) e h at = rising_at log (stamp_of x.reply) j e h.1 at
 
-  module _ (equal : V → V → Bool) (itself : (x : V) → equal x x ≡ true) (opening : V) (logs : List (List (Entry V))) (limit : ℕ) (last : Posted V) (order : List (Noted V)) (is : IsLogOrder opening limit logs last order) where
-    write_by : (o : Option (List (Entry V))) (log : List (Entry V)) (p : Posted V) → o ≡ Some log → list_any (λ e. wrote equal p e.wish e.reply) log ≡ true → has_write equal p o ≡ true
+  module _ (equal : V → V → Bool) (itself : (x : V) → equal x x ≡ true) (opening : V) (logs : List (List (Entry V))) (limit : ℕ)
+      (last : Posted V) (order : List (Noted V)) (is : IsLogOrder opening limit logs last order) where
+    write_by : (o : Option (List (Entry V))) (log : List (Entry V)) (p : Posted V) → o ≡ Some log
+        → list_any (λ e. wrote equal p e.wish e.reply) log ≡ true → has_write equal p o ≡ true
     write_by o log p e h = subst (λ z. has_write equal p z ≡ true) (sym e) h
 
-    wrote_by : (item : V) (s : Stamp) (wish : Wish V) (reply : Reply V) → wish ≡ Write item → reply ≡ Written s → wrote equal (record { stamp = s; item = item }) wish reply ≡ true
+    wrote_by : (item : V) (s : Stamp) (wish : Wish V) (reply : Reply V) → wish ≡ Write item → reply ≡ Written s
+        → wrote equal (record { stamp = s; item = item }) wish reply ≡ true
     wrote_by item s wish reply e f = rw (e, f) (all_true (same_stamp s s) (equal item item) (stamp_itself s) (itself item))
 
     -- a write is known in the log of its task
-    known_write : (n : Noted V) (item : V) (s : Stamp) → IsIn n order → n.entry.wish ≡ Write item → n.entry.reply ≡ Written s → s.writer ≡ n.task → is_known equal opening logs (record { stamp = s; item = item }) ≡ true
+    known_write : (n : Noted V) (item : V) (s : Stamp) → IsIn n order → n.entry.wish ≡ Write item → n.entry.reply ≡ Written s
+        → s.writer ≡ n.task → is_known equal opening logs (record { stamp = s; item = item }) ≡ true
     known_write n item s m e f w =
         let log = get_at logs n.task (is.only n m) in
         let i : IsIn n.entry log.0 = subst (λ z. IsIn n.entry z) (is.each n.task log.0 log.1) (entry_in order n m) in
@@ -155,43 +169,64 @@ module _ {V : Type 0} where
       pub known : is_known equal opening logs held ≡ true
       pub sees : sees_known equal opening logs reply ≡ true
 
-    knows : (n : Noted V) → IsIn n order → (now : Posted V) (writes : ℕ) (wish : Wish V) (reply : Reply V) (rest : Posted V → ℕ → Type 0) → n.entry.wish ≡ wish → n.entry.reply ≡ reply
+    knows : (n : Noted V) → IsIn n order → (now : Posted V) (writes : ℕ) (wish : Wish V) (reply : Reply V) (rest : Posted V → ℕ → Type 0)
+        → n.entry.wish ≡ wish → n.entry.reply ≡ reply
         → is_known equal opening logs now ≡ true → Takes limit n.task now writes wish reply rest → Knows reply rest
-    knows n m now writes (Write item) (Written s) rest e f k h = record { held = record { stamp = s; item = item }; writes = writes + 1; goes = h.2; known = known_write n item s m e f h.1; sees = refl }
+    knows n m now writes (Write item) (Written s) rest e f k h =
+        record {
+          held = record { stamp = s; item = item };
+          writes = writes + 1;
+          goes = h.2;
+          known = known_write n item s m e f h.1;
+          sees = refl;
+        }
     knows n m now writes (Write item) (Seen p) rest e f k h = absurd h
-    knows n m now writes (Write item) (Ended p) rest e f k h = record { held = now; writes = writes; goes = h.2; known = k; sees = subst (λ z. is_known equal opening logs z ≡ true) (sym h.0) k }
+    knows n m now writes (Write item) (Ended p) rest e f k h =
+        record { held = now; writes = writes; goes = h.2; known = k; sees = subst (λ z. is_known equal opening logs z ≡ true) (sym h.0) k }
     knows n m now writes Read (Written s) rest e f k h = absurd h
-    knows n m now writes Read (Seen p) rest e f k h = record { held = now; writes = writes; goes = h.1; known = k; sees = subst (λ z. is_known equal opening logs z ≡ true) (sym h.0) k }
+    knows n m now writes Read (Seen p) rest e f k h =
+        record { held = now; writes = writes; goes = h.1; known = k; sees = subst (λ z. is_known equal opening logs z ≡ true) (sym h.0) k }
     knows n m now writes Read (Ended p) rest e f k h = absurd h
 
-    all_known : (rest : List (Noted V)) (now : Posted V) (writes : ℕ) → ((n : Noted V) → IsIn n rest → IsIn n order) → AreOfOne limit now writes last rest
+    all_known : (rest : List (Noted V)) (now : Posted V) (writes : ℕ) → ((n : Noted V) → IsIn n rest → IsIn n order)
+        → AreOfOne limit now writes last rest
         → is_known equal opening logs now ≡ true → (n : Noted V) → IsIn n rest → sees_known equal opening logs n.entry.reply ≡ true
     all_known [] now writes f h k n m = absurd m
     all_known (x ∷ rest) now writes f h k n m =
-        let w : Knows x.entry.reply (λ p j. AreOfOne limit p j last rest) = knows x (f x (inl refl)) now writes x.entry.wish x.entry.reply (λ p j. AreOfOne limit p j last rest) refl refl k h in
+        let w : Knows x.entry.reply (λ p j. AreOfOne limit p j last rest) =
+        knows x (f x (inl refl)) now writes x.entry.wish x.entry.reply (λ p j. AreOfOne limit p j last rest) refl refl k h in
         elim m [
           | inl e ↦ subst (λ (z : Noted V). sees_known equal opening logs z.entry.reply ≡ true) (sym e) w.sees
           | inr i ↦ all_known rest w.held w.writes (λ d j. f d (inr j)) w.goes w.known n i
         ]
 
     first_known : is_known equal opening logs (record { stamp = first_stamp; item = opening }) ≡ true
-    first_known = first_true (same_stamp first_stamp first_stamp && equal opening opening) (has_write equal (record { stamp = first_stamp; item = opening }) (slice_get logs 0))
+    first_known =
+        first_true (same_stamp first_stamp first_stamp && equal opening opening)
+        (has_write equal (record { stamp = first_stamp; item = opening }) (slice_get logs 0))
         (all_true (same_stamp first_stamp first_stamp) (equal opening opening) (stamp_itself first_stamp) (itself opening))
 
-    pub all_sound : (t j : ℕ) (log : List (Entry V)) (e : Entry V) → slice_get logs t ≡ Some log → slice_get log j ≡ Some e → IsTrue (is_sound equal opening logs (stamp_before log j) e)
+    pub all_sound : (t j : ℕ) (log : List (Entry V)) (e : Entry V) → slice_get logs t ≡ Some log → slice_get log j ≡ Some e
+        → IsTrue (is_sound equal opening logs (stamp_before log j) e)
     all_sound t j log e at in_log =
         let mine : entries_of t order ≡ log = is.each t log at in
         let n = noted_in t order e (subst (λ z. IsIn e z) (sym mine) (in_at log j e in_log)) in
-        let k : sees_known equal opening logs e.reply ≡ true = subst (λ (z : Entry V). sees_known equal opening logs z.reply ≡ true) (sym n.2)
+        let k : sees_known equal opening logs e.reply ≡ true =
+        subst (λ (z : Entry V). sees_known equal opening logs z.reply ≡ true) (sym n.2)
         (all_known order (record { stamp = first_stamp; item = opening }) 0 (λ d i. i) is.one first_known n.0 n.1) in
-        let r : RiseFrom first_stamp log = subst (RiseFrom first_stamp) mine (rise limit t last order first_stamp (record { stamp = first_stamp; item = opening }) 0 (at_most_self first_stamp) is.one) in
-        all_true (is_at_most (stamp_before log j) (stamp_of e.reply)) (sees_known equal opening logs e.reply) (rising_at log first_stamp j e r in_log) k
+        let r : RiseFrom first_stamp log =
+        subst (RiseFrom first_stamp) mine
+        (rise limit t last order first_stamp (record { stamp = first_stamp; item = opening }) 0 (at_most_self first_stamp) is.one) in
+        all_true (is_at_most (stamp_before log j) (stamp_of e.reply)) (sees_known equal opening logs e.reply)
+        (rising_at log first_stamp j e r in_log) k
 
   -- so no entry is the first that isn't sound
-  pub never_unsound : (equal : V → V → Bool) → ((x : V) → equal x x ≡ true) → (opening : V) (logs : List (List (Entry V))) (limit : ℕ) (last : Posted V) → LogsInOrder opening limit logs last
+  pub never_unsound : (equal : V → V → Bool) → ((x : V) → equal x x ≡ true)
+      → (opening : V) (logs : List (List (Entry V))) (limit : ℕ) (last : Posted V) → LogsInOrder opening limit logs last
       → (task place : ℕ) (log : List (Entry V)) → slice_get logs task ≡ Some log → IsFirstUnsound equal opening logs log place → ⊥
   never_unsound equal itself opening logs limit last h task place log at u =
-      not_both (is_sound equal opening logs (stamp_before log place) u.entry) (all_sound equal itself opening logs limit last h.0 h.1 task place log u.entry at u.at) u.unsound
+      not_both (is_sound equal opening logs (stamp_before log place) u.entry)
+      (all_sound equal itself opening logs limit last h.0 h.1 task place log u.entry at u.at) u.unsound
     where
       not_both : (v : Bool) → IsTrue v → IsFalse v → ⊥
       not_both true t f = cc

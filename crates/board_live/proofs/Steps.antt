@@ -1,7 +1,8 @@
 -- Lists whose elements are changed one by one.
-use Rattle.std.proofs.Common.{◌≡◌, ◌≢◌, ℕ, zero, suc, ◌+◌, ◌<◌, ◌≤◌, List, [], ◌∷◌, ◌++◌, length, set, refl, sym, ◌∙◌, ap, arith, ◌⊎◌, inl, inr, ⊎_elim}
+use Rattle.std.proofs.Common.{◌≡◌, ◌≢◌, ℕ, zero, suc, ◌+◌, ◌<◌, ◌≤◌, List, [], ◌∷◌, ◌++◌, length, set, get_or, refl, sym, ◌∙◌, ap, arith}
+use Rattle.std.proofs.Common.{◌⊎◌, inl, inr, ⊎_elim}
 use Rattle.std.specs.Prelude.{slice_get, Some, Option}
-use Rattle.std.proofs.lemmas.Option.{slice_get_within, none-some, same_Some, slice_get-get_or, get_or_from_slice_get}
+use Rattle.std.proofs.lemmas.Option.{slice_get_within, none-some, same_Some, slice_get-get_or, slice_get_read, get_or_from_slice_get}
 use Rattle.std.proofs.lemmas.List.{get_or-set_same, get_or-set_other, length-set}
 use Rattle.board_live.specs.Lists.{Match}
 
@@ -20,6 +21,12 @@ pub get-set_other : {X : Type 0} (xs : List X) (i k : ℕ) (y z : X) → k ≢ i
 get-set_other xs i k y z ne h =
     let lt : k < length xs = omega (arith, slice_get_within (set xs i y) k z h, length-set xs i y) in
     slice_get-get_or xs k z lt ∙ ap Some (sym (get_or-set_other xs i k y z ne) ∙ get_or_from_slice_get (set xs i y) k z z h)
+
+-- what is read at a place of a list of which one element was changed
+pub read_set : {X : Type 0} (xs : List X) (w : ℕ) (y : X) (j : ℕ) (x : X) → j < length xs → x ≡ get_or (set xs w y) j x
+    → slice_get (set xs w y) j ≡ Some x
+read_set xs w y j x lt e = let l : j < length (set xs w y) = omega (arith, length-set xs w y, lt) in
+    slice_get_read (set xs w y) (length (set xs w y)) j x refl l e
 
 -- the first elements were each stepped by R, and the others are as they were
 pub record Stepped {X : Type 0} (R : X → X → Type 0) (old : List X) (i : ℕ) (now : List X) : Type 0 where
@@ -40,7 +47,8 @@ stepped_more R old i now inv g h lt at_g r = record {
 }
 
 -- after all elements
-pub stepped_all : {X : Type 0} (R : X → X → Type 0) (old : List X) (i : ℕ) (now : List X) → Stepped R old i now → length old ≤ i → Match R (slice_get old) now
+pub stepped_all : {X : Type 0} (R : X → X → Type 0) (old : List X) (i : ℕ) (now : List X) → Stepped R old i now → length old ≤ i
+    → Match R (slice_get old) now
 stepped_all R old i now inv le = record { each = λ k x y p q. inv.done k x y (omega (arith, slice_get_within old k x p)) p q }
 
 -- a relation with what stands at each place, kept by an element that keeps it
@@ -54,8 +62,15 @@ match_set R at now i h m lt r = record {
 }
 
 -- an element of a list with one more is one of the list, or the one
-pub get_last : {X : Type 0} (a : List X) (z : X) (n : ℕ) (x : X) → slice_get (a ++ z ∷ []) n ≡ Some x → (slice_get a n ≡ Some x) ⊎ ((n ≡ length a) × (x ≡ z))
+pub get_last : {X : Type 0} (a : List X) (z : X) (n : ℕ) (x : X) → slice_get (a ++ z ∷ []) n ≡ Some x
+    → (slice_get a n ≡ Some x) ⊎ ((n ≡ length a) × (x ≡ z))
 get_last [] z zero x h = inr (refl, sym (same_Some z x h))
 get_last [] z (suc n) x h = absurd (none-some x h)
 get_last (y ∷ a) z zero x h = inl h
 get_last (y ∷ a) z (suc n) x h = ⊎_elim (λ p. inl p) (λ q. inr (ap suc q.0, q.1)) (get_last a z n x h)
+
+-- there is an element
+pub get_at : {X : Type 0} (xs : List X) (k : ℕ) → k < length xs → (x : X) × (slice_get xs k ≡ Some x)
+get_at [] k l = absurd (omega arith)
+get_at (x ∷ xs) zero l = (x, refl)
+get_at (x ∷ xs) (suc k) l = get_at xs k (let m : suc k < suc (length xs) = l in omega arith)

@@ -1,5 +1,6 @@
 -- From an order of calls to an order of the logs that tell of them: each call takes the next entry of its process's log.
-use Rattle.std.proofs.Common.{◌≡◌, ◌≢◌, ℕ, zero, suc, ◌+◌, ◌<◌, ◌≤◌, Bool, true, false, List, [], ◌∷◌, length, map, refl, sym, ◌∙◌, ap, subst, arith, ◌⊎◌, inl, inr}
+use Rattle.std.proofs.Common.{◌≡◌, ◌≢◌, ℕ, zero, suc, ◌+◌, ◌<◌, ◌≤◌, Bool, true, false, List, [], ◌∷◌, length, map, refl, sym, ◌∙◌, ap}
+use Rattle.std.proofs.Common.{subst, arith, ◌⊎◌, inl, inr}
 use Rattle.std.specs.Prelude.{slice_get, Some, nat_eq, if◌then◌else◌}
 use mathlib.Core.Bool.{cond}
 use Rattle.std.specs.List.{filter}
@@ -81,11 +82,13 @@ module _ {V : Type 0} where
     pub told : AreTold noted order
     pub each : (p : ℕ) → entries_of p noted ≡ logs p
 
-  left_by : (b : Bool) (c : Call V) (F : List (Call V)) (es ls : List (Entry V)) → (b ≡ true → AreNoted es F) → AreNoted ls (cond b (c ∷ F) F) → AreNoted (if b then es else ls) F
+  left_by : (b : Bool) (c : Call V) (F : List (Call V)) (es ls : List (Entry V)) → (b ≡ true → AreNoted es F)
+      → AreNoted ls (cond b (c ∷ F) F) → AreNoted (if b then es else ls) F
   left_by true c F es ls f h = f refl
   left_by false c F es ls f h = h
 
-  each_by : (b : Bool) (n : Noted V) (F : List (Noted V)) (es ls : List (Entry V)) → map (λ (m : Noted V). m.entry) F ≡ (if b then es else ls) → (b ≡ true → n.entry ∷ es ≡ ls)
+  each_by : (b : Bool) (n : Noted V) (F : List (Noted V)) (es ls : List (Entry V))
+      → map (λ (m : Noted V). m.entry) F ≡ (if b then es else ls) → (b ≡ true → n.entry ∷ es ≡ ls)
       → map (λ (m : Noted V). m.entry) (cond b (n ∷ F) F) ≡ ls
   each_by true n F es ls e f = ap (λ z. n.entry ∷ z) e ∙ f refl
   each_by false n F es ls e f = e
@@ -94,40 +97,48 @@ module _ {V : Type 0} where
   here true c F ls e h = h
   here false c F ls e h = cc
 
-  pub weave : (order : List (Call V)) (logs : ℕ → List (Entry V)) → ((p : ℕ) → AreNoted (logs p) (filter (is_by p) order)) → Woven logs order
+  pub weave : (order : List (Call V)) (logs : ℕ → List (Entry V)) → ((p : ℕ) → AreNoted (logs p) (filter (is_by p) order))
+      → Woven logs order
   weave [] logs h = record { noted = []; told = tt; each = λ p. noted_none (logs p) (h p) }
   weave (c ∷ cs) logs h =
       let F : ℕ → List (Call V) = λ p. filter (is_by p) cs in
-      let f : First (logs c.who) c (F c.who) = first_of (logs c.who) c (F c.who) (here (nat_eq c.who c.who) c (F c.who) (logs c.who) (same_is c.who c.who refl) (h c.who)) in
+      let f : First (logs c.who) c (F c.who) =
+      first_of (logs c.who) c (F c.who) (here (nat_eq c.who c.who) c (F c.who) (logs c.who) (same_is c.who c.who refl) (h c.who)) in
       let w : Woven (without logs c.who f.rest) cs = weave cs (without logs c.who f.rest) (λ p.
-      left_by (nat_eq c.who p) c (F p) f.rest (logs p) (λ e. subst (λ q. AreNoted f.rest (filter (is_by q) cs)) (is_that c.who p e) f.noted) (h p)) in
+      left_by (nat_eq c.who p) c (F p) f.rest (logs p)
+      (λ e. subst (λ q. AreNoted f.rest (filter (is_by q) cs)) (is_that c.who p e) f.noted) (h p)) in
       let n : Noted V = record { task = c.who; entry = f.entry } in
       record {
         noted = n ∷ w.noted;
         told = (refl, f.notes, w.told);
-        each = λ p. each_by (nat_eq c.who p) n (filter (is_of p) w.noted) f.rest (logs p) (w.each p) (λ e. sym f.is ∙ ap logs (is_that c.who p e));
+        each = λ p. each_by (nat_eq c.who p) n (filter (is_of p) w.noted) f.rest (logs p) (w.each p)
+            (λ e. sym f.is ∙ ap logs (is_that c.who p e));
       }
 
   -- one entry
   one_step : (limit task : ℕ) (wish : Wish V) (reply : Reply V) (who : ℕ) (kind : Kind) (p now : Posted V) (writes : ℕ)
       (calls : V → ℕ → Type 0) (records : Posted V → Type 0) (rest : Posted V → ℕ → Type 0) → task ≡ who → Notes wish reply kind p
-      → Answers limit now.item writes kind p.item calls → Keeps who kind now p records → ((q : Posted V) (m : ℕ) → calls q.item m → records q → rest q m)
+      → Answers limit now.item writes kind p.item calls → Keeps who kind now p records
+      → ((q : Posted V) (m : ℕ) → calls q.item m → records q → rest q m)
       → Takes limit task now writes wish reply rest
   one_step limit task (Writes item) (Written s) who Write p now writes calls records rest t n a k go =
-      subst (λ (z : Posted V). IsBelow now.stamp z.stamp × (z.stamp.writer ≡ task) × rest z (writes + 1)) n.1 (k.0, k.1 ∙ sym t, go p (writes + 1) a k.2)
+      subst (λ (z : Posted V). IsBelow now.stamp z.stamp × (z.stamp.writer ≡ task) × rest z (writes + 1)) n.1
+      (k.0, k.1 ∙ sym t, go p (writes + 1) a k.2)
   one_step limit task (Writes item) (Written s) who Read p now writes calls records rest t n a k go = let e : Read ≡ Write = n.0 in cc
   one_step limit task (Writes item) (Written s) who Refused p now writes calls records rest t n a k go = let e : Refused ≡ Write = n.0 in cc
   one_step limit task (Writes item) (Seen q) who kind p now writes calls records rest t n a k go = absurd n
   one_step limit task (Writes item) (Ended q) who Write p now writes calls records rest t n a k go = let e : Write ≡ Refused = n.0 in cc
   one_step limit task (Writes item) (Ended q) who Read p now writes calls records rest t n a k go = let e : Read ≡ Refused = n.0 in cc
-  one_step limit task (Writes item) (Ended q) who Refused p now writes calls records rest t n a k go = (sym n.1 ∙ k.0, a.1, go now writes a.2 k.1)
+  one_step limit task (Writes item) (Ended q) who Refused p now writes calls records rest t n a k go =
+      (sym n.1 ∙ k.0, a.1, go now writes a.2 k.1)
   one_step limit task Reads (Written s) who kind p now writes calls records rest t n a k go = absurd n
   one_step limit task Reads (Seen q) who Write p now writes calls records rest t n a k go = let e : Write ≡ Read = n.0 in cc
   one_step limit task Reads (Seen q) who Read p now writes calls records rest t n a k go = (sym n.1 ∙ k.0, go now writes a.1 k.1)
   one_step limit task Reads (Seen q) who Refused p now writes calls records rest t n a k go = let e : Refused ≡ Read = n.0 in cc
   one_step limit task Reads (Ended q) who kind p now writes calls records rest t n a k go = absurd n
 
-  pub told_one : (limit : ℕ) (order : List (Call V)) (noted : List (Noted V)) (now : Posted V) (writes : ℕ) (last : Posted V) → AreTold noted order
+  pub told_one : (limit : ℕ) (order : List (Call V)) (noted : List (Noted V)) (now : Posted V) (writes : ℕ) (last : Posted V)
+      → AreTold noted order
       → CallsOfOne limit now.item writes order → HasRecords now last order → AreOfOne limit now writes last noted
   told_one limit [] [] now writes last h a k = k
   told_one limit (c ∷ cs) [] now writes last h a k = absurd h
@@ -138,7 +149,8 @@ module _ {V : Type 0} where
       (λ p m b j. told_one limit cs ns p m last h.2 b j)
 
   -- each entry of the order tells of a call
-  pub told_by : (noted : List (Noted V)) (order : List (Call V)) (n : Noted V) → AreTold noted order → IsIn n noted → (c : Call V) × IsIn c order × (n.task ≡ c.who)
+  pub told_by : (noted : List (Noted V)) (order : List (Call V)) (n : Noted V) → AreTold noted order → IsIn n noted
+      → (c : Call V) × IsIn c order × (n.task ≡ c.who)
   told_by [] order n h m = absurd m
   told_by (x ∷ noted) [] n h m = absurd h
   told_by (x ∷ noted) (c ∷ order) n h (inl e) = (c, inl refl, ap (λ (z : Noted V). z.task) e ∙ h.0)

@@ -1,6 +1,7 @@
 -- What lanes did with fresh passes is what was done with the passes of the board, and their logs tell of the calls; so the order of
 -- all calls gives one of the logs.
-use Rattle.std.proofs.Common.{◌≡◌, ℕ, zero, suc, ◌+◌, ◌<◌, ◌≤◌, List, [], ◌∷◌, ◌++◌, length, map, append_assoc, refl, sym, ◌∙◌, ap, subst, arith, Bool, true, false, ◌⊎◌, inl, inr, Global}
+use Rattle.std.proofs.Common.{◌≡◌, ℕ, zero, suc, ◌+◌, ◌<◌, ◌≤◌, List, [], ◌∷◌, ◌++◌, length, map, append_assoc, refl, sym, ◌∙◌, ap, subst}
+use Rattle.std.proofs.Common.{arith, Bool, true, false, ◌⊎◌, inl, inr, Global}
 use Rattle.std.specs.Prelude.{slice_get, Some, nat_eq, Vec}
 use mathlib.Core.Bool.{cond}
 use Rattle.std.specs.List.{filter}
@@ -34,7 +35,9 @@ use Rattle.board_live.specs.Ran.{call_of, called, dated, HasRecords, HaveOneOrde
 use Rattle.board_live.specs.Rising.{posted}
 use Rattle.board_live.specs.Tasks.{AreCalls, IsEntry, Replies}
 use Rattle.board_live.specs.Worked.{HasWorked, HaveWorked, logs_of}
-use Rattle.board_live.proofs.Weaving.{AreNoted, AreTold, log_at, log_at-is, log_at-none, noted_length, Notes, told_by, told_one, weave, Woven}
+use Rattle.board_live.proofs.Steps.{get_at}
+use Rattle.board_live.proofs.Weaving.{AreNoted, AreTold, log_at, log_at-is, log_at-none, noted_length, Notes, told_by, told_one, weave}
+use Rattle.board_live.proofs.Weaving.{Woven}
 
 -- an element for each, by what is known of it
 pub record Chosen {A B : Type 0} (R : ℕ → A → B → Type 0) (xs : List A) : Type 0 where
@@ -42,7 +45,8 @@ pub record Chosen {A B : Type 0} (R : ℕ → A → B → Type 0) (xs : List A) 
   pub same : length chosen ≡ length xs
   pub each : (k : ℕ) (x : A) (y : B) → slice_get xs k ≡ Some x → slice_get chosen k ≡ Some y → R k x y
 
-choose : {A B : Type 0} (R : ℕ → A → B → Type 0) (xs : List A) → ((k : ℕ) (x : A) → slice_get xs k ≡ Some x → (y : B) × R k x y) → Chosen R xs
+choose : {A B : Type 0} (R : ℕ → A → B → Type 0) (xs : List A) → ((k : ℕ) (x : A) → slice_get xs k ≡ Some x → (y : B) × R k x y)
+    → Chosen R xs
 choose R [] h = record { chosen = []; same = refl; each = λ k x y a b. absurd (none-some x a) }
 choose {A} {B} R (x ∷ xs) h =
     let one = h 0 x refl in
@@ -58,12 +62,8 @@ choose {A} {B} R (x ∷ xs) h =
     go y0 r ys f zero z y a b = subst (λ v. R 0 v y) (same_Some x z a) (subst (λ v. R 0 x v) (same_Some y0 y b) r)
     go y0 r ys f (suc k) z y a b = f k z y a b
 
-get_at : {X : Type 0} (xs : List X) (k : ℕ) → k < length xs → (x : X) × (slice_get xs k ≡ Some x)
-get_at [] k l = absurd (omega arith)
-get_at (x ∷ xs) zero l = (x, refl)
-get_at (x ∷ xs) (suc k) l = get_at xs k (let m : suc k < suc (length xs) = l in omega arith)
-
-pub at_mapped : {X Y : Type 0} (f : X → Y) (xs : List X) (k : ℕ) (y : Y) → slice_get (map f xs) k ≡ Some y → (x : X) × (slice_get xs k ≡ Some x) × (f x ≡ y)
+pub at_mapped : {X Y : Type 0} (f : X → Y) (xs : List X) (k : ℕ) (y : Y) → slice_get (map f xs) k ≡ Some y
+    → (x : X) × (slice_get xs k ≡ Some x) × (f x ≡ y)
 at_mapped f [] k y h = absurd (none-some y h)
 at_mapped f (x ∷ xs) zero y h = (x, refl, same_Some (f x) y h)
 at_mapped f (x ∷ xs) (suc k) y h = at_mapped f xs k y h
@@ -116,7 +116,8 @@ module _ {V : Type 0} where
     pub chooses : IsChosen limit who kind (dated seen) (dated chosen)
     pub notes : Notes wish reply kind (posted chosen)
 
-  says : (limit who : ℕ) (wish : Wish V) (reply : Reply V) (seen chosen : Clocked V) → Replies limit who wish seen chosen reply → Says limit who wish reply seen chosen
+  says : (limit who : ℕ) (wish : Wish V) (reply : Reply V) (seen chosen : Clocked V) → Replies limit who wish seen chosen reply
+      → Says limit who wish reply seen chosen
   says limit who Reads reply seen chosen h = record {
     kind = Read;
     chooses = (same_stamp chosen (posted seen) h.1, same_item chosen (posted seen) h.1);
@@ -136,24 +137,29 @@ module _ {V : Type 0} where
 
 module _ {V C P G T : Type 0} {law : LawWords V} {eq : EqWords V} {cells : CellWords C (Clocked V) P G T} where
   -- with what was learnt named otherwise
-  named_on : (board : Board V C P G T law eq cells) (N M : Dated V → Type 0) (old : Pass V C P G T law eq cells) (cs : List (Call V)) (q : Pass V C P G T law eq cells)
+  named_on : (board : Board V C P G T law eq cells) (N M : Dated V → Type 0) (old : Pass V C P G T law eq cells) (cs : List (Call V))
+      (q : Pass V C P G T law eq cells)
       → ((r : Dated V) → N r → M r) → Ran board N old cs q → Ran board M old cs q
   named_on board N M old _ _ f nothing = nothing
   named_on board N M old _ _ f (called cs p q kind r m) = called cs p q kind (named_on board N M old cs p f r) m
   named_on board N M old _ _ f (tells cs p q to receipt r o t) = tells cs p q to receipt (named_on board N M old cs p f r) o t
-  named_on board N M old _ _ f (learns cs p q receipt r o is to t n) = learns cs p q receipt (named_on board N M old cs p f r) o is to t (f (dated receipt.item) n)
+  named_on board N M old _ _ f (learns cs p q receipt r o is to t n) =
+      learns cs p q receipt (named_on board N M old cs p f r) o is to t (f (dated receipt.item) n)
 
   -- the logs, as vectors or as lists
-  pub items_of : (lanes : List (Lane V C P G T law eq cells)) → map (λ (v : Vec (Entry V) Global). v.items) (map (λ (l : Lane V C P G T law eq cells). l.log) lanes) ≡ logs_of lanes
+  pub items_of : (lanes : List (Lane V C P G T law eq cells))
+      → map (λ (v : Vec (Entry V) Global). v.items) (map (λ (l : Lane V C P G T law eq cells). l.log) lanes) ≡ logs_of lanes
   items_of [] = refl
   items_of (l ∷ lanes) = ap (λ z. l.log.items ∷ z) (items_of lanes)
 
-  pub record RunOn (board : Board V C P G T law eq cells) (old : Pass V C P G T law eq cells) (before : List (Call V)) (es : List (Entry V)) (new : Pass V C P G T law eq cells) : Type 0 where
+  pub record RunOn (board : Board V C P G T law eq cells) (old : Pass V C P G T law eq cells) (before : List (Call V))
+      (es : List (Entry V)) (new : Pass V C P G T law eq cells) : Type 0 where
     pub calls : List (Call V)
     pub ran : Ran board Unlearnt old (before ++ calls) new
     pub noted : AreNoted es calls
 
-  run_on : (board : Board V C P G T law eq cells) (old : Pass V C P G T law eq cells) (before : List (Call V)) (mid : Pass V C P G T law eq cells) (es : List (Entry V)) (new : Pass V C P G T law eq cells)
+  run_on : (board : Board V C P G T law eq cells) (old : Pass V C P G T law eq cells) (before : List (Call V))
+      (mid : Pass V C P G T law eq cells) (es : List (Entry V)) (new : Pass V C P G T law eq cells)
       → Ran board Unlearnt old before mid → AreCalls board mid es new → RunOn board old before es new
   run_on board old before mid [] new r h = record {
     calls = [];
@@ -163,9 +169,12 @@ module _ {V C P G T : Type 0} {law : LawWords V} {eq : EqWords V} {cells : CellW
   run_on board old before mid (e ∷ es) new r h =
       let p : Pass V C P G T law eq cells = h.0 in
       let entry : IsEntry board mid e p = h.1 in
-      let s : Says board.limit mid.process e.wish e.reply (seen_by mid p) p.own = says board.limit mid.process e.wish e.reply (seen_by mid p) p.own entry.replies in
+      let s : Says board.limit mid.process e.wish e.reply (seen_by mid p) p.own =
+      says board.limit mid.process e.wish e.reply (seen_by mid p) p.own entry.replies in
       let c : Call V = call_of s.kind mid p in
-      let w : RunOn board old (before ++ c ∷ []) es new = run_on board old (before ++ c ∷ []) p es new (called before mid p s.kind r (record { of = entry.of; call = entry.call; chosen = s.chooses })) h.2 in
+      let w : RunOn board old (before ++ c ∷ []) es new =
+      run_on board old (before ++ c ∷ []) p es new
+      (called before mid p s.kind r (record { of = entry.of; call = entry.call; chosen = s.chooses })) h.2 in
       record {
         calls = c ∷ w.calls;
         ran = subst (λ z. Ran board Unlearnt old z new) (append_assoc before (c ∷ []) w.calls) w.ran;
@@ -173,7 +182,8 @@ module _ {V C P G T : Type 0} {law : LawWords V} {eq : EqWords V} {cells : CellW
       }
 
   -- the pass is still of the board, and of its process
-  still : (board : Board V C P G T law eq cells) (es : List (Entry V)) (old new : Pass V C P G T law eq cells) → IsPass board old → AreCalls board old es new → IsPass board new × (new.process ≡ old.process)
+  still : (board : Board V C P G T law eq cells) (es : List (Entry V)) (old new : Pass V C P G T law eq cells) → IsPass board old
+      → AreCalls board old es new → IsPass board new × (new.process ≡ old.process)
   still board [] old new of h = (subst (IsPass board) h of, sym (ap (λ (z : Pass V C P G T law eq cells). z.process) h))
   still board (e ∷ es) old new of h =
       let entry : IsEntry board old e h.0 = h.1 in
@@ -191,7 +201,8 @@ module _ {V C P G T : Type 0} {law : LawWords V} {eq : EqWords V} {cells : CellW
       processes = λ k p at.
           let w = at_mapped (λ (l : Lane V C P G T law eq cells). l.pass) lanes k p at in
           let h : HasWorked board k w.0 = work.each k w.0 w.1 in
-          ap (λ (z : Pass V C P G T law eq cells). z.process) (sym w.2) ∙ ((still board w.0.log.items h.old w.0.pass h.fresh.of h.calls).1 ∙ h.fresh.process);
+          ap (λ (z : Pass V C P G T law eq cells). z.process) (sym w.2)
+          ∙ ((still board w.0.log.items h.old w.0.pass h.fresh.of h.calls).1 ∙ h.fresh.process);
       of = λ k p at.
           let w = at_mapped (λ (l : Lane V C P G T law eq cells). l.pass) lanes k p at in
           let h : HasWorked board k w.0 = work.each k w.0 w.1 in
@@ -200,7 +211,8 @@ module _ {V C P G T : Type 0} {law : LawWords V} {eq : EqWords V} {cells : CellW
 
     -- the calls of a lane
     abbrev pub RunOf : ℕ → Lane V C P G T law eq cells → List (Call V) → Type 0
-    RunOf k lane cs = (old : Pass V C P G T law eq cells) × IsFresh board k old × Ran board Unlearnt old cs lane.pass × AreNoted lane.log.items cs
+    RunOf k lane cs =
+        (old : Pass V C P G T law eq cells) × IsFresh board k old × Ran board Unlearnt old cs lane.pass × AreNoted lane.log.items cs
 
     pub chosen_runs : Chosen RunOf lanes
     chosen_runs = choose RunOf lanes (λ k lane at.
@@ -212,7 +224,9 @@ module _ {V C P G T : Type 0} {law : LawWords V} {eq : EqWords V} {cells : CellW
     runs = chosen_runs.chosen
 
     same_count : (ls : List (Lane V C P G T law eq cells)) (rs : List (List (Call V))) → length rs ≡ length ls
-        → ((k : ℕ) (l : Lane V C P G T law eq cells) (cs : List (Call V)) → slice_get ls k ≡ Some l → slice_get rs k ≡ Some cs → length cs ≡ length l.log.items) → calls_in rs ≡ entries_in (logs_of ls)
+        → ((k : ℕ) (l : Lane V C P G T law eq cells) (cs : List (Call V)) → slice_get ls k ≡ Some l → slice_get rs k ≡ Some cs
+        → length cs ≡ length l.log.items)
+        → calls_in rs ≡ entries_in (logs_of ls)
     same_count [] [] e h = refl
     same_count [] (r ∷ rs) e h = absurd (omega (arith, e))
     same_count (l ∷ ls) [] e h = absurd (omega (arith, e))
@@ -227,10 +241,15 @@ module _ {V C P G T : Type 0} {law : LawWords V} {eq : EqWords V} {cells : CellW
       all = chosen_runs.same ∙ sym (mapped_length (λ (l : Lane V C P G T law eq cells). l.pass) lanes);
       each = λ k cs p at_cs at.
           let w = at_mapped (λ (l : Lane V C P G T law eq cells). l.pass) lanes k p at in
-          let r = chosen_runs.each k w.0 cs w.1 at_cs in
-          (r.0, r.1, subst (λ z. Ran board (IsPosted (dated board.first) runs) r.0 cs z) w.2 (named_on board Unlearnt (IsPosted (dated board.first) runs) r.0 cs w.0.pass (λ z n. absurd n) r.2));
+          let r = chosen_runs.each k w.0 cs w.1 at_cs in (
+            r.0,
+            r.1,
+            subst (λ z. Ran board (IsPosted (dated board.first) runs) r.0 cs z) w.2
+                (named_on board Unlearnt (IsPosted (dated board.first) runs) r.0 cs w.0.pass (λ z n. absurd n) r.2),
+          );
       few =
-          let n : calls_in runs ≡ entries_in (logs_of lanes) = same_count lanes runs chosen_runs.same (λ k l cs a b. noted_length l.log.items cs (chosen_runs.each k l cs a b).3) in
+          let n : calls_in runs ≡ entries_in (logs_of lanes) =
+          same_count lanes runs chosen_runs.same (λ k l cs a b. noted_length l.log.items cs (chosen_runs.each k l cs a b).3) in
           let f : entries_in (logs_of lanes) < 18446744073709551615 = work.few in
           omega arith;
     }
@@ -255,19 +274,22 @@ module _ {V C P G T : Type 0} {law : LawWords V} {eq : EqWords V} {cells : CellW
             let cs = get_at runs p (omega arith) in
             let l = get_at lanes p lt in
             let r = chosen_runs.each p l.0 cs.0 l.1 cs.1 in
-            let at : log_at (logs_of lanes) p ≡ l.0.log.items = log_at-is (logs_of lanes) p l.0.log.items (mapped_at (λ (z : Lane V C P G T law eq cells). z.log.items) lanes p l.0 l.1) in
+            let at : log_at (logs_of lanes) p ≡ l.0.log.items =
+            log_at-is (logs_of lanes) p l.0.log.items (mapped_at (λ (z : Lane V C P G T law eq cells). z.log.items) lanes p l.0 l.1) in
             subst (λ z. AreNoted z (filter (is_by p) order)) (sym at) (subst (AreNoted l.0.log.items) (sym (is.each p cs.0 cs.1)) r.3)
         | inr ge ↦
             let n : length (logs_of lanes) ≡ length lanes = mapped_length (λ (z : Lane V C P G T law eq cells). z.log.items) lanes in
             let a : log_at (logs_of lanes) p ≡ [] = log_at-none (logs_of lanes) p (omega arith) in
-            let b : filter (is_by p) order ≡ [] = filter_none (is_by p) order (λ c m. not_by c p (let l : c.who < length lanes = owned c m in λ (e : c.who ≡ p). omega arith)) in
+            let b : filter (is_by p) order ≡ [] =
+            filter_none (is_by p) order (λ c m. not_by c p (let l : c.who < length lanes = owned c m in λ (e : c.who ≡ p). omega arith)) in
             subst (λ z. AreNoted z (filter (is_by p) order)) (sym a) (subst (AreNoted []) (sym b) tt)
       ]
 
       woven : Woven (log_at (logs_of lanes)) order
       woven = weave order (log_at (logs_of lanes)) noted_at
 
-      pub logs_in_order : (last : Posted V) → HasRecords (posted board.first) last order → board.first.stamp ≡ record { tag = 0; writer = 0 } → LogsInOrder board.first.item board.limit (logs_of lanes) last
+      pub logs_in_order : (last : Posted V) → HasRecords (posted board.first) last order
+          → board.first.stamp ≡ record { tag = 0; writer = 0 } → LogsInOrder board.first.item board.limit (logs_of lanes) last
       logs_in_order last h opens = (
         woven.noted,
         record {
@@ -278,7 +300,8 @@ module _ {V C P G T : Type 0} {law : LawWords V} {eq : EqWords V} {cells : CellW
               let e : n.task ≡ c.0.who = c.2 in
               let k : length (logs_of lanes) ≡ length lanes = mapped_length (λ (z : Lane V C P G T law eq cells). z.log.items) lanes in
               omega arith;
-          one = told_one board.limit order woven.noted (record { stamp = record { tag = 0; writer = 0 }; item = board.first.item }) 0 last woven.told is.one
+          one = told_one board.limit order woven.noted
+              (record { stamp = record { tag = 0; writer = 0 }; item = board.first.item }) 0 last woven.told is.one
               (subst (λ s. HasRecords (record { stamp = s; item = board.first.item }) last order) opens h);
         },
       )

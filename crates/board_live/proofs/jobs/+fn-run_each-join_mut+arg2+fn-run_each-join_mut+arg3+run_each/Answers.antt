@@ -11,4 +11,5 @@ returns g t c =
     let front : EachStep (g.J.Job.ran c.args.job.now) c.args.first a c.front-1.given.0 = search rules in
     let back : EachStep (g.J.Job.ran c.args.job.now) second b c.back-1.given.0 = search rules in
     let halves : second ≡ c.args.first + length a = search rules in
-    rw c.split_at_mut-front.ensures.value (steps_both (g.J.Job.ran c.args.job.now) c.args.first second a c.front-1.given.0 b c.back-1.given.0 halves front back)
+    rw c.split_at_mut-front.ensures.value
+    (steps_both (g.J.Job.ran c.args.job.now) c.args.first second a c.front-1.given.0 b c.back-1.given.0 halves front back)

@@ -14,10 +14,12 @@ loop-task-preserved g c =
     let logged = g.L.HasLog.logged in
     let logs = map logged c.args.logs.now in
     let lane : slice_get c.args.logs.now c.loop-task.task ≡ Some c.index-logs-task.result =
-    slice_get_read c.args.logs.now (length c.args.logs.now) c.loop-task.task c.index-logs-task.result refl (omega arith) c.index-logs-task.is in
+    slice_get_read c.args.logs.now (length c.args.logs.now) c.loop-task.task c.index-logs-task.result refl
+    (omega arith) c.index-logs-task.is in
     let at : slice_get logs c.loop-task.task ≡ Some (logged c.index-logs-task.result) =
     slice_get-map logged c.args.logs.now c.loop-task.task ∙ ap (option_map logged) lane in
-    let sound : SoundBefore g.V.PartialEq.eq c.args.opening logs (logged c.index-logs-task.result) (length (logged c.index-logs-task.result)) =
+    let sound : SoundBefore g.V.PartialEq.eq c.args.opening logs (logged c.index-logs-task.result)
+    (length (logged c.index-logs-task.result)) =
     subst (λ z. SoundBefore g.V.PartialEq.eq c.args.opening logs z (length z)) c.entries.ensures c.in_default.ensures.none in
     tasks_more g.V.PartialEq.eq c.args.opening logs c.loop-task.task (logged c.index-logs-task.result) at c.loop-task.invariant sound
 
@@ -34,9 +36,11 @@ returns-in-Some-clause-ordered g c limit last h =
     let logged = g.L.HasLog.logged in
     let logs = map logged c.args.logs.now in
     let lane : slice_get c.args.logs.now c.loop-task.task ≡ Some c.index-logs-task.result =
-    slice_get_read c.args.logs.now (length c.args.logs.now) c.loop-task.task c.index-logs-task.result refl (omega arith) c.index-logs-task.is in
+    slice_get_read c.args.logs.now (length c.args.logs.now) c.loop-task.task c.index-logs-task.result refl
+    (omega arith) c.index-logs-task.is in
     let at : slice_get logs c.loop-task.task ≡ Some (logged c.index-logs-task.result) =
     slice_get-map logged c.args.logs.now c.loop-task.task ∙ ap (option_map logged) lane in
     let unsound : IsFirstUnsound equal c.args.opening logs (logged c.index-logs-task.result) c.in-Some.place =
     subst (λ z. IsFirstUnsound equal c.args.opening logs z c.in-Some.place) c.entries.ensures c.in-Some.ensures.first in
-    absurd (never_unsound equal g.met.V.Eq.laws.refl c.args.opening logs limit last h c.loop-task.task c.in-Some.place (logged c.index-logs-task.result) at unsound)
+    absurd (never_unsound equal g.met.V.Eq.laws.refl c.args.opening logs limit last h c.loop-task.task c.in-Some.place
+    (logged c.index-logs-task.result) at unsound)

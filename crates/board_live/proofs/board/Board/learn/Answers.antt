@@ -15,15 +15,24 @@ module _ (g : _) (c : After-index_mut g) where
   at_cell : cell_of c.args.self.now.rows.items c.args.receipt.from c.args.pass.now.process ≡ Some c.cell-from_cell.result.now
   at_cell = rw c.deref.ensures.value at c.cell-from_cell.ensures
 
-  place : cell_of c.args.self.now.rows.items (other c.args.pass.now.process c.seat.result) c.args.pass.now.process ≡ Some c.cell-from_cell.result.now
+  place : cell_of c.args.self.now.rows.items (other c.args.pass.now.process c.seat.result) c.args.pass.now.process
+      ≡ Some c.cell-from_cell.result.now
   place =
-      let o : other c.args.pass.now.process (seat c.args.pass.now.process c.args.receipt.from) ≡ c.args.receipt.from = other_seat c.args.pass.now.process c.args.receipt.from apart in
+      let o : other c.args.pass.now.process (seat c.args.pass.now.process c.args.receipt.from) ≡ c.args.receipt.from =
+      other_seat c.args.pass.now.process c.args.receipt.from apart in
       rw (c.seat.ensures, o) at_cell
 
   within : c.seat.result < length c.args.pass.now.gets.items
   within =
       let len : vec_len c.args.pass.now.gets ≡ length c.args.pass.now.gets.items = search rules in
-      omega (arith, c.seat.ensures, len, seat_within c.args.pass.now.process c.args.receipt.from (length c.args.self.now.rows.items) c.requires.pass.inside c.requires.receipt.inside apart, c.requires.pass.all_gets)
+      omega (
+        arith,
+        c.seat.ensures,
+        len,
+        seat_within c.args.pass.now.process c.args.receipt.from
+            (length c.args.self.now.rows.items) c.requires.pass.inside c.requires.receipt.inside apart,
+        c.requires.pass.all_gets,
+      )
 
   found : slice_get c.args.pass.now.gets.items c.seat.result ≡ Some c.index_mut.result.now
   found = slice_get_read c.args.pass.now.gets.items _ c.seat.result _ refl within c.index_mut.ensures.value
@@ -43,7 +52,9 @@ returns-clause-pass g c =
       all_puts = c.requires.pass.all_puts;
       all_gets = c.requires.pass.all_gets;
       row = c.requires.pass.row;
-      column = match_set (Hears g.C.Calls c.args.self.now.first) (λ k. cell_of c.args.self.now.rows.items (other c.args.pass.now.process k) c.args.pass.now.process) c.args.pass.now.gets.items c.seat.result c.learn.new.get
+      column = match_set (Hears g.C.Calls c.args.self.now.first)
+          (λ k. cell_of c.args.self.now.rows.items (other c.args.pass.now.process k) c.args.pass.now.process) c.args.pass.now.gets.items
+          c.seat.result c.learn.new.get
           c.requires.pass.column (within g b)
           (λ d p. let e : d ≡ c.cell-from_cell.result.now = same_Some d c.cell-from_cell.result.now (sym p ∙ place g b) in
           rw e (record { of = c.learn.ensures.own; opened = h.opened }));
@@ -60,10 +71,12 @@ returns-clause-learnt g c =
       heard = c.later-pass.ensures;
       puts = refl;
       answers = match_one (λ p q. g.C.Calls.answers q ≡ g.C.Calls.answers p) gets c.seat.result c.learn.new.get (λ x. refl) (within g b)
-          (λ x p. let e : x ≡ c.index_mut.result.now = same_Some x c.index_mut.result.now (sym p ∙ found g b) in rw e c.learn.ensures.same.0);
+          (λ x p. let e : x ≡ c.index_mut.result.now = same_Some x c.index_mut.result.now (sym p ∙ found g b) in
+          rw e c.learn.ensures.same.0);
       told = λ p q at_p at_q.
           let p' : slice_get gets c.seat.result ≡ Some p = subst (λ i. slice_get gets i ≡ Some p) (sym n) at_p in
-          let q' : slice_get (set gets c.seat.result c.learn.new.get) c.seat.result ≡ Some q = subst (λ i. slice_get (set gets c.seat.result c.learn.new.get) i ≡ Some q) (sym n) at_q in
+          let q' : slice_get (set gets c.seat.result c.learn.new.get) c.seat.result ≡ Some q =
+          subst (λ i. slice_get (set gets c.seat.result c.learn.new.get) i ≡ Some q) (sym n) at_q in
           let ep : p ≡ c.index_mut.result.now = same_Some p c.index_mut.result.now (sym p' ∙ found g b) in
           let eq : q ≡ c.learn.new.get = get-set_same gets c.seat.result c.learn.new.get q q' (within g b) in
           rw (ep, eq) (c.learn.ensures.told ∙ ap (λ t. g.C.Calls.told c.index_mut.result.now ++ t ∷ []) c.requires.receipt.names);

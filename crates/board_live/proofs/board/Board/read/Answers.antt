@@ -11,7 +11,8 @@ pub row-requires-clause-passes : goal.row-requires-clause-passes
 row-requires-clause-passes g c = rw c.deref-2.ensures.value c.requires.row
 
 pub row-requires-clause-rises : goal.row-requires-clause-rises
-row-requires-clause-rises g c = rw c.at-chosen.ensures (rises_at c.args.pass.now.own c.column-top.result.0 c.tick.result c.column-top.ensures.rises)
+row-requires-clause-rises g c =
+    rw c.at-chosen.ensures (rises_at c.args.pass.now.own c.column-top.result.0 c.tick.result c.column-top.ensures.rises)
 
 pub row-requires-clause-lawful : goal.row-requires-clause-lawful
 row-requires-clause-lawful g c = rw c.at-chosen.ensures c.column-top.ensures.lawful
@@ -32,7 +33,8 @@ returns-clause-call g c = record {
   is_seen = refl;
   rows = c.row.ensures.written;
   rises = rw c.column-top.ensures.seen at c.column-top.ensures.rises;
-  onward = rw (c.at-chosen.ensures, ← c.column-top.ensures.seen) (rises_at c.column-top.result.0 c.column-top.result.0 c.tick.result (rises_itself c.column-top.result.0));
+  onward = rw (c.at-chosen.ensures, ← c.column-top.ensures.seen)
+      (rises_at c.column-top.result.0 c.column-top.result.0 c.tick.result (rises_itself c.column-top.result.0));
   heeds = rw c.column-top.ensures.seen at c.column-top.ensures.heeds;
   ticks = ap (λ z. z.clock) c.at-chosen.ensures ∙ (c.tick.ensures ∙ ap next_clock c.column-top.ensures.clock);
   heard = refl;

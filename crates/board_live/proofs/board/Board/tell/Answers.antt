@@ -14,16 +14,25 @@ module _ (g : _) (c : After-index_mut g) where
   apart : c.args.pass.now.process ≡ c.args.to → ⊥
   apart e = c.requires.other (sym e)
 
-  place : cell_of c.args.self.now.rows.items c.args.pass.now.process (other c.args.pass.now.process c.seat.result) ≡ Some c.cell-to_cell.result.now
+  place : cell_of c.args.self.now.rows.items c.args.pass.now.process (other c.args.pass.now.process c.seat.result)
+      ≡ Some c.cell-to_cell.result.now
   place =
-      let o : other c.args.pass.now.process (seat c.args.pass.now.process c.args.to) ≡ c.args.to = other_seat c.args.pass.now.process c.args.to apart in
-      let at_c : cell_of c.args.self.now.rows.items c.args.pass.now.process c.args.to ≡ Some c.cell-to_cell.result.now = rw c.deref.ensures.value at c.cell-to_cell.ensures in
+      let o : other c.args.pass.now.process (seat c.args.pass.now.process c.args.to) ≡ c.args.to =
+      other_seat c.args.pass.now.process c.args.to apart in
+      let at_c : cell_of c.args.self.now.rows.items c.args.pass.now.process c.args.to ≡ Some c.cell-to_cell.result.now =
+      rw c.deref.ensures.value at c.cell-to_cell.ensures in
       rw (c.seat.ensures, o) at_c
 
   within : c.seat.result < length c.args.pass.now.puts.items
   within =
       let len : vec_len c.args.pass.now.puts ≡ length c.args.pass.now.puts.items = search rules in
-      omega (arith, c.seat.ensures, len, seat_within c.args.pass.now.process c.args.to (length c.args.self.now.rows.items) c.requires.pass.inside c.requires.to apart, c.requires.pass.all_puts)
+      omega (
+        arith,
+        c.seat.ensures,
+        len,
+        seat_within c.args.pass.now.process c.args.to (length c.args.self.now.rows.items) c.requires.pass.inside c.requires.to apart,
+        c.requires.pass.all_puts,
+      )
 
   found : slice_get c.args.pass.now.puts.items c.seat.result ≡ Some c.index_mut.result.now
   found = slice_get_read c.args.pass.now.puts.items _ c.seat.result _ refl within c.index_mut.ensures.value
@@ -42,9 +51,12 @@ returns-clause-pass g c =
       inside = c.requires.pass.inside;
       all_puts = c.requires.pass.all_puts;
       all_gets = c.requires.pass.all_gets;
-      row = match_set (Stands g.C.Calls c.args.self.now.first c.args.pass.now.own) (λ k. cell_of c.args.self.now.rows.items c.args.pass.now.process (other c.args.pass.now.process k)) puts c.seat.result c.tell-told.new.put
+      row = match_set (Stands g.C.Calls c.args.self.now.first c.args.pass.now.own)
+          (λ k. cell_of c.args.self.now.rows.items c.args.pass.now.process (other c.args.pass.now.process k)) puts c.seat.result
+          c.tell-told.new.put
           c.requires.pass.row (within g (goal.at.returns-clause-pass g c).After-index_mut)
-          (λ d p. let e : d ≡ c.cell-to_cell.result.now = same_Some d c.cell-to_cell.result.now (sym p ∙ place g (goal.at.returns-clause-pass g c).After-index_mut) in
+          (λ d p. let e : d ≡ c.cell-to_cell.result.now =
+          same_Some d c.cell-to_cell.result.now (sym p ∙ place g (goal.at.returns-clause-pass g c).After-index_mut) in
           rw e (record { of = c.tell-told.ensures.own.0; opened = h.opened; last = rw c.tell-told.ensures.same.0 h.last }));
       column = c.requires.pass.column;
     }
@@ -58,8 +70,11 @@ returns-clause-told g c = record {
   own = refl;
   heard = refl;
   gets = refl;
-  written = match_one (λ p q. g.C.Calls.written q ≡ g.C.Calls.written p) c.args.pass.now.puts.items c.seat.result c.tell-told.new.put (λ x. refl) (within g (goal.at.returns-clause-told g c).After-index_mut)
-      (λ x p. let e : x ≡ c.index_mut.result.now = same_Some x c.index_mut.result.now (sym p ∙ found g (goal.at.returns-clause-told g c).After-index_mut) in rw e c.tell-told.ensures.same.0);
+  written = match_one (λ p q. g.C.Calls.written q ≡ g.C.Calls.written p) c.args.pass.now.puts.items c.seat.result c.tell-told.new.put
+      (λ x. refl) (within g (goal.at.returns-clause-told g c).After-index_mut)
+      (λ x p. let e : x ≡ c.index_mut.result.now =
+      same_Some x c.index_mut.result.now (sym p ∙ found g (goal.at.returns-clause-told g c).After-index_mut) in
+      rw e c.tell-told.ensures.same.0);
 }
 
 pub returns-clause-receipt : goal.returns-clause-receipt
@@ -70,5 +85,7 @@ returns-clause-receipt g c =
       inside = c.requires.pass.inside;
       apart = apart g b;
       names = c.tell-told.ensures.named ∙ ap (λ o. last_or o (g.C.Calls.written c.index_mut.result.now)) h.opened ∙ h.last;
-      of = λ d p. let e : d ≡ c.cell-to_cell.result.now = same_Some d c.cell-to_cell.result.now (sym p ∙ (rw c.deref.ensures.value at c.cell-to_cell.ensures)) in rw e c.tell-told.ensures.own.1;
+      of = λ d p. let e : d ≡ c.cell-to_cell.result.now =
+          same_Some d c.cell-to_cell.result.now (sym p ∙ (rw c.deref.ensures.value at c.cell-to_cell.ensures)) in
+          rw e c.tell-told.ensures.own.1;
     }

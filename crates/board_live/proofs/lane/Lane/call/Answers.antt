@@ -12,6 +12,9 @@ invariant_of-self-clause-kept g c =
     let lt : length log < length script = c.requires.more in
     let at : slice_get script (length log) ≡ Some c.index-wish.result.now =
     let n : c.len.result ≡ length log = search rules in
-    subst (λ i. slice_get script i ≡ Some c.index-wish.result.now) n (slice_get_read script _ c.len.result _ refl (omega (arith, n, lt)) c.index-wish.ensures) in
-    rw c.push_reserved.ensures.items (log_called c.args.board.now script log c.args.self.now.pass c.answer-reply.new.pass (entry c.index-wish.result.now c.answer-reply.result)
+    subst (λ i. slice_get script i ≡ Some c.index-wish.result.now) n
+    (slice_get_read script _ c.len.result _ refl (omega (arith, n, lt)) c.index-wish.ensures) in
+    rw c.push_reserved.ensures.items
+    (log_called c.args.board.now script log c.args.self.now.pass c.answer-reply.new.pass
+    (entry c.index-wish.result.now c.answer-reply.result)
     c.args.self.now.kept at c.answer-reply.ensures.entry)
