@@ -1,5 +1,6 @@
 -- What a board promises of its calls (this project's own).
-use Rattle.std.specs.Prelude.{◌≡◌, Bool, IsTrue, ℕ, ◌+◌, ◌<◌, ◌≤◌, List, [], ◌∷◌, ◌++◌, length, map, slice_get, Some, Vec, vec_len, Result, Ok, Err, All}
+use Rattle.std.specs.Prelude.{◌≡◌, Bool, IsTrue, ℕ, ◌+◌, ◌<◌, ◌≤◌, List, [], ◌∷◌, ◌++◌, length, map, slice_get, Some, Vec, vec_len, Result}
+use Rattle.std.specs.Prelude.{Ok, Err, All}
 use Rattle.std.specs.declared.cmp.PartialEq.{Ghosts as EqWords}
 use Rattle.matrix_core.specs.Choices.{IsAtMost}
 use Rattle.matrix_core.specs.declared.stamp.Stamp.{Stamp}
@@ -83,5 +84,6 @@ module _ {V : Type 0} where
   -- what a write chooses, and answers: below the limit its item with the next stamp, else what was seen
   abbrev pub Chooses : ℕ → ℕ → V → Clocked V → Clocked V → Result Stamp (TagsEnded V) → Type 0
   Chooses limit process item seen chosen (Ok s) =
-      (seen.stamp.tag < limit) × (s ≡ record { tag = seen.stamp.tag + 1; writer = process }) × (posted chosen ≡ record { stamp = s; item = item })
+      (seen.stamp.tag < limit) × (s ≡ record { tag = seen.stamp.tag + 1; writer = process })
+      × (posted chosen ≡ record { stamp = s; item = item })
   Chooses limit process item seen chosen (Err e) = (limit ≤ seen.stamp.tag) × (e.seen ≡ posted seen) × (posted chosen ≡ posted seen)

@@ -15,8 +15,10 @@ module _ {V C P G T : Type 0} {law : LawWords V} {eq : EqWords V} {cells : CellW
     pub small : length row < 64
     pub room : length row + 1 ≡ length passes
     pub puts : (p : Pass V C P G T law eq cells) → slice_get passes writer ≡ Some p → length p.puts.items ≡ length row
-    pub gets : (k : ℕ) (q : Pass V C P G T law eq cells) → k < length row → slice_get passes (other writer k) ≡ Some q → length q.gets.items ≡ seat (other writer k) writer + 1
-    pub each : (k : ℕ) (c : C) (p q : Pass V C P G T law eq cells) (put : P) (get : G) → slice_get row k ≡ Some c → slice_get passes writer ≡ Some p → slice_get passes (other writer k) ≡ Some q
+    pub gets : (k : ℕ) (q : Pass V C P G T law eq cells) → k < length row → slice_get passes (other writer k) ≡ Some q
+        → length q.gets.items ≡ seat (other writer k) writer + 1
+    pub each : (k : ℕ) (c : C) (p q : Pass V C P G T law eq cells) (put : P) (get : G) → slice_get row k ≡ Some c
+        → slice_get passes writer ≡ Some p → slice_get passes (other writer k) ≡ Some q
         → slice_get p.puts.items k ≡ Some put → slice_get q.gets.items (seat (other writer k) writer) ≡ Some get
         → (cells.opening c ≡ first) × cells.is_put c put × cells.is_get c get
 
@@ -27,4 +29,5 @@ module _ {V C P G T : Type 0} {law : LawWords V} {eq : EqWords V} {cells : CellW
     pub of_writer : (p q : Pass V C P G T law eq cells) → slice_get old writer ≡ Some p → slice_get new writer ≡ Some q → q.gets ≡ p.gets
     pub of_reader : (k : ℕ) (p q : Pass V C P G T law eq cells) → k ≢ writer → slice_get old k ≡ Some p → slice_get new k ≡ Some q
         → (q.puts ≡ p.puts) × ((get : G) × (p.gets.items ≡ q.gets.items ++ get ∷ [])
-        × ((w : Pass V C P G T law eq cells) (put : P) → slice_get old writer ≡ Some w → slice_get w.puts.items (seat writer k) ≡ Some put → Settled (first ∷ cells.written put) (cells.answers get)))
+        × ((w : Pass V C P G T law eq cells) (put : P) → slice_get old writer ≡ Some w → slice_get w.puts.items (seat writer k) ≡ Some put
+        → Settled (first ∷ cells.written put) (cells.answers get)))

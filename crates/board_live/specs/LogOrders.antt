@@ -27,7 +27,8 @@ module _ {V : Type 0} where
   -- greater stamp that names its task; a read has the record that is there; a write is refused only after as many writes as the
   -- limit, and has that record
   abbrev pub Takes : ℕ → ℕ → Posted V → ℕ → Wish V → Reply V → (Posted V → ℕ → Type 0) → Type 0
-  Takes limit task now writes (Write item) (Written s) rest = IsBelow now.stamp s × (s.writer ≡ task) × rest (record { stamp = s; item = item }) (writes + 1)
+  Takes limit task now writes (Write item) (Written s) rest =
+      IsBelow now.stamp s × (s.writer ≡ task) × rest (record { stamp = s; item = item }) (writes + 1)
   Takes limit task now writes (Write item) (Seen p) rest = ⊥
   Takes limit task now writes (Write item) (Ended p) rest = (p ≡ now) × (limit ≤ writes) × rest now writes
   Takes limit task now writes Read (Written s) rest = ⊥

@@ -30,5 +30,6 @@ is_at_most a b = not (is_below b a)
 pub record IsLog {V : Type 0} (script : List (Wish V)) (log : List (Entry V)) (own : Stamp) : Type 0 where
   pub wishes : map (λ e. e.wish) log ≡ take (length log) script
   pub within : length log ≤ length script
-  pub rising : (j k : ℕ) (e f : Entry V) → j < k → slice_get log j ≡ Some e → slice_get log k ≡ Some f → is_at_most (stamp_of e.reply) (stamp_of f.reply) ≡ true
+  pub rising : (j k : ℕ) (e f : Entry V) → j < k → slice_get log j ≡ Some e → slice_get log k ≡ Some f
+      → is_at_most (stamp_of e.reply) (stamp_of f.reply) ≡ true
   pub below : (j : ℕ) (e : Entry V) → slice_get log j ≡ Some e → is_at_most (stamp_of e.reply) own ≡ true

@@ -1,5 +1,6 @@
 -- Where the records of logs come from (this project's own). `equal` is the test by which a type compares its records.
-use Rattle.std.specs.Prelude.{◌≡◌, Bool, true, false, IsTrue, IsFalse, ◌&&◌, ◌||◌, nat_eq, ℕ, ◌+◌, ◌<◌, List, Option, Some, None, slice_get, map, take}
+use Rattle.std.specs.Prelude.{◌≡◌, Bool, true, false, IsTrue, IsFalse, ◌&&◌, ◌||◌, nat_eq, ℕ, ◌+◌, ◌<◌, List, Option, Some, None, slice_get}
+use Rattle.std.specs.Prelude.{map, take}
 use Rattle.std.specs.List.{list_any}
 use Rattle.history_core.specs.declared.play.Wish.{Wish}
 use Rattle.history_core.specs.declared.play.Wish.TheVariants.{Write, Read}
@@ -55,7 +56,8 @@ module _ {V : Type 0} (equal : V → V → Bool) where
 
     -- all entries of the logs of the tasks before this one are sound
     abbrev pub TasksSoundBefore : ℕ → Type 0
-    TasksSoundBefore task = (t j : ℕ) (log : List (Entry V)) (e : Entry V) → t < task → slice_get logs t ≡ Some log → slice_get log j ≡ Some e
+    TasksSoundBefore task =
+        (t j : ℕ) (log : List (Entry V)) (e : Entry V) → t < task → slice_get logs t ≡ Some log → slice_get log j ≡ Some e
         → IsTrue (is_sound (stamp_before log j) e)
 
     -- the first unsound entry of a log

@@ -63,11 +63,16 @@ module _ {V C P G T : Type 0} {law : LawWords V} {eq : EqWords V} {cells : CellW
     pub chosen : IsChosen board.limit old.process kind (dated (seen_by old new)) (dated new.own)
 
   -- what was done with a pass, step by step, and the calls among it. Each receipt that it learnt names such a record
-  pub data Ran (board : Board V C P G T law eq cells) (Named : Dated V → Type 0) (old : Pass V C P G T law eq cells) : List (Call V) → Pass V C P G T law eq cells → Type 0 where
+  pub data Ran (board : Board V C P G T law eq cells) (Named : Dated V → Type 0) (old : Pass V C P G T law eq cells) : List (Call V)
+      → Pass V C P G T law eq cells → Type 0 where
     nothing : Ran board Named old [] old
-    called : (cs : List (Call V)) (p q : Pass V C P G T law eq cells) (kind : Kind) → Ran board Named old cs p → MakesCall board kind p q → Ran board Named old (cs ++ call_of kind p q ∷ []) q
-    tells : (cs : List (Call V)) (p q : Pass V C P G T law eq cells) (to : ℕ) (receipt : Receipt V C P G T) → Ran board Named old cs p → IsPass board q → HasTold p to q receipt → Ran board Named old cs q
-    learns : (cs : List (Call V)) (p q : Pass V C P G T law eq cells) (receipt : Receipt V C P G T) → Ran board Named old cs p → IsPass board q → IsReceipt board receipt → receipt.to ≡ p.process → HasLearnt p receipt q → Named (dated receipt.item) → Ran board Named old cs q
+    called : (cs : List (Call V)) (p q : Pass V C P G T law eq cells) (kind : Kind) → Ran board Named old cs p → MakesCall board kind p q
+        → Ran board Named old (cs ++ call_of kind p q ∷ []) q
+    tells : (cs : List (Call V)) (p q : Pass V C P G T law eq cells) (to : ℕ) (receipt : Receipt V C P G T) → Ran board Named old cs p
+        → IsPass board q → HasTold p to q receipt → Ran board Named old cs q
+    learns : (cs : List (Call V)) (p q : Pass V C P G T law eq cells) (receipt : Receipt V C P G T) → Ran board Named old cs p
+        → IsPass board q → IsReceipt board receipt → receipt.to ≡ p.process → HasLearnt p receipt q → Named (dated receipt.item)
+        → Ran board Named old cs q
 
   -- a pass with which nothing was done yet
   pub record IsFresh (board : Board V C P G T law eq cells) (who : ℕ) (pass : Pass V C P G T law eq cells) : Type 0 where
@@ -80,7 +85,8 @@ module _ {V C P G T : Type 0} {law : LawWords V} {eq : EqWords V} {cells : CellW
 
   -- the calls that were made with each pass since the board was made, fewer than 2^64 - 1 in all. Each receipt that was learnt names
   -- the opening, or what one of these calls chose
-  pub record HaveRun (board : Board V C P G T law eq cells) (passes : List (Pass V C P G T law eq cells)) (runs : List (List (Call V))) : Type 0 where
+  pub record HaveRun (board : Board V C P G T law eq cells) (passes : List (Pass V C P G T law eq cells))
+      (runs : List (List (Call V))) : Type 0 where
     pub all : length runs ≡ length passes
     pub each : (k : ℕ) (cs : List (Call V)) (p : Pass V C P G T law eq cells) → slice_get runs k ≡ Some cs → slice_get passes k ≡ Some p
         → (old : Pass V C P G T law eq cells) × IsFresh board k old × Ran board (IsPosted (dated board.first) runs) old cs p
@@ -90,4 +96,5 @@ module _ {V C P G T : Type 0} {law : LawWords V} {eq : EqWords V} {cells : CellW
   -- and by records with their stamps
   abbrev pub HaveOneOrder : Board V C P G T law eq cells → List (Pass V C P G T law eq cells) → Posted V → Type 0
   HaveOneOrder board passes last = (runs : List (List (Call V))) → HaveRun board passes runs
-      → (order : List (Call V)) × IsOneOrder (dated board.first) board.limit runs order × (latest board.first.item order ≡ last.item) × HasRecords (posted board.first) last order
+      → (order : List (Call V)) × IsOneOrder (dated board.first) board.limit runs order × (latest board.first.item order ≡ last.item)
+      × HasRecords (posted board.first) last order

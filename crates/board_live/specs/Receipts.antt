@@ -19,7 +19,8 @@ module _ {V C P G T : Type 0} {law : LawWords V} {eq : EqWords V} {cells : CellW
     pub of : (c : C) → cell_of board.rows.items receipt.from receipt.to ≡ Some c → cells.is_told c receipt.told
 
   -- the receipt names the sender's own record; all else is as before
-  pub record HasTold (old : Pass V C P G T law eq cells) (to : ℕ) (new : Pass V C P G T law eq cells) (receipt : Receipt V C P G T) : Type 0 where
+  pub record HasTold (old : Pass V C P G T law eq cells) (to : ℕ) (new : Pass V C P G T law eq cells)
+      (receipt : Receipt V C P G T) : Type 0 where
     pub names : receipt.item ≡ old.own
     pub from : receipt.from ≡ old.process
     pub to_one : receipt.to ≡ to
@@ -36,6 +37,8 @@ module _ {V C P G T : Type 0} {law : LawWords V} {eq : EqWords V} {cells : CellW
     pub heard : new.heard ≡ later old.heard receipt.item.clock
     pub puts : new.puts ≡ old.puts
     pub answers : Match (λ p q. cells.answers q ≡ cells.answers p) (slice_get old.gets.items) new.gets.items
-    pub told : (p q : G) → slice_get old.gets.items (seat old.process receipt.from) ≡ Some p → slice_get new.gets.items (seat old.process receipt.from) ≡ Some q
+    pub told : (p q : G) → slice_get old.gets.items (seat old.process receipt.from) ≡ Some p
+        → slice_get new.gets.items (seat old.process receipt.from) ≡ Some q
         → cells.told q ≡ cells.told p ++ receipt.item ∷ []
-    pub others : (k : ℕ) (q : G) → k ≢ seat old.process receipt.from → slice_get new.gets.items k ≡ Some q → slice_get old.gets.items k ≡ Some q
+    pub others : (k : ℕ) (q : G) → k ≢ seat old.process receipt.from → slice_get new.gets.items k ≡ Some q
+        → slice_get old.gets.items k ≡ Some q

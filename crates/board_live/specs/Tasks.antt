@@ -23,13 +23,15 @@ entry wish reply = record { wish = wish; reply = reply }
 abbrev pub Replies : {V : Type 0} → ℕ → ℕ → Wish V → Clocked V → Clocked V → Reply V → Type 0
 Replies limit process Read seen chosen reply = (reply ≡ Seen (posted seen)) × (posted chosen ≡ posted seen)
 Replies limit process (Write item) seen chosen (Written s) =
-    (seen.stamp.tag < limit) × (s ≡ record { tag = seen.stamp.tag + 1; writer = process }) × (posted chosen ≡ record { stamp = s; item = item })
+    (seen.stamp.tag < limit) × (s ≡ record { tag = seen.stamp.tag + 1; writer = process })
+    × (posted chosen ≡ record { stamp = s; item = item })
 Replies limit process (Write item) seen chosen (Seen p) = ⊥
 Replies limit process (Write item) seen chosen (Ended p) = (limit ≤ seen.stamp.tag) × (p ≡ posted seen) × (posted chosen ≡ posted seen)
 
 module _ {V C P G T : Type 0} {law : LawWords V} {eq : EqWords V} {cells : CellWords C (Clocked V) P G T} where
   -- an entry of a log is one board call, after which the pass is still of the board
-  pub record IsEntry (board : Board V C P G T law eq cells) (old : Pass V C P G T law eq cells) (entry : Entry V) (new : Pass V C P G T law eq cells) : Type 0 where
+  pub record IsEntry (board : Board V C P G T law eq cells) (old : Pass V C P G T law eq cells) (entry : Entry V)
+      (new : Pass V C P G T law eq cells) : Type 0 where
     pub of : IsPass board new
     pub call : IsBoardCall board.first old new (seen_by old new)
     pub replies : Replies board.limit old.process entry.wish (seen_by old new) new.own entry.reply
@@ -40,7 +42,8 @@ module _ {V C P G T : Type 0} {law : LawWords V} {eq : EqWords V} {cells : CellW
   AreCalls board old (e ∷ es) new = (p : Pass V C P G T law eq cells) × IsEntry board old e p × AreCalls board p es new
 
   -- the log has the entries of the board calls that were made; the whole script was done, or the task may stop before the next call
-  pub record Ran (may_stop : ℕ → ℕ → Type 0) (board : Board V C P G T law eq cells) (task : ℕ) (old new : Lane V C P G T law eq cells) : Type 0 where
+  pub record Ran (may_stop : ℕ → ℕ → Type 0) (board : Board V C P G T law eq cells) (task : ℕ)
+      (old new : Lane V C P G T law eq cells) : Type 0 where
     pub of : IsPass board new.pass
     pub script : new.script ≡ old.script
     pub added : List (Entry V)

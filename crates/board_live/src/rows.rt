@@ -102,7 +102,8 @@ pub(crate) fn row<V: RecordLaw, C: Calls<Clocked<V>>>(
     requires rises { Rises own item.now }
     requires lawful { IsTrue (V.obeys item.now.item) }
     ensures all { vec_len puts.new ≡ vec_len puts.old }
-    ensures passes { Match (Stands ⟦<C as Calls<Clocked<V>>>⟧ first item.now) (λ k. cell_of rows.now process (other process k)) puts.new.items }
+    ensures passes { Match (Stands ⟦<C as Calls<Clocked<V>>>⟧ first item.now)
+        (λ k. cell_of rows.now process (other process k)) puts.new.items }
     ensures written { Match (Posts ⟦<C as Calls<Clocked<V>>>⟧ item.now) (slice_get puts.old.items) puts.new.items }
 {
     for k in 0..puts.len() {

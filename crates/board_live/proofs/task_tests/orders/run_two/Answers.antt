@@ -11,21 +11,27 @@ use Rattle.board_live.proofs.task_tests.orders.run_two.Goals as goal
 
 pub run_tasks-requires-after_bounds : goal.run_tasks-requires-after_bounds
 run_tasks-requires-after_bounds g c κs within =
-    rw c.as_mut_slice.ensures.value (all_ready c.in-Ok.board c.in-Ok.passes.items _ c.in_ok-lanes.lanes.items c.in-Ok.ensures.passes_of c.in_ok-lanes.ensures)
+    rw c.as_mut_slice.ensures.value
+    (all_ready c.in-Ok.board c.in-Ok.passes.items _ c.in_ok-lanes.lanes.items c.in-Ok.ensures.passes_of c.in_ok-lanes.ensures)
 
 pub finish_lanes-requires : goal.finish_lanes-requires
 finish_lanes-requires g c =
     let n : c.in_ok-lanes.lanes.len ≡ length c.in_ok-lanes.lanes.items = search rules in
-    let whole = changed_whole c.in_ok-lanes.lanes.len c.in_ok-lanes.lanes.items c.as_mut_slice.result.now c.run_tasks.new.lanes _ n c.as_mut_slice.ensures.value c.run_tasks.ensures.lengths refl in
+    let whole = changed_whole c.in_ok-lanes.lanes.len c.in_ok-lanes.lanes.items c.as_mut_slice.result.now c.run_tasks.new.lanes _ n
+    c.as_mut_slice.ensures.value c.run_tasks.ensures.lengths refl in
     let few : wishes_in c.new.result < 18446744073709551615 =
     rw (c.new.ensures, c.in_ok-push-2.ensures.items, c.in_ok-push.ensures.items, c.in_ok-scripts.ensures.items)
     (omega (arith, c.in_ok-script.ensures.count, c.in_ok-script-2.ensures.count, c.requires.few)) in
     subst (HaveWorked c.in-Ok.board) (sym whole)
-    (have_worked _ 2 c.args.limit c.args.opening c.in-Ok.board c.in-Ok.passes.items c.new.result c.as_mut_slice.result.now c.run_tasks.new.lanes
-    c.in-Ok.ensures (subst (λ z. AreLanes c.in-Ok.passes.items c.new.result z) (sym c.as_mut_slice.ensures.value) c.in_ok-lanes.ensures) c.run_tasks.ensures few)
+    (have_worked _ 2 c.args.limit c.args.opening c.in-Ok.board c.in-Ok.passes.items c.new.result c.as_mut_slice.result.now
+    c.run_tasks.new.lanes
+    c.in-Ok.ensures
+    (subst (λ z. AreLanes c.in-Ok.passes.items c.new.result z) (sym c.as_mut_slice.ensures.value) c.in_ok-lanes.ensures)
+    c.run_tasks.ensures few)
 
 pub returns-clause-sound : goal.returns-clause-sound
 returns-clause-sound g c =
     c.check_origin-origin.ensures.ordered c.args.limit c.in_ok-logs.last
     (moved_order _ c.args.opening _ c.args.limit _ _ c.in_ok-logs.last (ap (λ z. z.item) c.in-Ok.ensures.opened) c.in-Ok.ensures.limited
-    (sym c.in_ok-logs.ensures.logs ∙ ap (map (λ (v : Vec (Entry Band) Global). v.items)) (sym c.as_slice.ensures.value)) c.in_ok-logs.ensures.ordered)
+    (sym c.in_ok-logs.ensures.logs ∙ ap (map (λ (v : Vec (Entry Band) Global). v.items)) (sym c.as_slice.ensures.value))
+    c.in_ok-logs.ensures.ordered)

@@ -1,44 +1,25 @@
-use Rattle.std.proofs.Common.{arith, refl, sym, ap, ◌∙◌, ◌≡◌, ◌<◌, length, set}
-use Rattle.std.specs.Prelude.{slice_get, Some, vec_len}
-use Rattle.std.proofs.lemmas.Option.{slice_get_read}
-use Rattle.std.proofs.lemmas.List.{length-set}
-use Rattle.board_live.specs.Boards.{IsPass}
-use Rattle.board_live.specs.Deals.{AllPasses}
-use Rattle.board_live.proofs.Passing.{all_set}
+use Rattle.std.proofs.Common.{arith, sym, ◌∙◌}
+use Rattle.board_live.proofs.Passing.{stood, used}
 use Rattle.board_live.proofs.tests.Team.drop_receipt.Goals as goal
 
 pub tell-receipt-requires-clause-pass : goal.tell-receipt-requires-clause-pass
 tell-receipt-requires-clause-pass g c =
-    let len : vec_len c.args.self.now.passes ≡ length c.args.self.now.passes.items = c.args.self.now.passes.ok.0 in
-    let lt : c.args.from < length c.args.self.now.passes.items = omega (arith, c.if-from-len.false, c.len.ensures, len) in
-    let at : slice_get c.args.self.now.passes.items c.args.from ≡ Some c.index_mut.result.now = slice_get_read c.args.self.now.passes.items _ c.args.from _ refl lt c.index_mut.ensures.value in
-    let lt_to : c.args.to < length c.args.self.now.passes.items = omega (arith, c.if-to-len.false, c.len-2.ensures, len) in
-    let apart : c.args.to ≡ c.index_mut.result.now.process → ⊥ = λ e. c.if-to-from.false (e ∙ c.requires.processes c.args.from c.index_mut.result.now at) in
-    c.requires.of c.args.from c.index_mut.result.now at
+    c.requires.of c.args.from c.index_mut.result.now
+    (stood c.args.self.now.passes.items _ c.args.from c.index_mut.result.now (sym c.args.self.now.passes.ok.0)
+    (omega (arith, c.if-from-len.false, c.len.ensures)) c.index_mut.ensures.value)
 
 pub tell-receipt-requires-clause-to : goal.tell-receipt-requires-clause-to
 tell-receipt-requires-clause-to g c =
-    let len : vec_len c.args.self.now.passes ≡ length c.args.self.now.passes.items = c.args.self.now.passes.ok.0 in
-    let lt : c.args.from < length c.args.self.now.passes.items = omega (arith, c.if-from-len.false, c.len.ensures, len) in
-    let at : slice_get c.args.self.now.passes.items c.args.from ≡ Some c.index_mut.result.now = slice_get_read c.args.self.now.passes.items _ c.args.from _ refl lt c.index_mut.ensures.value in
-    let lt_to : c.args.to < length c.args.self.now.passes.items = omega (arith, c.if-to-len.false, c.len-2.ensures, len) in
-    let apart : c.args.to ≡ c.index_mut.result.now.process → ⊥ = λ e. c.if-to-from.false (e ∙ c.requires.processes c.args.from c.index_mut.result.now at) in
-    omega (arith, lt_to, c.requires.all)
+    omega (arith, c.if-to-len.false, c.len-2.ensures, c.args.self.now.passes.ok.0, c.requires.all)
 
 pub tell-receipt-requires-clause-other : goal.tell-receipt-requires-clause-other
-tell-receipt-requires-clause-other g c =
-    let len : vec_len c.args.self.now.passes ≡ length c.args.self.now.passes.items = c.args.self.now.passes.ok.0 in
-    let lt : c.args.from < length c.args.self.now.passes.items = omega (arith, c.if-from-len.false, c.len.ensures, len) in
-    let at : slice_get c.args.self.now.passes.items c.args.from ≡ Some c.index_mut.result.now = slice_get_read c.args.self.now.passes.items _ c.args.from _ refl lt c.index_mut.ensures.value in
-    let lt_to : c.args.to < length c.args.self.now.passes.items = omega (arith, c.if-to-len.false, c.len-2.ensures, len) in
-    let apart : c.args.to ≡ c.index_mut.result.now.process → ⊥ = λ e. c.if-to-from.false (e ∙ c.requires.processes c.args.from c.index_mut.result.now at) in
-    apart
+tell-receipt-requires-clause-other g c = λ e.
+    c.if-to-from.false (e ∙ c.requires.processes c.args.from c.index_mut.result.now
+    (stood c.args.self.now.passes.items _ c.args.from c.index_mut.result.now (sym c.args.self.now.passes.ok.0)
+    (omega (arith, c.if-from-len.false, c.len.ensures)) c.index_mut.ensures.value))
 
 pub returns : goal.returns
 returns g c =
-    let len : vec_len c.args.self.now.passes ≡ length c.args.self.now.passes.items = c.args.self.now.passes.ok.0 in
-    let lt : c.args.from < length c.args.self.now.passes.items = omega (arith, c.if-from-len.false, c.len.ensures, len) in
-    let at : slice_get c.args.self.now.passes.items c.args.from ≡ Some c.index_mut.result.now = slice_get_read c.args.self.now.passes.items _ c.args.from _ refl lt c.index_mut.ensures.value in
-    let lt_to : c.args.to < length c.args.self.now.passes.items = omega (arith, c.if-to-len.false, c.len-2.ensures, len) in
-    let apart : c.args.to ≡ c.index_mut.result.now.process → ⊥ = λ e. c.if-to-from.false (e ∙ c.requires.processes c.args.from c.index_mut.result.now at) in
-    all_set c.args.self.now.board c.args.self.now.passes.items c.args.from c.index_mut.result.now c.tell-receipt.new.pass c.requires at c.tell-receipt.ensures.pass c.tell-receipt.ensures.told.process
+    (used c.args.self.now.board c.args.self.now.passes.items _ c.args.from c.index_mut.result.now c.tell-receipt.new.pass c.requires
+    (sym c.args.self.now.passes.ok.0) (omega (arith, c.if-from-len.false, c.len.ensures)) c.index_mut.ensures.value
+    c.tell-receipt.ensures.pass c.tell-receipt.ensures.told.process).0

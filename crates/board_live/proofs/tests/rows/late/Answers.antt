@@ -9,7 +9,8 @@ write-requires-clause-pass g c =
     c.in_ok-board.ensures.of (length c.pop-2.new.self.items) c.in-Some-pop.writer
     (ap (λ z. slice_get z (length c.pop-2.new.self.items)) c.in-Some.ensures.items
     ∙ get_front c.pop.new.self.items (c.in-Some.reader ∷ []) (length c.pop-2.new.self.items) c.in-Some-pop.writer
-    (ap (λ z. slice_get z (length c.pop-2.new.self.items)) c.in-Some-pop.ensures.items ∙ get_end c.pop-2.new.self.items c.in-Some-pop.writer))
+    (ap (λ z. slice_get z (length c.pop-2.new.self.items)) c.in-Some-pop.ensures.items
+    ∙ get_end c.pop-2.new.self.items c.in-Some-pop.writer))
 
 pub read-before-requires : goal.read-before-requires
 read-before-requires g c =
@@ -33,7 +34,8 @@ tell-receipt-requires-clause-other g c = λ e.
     ap (λ z. slice_get z m) c.in-Some.ensures.items
     ∙ get_front c.pop.new.self.items (c.in-Some.reader ∷ []) m c.in-Some-pop.writer
     (ap (λ z. slice_get z m) c.in-Some-pop.ensures.items ∙ get_end c.pop-2.new.self.items c.in-Some-pop.writer) in
-    let longer : n ≡ m + 1 = ap (λ z. length z) c.in-Some-pop.ensures.items ∙ length-append c.pop-2.new.self.items (c.in-Some-pop.writer ∷ []) in
+    let longer : n ≡ m + 1 =
+    ap (λ z. length z) c.in-Some-pop.ensures.items ∙ length-append c.pop-2.new.self.items (c.in-Some-pop.writer ∷ []) in
     let r : c.in-Some.reader.process ≡ n = c.in_ok-board.ensures.processes n c.in-Some.reader at_reader in
     let w : c.in-Some-pop.writer.process ≡ m = c.in_ok-board.ensures.processes m c.in-Some-pop.writer at_writer in
     let s : c.write.new.pass.process ≡ c.in-Some-pop.writer.process = c.write.ensures.call.process in
