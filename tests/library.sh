@@ -4,7 +4,7 @@
 has_library() {
     [ -f "$here/out/libcells_c.a" ] || return 1
     set -- "$top/crates.txt"
-    for crate in history_core fourslot_core cell_live cells_c; do
+    for crate in history_core fourslot_core cell_live cells_sides cells_c; do
         set -- "$@" "$top/crates/$crate/src" "$top/crates/$crate/specs" "$top/crates/$crate/proofs"
     done
     [ -z "$(find "$@" -newer "$here/out/libcells_c.a" -print -quit)" ]

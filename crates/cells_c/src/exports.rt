@@ -1,6 +1,4 @@
 //! The exports: for each cell and size a make, a write, a read and an end of either side.
-//!
-//! Each is the one call of `calls` at its record and side, and its contract is that call's.
 
 mod four_slot_1024;
 mod four_slot_24;

@@ -1,13 +1,10 @@
 //! A four-slot cell with records of 64 bytes.
-ghost use Rattle.cells_c.specs.FourSlotCalls.{IsMade, HasWritten, HasRead};
-ghost use Rattle.cells_c.specs.Handles.{IsMake, IsWrite, IsRead, IsEnd};
-ghost use Rattle.cells_c.specs.declared.side.Side.TheVariants.{Of64};
-ghost use Rattle.cells_c.specs.declared.side.Party.TheVariants.{Writes, Reads};
+ghost use Rattle.cells_sides.specs.FourSlotCalls.{IsMade, HasWritten, HasRead};
+ghost use Rattle.cells_sides.specs.Handles.{IsMake, IsWrite, IsRead, IsEnd};
+ghost use Rattle.cells_sides.specs.declared.side.Side.TheVariants.{Of64};
+ghost use Rattle.cells_sides.specs.declared.side.Party.TheVariants.{Writes, Reads};
 
-use crate::calls::{end, make, read, write};
-use crate::four_slot::{FourSlotReader, FourSlotWriter};
-use crate::handle::Handle;
-use crate::record::Record64;
+use cells_sides::{FourSlotReader, FourSlotWriter, Handle, Record64, end, make, read, write};
 use std::alloc::Global;
 
 #[unsafe(no_mangle)]

@@ -1,13 +1,10 @@
 //! A triple buffer with records of 24 bytes.
-ghost use Rattle.cells_c.specs.TripleCalls.{IsMade, HasWritten, HasRead};
-ghost use Rattle.cells_c.specs.Handles.{IsMake, IsWrite, IsRead, IsEnd};
-ghost use Rattle.cells_c.specs.declared.side.Side.TheVariants.{Of24};
-ghost use Rattle.cells_c.specs.declared.side.Party.TheVariants.{TripleWrites, TripleReads};
+ghost use Rattle.cells_sides.specs.TripleCalls.{IsMade, HasWritten, HasRead};
+ghost use Rattle.cells_sides.specs.Handles.{IsMake, IsWrite, IsRead, IsEnd};
+ghost use Rattle.cells_sides.specs.declared.side.Side.TheVariants.{Of24};
+ghost use Rattle.cells_sides.specs.declared.side.Party.TheVariants.{TripleWrites, TripleReads};
 
-use crate::calls::{end, make, read, write};
-use crate::handle::Handle;
-use crate::record::Record24;
-use crate::triple::{TripleReader, TripleWriter};
+use cells_sides::{Handle, Record24, TripleReader, TripleWriter, end, make, read, write};
 use std::alloc::Global;
 
 #[unsafe(no_mangle)]

@@ -1,0 +1,29 @@
+-- What the calls do to the sides of a four-slot cell (this project's definitions).
+use Rattle.std.specs.Prelude.{◌≡◌, ◌+◌, [], ◌∷◌, ◌++◌}
+use Rattle.std.specs.Arc.{arc_value}
+use Rattle.cell_live.specs.Running.{IsAnswer}
+use Rattle.cell_live.specs.four_slot.Words.{opening_of, written_by, answers_of, told_to}
+use Rattle.cells_sides.specs.Numbers.{Always, After, numbered}
+use Rattle.cells_sides.specs.declared.record.Numbered.{Numbered}
+use Rattle.cells_sides.specs.declared.four_slot.FourSlotWriter.{FourSlotWriter}
+use Rattle.cells_sides.specs.declared.four_slot.FourSlotReader.{FourSlotReader}
+
+module _ {W : Type 0} where
+  -- the two sides are of one new cell, which opened with the record under the number 0
+  pub record IsMade (p : FourSlotWriter W) (g : FourSlotReader W) (w : W) : Type 0 where
+    pub one : arc_value p.cell ≡ arc_value g.cell
+    pub opening : opening_of (arc_value p.cell) ≡ numbered 0 w
+    pub unwritten : written_by p.put ≡ []
+    pub unread : answers_of g.get ≡ []
+
+  -- the writing side before and after a write of the record: it is written under the next number, and nothing else
+  pub record HasWritten (p q : FourSlotWriter W) (w : W) : Type 0 where
+    pub same : q.cell ≡ p.cell
+    pub next : q.number ≡ p.number + 1
+    pub written : written_by q.put ≡ written_by p.put ++ numbered q.number w ∷ []
+
+  -- the reading side before and after a read: the answer follows the opening, the answer before and what was told
+  pub record HasRead (g h : FourSlotReader W) (a : Numbered W) : Type 0 where
+    pub same : h.cell ≡ g.cell
+    pub answers : answers_of h.get ≡ answers_of g.get ++ a ∷ []
+    pub running : IsAnswer Always After (opening_of (arc_value g.cell)) (answers_of g.get) (told_to g.get) a

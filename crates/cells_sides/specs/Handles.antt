@@ -1,0 +1,47 @@
+-- What a handle has, and what the exports do to it (this project's definitions).
+use Rattle.std.specs.Prelude.{◌≡◌, ◌≢◌, ◌⊎◌, ℕ, ◌+◌, ◌≤◌, ◌^◌}
+use mathlib.Core.Logic.{◌↔◌}
+use Rattle.cells_sides.specs.Numbers.{numbered}
+use Rattle.cells_sides.specs.declared.record.Numbered.{Numbered}
+use Rattle.cells_sides.specs.declared.side.Side.{Side}
+use Rattle.cells_sides.specs.declared.handle.Handle.{Handle}
+
+-- the handle has this side
+abbrev pub Has : Handle → Side → Type 0
+Has h s = (h.live ≢ 0) × (h.loose.side ≡ s)
+
+-- the handle has a side, and none of these
+abbrev pub HasOther : {S : Type 0} → (S → Side) → Handle → Type 0
+HasOther {S = S} side h = (h.live ≢ 0) × ((s : S) → h.loose.side ≢ side s)
+
+-- what the second handle has is what the first one has
+abbrev pub Keeps : Handle → Handle → Type 0
+Keeps h k = (k.loose.side ≡ h.loose.side) × ((k.live ≡ 0) ↔ (h.live ≡ 0))
+
+-- a call that makes a cell, and its status: the handles before and after
+pub data IsMake {P G W : Type 0} (writes : P → Side) (reads : G → Side) (is_made : P → G → W → Type 0)
+    (w r w' r' : Handle) (first : W) : ℕ → Type 0 where
+  done : (p : P) (g : G) → Has w' (writes p) → Has r' (reads g) → is_made p g first → IsMake writes reads is_made w r w' r' first 0
+  no_memory : w' ≡ w → r' ≡ r → IsMake writes reads is_made w r w' r' first 1
+  in_use : (w.live ≢ 0) ⊎ (r.live ≢ 0) → w' ≡ w → r' ≡ r → IsMake writes reads is_made w r w' r' first 2
+
+-- a call that writes a record, and its status: the handle before and after
+pub data IsWrite {P W : Type 0} (writes : P → Side) (last : P → ℕ) (has_written : P → P → W → Type 0)
+    (h k : Handle) (item : W) : ℕ → Type 0 where
+  done : (p q : P) → Has h (writes p) → Has k (writes q) → has_written p q item → IsWrite writes last has_written h k item 0
+  ended : h.live ≡ 0 → Keeps h k → IsWrite writes last has_written h k item 3
+  worn_out : (p : P) → Has h (writes p) → 2 ^ 64 ≤ last p + 1 → Keeps h k → IsWrite writes last has_written h k item 4
+  other : HasOther writes h → Keeps h k → IsWrite writes last has_written h k item 5
+
+-- a call that reads a record and its number, and its status
+pub data IsRead {G W : Type 0} (reads : G → Side) (has_read : G → G → Numbered W → Type 0)
+    (h k : Handle) (item : W) (number : ℕ) : ℕ → Type 0 where
+  done : (p q : G) → Has h (reads p) → Has k (reads q) → has_read p q (numbered number item) → IsRead reads has_read h k item number 0
+  ended : h.live ≡ 0 → Keeps h k → IsRead reads has_read h k item number 3
+  other : HasOther reads h → Keeps h k → IsRead reads has_read h k item number 5
+
+-- a call that ends a side, and its status
+pub data IsEnd {S : Type 0} (side : S → Side) (h k : Handle) : ℕ → Type 0 where
+  done : (s : S) → Has h (side s) → k.live ≡ 0 → IsEnd side h k 0
+  ended : h.live ≡ 0 → Keeps h k → IsEnd side h k 3
+  other : HasOther side h → Keeps h k → IsEnd side h k 5
