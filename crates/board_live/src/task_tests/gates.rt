@@ -1,8 +1,9 @@
-//! The gates that come with the crate.
+//! The gates that come with the crate, and what a gate is asked and told.
 use super::plans::run_plans;
-use crate::{Clocked, CountingGate, TimedGate};
+use crate::{Clocked, CountingGate, Gate, TimedGate};
 use cell_live::FourSlotCell;
 use history_core::Band;
+use std::sync::atomic::{AtomicU64, Ordering};
 use std::test::Fail;
 
 #[test]
@@ -37,5 +38,43 @@ fn time_is_up_for_all_tasks(rt: HostRuntime) -> Result<(), Fail> {
         }
         assert_eq!(rt; made, turns.min(80));
     }
+    Ok(())
+}
+
+/// Adds up the numbers that it is asked about and told of: 100 for each task, counted from 0, and the number of the call.
+#[derive(Drop)]
+struct Numbers {
+    asked: AtomicU64,
+    told: AtomicU64,
+}
+
+fn number(task: usize, call: usize) -> u64 {
+    (task as u64).wrapping_mul(100).wrapping_add(call as u64)
+}
+
+impl Gate for Numbers {
+    ghost may_stop = { λ _ _ _. ⊥ };
+
+    fn before(&self, task: usize, call: usize) -> bool {
+        self.asked.fetch_add(number(task, call), Ordering::SeqCst);
+        true
+    }
+
+    fn after(&self, task: usize, call: usize) {
+        self.told.fetch_add(number(task, call), Ordering::SeqCst);
+    }
+}
+
+#[test]
+fn tasks_count_from_0_and_calls_from_1(rt: HostRuntime) -> Result<(), Fail> {
+    let gate = Numbers {
+        asked: AtomicU64::new(0),
+        told: AtomicU64::new(0),
+    };
+    let plans: &[&[u64]] = &[&[1, 0, 2], &[0, 0], &[], &[0]];
+    run_plans::<_, FourSlotCell<Clocked<Band>>, _>(&rt, rt.alloc(), 9, plans, &gate)?;
+    let all = 1 + 2 + 3 + 101 + 102 + 301;
+    assert_eq!(rt; gate.asked.load(Ordering::SeqCst), all);
+    assert_eq!(rt; gate.told.load(Ordering::SeqCst), all);
     Ok(())
 }
