@@ -1,6 +1,8 @@
 //! Tasks over a board, each in a thread of its own.
-ghost use Rattle.std.specs.Prelude.{◌≡◌, All, IfOk, length, true};
+ghost use Rattle.std.specs.Prelude.{◌≡◌, All, IfOk, length, map, true, None};
 ghost use Rattle.board_live.specs.Logs.{Obeys};
+ghost use Rattle.board_live.specs.Origins.{IsOrigin};
+ghost use Rattle.board_live.specs.declared.origin.Origin.TheVariants.{Sound};
 
 use crate::finding::{Finding, Tally};
 use crate::record::{Record, Shared, Words};
@@ -78,22 +80,43 @@ fn finding<W: Words>(log: &[Entry<Record<W>>], call: usize) -> Finding {
     }
 }
 
-/// The reads of the lanes, and the first wrong record.
+/// What is wrong with an entry of one of the lanes, which has no origin.
+fn finding_at<W: Words, C: Calls<Clocked<Record<W>>>>(
+    lanes: &[Lane<Record<W>, C>],
+    task: usize,
+    call: usize,
+) -> Finding {
+    match lanes.get(task) {
+        Some(lane) => finding(lane.log(), call),
+        None => Finding::Foreign,
+    }
+}
+
+/// The reads of the lanes: half of their calls.
+fn reads<W: Words, C: Calls<Clocked<Record<W>>>>(lanes: &[Lane<Record<W>, C>]) -> u64 {
+    let mut reads = 0u64;
+    for lane in lanes {
+        reads = reads.saturating_add(lane.log().len() as u64 / 2);
+    }
+    reads
+}
+
+/// The reads of the lanes, and the first wrong record. Nothing is found exactly where every record in the logs has its origin.
 fn look<W: Shared, C: Calls<Clocked<Record<W>>>>(
     opening: Record<W>,
     lanes: &[Lane<Record<W>, C>],
-) -> Tally {
-    let mut tally = Tally::none();
-    for lane in lanes {
-        tally.reads = tally.reads.saturating_add(lane.log().len() as u64 / 2);
+) -> Tally
+    ensures sound { result.found ≡ None → IsOrigin ⟦<Record<W> as PartialEq>⟧.eq opening (map (λ l. l.log.items) lanes.now) Sound }
+    ensures silent { IsOrigin ⟦<Record<W> as PartialEq>⟧.eq opening (map (λ l. l.log.items) lanes.now) Sound → result.found ≡ None }
+{
+    let reads = reads(lanes);
+    match check_origin(opening, lanes) {
+        Origin::Sound => Tally { reads, found: None },
+        Origin::Broken { task, call } => Tally {
+            reads,
+            found: Some(finding_at(lanes, task, call)),
+        },
     }
-    if let Origin::Broken { task, call } = check_origin(opening, lanes) {
-        tally.found = match lanes.get(task) {
-            Some(lane) => Some(finding(lane.log(), call)),
-            None => Some(Finding::Foreign),
-        };
-    }
-    tally
 }
 
 /// One round on a board that opens with this record: what was found, and the greatest record at its end.

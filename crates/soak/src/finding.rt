@@ -1,5 +1,9 @@
 //! What a soak found.
-use std::fmt;
+ghost use Rattle.std.specs.Prelude.{◌≡◌, ℕ, None};
+ghost use Rattle.std.specs.Option.{option_or};
+ghost use Rattle.soak.specs.Findings.{counted, status_of, wrong_end, wrong_read};
+
+use std::{fmt, io};
 
 /// A record that no reader may see.
 #[derive(Clone, Copy, Debug, PartialEq, Eq)]
@@ -30,27 +34,72 @@ pub struct Tally {
 }
 
 impl Tally {
-    pub fn none() -> Tally {
+    pub fn none() -> Tally
+        ensures reads { result.reads ≡ 0 }
+        ensures found { result.found ≡ None }
+    {
         Tally {
             reads: 0,
             found: None,
         }
     }
 
-    /// Counts one more read, of a record of the write `number`, after one of the write `last`.
-    pub fn note(&mut self, last: u64, number: Option<u64>) {
+    /// Counts one more read, of a record of the write `number`, after one of the write `last`. What was found first stays.
+    pub fn note(&mut self, last: u64, number: Option<u64>)
+        ensures reads { self.new.reads ≡ counted self.old.reads 1 }
+        ensures found { self.new.found ≡ option_or self.old.found (wrong_read last number) }
+    {
         self.reads = self.reads.saturating_add(1);
-        let finding = match number {
-            None => Some(Finding::Torn),
-            Some(number) if number < last => Some(Finding::Older),
-            Some(_) => None,
-        };
-        self.found = self.found.or(finding);
+        self.found = self.found.or(wrong_read(last, number));
     }
 
     /// Adds what another found after this.
-    pub fn add(&mut self, other: Tally) {
+    pub fn add(&mut self, other: Tally)
+        ensures reads { self.new.reads ≡ counted self.old.reads other.reads }
+        ensures found { self.new.found ≡ option_or self.old.found other.found }
+    {
         self.reads = self.reads.saturating_add(other.reads);
         self.found = self.found.or(other.found);
+    }
+
+    /// Sees at a round's end that the last record read has a write.
+    pub fn end(&mut self, written: u64, read: u64)
+        ensures reads { self.new.reads ≡ self.old.reads }
+        ensures found { self.new.found ≡ option_or self.old.found (wrong_end written read) }
+    {
+        self.found = self.found.or(wrong_end(written, read));
+    }
+}
+
+/// What is wrong with a record of the write `number` that was read after one of the write `last`.
+fn wrong_read(last: u64, number: Option<u64>) -> Option<Finding>
+    ensures { result ≡ wrong_read last number }
+{
+    match number {
+        None => Some(Finding::Torn),
+        Some(number) if number < last => Some(Finding::Older),
+        Some(_) => None,
+    }
+}
+
+/// What is wrong at the end of a round that wrote and read up to these numbers.
+fn wrong_end(written: u64, read: u64) -> Option<Finding>
+    ensures { result ≡ wrong_end written read }
+{
+    if written < read {
+        Some(Finding::Foreign)
+    } else {
+        None
+    }
+}
+
+/// The exit status of a soak that ended so: 0 only where nothing was found.
+pub fn status(ended: &io::Result<Option<Finding>>) -> u8
+    ensures { result ≡ status_of ended.now }
+{
+    match ended {
+        Ok(None) => 0,
+        Ok(Some(_)) => 1,
+        Err(_) => 2,
     }
 }

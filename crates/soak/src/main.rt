@@ -10,7 +10,7 @@ mod record;
 
 use board_live::Clocked;
 use cell_live::{Cell, FourSlotCell, TripleCell};
-use finding::{Finding, Tally};
+use finding::{Finding, Tally, status};
 use record::{Record, Shared};
 use std::alloc::Global;
 use std::io;
@@ -25,14 +25,11 @@ const TASKS: [usize; 3] = [2, 4, 16];
 const PLANTED_ROUNDS: u64 = 500;
 
 fn main(rt: HostRuntime) -> ExitCode {
-    match words(&rt) {
-        Ok(words) => match command(&rt, rt.alloc(), words.as_slice()) {
-            Ok(None) => ExitCode::from(0),
-            Ok(Some(_)) => ExitCode::from(1),
-            Err(_) => ExitCode::from(2),
-        },
-        Err(_) => ExitCode::from(2),
-    }
+    let ended = match words(&rt) {
+        Ok(words) => command(&rt, rt.alloc(), words.as_slice()),
+        Err(e) => Err(e),
+    };
+    ExitCode::from(status(&ended))
 }
 
 fn words(rt: &HostRuntime) -> io::Result<Vec<String>> {

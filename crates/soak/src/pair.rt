@@ -1,5 +1,10 @@
 //! One writer and one reader, each in a thread of its own.
-use crate::finding::{Finding, Tally};
+ghost use Rattle.std.specs.Prelude.{◌≡◌, ℕ, None};
+ghost use Rattle.std.specs.Option.{option_or};
+ghost use Rattle.soak.specs.declared.finding.Tally.{Tally};
+ghost use Rattle.soak.specs.Findings.{wrong_end};
+
+use crate::finding::Tally;
 use crate::record::{Record, Shared};
 use cell_live::Cell;
 use std::alloc::{AllocError, Global};
@@ -12,13 +17,21 @@ pub const CALLS: u64 = 20_000;
 pub trait Side {
     ghost ready: { Self → Type 0 };
 
+    // What was found in the round.
+    ghost tally: { Self → Tally };
+
+    // The last number that was read or written.
+    ghost last: { Self → ℕ };
+
     /// Makes the calls of a round. The first write has the number after `from`.
     fn run(&mut self, from: u64)
         requires { ready self.old }
         ensures { ready self.new };
 
     /// What was found in the round, and the last number that was read or written.
-    fn told(&self) -> (Tally, u64);
+    fn told(&self) -> (Tally, u64)
+        ensures tally { result.0 ≡ tally self.now }
+        ensures last { result.1 ≡ last self.now };
 }
 
 #[derive(Drop)]
@@ -30,6 +43,10 @@ struct Writer<'a, W: Shared, C: Cell<Record<W>>> {
 
 impl<'a, W: Shared, C: Cell<Record<W>>> Side for Writer<'a, W, C> {
     ghost ready = { λ s. C.is_put s.cell.now s.put };
+
+    ghost tally = { λ _. record { reads = 0; found = None } };
+
+    ghost last = { λ s. s.last };
 
     fn run(&mut self, from: u64) {
         for k in 0..CALLS {
@@ -55,6 +72,10 @@ struct Reader<'a, W: Shared, C: Cell<Record<W>>> {
 impl<'a, W: Shared, C: Cell<Record<W>>> Side for Reader<'a, W, C> {
     ghost ready = { λ s. C.is_get s.cell.now s.get };
 
+    ghost tally = { λ s. s.tally };
+
+    ghost last = { λ s. s.last };
+
     fn run(&mut self, _from: u64) {
         self.tally = Tally::none();
         for _ in 0..CALLS {
@@ -77,7 +98,9 @@ pub fn at_once<R: Threads + Sync, A: Side + Send, B: Side + Send>(
     reader: &mut B,
 ) -> Tally
     requires { A.ready writer.old × B.ready reader.old }
-    ensures { A.ready writer.new × B.ready reader.new }
+    ensures ready { A.ready writer.new × B.ready reader.new }
+    ensures reads { result.reads ≡ (B.tally reader.new).reads }
+    ensures found { result.found ≡ option_or (B.tally reader.new).found (wrong_end (A.last writer.new) (B.last reader.new)) }
 {
     join_mut(
         rt,
@@ -92,9 +115,7 @@ pub fn at_once<R: Threads + Sync, A: Side + Send, B: Side + Send>(
     );
     let (_, written) = writer.told();
     let (mut tally, read) = reader.told();
-    if tally.found.is_none() && written < read {
-        tally.found = Some(Finding::Foreign);
-    }
+    tally.end(written, read);
     tally
 }
 

@@ -1,5 +1,7 @@
 //! A register with a planted bug, which a soak has to find: four slots of words that are written one by one, whose reader skips
 //! its store of `reading`.
+ghost use Rattle.std.specs.Prelude.{None};
+
 use crate::finding::Tally;
 use crate::pair::{CALLS, Side, at_once};
 use std::alloc::{AllocError, Global};
@@ -88,6 +90,10 @@ struct Writer<'a> {
 impl<'a> Side for Writer<'a> {
     ghost ready = { λ _. Unit {0} };
 
+    ghost tally = { λ _. record { reads = 0; found = None } };
+
+    ghost last = { λ s. s.last };
+
     fn run(&mut self, from: u64) {
         for k in 0..CALLS {
             let number = from.saturating_add(k + 1);
@@ -110,6 +116,10 @@ struct Reader<'a> {
 
 impl<'a> Side for Reader<'a> {
     ghost ready = { λ _. Unit {0} };
+
+    ghost tally = { λ s. s.tally };
+
+    ghost last = { λ s. s.last };
 
     fn run(&mut self, _from: u64) {
         self.tally = Tally::none();

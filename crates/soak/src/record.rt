@@ -1,17 +1,27 @@
 //! Records whose every word tells which write they are of.
-ghost use Rattle.std.specs.Prelude.{Bool, true};
+ghost use Rattle.std.specs.Prelude.{◌≡◌, Bool, true, ℕ, ◌<◌, List, IfNone, IfSome, length};
+ghost use Rattle.soak.specs.Findings.{IsWhole};
 
 use board_live::RecordLaw;
 use cell_live::{Kept, Lawful};
 
 /// The words of a record.
 pub trait Words: Copy + Eq {
-    fn of(number: u64) -> Self;
+    // The words, of which there are some.
+    ghost listed: { Self → List ℕ };
 
-    fn all(&self) -> &[u64];
+    /// Words that are all this number.
+    fn of(number: u64) -> Self
+        ensures { IsWhole (listed result) number };
+
+    fn all(&self) -> &[u64]
+        ensures listed { result.now ≡ listed self.now }
+        ensures some { 0 < length result.now };
 }
 
 impl Words for [u64; 3] {
+    ghost listed = { λ words. words };
+
     fn of(number: u64) -> Self {
         [number; 3]
     }
@@ -22,6 +32,8 @@ impl Words for [u64; 3] {
 }
 
 impl Words for [u64; 32] {
+    ghost listed = { λ words. words };
+
     fn of(number: u64) -> Self {
         [number; 32]
     }
@@ -32,6 +44,8 @@ impl Words for [u64; 32] {
 }
 
 impl Words for [u64; 512] {
+    ghost listed = { λ words. words };
+
     fn of(number: u64) -> Self {
         [number; 512]
     }
@@ -58,16 +72,21 @@ pub struct Record<W> {
 
 impl<W: Words> Record<W> {
     /// The record of the write with this number.
-    pub fn of(number: u64) -> Record<W> {
+    pub fn of(number: u64) -> Record<W>
+        ensures { IsWhole (W.listed result.words) number }
+    {
         Record {
             words: W::of(number),
         }
     }
 
-    /// The write that the record is of, or none where its words are of several.
-    pub fn number(&self) -> Option<u64> {
+    /// The write that the record is of; none where it is torn: its words are of several writes.
+    pub fn number(&self) -> Option<u64>
+        ensures whole { IfSome result (λ n. IsWhole (W.listed self.now.words) n) }
+        ensures torn { IfNone result ((n : ℕ) → IsWhole (W.listed self.now.words) n → ⊥) }
+    {
         let words = self.words.all();
-        let first = *words.first()?;
+        let first = words[0];
         if words.iter().all(|word| *word == first) {
             Some(first)
         } else {

@@ -1,5 +1,4 @@
 -- Lanes of a new board's passes may run.
-use Rattle.std.proofs.Common.{◌≡◌}
 use Rattle.board_live.proofs.LaneLists.{all_ready}
 use Rattle.soak.proofs.boards.round.Goals as goal
 
