@@ -9,6 +9,7 @@ use matrix_core::Stamp;
 use std::alloc::Global;
 
 mod guide;
+mod outside;
 mod rows;
 
 const OPENING: Band = Band {
