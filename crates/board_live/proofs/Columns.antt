@@ -9,7 +9,7 @@ use Rattle.std.proofs.lemmas.Bool.Decides.{nat_tests}
 use Rattle.matrix_core.specs.Choices.{IsAtMost}
 use Rattle.matrix_core.specs.Stamps.{IsBelow, is_below}
 use Rattle.matrix_core.specs.declared.stamp.Stamp.{Stamp}
-use Rattle.matrix_core.proofs.ChoicesStamps.{at_most_trans}
+use Rattle.matrix_core.proofs.choices.Stamps.{at_most_trans}
 use Rattle.cell_live.specs.declared.cell.Calls.{Ghosts as CellWords}
 use Rattle.cell_live.specs.Running.{last_or, IsAnswer}
 use Rattle.board_live.specs.declared.clocked.Clocked.{Clocked}

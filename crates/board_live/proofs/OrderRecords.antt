@@ -12,13 +12,13 @@ use Rattle.matrix_core.specs.Calls.{AreCalls, Call, Dated, in_turn, is_by, IsCal
 use Rattle.matrix_core.specs.Choices.{IsAtMost, IsIn}
 use Rattle.matrix_core.specs.Stamps.{IsBelow, first_stamp}
 use Rattle.matrix_core.specs.declared.stamp.Stamp.{Stamp}
-use Rattle.matrix_core.proofs.CallClocks.{all_from, all_of, of_all}
-use Rattle.matrix_core.proofs.CallHistories.{at_most_same, has_write, IsHistory, one_write, tag_at_most, write_tag}
-use Rattle.matrix_core.proofs.CallKeys.{apart, IsWrite, Le, Gt, le_gt, le_stamps, le_trans, which}
-use Rattle.matrix_core.proofs.CallOrders.{history, in_order, no_circle, ordered}
-use Rattle.matrix_core.proofs.CallReplays.{end_is, ends, InOrder, IsCut, IsLatest, latest_other, latest_write, stands}
-use Rattle.matrix_core.proofs.ChoicesStamps.{below_itself, below_or_not}
-use Rattle.matrix_core.proofs.Sorting.{in_sort, sort_in, sorted_sort}
+use Rattle.matrix_core.proofs.calls.Clocks.{all_from, all_of, of_all}
+use Rattle.matrix_core.proofs.calls.Histories.{at_most_same, has_write, IsHistory, one_write, tag_at_most, write_tag}
+use Rattle.matrix_core.proofs.calls.Keys.{apart, IsWrite, Le, Gt, le_gt, le_stamps, le_trans, which}
+use Rattle.matrix_core.proofs.calls.Orders.{history, in_order, no_circle, ordered}
+use Rattle.matrix_core.proofs.calls.Replays.{end_is, ends, InOrder, IsCut, IsLatest, latest_other, latest_write, stands}
+use Rattle.matrix_core.proofs.choices.Stamps.{below_itself, below_or_not}
+use Rattle.matrix_core.proofs.lists.Sorting.{in_sort, sort_in, sorted_sort}
 use Rattle.board_live.specs.declared.posted.Posted.{Posted}
 use Rattle.board_live.specs.Ran.{HasRecords, Keeps, under}
 

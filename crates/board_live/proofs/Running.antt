@@ -13,10 +13,10 @@ use Rattle.matrix_core.specs.Stamps.{is_below}
 use Rattle.matrix_core.specs.declared.stamp.Stamp.{Stamp}
 use Rattle.matrix_core.specs.Calls.{AreCalls, Call, Dated, InTurn, IsCall, IsGreatest, IsOf, IsOneOrder, IsPosted, IsRunning, Knew, latest}
 use Rattle.matrix_core.specs.Calls.{next_clock, Ticks}
-use Rattle.matrix_core.proofs.CallHistories.{rises_by}
-use Rattle.matrix_core.proofs.CallOrders.{in_order, ordered}
-use Rattle.matrix_core.proofs.ChoicesStamps.{at_most_trans}
-use Rattle.matrix_core.proofs.Sorting.{in_append, append_left, append_right}
+use Rattle.matrix_core.proofs.calls.Histories.{rises_by}
+use Rattle.matrix_core.proofs.calls.Orders.{in_order, ordered}
+use Rattle.matrix_core.proofs.choices.Stamps.{at_most_trans}
+use Rattle.matrix_core.proofs.lists.Sorting.{in_append, append_left, append_right}
 use Rattle.cell_live.specs.declared.cell.Calls.{Ghosts as CellWords}
 use Rattle.cell_live.specs.Running.{last_or, Settled}
 use Rattle.board_live.specs.declared.board.Board.{Board}

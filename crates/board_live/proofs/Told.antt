@@ -5,7 +5,7 @@ use Rattle.std.specs.declared.cmp.PartialEq.{Ghosts as EqWords}
 use Rattle.std.proofs.lemmas.List.Elements.{All-head, All-tail}
 use Rattle.cell_live.specs.declared.cell.Calls.{Ghosts as CellWords}
 use Rattle.matrix_core.specs.Choices.{IsAtMost}
-use Rattle.matrix_core.proofs.ChoicesStamps.{at_most_trans}
+use Rattle.matrix_core.proofs.choices.Stamps.{at_most_trans}
 use Rattle.board_live.specs.declared.board.Board.{Board}
 use Rattle.board_live.specs.declared.board.Pass.{Pass}
 use Rattle.board_live.specs.declared.board.Receipt.{Receipt}

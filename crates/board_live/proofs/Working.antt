@@ -17,7 +17,7 @@ use Rattle.history_core.specs.declared.play.Wish.TheVariants.{Write as Writes, R
 use Rattle.matrix_core.specs.Calls.{Call, calls_in, Dated, IsCall, is_by, IsChosen, IsOf, IsOneOrder, IsPosted, latest}
 use Rattle.matrix_core.specs.Choices.{IsIn}
 use Rattle.matrix_core.specs.declared.stamp.Stamp.{Stamp}
-use Rattle.matrix_core.proofs.Sorting.{filter_none}
+use Rattle.matrix_core.proofs.lists.Sorting.{filter_none}
 use Rattle.cell_live.specs.declared.cell.Calls.{Ghosts as CellWords}
 use Rattle.board_live.specs.declared.board.Board.{Board}
 use Rattle.board_live.specs.declared.board.Pass.{Pass}
