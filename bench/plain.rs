@@ -1,15 +1,16 @@
 //! Plain registers of one writer and one reader, written for comparison with the proved cells: H. Simpson's four slots, the
-//! triple buffer, and the locks of Rust's library. `plain list`, `plain run` and `plain count IMPL BYTES OP N`, as `cells_bench`.
+//! triple buffer, and the locks of Rust's library; and for several writers and readers a matrix of such registers, and a lock.
+//! `plain list`, `plain run` and `plain count IMPL BYTES OP N`, as `cells_bench`.
 use std::cell::UnsafeCell;
 use std::hint::black_box;
 use std::sync::atomic::{AtomicU64, Ordering::SeqCst};
-use std::sync::{Mutex, RwLock};
+use std::sync::{Arc, Mutex, RwLock};
 use std::thread;
 use std::time::Instant;
 
 type Record<const N: usize> = [u64; N];
 
-trait Register<const N: usize>: Sync {
+trait Register<const N: usize>: Send + Sync {
     /// What a side remembers.
     type Put: Send + Default;
     type Get: Send + Default;
@@ -303,6 +304,188 @@ fn count<const N: usize, R: Register<N>>(op: &str, calls: u64) {
     println!("# {}", batch(&R::make(), &mut R::Put::default(), &mut R::Get::default(), op, calls));
 }
 
+/// One process of a register of several writers and readers.
+trait Process: Send {
+    fn write(&mut self, item: &Record<3>);
+    fn read(&mut self) -> Record<3>;
+}
+
+/// A process of a matrix of cells: it has the cells that it writes and those that it reads. What lies in them is a tag, a writer
+/// and a record.
+struct Member<R: Register<5>> {
+    number: u64,
+    own: Record<5>,
+    row: Vec<(Arc<R>, R::Put)>,
+    column: Vec<(Arc<R>, R::Get)>,
+}
+
+impl<R: Register<5>> Member<R> {
+    fn seen(&mut self) -> Record<5> {
+        let mut seen = self.own;
+        for (cell, get) in &mut self.column {
+            let answer = cell.read(get);
+            if (answer[0], answer[1]) > (seen[0], seen[1]) {
+                seen = answer;
+            }
+        }
+        seen
+    }
+    fn hand_on(&mut self, item: Record<5>) {
+        self.own = item;
+        for (cell, put) in &mut self.row {
+            cell.write(put, &item);
+        }
+    }
+}
+
+impl<R: Register<5>> Process for Member<R> {
+    fn write(&mut self, item: &Record<3>) {
+        let seen = self.seen();
+        self.hand_on([seen[0] + 1, self.number, item[0], item[1], item[2]]);
+    }
+    fn read(&mut self) -> Record<3> {
+        let seen = self.seen();
+        self.hand_on(seen);
+        [seen[2], seen[3], seen[4]]
+    }
+}
+
+fn matrix<R: Register<5>>(n: usize) -> Vec<Member<R>> {
+    let mut members: Vec<Member<R>> =
+        (0..n).map(|i| Member { number: i as u64, own: [0; 5], row: vec![], column: vec![] }).collect();
+    for writer in 0..n {
+        for reader in (0..n).filter(|reader| *reader != writer) {
+            let cell = Arc::new(R::make());
+            members[writer].row.push((cell.clone(), R::Put::default()));
+            members[reader].column.push((cell, R::Get::default()));
+        }
+    }
+    members
+}
+
+impl Process for Arc<Mutex<Record<3>>> {
+    fn write(&mut self, item: &Record<3>) {
+        *self.lock().unwrap() = *item
+    }
+    fn read(&mut self) -> Record<3> {
+        *self.lock().unwrap()
+    }
+}
+
+fn locked(n: usize) -> Vec<Arc<Mutex<Record<3>>>> {
+    vec![Arc::new(Mutex::new([0; 3])); n]
+}
+
+/// The processes call in turn.
+fn in_turn<P: Process>(processes: &mut [P], op: &str, calls: u64) -> u64 {
+    let (n, mut sum) = (processes.len() as u64, 0);
+    for number in 0..calls {
+        let process = &mut processes[(number % n) as usize];
+        if op == "write" {
+            process.write(black_box(&[number; 3]));
+        } else {
+            sum |= black_box(process.read())[0];
+        }
+    }
+    sum
+}
+
+fn per_turn<P: Process>(processes: &mut [P], op: &str) -> f64 {
+    let time = |calls, processes: &mut [P]| {
+        let start = Instant::now();
+        black_box(in_turn(processes, op, calls));
+        start.elapsed().as_nanos()
+    };
+    let mut size = 16;
+    while size < 1 << 20 && time(size, processes) < 100_000 {
+        size *= 2;
+    }
+    let mut times: Vec<f64> = (0..61).map(|_| time(size, processes) as f64 / size as f64).collect();
+    times.sort_by(f64::total_cmp);
+    times[30]
+}
+
+/// So many processes at once, each a write and a read in turn: millions of calls in a second, the torn records, and the sorted
+/// times of each fourth read.
+fn together<P: Process>(processes: Vec<P>) -> (f64, u64, Vec<u64>) {
+    let (start, count) = (Instant::now(), processes.len() as u64);
+    let now = move || start.elapsed().as_nanos() as u64;
+    let (ready, over) = (Apart(AtomicU64::new(0)), Apart(AtomicU64::new(0)));
+    let (mut speed, mut torn, mut all) = (0.0, 0, Vec::new());
+    thread::scope(|s| {
+        let (ready, over) = (&ready.0, &over.0);
+        let task = |mut process: P| {
+            s.spawn(move || {
+                let (mut torn, mut number, mut times) = (0, 0u64, Vec::with_capacity(200_000));
+                ready.fetch_add(1, SeqCst);
+                while ready.load(SeqCst) < count {}
+                let begun = now();
+                while over.load(SeqCst) == 0 {
+                    number += 1;
+                    process.write(black_box(&[number; 3]));
+                    let before = if number % 4 == 0 { now() } else { 0 };
+                    let answer = black_box(process.read());
+                    if number % 4 == 0 {
+                        let after = now();
+                        if times.len() < 200_000 {
+                            times.push(after - before);
+                        }
+                        if after >= begun + BUDGET {
+                            over.store(1, SeqCst);
+                        }
+                    }
+                    torn += (answer[0] != answer[1] || answer[1] != answer[2]) as u64;
+                }
+                (2e3 * number as f64 / (now() - begun) as f64, torn, times)
+            })
+        };
+        let tasks: Vec<_> = processes.into_iter().map(task).collect();
+        for task in tasks {
+            let (calls, wrong, times) = task.join().unwrap();
+            speed += calls;
+            torn += wrong;
+            all.extend(times);
+        }
+    });
+    all.sort();
+    (speed, torn, all)
+}
+
+fn several<P: Process>(name: &str, make: fn(usize) -> Vec<P>) {
+    let start = Instant::now();
+    let now = || start.elapsed().as_nanos() as u64;
+    let cost = (0..20_000).map(|_| { let t = now(); now() - t }).min().unwrap();
+    for n in [2, 4, 8, 16] {
+        let mut processes = make(n);
+        let mode = format!("n{n}_solo");
+        say(name, 3, &mode, "write_ns", per_turn(&mut processes, "write"));
+        say(name, 3, &mode, "read_ns", per_turn(&mut processes, "read"));
+        for tasks in [2, 4].iter().copied().filter(|tasks| *tasks <= n) {
+            let mode = format!("n{n}_t{tasks}");
+            let (speed, torn, times) = together(make(n).into_iter().take(tasks).collect());
+            say(name, 3, &mode, "total_mops", speed);
+            for (share, metric) in [(5_000, "p50"), (9_900, "p99"), (9_990, "p99.9"), (9_999, "p99.99")] {
+                let time = times.get(times.len() * share / 10_000).copied().unwrap_or(BUDGET).saturating_sub(cost);
+                say(name, 3, &mode, &format!("read_{metric}_ns"), time as f64);
+            }
+            say(name, 3, &mode, "read_max_ns", times.last().copied().unwrap_or(BUDGET).saturating_sub(cost) as f64);
+            if torn > 0 {
+                say(name, 3, &mode, "torn_or_backward", torn as f64);
+            }
+        }
+    }
+}
+
+fn several_count(name: &str, n: usize, op: &str, calls: u64) {
+    let sum = match name {
+        "plain_board_four_slot" => in_turn(&mut matrix::<FourSlot<5>>(n), op, calls),
+        "plain_board_triple" => in_turn(&mut matrix::<Triple<5>>(n), op, calls),
+        "mutex_of_several" => in_turn(&mut locked(n), op, calls),
+        _ => return eprintln!("no such register"),
+    };
+    println!("# {sum}");
+}
+
 macro_rules! each {
     ($word:expr, $bytes:expr, $do:ident $(, $more:expr)*) => {
         match ($word, $bytes) {
@@ -323,16 +506,35 @@ macro_rules! each {
     };
 }
 
+fn list(names: [&str; 4], of_several: [&str; 3]) {
+    for name in names {
+        [24, 256, 4096].iter().for_each(|bytes| println!("{name},{bytes}"));
+    }
+    for name in of_several {
+        [2, 4, 8, 16].iter().for_each(|n| println!("{name}:{n},24"));
+    }
+}
+
+fn run(names: [&str; 4]) {
+    for name in names {
+        [24, 256, 4096].iter().for_each(|bytes| each!(name, *bytes, one, name));
+    }
+    several("plain_board_four_slot", matrix::<FourSlot<5>>);
+    several("plain_board_triple", matrix::<Triple<5>>);
+    several("mutex_of_several", locked);
+}
+
 fn main() {
     let words: Vec<String> = std::env::args().collect();
     let words: Vec<&str> = words.iter().map(String::as_str).collect();
     let names = ["plain_four_slot", "plain_triple", "std_mutex", "std_rwlock"];
     match words[..] {
-        [_, "list"] => names.iter().for_each(|name| [24, 256, 4096].iter().for_each(|bytes| println!("{name},{bytes}"))),
-        [_, "run"] => names.iter().for_each(|name| [24, 256, 4096].iter().for_each(|bytes| each!(*name, *bytes, one, name))),
-        [_, "count", name, bytes, op, calls] => {
-            each!(name, bytes.parse::<u64>().unwrap_or(0), count, op, calls.parse().unwrap_or(0))
-        }
+        [_, "list"] => list(names, ["plain_board_four_slot", "plain_board_triple", "mutex_of_several"]),
+        [_, "run"] => run(names),
+        [_, "count", name, bytes, op, calls] => match name.split_once(':') {
+            Some((kind, n)) => several_count(kind, n.parse().unwrap_or(2), op, calls.parse().unwrap_or(0)),
+            None => each!(name, bytes.parse::<u64>().unwrap_or(0), count, op, calls.parse().unwrap_or(0)),
+        },
         _ => eprintln!("plain list | run | count IMPL BYTES OP N"),
     }
 }

@@ -37,9 +37,11 @@ if command -v valgrind >/dev/null 2>&1; then
     done >>"$room/lines"
 fi
 
-# Medians, each with its ratio to the plain register of its kind; the locks beside the plain four slots.
+# Medians, each with its ratio to the plain register of its kind; the locks beside the plain four slots. Then the registers of several
+# writers and readers.
 sort -t, -k1,1 -k2,2n -k3,3 -k4,4 -k5,5g "$room/lines" | awk -F, '
     function close_group() { if (n) { m[key] = v[int((n + 1) / 2)]; if (!(name "," bytes in seen)) { seen[name "," bytes] = 1; order[++count] = name "," bytes } } }
+    function cell(x, y) { if (x == "") printf " | %-16s", "-"; else printf " | %8.1f %6.2fx", x, (y > 0 ? x / y : 0) }
     { k = $1 "," $2 "," $3 "," $4; if (k != key) { close_group(); n = 0; key = k; name = $1; bytes = $2 } v[++n] = $5 }
     END {
         close_group()
@@ -50,12 +52,29 @@ sort -t, -k1,1 -k2,2n -k3,3 -k4,4 -k5,5g "$room/lines" | awk -F, '
         print ""
         for (j = 1; j <= count; j++) {
             split(order[j], part, ",")
+            if (m[order[j] ",solo,write_ns"] == "") continue
             base = part[1] ~ /triple/ ? "plain_triple" : "plain_four_slot"
             printf "%-18s %5d", part[1], part[2]
             for (i = 1; i <= 12; i++) {
-                x = m[order[j] "," what[i]]; y = m[base "," part[2] "," what[i]]
-                if (x == "") printf " | %-16s", "-"
-                else printf " | %8.1f %6.2fx", x, (y > 0 ? x / y : 0)
+                cell(m[order[j] "," what[i]], m[base "," part[2] "," what[i]])
+            }
+            print ""
+        }
+        printf "\n%-24s %3s", "register of several", "n"
+        split("write ns|read ns|write insn|read insn|t2 Mop/s|t2 r p50|t2 r p99.9|t4 Mop/s|t4 r p50|t4 r p99.9", head, "|")
+        for (i = 1; i <= 10; i++) printf " | %-16s", head[i]
+        print ""
+        split("_solo,write_ns _solo,read_ns write_insn read_insn _t2,total_mops _t2,read_p50_ns _t2,read_p99.9_ns _t4,total_mops _t4,read_p50_ns _t4,read_p99.9_ns", what, " ")
+        split("2 4 8 16", sizes, " ")
+        for (k = 1; k <= 4; k++) for (j = 1; j <= count; j++) {
+            split(order[j], part, ",")
+            n = sizes[k]
+            if (m[order[j] ",n" n "_solo,write_ns"] == "") continue
+            base = part[1] ~ /triple/ ? "plain_board_triple" : "plain_board_four_slot"
+            printf "%-24s %3d", part[1], n
+            for (i = 1; i <= 10; i++) {
+                if (what[i] ~ /insn/) cell(m[part[1] ":" n ",24,solo," what[i]], m[base ":" n ",24,solo," what[i]])
+                else cell(m[order[j] ",n" n what[i]], m[base ",24,n" n what[i]])
             }
             print ""
         }

@@ -1,6 +1,6 @@
 # Refused growth: each request for memory of a program is refused in turn by a malloc that is loaded before the C library's
 # (refuse.c), until a run meets no refusal. Each run ends as with ample memory, or says that there is no memory and prints
-# nothing besides.
+# nothing besides. `growths` gives back all memory that it took, however its call ended.
 
 compiler=
 for name in "${CC:-cc}" gcc clang; do
@@ -33,10 +33,14 @@ refuse_each() {
     refusals=0
     while :; do
         request=$((request + 1))
-        rm -f "$room/met"
-        REFUSE=$request REFUSE_MARK=$room/met LD_PRELOAD=$room/refuse.so \
+        rm -f "$room/met" "$room/left"
+        REFUSE=$request REFUSE_MARK=$room/met REFUSE_LEFT=$room/left LD_PRELOAD=$room/refuse.so \
             "crates/$program/out/$program" "$@" <"$input" >"$room/out" 2>"$room/err"
         status=$?
+        if [ "$program" = growths ] && [ -e "$room/left" ]; then
+            fail "$title" "at request $request it ended and had memory that it didn't give back"
+            return
+        fi
         if [ "$status" = "$wanted_status" ] && cmp -s "$room/out" "$room/wanted" && cmp -s "$room/err" "$room/wanted_line"; then
             [ -e "$room/met" ] && continue
             break
@@ -85,5 +89,25 @@ else
         name=${name%.txt}
         cp "$wanted" "$room/wanted"
         refuse_each growths /dev/null "${name%.*}" "${name#*.}"
+        echo "$((request - 1))" >"$room/requests.$name"
+        echo "$refusals" >"$room/refusals.$name"
+    done
+    for cell in four_slots triple; do
+        alone=$(cat "$room/requests.new_board.2_$cell")
+        title="write, tell, learn, read and finish on a board over $cell take no memory"
+        if [ "$alone" -gt 0 ] && [ "$alone" = "$(cat "$room/requests.tell_and_learn.$cell")" ]; then
+            pass "$title"
+        else
+            fail "$title" "with them there aren't as many requests as for the board alone, $alone"
+        fi
+        # The first board takes its memory, and then the second one, of which no refusal may be seen.
+        title="a board over $cell that wasn't made leaves the others and their records as they were"
+        if [ "$(cat "$room/refusals.renew_board.$cell")" -gt "$alone" ] &&
+            [ "$(cat "$room/refusals.renew_board_again.$cell")" -le "$alone" ] &&
+            [ "$(cat "$room/refusals.new_board_beside.$cell")" -le "$alone" ]; then
+            pass "$title"
+        else
+            fail "$title" "a refusal beyond the $alone requests of the first board is seen"
+        fi
     done
 fi

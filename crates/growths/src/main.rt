@@ -2,10 +2,12 @@
 //! on. The tests run it again and again, with each of its requests for memory refused in turn.
 #![tactic(auto)]
 
+mod boards;
 mod calls;
 mod cells;
 mod documents;
 mod print;
+mod team;
 
 use crate::documents::Stopped;
 use std::alloc::Global;
@@ -36,6 +38,11 @@ fn make(rt: &impl Print, alloc: Global, call: &str, on: &str) -> io::Result<()> 
         "play_cell" | "play_matrix" | "play_board" => calls::play(rt, alloc, on),
         "new_matrix" => calls::new_matrix(rt, alloc, on),
         "make_cell" => cells::make(rt, alloc, on),
+        "new_board" => boards::new(rt, alloc, on),
+        "new_board_beside" => boards::new_beside(rt, alloc, on),
+        "renew_board" => boards::renew(rt, alloc, on, false),
+        "renew_board_again" => boards::renew(rt, alloc, on, true),
+        "tell_and_learn" => boards::tell_and_learn(rt, alloc, on),
         _ => print::stopped(rt, Stopped::NoSuchCall),
     }
 }

@@ -11,9 +11,11 @@ pub loop-preserved : goal.loop-preserved
 loop-preserved g c =
     let left = c.pop.new.self.items in
     let pass = c.in-Some.pass in
-    let before : All (IsPass c.args.board.now) (left ++ pass ∷ []) = subst (λ z. All (IsPass c.args.board.now) z) c.in-Some.ensures.items c.loop.invariant.0 in (
+    let before : All (IsPass c.args.board.now) (left ++ pass ∷ []) =
+    subst (λ z. All (IsPass c.args.board.now) z) c.in-Some.ensures.items c.loop.invariant.0 in (
       all_front (IsPass c.args.board.now) left (pass ∷ []) before,
       rw c.in_ok-push.ensures.items
           (all_snoc (λ t. IsPass t.value.board.now t.value.pass) c.loop.tasks.items c.new.result c.loop.invariant.1
-          (rw c.new.ensures (all_at (IsPass c.args.board.now) (left ++ pass ∷ []) left pass [] (sym (append-nil (left ++ pass ∷ []))) before))),
+          (rw c.new.ensures
+          (all_at (IsPass c.args.board.now) (left ++ pass ∷ []) left pass [] (sym (append-nil (left ++ pass ∷ []))) before))),
     )

@@ -23,6 +23,7 @@ loop-number-preserved g c =
     let some : 0 < c.len-n.result = omega (arith, c.if-n-eq0.false) in
     let lt : who < length xs = omega (arith, mod_below c.loop-number.number c.len-n.result some, c.loop-number.invariant.1) in
     let at : slice_get xs who ≡ Some c.index_mut.result.now = slice_get_read xs _ who _ refl lt c.index_mut.ensures.value in (
-      all_set c.loop-number.self.board xs who c.index_mut.result.now c.write.new.pass c.loop-number.invariant.0 at c.write.ensures.pass c.write.ensures.call.process,
+      all_set c.loop-number.self.board xs who c.index_mut.result.now c.write.new.pass c.loop-number.invariant.0 at
+          c.write.ensures.pass c.write.ensures.call.process,
       length-set xs who c.write.new.pass ∙ c.loop-number.invariant.1,
     )
