@@ -9,7 +9,8 @@ use Rattle.std.proofs.lemmas.Option.{none-some, same_Some, slice_get_within}
 use Rattle.history_core.specs.declared.history.Kind.{Kind}
 use Rattle.history_core.specs.declared.history.Kind.TheVariants.{Write, Read, Refused}
 use Rattle.matrix_core.specs.CallChoices.{choice_of, choices_of, choices_on, HasHappenedBefore}
-use Rattle.matrix_core.specs.Calls.{answered, Call, Dated, HappenedBefore, in_turn, InTurn, is_by, IsCall, IsChosen, IsOf, IsOneOrder, IsPosted, IsRunning}
+use Rattle.matrix_core.specs.Calls.{answered, Call, Dated, HappenedBefore, in_turn, InTurn, is_by, IsCall, IsChosen, IsOf, IsOneOrder}
+use Rattle.matrix_core.specs.Calls.{IsPosted, IsRunning}
 use Rattle.matrix_core.specs.Choices.{AllChoose, Choice, Chooses, ChoosesByKind, IsAtMost, IsFrom, IsIn}
 use Rattle.matrix_core.proofs.calls.Orders.{same_is, saw}
 use Rattle.matrix_core.proofs.lists.Sorting.{in_filter, in_here}
@@ -34,11 +35,13 @@ turns_behind true z xs x y t =
     record { first = suc t.first; second = suc t.second; at_first = t.at_first; at_second = t.at_second; before = omega arith }
 turns_behind false z xs x y t = t
 
-turns_first : {X : Type 0} (b : Bool) (x : X) (xs : List X) (y : X) (k : ℕ) → b ≡ true → slice_get xs k ≡ Some y → InTurns (cond b (x ∷ xs) xs) x y
+turns_first : {X : Type 0} (b : Bool) (x : X) (xs : List X) (y : X) (k : ℕ) → b ≡ true → slice_get xs k ≡ Some y
+    → InTurns (cond b (x ∷ xs) xs) x y
 turns_first true x xs y k e h = record { first = 0; second = suc k; at_first = refl; at_second = h; before = omega arith }
 turns_first false x xs y k e h = cc
 
-kept_behind : {X : Type 0} (b : Bool) (z : X) (xs : List X) (x : X) (k : ℕ) → slice_get xs k ≡ Some x → (n : ℕ) × (slice_get (cond b (z ∷ xs) xs) n ≡ Some x)
+kept_behind : {X : Type 0} (b : Bool) (z : X) (xs : List X) (x : X) (k : ℕ) → slice_get xs k ≡ Some x
+    → (n : ℕ) × (slice_get (cond b (z ∷ xs) xs) n ≡ Some x)
 kept_behind true z xs x k h = (suc k, h)
 kept_behind false z xs x k h = (k, h)
 
@@ -108,7 +111,8 @@ module _ {V : Type 0} where
       pub each : (d : Choice V) → IsIn d past → (i : ℕ) × (b : Call V) × (i < n) × (slice_get order i ≡ Some b) × (d ≡ choice_of i b)
       pub has : (i : ℕ) (b : Call V) → i < n → slice_get order i ≡ Some b → IsIn (choice_of i b) past
 
-    past_on : (n : ℕ) (past : List (Choice V)) (c : Call V) → slice_get order n ≡ Some c → IsPast n past → IsPast (n + 1) (choice_of n c ∷ past)
+    past_on : (n : ℕ) (past : List (Choice V)) (c : Call V) → slice_get order n ≡ Some c → IsPast n past
+        → IsPast (n + 1) (choice_of n c ∷ past)
     past_on n past c at h = record {
       each = λ d m. elim m [
         | inl e ↦ (n, c, omega arith, at, e)
@@ -204,7 +208,8 @@ module _ {V : Type 0} where
         AllChoose Earlier first.item limit past → AllChoose Earlier first.item limit (choices_on n past rest)
     all_choose [] n past at h ok = ok
     all_choose (c ∷ cs) n past at h ok = all_choose cs (n + 1) (choice_of n c ∷ past)
-        (λ k d e. subst (λ z. slice_get order z ≡ Some d) (one_on n k) (at (suc k) d e)) (past_on n past c here h) (chooses n past c here h, ok)
+        (λ k d e. subst (λ z. slice_get order z ≡ Some d) (one_on n k) (at (suc k) d e)) (past_on n past c here h)
+        (chooses n past c here h, ok)
       where
         one_on : (a k : ℕ) → a + suc k ≡ (a + 1) + k
         one_on a k = omega arith
