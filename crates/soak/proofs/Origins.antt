@@ -9,5 +9,6 @@ use Rattle.board_live.specs.Origins.{IsOrigin, is_sound, stamp_before}
 pub not_both : {V : Type 0} (equal : V → V → Bool) (opening : V) (logs : List (List (Entry V))) (task call : ℕ)
     → IsOrigin equal opening logs (Broken task call) → IsOrigin equal opening logs Sound → ⊥
 not_both equal opening logs task call broken sound =
-    let at : IsTrue (is_sound equal opening logs (stamp_before broken.log broken.place) broken.unsound.entry) = sound task broken.place broken.log broken.unsound.entry broken.at broken.unsound.at in
+    let at : IsTrue (is_sound equal opening logs (stamp_before broken.log broken.place) broken.unsound.entry) =
+    sound task broken.place broken.log broken.unsound.entry broken.at broken.unsound.at in
     false≢true (sym broken.unsound.unsound ∙ at)

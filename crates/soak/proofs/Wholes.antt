@@ -6,4 +6,7 @@ use Rattle.std.proofs.lemmas.List.Elements.{All-replicate}
 use Rattle.soak.specs.Findings.{IsWhole}
 
 pub whole : (count number : ℕ) → 0 < count → IsWhole (replicate count number) number
-whole count number some = record { some = omega (arith, length-replicate count number, some); each = All-replicate (λ (word : ℕ). word ≡ number) count number refl }
+whole count number some = record {
+  some = omega (arith, length-replicate count number, some);
+  each = All-replicate (λ (word : ℕ). word ≡ number) count number refl;
+}

@@ -6,4 +6,5 @@ use Rattle.soak.specs.declared.record.Record.{Record}
 use Rattle.soak.proofs.boards.scripts.Given as goal
 
 abbrev pub invariant-loop-task : goal.invariant-loop-task
-invariant-loop-task g l = All (λ (t : List (Wish (Record g.row.W.Denot))). All (Obeys (λ _. true)) t) l.all.items × (length l.all.items ≡ l.task)
+invariant-loop-task g l =
+    All (λ (t : List (Wish (Record g.row.W.Denot))). All (Obeys (λ _. true)) t) l.all.items × (length l.all.items ≡ l.task)
