@@ -37,7 +37,8 @@ refuse_each() {
         REFUSE=$request REFUSE_MARK=$room/met REFUSE_LEFT=$room/left LD_PRELOAD=$room/refuse.so \
             "crates/$program/out/$program" "$@" <"$input" >"$room/out" 2>"$room/err"
         status=$?
-        if [ "$program" = growths ] && [ -e "$room/left" ]; then
+        # What a thread of the C library was given stays with the library.
+        if [ "$program" = growths ] && [ "$1" != run_tasks ] && [ -e "$room/left" ]; then
             fail "$title" "at request $request it ended and had memory that it didn't give back"
             return
         fi

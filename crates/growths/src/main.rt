@@ -6,6 +6,7 @@ mod boards;
 mod calls;
 mod cells;
 mod documents;
+mod lanes;
 mod print;
 mod team;
 
@@ -13,6 +14,7 @@ use crate::documents::Stopped;
 use std::alloc::Global;
 use std::io;
 use std::io::ErrorKind;
+use std::thread::Threads;
 
 fn main(rt: HostRuntime) -> io::Result<()> {
     let words: Vec<String> = match std::env::args(&rt) {
@@ -31,7 +33,7 @@ fn main(rt: HostRuntime) -> io::Result<()> {
     }
 }
 
-fn make(rt: &impl Print, alloc: Global, call: &str, on: &str) -> io::Result<()> {
+fn make<R: Print + Threads + Sync>(rt: &R, alloc: Global, call: &str, on: &str) -> io::Result<()> {
     match call {
         "read_document" => calls::read(rt, alloc, on),
         "report_text" => calls::text(rt, alloc, on),
@@ -42,6 +44,8 @@ fn make(rt: &impl Print, alloc: Global, call: &str, on: &str) -> io::Result<()> 
         "new_board_beside" => boards::new_beside(rt, alloc, on),
         "renew_board" => boards::renew(rt, alloc, on, false),
         "renew_board_again" => boards::renew(rt, alloc, on, true),
+        "new_lane" => lanes::new_lane(rt, alloc, on),
+        "run_tasks" => lanes::tasks(rt, alloc, on),
         "tell_and_learn" => boards::tell_and_learn(rt, alloc, on),
         _ => print::stopped(rt, Stopped::NoSuchCall),
     }

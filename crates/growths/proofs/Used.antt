@@ -1,0 +1,74 @@
+-- Lanes that have run, whose passes may be used on.
+use Rattle.std.proofs.lemmas.Option.{same_Some, none-some}
+use Rattle.std.proofs.Common.{arith, refl, sym, subst, zero, suc, ◌≡◌, ◌+◌, length, take, drop}
+use Rattle.std.specs.Prelude.{ℕ, List, [], ◌∷◌, ◌++◌, All, slice_get, Some}
+use Rattle.std.proofs.lemmas.List.Elements.{All-nil, All-cons}
+use Rattle.std.specs.declared.cmp.PartialEq.{Ghosts as EqWords}
+use Rattle.cell_live.specs.declared.cell.Calls.{Ghosts as CellWords}
+use Rattle.board_live.specs.declared.board.Board.{Board}
+use Rattle.board_live.specs.declared.board.Pass.{Pass}
+use Rattle.board_live.specs.declared.clocked.Clocked.{Clocked}
+use Rattle.board_live.specs.declared.lane.Lane.{Lane}
+use Rattle.board_live.specs.declared.posted.RecordLaw.{Ghosts as LawWords}
+use Rattle.board_live.specs.Boards.{IsPass}
+use Rattle.board_live.specs.Deals.{AllPasses}
+use Rattle.board_live.specs.Jobs.{AllReady, EachStep}
+use Rattle.board_live.specs.Tasks.{Ran}
+use Rattle.board_live.proofs.Works.{changed_whole}
+
+-- what holds of each element of a list after a change
+pub all_after : {X : Type 0} (P : X → Type 0) (old new : List X) → length new ≡ length old
+    → ((k : ℕ) (x y : X) → slice_get old k ≡ Some x → slice_get new k ≡ Some y → P y) → All P new
+all_after P [] [] e each = All-nil P
+all_after P [] (y ∷ ys) e each = absurd (omega (arith, e))
+all_after P (x ∷ xs) [] e each = All-nil P
+all_after P (x ∷ xs) (y ∷ ys) e each =
+    All-cons P y ys (each 0 x y refl refl) (all_after P xs ys (omega (arith, e)) (λ k a b. each (suc k) a b))
+
+-- what holds of the element of a list of one
+pub only : {X : Type 0} (P : X → Type 0) (x : X) (k : ℕ) (y : X) → slice_get (x ∷ []) k ≡ Some y → P x → P y
+only P x zero y e p = subst P (same_Some x y e) p
+only P x (suc k) y e p = absurd (none-some y e)
+
+-- the last element of a list stands after the others
+pub at_end : {X : Type 0} (xs : List X) (x : X) → slice_get (xs ++ x ∷ []) (length xs) ≡ Some x
+at_end [] x = refl
+at_end (y ∷ ys) x = at_end ys x
+
+-- what holds of each element of a list holds of the last and of those before it
+last_and_others : {X : Type 0} (P : X → Type 0) (xs : List X) (x : X) → All P (xs ++ x ∷ []) → P x × All P xs
+last_and_others P [] x all = (all 0 x (omega arith), All-nil P)
+last_and_others P (y ∷ ys) x all =
+    let rest = last_and_others P ys x (λ k d l. all (suc k) d (omega (arith, l))) in
+    (rest.0, All-cons P y ys (all 0 y (omega arith)) rest.1)
+
+module _ {V C P G T : Type 0} {law : LawWords V} {eq : EqWords V} {cells : CellWords C (Clocked V) P G T} where
+  -- lanes that have run on a board still have its passes
+  pub used_on : (may_stop : ℕ → ℕ → Type 0) (board : Board V C P G T law eq cells) (n : ℕ)
+      (old before new now : List (Lane V C P G T law eq cells))
+      → n ≡ length old → before ≡ old → EachStep (Ran may_stop board) 0 before new → now ≡ take n (new ++ drop (length new) old)
+      → All (λ (l : Lane V C P G T law eq cells). IsPass board l.pass) now
+  used_on may_stop board n old before new now count same ran changed =
+      let Q : Lane V C P G T law eq cells → Type 0 = λ l. IsPass board l.pass in
+      subst (All Q) (sym (changed_whole n old before new now count same ran.lengths changed))
+      (all_after Q before new ran.lengths (λ k x y a b. (ran.each k x y a b).of))
+
+  -- a lane that is taken out, and those that are left, have passes of the board
+  pub taken_apart : (board : Board V C P G T law eq cells) (whole left : List (Lane V C P G T law eq cells))
+      (lane : Lane V C P G T law eq cells)
+      → whole ≡ left ++ lane ∷ [] → All (λ (l : Lane V C P G T law eq cells). IsPass board l.pass) whole
+      → IsPass board lane.pass × All (λ (l : Lane V C P G T law eq cells). IsPass board l.pass) left
+  taken_apart board whole left lane e all =
+      let Q : Lane V C P G T law eq cells → Type 0 = λ l. IsPass board l.pass in
+      last_and_others Q left lane (subst (All Q) e all)
+
+  -- a lane of the last pass of a board may run alone
+  pub one_ready : (board : Board V C P G T law eq cells) (passes rest : List (Pass V C P G T law eq cells))
+      (pass : Pass V C P G T law eq cells)
+      (lane : Lane V C P G T law eq cells) → AllPasses board passes → passes ≡ rest ++ pass ∷ [] → lane.pass ≡ pass
+      → AllReady (λ (l : Lane V C P G T law eq cells). IsPass board l.pass) 0 (lane ∷ [])
+  one_ready board passes rest pass lane all e is =
+      let Q : Lane V C P G T law eq cells → Type 0 = λ l. IsPass board l.pass in
+      let at : slice_get passes (length rest) ≡ Some pass = subst (λ z. slice_get z (length rest) ≡ Some pass) (sym e) (at_end rest pass) in
+      let of : IsPass board lane.pass = subst (IsPass board) (sym is) (all.of (length rest) pass at) in
+      record { fits = omega arith; each = λ k x h. only Q lane k x h of }
