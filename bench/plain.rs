@@ -112,10 +112,10 @@ macro_rules! locked {
                 $lock::new([0; N])
             }
             fn write(&self, _: &mut (), item: &Record<N>) {
-                *self.$write().unwrap() = *item
+                *$lock::$write(self).unwrap() = *item
             }
             fn read(&self, _: &mut ()) -> Record<N> {
-                *self.$read().unwrap()
+                *$lock::$read(self).unwrap()
             }
         }
     };
@@ -363,17 +363,28 @@ fn matrix<R: Register<5>>(n: usize) -> Vec<Member<R>> {
     members
 }
 
-impl Process for Arc<Mutex<Record<3>>> {
-    fn write(&mut self, item: &Record<3>) {
-        *self.lock().unwrap() = *item
-    }
-    fn read(&mut self) -> Record<3> {
-        *self.lock().unwrap()
-    }
+macro_rules! locked_by_all {
+    ($lock:ident, $write:ident, $read:ident) => {
+        impl Process for Arc<$lock<Record<3>>> {
+            fn write(&mut self, item: &Record<3>) {
+                *$lock::$write(self).unwrap() = *item
+            }
+            fn read(&mut self) -> Record<3> {
+                *$lock::$read(self).unwrap()
+            }
+        }
+    };
 }
 
-fn locked(n: usize) -> Vec<Arc<Mutex<Record<3>>>> {
+locked_by_all!(Mutex, lock, lock);
+locked_by_all!(RwLock, write, read);
+
+fn mutex(n: usize) -> Vec<Arc<Mutex<Record<3>>>> {
     vec![Arc::new(Mutex::new([0; 3])); n]
+}
+
+fn rwlock(n: usize) -> Vec<Arc<RwLock<Record<3>>>> {
+    vec![Arc::new(RwLock::new([0; 3])); n]
 }
 
 /// The processes call in turn.
@@ -480,7 +491,8 @@ fn several_count(name: &str, n: usize, op: &str, calls: u64) {
     let sum = match name {
         "plain_board_four_slot" => in_turn(&mut matrix::<FourSlot<5>>(n), op, calls),
         "plain_board_triple" => in_turn(&mut matrix::<Triple<5>>(n), op, calls),
-        "mutex_of_several" => in_turn(&mut locked(n), op, calls),
+        "mutex_of_several" => in_turn(&mut mutex(n), op, calls),
+        "rwlock_of_several" => in_turn(&mut rwlock(n), op, calls),
         _ => return eprintln!("no such register"),
     };
     println!("# {sum}");
@@ -506,7 +518,7 @@ macro_rules! each {
     };
 }
 
-fn list(names: [&str; 4], of_several: [&str; 3]) {
+fn list(names: [&str; 4], of_several: [&str; 4]) {
     for name in names {
         [24, 256, 4096].iter().for_each(|bytes| println!("{name},{bytes}"));
     }
@@ -521,7 +533,8 @@ fn run(names: [&str; 4]) {
     }
     several("plain_board_four_slot", matrix::<FourSlot<5>>);
     several("plain_board_triple", matrix::<Triple<5>>);
-    several("mutex_of_several", locked);
+    several("mutex_of_several", mutex);
+    several("rwlock_of_several", rwlock);
 }
 
 fn main() {
@@ -529,7 +542,7 @@ fn main() {
     let words: Vec<&str> = words.iter().map(String::as_str).collect();
     let names = ["plain_four_slot", "plain_triple", "std_mutex", "std_rwlock"];
     match words[..] {
-        [_, "list"] => list(names, ["plain_board_four_slot", "plain_board_triple", "mutex_of_several"]),
+        [_, "list"] => list(names, ["plain_board_four_slot", "plain_board_triple", "mutex_of_several", "rwlock_of_several"]),
         [_, "run"] => run(names),
         [_, "count", name, bytes, op, calls] => match name.split_once(':') {
             Some((kind, n)) => several_count(kind, n.parse().unwrap_or(2), op, calls.parse().unwrap_or(0)),
