@@ -1,6 +1,7 @@
 -- What a race tells of scripts that were run whole: each entry of a log answers its wish, so the counts are those of the wishes. And
 -- lanes of a new board have worked with fresh passes, so their logs have one order, and are sound.
-use Rattle.std.proofs.Common.{◌≡◌, Bool, true, false, ℕ, zero, suc, ◌+◌, ◌<◌, ◌≤◌, List, [], ◌∷◌, ◌++◌, length, get_or, map, take, refl, sym, ◌∙◌, ap, subst, arith, inl, inr, ◌⊎◌, ⊎_elim, Global}
+use Rattle.std.proofs.Common.{◌≡◌, Bool, true, false, ℕ, zero, suc, ◌+◌, ◌<◌, ◌≤◌, List, [], ◌∷◌, ◌++◌, length, get_or, map, take, refl}
+use Rattle.std.proofs.Common.{sym, ◌∙◌, ap, subst, arith, inl, inr, ◌⊎◌, ⊎_elim, Global}
 use Rattle.std.specs.Prelude.{slice_get, Option, Some, None, All, IsTrue, Vec, cond, count_by}
 use mathlib.Core.List.{map-map}
 use Rattle.std.proofs.lemmas.List.{length-map, take_all}
@@ -30,12 +31,14 @@ use Rattle.board_live.specs.Origins.{IsOrigin}
 use Rattle.board_live.specs.Tasks.{AreCalls, Ran, Replies}
 use Rattle.board_live.specs.Worked.{HaveWorked, logs_of, wishes_in}
 use Rattle.schedule_text.specs.reading.Plans.{members, wish_fits}
-use Rattle.fsr.specs.Races.{CountsAll, CountsScript, IsRace, RaceBoard, RaceLane, RacePass, broken_at, counts_in, counts_of, is_read, is_refused, is_seen, is_write, is_written, replies, same_band}
+use Rattle.fsr.specs.Races.{CountsAll, CountsScript, IsRace, RaceBoard, RaceLane, RacePass, broken_at, counts_in, counts_of, is_read}
+use Rattle.fsr.specs.Races.{is_refused, is_seen, is_write, is_written, replies, same_band}
 use Rattle.schedule_text.specs.declared.telling.report.Counts.{Counts}
 use Rattle.schedule_text.specs.declared.telling.report.Report.{Report}
 use Rattle.schedule_text.specs.declared.telling.report.Report.TheVariants.{Race}
 
-get_map_back : {A B : Type 0} (f : A → B) (xs : List A) (k : ℕ) (y : B) → slice_get (map f xs) k ≡ Some y → (x : A) × (slice_get xs k ≡ Some x) × (f x ≡ y)
+get_map_back : {A B : Type 0} (f : A → B) (xs : List A) (k : ℕ) (y : B) → slice_get (map f xs) k ≡ Some y
+    → (x : A) × (slice_get xs k ≡ Some x) × (f x ≡ y)
 get_map_back f [] k y h = absurd (none-some y h)
 get_map_back f (x ∷ xs) zero y h = (x, refl, same_Some (f x) y h)
 get_map_back f (x ∷ xs) (suc k) y h = get_map_back f xs k y h
@@ -54,24 +57,28 @@ wish_obeys (Write item) h = h
 wish_obeys Read h = h
 
 -- scripts of records that fit may be run
-pub scripts_obey : (scripts : List (List (Wish Band))) → All (λ script. All (λ wish. IsTrue (wish_fits wish)) script) scripts → All (λ script. All (Obeys fits) script) scripts
+pub scripts_obey : (scripts : List (List (Wish Band))) → All (λ script. All (λ wish. IsTrue (wish_fits wish)) script) scripts
+    → All (λ script. All (Obeys fits) script) scripts
 scripts_obey scripts h = λ k d l. λ j e m. wish_obeys (get_or (get_or scripts k d) j e) (h k d l j e m)
 
-seen_as_read : (limit process : ℕ) (wish : Wish Band) (seen chosen : Clocked Band) (reply : Reply Band) → Replies limit process wish seen chosen reply
+seen_as_read : (limit process : ℕ) (wish : Wish Band) (seen chosen : Clocked Band) (reply : Reply Band)
+    → Replies limit process wish seen chosen reply
     → one (is_seen reply) ≡ one (is_read wish)
 seen_as_read limit process Read seen chosen reply h = rw h.0 refl
 seen_as_read limit process (Write item) seen chosen (Written s) h = refl
 seen_as_read limit process (Write item) seen chosen (Seen p) h = absurd h
 seen_as_read limit process (Write item) seen chosen (Ended p) h = refl
 
-written_as_write : (limit process : ℕ) (wish : Wish Band) (seen chosen : Clocked Band) (reply : Reply Band) → Replies limit process wish seen chosen reply
+written_as_write : (limit process : ℕ) (wish : Wish Band) (seen chosen : Clocked Band) (reply : Reply Band)
+    → Replies limit process wish seen chosen reply
     → one (is_written reply) + one (is_refused reply) ≡ one (is_write wish)
 written_as_write limit process Read seen chosen reply h = rw h.0 refl
 written_as_write limit process (Write item) seen chosen (Written s) h = refl
 written_as_write limit process (Write item) seen chosen (Seen p) h = absurd h
 written_as_write limit process (Write item) seen chosen (Ended p) h = refl
 
-reads_answered : (board : RaceBoard) (old : RacePass) (log : List (Entry Band)) (new : RacePass) → AreCalls board old log new → replies is_seen log ≡ count_by is_read (map (λ e. e.wish) log)
+reads_answered : (board : RaceBoard) (old : RacePass) (log : List (Entry Band)) (new : RacePass) → AreCalls board old log new
+    → replies is_seen log ≡ count_by is_read (map (λ e. e.wish) log)
 reads_answered board old [] new h = refl
 reads_answered board old (e ∷ es) new h =
     let here_one = seen_as_read _ _ e.wish _ _ e.reply h.1.replies in
@@ -92,14 +99,17 @@ writes_answered board old (e ∷ es) new h =
     omega (arith, here_one, rest, here, beside, there)
 
 -- the counts of a lane that began with an empty log and ran to its end
-lane_counts : (may_stop : ℕ → ℕ → Type 0) → ((task call : ℕ) → may_stop task call → ⊥) → (board : RaceBoard) (task : ℕ) (script : List (Wish Band)) (old new : RaceLane)
+lane_counts : (may_stop : ℕ → ℕ → Type 0) → ((task call : ℕ) → may_stop task call → ⊥)
+    → (board : RaceBoard) (task : ℕ) (script : List (Wish Band)) (old new : RaceLane)
     → old.script.items ≡ script → old.log.items ≡ [] → Ran may_stop board task old new → CountsScript script (counts_of new.log.items)
 lane_counts may_stop never board task script old new plans empty ran =
     let log = new.log.items in
     let is_log : log ≡ ran.added = ran.log ∙ ap (λ z. z ++ ran.added) empty in
     let same : new.script.items ≡ script = ap (λ v. v.items) ran.script ∙ plans in
-    let whole : length log ≡ length script = ⊎_elim (λ (e : length log ≡ length new.script.items). e ∙ ap length same) (λ stops. absurd (never task _ stops)) ran.whole in
-    let wishes : map (λ (e : Entry Band). e.wish) log ≡ script = new.kept.wishes ∙ ap (take (length log)) same ∙ take_all (length log) script (omega (arith, whole)) in
+    let whole : length log ≡ length script =
+    ⊎_elim (λ (e : length log ≡ length new.script.items). e ∙ ap length same) (λ stops. absurd (never task _ stops)) ran.whole in
+    let wishes : map (λ (e : Entry Band). e.wish) log ≡ script =
+    new.kept.wishes ∙ ap (take (length log)) same ∙ take_all (length log) script (omega (arith, whole)) in
     let calls : AreCalls board old.pass log new.pass = subst (λ z. AreCalls board old.pass z new.pass) (sym is_log) ran.calls in
     record {
       reads = reads_answered board old.pass log new.pass calls ∙ ap (count_by is_read) wishes;
@@ -107,7 +117,8 @@ lane_counts may_stop never board task script old new plans empty ran =
     }
 
 -- under a gate that never stops a race has the counts of its scripts
-pub race_counts : (may_stop : ℕ → ℕ → Type 0) → ((task call : ℕ) → may_stop task call → ⊥) → (opening : Band) (limit : ℕ) (scripts : List (List (Wish Band))) (report : Report)
+pub race_counts : (may_stop : ℕ → ℕ → Type 0) → ((task call : ℕ) → may_stop task call → ⊥)
+    → (opening : Band) (limit : ℕ) (scripts : List (List (Wish Band))) (report : Report)
     → IsRace may_stop opening limit scripts report → CountsAll scripts report
 race_counts may_stop never opening limit scripts report h =
     let tell : RaceLane → Counts = λ (l : RaceLane). counts_of l.log.items in
@@ -116,15 +127,19 @@ race_counts may_stop never opening limit scripts report h =
       all = all;
       each = λ k script counts at_script at_counts.
           let ended = get_map_back tell h.ended k counts at_counts in
-          let began = some_at h.lanes k (let n : k < length h.ended = slice_get_within h.ended k ended.0 ended.1 in omega (arith, n, h.ran.lengths)) in
+          let began = some_at h.lanes k
+          (let n : k < length h.ended = slice_get_within h.ended k ended.0 ended.1 in omega (arith, n, h.ran.lengths)) in
           let at = lane_at h.passes scripts h.lanes h.begins k began.0 began.1 in
           let same : script ≡ at.1 = same_Some script at.1 (sym at_script ∙ at.3) in
           subst (CountsScript script) ended.2
-          (lane_counts may_stop never h.board (0 + k) script began.0 ended.0 (at.4.plans ∙ sym same) at.4.empty (h.ran.each k began.0 ended.0 began.1 ended.1));
+          (lane_counts may_stop never h.board (0 + k) script began.0 ended.0 (at.4.plans ∙ sym same) at.4.empty
+          (h.ran.each k began.0 ended.0 began.1 ended.1));
     })
 
 -- the lanes of a new board may run
-pub race_ready : (board : RaceBoard) (n limit : ℕ) (first : Clocked Band) (passes : List RacePass) (scripts : List (List (Wish Band))) (lanes now : List RaceLane) → IsNew n limit first board passes
+pub race_ready : (board : RaceBoard) (n limit : ℕ) (first : Clocked Band) (passes : List RacePass) (scripts : List (List (Wish Band)))
+    (lanes now : List RaceLane)
+    → IsNew n limit first board passes
     → AreLanes passes scripts lanes → now ≡ lanes → AllReady (λ (l : RaceLane). IsPass board l.pass) 0 now
 race_ready board n limit first passes scripts lanes now new are same =
     subst (λ z. AllReady (λ (l : RaceLane). IsPass board l.pass) 0 z) (sym same) (all_ready board passes scripts lanes new.passes_of are)
@@ -132,7 +147,8 @@ race_ready board n limit first passes scripts lanes now new are same =
 -- a document's scripts ask for few calls
 few_wishes : (scripts : List (List (Wish Band))) → members scripts ≡ wishes_in scripts
 few_wishes [] = refl
-few_wishes (script ∷ scripts) = sum_by-cons (λ (s : List (Wish Band)). length s) script scripts ∙ ap (λ n. length script + n) (few_wishes scripts)
+few_wishes (script ∷ scripts) =
+    sum_by-cons (λ (s : List (Wish Band)). length s) script scripts ∙ ap (λ n. length script + n) (few_wishes scripts)
 
 -- the lanes of a new board that ran may be ended
 pub race_worked : (may_stop : ℕ → ℕ → Type 0) (opening : Band) (limit n : ℕ) (scripts : List (List (Wish Band))) (board : RaceBoard)

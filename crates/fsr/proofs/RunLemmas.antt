@@ -1,5 +1,6 @@
 -- The ends of a run: each says what was taken and what went out, and why the status tells it.
-use Rattle.std.proofs.Common.{rules, ◌≡◌, ◌⊎◌, inl, inr, ◌≤◌, ℕ, List, [], length, Option, Some, None, Result, Ok, Err, refl, ap, arith, subst}
+use Rattle.std.proofs.Common.{rules, ◌≡◌, ◌⊎◌, inl, inr, ◌≤◌, ℕ, List, [], length, Option, Some, None, Result, Ok, Err, refl, ap, arith}
+use Rattle.std.proofs.Common.{subst}
 use Rattle.std.proofs.lemmas.List.{take_all}
 use Rattle.std.proofs.KnownBytes.{Consumes-nil, Appends-nil}
 use Rattle.std.specs.Io.{StartsWith}
@@ -21,7 +22,8 @@ use Rattle.fsr.specs.declared.fault.Fault.{Fault}
 use Rattle.fsr.specs.declared.fault.Fault.TheVariants as fault
 
 -- memory ran out, and nothing went out
-pub ends_without_memory : (command : Option Want) (in_old in_new out : Option (List ℕ)) (taken : List ℕ) → TakesBytes in_old in_new taken → Runs command in_old in_new out out 4
+pub ends_without_memory : (command : Option Want) (in_old in_new out : Option (List ℕ)) (taken : List ℕ) → TakesBytes in_old in_new taken
+    → Runs command in_old in_new out out 4
 ends_without_memory command in_old in_new out taken takes = record {
   taken = taken;
   sent = [];
@@ -56,7 +58,8 @@ ends_without_command command left out none = record {
 }
 
 -- a read failed
-pub ends_unread : (command : Option Want) (in_old in_new out : Option (List ℕ)) (taken : List ℕ) → TakesBytes in_old in_new taken → Runs command in_old in_new out out 5
+pub ends_unread : (command : Option Want) (in_old in_new out : Option (List ℕ)) (taken : List ℕ) → TakesBytes in_old in_new taken
+    → Runs command in_old in_new out out 5
 ends_unread command in_old in_new out taken takes = record {
   taken = taken;
   sent = [];
@@ -70,7 +73,8 @@ ends_unread command in_old in_new out taken takes = record {
 }
 
 -- a fault is answered, and nothing went out
-ends_with_fault : (want : Want) (in_old in_new out : Option (List ℕ)) (taken : List ℕ) (f : Fault) → TakesBytes in_old in_new taken → IsWhole taken in_new
+ends_with_fault : (want : Want) (in_old in_new out : Option (List ℕ)) (taken : List ℕ) (f : Fault) → TakesBytes in_old in_new taken
+    → IsWhole taken in_new
     → IsAnswer want taken (Err f) → Runs (Some want) in_old in_new out out (fault_status f)
 ends_with_fault want in_old in_new out taken f takes whole answered = record {
   taken = taken;
@@ -84,14 +88,20 @@ ends_with_fault want in_old in_new out taken f takes whole answered = record {
   whole = λ not_two not_four not_five. whole;
 }
 
-pub ends_refused : (want : Want) (in_old in_new out : Option (List ℕ)) (taken given : List ℕ) (f : Fault) (status : ℕ) → TakesBytes in_old in_new taken → IsWhole taken in_new
-    → given ≡ taken → Gives (IsAnswer want given) (Err f) → (status ≡ fault_status f) ⊎ (status ≡ 4) → Runs (Some want) in_old in_new out out status
-ends_refused want in_old in_new out taken given f status takes whole same_bytes refused (inr four) = rw four (ends_without_memory (Some want) in_old in_new out taken takes)
-ends_refused want in_old in_new out taken given fault.NoMemory status takes whole same_bytes refused (inl same) = rw same (ends_without_memory (Some want) in_old in_new out taken takes)
+pub ends_refused : (want : Want) (in_old in_new out : Option (List ℕ)) (taken given : List ℕ) (f : Fault) (status : ℕ)
+    → TakesBytes in_old in_new taken → IsWhole taken in_new
+    → given ≡ taken → Gives (IsAnswer want given) (Err f) → (status ≡ fault_status f) ⊎ (status ≡ 4)
+    → Runs (Some want) in_old in_new out out status
+ends_refused want in_old in_new out taken given f status takes whole same_bytes refused (inr four) =
+    rw four (ends_without_memory (Some want) in_old in_new out taken takes)
+ends_refused want in_old in_new out taken given fault.NoMemory status takes whole same_bytes refused (inl same) =
+    rw same (ends_without_memory (Some want) in_old in_new out taken takes)
 ends_refused want in_old in_new out taken given (fault.Document refusal) status takes whole same_bytes refused (inl same) =
-    rw same (ends_with_fault want in_old in_new out taken (fault.Document refusal) takes whole (subst (λ b. IsAnswer want b (Err (fault.Document refusal))) same_bytes (refused (search rules))))
+    rw same (ends_with_fault want in_old in_new out taken (fault.Document refusal) takes whole
+    (subst (λ b. IsAnswer want b (Err (fault.Document refusal))) same_bytes (refused (search rules))))
 ends_refused want in_old in_new out taken given (fault.Schedule position) status takes whole same_bytes refused (inl same) =
-    rw same (ends_with_fault want in_old in_new out taken (fault.Schedule position) takes whole (subst (λ b. IsAnswer want b (Err (fault.Schedule position))) same_bytes (refused (search rules))))
+    rw same (ends_with_fault want in_old in_new out taken (fault.Schedule position) takes whole
+    (subst (λ b. IsAnswer want b (Err (fault.Schedule position))) same_bytes (refused (search rules))))
 
 verdict_is_low : (v : Verdict) → status_of v ≤ 1
 verdict_is_low Lawful = search rules
@@ -119,12 +129,15 @@ status_is_low (Ok (Check history order)) a answered =
 status_is_low (Ok (Cell schedule)) a answered = let same : a.status ≡ 0 = ap (λ b. b.status) answered.2 in omega (arith, same)
 status_is_low (Ok (Matrix schedule titled)) a answered = let same : a.status ≡ 0 = ap (λ b. b.status) answered.3 in omega (arith, same)
 status_is_low (Ok (Board schedule titled)) a answered = let same : a.status ≡ 0 = ap (λ b. b.status) answered.3 in omega (arith, same)
-status_is_low (Ok (Race opening limit scripts)) a answered = let same : a.status ≡ race_status answered.0 = ap (λ b. b.status) answered.2 in rw same (race_is_low answered.0)
+status_is_low (Ok (Race opening limit scripts)) a answered = let same : a.status ≡ race_status answered.0 = ap (λ b. b.status) answered.2 in
+    rw same (race_is_low answered.0)
 status_is_low (Err refusal) a answered = absurd (cc)
 
 -- the text went out whole
-pub ends_told : (want : Want) (in_old in_new out_old out_new : Option (List ℕ)) (taken given text : List ℕ) (a : Answer) → TakesBytes in_old in_new taken → IsWhole taken in_new
-    → given ≡ taken → IsAnswer want given (Ok a) → text ≡ a.text → Appends out_old out_new text → Runs (Some want) in_old in_new out_old out_new a.status
+pub ends_told : (want : Want) (in_old in_new out_old out_new : Option (List ℕ)) (taken given text : List ℕ) (a : Answer)
+    → TakesBytes in_old in_new taken → IsWhole taken in_new
+    → given ≡ taken → IsAnswer want given (Ok a) → text ≡ a.text → Appends out_old out_new text
+    → Runs (Some want) in_old in_new out_old out_new a.status
 ends_told want in_old in_new out_old out_new taken given text a takes whole same_bytes answered same_text sends =
     let answer : IsAnswer want taken (Ok a) = subst (λ b. IsAnswer want b (Ok a)) same_bytes answered in
     let low : a.status ≤ 1 = status_is_low (document_of want taken) a answer in
@@ -141,8 +154,10 @@ ends_told want in_old in_new out_old out_new taken given text a takes whole same
     }
 
 -- a write failed after a front of the text
-pub ends_cut : (want : Want) (in_old in_new out_old out_new : Option (List ℕ)) (taken given text sent : List ℕ) (a : Answer) → TakesBytes in_old in_new taken → IsWhole taken in_new
-    → given ≡ taken → IsAnswer want given (Ok a) → text ≡ a.text → StartsWith text sent → Appends out_old out_new sent → Runs (Some want) in_old in_new out_old out_new 5
+pub ends_cut : (want : Want) (in_old in_new out_old out_new : Option (List ℕ)) (taken given text sent : List ℕ) (a : Answer)
+    → TakesBytes in_old in_new taken → IsWhole taken in_new
+    → given ≡ taken → IsAnswer want given (Ok a) → text ≡ a.text → StartsWith text sent → Appends out_old out_new sent
+    → Runs (Some want) in_old in_new out_old out_new 5
 ends_cut want in_old in_new out_old out_new taken given text sent a takes whole same_bytes answered same_text front sends =
     let answer : IsAnswer want taken (Ok a) = subst (λ b. IsAnswer want b (Ok a)) same_bytes answered in
     record {

@@ -32,10 +32,12 @@ module _ {R : Type 0} (S T : R → R → Type 0) (to : (x y : R) → S x y → T
   latest_to opening ops order reads = λ i o listed. right_to o.kind o.item _ (reads i o listed)
 
   atomic_to : (opening : R) (ops : List (Op R)) (order : List ℕ) → IsAtomicOrder S opening ops order → IsAtomicOrder T opening ops order
-  atomic_to opening ops order atomic = record { listing = atomic.listing; precedence = atomic.precedence; reading = latest_to opening ops order atomic.reading }
+  atomic_to opening ops order atomic =
+      record { listing = atomic.listing; precedence = atomic.precedence; reading = latest_to opening ops order atomic.reading }
 
 verdict_to : {R : Type 0} (S T : R → R → Type 0) → ((x y : R) → S x y → T x y) → ((x y : R) → T x y → S x y)
-    → (opening : R) (terms : List Term) (ops : List (Op R)) (order : List ℕ) (v : Verdict) → IsVerdict S opening terms ops order v → IsVerdict T opening terms ops order v
+    → (opening : R) (terms : List Term) (ops : List (Op R)) (order : List ℕ) (v : Verdict) → IsVerdict S opening terms ops order v
+    → IsVerdict T opening terms ops order v
 verdict_to S T to from opening terms ops order Lawful is = (atomic_to S T to opening ops order is.0, is.1)
 verdict_to S T to from opening terms ops order Listing is = is
 verdict_to S T to from opening terms ops order Precedence is = is
@@ -45,4 +47,5 @@ verdict_to S T to from opening terms ops order Limit is = (atomic_to S T to open
 -- the verdict by fields is the verdict
 pub verdict_by_fields : (opening : Band) (terms : List Term) (ops : List (Op Band)) (order : List ℕ) (v : Verdict)
     → IsVerdict HaveSameFields opening terms ops order v → IsVerdict (λ x y. x ≡ y) opening terms ops order v
-verdict_by_fields opening terms ops order v is = verdict_to HaveSameFields (λ x y. x ≡ y) same_from_fields fields_from_same opening terms ops order v is
+verdict_by_fields opening terms ops order v is =
+    verdict_to HaveSameFields (λ x y. x ≡ y) same_from_fields fields_from_same opening terms ops order v is

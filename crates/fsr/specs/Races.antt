@@ -10,7 +10,8 @@ use Rattle.cell_live.specs.declared.cell.Calls.{Ghosts as CellWords}
 use Rattle.cell_live.specs.declared.four_slot.FourSlotPut.{FourSlotPut}
 use Rattle.cell_live.specs.declared.four_slot.FourSlotGet.{FourSlotGet}
 use Rattle.cell_live.specs.declared.four_slot.FourSlotTold.{FourSlotTold}
-use Rattle.cell_live.specs.four_slot.Words.{opening_of, is_put_of, is_get_of, is_told_of, written_by, answers_of, at_hand_of, told_to, named_by, writer_accesses, reader_accesses}
+use Rattle.cell_live.specs.four_slot.Words.{opening_of, is_put_of, is_get_of, is_told_of, written_by, answers_of, at_hand_of, told_to}
+use Rattle.cell_live.specs.four_slot.Words.{named_by, writer_accesses, reader_accesses}
 use Rattle.board_live.specs.contracts.posted.BandRecordLaw.TheImpl as band_law
 use Rattle.board_live.specs.declared.board.Board.{Board}
 use Rattle.board_live.specs.declared.board.Pass.{Pass}
@@ -69,7 +70,8 @@ broken_at (Broken task call) = Some (task, call)
 -- ---- the race
 
 -- the words of the contract of a four-slot cell of bands
-abbrev pub words : CellWords (FourSlotCell (Clocked Band)) (Clocked Band) (FourSlotPut (Clocked Band)) (FourSlotGet (Clocked Band)) (FourSlotTold (Clocked Band))
+abbrev pub words : CellWords (FourSlotCell (Clocked Band)) (Clocked Band) (FourSlotPut (Clocked Band)) (FourSlotGet (Clocked Band))
+    (FourSlotTold (Clocked Band))
 words = record {
   opening = opening_of;
   is_put = is_put_of;
@@ -85,13 +87,16 @@ words = record {
 }
 
 abbrev pub RaceBoard : Type 0
-RaceBoard = Board Band (FourSlotCell (Clocked Band)) (FourSlotPut (Clocked Band)) (FourSlotGet (Clocked Band)) (FourSlotTold (Clocked Band)) band_law.ghosts band_eq.ghosts words
+RaceBoard = Board Band (FourSlotCell (Clocked Band)) (FourSlotPut (Clocked Band)) (FourSlotGet (Clocked Band))
+    (FourSlotTold (Clocked Band)) band_law.ghosts band_eq.ghosts words
 
 abbrev pub RacePass : Type 0
-RacePass = Pass Band (FourSlotCell (Clocked Band)) (FourSlotPut (Clocked Band)) (FourSlotGet (Clocked Band)) (FourSlotTold (Clocked Band)) band_law.ghosts band_eq.ghosts words
+RacePass = Pass Band (FourSlotCell (Clocked Band)) (FourSlotPut (Clocked Band)) (FourSlotGet (Clocked Band))
+    (FourSlotTold (Clocked Band)) band_law.ghosts band_eq.ghosts words
 
 abbrev pub RaceLane : Type 0
-RaceLane = Lane Band (FourSlotCell (Clocked Band)) (FourSlotPut (Clocked Band)) (FourSlotGet (Clocked Band)) (FourSlotTold (Clocked Band)) band_law.ghosts band_eq.ghosts words
+RaceLane = Lane Band (FourSlotCell (Clocked Band)) (FourSlotPut (Clocked Band)) (FourSlotGet (Clocked Band))
+    (FourSlotTold (Clocked Band)) band_law.ghosts band_eq.ghosts words
 
 abbrev pub counts_in : List RaceLane → List Counts
 counts_in lanes = map (λ lane. counts_of lane.log.items) lanes
@@ -99,7 +104,8 @@ counts_in lanes = map (λ lane. counts_of lane.log.items) lanes
 -- *Race*: a new board has a lane for each script. Each lane ran: the board calls that were made stand in its log, and the log is
 -- whole, or the task may stop before the next call. The logs have one order, after which one register holds the last record, and each
 -- of their entries is sound. What is told are the counts of the logs, and that no entry is without its origin.
-pub record IsRace (may_stop : ℕ → ℕ → Type 0) (opening : Band) (limit : ℕ) (scripts : List (List (Wish Band))) (report : Report) : Type 0 where
+pub record IsRace (may_stop : ℕ → ℕ → Type 0) (opening : Band) (limit : ℕ) (scripts : List (List (Wish Band)))
+    (report : Report) : Type 0 where
   pub board : RaceBoard
   pub passes : List RacePass
   pub lanes : List RaceLane
@@ -130,7 +136,8 @@ pub record CountsScript (script : List (Wish Band)) (counts : Counts) : Type 0 w
 -- so for each task
 pub record CountsScripts (scripts : List (List (Wish Band))) (tasks : List Counts) : Type 0 where
   pub all : length tasks ≡ length scripts
-  pub each : (task : ℕ) (script : List (Wish Band)) (counts : Counts) → slice_get scripts task ≡ Some script → slice_get tasks task ≡ Some counts → CountsScript script counts
+  pub each : (task : ℕ) (script : List (Wish Band)) (counts : Counts) → slice_get scripts task ≡ Some script
+      → slice_get tasks task ≡ Some counts → CountsScript script counts
 
 abbrev pub CountsAll : List (List (Wish Band)) → Report → Type 0
 CountsAll scripts (Race tasks broken) = CountsScripts scripts tasks

@@ -7,7 +7,8 @@ use Rattle.fsr.proofs.race.race.Goals as goal
 
 pub run_tasks-requires-after_bounds : goal.run_tasks-requires-after_bounds
 run_tasks-requires-after_bounds g c κs within =
-    race_ready c.in-Ok.made.0 _ _ _ c.in-Ok.made.1.items c.args.scripts c.in_ok-lanes.lanes.items _ c.in-Ok.ensures c.in_ok-lanes.ensures c.as_mut_slice.ensures.value
+    race_ready c.in-Ok.made.0 _ _ _ c.in-Ok.made.1.items c.args.scripts c.in_ok-lanes.lanes.items _ c.in-Ok.ensures c.in_ok-lanes.ensures
+    c.as_mut_slice.ensures.value
 
 pub finish_lanes-requires : goal.finish_lanes-requires
 finish_lanes-requires g c =

@@ -4,4 +4,5 @@ use Rattle.fsr.proofs.run.run_command.Goals as goal
 
 pub returns-clause-runs : goal.returns-clause-runs
 returns-clause-runs g c =
-    ends_refused _ _ _ _ c.in-Ok.bytes.items _ c.in-Err.fault _ c.in-Ok.ensures.taken.0 c.in-Ok.ensures.taken.1 c.as_slice.ensures.value c.in-Err.ensures c.tell_fault.ensures.status
+    ends_refused _ _ _ _ c.in-Ok.bytes.items _ c.in-Err.fault _ c.in-Ok.ensures.taken.0 c.in-Ok.ensures.taken.1 c.as_slice.ensures.value
+    c.in-Err.ensures c.tell_fault.ensures.status
