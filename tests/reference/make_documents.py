@@ -1,5 +1,6 @@
 """Random documents of every kind: good ones, and hostile ones that are a good one with something changed."""
 
+import copy
 import json
 
 ORDINARY = [0, 1, 2, 3, 5, 7, 9]
@@ -139,13 +140,13 @@ def change(random, made):
     if how < 0.3 and (isinstance(inside, dict) or isinstance(inside, list)):
         del inside[last]
     elif how < 0.6:
-        inside[last] = random.choice(WRONG)
+        inside[last] = copy.deepcopy(random.choice(WRONG))
     elif how < 0.8:
         inside[last] = random.choice(EDGES)
     elif isinstance(inside, list):
-        inside.insert(last, random.choice(inside))
+        inside.insert(last, copy.deepcopy(random.choice(inside)))
     else:
-        inside[random.choice(["terms", "noise", "limit", "end", "x", "kind"])] = random.choice(WRONG)
+        inside[random.choice(["terms", "noise", "limit", "end", "x", "kind"])] = copy.deepcopy(random.choice(WRONG))
 
 
 def hostile_text(random, text):
