@@ -3,7 +3,8 @@ ghost use Rattle.matrix_core.specs.Runs.{CanPlay};
 ghost use Rattle.schedule_text.specs.reading.Document.{document_of};
 ghost use Rattle.schedule_text.specs.reading.Players.{CanBePlayed, CanRace};
 ghost use Rattle.schedule_text.specs.reading.Refusals.{Gives as Reads};
-ghost use Rattle.fsr.specs.Answers.{AnswersBoard, AnswersCell, AnswersCheck, AnswersMatrix, AnswersRace, Gives, IsAnswer, printed, race_status, status_of};
+ghost use Rattle.fsr.specs.Answers.{AnswersBoard, AnswersCell, AnswersCheck, AnswersMatrix, AnswersRace};
+ghost use Rattle.fsr.specs.Answers.{Gives, IsAnswer, printed, race_status, status_of};
 
 use crate::fault::{Answer, Fault};
 use crate::race::race;
