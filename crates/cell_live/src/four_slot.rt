@@ -9,11 +9,10 @@ ghost use Rattle.fourslot_core.specs.declared.state.ReaderStage.TheVariants.{R5}
 ghost use Rattle.cell_live.specs.declared.sight.Sight.TheVariants.{Writer, Reader, Told};
 ghost use Rattle.cell_live.specs.Running.{last_or, snap};
 ghost use Rattle.cell_live.specs.Sights.{writer_or, reader_or, receipt_or};
-ghost use Rattle.cell_live.specs.four_slot.Steps.{first_writer, first_reader, slot_of_choice};
+ghost use Rattle.cell_live.specs.four_slot.Steps.{first_writer, first_reader, slot_of_choice, bit_words};
 
 use crate::cell::Lawful;
 use atomic_table::TableRule;
-use fourslot_core::Sides;
 use notes::FourSlotSight;
 use table::{FourSlotSeat, FourSlotTable};
 
@@ -45,13 +44,13 @@ pub struct FourSlotCell<T: Lawful> {
 #[derive(Drop)]
 pub struct FourSlotPut<T: Copy> {
     seat: FourSlotSeat<T>,
-    /// The pairs' bits, as this pass stored them last.
-    remembered: Sides<bool>,
+    /// The pairs' bits, as this pass stored them last: their words.
+    remembered: [u64; 2],
     /// The opening: the notes' default in proofs.
     spare: T,
     ghost known: { seat.inner.me ≡ (Writer (writer_or (first_writer spare) seat.inner.me.0), []) },
     ghost idle: { (writer_or (first_writer spare) seat.inner.me.0).stage ≡ W5 },
-    ghost bits: { (writer_or (first_writer spare) seat.inner.me.0).remembered ≡ remembered },
+    ghost bits: { bit_words (writer_or (first_writer spare) seat.inner.me.0).remembered ≡ remembered },
     ghost newest: { let p = writer_or (first_writer spare) seat.inner.me.0 in p.finished.value ≡ last_or p.opening.value p.written },
 }
 

@@ -1,6 +1,7 @@
 -- The steps of the running four-slot cell: what each tells its seat (this project's own).
 use Rattle.std.specs.Prelude.{◌≡◌, ℕ, ◌+◌, Bool, false, not, Option, None, Some, List, [], ◌∷◌, ◌++◌}
 use Rattle.atomic_table.specs.Table.{Me, Step}
+use Rattle.fourslot_core.specs.declared.state.Sides.{Sides}
 use Rattle.fourslot_core.specs.declared.state.Slot.{Slot}
 use Rattle.fourslot_core.specs.declared.state.Stage.TheVariants as writer
 use Rattle.fourslot_core.specs.declared.state.ReaderStage.TheVariants as reader
@@ -18,6 +19,10 @@ FourSlotSight T = Sight T (WriterNotes T) (ReaderNotes T)
 
 abbrev Sat : Type 0 → Type 0
 Sat T = Me T (FourSlotSight T)
+
+-- the words of the pairs' bits
+abbrev pub bit_words : Sides Bool → List ℕ
+bit_words s = bit_number s.zero ∷ bit_number s.one ∷ []
 
 module _ {T : Type 0} where
   -- W1, with W2 and W3, where `reading` is b: the other pair, and there the index that the remembered bit doesn't name

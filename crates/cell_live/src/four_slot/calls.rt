@@ -8,12 +8,11 @@ ghost use Rattle.cell_live.specs.four_slot.Words.{opening_of, is_put_of, is_get_
 ghost use Rattle.cell_live.specs.four_slot.Words.{told_to, named_by, write_events, read_events, writer_accesses, reader_accesses};
 ghost use Rattle.cell_live.specs.four_slot.Words.{chosen_slot, held_by, HasChosen};
 
-use super::bits::{bit_of, bit_word, is_one, set_bit, slot_of, word_of};
+use super::bits::{bit_of, other_bit, set_bit, slot_of, word_of};
 use super::table::FourSlotTable;
 use super::{FourSlotCell, FourSlotGet, FourSlotPut, FourSlotTold};
 use crate::cell::{Calls, Cell, Kept, Lawful};
 use crate::lays::{Lays, Whole};
-use fourslot_core::Sides;
 use std::alloc::{AllocError, Global};
 use std::marker::Brand;
 
@@ -25,12 +24,10 @@ fn choose<T: Lawful>(cell: &FourSlotCell<T>, get: &mut FourSlotGet<T>) -> usize
 {
     let table = &cell.table;
     let latest = table.ask(&mut get.seat);
-    let pair = is_one(latest);
     table.say(&mut get.seat, latest);
-    let word = word_of(pair);
-    let bit = table.take(&mut get.seat, word);
-    let index = is_one(bit);
-    slot_of(pair, index)
+    let word = word_of(latest);
+    let index = table.take(&mut get.seat, word);
+    slot_of(latest, index)
 }
 
 impl<T: Lawful> FourSlotCell<T> {
@@ -47,13 +44,14 @@ impl<T: Lawful> FourSlotCell<T> {
         let table = &self.table;
         let named = parts.name();
         let reading = table.begin::<Brand>(&mut put.seat, named);
-        let pair = !is_one(reading);
-        let index = !bit_of(put.remembered, pair);
+        let pair = other_bit(reading);
+        let stored = bit_of(&put.remembered, pair);
+        let index = other_bit(stored);
         let slot = slot_of(pair, index);
         table.fill(&mut put.seat, slot, parts);
         let word = word_of(pair);
-        table.store(&mut put.seat, word, bit_word(index));
-        table.finish(&mut put.seat, bit_word(pair));
+        table.store(&mut put.seat, word, index);
+        table.finish(&mut put.seat, pair);
         set_bit(&mut put.remembered, pair, index);
     }
 }
@@ -100,10 +98,7 @@ impl<T: Lawful> Calls<T> for FourSlotCell<T> {
             FourSlotCell { table },
             FourSlotPut {
                 seat: put,
-                remembered: Sides {
-                    zero: false,
-                    one: false,
-                },
+                remembered: [0, 0],
                 spare: first,
             },
             FourSlotGet {

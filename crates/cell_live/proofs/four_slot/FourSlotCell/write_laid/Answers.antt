@@ -1,9 +1,9 @@
 -- Each step tells the notes what it did: after the fifth event the record is the last one written, and both bits are remembered.
 use Rattle.std.proofs.Common.{rules, arith, ◌≡◌, ◌+◌, ◌∷◌, [], not, Bool, sym, ap, ◌∙◌, subst, refl}
-use Rattle.fourslot_core.specs.Events.{side, with_side, slot_with, bit_number, slot_number}
+use Rattle.fourslot_core.specs.Events.{side, bit_number, slot_number}
 use Rattle.cell_live.specs.Running.{last_or, held_slots, snap}
 use Rattle.cell_live.specs.Sights.{writer_or}
-use Rattle.cell_live.specs.four_slot.Steps.{first_writer, begun_with, stored_by}
+use Rattle.cell_live.specs.four_slot.Steps.{first_writer, begun_with, stored_by, bit_words}
 use Rattle.cell_live.specs.declared.four_slot.notes.WriterNotes.{WriterNotes}
 use Rattle.cell_live.specs.declared.sight.Sight.TheVariants.{Writer}
 use Rattle.fourslot_core.specs.declared.event.WriteEvent.TheVariants.{W1, W2, W3, W4, W5}
@@ -27,6 +27,57 @@ begin-reading-requires-clause-idle g c =
       subst (λ z. g.T.Lawful.rises (last_or z p.written) item) (sym (ap (λ n. n.opening) c.requires.own)) c.requires.lawful.1,
     )
 
+pub bit_of-stored-requires : goal.bit_of-stored-requires
+bit_of-stored-requires g c =
+    let item : g.row.T.Denot = g.L.Lays.whole c.args.parts.now in
+    let put = c.args.put.now in
+    let d : WriterNotes g.row.T.Denot = first_writer put.spare in
+    let p : WriterNotes g.row.T.Denot = writer_or d put.seat.inner.me.0 in
+    let is : put.seat.inner.me.0 ≡ Writer p = ap (λ m. m.0) put.known in
+    let t = c.begin-reading.ensures.begun p item is (ap (λ z. z ∷ []) c.name-named.ensures) in
+    let b : Bool = t.0 in
+    let pair : c.other_bit-pair.result ≡ bit_number (not b) = c.other_bit-pair.ensures b t.2 in
+    (p.remembered, not b, put.bits, pair)
+
+pub slot_of-slot-requires : goal.slot_of-slot-requires
+slot_of-slot-requires g c =
+    let item : g.row.T.Denot = g.L.Lays.whole c.args.parts.now in
+    let put = c.args.put.now in
+    let d : WriterNotes g.row.T.Denot = first_writer put.spare in
+    let p : WriterNotes g.row.T.Denot = writer_or d put.seat.inner.me.0 in
+    let is : put.seat.inner.me.0 ≡ Writer p = ap (λ m. m.0) put.known in
+    let t = c.begin-reading.ensures.begun p item is (ap (λ z. z ∷ []) c.name-named.ensures) in
+    let b : Bool = t.0 in
+    let pair : c.other_bit-pair.result ≡ bit_number (not b) = c.other_bit-pair.ensures b t.2 in
+    let other : Bool = not (side p.remembered (not b)) in
+    let stored = c.bit_of-stored.ensures p.remembered (not b) put.bits pair in
+    let index : c.other_bit-index.result ≡ bit_number other = c.other_bit-index.ensures (side p.remembered (not b)) stored in
+    (not b, other, pair, index)
+
+pub word_of-word-requires : goal.word_of-word-requires
+word_of-word-requires g c =
+    let item : g.row.T.Denot = g.L.Lays.whole c.args.parts.now in
+    let put = c.args.put.now in
+    let d : WriterNotes g.row.T.Denot = first_writer put.spare in
+    let p : WriterNotes g.row.T.Denot = writer_or d put.seat.inner.me.0 in
+    let is : put.seat.inner.me.0 ≡ Writer p = ap (λ m. m.0) put.known in
+    let t = c.begin-reading.ensures.begun p item is (ap (λ z. z ∷ []) c.name-named.ensures) in
+    let b : Bool = t.0 in
+    let pair : c.other_bit-pair.result ≡ bit_number (not b) = c.other_bit-pair.ensures b t.2 in
+    (not b, pair)
+
+pub set_bit-requires : goal.set_bit-requires
+set_bit-requires g c =
+    let item : g.row.T.Denot = g.L.Lays.whole c.args.parts.now in
+    let put = c.args.put.now in
+    let d : WriterNotes g.row.T.Denot = first_writer put.spare in
+    let p : WriterNotes g.row.T.Denot = writer_or d put.seat.inner.me.0 in
+    let is : put.seat.inner.me.0 ≡ Writer p = ap (λ m. m.0) put.known in
+    let t = c.begin-reading.ensures.begun p item is (ap (λ z. z ∷ []) c.name-named.ensures) in
+    let b : Bool = t.0 in
+    let pair : c.other_bit-pair.result ≡ bit_number (not b) = c.other_bit-pair.ensures b t.2 in
+    (p.remembered, not b, put.bits, pair)
+
 pub fill-requires-clause-held : goal.fill-requires-clause-held
 fill-requires-clause-held g c =
     let item : g.row.T.Denot = g.L.Lays.whole c.args.parts.now in
@@ -37,10 +88,11 @@ fill-requires-clause-held g c =
     let t = c.begin-reading.ensures.begun p item is (ap (λ z. z ∷ []) c.name-named.ensures) in
     let b : Bool = t.0 in
     let q : WriterNotes g.row.T.Denot = begun_with p b item in
-    let pair : not c.is_one-pair.result ≡ not b = ap not (c.is_one-pair.ensures b t.2) in
-    let index : not c.bit_of-index.result ≡ not (side p.remembered (not b)) =
-    ap not (c.bit_of-index.ensures ∙ (λ i. side (sym put.bits i) (pair i))) in
-    let slot : c.slot_of-slot.result ≡ slot_number q.slot = c.slot_of-slot.ensures ∙ (λ i. slot_number (slot_with (pair i) (index i))) in
+    let pair : c.other_bit-pair.result ≡ bit_number (not b) = c.other_bit-pair.ensures b t.2 in
+    let other : Bool = not (side p.remembered (not b)) in
+    let stored = c.bit_of-stored.ensures p.remembered (not b) put.bits pair in
+    let index : c.other_bit-index.result ≡ bit_number other = c.other_bit-index.ensures (side p.remembered (not b)) stored in
+    let slot : c.slot_of-slot.result ≡ slot_number q.slot = c.slot_of-slot.ensures (not b) other pair index in
     ap held_slots t.4 ∙ ap (λ z. z ∷ []) (sym slot)
 
 pub store-requires-clause-filled : goal.store-requires-clause-filled
@@ -53,13 +105,14 @@ store-requires-clause-filled g c =
     let t = c.begin-reading.ensures.begun p item is (ap (λ z. z ∷ []) c.name-named.ensures) in
     let b : Bool = t.0 in
     let q : WriterNotes g.row.T.Denot = begun_with p b item in
-    let pair : not c.is_one-pair.result ≡ not b = ap not (c.is_one-pair.ensures b t.2) in
-    let index : not c.bit_of-index.result ≡ not (side p.remembered (not b)) =
-    ap not (c.bit_of-index.ensures ∙ (λ i. side (sym put.bits i) (pair i))) in
-    let slot : c.slot_of-slot.result ≡ slot_number q.slot = c.slot_of-slot.ensures ∙ (λ i. slot_number (slot_with (pair i) (index i))) in
+    let pair : c.other_bit-pair.result ≡ bit_number (not b) = c.other_bit-pair.ensures b t.2 in
+    let other : Bool = not (side p.remembered (not b)) in
+    let stored = c.bit_of-stored.ensures p.remembered (not b) put.bits pair in
+    let index : c.other_bit-index.result ≡ bit_number other = c.other_bit-index.ensures (side p.remembered (not b)) stored in
+    let slot : c.slot_of-slot.result ≡ slot_number q.slot = c.slot_of-slot.ensures (not b) other pair index in
     let now = c.fill.ensures.filled in let me0 = ap (λ m. m.0) now ∙ t.3 in let me1 = ap (λ m. m.1) now ∙ (λ i. (slot i, item) ∷ []) in
-    let word : c.word_of-word.result ≡ 2 + bit_number (not b) = c.word_of-word.ensures ∙ ap (λ z. 2 + bit_number z) pair in
-    (q, (λ i. (me0 i, me1 i)), refl, word, c.bit_word.ensures ∙ ap bit_number index)
+    let word : c.word_of-word.result ≡ 2 + bit_number (not b) = c.word_of-word.ensures (not b) pair in
+    (q, (λ i. (me0 i, me1 i)), refl, word, index)
 
 pub finish-requires-clause-stored : goal.finish-requires-clause-stored
 finish-requires-clause-stored g c =
@@ -71,14 +124,15 @@ finish-requires-clause-stored g c =
     let t = c.begin-reading.ensures.begun p item is (ap (λ z. z ∷ []) c.name-named.ensures) in
     let b : Bool = t.0 in
     let q : WriterNotes g.row.T.Denot = begun_with p b item in
-    let pair : not c.is_one-pair.result ≡ not b = ap not (c.is_one-pair.ensures b t.2) in
-    let index : not c.bit_of-index.result ≡ not (side p.remembered (not b)) =
-    ap not (c.bit_of-index.ensures ∙ (λ i. side (sym put.bits i) (pair i))) in
-    let slot : c.slot_of-slot.result ≡ slot_number q.slot = c.slot_of-slot.ensures ∙ (λ i. slot_number (slot_with (pair i) (index i))) in
+    let pair : c.other_bit-pair.result ≡ bit_number (not b) = c.other_bit-pair.ensures b t.2 in
+    let other : Bool = not (side p.remembered (not b)) in
+    let stored = c.bit_of-stored.ensures p.remembered (not b) put.bits pair in
+    let index : c.other_bit-index.result ≡ bit_number other = c.other_bit-index.ensures (side p.remembered (not b)) stored in
+    let slot : c.slot_of-slot.result ≡ slot_number q.slot = c.slot_of-slot.ensures (not b) other pair index in
     let now = c.fill.ensures.filled in let me0 = ap (λ m. m.0) now ∙ t.3 in let me1 = ap (λ m. m.1) now ∙ (λ i. (slot i, item) ∷ []) in
-    let word : c.word_of-word.result ≡ 2 + bit_number (not b) = c.word_of-word.ensures ∙ ap (λ z. 2 + bit_number z) pair in
+    let word : c.word_of-word.result ≡ 2 + bit_number (not b) = c.word_of-word.ensures (not b) pair in
     let v = c.store.ensures.stored q me0 me1 in let q2 : WriterNotes g.row.T.Denot = stored_by q in
-    (q2, v.0, refl, c.bit_word-2.ensures ∙ ap bit_number pair)
+    (q2, v.0, refl, pair)
 
 pub invariant_of-put : goal.invariant_of-put
 invariant_of-put g c =
@@ -90,18 +144,19 @@ invariant_of-put g c =
     let t = c.begin-reading.ensures.begun p item is (ap (λ z. z ∷ []) c.name-named.ensures) in
     let b : Bool = t.0 in
     let q : WriterNotes g.row.T.Denot = begun_with p b item in
-    let pair : not c.is_one-pair.result ≡ not b = ap not (c.is_one-pair.ensures b t.2) in
-    let index : not c.bit_of-index.result ≡ not (side p.remembered (not b)) =
-    ap not (c.bit_of-index.ensures ∙ (λ i. side (sym put.bits i) (pair i))) in
-    let slot : c.slot_of-slot.result ≡ slot_number q.slot = c.slot_of-slot.ensures ∙ (λ i. slot_number (slot_with (pair i) (index i))) in
+    let pair : c.other_bit-pair.result ≡ bit_number (not b) = c.other_bit-pair.ensures b t.2 in
+    let other : Bool = not (side p.remembered (not b)) in
+    let stored = c.bit_of-stored.ensures p.remembered (not b) put.bits pair in
+    let index : c.other_bit-index.result ≡ bit_number other = c.other_bit-index.ensures (side p.remembered (not b)) stored in
+    let slot : c.slot_of-slot.result ≡ slot_number q.slot = c.slot_of-slot.ensures (not b) other pair index in
     let now = c.fill.ensures.filled in let me0 = ap (λ m. m.0) now ∙ t.3 in let me1 = ap (λ m. m.1) now ∙ (λ i. (slot i, item) ∷ []) in
-    let word : c.word_of-word.result ≡ 2 + bit_number (not b) = c.word_of-word.ensures ∙ ap (λ z. 2 + bit_number z) pair in
+    let word : c.word_of-word.result ≡ 2 + bit_number (not b) = c.word_of-word.ensures (not b) pair in
     let v = c.store.ensures.stored q me0 me1 in let q2 : WriterNotes g.row.T.Denot = stored_by q in
     let u = c.finish.ensures.finished q2 v.0 in let d' : WriterNotes g.row.T.Denot = first_writer put.spare in let w = u.0 in
     record {
       known = λ i. ((w ∙ ap (λ z. Writer (writer_or d' z)) (sym w)) i, (u.1 ∙ v.1) i);
       idle = ap (λ z. (writer_or d' z).stage) w;
-      bits = ap (λ z. (writer_or d' z).remembered) w ∙ ((λ i. with_side (put.bits i) (sym pair i) (sym index i)) ∙ sym c.set_bit.ensures);
+      bits = ap (λ z. bit_words (writer_or d' z).remembered) w ∙ c.set_bit.ensures p.remembered (not b) other put.bits pair index;
       newest = ap (λ z. (writer_or d' z).finished.value) w
           ∙ sym (ap (λ z. last_or {T = g.row.T.Denot} (writer_or d' z).opening.value (writer_or d' z).written) w
           ∙ last_snoc p.opening.value p.written item);
@@ -117,10 +172,11 @@ returns g c =
     let t = c.begin-reading.ensures.begun p item is (ap (λ z. z ∷ []) c.name-named.ensures) in
     let b : Bool = t.0 in
     let q : WriterNotes g.row.T.Denot = begun_with p b item in
-    let pair : not c.is_one-pair.result ≡ not b = ap not (c.is_one-pair.ensures b t.2) in
-    let index : not c.bit_of-index.result ≡ not (side p.remembered (not b)) =
-    ap not (c.bit_of-index.ensures ∙ (λ i. side (sym put.bits i) (pair i))) in
-    let slot : c.slot_of-slot.result ≡ slot_number q.slot = c.slot_of-slot.ensures ∙ (λ i. slot_number (slot_with (pair i) (index i))) in
+    let pair : c.other_bit-pair.result ≡ bit_number (not b) = c.other_bit-pair.ensures b t.2 in
+    let other : Bool = not (side p.remembered (not b)) in
+    let stored = c.bit_of-stored.ensures p.remembered (not b) put.bits pair in
+    let index : c.other_bit-index.result ≡ bit_number other = c.other_bit-index.ensures (side p.remembered (not b)) stored in
+    let slot : c.slot_of-slot.result ≡ slot_number q.slot = c.slot_of-slot.ensures (not b) other pair index in
     let now = c.fill.ensures.filled in let me0 = ap (λ m. m.0) now ∙ t.3 in let me1 = ap (λ m. m.1) now ∙ (λ i. (slot i, item) ∷ []) in
     let v = c.store.ensures.stored q me0 me1 in let q2 : WriterNotes g.row.T.Denot = stored_by q in
     let w = (c.finish.ensures.finished q2 v.0).0 in

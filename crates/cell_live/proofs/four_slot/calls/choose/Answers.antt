@@ -24,15 +24,28 @@ say-requires-clause-asked g c =
     let a = c.ask-latest.ensures.asked n get.known in let n1 : ReaderNotes g.row.T.Denot = asked_by n a.0 in
     (n1, (λ i. (a.2 i, (a.3 ∙ get.holds) i)), refl, a.1)
 
-pub take-bit-requires-clause-said : goal.take-bit-requires-clause-said
-take-bit-requires-clause-said g c =
+pub take-index-requires-clause-said : goal.take-index-requires-clause-said
+take-index-requires-clause-said g c =
     let get = c.args.get.now in
     let n : ReaderNotes g.row.T.Denot = reader_or (first_reader get.spare) get.seat.inner.me.0 in
     let a = c.ask-latest.ensures.asked n get.known in let n1 : ReaderNotes g.row.T.Denot = asked_by n a.0 in
     let b = c.say.ensures.said n1 a.2 (a.3 ∙ get.holds) in let n2 : ReaderNotes g.row.T.Denot = said_by n1 in
-    let pair : c.is_one-pair.result ≡ a.0 = c.is_one-pair.ensures a.0 a.1 in
-    let word : c.word_of-word.result ≡ 2 + bit_number a.0 = c.word_of-word.ensures ∙ ap (λ z. 2 + bit_number z) pair in
+    let word : c.word_of-word.result ≡ 2 + bit_number a.0 = c.word_of-word.ensures a.0 a.1 in
     (n2, (λ i. (b.0 i, b.1 i)), refl, word)
+
+pub word_of-word-requires : goal.word_of-word-requires
+word_of-word-requires g c =
+    let get = c.args.get.now in
+    let n : ReaderNotes g.row.T.Denot = reader_or (first_reader get.spare) get.seat.inner.me.0 in
+    let a = c.ask-latest.ensures.asked n get.known in (a.0, a.1)
+
+pub slot_of-requires : goal.slot_of-requires
+slot_of-requires g c =
+    let get = c.args.get.now in
+    let n : ReaderNotes g.row.T.Denot = reader_or (first_reader get.spare) get.seat.inner.me.0 in
+    let a = c.ask-latest.ensures.asked n get.known in let n1 : ReaderNotes g.row.T.Denot = asked_by n a.0 in
+    let b = c.say.ensures.said n1 a.2 (a.3 ∙ get.holds) in let n2 : ReaderNotes g.row.T.Denot = said_by n1 in
+    let t = c.take-index.ensures.taken n2 b.0 in (a.0, t.0, a.1, t.2)
 
 pub invariant_of-get : goal.invariant_of-get
 invariant_of-get g c =
@@ -40,7 +53,7 @@ invariant_of-get g c =
     let n : ReaderNotes g.row.T.Denot = reader_or (first_reader get.spare) get.seat.inner.me.0 in
     let a = c.ask-latest.ensures.asked n get.known in let n1 : ReaderNotes g.row.T.Denot = asked_by n a.0 in
     let b = c.say.ensures.said n1 a.2 (a.3 ∙ get.holds) in let n2 : ReaderNotes g.row.T.Denot = said_by n1 in
-    let t = c.take-bit.ensures.taken n2 b.0 in let d : ReaderNotes g.row.T.Denot = first_reader get.spare in let v = t.3 in
+    let t = c.take-index.ensures.taken n2 b.0 in let d : ReaderNotes g.row.T.Denot = first_reader get.spare in let v = t.3 in
     record {
       known = v ∙ ap (λ z. Reader (reader_or d z)) (sym v);
       idle = ap (λ z. (reader_or d z).stage) v;
@@ -51,11 +64,9 @@ pub returns : goal.returns
 returns g c = let get = c.args.get.now in let n : ReaderNotes g.row.T.Denot = reader_or (first_reader get.spare) get.seat.inner.me.0 in
     let a = c.ask-latest.ensures.asked n get.known in let n1 : ReaderNotes g.row.T.Denot = asked_by n a.0 in
     let b = c.say.ensures.said n1 a.2 (a.3 ∙ get.holds) in let n2 : ReaderNotes g.row.T.Denot = said_by n1 in
-    let t = c.take-bit.ensures.taken n2 b.0 in let d : ReaderNotes g.row.T.Denot = first_reader get.spare in let v = t.3 in
-    let pair : c.is_one-pair.result ≡ a.0 = c.is_one-pair.ensures a.0 a.1 in
-    let index : c.is_one-index.result ≡ t.0 = c.is_one-index.ensures t.0 t.2 in
-    let slot : c.slot_of.result ≡ slot_number (slot_with a.0 t.0) = c.slot_of.ensures ∙ (λ i. slot_number (slot_with (pair i) (index i))) in
-    let same : c.take-bit.new.seat.inner.table_id ≡ get.seat.inner.table_id = search rules in record {
+    let t = c.take-index.ensures.taken n2 b.0 in let d : ReaderNotes g.row.T.Denot = first_reader get.spare in let v = t.3 in
+    let slot : c.slot_of.result ≡ slot_number (slot_with a.0 t.0) = c.slot_of.ensures a.0 t.0 a.1 t.2 in
+    let same : c.take-index.new.seat.inner.table_id ≡ get.seat.inner.table_id = search rules in record {
       own = (λ i. record { table = same i; opening = (reader_or d (v i)).opening.value }) ∙ c.requires;
       answers = ap (λ z. (reader_or d z).answers) v ∙ (λ i. n.answers ++ (reader_or d (sym v i)).at_hand.value ∷ []);
       told = ap (λ z. (reader_or d z).told) v;
@@ -64,7 +75,7 @@ returns g c = let get = c.args.get.now in let n : ReaderNotes g.row.T.Denot = re
       accesses = ap (λ z. (reader_or d z).accesses) v ∙ (let f : n.accesses + 1 + 1 + 1 ≡ n.accesses + 3 = omega arith in f);
       events = ap (λ z. (reader_or d z).events) v
           ∙ ((λ i. ((n.events ++ R1 ∷ []) ++ R2 ∷ []) ++ R3 ∷ R4 ∷ R5 (snap (reader_or d (sym v i)).at_hand.value) ∷ [])
-          ∙ read_joined n.events R1 R2 R3 R4 (R5 (snap (reader_or d c.take-bit.new.seat.inner.me.0).at_hand.value)));
+          ∙ read_joined n.events R1 R2 R3 R4 (R5 (snap (reader_or d c.take-index.new.seat.inner.me.0).at_hand.value)));
       held = t.4 ∙ (λ i. (sym slot i, (reader_or d (sym v i)).at_hand.value) ∷ []);
       chosen = ap (λ z. slot_number (reader_or d z).slot) v ∙ sym slot;
     }

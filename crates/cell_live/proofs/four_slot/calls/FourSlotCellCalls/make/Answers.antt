@@ -2,7 +2,7 @@
 use Rattle.std.proofs.Common.{rules, ◌≡◌, [], sym, ap, ◌∙◌}
 use Rattle.cell_live.specs.Running.{last_or}
 use Rattle.cell_live.specs.Sights.{writer_or, reader_or}
-use Rattle.cell_live.specs.four_slot.Steps.{first_writer, first_reader, slot_of_choice}
+use Rattle.cell_live.specs.four_slot.Steps.{first_writer, first_reader, slot_of_choice, bit_words}
 use Rattle.cell_live.specs.declared.four_slot.notes.WriterNotes.{WriterNotes}
 use Rattle.cell_live.specs.declared.four_slot.notes.ReaderNotes.{ReaderNotes}
 use Rattle.cell_live.specs.declared.sight.Sight.TheVariants.{Writer, Reader}
@@ -18,7 +18,7 @@ invariant_of-result g c =
     record {
       known = is ∙ (λ i. (Writer (writer_or d (sym is i).0), []));
       idle = ap (λ m. (writer_or d m.0).stage) is;
-      bits = ap (λ m. (writer_or d m.0).remembered) is;
+      bits = ap (λ m. bit_words (writer_or d m.0).remembered) is;
       newest = ap (λ m. (writer_or d m.0).finished.value) is
           ∙ sym (ap (λ m. last_or {T = g.row.T.Denot} (writer_or d m.0).opening.value (writer_or d m.0).written) is);
     }
