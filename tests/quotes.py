@@ -3,18 +3,25 @@
     quotes.py FILE ..
 
 A block that begins with ```LANGUAGE PATH has to be a stretch of the file PATH, but for its indentation. A row `| `PATH` | N | ..`
-of a table has to give the number of lines of PATH. Prints each that doesn't, and how many were compared.
+of a table has to give the number of lines of PATH, or of files where PATH is a folder and ends with a slash. Prints each that
+doesn't, and how many were compared.
 """
 
+import os
 import re
 import sys
 
-ROW = re.compile(r"^\| `([\w/.-]+\.\w+)` \| (\d+) \|")
+ROW = re.compile(r"^\| `([\w/.-]+(?:\.\w+|/))` \| (\d+) \|")
 
 
 def lines_of(path):
     with open(path, encoding="utf-8") as file:
         return [line.strip() for line in file]
+
+
+def count_of(path):
+    """How many lines a file has, or a folder files, and what they are."""
+    return (len(os.listdir(path)), "files") if path.endswith("/") else (len(lines_of(path)), "lines")
 
 
 def stands_in(block, path):
@@ -37,8 +44,9 @@ def faults_of(document):
         elif ROW.match(line):
             named, count = ROW.match(line).groups()
             quoted += 1
-            if len(lines_of(named)) != int(count):
-                faults.append(f"{document}:{number}: {named} has {len(lines_of(named))} lines")
+            has, what = count_of(named)
+            if has != int(count):
+                faults.append(f"{document}:{number}: {named} has {has} {what}")
     return faults, quoted
 
 
@@ -48,7 +56,7 @@ def main():
         more, count = faults_of(document)
         faults += more
         quoted += count
-    print("\n".join([*faults, f"{quoted} quotations and counts of lines stand in the sources as docs/ has them"][: len(faults) or 1]))
+    print("\n".join([*faults, f"{quoted} quotations and counts stand in the sources as docs/ has them"][: len(faults) or 1]))
     return 1 if faults or not quoted else 0
 
 
