@@ -16,7 +16,7 @@ use Rattle.board_live.specs.declared.clocked.Clocked.{Clocked}
 use Rattle.board_live.specs.Lists.{Match}
 use Rattle.board_live.specs.Rising.{Rises, below_on, rises_on, greatest, greater, or_item, at_clock}
 use Rattle.board_live.specs.Clocks.{later, latest_clock}
-use Rattle.board_live.specs.Boards.{OneMore, Posts, Stands, Hears}
+use Rattle.board_live.specs.Boards.{Heard, OneMore, Posts, Stands, Hears}
 use Rattle.board_live.proofs.Steps.{Stepped, stepped_more, match_set, same_or_not, get-set_same, get-set_other}
 
 pub last_or-append : {A : Type 0} (d : A) (xs : List A) (a : A) → last_or d (xs ++ a ∷ []) ≡ a
@@ -96,6 +96,14 @@ module _ {V C P G T : Type 0} (cells : CellWords C (Clocked V) P G T) (obeys : V
         is_lawful = greater_either (λ v. IsTrue (obeys v)) seen a inv.is_lawful ok'.0;
         rises = rises_on own seen (greater seen a) inv.rises (rises_greater seen a);
       }
+
+  -- the same by what the reading of a cell promises
+  pub half_heard : (i : ℕ) (now : List G) (seen : Clocked V) (top : ℕ) → Half i now seen top
+      → (c : C) (g h : G) (seen' : Clocked V) (top' : ℕ) → i < length now → at i ≡ Some c → slice_get now i ≡ Some g
+      → Heard cells obeys c g h seen seen' top top'
+      → Half (i + 1) (set now i h) seen' top'
+  half_heard i now seen top inv c g h seen' top' lt at_c at_g x =
+      rw (x.raised, x.latest) (half_more i now seen top inv c g h x.answer lt at_c at_g x.of x.more x.as_told x.running)
 
 module _ {V C P G T : Type 0} (cells : CellWords C (Clocked V) P G T) (at : ℕ → Option C) (old : List P) (first own item : Clocked V) where
   -- the first cells were written

@@ -1,9 +1,10 @@
 -- Lists whose elements are changed one by one.
-use Rattle.std.proofs.Common.{◌≡◌, ◌≢◌, ℕ, zero, suc, ◌+◌, ◌<◌, ◌≤◌, List, [], ◌∷◌, ◌++◌, length, set, get_or, refl, sym, ◌∙◌, ap, arith}
+use Rattle.std.proofs.Common.{◌≡◌, ◌≢◌, ℕ, zero, suc, ◌+◌, ◌<◌, ◌≤◌, List, [], ◌∷◌, ◌++◌, length, set, take, drop, get_or, refl, sym, ◌∙◌, ap, arith}
 use Rattle.std.proofs.Common.{◌⊎◌, inl, inr, ⊎_elim}
 use Rattle.std.specs.Prelude.{slice_get, Some, Option}
 use Rattle.std.proofs.lemmas.Option.{slice_get_within, none-some, same_Some, slice_get-get_or, slice_get_read, get_or_from_slice_get}
-use Rattle.std.proofs.lemmas.List.{get_or-set_same, get_or-set_other, length-set}
+use Rattle.std.proofs.lemmas.List.{get_or-set_same, get_or-set_other, length-set, drop_all, append-nil}
+use Rattle.std.proofs.Math.Seq.{take-length}
 use Rattle.board_live.specs.Lists.{Match}
 
 pub same_or_not : (k i : ℕ) → (k ≡ i) ⊎ (k ≢ i)
@@ -74,3 +75,11 @@ pub get_at : {X : Type 0} (xs : List X) (k : ℕ) → k < length xs → (x : X) 
 get_at [] k l = absurd (omega arith)
 get_at (x ∷ xs) zero l = (x, refl)
 get_at (x ∷ xs) (suc k) l = get_at xs k (let m : suc k < suc (length xs) = l in omega arith)
+
+-- a list that is written back in the place of one as long is the whole list
+pub written_back : {X : Type 0} (old now : List X) (n : ℕ) → n ≡ length old → length now ≡ length old
+    → take n (now ++ drop (length now) old) ≡ now
+written_back old now n e l =
+    let none : drop (length now) old ≡ [] = drop_all (length now) old (omega (arith, l)) in
+    let all : n ≡ length now = e ∙ sym l in
+    rw (none, append-nil now, all) (take-length now)

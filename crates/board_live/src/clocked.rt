@@ -32,7 +32,8 @@ pub(crate) fn tick(clock: u64) -> u64
 }
 
 impl<V: Copy> Clocked<V> {
-    ghost use Rattle.board_live.specs.Rising.{at_clock, greater, or_item, posted};
+    ghost use Rattle.board_live.specs.declared.clocked.Clocked.{Clocked};
+    ghost use Rattle.board_live.specs.Rising.{above, at_clock, greater, or_item, posted};
 
     /// What callers see of it.
     #[inline]
@@ -45,43 +46,48 @@ impl<V: Copy> Clocked<V> {
         }
     }
 
-    /// The other where its stamp is greater, else this one.
+    /// This record, where its stamp is above that one.
     #[inline]
-    pub(crate) fn or_greater(self, other: Clocked<V>) -> Clocked<V>
-        ensures { result ≡ greater self other }
+    pub(crate) fn above(&self, stamp: Stamp) -> Option<Clocked<V>>
+        ensures { result ≡ above stamp self.now }
+    {
+        if stamp < self.stamp {
+            Some(*self)
+        } else {
+            None
+        }
+    }
+
+    /// Becomes the other, where there is one: the greater of this record and one that was looked at for its stamp.
+    #[inline]
+    pub(crate) fn take(&mut self, newer: Option<Clocked<V>>)
+        ensures { (a : Clocked V) → newer ≡ above self.old.stamp a → self.new ≡ greater self.old a }
+    {
+        if let Some(newer) = newer {
+            *self = newer;
+        }
+    }
+
+    /// Takes the other where its stamp is greater.
+    #[inline]
+    pub(crate) fn raise(&mut self, other: &Clocked<V>)
+        ensures { self.new ≡ greater self.old other.now }
     {
         if self.stamp < other.stamp {
-            other
-        } else {
-            self
+            *self = *other;
         }
     }
 
-    /// The item under this stamp, or this record where there is none.
+    /// Takes the item under this stamp, where there is one, and the clock.
     #[inline]
-    pub(crate) fn or_item(self, stamp: Option<Stamp>, item: V) -> Clocked<V>
-        ensures { result ≡ or_item self stamp item }
+    pub(crate) fn renew(&mut self, stamp: Option<Stamp>, item: V, clock: u64)
+        ensures { self.new ≡ at_clock (or_item self.old stamp item) clock }
     {
-        match stamp {
-            Some(stamp) => Clocked {
-                stamp,
-                item,
-                clock: self.clock,
-            },
-            None => self,
+        if let Some(stamp) = stamp {
+            self.stamp = stamp;
+            self.item = item;
         }
-    }
-
-    /// This record at another clock.
-    #[inline]
-    pub(crate) fn at(self, clock: u64) -> Clocked<V>
-        ensures { result ≡ at_clock self clock }
-    {
-        Clocked {
-            stamp: self.stamp,
-            item: self.item,
-            clock,
-        }
+        self.clock = clock;
     }
 }
 

@@ -22,9 +22,10 @@ impl Item {
         Item { words: [number; 3] }
     }
 
-    /// One of its words, as the number says: the whole record has to be there.
-    fn word(&self, number: u64) -> u64 {
-        self.words[(number % 3) as usize]
+    /// Its words joined: the whole record has to be there.
+    fn joined(&self) -> u64 {
+        let [first, middle, last] = self.words;
+        first | middle | last
     }
 
     /// Whether its words are of several writes.
@@ -92,7 +93,7 @@ impl<C: Calls<Clocked<Item>>> Team<C> {
         let mut sum = 0;
         for number in 0..calls {
             let who = (number % n as u64) as usize;
-            sum |= self.board.read(&mut self.passes[who]).item.word(number);
+            sum |= self.board.read(&mut self.passes[who]).item.joined();
         }
         sum
     }

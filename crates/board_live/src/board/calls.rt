@@ -20,25 +20,25 @@ impl<V: RecordLaw, C: Calls<Clocked<V>>> Board<V, C> {
         ensures chosen { HandsOn (seen_by pass.old pass.new) pass.new.own result }
         ensures lawful { IsTrue (V.obeys result.item) }
     {
-        let (seen, top) = column(
+        let own = pass.own;
+        let top = column(
             &self.rows,
             pass.process,
             &mut pass.gets,
-            self.first,
-            pass.own,
+            &self.first,
+            &mut pass.own,
             pass.heard,
         );
-        let chosen = seen.at(tick(top));
+        pass.own.clock = tick(top);
         row(
             &self.rows,
             pass.process,
             &mut pass.puts,
-            self.first,
-            pass.own,
-            &chosen,
+            &self.first,
+            &own,
+            &pass.own,
         );
-        pass.own = chosen;
-        seen.posted()
+        pass.own.posted()
     }
 
     /// Gives the item the next stamp above what the own record and the column have, and hands it on. Where the greatest tag seen
@@ -53,29 +53,29 @@ impl<V: RecordLaw, C: Calls<Clocked<V>>> Board<V, C> {
         ensures raised { IfOk result (λ s. IsBelow pass.old.own.stamp s) }
         ensures lawful { IfErr result (λ e. IsTrue (V.obeys e.seen.item)) }
     {
-        let (seen, top) = column(
+        let own = pass.own;
+        let top = column(
             &self.rows,
             pass.process,
             &mut pass.gets,
-            self.first,
-            pass.own,
+            &self.first,
+            &mut pass.own,
             pass.heard,
         );
-        let next = seen.stamp.next(self.limit, pass.process);
-        let chosen = seen.or_item(next, item).at(tick(top));
+        let next = pass.own.stamp.next(self.limit, pass.process);
+        pass.own.renew(next, item, tick(top));
         row(
             &self.rows,
             pass.process,
             &mut pass.puts,
-            self.first,
-            pass.own,
-            &chosen,
+            &self.first,
+            &own,
+            &pass.own,
         );
-        pass.own = chosen;
         match next {
             Some(stamp) => Ok(stamp),
             None => Err(TagsEnded {
-                seen: seen.posted(),
+                seen: pass.own.posted(),
             }),
         }
     }

@@ -44,7 +44,7 @@ fn greatest_own<V: RecordLaw, C: Calls<Clocked<V>>>(passes: &Vec<Pass<V, C>>) ->
 {
     let mut last = passes[0].own;
     for k in 0..passes.len() {
-        last = last.or_greater(passes[k].own);
+        last.raise(&passes[k].own);
     }
     last
 }

@@ -1,4 +1,4 @@
-use Rattle.std.proofs.Common.{arith, refl, sym, ap, ◌∙◌, ◌≡◌}
+use Rattle.std.proofs.Common.{arith, refl, sym, ap, ◌∙◌, ◌≡◌, rules}
 use Rattle.board_live.specs.Clocks.{next_clock}
 use Rattle.board_live.specs.Rising.{posted, rises_itself}
 use Rattle.board_live.proofs.Columns.{rises_at}
@@ -11,11 +11,7 @@ pub row-requires-clause-passes : goal.row-requires-clause-passes
 row-requires-clause-passes g c = rw c.deref-2.ensures.value c.requires.row
 
 pub row-requires-clause-rises : goal.row-requires-clause-rises
-row-requires-clause-rises g c =
-    rw c.at-chosen.ensures (rises_at c.args.pass.now.own c.column-top.result.0 c.tick.result c.column-top.ensures.rises)
-
-pub row-requires-clause-lawful : goal.row-requires-clause-lawful
-row-requires-clause-lawful g c = rw c.at-chosen.ensures c.column-top.ensures.lawful
+row-requires-clause-rises g c = rises_at c.args.pass.now.own c.column-top.new.seen c.tick-pass.result c.column-top.ensures.rises
 
 pub returns-clause-pass : goal.returns-clause-pass
 returns-clause-pass g c = record {
@@ -33,15 +29,8 @@ returns-clause-call g c = record {
   is_seen = refl;
   rows = c.row.ensures.written;
   rises = rw c.column-top.ensures.seen at c.column-top.ensures.rises;
-  onward = rw (c.at-chosen.ensures, ← c.column-top.ensures.seen)
-      (rises_at c.column-top.result.0 c.column-top.result.0 c.tick.result (rises_itself c.column-top.result.0));
+  onward = rw (← c.column-top.ensures.seen) (rises_at c.column-top.new.seen c.column-top.new.seen c.tick-pass.result (rises_itself c.column-top.new.seen));
   heeds = rw c.column-top.ensures.seen at c.column-top.ensures.heeds;
-  ticks = ap (λ z. z.clock) c.at-chosen.ensures ∙ (c.tick.ensures ∙ ap next_clock c.column-top.ensures.clock);
+  ticks = c.tick-pass.ensures ∙ ap next_clock c.column-top.ensures.clock;
   heard = refl;
-}
-
-pub returns-clause-chosen : goal.returns-clause-chosen
-returns-clause-chosen g c = record {
-  chooses = ap posted c.at-chosen.ensures ∙ ap posted c.column-top.ensures.seen;
-  answers = c.posted.ensures ∙ ap posted c.column-top.ensures.seen;
 }

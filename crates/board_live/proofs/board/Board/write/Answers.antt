@@ -12,16 +12,16 @@ row-requires-clause-passes g c = rw c.deref-2.ensures.value c.requires.pass.row
 
 pub row-requires-clause-rises : goal.row-requires-clause-rises
 row-requires-clause-rises g c =
-    rw (c.at-chosen.ensures, c.or_item.ensures)
-    (rises_at c.args.pass.now.own (or_item c.column-top.result.0 c.next-next.result c.args.item) c.tick.result
-    (rises_on c.args.pass.now.own c.column-top.result.0
-    (or_item c.column-top.result.0 c.next-next.result c.args.item) c.column-top.ensures.rises
-    (rises_item c.column-top.result.0 c.args.item c.args.self.now.limit c.args.pass.now.process c.next-next.result c.next-next.ensures)))
+    rw c.renew.ensures
+    (rises_at c.args.pass.now.own (or_item c.column-top.new.seen c.next-next.result c.args.item) c.tick.result
+    (rises_on c.args.pass.now.own c.column-top.new.seen
+    (or_item c.column-top.new.seen c.next-next.result c.args.item) c.column-top.ensures.rises
+    (rises_item c.column-top.new.seen c.args.item c.args.self.now.limit c.args.pass.now.process c.next-next.result c.next-next.ensures)))
 
 pub row-requires-clause-lawful : goal.row-requires-clause-lawful
 row-requires-clause-lawful g c =
-    rw (c.at-chosen.ensures, c.or_item.ensures)
-    (lawful_item g.V.RecordLaw.obeys c.column-top.result.0 c.args.item c.next-next.result c.column-top.ensures.lawful c.requires.item)
+    rw c.renew.ensures
+    (lawful_item g.V.RecordLaw.obeys c.column-top.new.seen c.args.item c.next-next.result c.column-top.ensures.lawful c.requires.item)
 
 pub returns-in-Some-clause-pass : goal.returns-in-Some-clause-pass
 returns-in-Some-clause-pass g c = record {
@@ -39,11 +39,11 @@ returns-in-Some-clause-call g c = record {
   is_seen = refl;
   rows = c.row.ensures.written;
   rises = rw c.column-top.ensures.seen at c.column-top.ensures.rises;
-  onward = rw (c.at-chosen.ensures, c.or_item.ensures, ← c.column-top.ensures.seen)
-      (rises_at c.column-top.result.0 (or_item c.column-top.result.0 c.next-next.result c.args.item) c.tick.result
-      (rises_item c.column-top.result.0 c.args.item c.args.self.now.limit c.args.pass.now.process c.next-next.result c.next-next.ensures));
+  onward = rw (c.renew.ensures, ← c.column-top.ensures.seen)
+      (rises_at c.column-top.new.seen (or_item c.column-top.new.seen c.next-next.result c.args.item) c.tick.result
+      (rises_item c.column-top.new.seen c.args.item c.args.self.now.limit c.args.pass.now.process c.next-next.result c.next-next.ensures));
   heeds = rw c.column-top.ensures.seen at c.column-top.ensures.heeds;
-  ticks = ap (λ z. z.clock) c.at-chosen.ensures ∙ (c.tick.ensures ∙ ap next_clock c.column-top.ensures.clock);
+  ticks = ap (λ z. z.clock) c.renew.ensures ∙ (c.tick.ensures ∙ ap next_clock c.column-top.ensures.clock);
   heard = refl;
 }
 
@@ -63,10 +63,10 @@ returns-in-None-clause-call g c = record {
   is_seen = refl;
   rows = c.row.ensures.written;
   rises = rw c.column-top.ensures.seen at c.column-top.ensures.rises;
-  onward = rw (c.at-chosen.ensures, c.or_item.ensures, ← c.column-top.ensures.seen)
-      (rises_at c.column-top.result.0 (or_item c.column-top.result.0 c.next-next.result c.args.item) c.tick.result
-      (rises_item c.column-top.result.0 c.args.item c.args.self.now.limit c.args.pass.now.process c.next-next.result c.next-next.ensures));
+  onward = rw (c.renew.ensures, ← c.column-top.ensures.seen)
+      (rises_at c.column-top.new.seen (or_item c.column-top.new.seen c.next-next.result c.args.item) c.tick.result
+      (rises_item c.column-top.new.seen c.args.item c.args.self.now.limit c.args.pass.now.process c.next-next.result c.next-next.ensures));
   heeds = rw c.column-top.ensures.seen at c.column-top.ensures.heeds;
-  ticks = ap (λ z. z.clock) c.at-chosen.ensures ∙ (c.tick.ensures ∙ ap next_clock c.column-top.ensures.clock);
+  ticks = ap (λ z. z.clock) c.renew.ensures ∙ (c.tick.ensures ∙ ap next_clock c.column-top.ensures.clock);
   heard = refl;
 }
