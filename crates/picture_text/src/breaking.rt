@@ -6,7 +6,8 @@ ghost use Rattle.picture_text.specs.Picture.{break_text, break_words, broken_hea
 
 use crate::marks::{op_at, spot_of};
 use crate::scale::Scale;
-use crate::shape::{Class, bar_of, put_bar, put_join};
+use crate::shape::points::put_join;
+use crate::shape::{Class, bar_of, put_bar};
 use history_core::{Band, Break, Op};
 use schedule_text::Line;
 use std::alloc::AllocError;

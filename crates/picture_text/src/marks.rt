@@ -10,10 +10,10 @@ ghost use Rattle.picture_text.specs.Shapes.{op_shapes};
 use crate::places::y_of;
 use crate::scale::Scale;
 use crate::scene::{Lanes, Visit};
-use crate::shape::{
-    Bar, ROW_BAR, Spot, bar_of, class_of, put_bar, put_item_words, put_join, put_kind_words,
-    put_point, row_y,
-};
+use crate::shape::labels::{put_item_words, put_kind_words};
+use crate::shape::lanes::{ROW_BAR, row_y};
+use crate::shape::points::{put_join, put_point};
+use crate::shape::{Bar, Spot, bar_of, class_of, put_bar};
 use history_core::{Band, Kind, Op};
 use matrix_core::Stamp;
 use schedule_text::Line;

@@ -1,7 +1,7 @@
 -- The accesses of a process are told behind those of the processes before it.
 use Rattle.std.proofs.Common.{ap, length}
 use Rattle.picture_text.proofs.Terms.{term_step}
-use Rattle.picture_text.proofs.visits.push_term.Goals as goal
+use Rattle.picture_text.proofs.visits.terms.push_term.Goals as goal
 
 pub loop-who-preserved : goal.loop-who-preserved
 loop-who-preserved c =

@@ -1,7 +1,7 @@
 -- Each turn moves one operation from those that are left to those whose accesses are told, so both together stay the same.
 use Rattle.std.proofs.Common.{◌≡◌, ◌≤◌, ◌++◌, drop}
 use Rattle.picture_text.specs.Visits.{events_in, side_visits}
-use Rattle.picture_text.proofs.visits.push_side.Given as goal
+use Rattle.picture_text.proofs.visits.cell.push_side.Given as goal
 
 abbrev pub invariant-loop-place : goal.invariant-loop-place
 invariant-loop-place l =

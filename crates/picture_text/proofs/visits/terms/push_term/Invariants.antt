@@ -2,7 +2,7 @@
 use Rattle.std.proofs.Common.{◌≡◌, ◌++◌}
 use Rattle.matrix_core.specs.BoardReports.{board_span}
 use Rattle.picture_text.specs.Visits.{term_visits}
-use Rattle.picture_text.proofs.visits.push_term.Given as goal
+use Rattle.picture_text.proofs.visits.terms.push_term.Given as goal
 
 abbrev pub invariant-loop-who : goal.invariant-loop-who
 invariant-loop-who l = l.visits.items ≡ l.initial.visits.items ++ term_visits l.at (board_span l.term) l.wide l.rows l.ops l.who

@@ -1,7 +1,7 @@
 -- Each turn moves one access from those that are left to those that are told, so both together stay the same.
 use Rattle.std.proofs.Common.{◌≡◌, ◌++◌, drop}
 use Rattle.picture_text.specs.Visits.{events_in, row_visits}
-use Rattle.picture_text.proofs.visits.push_row.Given as goal
+use Rattle.picture_text.proofs.visits.process.push_row.Given as goal
 
 abbrev pub invariant-loop-number : goal.invariant-loop-number
 invariant-loop-number l =

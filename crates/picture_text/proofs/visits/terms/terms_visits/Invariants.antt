@@ -2,7 +2,7 @@
 use Rattle.std.proofs.Common.{◌≡◌, ◌+◌, ◌++◌, drop}
 use Rattle.matrix_core.specs.Runs.{step_count}
 use Rattle.picture_text.specs.Visits.{terms_visits}
-use Rattle.picture_text.proofs.visits.terms_visits.Given as goal
+use Rattle.picture_text.proofs.visits.terms.terms_visits.Given as goal
 
 abbrev pub invariant-loop-t : goal.invariant-loop-t
 invariant-loop-t l =

@@ -2,7 +2,7 @@
 use Rattle.std.proofs.Common.{◌≡◌, ◌++◌, drop, map}
 use Rattle.history_core.specs.Schedules.{positions}
 use Rattle.fourslot_core.specs.Play.{actor}
-use Rattle.picture_text.proofs.visits.side_steps.Given as goal
+use Rattle.picture_text.proofs.visits.cell.side_steps.Given as goal
 
 abbrev pub invariant-loop-i : goal.invariant-loop-i
 invariant-loop-i l =
