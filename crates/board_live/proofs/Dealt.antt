@@ -180,10 +180,11 @@ module _ {V C P G T : Type 0} {law : LawWords V} {eq : EqWords V} {cells : CellW
         };
       }
 
-  pub is_new : IsNew n board.limit board.first board passes
-  is_new = record {
+  pub is_new : (1 ≤ board.limit) × (board.limit < 18446744073709551615) → IsNew n board.limit board.first board passes
+  is_new limit = record {
     count = inv.count;
     limited = refl;
+    within = limit;
     opened = refl;
     passes_of = record { all = inv.count ∙ sym full; processes = λ k p at. (inv.named k p at).0; of = is_pass };
     owns = λ k p at. (inv.named k p at).1;

@@ -1,23 +1,27 @@
 -- The public clauses give the premises of the order: what `new`, `read`, `write` promise as steps of a run.
-use Rattle.std.proofs.Common.{◌≡◌, ℕ, List, sym, ◌∙◌, ap}
+use Rattle.std.proofs.Common.{◌≡◌, ℕ, List, ◌++◌, ◌⊎◌, inl, inr, sym, ◌∙◌, ap}
 use Rattle.std.specs.Prelude.{slice_get, Some, Result, Ok, Err}
 use Rattle.std.specs.declared.cmp.PartialEq.{Ghosts as EqWords}
 use Rattle.history_core.specs.declared.history.Kind.{Kind}
 use Rattle.history_core.specs.declared.history.Kind.TheVariants.{Write, Read, Refused}
-use Rattle.matrix_core.specs.Calls.{IsChosen}
+use Rattle.matrix_core.specs.Calls.{Call, Dated, IsChosen, IsPosted}
+use Rattle.matrix_core.proofs.lists.Sorting.{append_left}
 use Rattle.matrix_core.specs.Stamps.{first_stamp}
 use Rattle.matrix_core.specs.declared.stamp.Stamp.{Stamp}
 use Rattle.cell_live.specs.declared.cell.Calls.{Ghosts as CellWords}
 use Rattle.board_live.specs.declared.board.Board.{Board}
 use Rattle.board_live.specs.declared.board.Pass.{Pass}
+use Rattle.board_live.specs.declared.board.Receipt.{Receipt}
 use Rattle.board_live.specs.declared.board.TagsEnded.{TagsEnded}
 use Rattle.board_live.specs.declared.clocked.Clocked.{Clocked}
 use Rattle.board_live.specs.declared.posted.Posted.{Posted}
 use Rattle.board_live.specs.declared.posted.RecordLaw.{Ghosts as LawWords}
 use Rattle.board_live.specs.Boards.{IsPass, IsBoardCall, HandsOn, Chooses, seen_by}
 use Rattle.board_live.specs.Deals.{IsNew}
-use Rattle.board_live.specs.Ran.{dated, MakesCall, IsFresh}
+use Rattle.board_live.specs.Ran.{dated, MakesCall, IsFresh, Ran}
+use Rattle.board_live.specs.Receipts.{HasTold}
 use Rattle.board_live.specs.Rising.{posted}
+use Rattle.board_live.proofs.Running.{last_chosen, last_from, RunsTo, runs_to}
 
 -- a write that was answered so
 abbrev pub kind_of : {V : Type 0} → Result Stamp (TagsEnded V) → Kind
@@ -63,3 +67,17 @@ module _ {V C P G T : Type 0} {law : LawWords V} {eq : EqWords V} {cells : CellW
     unwritten = λ m put a. h.unwritten k m p put at a;
     unread = λ m get a. h.unread k m p get at a;
   }
+
+module _ {V C P G T : Type 0} {law : LawWords V} {eq : EqWords V} {cells : CellWords C (Clocked V) P G T} where
+  -- a receipt names the opening, or what a call of the process that told it chose
+  pub named : (board : Board V C P G T law eq cells) (Named : Dated V → Type 0) (runs : List (List (Call V))) (k to : ℕ)
+      (cs rest : List (Call V)) (old p q : Pass V C P G T law eq cells) (receipt : Receipt V C P G T)
+      → IsFresh board k old → Ran board Named old cs p → HasTold p to q receipt → slice_get runs k ≡ Some (cs ++ rest)
+      → IsPosted (dated board.first) runs (dated receipt.item)
+  named board Named runs k to cs rest old p q receipt fresh ran told at =
+      let h : RunsTo board Named k cs p = runs_to board Named k old cs p fresh ran in
+      let e : dated receipt.item ≡ last_chosen (dated board.first) cs = ap dated told.names ∙ h.own in
+      elim (last_from (dated board.first) cs) [
+        | inl f ↦ inl (e ∙ f)
+        | inr w ↦ inr (w.0, (k, cs ++ rest, at, append_left w.0 cs rest w.1), w.2 ∙ sym e)
+      ]

@@ -158,7 +158,7 @@ module _ {V : Type 0} where
 
 module _ {V : Type 0} where
   -- it is the first own record, or what a call chose
-  last_from : (own : Dated V) (cs : List (Call V))
+  pub last_from : (own : Dated V) (cs : List (Call V))
       → (last_chosen own cs ≡ own) ⊎ ((c : Call V) × IsIn c cs × (c.chosen ≡ last_chosen own cs))
   last_from own [] = inl refl
   last_from own (c ∷ cs) = elim (last_from c.chosen cs) [

@@ -44,11 +44,13 @@ module _ {V C P G T : Type 0} {law : LawWords V} {eq : EqWords V} {cells : CellW
       → slice_get p.puts.items (seat i j) ≡ Some put → slice_get q.gets.items (seat j i) ≡ Some get
       → Settled (first ∷ cells.written put) (cells.answers get)
 
-  -- a new board and its passes: the own records are the opening, and nothing was written, answered or told
+  -- a new board, with a limit that it may have, and its passes: the own records are the opening, and nothing was written, answered or
+  -- told
   pub record IsNew (n limit : ℕ) (first : Clocked V) (board : Board V C P G T law eq cells)
       (passes : List (Pass V C P G T law eq cells)) : Type 0 where
     pub count : length passes ≡ n
     pub limited : board.limit ≡ limit
+    pub within : (1 ≤ limit) × (limit < 18446744073709551615)
     pub opened : board.first ≡ first
     pub passes_of : AllPasses board passes
     pub owns : (k : ℕ) (p : Pass V C P G T law eq cells) → slice_get passes k ≡ Some p → p.own ≡ first

@@ -57,6 +57,7 @@ fn deal<V: RecordLaw, C: Calls<Clocked<V>>>(
     requires lawful { IsTrue (V.obeys first.item) }
     requires opens { (first.stamp ≡ first_stamp) × (first.clock ≡ 0) }
     requires processes { (2 ≤ n) × (n ≤ 16) }
+    requires within { (1 ≤ limit) × (limit < 18446744073709551615) }
     ensures { IfOk result (λ r. IsNew n limit first r.0 r.1.items) }
 {
     let mut passes = Vec::with_capacity(alloc, n)?;

@@ -162,13 +162,15 @@ fn refusal<K: Calls<Clocked<Band>>>(
 }
 
 /// What `new` refuses, and in which order.
-fn refusals<K: Calls<Clocked<Band>>>(alloc: Global) -> [Option<BoardError>; 9] {
+fn refusals<K: Calls<Clocked<Band>>>(alloc: Global) -> [Option<BoardError>; 11] {
     let (least, most) = (1, u64::MAX - 1);
     [
         refusal::<K>(alloc, 1, 9, OPENING),
         refusal::<K>(alloc, 17, 9, OPENING),
         refusal::<K>(alloc, 1, 0, UNLAWFUL),
         refusal::<K>(alloc, 17, 0, UNLAWFUL),
+        refusal::<K>(alloc, 2, 0, OPENING),
+        refusal::<K>(alloc, 2, u64::MAX, OPENING),
         refusal::<K>(alloc, 2, 0, UNLAWFUL),
         refusal::<K>(alloc, 2, u64::MAX, UNLAWFUL),
         refusal::<K>(alloc, 2, 9, UNLAWFUL),
@@ -274,6 +276,8 @@ fn refused_boards(rt: HostRuntime) -> Result<(), Fail> {
         Some(BoardError::Processes),
         Some(BoardError::Processes),
         Some(BoardError::Processes),
+        Some(BoardError::Limit),
+        Some(BoardError::Limit),
         Some(BoardError::Limit),
         Some(BoardError::Limit),
         Some(BoardError::Opening),

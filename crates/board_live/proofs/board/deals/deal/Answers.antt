@@ -54,4 +54,4 @@ invariant_of-result g c =
 pub returns : goal.returns
 returns g c =
     let n : length c.loop-writer.rows.items ≡ c.args.n = search rules in
-    is_new c.args.n _ c.loop-writer.passes.items c.loop-writer.invariant.0 n
+    is_new c.args.n _ c.loop-writer.passes.items c.loop-writer.invariant.0 n c.requires.within
