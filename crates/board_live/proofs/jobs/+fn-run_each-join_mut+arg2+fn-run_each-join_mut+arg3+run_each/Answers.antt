@@ -1,3 +1,4 @@
+-- What is done to both halves is done to the whole, as the second half begins where the first ends.
 use Rattle.std.proofs.Common.{rules, ◌≡◌, ℕ, ◌+◌, ◌/◌, length}
 use Rattle.board_live.specs.Jobs.{EachStep}
 use Rattle.board_live.proofs.Halves.{steps_both}

@@ -1,3 +1,4 @@
+-- The cells of the column so far were read once more each, and what was seen is the greatest of their answers.
 use Rattle.board_live.specs.Clocks.{later}
 use Rattle.board_live.specs.Lists.{cell_of, other}
 use Rattle.board_live.proofs.Columns.{Half}

@@ -1,3 +1,4 @@
+-- One more row is ended from its end; when none is left every column is settled against its row, so all calls have one order.
 use Rattle.std.proofs.Common.{rules, arith, refl, sym, ◌∙◌, ap, subst, ◌≡◌, ◌+◌, ◌<◌, ◌∷◌, [], length, length-append}
 use Rattle.board_live.specs.Ends.{RowEnded}
 use Rattle.board_live.specs.Ran.{HasRecords}

@@ -1,3 +1,4 @@
+-- The greatest record that was seen rises from the process's own, so it may be handed on to each cell of the row.
 use Rattle.std.proofs.Common.{arith, refl, sym, ap, ◌∙◌, ◌≡◌, rules}
 use Rattle.board_live.specs.Clocks.{next_clock}
 use Rattle.board_live.specs.Rising.{posted, rises_itself}

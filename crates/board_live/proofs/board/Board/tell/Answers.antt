@@ -1,3 +1,4 @@
+-- The cell to the other process stands at its number among the others, and its last record is the process's own.
 use Rattle.std.proofs.Common.{rules, arith, refl, sym, ◌∙◌, ap, length, set, ◌≡◌, ◌+◌, ◌<◌, ℕ}
 use Rattle.std.specs.Prelude.{slice_get, Some, vec_len}
 use Rattle.std.proofs.lemmas.Option.{slice_get_read, same_Some}

@@ -1,3 +1,4 @@
+-- What is chosen rises from the process's own record and is lawful, so it may be written to each cell of the row.
 use Rattle.std.proofs.Common.{arith, refl, sym, ap, ◌∙◌, ◌≡◌, inr, rules}
 use Rattle.board_live.specs.Clocks.{next_clock}
 use Rattle.board_live.specs.Rising.{Rises, rises_on, or_item, at_clock}

@@ -1,3 +1,4 @@
+-- One more cell: its pass to write goes to the row's process, its pass to read to the other, and both lists are empty still.
 use Rattle.std.proofs.Common.{rules, arith, refl, ◌≡◌, ◌+◌, ◌<◌, length, set}
 use Rattle.std.specs.Prelude.{slice_get, Some, vec_len}
 use Rattle.std.proofs.lemmas.Option.{slice_get_read}

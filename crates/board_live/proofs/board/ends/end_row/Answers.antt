@@ -1,3 +1,4 @@
+-- The last cell is ended with the last passes of its writer and of its reader, which are its own.
 use Rattle.std.proofs.Common.{rules, arith, refl, ap, ◌∙◌, ◌≡◌, length}
 use Rattle.board_live.specs.Lists.{other}
 use Rattle.board_live.proofs.Ending.{ending_all, ending_more, ending_none, of_cell, of_get, of_put, one_more, reader_now, reader_there}

@@ -1,3 +1,4 @@
+-- The next wish of the script is the one at the log's length, so the log tells of one call more.
 use Rattle.std.proofs.Common.{rules, ◌≡◌, ◌<◌, length, refl, subst, arith}
 use Rattle.std.specs.Prelude.{slice_get, Some}
 use Rattle.std.proofs.lemmas.Option.{slice_get_read}

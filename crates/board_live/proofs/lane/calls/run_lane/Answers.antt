@@ -1,3 +1,4 @@
+-- One more call adds its entry; the loop ends where the script does, or where the gate may stop the call.
 use Rattle.std.proofs.Common.{rules, arith, ◌≡◌, inl, inr, length, ap}
 use Rattle.board_live.proofs.Runs.{run_none, run_more, run_ends}
 use Rattle.board_live.proofs.lane.calls.run_lane.Goals as goal

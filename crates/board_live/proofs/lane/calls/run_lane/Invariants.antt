@@ -1,3 +1,4 @@
+-- The calls so far were made in turn, each with its entry in the log.
 use Rattle.board_live.proofs.Runs.{RunSoFar}
 use Rattle.board_live.proofs.lane.calls.run_lane.Given as goal
 

@@ -1,3 +1,4 @@
+-- The sender's pass is of the board, before it tells and after it.
 use Rattle.std.proofs.Common.{arith, sym, ◌∙◌}
 use Rattle.board_live.proofs.Passing.{stood, used}
 use Rattle.board_live.proofs.tests.Team.drop_receipt.Goals as goal

@@ -1,3 +1,4 @@
+-- The sender's pass is of the board, before it tells and after it, and so is the receiver's, before it learns and after it.
 use Rattle.std.proofs.Common.{arith, sym, ◌∙◌, ◌≡◌, length, set}
 use Rattle.std.specs.Prelude.{slice_get, Some, vec_len}
 use Rattle.board_live.specs.Deals.{AllPasses}

@@ -1,3 +1,4 @@
+-- The pass of the process is of the board, before the call and after it.
 use Rattle.std.proofs.Common.{arith, sym}
 use Rattle.board_live.proofs.Passing.{stood, used}
 use Rattle.board_live.proofs.tests.Team.read.Goals as goal

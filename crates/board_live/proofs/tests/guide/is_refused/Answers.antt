@@ -1,3 +1,4 @@
+-- The pass is of the board, before the call and after it.
 use Rattle.std.proofs.Common.{arith}
 use Rattle.board_live.proofs.Passing.{stood, used}
 use Rattle.board_live.proofs.tests.guide.is_refused.Goals as goal

@@ -1,3 +1,4 @@
+-- After each turn all passes are of the board still, so the next task may have its turn.
 use Rattle.std.proofs.Common.{arith, sym, ◌∙◌, ◌≡◌, length, set}
 use Rattle.std.specs.Prelude.{slice_get, Some}
 use Rattle.board_live.specs.Deals.{AllPasses}

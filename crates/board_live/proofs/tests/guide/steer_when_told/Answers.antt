@@ -1,3 +1,4 @@
+-- What a pass was told is not above what its next call chooses.
 use Rattle.board_live.specs.Boards.{seen_by}
 use Rattle.board_live.proofs.Told.{heeds_told}
 use Rattle.board_live.proofs.tests.guide.steer_when_told.Goals as goal

@@ -1,3 +1,4 @@
+-- The pass is the last one of the new board.
 use Rattle.std.proofs.Common.{arith, refl}
 use Rattle.std.proofs.lemmas.Option.{slice_get_read}
 use Rattle.board_live.proofs.tests.guide.two_boards.Goals as goal

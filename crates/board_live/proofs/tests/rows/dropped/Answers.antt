@@ -1,3 +1,4 @@
+-- The passes are the last two of a new board.
 use Rattle.std.proofs.Common.{arith, sym, ap, ◌∙◌, ◌≡◌, ◌++◌, ◌∷◌, [], length}
 use Rattle.std.specs.Prelude.{slice_get, Some}
 use Rattle.board_live.proofs.Ending.{get_end, get_front}
