@@ -1,13 +1,34 @@
 # What `install` and the tests of the static library share. They name the folder at the top in $top.
 
-# Whether the library is there and no source that it is made of is newer.
-has_library() {
-    [ -f "$here/out/libcells_c.a" ] || return 1
+library_crates='history_core fourslot_core cell_live cells_sides cells_c'
+
+# Whether this is there and no source that the library is made of is newer.
+is_newest() {
+    [ -e "$1" ] || return 1
+    newer_than=$1
     set -- "$top/crates.txt"
-    for crate in history_core fourslot_core cell_live cells_sides cells_c; do
-        set -- "$@" "$top/crates/$crate/src" "$top/crates/$crate/specs" "$top/crates/$crate/proofs"
+    for name in $library_crates; do
+        set -- "$@" "$top/crates/$name/src" "$top/crates/$name/specs" "$top/crates/$name/proofs"
     done
-    [ -z "$(find "$@" -newer "$here/out/libcells_c.a" -print -quit)" ]
+    [ -z "$(find "$@" -newer "$newer_than" -print -quit 2>/dev/null)" ]
+}
+
+# Builds the library over the crates below it as the gate has just proved and built them. `rt lib` would prove them anew: the gate
+# keeps the statements of a crate, without the stamp by which `rt lib` knows what it built itself. As with the gate's programs,
+# nothing is built unless the crate's own code is proved over these statements.
+build_over_gate() {
+    here=$(CDPATH= cd -- "$top/crates/cells_c" && pwd) && kit=$(dirname -- "$(rt doc)") || return 1
+    set --
+    for crate in ${library_crates% *}; do
+        made=$top/crates/$crate/out/rlib
+        [ ! -e "$made/stamp" ] && is_newest "$made/$crate.rlib" || return 1
+        set -- "$@" --extern "$crate=$made/$crate.rlib" -L "dependency=$made"
+    done
+    (
+        cd "$here" && mkdir -p out && "$kit/bin/rattle" build --crate-name cells_c --crate-type staticlib src/lib.rt "$@" --links cells_c= \
+            --extern "std=$kit/rlibs/std.rlib" -L "dependency=$kit/rlibs" --antt-project "$kit/rattle/logic/antt-project.json" \
+            --logic-built "$kit/logic_built" --toolchain "$kit/toolchain" --backend llvm --jobs 1 -o out/libcells_c.a
+    ) </dev/null >&2
 }
 
 # Proves and builds the library for C, where it isn't built, and puts it into the file that is named, with the toolchain's
@@ -15,7 +36,7 @@ has_library() {
 make_library() {
     here=$(CDPATH= cd -- "$top/crates/cells_c" && pwd) || return 1
     kit=$(dirname -- "$(rt doc)") || return 1
-    has_library || (cd "$here" && rt lib) </dev/null >&2 || return 1
+    is_newest "$here/out/libcells_c.a" || (cd "$here" && rt lib) </dev/null >&2 || return 1
     unpacked=$(mktemp -d) || return 1
     (
         cd "$unpacked" || exit 1
