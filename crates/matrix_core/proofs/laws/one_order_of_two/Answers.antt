@@ -1,3 +1,4 @@
+-- The run of two processes, its order, and the other order that is none: each entry by entry.
 use Rattle.matrix_core.proofs.calls.Instances.{not_this_order, their_order, two_run}
 use Rattle.matrix_core.proofs.laws.one_order_of_two.Goals as goal
 
