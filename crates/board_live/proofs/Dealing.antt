@@ -1,7 +1,7 @@
 -- A row that is made, and its passes dealt out, one by one.
-use Rattle.std.proofs.Common.{◌≡◌, ◌≢◌, ℕ, ◌+◌, ◌-◌, ◌<◌, ◌≤◌, List, [], ◌∷◌, ◌++◌, length, length-append, set, get_or, refl, sym, subst}
-use Rattle.std.proofs.Common.{◌∙◌, ap, arith, ◌⊎◌, inl, inr, ⊎_elim}
-use Rattle.std.specs.Prelude.{slice_get, Some, nat_lt, if◌then◌else◌}
+use Rattle.std.proofs.Common.{◌≡◌, ◌≢◌, ℕ, ◌+◌, List, [], ◌∷◌, ◌++◌, length, length-append, set, refl, sym, subst}
+use Rattle.std.proofs.Common.{◌∙◌, ap, arith, ⊎_elim}
+use Rattle.std.specs.Prelude.{slice_get, Some}
 use Rattle.std.specs.declared.cmp.PartialEq.{Ghosts as EqWords}
 use Rattle.std.proofs.lemmas.Option.{slice_get_within, same_Some, none-some}
 use Rattle.std.proofs.lemmas.List.{length-set}
@@ -11,7 +11,7 @@ use Rattle.board_live.specs.declared.board.Pass.{Pass}
 use Rattle.board_live.specs.declared.clocked.Clocked.{Clocked}
 use Rattle.board_live.specs.declared.posted.RecordLaw.{Ghosts as LawWords}
 use Rattle.board_live.specs.Deals.{RowDealt, NewPut, NewGet, others_below}
-use Rattle.board_live.specs.Lists.{Match, seat}
+use Rattle.board_live.specs.Lists.{seat}
 use Rattle.board_live.proofs.Seats.{more_others, none_below, same_others}
 use Rattle.board_live.proofs.Steps.{get_last, get-set_other, get-set_same, same_or_not}
 use Rattle.board_live.proofs.Ending.{get_front, get_end}

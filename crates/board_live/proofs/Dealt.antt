@@ -1,7 +1,7 @@
 -- A board that is made row by row.
-use Rattle.std.proofs.Common.{◌≡◌, ◌≢◌, ℕ, zero, suc, ◌+◌, ◌-◌, ◌<◌, ◌≤◌, List, [], ◌∷◌, ◌++◌, length, length-append, get_or, refl, sym}
+use Rattle.std.proofs.Common.{◌≡◌, ◌≢◌, ℕ, zero, suc, ◌+◌, ◌<◌, ◌≤◌, List, [], ◌∷◌, ◌++◌, length, length-append, get_or, refl, sym}
 use Rattle.std.proofs.Common.{subst, ◌∙◌, ap, arith, ◌⊎◌, inl, inr, ⊎_elim, Global}
-use Rattle.std.specs.Prelude.{slice_get, Some, Option, Vec, vec_len, nat_lt, if◌then◌else◌}
+use Rattle.std.specs.Prelude.{slice_get, Some, Vec, vec_len}
 use Rattle.std.specs.Option.{option_and_then}
 use Rattle.std.specs.declared.cmp.PartialEq.{Ghosts as EqWords}
 use Rattle.std.proofs.lemmas.Option.{slice_get_within, same_Some, none-some, slice_get-get_or}
@@ -13,7 +13,7 @@ use Rattle.board_live.specs.Boards.{IsPass}
 use Rattle.board_live.proofs.Seats.{all_others, more_others, none_below, other_apart, same_others, seat_other, seat_within}
 use Rattle.board_live.specs.declared.clocked.Clocked.{Clocked}
 use Rattle.board_live.specs.declared.posted.RecordLaw.{Ghosts as LawWords}
-use Rattle.board_live.specs.Deals.{RowDealt, DealtBy, IsNew, NewPut, NewGet, others_below}
+use Rattle.board_live.specs.Deals.{RowDealt, DealtBy, IsNew, NewGet, others_below}
 use Rattle.board_live.specs.Lists.{Match, other, seat, cell_of}
 use Rattle.board_live.proofs.Steps.{get_at, get_last, same_or_not}
 use Rattle.board_live.proofs.Ending.{get_end}

@@ -1,17 +1,16 @@
 -- A board of which some rows were ended.
-use Rattle.std.proofs.Common.{◌≡◌, ◌≢◌, ℕ, ◌+◌, ◌-◌, ◌<◌, ◌≤◌, List, [], ◌∷◌, ◌++◌, length, length-append, get_or, refl, sym, subst, ◌∙◌}
+use Rattle.std.proofs.Common.{◌≡◌, ◌≢◌, ℕ, ◌+◌, ◌<◌, ◌≤◌, List, [], ◌∷◌, ◌++◌, length, length-append, get_or, refl, sym, subst, ◌∙◌}
 use Rattle.std.proofs.Common.{ap, arith, ◌⊎◌, inl, inr, ⊎_elim, Global}
-use Rattle.std.specs.Prelude.{slice_get, Some, Vec, vec_len, nat_lt, if◌then◌else◌}
+use Rattle.std.specs.Prelude.{slice_get, Some, Vec, vec_len}
 use Rattle.std.specs.declared.cmp.PartialEq.{Ghosts as EqWords}
 use Rattle.std.proofs.lemmas.Option.{slice_get_within, same_Some, slice_get-get_or}
-use Rattle.std.proofs.lemmas.Bool.Decides.{nat_tests}
 use Rattle.cell_live.specs.declared.cell.Calls.{Ghosts as CellWords}
 use Rattle.cell_live.specs.Running.{Settled}
 use Rattle.board_live.specs.declared.board.Board.{Board}
 use Rattle.board_live.specs.declared.board.Pass.{Pass}
 use Rattle.board_live.specs.declared.clocked.Clocked.{Clocked}
 use Rattle.board_live.specs.declared.posted.RecordLaw.{Ghosts as LawWords}
-use Rattle.board_live.specs.Boards.{IsPass, Stands, Hears}
+use Rattle.board_live.specs.Boards.{Stands, Hears}
 use Rattle.board_live.specs.Deals.{AllPasses, AllSettled, others_below}
 use Rattle.board_live.specs.Ends.{RowStands, RowEnded}
 use Rattle.board_live.specs.Lists.{other, seat, cell_of}

@@ -1,6 +1,6 @@
 -- The order of all calls has the records of one register, with their stamps: no call stands in it twice, so each write has a
 -- greater stamp than all writes before it; and every other call has the stamp of the last of them.
-use Rattle.std.proofs.Common.{◌≡◌, ℕ, zero, suc, ◌+◌, ◌<◌, ◌≤◌, Bool, true, false, List, [], ◌∷◌, refl, sym, ◌∙◌, ap, subst, arith, ◌⊎◌}
+use Rattle.std.proofs.Common.{◌≡◌, ℕ, suc, ◌+◌, ◌<◌, Bool, true, false, List, [], ◌∷◌, refl, sym, ◌∙◌, ap, subst, arith, ◌⊎◌}
 use Rattle.std.proofs.Common.{inl, inr}
 use Rattle.std.specs.Prelude.{slice_get, Some, nat_eq}
 use mathlib.Core.Bool.{cond}
@@ -8,15 +8,15 @@ use Rattle.std.specs.List.{filter}
 use Rattle.std.proofs.lemmas.Bool.Decides.{nat_tests}
 use Rattle.history_core.specs.declared.history.Kind.{Kind}
 use Rattle.history_core.specs.declared.history.Kind.TheVariants.{Write, Read, Refused}
-use Rattle.matrix_core.specs.Calls.{AreCalls, Call, Dated, in_turn, is_by, IsCall, IsChosen, IsGreatest, IsOf, IsOneOrder, IsRunning}
+use Rattle.matrix_core.specs.Calls.{AreCalls, Call, Dated, in_turn, is_by, IsChosen, IsGreatest, IsOf, IsOneOrder, IsRunning}
 use Rattle.matrix_core.specs.Choices.{IsAtMost, IsIn}
 use Rattle.matrix_core.specs.Stamps.{IsBelow, first_stamp}
 use Rattle.matrix_core.specs.declared.stamp.Stamp.{Stamp}
 use Rattle.matrix_core.proofs.calls.Clocks.{all_from, all_of, of_all}
-use Rattle.matrix_core.proofs.calls.Histories.{at_most_same, has_write, IsHistory, one_write, tag_at_most, write_tag}
+use Rattle.matrix_core.proofs.calls.Histories.{at_most_same, has_write, IsHistory, one_write, write_tag}
 use Rattle.matrix_core.proofs.calls.Keys.{apart, IsWrite, Le, Gt, le_gt, le_stamps, le_trans, which}
 use Rattle.matrix_core.proofs.calls.Orders.{history, in_order, no_circle, ordered}
-use Rattle.matrix_core.proofs.calls.Replays.{end_is, ends, InOrder, IsCut, IsLatest, latest_other, latest_write, stands}
+use Rattle.matrix_core.proofs.calls.Replays.{end_is, ends, IsCut, IsLatest, latest_other, latest_write, stands}
 use Rattle.matrix_core.proofs.choices.Stamps.{below_itself, below_or_not}
 use Rattle.matrix_core.proofs.lists.Sorting.{in_sort, sort_in, sorted_sort}
 use Rattle.board_live.specs.declared.posted.Posted.{Posted}

@@ -1,5 +1,5 @@
 -- One of the passes of a board is used, and they are the passes of the board as before.
-use Rattle.std.proofs.Common.{◌≡◌, ◌≢◌, ℕ, ◌<◌, List, length, set, get_or, refl, sym, subst, ◌∙◌, ap, ⊎_elim}
+use Rattle.std.proofs.Common.{◌≡◌, ℕ, ◌<◌, List, length, set, get_or, sym, subst, ◌∙◌, ap, ⊎_elim}
 use Rattle.std.specs.Prelude.{slice_get, Some}
 use Rattle.std.specs.declared.cmp.PartialEq.{Ghosts as EqWords}
 use Rattle.std.proofs.lemmas.Option.{slice_get_read, slice_get_within}

@@ -1,7 +1,7 @@
 -- From the passes of an ended board to the calls of a running board: along what was done with a pass one record of facts is kept
 -- (`RunsTo`). Answers stand in what was written, since every column is settled, and so were chosen.
-use Rattle.std.proofs.Common.{◌≡◌, ◌≢◌, ℕ, zero, suc, ◌+◌, ◌<◌, ◌≤◌, List, [], ◌∷◌, ◌++◌, length, map, get_or, refl, sym, ◌∙◌, ap, subst}
-use Rattle.std.proofs.Common.{arith, Bool, true, false, ◌⊎◌, inl, inr, ⊎_elim, Global}
+use Rattle.std.proofs.Common.{◌≡◌, ℕ, zero, suc, ◌+◌, ◌<◌, ◌≤◌, List, [], ◌∷◌, ◌++◌, length, map, get_or, refl, sym, ◌∙◌, ap, subst}
+use Rattle.std.proofs.Common.{arith, Bool, true, false, ◌⊎◌, inl, inr, Global}
 use Rattle.std.specs.Prelude.{slice_get, Some, All, if◌then◌else◌, nat_lt, Vec, vec_len}
 use Rattle.std.proofs.lemmas.Option.{none-some, same_Some, slice_get_within, slice_get-get_or}
 use Rattle.std.proofs.lemmas.List.Elements.{All-head, All-tail}
@@ -10,9 +10,8 @@ use Rattle.std.specs.declared.cmp.PartialEq.{Ghosts as EqWords}
 use Rattle.history_core.specs.declared.history.Kind.{Kind}
 use Rattle.matrix_core.specs.Choices.{IsAtMost, IsIn}
 use Rattle.matrix_core.specs.Stamps.{is_below}
-use Rattle.matrix_core.specs.declared.stamp.Stamp.{Stamp}
 use Rattle.matrix_core.specs.Calls.{AreCalls, Call, Dated, InTurn, IsCall, IsGreatest, IsOf, IsOneOrder, IsPosted, IsRunning, Knew, latest}
-use Rattle.matrix_core.specs.Calls.{next_clock, Ticks}
+use Rattle.matrix_core.specs.Calls.{Ticks}
 use Rattle.matrix_core.proofs.calls.Histories.{rises_by}
 use Rattle.matrix_core.proofs.calls.Orders.{in_order, ordered}
 use Rattle.matrix_core.proofs.choices.Stamps.{at_most_trans}
@@ -23,16 +22,14 @@ use Rattle.board_live.specs.declared.board.Board.{Board}
 use Rattle.board_live.specs.declared.board.Pass.{Pass}
 use Rattle.board_live.specs.declared.board.Receipt.{Receipt}
 use Rattle.board_live.specs.declared.clocked.Clocked.{Clocked}
-use Rattle.board_live.specs.declared.posted.Posted.{Posted}
 use Rattle.board_live.specs.declared.posted.RecordLaw.{Ghosts as LawWords}
 use Rattle.board_live.specs.Clocks.{later, latest_clock}
-use Rattle.board_live.specs.Lists.{Match, other, seat}
-use Rattle.board_live.specs.Rising.{Rises, greatest, greater, posted}
-use Rattle.board_live.specs.Boards.{IsPass, IsBoardCall, OneMore, Posts, seen_by, top_by}
+use Rattle.board_live.specs.Lists.{other, seat}
+use Rattle.board_live.specs.Rising.{greatest, greater, posted}
+use Rattle.board_live.specs.Boards.{IsPass, OneMore, Posts, seen_by, top_by}
 use Rattle.board_live.specs.Receipts.{IsReceipt, HasTold, HasLearnt}
 use Rattle.board_live.specs.Deals.{AllPasses, AllSettled}
 use Rattle.board_live.specs.Ran.{all_told, call_of, dated, HasRecords, MakesCall, Ran, nothing, called, tells, learns, IsFresh, HaveRun}
-use Rattle.board_live.specs.Ran.{HaveOneOrder}
 use Rattle.board_live.proofs.Columns.{last_or-append, at_most_greatest, rises_at_most}
 use Rattle.board_live.proofs.OrderRecords.{has_records}
 use Rattle.board_live.proofs.Seats.{seat_other, other_apart, other_within, seat_within}

@@ -1,6 +1,6 @@
 -- The numbers of processes among the others.
 use Rattle.std.proofs.Common.{◌≡◌, ◌≢◌, ℕ, ◌+◌, ◌-◌, ◌<◌, ◌≤◌, List, length, set, get_or, arith, rules, refl, sym, ◌∙◌, ⊎_elim}
-use Rattle.std.specs.Prelude.{slice_get, Some, nat_lt, if◌then◌else◌, Vec, vec_len}
+use Rattle.std.specs.Prelude.{slice_get, Some, Vec, vec_len}
 use Rattle.std.specs.Option.{option_and_then}
 use Rattle.std.proofs.lemmas.Option.{same_Some, slice_get_read}
 use Rattle.std.proofs.lemmas.Bool.Decides.{nat_tests}

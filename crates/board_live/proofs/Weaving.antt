@@ -1,6 +1,6 @@
 -- From an order of calls to an order of the logs that tell of them: each call takes the next entry of its process's log.
-use Rattle.std.proofs.Common.{◌≡◌, ◌≢◌, ℕ, zero, suc, ◌+◌, ◌<◌, ◌≤◌, Bool, true, false, List, [], ◌∷◌, length, map, refl, sym, ◌∙◌, ap}
-use Rattle.std.proofs.Common.{subst, arith, ◌⊎◌, inl, inr}
+use Rattle.std.proofs.Common.{◌≡◌, ℕ, zero, suc, ◌+◌, ◌≤◌, Bool, true, false, List, [], ◌∷◌, length, map, refl, sym, ◌∙◌, ap}
+use Rattle.std.proofs.Common.{subst, arith, inl, inr}
 use Rattle.std.specs.Prelude.{slice_get, Some, nat_eq, if◌then◌else◌}
 use mathlib.Core.Bool.{cond}
 use Rattle.std.specs.List.{filter}
@@ -19,7 +19,6 @@ use Rattle.board_live.specs.declared.lane.Reply.TheVariants.{Written, Seen, Ende
 use Rattle.board_live.specs.declared.posted.Posted.{Posted}
 use Rattle.board_live.specs.LogOrders.{AreOfOne, entries_of, is_of, Noted, Takes}
 use Rattle.board_live.specs.Ran.{HasRecords, Keeps, under}
-use Rattle.board_live.proofs.Steps.{same_or_not}
 
 same_is : (a b : ℕ) → a ≡ b → nat_eq a b ≡ true
 same_is a b e = grind (arith, nat_tests)

@@ -1,7 +1,7 @@
 -- What lanes did with fresh passes is what was done with the passes of the board, and their logs tell of the calls; so the order of
 -- all calls gives one of the logs.
-use Rattle.std.proofs.Common.{◌≡◌, ℕ, zero, suc, ◌+◌, ◌<◌, ◌≤◌, List, [], ◌∷◌, ◌++◌, length, map, append_assoc, refl, sym, ◌∙◌, ap, subst}
-use Rattle.std.proofs.Common.{arith, Bool, true, false, ◌⊎◌, inl, inr, Global}
+use Rattle.std.proofs.Common.{◌≡◌, ℕ, zero, suc, ◌<◌, List, [], ◌∷◌, ◌++◌, length, map, append_assoc, refl, sym, ◌∙◌, ap, subst}
+use Rattle.std.proofs.Common.{arith, Bool, true, false, inl, inr, Global}
 use Rattle.std.specs.Prelude.{slice_get, Some, nat_eq, Vec}
 use mathlib.Core.Bool.{cond}
 use Rattle.std.specs.List.{filter}
@@ -14,9 +14,8 @@ use Rattle.history_core.specs.declared.history.Kind.{Kind}
 use Rattle.history_core.specs.declared.history.Kind.TheVariants.{Write, Read, Refused}
 use Rattle.history_core.specs.declared.play.Wish.{Wish}
 use Rattle.history_core.specs.declared.play.Wish.TheVariants.{Write as Writes, Read as Reads}
-use Rattle.matrix_core.specs.Calls.{Call, calls_in, Dated, IsCall, is_by, IsChosen, IsOf, IsOneOrder, IsPosted, latest}
+use Rattle.matrix_core.specs.Calls.{Call, calls_in, Dated, is_by, IsChosen, IsOf, IsOneOrder, IsPosted}
 use Rattle.matrix_core.specs.Choices.{IsIn}
-use Rattle.matrix_core.specs.declared.stamp.Stamp.{Stamp}
 use Rattle.matrix_core.proofs.lists.Sorting.{filter_none}
 use Rattle.cell_live.specs.declared.cell.Calls.{Ghosts as CellWords}
 use Rattle.board_live.specs.declared.board.Board.{Board}
@@ -28,15 +27,15 @@ use Rattle.board_live.specs.declared.lane.Reply.{Reply}
 use Rattle.board_live.specs.declared.lane.Reply.TheVariants.{Written, Seen, Ended}
 use Rattle.board_live.specs.declared.posted.Posted.{Posted}
 use Rattle.board_live.specs.declared.posted.RecordLaw.{Ghosts as LawWords}
-use Rattle.board_live.specs.Boards.{IsPass, IsBoardCall, seen_by}
+use Rattle.board_live.specs.Boards.{IsPass, seen_by}
 use Rattle.board_live.specs.Deals.{AllPasses}
-use Rattle.board_live.specs.LogOrders.{entries_in, IsLogOrder, LogsInOrder, Noted}
-use Rattle.board_live.specs.Ran.{call_of, called, dated, HasRecords, HaveOneOrder, HaveRun, IsFresh, learns, MakesCall, nothing, Ran, tells}
+use Rattle.board_live.specs.LogOrders.{entries_in, LogsInOrder}
+use Rattle.board_live.specs.Ran.{call_of, called, dated, HasRecords, HaveOneOrder, HaveRun, IsFresh, learns, nothing, Ran, tells}
 use Rattle.board_live.specs.Rising.{posted}
 use Rattle.board_live.specs.Tasks.{AreCalls, IsEntry, Replies}
 use Rattle.board_live.specs.Worked.{HasWorked, HaveWorked, logs_of}
 use Rattle.board_live.proofs.Steps.{get_at}
-use Rattle.board_live.proofs.Weaving.{AreNoted, AreTold, log_at, log_at-is, log_at-none, noted_length, Notes, told_by, told_one, weave}
+use Rattle.board_live.proofs.Weaving.{AreNoted, log_at, log_at-is, log_at-none, noted_length, Notes, told_by, told_one, weave}
 use Rattle.board_live.proofs.Weaving.{Woven}
 
 -- an element for each, by what is known of it

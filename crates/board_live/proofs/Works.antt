@@ -1,10 +1,10 @@
 -- Lanes that were made of a new board's passes, and then run, have worked with fresh passes; and their logs are no longer than their
 -- scripts.
-use Rattle.std.proofs.Common.{◌≡◌, ℕ, zero, suc, ◌+◌, ◌<◌, ◌≤◌, ◌++◌, List, [], ◌∷◌, length, map, take, drop, get_or, refl, sym, ◌∙◌, ap}
+use Rattle.std.proofs.Common.{◌≡◌, ℕ, zero, suc, ◌+◌, ◌<◌, ◌≤◌, ◌++◌, List, [], ◌∷◌, length, take, drop, get_or, refl, sym, ◌∙◌, ap}
 use Rattle.std.proofs.Common.{subst, arith}
 use Rattle.std.specs.Prelude.{slice_get, Some}
 use Rattle.std.proofs.lemmas.List.{append-nil, take_all}
-use Rattle.std.proofs.lemmas.Option.{none-some, slice_get_within, slice_get-get_or}
+use Rattle.std.proofs.lemmas.Option.{slice_get_within, slice_get-get_or}
 use Rattle.std.specs.declared.cmp.PartialEq.{Ghosts as EqWords}
 use Rattle.history_core.specs.declared.play.Wish.{Wish}
 use Rattle.matrix_core.specs.Stamps.{first_stamp}
@@ -22,7 +22,7 @@ use Rattle.board_live.specs.Lanes.{AreLanes, IsNewLane}
 use Rattle.board_live.specs.LogOrders.{entries_in, LogsInOrder}
 use Rattle.board_live.specs.Ran.{IsFresh}
 use Rattle.board_live.specs.Tasks.{AreCalls, Ran}
-use Rattle.board_live.specs.Worked.{HasWorked, HaveWorked, logs_of, wishes_in}
+use Rattle.board_live.specs.Worked.{HaveWorked, logs_of, wishes_in}
 use Rattle.board_live.proofs.LaneLists.{lane_at, lanes_length}
 use Rattle.board_live.proofs.Made.{fresh}
 

@@ -1,5 +1,5 @@
 -- What a board promises of its calls (this project's own).
-use Rattle.std.specs.Prelude.{◌≡◌, Bool, IsTrue, ℕ, ◌+◌, ◌<◌, ◌≤◌, List, [], ◌∷◌, ◌++◌, length, map, slice_get, Some, Vec, vec_len, Result}
+use Rattle.std.specs.Prelude.{◌≡◌, Bool, IsTrue, ℕ, ◌+◌, ◌<◌, ◌≤◌, [], ◌∷◌, ◌++◌, length, map, slice_get, Some, vec_len, Result}
 use Rattle.std.specs.Prelude.{Ok, Err, All}
 use Rattle.std.specs.declared.cmp.PartialEq.{Ghosts as EqWords}
 use Rattle.matrix_core.specs.Choices.{IsAtMost}

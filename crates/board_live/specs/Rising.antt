@@ -1,5 +1,5 @@
 -- Records with stamps: their order, and the greatest of several (this project's own).
-use Rattle.std.specs.Prelude.{◌≡◌, ◌⊎◌, ℕ, ◌<◌, List, [], ◌∷◌, Option, Some, None, if◌then◌else◌}
+use Rattle.std.specs.Prelude.{◌≡◌, ◌⊎◌, ℕ, List, [], ◌∷◌, Option, Some, None, if◌then◌else◌}
 use Rattle.std.proofs.Common.{refl, ◌∙◌, inl, inr, arith}
 use Rattle.board_live.specs.declared.clocked.Clocked.{Clocked}
 use Rattle.board_live.specs.declared.posted.Posted.{Posted}

@@ -1,8 +1,7 @@
 -- The pass of the last lane stands before those that were taken out, and so does its log.
-use Rattle.std.proofs.Common.{arith, ap, sym, subst, ◌∙◌, ◌≡◌, ◌+◌, ◌∷◌, [], length, length-append, map, reverse}
+use Rattle.std.proofs.Common.{arith, ap, sym, subst, ◌∙◌, ◌≡◌, ◌+◌, ◌∷◌, [], length, length-append, map}
 use Rattle.board_live.specs.Deals.{AllPasses}
 use Rattle.board_live.specs.Ran.{HaveOneOrder}
-use Rattle.board_live.specs.Worked.{logs_of}
 use Rattle.board_live.proofs.LaneLists.{mapped_all, mapped_more, mapped_none}
 use Rattle.board_live.proofs.Working.{all_passes, items_of, lanes_in_order}
 use Rattle.board_live.proofs.lanes.finish_lanes.Goals as goal

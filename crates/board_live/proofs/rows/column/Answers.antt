@@ -1,5 +1,5 @@
 -- Each loop reads the cells of one part of the others: those of smaller processes, and those of greater ones.
-use Rattle.std.proofs.Common.{◌≡◌, ℕ, ◌+◌, ◌<◌, ◌≤◌, length, take, arith, rules, refl}
+use Rattle.std.proofs.Common.{◌≡◌, ◌+◌, ◌<◌, length, take, arith, rules, refl}
 use Rattle.std.specs.Prelude.{vec_len}
 use Rattle.std.proofs.lemmas.Option.{slice_get_read}
 use Rattle.std.proofs.Math.Seq.{take-length}

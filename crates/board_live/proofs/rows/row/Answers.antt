@@ -1,5 +1,5 @@
 -- The k-th cell of the row is the cell to the k-th of the others.
-use Rattle.std.proofs.Common.{◌≡◌, ℕ, ◌+◌, ◌<◌, ◌≤◌, length, get_or, arith, rules, refl}
+use Rattle.std.proofs.Common.{◌≡◌, ℕ, ◌<◌, length, get_or, arith, rules}
 use Rattle.std.specs.Prelude.{Some, Option}
 use Rattle.std.proofs.lemmas.Option.{slice_get-get_or, slice_get_within}
 use Rattle.board_live.specs.Boards.{Posts, Stands}

@@ -1,5 +1,5 @@
 -- The cell that the receipt is of stands in the column at its sender's number, and no other cell is told anything.
-use Rattle.std.proofs.Common.{rules, arith, refl, sym, subst, ◌∙◌, ap, length, set, ◌≡◌, ◌≢◌, ◌+◌, ◌<◌, ◌++◌, ◌∷◌, [], ℕ}
+use Rattle.std.proofs.Common.{rules, arith, refl, sym, subst, ◌∙◌, ap, length, set, ◌≡◌, ◌<◌, ◌++◌, ◌∷◌, []}
 use Rattle.std.specs.Prelude.{slice_get, Some, vec_len}
 use Rattle.std.proofs.lemmas.Option.{slice_get_read, same_Some}
 use Rattle.board_live.specs.Boards.{Hears}

@@ -1,7 +1,7 @@
 -- The greatest record that was seen rises from the process's own, so it may be handed on to each cell of the row.
-use Rattle.std.proofs.Common.{arith, refl, sym, ap, ◌∙◌, ◌≡◌, rules}
+use Rattle.std.proofs.Common.{arith, refl, ap, ◌∙◌}
 use Rattle.board_live.specs.Clocks.{next_clock}
-use Rattle.board_live.specs.Rising.{posted, rises_itself}
+use Rattle.board_live.specs.Rising.{rises_itself}
 use Rattle.board_live.proofs.Columns.{rises_at}
 use Rattle.board_live.proofs.board.Board.read.Goals as goal
 

@@ -1,8 +1,7 @@
 -- The cell to the other process stands at its number among the others, and its last record is the process's own.
-use Rattle.std.proofs.Common.{rules, arith, refl, sym, ◌∙◌, ap, length, set, ◌≡◌, ◌+◌, ◌<◌, ℕ}
+use Rattle.std.proofs.Common.{rules, arith, refl, sym, ◌∙◌, ap, length, ◌≡◌, ◌<◌}
 use Rattle.std.specs.Prelude.{slice_get, Some, vec_len}
 use Rattle.std.proofs.lemmas.Option.{slice_get_read, same_Some}
-use Rattle.std.proofs.lemmas.List.{length-set}
 use Rattle.cell_live.specs.Running.{last_or}
 use Rattle.board_live.specs.Boards.{Stands}
 use Rattle.board_live.specs.Lists.{cell_of, other, seat}

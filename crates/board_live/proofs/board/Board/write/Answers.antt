@@ -1,8 +1,8 @@
 -- What is chosen rises from the process's own record and is lawful, so it may be written to each cell of the row.
-use Rattle.std.proofs.Common.{arith, refl, sym, ap, ◌∙◌, ◌≡◌, inr, rules}
+use Rattle.std.proofs.Common.{arith, refl, ap, ◌∙◌}
 use Rattle.board_live.specs.Clocks.{next_clock}
-use Rattle.board_live.specs.Rising.{Rises, rises_on, or_item, at_clock}
-use Rattle.board_live.proofs.Columns.{rises_item, raised_item, rises_at, lawful_item}
+use Rattle.board_live.specs.Rising.{rises_on, or_item}
+use Rattle.board_live.proofs.Columns.{rises_item, rises_at, lawful_item}
 use Rattle.board_live.proofs.board.Board.write.Goals as goal
 
 pub column-top-requires-clause-passes : goal.column-top-requires-clause-passes

@@ -1,5 +1,5 @@
 -- One more pass begins with the opening and with no cell; one more row is dealt to passes that had none of it.
-use Rattle.std.proofs.Common.{rules, arith, refl, subst, ◌≡◌, ◌+◌, ◌<◌, ◌≤◌, ℕ, ◌∷◌, [], length, length-append, ap, sym}
+use Rattle.std.proofs.Common.{rules, arith, refl, subst, ◌≡◌, ◌<◌, ◌∷◌, [], length, length-append, sym}
 use Rattle.std.specs.Prelude.{vec_len}
 use Rattle.board_live.specs.Deals.{RowDealt}
 use Rattle.board_live.proofs.Dealt.{dealt_none, dealt_more, started_more, is_new}

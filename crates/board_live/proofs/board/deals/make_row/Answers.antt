@@ -1,8 +1,7 @@
 -- One more cell: its pass to write goes to the row's process, its pass to read to the other, and both lists are empty still.
-use Rattle.std.proofs.Common.{rules, arith, refl, ◌≡◌, ◌+◌, ◌<◌, length, set}
-use Rattle.std.specs.Prelude.{slice_get, Some, vec_len}
+use Rattle.std.proofs.Common.{rules, refl, ◌≡◌, ◌<◌, length}
+use Rattle.std.specs.Prelude.{slice_get, Some}
 use Rattle.std.proofs.lemmas.Option.{slice_get_read}
-use Rattle.std.proofs.lemmas.List.{length-set}
 use Rattle.board_live.proofs.Dealing.{row_none, row_skip, row_more}
 use Rattle.board_live.proofs.Steps.{read_set}
 use Rattle.board_live.proofs.board.deals.make_row.Goals as goal

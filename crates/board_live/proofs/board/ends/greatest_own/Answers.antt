@@ -1,5 +1,5 @@
 -- One more record counts, and of equal ones the earlier stays.
-use Rattle.std.proofs.Common.{rules, ◌≡◌, ◌<◌, ◌∙◌, ap, sym, length}
+use Rattle.std.proofs.Common.{rules, ◌<◌, ◌∙◌, ap, sym, length}
 use Rattle.board_live.specs.Rising.{greater}
 use Rattle.board_live.proofs.Columns.{greatest_more}
 use Rattle.board_live.proofs.board.ends.greatest_own.Goals as goal
