@@ -7,7 +7,7 @@ use schedule_text::{Document, Report, Want, read_document, report_text};
 use std::alloc::Global;
 use std::sync::atomic::{AtomicBool, Ordering};
 use std::test::Fail;
-use std::thread::Threads;
+use std::thread::{Threads, yield_now};
 
 /// One task writes and reads, the other reads.
 const WRITE_AND_READ: &str =
@@ -33,7 +33,8 @@ fn race_under<R: Threads + Sync, G: Gate + Sync>(
     }
 }
 
-/// Each task raises its flag before its first call, and goes on where it sees the other's. With one thread none does.
+/// Each task raises its flag before its first call, and goes on where it sees the other's. With one thread none does. A task that
+/// looks in vain lets others run, so that two tasks also meet where all processors are busy.
 #[derive(Drop)]
 struct Meeting {
     first: AtomicBool,
@@ -57,6 +58,7 @@ impl Gate for Meeting {
             if other.load(Ordering::SeqCst) {
                 return true;
             }
+            yield_now();
         }
         false
     }
