@@ -16,7 +16,8 @@ use Rattle.board_live.specs.declared.clocked.Clocked.{Clocked}
 use Rattle.board_live.specs.Lists.{Match}
 use Rattle.board_live.specs.Rising.{Rises, below_on, rises_on, greatest, greater, or_item, at_clock}
 use Rattle.board_live.specs.Clocks.{later, latest_clock}
-use Rattle.board_live.specs.Boards.{Heard, OneMore, Posts, Stands, Hears}
+use Rattle.board_live.specs.Boards.{OneMore, Posts, Stands, Hears}
+use Rattle.board_live.specs.inner.Columns.{Heard}
 use Rattle.board_live.proofs.Steps.{Stepped, stepped_more, match_set, same_or_not, get-set_same, get-set_other}
 
 pub last_or-append : {A : Type 0} (d : A) (xs : List A) (a : A) → last_or d (xs ++ a ∷ []) ≡ a

@@ -5,7 +5,7 @@ use Rattle.std.specs.declared.cmp.PartialEq.{Ghosts as EqWords}
 use Rattle.matrix_core.specs.Choices.{IsAtMost}
 use Rattle.matrix_core.specs.declared.stamp.Stamp.{Stamp}
 use Rattle.cell_live.specs.declared.cell.Calls.{Ghosts as CellWords}
-use Rattle.cell_live.specs.Running.{last_or, IsAnswer}
+use Rattle.cell_live.specs.Running.{last_or}
 use Rattle.board_live.specs.declared.board.Board.{Board}
 use Rattle.board_live.specs.declared.board.Pass.{Pass}
 use Rattle.board_live.specs.declared.board.TagsEnded.{TagsEnded}
@@ -14,7 +14,7 @@ use Rattle.board_live.specs.declared.posted.Posted.{Posted}
 use Rattle.board_live.specs.declared.posted.RecordLaw.{Ghosts as LawWords}
 use Rattle.board_live.specs.Clocks.{later, latest_clock, next_clock}
 use Rattle.board_live.specs.Lists.{Match, other, cell_of}
-use Rattle.board_live.specs.Rising.{Rises, greater, greatest, posted}
+use Rattle.board_live.specs.Rising.{Rises, greatest, posted}
 
 -- `cells` has the words of the contract of cells, `law` that of the records
 module _ {V C P G T : Type 0} (cells : CellWords C (Clocked V) P G T) where
@@ -43,16 +43,6 @@ module _ {V C P G T : Type 0} (cells : CellWords C (Clocked V) P G T) where
     pub from_first : Rises first answer
     pub from_last : Rises (last_or first (cells.answers old)) answer
     pub from_told : All (λ t. Rises t answer) (cells.told old)
-
-  -- one cell was read: its pass has one more answer, what was seen is raised to it, and the clock is the later one
-  pub record Heard (obeys : V → Bool) (cell : C) (get get' : G) (seen seen' : Clocked V) (top top' : ℕ) : Type 0 where
-    pub answer : Clocked V
-    pub of : cells.is_get cell get'
-    pub more : cells.answers get' ≡ cells.answers get ++ answer ∷ []
-    pub as_told : cells.told get' ≡ cells.told get
-    pub running : IsAnswer (λ p. IsTrue (obeys p.item)) Rises (cells.opening cell) (cells.answers get) (cells.told get) answer
-    pub raised : seen' ≡ greater seen answer
-    pub latest : top' ≡ later top answer.clock
 
 module _ {V C P G T : Type 0} {law : LawWords V} {eq : EqWords V} {cells : CellWords C (Clocked V) P G T} where
   -- the pass is of this board: it has the passes of its row, which have written its own record last, and those of its column

@@ -13,3 +13,4 @@ pub mod Receipts
 pub mod Rising
 pub mod Tasks
 pub mod Worked
+pub mod inner

@@ -18,10 +18,6 @@ Rises a b = IsBelow a.stamp b.stamp ⊎ ((a.stamp ≡ b.stamp) × (a.item ≡ b.
 abbrev pub greater : {V : Type 0} → Clocked V → Clocked V → Clocked V
 greater a b = if is_below a.stamp b.stamp then b else a
 
--- the record, where its stamp is above that one
-abbrev pub above : {V : Type 0} → Stamp → Clocked V → Option (Clocked V)
-above s p = if is_below s p.stamp then Some p else None
-
 -- the greatest of a record and a list, the first of equal stamps
 abbrev pub greatest : {V : Type 0} → Clocked V → List (Clocked V) → Clocked V
 greatest own [] = own

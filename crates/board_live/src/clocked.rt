@@ -33,7 +33,8 @@ pub(crate) fn tick(clock: u64) -> u64
 
 impl<V: Copy> Clocked<V> {
     ghost use Rattle.board_live.specs.declared.clocked.Clocked.{Clocked};
-    ghost use Rattle.board_live.specs.Rising.{above, at_clock, greater, or_item, posted};
+    ghost use Rattle.board_live.specs.Rising.{at_clock, greater, or_item, posted};
+    ghost use Rattle.board_live.specs.inner.Columns.{above};
 
     /// What callers see of it.
     #[inline]

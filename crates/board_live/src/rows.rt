@@ -2,8 +2,9 @@
 ghost use Rattle.std.specs.Prelude.{◌≡◌, IsTrue, ℕ, ◌+◌, ◌<◌, length, vec_len, map, Some, slice_get, All};
 ghost use Rattle.board_live.specs.Clocks.{later, latest_clock};
 ghost use Rattle.board_live.specs.Lists.{IsSquare, Match, other, seat, cell_of};
-ghost use Rattle.board_live.specs.Rising.{Rises, above, greatest};
-ghost use Rattle.board_live.specs.Boards.{Heard, Hears, OneMore, Posts, Stands};
+ghost use Rattle.board_live.specs.Rising.{Rises, greatest};
+ghost use Rattle.board_live.specs.Boards.{Hears, OneMore, Posts, Stands};
+ghost use Rattle.board_live.specs.inner.Columns.{Heard, above};
 ghost use Rattle.cell_live.specs.Running.{last_or};
 ghost use Rattle.matrix_core.specs.Choices.{IsAtMost};
 

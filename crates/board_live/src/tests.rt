@@ -8,7 +8,6 @@ use history_core::Band;
 use matrix_core::Stamp;
 use std::alloc::Global;
 
-mod guide;
 mod outside;
 mod rows;
 

@@ -1,7 +1,7 @@
 -- The answer is the record that the pass has at hand, and what the closure tells of it is of its stamp and its clock.
 use Rattle.std.proofs.Common.{ap, ◌∙◌}
 use Rattle.board_live.specs.Clocks.{later}
-use Rattle.board_live.specs.Rising.{above}
+use Rattle.board_live.specs.inner.Columns.{above}
 use Rattle.board_live.proofs.rows.hear.Goals as goal
 
 pub returns : goal.returns
