@@ -20,7 +20,7 @@ build_over_gate() {
     here=$(CDPATH= cd -- "$top/crates/cells_c" && pwd) && kit=$(dirname -- "$(rt doc)") || return 1
     set --
     for crate in ${library_crates% *}; do
-        made=$top/crates/$crate/out/rlib
+        made=${here%/*}/$crate/out/rlib
         [ ! -e "$made/stamp" ] && is_newest "$made/$crate.rlib" || return 1
         set -- "$@" --extern "$crate=$made/$crate.rlib" -L "dependency=$made"
     done
