@@ -1,4 +1,8 @@
 -- Each rule was tested alone, so the first test that fails names the first broken rule.
+use Rattle.std.specs.Prelude.{IsTrue}
+use Rattle.history_core.specs.Orders.{IsVerdict}
+use Rattle.history_core.specs.declared.history.Verdict.{Verdict}
+use Rattle.history_core.specs.declared.history.Verdict.TheVariants.{Precedence, Reading}
 use Rattle.history_core.proofs.check.verdict.Goals as goal
 use Rattle.history_core.proofs.check.verdict.Goals.{then-not-lists_places-via-then-not-lists_places}
 use Rattle.history_core.proofs.check.verdict.Goals.{then-not-lists_places-via-else-not-lists_places+then-not-stands}
@@ -10,17 +14,25 @@ returns-then-not-lists_places g c = elim c.then-not-lists_places.branch [
 ]
 
 pub returns-then-not-keeps_precedence : goal.returns-then-not-keeps_precedence
-returns-then-not-keeps_precedence g c = (
-  record { places = c.lists_places.ensures.0 c.if-not-lists_places.false; stands = c.stands.ensures.0 c.if-not-stands.false },
-  λ h. let yes = c.keeps_precedence.ensures.1 h in cc,
-)
+returns-then-not-keeps_precedence g c =
+    let Tells : Verdict → Type 0 =
+    λ v. IsVerdict (λ x y. IsTrue (g.R.PartialEq.eq x y)) c.args.opening c.args.terms.now c.args.ops.now c.args.order.now v in
+    let told : Tells Precedence = (
+      record { places = c.lists_places.ensures.0 c.if-not-lists_places.false; stands = c.stands.ensures.0 c.if-not-stands.false },
+      λ h. let yes = c.keeps_precedence.ensures.1 h in cc,
+    ) in
+    told
 
 pub returns-then-not-reads_latest : goal.returns-then-not-reads_latest
-returns-then-not-reads_latest g c = (
-  record { places = c.lists_places.ensures.0 c.if-not-lists_places.false; stands = c.stands.ensures.0 c.if-not-stands.false },
-  c.keeps_precedence.ensures.0 c.if-not-keeps_precedence.false,
-  λ h. let yes = c.reads_latest.ensures.1 h in cc,
-)
+returns-then-not-reads_latest g c =
+    let Tells : Verdict → Type 0 =
+    λ v. IsVerdict (λ x y. IsTrue (g.R.PartialEq.eq x y)) c.args.opening c.args.terms.now c.args.ops.now c.args.order.now v in
+    let told : Tells Reading = (
+      record { places = c.lists_places.ensures.0 c.if-not-lists_places.false; stands = c.stands.ensures.0 c.if-not-stands.false },
+      c.keeps_precedence.ensures.0 c.if-not-keeps_precedence.false,
+      λ h. let yes = c.reads_latest.ensures.1 h in cc,
+    ) in
+    told
 
 pub returns-then-not-refuses_lawfully : goal.returns-then-not-refuses_lawfully
 returns-then-not-refuses_lawfully g c = (
