@@ -13,6 +13,8 @@ use Rattle.history_core.specs.declared.play.Wish.{Wish}
 use Rattle.history_core.specs.declared.play.Wish.TheVariants.{Write, Read}
 use Rattle.matrix_core.specs.Stamps.{first_stamp}
 use Rattle.board_live.proofs.LaneLists.{all_ready, lane_at, lanes_length}
+use Rattle.board_live.proofs.Steps.{get_at}
+use Rattle.board_live.proofs.Working.{at_mapped}
 use Rattle.board_live.proofs.Works.{have_worked, moved_order}
 use Rattle.board_live.specs.declared.clocked.Clocked.{Clocked}
 use Rattle.board_live.specs.declared.lane.Entry.{Entry}
@@ -37,20 +39,9 @@ use Rattle.schedule_text.specs.declared.telling.report.Counts.{Counts}
 use Rattle.schedule_text.specs.declared.telling.report.Report.{Report}
 use Rattle.schedule_text.specs.declared.telling.report.Report.TheVariants.{Race}
 
-get_map_back : {A B : Type 0} (f : A → B) (xs : List A) (k : ℕ) (y : B) → slice_get (map f xs) k ≡ Some y
-    → (x : A) × (slice_get xs k ≡ Some x) × (f x ≡ y)
-get_map_back f [] k y h = absurd (none-some y h)
-get_map_back f (x ∷ xs) zero y h = (x, refl, same_Some (f x) y h)
-get_map_back f (x ∷ xs) (suc k) y h = get_map_back f xs k y h
-
 -- how much an element that passes a test adds to a count
 abbrev one : Bool → ℕ
 one b = cond b 1 0
-
-some_at : {X : Type 0} (xs : List X) (k : ℕ) → k < length xs → (x : X) × (slice_get xs k ≡ Some x)
-some_at [] k lt = absurd (omega arith)
-some_at (x ∷ xs) zero lt = (x, refl)
-some_at (x ∷ xs) (suc k) lt = some_at xs k (omega arith)
 
 wish_obeys : (wish : Wish Band) → IsTrue (wish_fits wish) → Obeys fits wish
 wish_obeys (Write item) h = h
@@ -126,8 +117,8 @@ race_counts may_stop never opening limit scripts report h =
     subst (CountsAll scripts) (sym h.told) (record {
       all = all;
       each = λ k script counts at_script at_counts.
-          let ended = get_map_back tell h.ended k counts at_counts in
-          let began = some_at h.lanes k
+          let ended = at_mapped tell h.ended k counts at_counts in
+          let began = get_at h.lanes k
           (let n : k < length h.ended = slice_get_within h.ended k ended.0 ended.1 in omega (arith, n, h.ran.lengths)) in
           let at = lane_at h.passes scripts h.lanes h.begins k began.0 began.1 in
           let same : script ≡ at.1 = same_Some script at.1 (sym at_script ∙ at.3) in
