@@ -2,9 +2,10 @@
 ghost use Rattle.std.specs.Prelude.{◌≡◌};
 
 use super::plans::{point, run_plans, said_at};
-use crate::{Clocked, Gate, OpenGate, Origin, check_origin};
+use crate::{Clocked, Gate, OpenGate, Origin, Posted, check_origin, into_passes};
 use cell_live::{Cell, FourSlotCell, TripleCell};
 use history_core::Band;
+use matrix_core::Stamp;
 use std::alloc::{AllocError, Global};
 use std::test::Fail;
 use std::thread::Threads;
@@ -104,5 +105,33 @@ fn gate_stops_one_task(rt: HostRuntime) -> Result<(), Fail> {
         _ => (0, 0),
     };
     assert_eq!(rt; lengths, (3, 1));
+    Ok(())
+}
+
+/// The passes of lanes that ran know what they wrote.
+#[test]
+fn passes_of_lanes_that_ran(rt: HostRuntime) -> Result<(), Fail> {
+    let plans: &[&[u64]] = &[&[1], &[]];
+    let lanes = run_plans::<_, FourSlotCell<Clocked<Band>>, _>(
+        &rt,
+        rt.alloc(),
+        9,
+        plans,
+        &OpenGate,
+    )?;
+    let passes = into_passes(rt.alloc(), lanes)?;
+    let known = match passes.as_slice() {
+        [first, second] => Some([first.own(), second.own()]),
+        _ => None,
+    };
+    let written = Posted {
+        stamp: Stamp { tag: 1, writer: 0 },
+        item: point(1),
+    };
+    let opening = Posted {
+        stamp: Stamp { tag: 0, writer: 0 },
+        item: point(0),
+    };
+    assert!(rt; known == Some([written, opening]));
     Ok(())
 }

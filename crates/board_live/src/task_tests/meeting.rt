@@ -8,11 +8,12 @@ use history_core::Band;
 use std::alloc::{AllocError, Global};
 use std::sync::atomic::{AtomicBool, Ordering};
 use std::test::Fail;
-use std::thread::Threads;
+use std::thread::{Threads, yield_now};
 
 const TURNS: u64 = 20_000_000;
 
-/// Each task raises its flag before its first call, and goes on where it sees the other's.
+/// Each task raises its flag before its first call, and goes on where it sees the other's. A task that looks in vain lets others run, so
+/// that two tasks also meet where all processors are busy.
 #[derive(Drop)]
 struct Meeting {
     first: AtomicBool,
@@ -36,6 +37,7 @@ impl Gate for Meeting {
             if other.load(Ordering::SeqCst) {
                 return true;
             }
+            yield_now();
         }
         false
     }
