@@ -12,7 +12,7 @@ use Rattle.board_live.specs.declared.clocked.Clocked.{Clocked}
 use Rattle.board_live.specs.declared.posted.RecordLaw.{Ghosts as LawWords}
 use Rattle.board_live.specs.Boards.{Stands, Hears}
 use Rattle.board_live.specs.Deals.{AllPasses, AllSettled, others_below}
-use Rattle.board_live.specs.Ends.{RowStands, RowEnded}
+use Rattle.board_live.specs.inner.Ends.{RowStands, RowEnded}
 use Rattle.board_live.specs.Lists.{other, seat, cell_of}
 use Rattle.board_live.proofs.Steps.{same_or_not}
 use Rattle.board_live.proofs.Seats.{all_others, last_other, more_others, other_apart, other_seat, same_others, seat_other}

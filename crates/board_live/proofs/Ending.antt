@@ -12,7 +12,7 @@ use Rattle.board_live.specs.declared.board.Pass.{Pass}
 use Rattle.board_live.specs.declared.clocked.Clocked.{Clocked}
 use Rattle.board_live.specs.declared.posted.RecordLaw.{Ghosts as LawWords}
 use Rattle.board_live.specs.Lists.{other, seat}
-use Rattle.board_live.specs.Ends.{RowStands, RowEnded}
+use Rattle.board_live.specs.inner.Ends.{RowStands, RowEnded}
 use Rattle.board_live.proofs.Steps.{get-set_other, get-set_same, read_set, same_or_not}
 use Rattle.board_live.proofs.Seats.{other_apart, other_seat, other_within, seat_other}
 

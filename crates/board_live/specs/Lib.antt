@@ -1,7 +1,6 @@
 pub mod Boards
 pub mod Clocks
 pub mod Deals
-pub mod Ends
 pub mod Jobs
 pub mod Lanes
 pub mod Lists

@@ -1,7 +1,7 @@
 //! Ending a board.
 ghost use Rattle.std.specs.Prelude.{◌≡◌, ◌<◌, length, vec_len, slice_get, Some, map};
 ghost use Rattle.board_live.specs.Deals.{AllPasses, AllSettled};
-ghost use Rattle.board_live.specs.Ends.{RowStands, RowEnded};
+ghost use Rattle.board_live.specs.inner.Ends.{RowStands, RowEnded};
 ghost use Rattle.board_live.specs.Ran.{HaveOneOrder};
 ghost use Rattle.board_live.specs.Rising.{greatest, posted};
 

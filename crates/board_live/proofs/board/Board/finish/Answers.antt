@@ -1,6 +1,6 @@
 -- One more row is ended from its end; when none is left every column is settled against its row, so all calls have one order.
 use Rattle.std.proofs.Common.{rules, arith, sym, ◌∙◌, ap, subst, ◌≡◌, ◌+◌, ◌∷◌, [], length, length-append}
-use Rattle.board_live.specs.Ends.{RowEnded}
+use Rattle.board_live.specs.inner.Ends.{RowEnded}
 use Rattle.board_live.specs.Ran.{HasRecords}
 use Rattle.board_live.specs.Rising.{posted}
 use Rattle.board_live.proofs.Running.{one_order}

@@ -1,4 +1,4 @@
--- A row of cells that is ended (this project's own).
+-- A row of cells that is ended, which only private functions cite (this project's own).
 use Rattle.std.specs.Prelude.{◌≡◌, ◌≢◌, ℕ, ◌+◌, ◌<◌, List, [], ◌∷◌, ◌++◌, length, slice_get, Some}
 use Rattle.std.specs.declared.cmp.PartialEq.{Ghosts as EqWords}
 use Rattle.cell_live.specs.declared.cell.Calls.{Ghosts as CellWords}
