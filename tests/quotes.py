@@ -3,8 +3,8 @@
     quotes.py FILE ..
 
 A block that begins with ```LANGUAGE PATH has to be a stretch of the file PATH, but for its indentation. A row `| `PATH` | N | ..`
-of a table has to give the number of lines of PATH, or of files where PATH is a folder and ends with a slash. Prints each that
-doesn't, and how many were compared.
+of a table has to give the number of lines of PATH, or of files where PATH is a folder and ends with a slash. What a file of `specs/`
+in the tables of a document cites of `specs/` has to be in them too. Prints each that doesn't, and how many were compared.
 """
 
 import os
@@ -12,6 +12,7 @@ import re
 import sys
 
 ROW = re.compile(r"^\| `([\w/.-]+(?:\.\w+|/))` \| (\d+) \|")
+CITED = re.compile(r"^(?:pub )?use Rattle\.(\w+)\.specs\.(?!declared\b|contracts\b)([\w.]+)")
 
 
 def lines_of(path):
@@ -27,6 +28,23 @@ def count_of(path):
 def stands_in(block, path):
     lines = lines_of(path)
     return any(lines[at : at + len(block)] == block for at in range(len(lines) - len(block) + 1))
+
+
+def cited_by(path):
+    """The files of `specs/` of the repository that a file of `specs/` cites."""
+    for line in lines_of(path):
+        cited = CITED.match(line)
+        if cited:
+            parts = cited[2].rstrip(".").split(".")
+            files = [f"crates/{cited[1]}/specs/{'/'.join(parts[:count])}.antt" for count in range(len(parts), 0, -1)]
+            yield from [it for it in files if os.path.isfile(it)][:1]
+
+
+def unlisted(document):
+    """What the tables of a document lack of what their files cite."""
+    rows = [ROW.match(line) for line in open(document, encoding="utf-8")]
+    listed = {row[1] for row in rows if row and "/specs/" in row[1] and row[1].endswith(".antt")}
+    return [f"{document}: {it} is in no table, and {by} cites it" for by in sorted(listed) for it in cited_by(by) if it not in listed]
 
 
 def faults_of(document):
@@ -54,7 +72,7 @@ def main():
     faults, quoted = [], 0
     for document in sys.argv[1:]:
         more, count = faults_of(document)
-        faults += more
+        faults += more + unlisted(document)
         quoted += count
     print("\n".join([*faults, f"{quoted} quotations and counts stand in the sources as docs/ has them"][: len(faults) or 1]))
     return 1 if faults or not quoted else 0
