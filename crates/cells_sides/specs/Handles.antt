@@ -21,7 +21,8 @@ Keeps h k = (k.loose.side ≡ h.loose.side) × ((k.live ≡ 0) ↔ (h.live ≡ 0
 -- a call that makes a cell, and its status: the handles before and after
 pub data IsMake {P G W : Type 0} (writes : P → Side) (reads : G → Side) (is_made : P → G → W → Type 0)
     (w r w' r' : Handle) (first : W) : ℕ → Type 0 where
-  done : (p : P) (g : G) → Has w' (writes p) → Has r' (reads g) → is_made p g first → IsMake writes reads is_made w r w' r' first 0
+  done : (p : P) (g : G) → w.live ≡ 0 → r.live ≡ 0 → Has w' (writes p) → Has r' (reads g) → is_made p g first →
+      IsMake writes reads is_made w r w' r' first 0
   no_memory : w' ≡ w → r' ≡ r → IsMake writes reads is_made w r w' r' first 1
   in_use : (w.live ≢ 0) ⊎ (r.live ≢ 0) → w' ≡ w → r' ≡ r → IsMake writes reads is_made w r w' r' first 2
 

@@ -1,5 +1,5 @@
 -- Each handle has its side of the new cell, or both are as they were.
-use Rattle.std.proofs.Common.{◌∙◌, refl, inl, inr}
+use Rattle.std.proofs.Common.{rules, ◌∙◌, refl, inl, inr}
 use Rattle.cells_sides.specs.Handles.{done, no_memory, in_use}
 use Rattle.cells_sides.proofs.Kept.{is_live}
 use Rattle.cells_sides.proofs.calls.make.Goals as goal
@@ -20,7 +20,7 @@ pub returns-in_default-boxed-2 : goal.returns-in_default-boxed-2
 returns-in_default-boxed-2 g c = no_memory refl refl
 
 pub returns : goal.returns
-returns g c = done c.in-Ok.put c.in-Ok.get
+returns g c = done c.in-Ok.put c.in-Ok.get (search rules) (search rules)
     (is_live c.put.ensures.0, c.put.ensures.1 ∙ c.in-Some.ensures)
     (is_live c.put-2.ensures.0, c.put-2.ensures.1 ∙ c.in-Some-boxed.ensures)
     c.in-Ok.ensures
