@@ -21,6 +21,3 @@ pub use cell::{Calls, Cell, Kept, Lawful};
 pub use four_slot::{FourSlotCell, FourSlotGet, FourSlotPut, FourSlotTold};
 pub use lays::Lays;
 pub use triple::{TripleCell, TripleGet, TriplePut, TripleTold};
-
-#[cfg(test)]
-mod tests;

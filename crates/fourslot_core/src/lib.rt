@@ -8,8 +8,6 @@ pub mod laws;
 mod player;
 mod schedule;
 mod state;
-#[cfg(test)]
-mod tests;
 
 pub use cell::CellCore;
 pub use event::{ReadEvent, WriteEvent};

@@ -10,8 +10,6 @@ pub mod laws;
 mod list;
 mod play;
 mod point;
-#[cfg(test)]
-mod tests;
 
 pub use band::Band;
 pub use breaks::{Break, first_break};

@@ -14,8 +14,6 @@ mod play;
 mod report;
 mod schedule;
 mod stamp;
-#[cfg(test)]
-mod tests;
 
 pub use board::BoardCore;
 pub use board_report::play_board;

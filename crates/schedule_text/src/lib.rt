@@ -4,8 +4,6 @@
 
 mod reading;
 mod telling;
-#[cfg(test)]
-mod tests;
 
 pub use reading::{DocError, Document, Key, Want, document_in, read_document, read_value};
 pub use telling::{Counts, Line, Report, put_item, put_number, put_stamp, report_text};

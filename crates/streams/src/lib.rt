@@ -6,6 +6,3 @@ mod transfer;
 
 pub use stream::{Failed, Over, Sink, Source};
 pub use transfer::{InputFault, read_input, tell, write_text};
-
-#[cfg(test)]
-mod tests;

@@ -1,0 +1,25 @@
+use std::io;
+use streams::{Failed, Over, Sink};
+
+/// A writer that takes no byte.
+#[derive(Drop)]
+struct Closed;
+
+impl io::Write for Closed {
+    fn write(&mut self, _bytes: &[u8]) -> io::Result<usize> {
+        Ok(0)
+    }
+
+    fn flush(&mut self) -> io::Result<()> {
+        Ok(())
+    }
+}
+
+/// A writer that takes no byte of an empty piece does as it is told; of another piece that is a failure.
+#[test]
+fn puts_an_empty_piece(rt: HostRuntime) {
+    let mut out = Over::new(Closed);
+    assert_eq!(rt; out.put(b""), Ok(0));
+    assert_eq!(rt; out.put(b"a"), Err(Failed));
+    assert_eq!(rt; Sink::failures(&out), 1);
+}
