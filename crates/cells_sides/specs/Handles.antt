@@ -23,7 +23,7 @@ pub data IsMake {P G W : Type 0} (writes : P → Side) (reads : G → Side) (is_
     (w r w' r' : Handle) (first : W) : ℕ → Type 0 where
   done : (p : P) (g : G) → w.live ≡ 0 → r.live ≡ 0 → Has w' (writes p) → Has r' (reads g) → is_made p g first →
       IsMake writes reads is_made w r w' r' first 0
-  no_memory : w' ≡ w → r' ≡ r → IsMake writes reads is_made w r w' r' first 1
+  no_memory : w.live ≡ 0 → r.live ≡ 0 → w' ≡ w → r' ≡ r → IsMake writes reads is_made w r w' r' first 1
   in_use : (w.live ≢ 0) ⊎ (r.live ≢ 0) → w' ≡ w → r' ≡ r → IsMake writes reads is_made w r w' r' first 2
 
 -- a call that writes a record, and its status: the handle before and after
@@ -34,12 +34,13 @@ pub data IsWrite {P W : Type 0} (writes : P → Side) (last : P → ℕ) (has_wr
   worn_out : (p : P) → Has h (writes p) → 2 ^ 64 ≤ last p + 1 → Keeps h k → IsWrite writes last has_written h k item 4
   other : HasOther writes h → Keeps h k → IsWrite writes last has_written h k item 5
 
--- a call that reads a record and its number, and its status
+-- a call that reads a record and its number into what had others, and its status
 pub data IsRead {G W : Type 0} (reads : G → Side) (has_read : G → G → Numbered W → Type 0)
-    (h k : Handle) (item : W) (number : ℕ) : ℕ → Type 0 where
-  done : (p q : G) → Has h (reads p) → Has k (reads q) → has_read p q (numbered number item) → IsRead reads has_read h k item number 0
-  ended : h.live ≡ 0 → Keeps h k → IsRead reads has_read h k item number 3
-  other : HasOther reads h → Keeps h k → IsRead reads has_read h k item number 5
+    (h k : Handle) (item item' : W) (number number' : ℕ) : ℕ → Type 0 where
+  done : (p q : G) → Has h (reads p) → Has k (reads q) → has_read p q (numbered number' item') →
+      IsRead reads has_read h k item item' number number' 0
+  ended : h.live ≡ 0 → Keeps h k → item' ≡ item → number' ≡ number → IsRead reads has_read h k item item' number number' 3
+  other : HasOther reads h → Keeps h k → item' ≡ item → number' ≡ number → IsRead reads has_read h k item item' number number' 5
 
 -- a call that ends a side, and its status
 pub data IsEnd {S : Type 0} (side : S → Side) (h k : Handle) : ℕ → Type 0 where

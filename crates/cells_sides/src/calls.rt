@@ -71,7 +71,8 @@ pub fn read<W: Record, G: Reading<W>>(
     item: &mut W,
     number: &mut u64,
 ) -> u32
-    ensures { IsRead (λ g. W.side (G.party g)) G.has_read reader.old reader.new item.new number.new result }
+    ensures { IsRead (λ g. W.side (G.party g)) G.has_read reader.old reader.new
+        item.old item.new number.old number.new result }
 {
     if reader.live == 0 {
         return ENDED;

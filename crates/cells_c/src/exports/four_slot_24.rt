@@ -36,7 +36,8 @@ pub extern "C" fn nidzaru_24_read(
     item: &mut Record24,
     number: &mut u64,
 ) -> u32
-    ensures { IsRead (λ g. Of24 (Reads g)) HasRead reader.old reader.new item.new number.new result }
+    ensures { IsRead (λ g. Of24 (Reads g)) HasRead reader.old reader.new
+        item.old item.new number.old number.new result }
 {
     read::<Record24, FourSlotReader<Record24>>(alloc, reader, item, number)
 }

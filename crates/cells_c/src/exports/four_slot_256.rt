@@ -36,7 +36,8 @@ pub extern "C" fn nidzaru_256_read(
     item: &mut Record256,
     number: &mut u64,
 ) -> u32
-    ensures { IsRead (λ g. Of256 (Reads g)) HasRead reader.old reader.new item.new number.new result }
+    ensures { IsRead (λ g. Of256 (Reads g)) HasRead reader.old reader.new
+        item.old item.new number.old number.new result }
 {
     read::<Record256, FourSlotReader<Record256>>(alloc, reader, item, number)
 }

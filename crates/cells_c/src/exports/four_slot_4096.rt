@@ -36,7 +36,8 @@ pub extern "C" fn nidzaru_4096_read(
     item: &mut Record4096,
     number: &mut u64,
 ) -> u32
-    ensures { IsRead (λ g. Of4096 (Reads g)) HasRead reader.old reader.new item.new number.new result }
+    ensures { IsRead (λ g. Of4096 (Reads g)) HasRead reader.old reader.new
+        item.old item.new number.old number.new result }
 {
     read::<Record4096, FourSlotReader<Record4096>>(alloc, reader, item, number)
 }

@@ -36,7 +36,8 @@ pub extern "C" fn nidzaru_64_read(
     item: &mut Record64,
     number: &mut u64,
 ) -> u32
-    ensures { IsRead (λ g. Of64 (Reads g)) HasRead reader.old reader.new item.new number.new result }
+    ensures { IsRead (λ g. Of64 (Reads g)) HasRead reader.old reader.new
+        item.old item.new number.old number.new result }
 {
     read::<Record64, FourSlotReader<Record64>>(alloc, reader, item, number)
 }

@@ -34,7 +34,8 @@ pub extern "C" fn nidzaru_8_read(
     item: &mut Record8,
     number: &mut u64,
 ) -> u32
-    ensures { IsRead (λ g. Of8 (Reads g)) HasRead reader.old reader.new item.new number.new result }
+    ensures { IsRead (λ g. Of8 (Reads g)) HasRead reader.old reader.new
+        item.old item.new number.old number.new result }
 {
     read::<Record8, FourSlotReader<Record8>>(alloc, reader, item, number)
 }

@@ -40,7 +40,8 @@ pub extern "C" fn nidzaru_triple_1024_read(
     item: &mut Record1024,
     number: &mut u64,
 ) -> u32
-    ensures { IsRead (λ g. Of1024 (TripleReads g)) HasRead reader.old reader.new item.new number.new result }
+    ensures { IsRead (λ g. Of1024 (TripleReads g)) HasRead reader.old reader.new
+        item.old item.new number.old number.new result }
 {
     read::<Record1024, TripleReader<Record1024>>(alloc, reader, item, number)
 }

@@ -38,7 +38,8 @@ pub extern "C" fn nidzaru_triple_24_read(
     item: &mut Record24,
     number: &mut u64,
 ) -> u32
-    ensures { IsRead (λ g. Of24 (TripleReads g)) HasRead reader.old reader.new item.new number.new result }
+    ensures { IsRead (λ g. Of24 (TripleReads g)) HasRead reader.old reader.new
+        item.old item.new number.old number.new result }
 {
     read::<Record24, TripleReader<Record24>>(alloc, reader, item, number)
 }

@@ -40,7 +40,8 @@ pub extern "C" fn nidzaru_triple_256_read(
     item: &mut Record256,
     number: &mut u64,
 ) -> u32
-    ensures { IsRead (λ g. Of256 (TripleReads g)) HasRead reader.old reader.new item.new number.new result }
+    ensures { IsRead (λ g. Of256 (TripleReads g)) HasRead reader.old reader.new
+        item.old item.new number.old number.new result }
 {
     read::<Record256, TripleReader<Record256>>(alloc, reader, item, number)
 }

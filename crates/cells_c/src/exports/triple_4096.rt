@@ -40,7 +40,8 @@ pub extern "C" fn nidzaru_triple_4096_read(
     item: &mut Record4096,
     number: &mut u64,
 ) -> u32
-    ensures { IsRead (λ g. Of4096 (TripleReads g)) HasRead reader.old reader.new item.new number.new result }
+    ensures { IsRead (λ g. Of4096 (TripleReads g)) HasRead reader.old reader.new
+        item.old item.new number.old number.new result }
 {
     read::<Record4096, TripleReader<Record4096>>(alloc, reader, item, number)
 }

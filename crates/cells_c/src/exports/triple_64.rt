@@ -38,7 +38,8 @@ pub extern "C" fn nidzaru_triple_64_read(
     item: &mut Record64,
     number: &mut u64,
 ) -> u32
-    ensures { IsRead (λ g. Of64 (TripleReads g)) HasRead reader.old reader.new item.new number.new result }
+    ensures { IsRead (λ g. Of64 (TripleReads g)) HasRead reader.old reader.new
+        item.old item.new number.old number.new result }
 {
     read::<Record64, TripleReader<Record64>>(alloc, reader, item, number)
 }

@@ -11,13 +11,13 @@ pub returns-then-is_live-2 : goal.returns-then-is_live-2
 returns-then-is_live-2 g c = in_use (inr (c.if-is_live-2.ensures.live refl)) refl refl
 
 pub returns-in_default : goal.returns-in_default
-returns-in_default g c = no_memory refl refl
+returns-in_default g c = no_memory (search rules) (search rules) refl refl
 
 pub returns-in_default-boxed : goal.returns-in_default-boxed
-returns-in_default-boxed g c = no_memory refl refl
+returns-in_default-boxed g c = no_memory (search rules) (search rules) refl refl
 
 pub returns-in_default-boxed-2 : goal.returns-in_default-boxed-2
-returns-in_default-boxed-2 g c = no_memory refl refl
+returns-in_default-boxed-2 g c = no_memory (search rules) (search rules) refl refl
 
 pub returns : goal.returns
 returns g c = done c.in-Ok.put c.in-Ok.get (search rules) (search rules)

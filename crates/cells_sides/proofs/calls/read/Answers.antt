@@ -9,7 +9,7 @@ use Rattle.cells_sides.proofs.calls.read.Goals.{in-None, in-Some}
 use Rattle.cells_sides.proofs.calls.read.Goals as goal
 
 pub returns-then-reader-eq0 : goal.returns-then-reader-eq0
-returns-then-reader-eq0 g c = let none : c.args.reader.now.live ≡ 0 = search rules in ended none (same_side refl refl)
+returns-then-reader-eq0 g c = let none : c.args.reader.now.live ≡ 0 = search rules in ended none (same_side refl refl) refl refl
 
 pub returns : goal.returns
 returns g c =
@@ -17,8 +17,8 @@ returns g c =
     let at : c.args.reader.now.loose.side ≡ c.as_mut.result.now = sym c.take-side.ensures.1 ∙ sym c.as_mut.ensures.value in
     let value : Box Side → Side = λ b. b.value in
     elim c.match-pick.branch [
-      | in-None w ↦ rw w.status-is (other (was, λ s e. w.in-None.ensures.none s (sym at ∙ e))
-          (same_side refl (c.put.ensures.1 ∙ ap value w.side-is ∙ sym at)))
+      | in-None w ↦ rw (w.status-is, w.item-is, w.number-is) (other (was, λ s e. w.in-None.ensures.none s (sym at ∙ e))
+          (same_side refl (c.put.ensures.1 ∙ ap value w.side-is ∙ sym at)) refl refl)
       | in-Some w ↦ rw (w.status-is, w.item-is, w.number-is) (done w.in-Some.get.now w.read-answer.new.self
           (was, at ∙ w.in-Some.ensures.some)
           (was, c.put.ensures.1 ∙ ap value w.side-is)
