@@ -36,7 +36,7 @@ build_over_gate() {
 make_library() {
     here=$(CDPATH= cd -- "$top/crates/cells_c" && pwd) || return 1
     kit=$(dirname -- "$(rt doc)") || return 1
-    is_newest "$here/out/libcells_c.a" || (cd "$here" && rt lib) </dev/null >&2 || return 1
+    is_newest "$here/out/libcells_c.a" || (. "$top/tests/build.sh" && build cells_c) </dev/null >&2 || return 1
     unpacked=$(mktemp -d) || return 1
     (
         cd "$unpacked" || exit 1
