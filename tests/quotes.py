@@ -4,7 +4,8 @@
 
 A block that begins with ```LANGUAGE PATH has to be a stretch of the file PATH, but for its indentation. A row `| `PATH` | N | ..`
 of a table has to give the number of lines of PATH, or of files where PATH is a folder and ends with a slash. What a file of `specs/`
-in the tables of a document cites of `specs/` has to be in them too. Prints each that doesn't, and how many were compared.
+in the tables of a document cites of `specs/` has to be in them too, and a sentence `the files of all tables together are F, in all L lines`
+has to have the sums of such rows. Prints each that doesn't, and how many were compared.
 """
 
 import os
@@ -12,6 +13,7 @@ import re
 import sys
 
 ROW = re.compile(r"^\| `([\w/.-]+(?:\.\w+|/))` \| (\d+) \|")
+SUMS = re.compile(r"the files of all tables together are (\d+), in all ([\d,]+) lines")
 CITED = re.compile(r"^(?:pub )?use Rattle\.(\w+)\.specs\.(?!declared\b|contracts\b)([\w.]+)")
 
 
@@ -47,6 +49,15 @@ def unlisted(document):
     return [f"{document}: {it} is in no table, and {by} cites it" for by in sorted(listed) for it in cited_by(by) if it not in listed]
 
 
+def wrong_sums(document):
+    """The sums that a document tells of its tables, where they aren't those."""
+    with open(document, encoding="utf-8") as file:
+        text = file.read()
+    rows = {it[1]: int(it[2]) for it in map(ROW.match, text.split("\n")) if it and not it[1].endswith("/")}
+    sums = f"{len(rows)}", f"{sum(rows.values()):,}"
+    return [f"{document}: its tables have {sums[0]} files, in all {sums[1]} lines" for it in SUMS.findall(text) if it != sums]
+
+
 def faults_of(document):
     """The faults of a document and the number of its quotations."""
     faults, quoted, path, block = [], 0, None, []
@@ -72,7 +83,7 @@ def main():
     faults, quoted = [], 0
     for document in sys.argv[1:]:
         more, count = faults_of(document)
-        faults += more + unlisted(document)
+        faults += more + unlisted(document) + wrong_sums(document)
         quoted += count
     print("\n".join([*faults, f"{quoted} quotations and counts stand in the sources as docs/ has them"][: len(faults) or 1]))
     return 1 if faults or not quoted else 0

@@ -1,4 +1,4 @@
-//! Making a board, and ending it.
+//! Making a board.
 ghost use Rattle.std.specs.Prelude.{◌≡◌, ◌<◌, ◌≤◌, ℕ, IfOk, IsTrue, length, vec_len, slice_get, Some, []};
 ghost use Rattle.matrix_core.specs.Stamps.{first_stamp};
 ghost use Rattle.board_live.specs.Deals.{RowDealt, IsNew, OpensWith};

@@ -138,7 +138,7 @@ module _ {T : Type 0} where
     pub writes : p.accesses ≡ control_writes p.events
     pub reads : g.accesses ≡ control_reads g.events
 
--- The rule. `o` is the opening. It is the noise too, which no running read gives.
+-- The rule. `o` is the opening. It stands for the noise too; no running read meets a write (`sound`), so none is answered by it as noise.
 pub record FourSlotRule {T : Type 0} (fits : T → Type 0) (rises : T → T → Type 0) (o : T) (s : State T (FourSlotSight T)) : Type 0 where
   pub put : WriterNotes T
   pub get : ReaderNotes T
