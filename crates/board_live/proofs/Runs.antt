@@ -1,5 +1,6 @@
 -- A lane whose calls were made in part.
-use Rattle.std.proofs.Common.{◌≡◌, ℕ, ◌+◌, List, [], ◌∷◌, ◌++◌, length, length-append, append_assoc, refl, ◌∙◌, ap, arith, ◌⊎◌}
+use Rattle.std.proofs.Common.{◌≡◌, ℕ, ◌+◌, ◌<◌, ◌≤◌, List, [], ◌∷◌, ◌++◌, length, length-append, append_assoc, refl, ◌∙◌, ap, arith, ◌⊎◌}
+use Rattle.std.proofs.Common.{subst, ⊎_elim}
 use Rattle.std.specs.declared.cmp.PartialEq.{Ghosts as EqWords}
 use Rattle.cell_live.specs.declared.cell.Calls.{Ghosts as CellWords}
 use Rattle.board_live.specs.declared.board.Board.{Board}
@@ -11,40 +12,57 @@ use Rattle.board_live.specs.Boards.{IsPass}
 use Rattle.board_live.specs.Tasks.{IsEntry, AreCalls, Ran}
 use Rattle.board_live.proofs.LogLaws.{calls_more}
 
+at_most_or_next : (n m : ℕ) → n ≤ m + 1 → (n ≤ m) ⊎ (m + 1 ≡ n)
+at_most_or_next n m h = grind arith
+
 append_none : {A : Type 0} (xs : List A) → xs ≡ xs ++ []
 append_none [] = refl
 append_none (x ∷ xs) = ap (λ z. x ∷ z) (append_none xs)
 
 module _ {V C P G T : Type 0} {law : LawWords V} {eq : EqWords V} {cells : CellWords C (Clocked V) P G T} where
-  pub record RunSoFar (board : Board V C P G T law eq cells) (old now : Lane V C P G T law eq cells) (call : ℕ) : Type 0 where
+  pub record RunSoFar (may_call : ℕ → Type 0) (board : Board V C P G T law eq cells) (old now : Lane V C P G T law eq cells) (call : ℕ) : Type 0 where
     pub of : IsPass board now.pass
     pub same_script : now.script ≡ old.script
     pub added : List (Entry V)
     pub is_log : now.log.items ≡ old.log.items ++ added
     pub are_calls : AreCalls board old.pass added now.pass
     pub count : length now.log.items ≡ call
+    pub asked : (n : ℕ) → length old.log.items < n → n ≤ call → may_call n
 
-  pub run_none : (board : Board V C P G T law eq cells) (lane : Lane V C P G T law eq cells) → IsPass board lane.pass
-      → RunSoFar board lane lane (length lane.log.items)
-  run_none board lane of =
-      record { of = of; same_script = refl; added = []; is_log = append_none lane.log.items; are_calls = refl; count = refl }
+  pub run_none : (may_call : ℕ → Type 0) (board : Board V C P G T law eq cells) (lane : Lane V C P G T law eq cells) → IsPass board lane.pass
+      → RunSoFar may_call board lane lane (length lane.log.items)
+  run_none may_call board lane of = record {
+    of = of;
+    same_script = refl;
+    added = [];
+    is_log = append_none lane.log.items;
+    are_calls = refl;
+    count = refl;
+    asked = λ n above below. absurd (omega arith);
+  }
 
-  pub run_more : (board : Board V C P G T law eq cells) (old now new : Lane V C P G T law eq cells) (call : ℕ) → RunSoFar board old now call
+  pub run_more : (may_call : ℕ → Type 0) (board : Board V C P G T law eq cells) (old now new : Lane V C P G T law eq cells) (call : ℕ)
+      → RunSoFar may_call board old now call → may_call (call + 1)
       → IsPass board new.pass → new.script ≡ now.script → (e : Entry V) → new.log.items ≡ now.log.items ++ e ∷ []
       → IsEntry board now.pass e new.pass
-      → RunSoFar board old new (call + 1)
-  run_more board old now new call h of same e log entry = record {
+      → RunSoFar may_call board old new (call + 1)
+  run_more may_call board old now new call h may of same e log entry = record {
     of = of;
     same_script = same ∙ h.same_script;
     added = h.added ++ e ∷ [];
     is_log = log ∙ ap (λ z. z ++ e ∷ []) h.is_log ∙ append_assoc old.log.items h.added (e ∷ []);
     are_calls = calls_more board old.pass h.added now.pass e new.pass h.are_calls entry;
+    asked = λ n above below.
+        ⊎_elim (λ (l : n ≤ call). h.asked n above l) (λ (e : call + 1 ≡ n). subst may_call e may) (at_most_or_next n call below);
     count = let n = h.count in let l = log in omega (arith, ap length log, length-append now.log.items (e ∷ []));
   }
 
-  pub run_ends : (may_stop : ℕ → ℕ → Type 0) (board : Board V C P G T law eq cells) (task : ℕ) (old now : Lane V C P G T law eq cells)
+  pub run_ends : (may_call may_stop : ℕ → ℕ → Type 0) (board : Board V C P G T law eq cells) (task : ℕ) (old now : Lane V C P G T law eq cells)
       (call : ℕ)
-      → RunSoFar board old now call
-      → (length now.log.items ≡ length now.script.items) ⊎ may_stop task (length now.log.items + 1) → Ran may_stop board task old now
-  run_ends may_stop board task old now call h w =
-      record { of = h.of; script = h.same_script; added = h.added; log = h.is_log; calls = h.are_calls; whole = w }
+      → RunSoFar (may_call task) board old now call
+      → (length now.log.items ≡ length now.script.items) ⊎ may_stop task (length now.log.items + 1)
+      → Ran may_call may_stop board task old now
+  run_ends may_call may_stop board task old now call h w =
+      let asked : (n : ℕ) → length old.log.items < n → n ≤ length now.log.items → may_call task n =
+      λ n above below. h.asked n above (subst (λ m. n ≤ m) h.count below) in
+      record { of = h.of; script = h.same_script; added = h.added; log = h.is_log; calls = h.are_calls; asked = asked; whole = w }

@@ -28,37 +28,37 @@ use Rattle.board_live.proofs.Made.{fresh}
 
 module _ {V C P G T : Type 0} {law : LawWords V} {eq : EqWords V} {cells : CellWords C (Clocked V) P G T} where
   -- a lane that ran
-  ran_log : (may_stop : ℕ → ℕ → Type 0) (board : Board V C P G T law eq cells) (task : ℕ) (old new : Lane V C P G T law eq cells)
-      → Ran may_stop board task old new → old.log.items ≡ [] → AreCalls board old.pass new.log.items new.pass
-  ran_log may_stop board task old new h e = subst (λ z. AreCalls board old.pass z new.pass) (sym (h.log ∙ ap (λ z. z ++ h.added) e)) h.calls
+  ran_log : (may_call may_stop : ℕ → ℕ → Type 0) (board : Board V C P G T law eq cells) (task : ℕ) (old new : Lane V C P G T law eq cells)
+      → Ran may_call may_stop board task old new → old.log.items ≡ [] → AreCalls board old.pass new.log.items new.pass
+  ran_log may_call may_stop board task old new h e = subst (λ z. AreCalls board old.pass z new.pass) (sym (h.log ∙ ap (λ z. z ++ h.added) e)) h.calls
 
   -- no longer than their scripts
-  few_calls : (may_stop : ℕ → ℕ → Type 0) (board : Board V C P G T law eq cells) (first : ℕ) (passes : List (Pass V C P G T law eq cells))
+  few_calls : (may_call may_stop : ℕ → ℕ → Type 0) (board : Board V C P G T law eq cells) (first : ℕ) (passes : List (Pass V C P G T law eq cells))
       (scripts : List (List (Wish V))) (old new : List (Lane V C P G T law eq cells))
       → AreLanes passes scripts old → length new ≡ length old
       → ((k : ℕ) (l m : Lane V C P G T law eq cells) → slice_get old k ≡ Some l → slice_get new k ≡ Some m → m.script ≡ l.script)
       → entries_in (logs_of new) ≤ wishes_in scripts
-  few_calls may_stop board first [] [] [] [] h e f = omega arith
-  few_calls may_stop board first [] [] [] (m ∷ ms) h e f = absurd (omega (arith, e))
-  few_calls may_stop board first [] [] (l ∷ ls) new h e f = absurd h
-  few_calls may_stop board first [] (s ∷ ss) old new h e f = absurd h
-  few_calls may_stop board first (p ∷ ps) [] old new h e f = absurd h
-  few_calls may_stop board first (p ∷ ps) (s ∷ ss) [] new h e f = absurd h
-  few_calls may_stop board first (p ∷ ps) (s ∷ ss) (l ∷ ls) [] h e f = absurd (omega (arith, e))
-  few_calls may_stop board first (p ∷ ps) (s ∷ ss) (l ∷ ls) (m ∷ ms) h e f =
+  few_calls may_call may_stop board first [] [] [] [] h e f = omega arith
+  few_calls may_call may_stop board first [] [] [] (m ∷ ms) h e f = absurd (omega (arith, e))
+  few_calls may_call may_stop board first [] [] (l ∷ ls) new h e f = absurd h
+  few_calls may_call may_stop board first [] (s ∷ ss) old new h e f = absurd h
+  few_calls may_call may_stop board first (p ∷ ps) [] old new h e f = absurd h
+  few_calls may_call may_stop board first (p ∷ ps) (s ∷ ss) [] new h e f = absurd h
+  few_calls may_call may_stop board first (p ∷ ps) (s ∷ ss) (l ∷ ls) [] h e f = absurd (omega (arith, e))
+  few_calls may_call may_stop board first (p ∷ ps) (s ∷ ss) (l ∷ ls) (m ∷ ms) h e f =
       let n : suc (length ms) ≡ suc (length ls) = e in
-      let rest : entries_in (logs_of ms) ≤ wishes_in ss = few_calls may_stop board first ps ss ls ms h.1 (omega arith) (λ k. f (suc k)) in
+      let rest : entries_in (logs_of ms) ≤ wishes_in ss = few_calls may_call may_stop board first ps ss ls ms h.1 (omega arith) (λ k. f (suc k)) in
       let script : m.script.items ≡ s = ap (λ v. v.items) (f 0 l m refl refl) ∙ h.0.plans in
       let within : length m.log.items ≤ length m.script.items = m.kept.within in
       let same : length m.script.items ≡ length s = ap length script in
       omega arith
 
-  pub have_worked : (may_stop : ℕ → ℕ → Type 0) (n limit : ℕ) (opening : V) (board : Board V C P G T law eq cells)
+  pub have_worked : (may_call may_stop : ℕ → ℕ → Type 0) (n limit : ℕ) (opening : V) (board : Board V C P G T law eq cells)
       (passes : List (Pass V C P G T law eq cells)) (scripts : List (List (Wish V)))
       (old new : List (Lane V C P G T law eq cells))
       → IsNew n limit (record { stamp = first_stamp; item = opening; clock = 0 }) board passes → AreLanes passes scripts old
-      → EachStep (Ran may_stop board) 0 old new → wishes_in scripts < 18446744073709551615 → HaveWorked board new
-  have_worked may_stop n limit opening board passes scripts old new made are ran few = record {
+      → EachStep (Ran may_call may_stop board) 0 old new → wishes_in scripts < 18446744073709551615 → HaveWorked board new
+  have_worked may_call may_stop n limit opening board passes scripts old new made are ran few = record {
     all = ran.lengths ∙ (lanes_length passes scripts old are ∙ made.passes_of.all);
     each = λ k lane at.
         let l : Lane V C P G T law eq cells = get_or old k lane in
@@ -68,10 +68,10 @@ module _ {V C P G T : Type 0} {law : LawWords V} {eq : EqWords V} {cells : CellW
         let w = lane_at passes scripts old are k l at_old in
         let is : IsNewLane w.0 w.1 l = w.4 in
         let f : IsFresh board k l.pass = subst (IsFresh board k) (sym is.has) (fresh board n limit opening passes made k w.0 w.2) in
-        record { old = l.pass; fresh = f; calls = ran_log may_stop board (0 + k) l lane (ran.each k l lane at_old at) is.empty };
+        record { old = l.pass; fresh = f; calls = ran_log may_call may_stop board (0 + k) l lane (ran.each k l lane at_old at) is.empty };
     few =
         let e : entries_in (logs_of new) ≤ wishes_in scripts =
-        few_calls may_stop board 0 passes scripts old new are ran.lengths (λ k l m a b. (ran.each k l m a b).script) in
+        few_calls may_call may_stop board 0 passes scripts old new are ran.lengths (λ k l m a b. (ran.each k l m a b).script) in
         omega arith;
   }
 

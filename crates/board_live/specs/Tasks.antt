@@ -15,6 +15,10 @@ use Rattle.board_live.specs.declared.posted.RecordLaw.{Ghosts as LawWords}
 use Rattle.board_live.specs.Boards.{IsPass, IsBoardCall, seen_by}
 use Rattle.board_live.specs.Rising.{posted}
 
+-- the gate has given a permit for this call of this task
+abbrev pub Permitted : {S P : Type 0} → (S → ℕ → ℕ → P → Type 0) → S → ℕ → ℕ → Type 0
+Permitted is_for gate task call = (permit : _) × is_for gate task call permit
+
 -- the entry with this wish and this reply
 abbrev pub entry : {V : Type 0} → Wish V → Reply V → Entry V
 entry wish reply = record { wish = wish; reply = reply }
@@ -41,12 +45,14 @@ module _ {V C P G T : Type 0} {law : LawWords V} {eq : EqWords V} {cells : CellW
   AreCalls board old [] new = old ≡ new
   AreCalls board old (e ∷ es) new = (p : Pass V C P G T law eq cells) × IsEntry board old e p × AreCalls board p es new
 
-  -- the log has the entries of the board calls that were made; the whole script was done, or the task may stop before the next call
-  pub record Ran (may_stop : ℕ → ℕ → Type 0) (board : Board V C P G T law eq cells) (task : ℕ)
+  -- the log has the entries of the board calls that were made, and the task had a permit for each of these calls; the whole script was
+  -- done, or the task may stop before the next call
+  pub record Ran (may_call may_stop : ℕ → ℕ → Type 0) (board : Board V C P G T law eq cells) (task : ℕ)
       (old new : Lane V C P G T law eq cells) : Type 0 where
     pub of : IsPass board new.pass
     pub script : new.script ≡ old.script
     pub added : List (Entry V)
     pub log : new.log.items ≡ old.log.items ++ added
     pub calls : AreCalls board old.pass added new.pass
+    pub asked : (call : ℕ) → length old.log.items < call → call ≤ length new.log.items → may_call task call
     pub whole : (length new.log.items ≡ length new.script.items) ⊎ may_stop task (length new.log.items + 1)

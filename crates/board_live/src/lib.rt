@@ -18,14 +18,9 @@ mod tasks;
 
 pub use board::{Board, BoardError, Pass, Receipt, TagsEnded};
 pub use clocked::Clocked;
-pub use gate::{CountingGate, Gate, OpenGate, TimedGate};
+pub use gate::{CountingGate, Gate, OpenGate, TimedGate, Turn};
 pub use lane::{Entry, Lane, Reply};
 pub use lanes::{finish_lanes, into_passes, make_lanes};
 pub use origin::{HasLog, Origin, check_origin};
 pub use posted::{Posted, RecordLaw};
 pub use tasks::run_tasks;
-
-#[cfg(test)]
-mod task_tests;
-#[cfg(test)]
-mod tests;

@@ -1,7 +1,7 @@
 //! Tasks over a board, each in a thread of its own.
 ghost use Rattle.board_live.specs.Boards.{IsPass};
 ghost use Rattle.board_live.specs.Jobs.{AllReady, EachStep};
-ghost use Rattle.board_live.specs.Tasks.{Ran};
+ghost use Rattle.board_live.specs.Tasks.{Permitted, Ran};
 
 use crate::board::Board;
 use crate::clocked::Clocked;
@@ -23,7 +23,7 @@ impl<'a, V: RecordLaw + Send + Sync, C: Cell<Clocked<V>>, G: Gate + Sync> Job<La
     for Runner<'a, V, C, G> {
     ghost ready = { λ s l. IsPass s.board.now l.pass };
 
-    ghost ran = { λ s n l m. Ran (G.may_stop s.gate.now) s.board.now n l m };
+    ghost ran = { λ s n l m. Ran (Permitted G.is_for s.gate.now) (G.may_stop s.gate.now) s.board.now n l m };
 
     fn run(&self, task: usize, lane: &mut Lane<V, C>) {
         run_lane(self.board, self.gate, task, lane);
@@ -42,7 +42,7 @@ where
     C::Get: Send,
     C::Told: Send,
     requires { AllReady (λ l. IsPass board.now l.pass) 0 lanes.old }
-    ensures { EachStep (Ran (G.may_stop gate.now) board.now) 0 lanes.old lanes.new }
+    ensures { EachStep (Ran (Permitted G.is_for gate.now) (G.may_stop gate.now) board.now) 0 lanes.old lanes.new }
 {
     run_each(rt, &Runner { board, gate }, 0, lanes);
 }

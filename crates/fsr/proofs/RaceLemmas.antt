@@ -90,10 +90,10 @@ writes_answered board old (e ∷ es) new h =
     omega (arith, here_one, rest, here, beside, there)
 
 -- the counts of a lane that began with an empty log and ran to its end
-lane_counts : (may_stop : ℕ → ℕ → Type 0) → ((task call : ℕ) → may_stop task call → ⊥)
+lane_counts : (may_call may_stop : ℕ → ℕ → Type 0) → ((task call : ℕ) → may_stop task call → ⊥)
     → (board : RaceBoard) (task : ℕ) (script : List (Wish Band)) (old new : RaceLane)
-    → old.script.items ≡ script → old.log.items ≡ [] → Ran may_stop board task old new → CountsScript script (counts_of new.log.items)
-lane_counts may_stop never board task script old new plans empty ran =
+    → old.script.items ≡ script → old.log.items ≡ [] → Ran may_call may_stop board task old new → CountsScript script (counts_of new.log.items)
+lane_counts may_call may_stop never board task script old new plans empty ran =
     let log = new.log.items in
     let is_log : log ≡ ran.added = ran.log ∙ ap (λ z. z ++ ran.added) empty in
     let same : new.script.items ≡ script = ap (λ v. v.items) ran.script ∙ plans in
@@ -108,10 +108,10 @@ lane_counts may_stop never board task script old new plans empty ran =
     }
 
 -- under a gate that never stops a race has the counts of its scripts
-pub race_counts : (may_stop : ℕ → ℕ → Type 0) → ((task call : ℕ) → may_stop task call → ⊥)
+pub race_counts : (may_call may_stop : ℕ → ℕ → Type 0) → ((task call : ℕ) → may_stop task call → ⊥)
     → (opening : Band) (limit : ℕ) (scripts : List (List (Wish Band))) (report : Report)
-    → IsRace may_stop opening limit scripts report → CountsAll scripts report
-race_counts may_stop never opening limit scripts report h =
+    → IsRace may_call may_stop opening limit scripts report → CountsAll scripts report
+race_counts may_call may_stop never opening limit scripts report h =
     let tell : RaceLane → Counts = λ (l : RaceLane). counts_of l.log.items in
     let all = length-map h.ended tell ∙ h.ran.lengths ∙ lanes_length h.passes scripts h.lanes h.begins ∙ h.new.count in
     subst (CountsAll scripts) (sym h.told) (record {
@@ -123,7 +123,7 @@ race_counts may_stop never opening limit scripts report h =
           let at = lane_at h.passes scripts h.lanes h.begins k began.0 began.1 in
           let same : script ≡ at.1 = same_Some script at.1 (sym at_script ∙ at.3) in
           subst (CountsScript script) ended.2
-          (lane_counts may_stop never h.board (0 + k) script began.0 ended.0 (at.4.plans ∙ sym same) at.4.empty
+          (lane_counts may_call may_stop never h.board (0 + k) script began.0 ended.0 (at.4.plans ∙ sym same) at.4.empty
           (h.ran.each k began.0 ended.0 began.1 ended.1));
     })
 
@@ -142,15 +142,15 @@ few_wishes (script ∷ scripts) =
     sum_by-cons (λ (s : List (Wish Band)). length s) script scripts ∙ ap (λ n. length script + n) (few_wishes scripts)
 
 -- the lanes of a new board that ran may be ended
-pub race_worked : (may_stop : ℕ → ℕ → Type 0) (opening : Band) (limit n : ℕ) (scripts : List (List (Wish Band))) (board : RaceBoard)
+pub race_worked : (may_call may_stop : ℕ → ℕ → Type 0) (opening : Band) (limit n : ℕ) (scripts : List (List (Wish Band))) (board : RaceBoard)
     (passes : List RacePass) (lanes before after ended : List RaceLane) → members scripts ≤ 10000
     → IsNew n limit (record { stamp = first_stamp; item = opening; clock = 0 }) board passes → AreLanes passes scripts lanes
-    → before ≡ lanes → EachStep (Ran may_stop board) 0 before after → ended ≡ after → HaveWorked board ended
-race_worked may_stop opening limit n scripts board passes lanes before after ended few new are same ran end =
+    → before ≡ lanes → EachStep (Ran may_call may_stop board) 0 before after → ended ≡ after → HaveWorked board ended
+race_worked may_call may_stop opening limit n scripts board passes lanes before after ended few new are same ran end =
     let asked : members scripts ≡ wishes_in scripts = few_wishes scripts in
     let begun : AreLanes passes scripts before = subst (AreLanes passes scripts) (sym same) are in
     let few_calls : wishes_in scripts < 18446744073709551615 = omega (arith, asked, few) in
-    subst (HaveWorked board) (sym end) (have_worked may_stop n limit opening board passes scripts before after new begun ran few_calls)
+    subst (HaveWorked board) (sym end) (have_worked may_call may_stop n limit opening board passes scripts before after new begun ran few_calls)
 
 -- the counts of the logs, as vectors or as lists
 counts_same : (logs : List (Vec (Entry Band) Global)) (lanes : List RaceLane) → map (λ v. v.items) logs ≡ logs_of lanes
@@ -160,19 +160,19 @@ counts_same logs lanes same =
     ∙ (ap (map counts_of) same ∙ map-map counts_of (λ (l : RaceLane). l.log.items) lanes)
 
 -- what was made, run and ended is a race
-pub race_of : (may_stop : ℕ → ℕ → Type 0) (opening : Band) (limit n : ℕ) (scripts : List (List (Wish Band))) (board : RaceBoard)
+pub race_of : (may_call may_stop : ℕ → ℕ → Type 0) (opening : Band) (limit n : ℕ) (scripts : List (List (Wish Band))) (board : RaceBoard)
     (passes : List RacePass) (lanes before after ended : List RaceLane)
     (logs counted checked : List (Vec (Entry Band) Global)) (last : Posted Band) (origin : Origin) (tasks : List Counts)
     (broken : Option (ℕ × ℕ)) → n ≡ length scripts
     → IsNew n limit (record { stamp = first_stamp; item = opening; clock = 0 }) board passes → AreLanes passes scripts lanes
-    → before ≡ lanes → EachStep (Ran may_stop board) 0 before after → ended ≡ after
+    → before ≡ lanes → EachStep (Ran may_call may_stop board) 0 before after → ended ≡ after
     → map (λ v. v.items) logs ≡ logs_of ended → LogsInOrder board.first.item board.limit (logs_of ended) last
     → counted ≡ logs → tasks ≡ map (λ v. counts_of v.items) counted
     → checked ≡ logs → IsOrigin same_band opening (map (λ v. v.items) checked) origin
     → ((most : ℕ) (latest : Posted Band) → LogsInOrder opening most (map (λ v. v.items) checked) latest → origin ≡ Sound)
     → broken ≡ broken_at origin
-    → IsRace may_stop opening limit scripts (Race tasks broken)
-race_of may_stop opening limit n scripts board passes lanes before after ended logs counted checked last origin tasks broken count new are
+    → IsRace may_call may_stop opening limit scripts (Race tasks broken)
+race_of may_call may_stop opening limit n scripts board passes lanes before after ended logs counted checked last origin tasks broken count new are
     same ran end given order these counts those found finds told =
     let items : List (Vec (Entry Band) Global) → List (List (Entry Band)) = map (λ (v : Vec (Entry Band) Global). v.items) in
     let first : board.first.item ≡ opening = ap (λ z. z.item) new.opened in
@@ -191,8 +191,38 @@ race_of may_stop opening limit n scripts board passes lanes before after ended l
       last = last;
       new = subst (λ m. IsNew m limit (record { stamp = first_stamp; item = opening; clock = 0 }) board passes) count new;
       begins = are;
-      ran = subst (λ z. EachStep (Ran may_stop board) 0 z ended) same (subst (λ z. EachStep (Ran may_stop board) 0 before z) (sym end) ran);
+      ran = subst (λ z. EachStep (Ran may_call may_stop board) 0 z ended) same (subst (λ z. EachStep (Ran may_call may_stop board) 0 before z) (sym end) ran);
       ordered = ordered;
       checked = subst (IsOrigin same_band opening (logs_of ended)) sound (subst (λ ls. IsOrigin same_band opening ls origin) seen found);
       told = rw (tell, unbroken) refl;
     }
+
+-- a race is one under a gate that permits all
+pub open_race : (may_call may_stop : ℕ → ℕ → Type 0) (opening : Band) (limit : ℕ) (scripts : List (List (Wish Band))) (report : Report)
+    → IsRace may_call may_stop opening limit scripts report → IsRace (λ task call. Unit {0}) may_stop opening limit scripts report
+open_race may_call may_stop opening limit scripts report h = record {
+  board = h.board;
+  passes = h.passes;
+  lanes = h.lanes;
+  ended = h.ended;
+  last = h.last;
+  new = h.new;
+  begins = h.begins;
+  ran = record {
+    lengths = h.ran.lengths;
+    each = λ k old new at at'.
+        let w = h.ran.each k old new at at' in
+        record {
+          of = w.of;
+          script = w.script;
+          added = w.added;
+          log = w.log;
+          calls = w.calls;
+          asked = λ call above below. tt;
+          whole = w.whole;
+        };
+  };
+  ordered = h.ordered;
+  checked = h.checked;
+  told = h.told;
+}

@@ -87,7 +87,7 @@ AnswersBoard schedule titled reply = AnswersTerms (board_spans schedule.terms) (
 -- the answer to the scripts of a race: the text of what a race tells that nothing stops
 abbrev pub AnswersRace : Band → ℕ → List (List (Wish Band)) → Result Answer Fault → Type 0
 AnswersRace opening limit scripts (Ok answer) =
-    (r : Report) × IsRace (λ task call. ⊥) opening limit scripts r × (answer ≡ printed r (race_status r))
+    (r : Report) × IsRace (λ task call. Unit {0}) (λ task call. ⊥) opening limit scripts r × (answer ≡ printed r (race_status r))
 AnswersRace opening limit scripts (Err fault) = ⊥
 
 -- the answer to what a document stands for

@@ -104,7 +104,7 @@ counts_in lanes = map (λ lane. counts_of lane.log.items) lanes
 -- *Race*: a new board has a lane for each script. Each lane ran: the board calls that were made stand in its log, and the log is
 -- whole, or the task may stop before the next call. The logs have one order, after which one register holds the last record, and each
 -- of their entries is sound. What is told are the counts of the logs, and that no entry is without its origin.
-pub record IsRace (may_stop : ℕ → ℕ → Type 0) (opening : Band) (limit : ℕ) (scripts : List (List (Wish Band)))
+pub record IsRace (may_call may_stop : ℕ → ℕ → Type 0) (opening : Band) (limit : ℕ) (scripts : List (List (Wish Band)))
     (report : Report) : Type 0 where
   pub board : RaceBoard
   pub passes : List RacePass
@@ -113,7 +113,7 @@ pub record IsRace (may_stop : ℕ → ℕ → Type 0) (opening : Band) (limit : 
   pub last : Posted Band
   pub new : IsNew (length scripts) limit (record { stamp = first_stamp; item = opening; clock = 0 }) board passes
   pub begins : AreLanes passes scripts lanes
-  pub ran : EachStep (Ran may_stop board) 0 lanes ended
+  pub ran : EachStep (Ran may_call may_stop board) 0 lanes ended
   pub ordered : LogsInOrder opening limit (logs_of ended) last
   pub checked : IsOrigin same_band opening (logs_of ended) Sound
   pub told : report ≡ Race (counts_in ended) None

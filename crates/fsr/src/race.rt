@@ -2,6 +2,7 @@
 ghost use Rattle.std.specs.Prelude.{◌≡◌, ℕ, IfErr, IfOk, map};
 ghost use Rattle.schedule_text.specs.reading.Players.{CanRace};
 ghost use Rattle.fsr.specs.Races.{CountsAll, IsRace, broken_at, counts_of, is_refused, is_seen, is_written, replies};
+ghost use Rattle.board_live.specs.Tasks.{Permitted};
 ghost use Rattle.fsr.specs.declared.fault.Fault.TheVariants.{NoMemory};
 
 use crate::fault::Fault;
@@ -27,7 +28,7 @@ pub fn race<R: Threads + Sync, G: Gate + Sync>(
     gate: &G,
 ) -> Result<Report, Fault>
     requires { CanRace opening limit scripts }
-    ensures report { IfOk result (IsRace (G.may_stop gate.now) opening limit scripts) }
+    ensures report { IfOk result (IsRace (Permitted G.is_for gate.now) (G.may_stop gate.now) opening limit scripts) }
     ensures counted { ((task call : ℕ) → G.may_stop gate.now task call → ⊥) → IfOk result (CountsAll scripts) }
     ensures refused { IfErr result (λ e. e ≡ NoMemory) }
 {

@@ -44,11 +44,11 @@ last_and_others P (y ∷ ys) x all =
 
 module _ {V C P G T : Type 0} {law : LawWords V} {eq : EqWords V} {cells : CellWords C (Clocked V) P G T} where
   -- lanes that have run on a board still have its passes
-  pub used_on : (may_stop : ℕ → ℕ → Type 0) (board : Board V C P G T law eq cells) (n : ℕ)
+  pub used_on : (may_call may_stop : ℕ → ℕ → Type 0) (board : Board V C P G T law eq cells) (n : ℕ)
       (old before new now : List (Lane V C P G T law eq cells))
-      → n ≡ length old → before ≡ old → EachStep (Ran may_stop board) 0 before new → now ≡ take n (new ++ drop (length new) old)
+      → n ≡ length old → before ≡ old → EachStep (Ran may_call may_stop board) 0 before new → now ≡ take n (new ++ drop (length new) old)
       → All (λ (l : Lane V C P G T law eq cells). IsPass board l.pass) now
-  used_on may_stop board n old before new now count same ran changed =
+  used_on may_call may_stop board n old before new now count same ran changed =
       let Q : Lane V C P G T law eq cells → Type 0 = λ l. IsPass board l.pass in
       subst (All Q) (sym (changed_whole n old before new now count same ran.lengths changed))
       (all_after Q before new ran.lengths (λ k x y a b. (ran.each k x y a b).of))

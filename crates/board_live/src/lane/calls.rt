@@ -2,7 +2,7 @@
 ghost use Rattle.std.specs.Prelude.{◌≡◌, ◌<◌, ℕ, ◌+◌, ◌++◌, ◌∷◌, [], IfOk, IfErr, All, length};
 ghost use Rattle.board_live.specs.Boards.{IsPass};
 ghost use Rattle.board_live.specs.Logs.{Obeys};
-ghost use Rattle.board_live.specs.Tasks.{IsEntry, Ran, entry};
+ghost use Rattle.board_live.specs.Tasks.{IsEntry, Permitted, Ran, entry};
 
 use super::{Entry, Lane, Reply};
 use crate::board::{Board, Pass};
@@ -56,10 +56,11 @@ impl<V: RecordLaw, C: Calls<Clocked<V>>> Lane<V, C> {
         (pass, log)
     }
 
-    /// Makes the next call of the script, and notes its reply.
-    fn call(&mut self, board: &Board<V, C>)
+    /// Makes the next call of the script, for which the permit is, notes its reply, and gives the permit back to the gate.
+    fn call<G: Gate>(&mut self, board: &Board<V, C>, gate: &G, task: usize, permit: G::Permit)
         requires pass { IsPass board.now self.old.pass }
         requires more { length self.old.log.items < length self.old.script.items }
+        requires permit { G.is_for gate.now task (length self.old.log.items + 1) permit }
         ensures pass { IsPass board.now self.new.pass }
         ensures script { self.new.script ≡ self.old.script }
         ensures entry { (e : _) × (self.new.log.items ≡ self.old.log.items ++ e ∷ []) × IsEntry board.now self.old.pass e self.new.pass }
@@ -67,6 +68,7 @@ impl<V: RecordLaw, C: Calls<Clocked<V>>> Lane<V, C> {
         let wish = self.script[self.log.len()];
         let reply = answer(board, &mut self.pass, wish);
         self.log.push_reserved(Entry { wish, reply });
+        gate.after(task, self.log.len(), permit);
     }
 }
 
@@ -98,13 +100,12 @@ pub(crate) fn run_lane<V: RecordLaw, C: Calls<Clocked<V>>, G: Gate>(
     lane: &mut Lane<V, C>,
 )
     requires { IsPass board.now lane.old.pass }
-    ensures { Ran (G.may_stop gate.now) board.now task lane.old lane.new }
+    ensures { Ran (Permitted G.is_for gate.now) (G.may_stop gate.now) board.now task lane.old lane.new }
 {
     for call in lane.log.len()..lane.script.len() {
-        if !gate.before(task, call + 1) {
+        let Some(permit) = gate.before(task, call + 1) else {
             return;
-        }
-        lane.call(board);
-        gate.after(task, call + 1);
+        };
+        lane.call(board, gate, task, permit);
     }
 }

@@ -42,11 +42,15 @@ struct Meeting {
 }
 
 impl Gate for Meeting {
+    type Permit = ();
+
+    ghost is_for = { λ _ _ _ _. Unit {0} };
+
     ghost may_stop = { λ _ _ _. Unit {0} };
 
-    fn before(&self, task: usize, call: usize) -> bool {
+    fn before(&self, task: usize, call: usize) -> Option<()> {
         if call != 1 {
-            return true;
+            return Some(());
         }
         let (mine, other) = if task == 0 {
             (&self.first, &self.second)
@@ -56,14 +60,14 @@ impl Gate for Meeting {
         mine.store(true, Ordering::SeqCst);
         for _ in 0..20_000_000 {
             if other.load(Ordering::SeqCst) {
-                return true;
+                return Some(());
             }
             yield_now();
         }
-        false
+        None
     }
 
-    fn after(&self, _task: usize, _call: usize) {}
+    fn after(&self, _task: usize, _call: usize, _permit: ()) {}
 }
 
 /// Stops one task before one call.
@@ -74,13 +78,21 @@ struct Stops {
 }
 
 impl Gate for Stops {
+    type Permit = ();
+
+    ghost is_for = { λ _ _ _ _. Unit {0} };
+
     ghost may_stop = { λ _ _ _. Unit {0} };
 
-    fn before(&self, task: usize, call: usize) -> bool {
-        task != self.task || call != self.call
+    fn before(&self, task: usize, call: usize) -> Option<()> {
+        if task != self.task || call != self.call {
+            Some(())
+        } else {
+            None
+        }
     }
 
-    fn after(&self, _task: usize, _call: usize) {}
+    fn after(&self, _task: usize, _call: usize, _permit: ()) {}
 }
 
 #[test]

@@ -1,5 +1,6 @@
 -- What the calls promise of the board, its lanes and their logs is the race.
 use Rattle.std.proofs.Common.{rules, ◌≡◌, length, ap, refl, ◌∙◌}
+use Rattle.board_live.specs.Tasks.{Permitted}
 use Rattle.board_live.proofs.Works.{changed_whole}
 use Rattle.schedule_text.specs.declared.telling.report.Report.TheVariants.{Race}
 use Rattle.fsr.proofs.RaceLemmas.{race_counts, race_of, race_ready, race_worked}
@@ -15,7 +16,7 @@ finish_lanes-requires g c =
     let n : c.in_ok-lanes.lanes.len ≡ length c.in_ok-lanes.lanes.items = search rules in
     let whole = changed_whole c.in_ok-lanes.lanes.len c.in_ok-lanes.lanes.items c.as_mut_slice.result.now c.run_tasks.new.lanes _ n
     c.as_mut_slice.ensures.value c.run_tasks.ensures.lengths refl in
-    race_worked (g.G.Gate.may_stop c.args.gate.now) c.args.opening c.args.limit _ c.args.scripts c.in-Ok.made.0 c.in-Ok.made.1.items
+    race_worked (Permitted g.G.Gate.is_for c.args.gate.now) (g.G.Gate.may_stop c.args.gate.now) c.args.opening c.args.limit _ c.args.scripts c.in-Ok.made.0 c.in-Ok.made.1.items
     c.in_ok-lanes.lanes.items c.as_mut_slice.result.now c.run_tasks.new.lanes _
     c.requires.few c.in-Ok.ensures c.in_ok-lanes.ensures c.as_mut_slice.ensures.value c.run_tasks.ensures whole
 
@@ -24,7 +25,7 @@ returns-clause-report g c =
     let n : c.in_ok-lanes.lanes.len ≡ length c.in_ok-lanes.lanes.items = search rules in
     let whole = changed_whole c.in_ok-lanes.lanes.len c.in_ok-lanes.lanes.items c.as_mut_slice.result.now c.run_tasks.new.lanes _ n
     c.as_mut_slice.ensures.value c.run_tasks.ensures.lengths refl in
-    race_of (g.G.Gate.may_stop c.args.gate.now) c.args.opening c.args.limit _ c.args.scripts c.in-Ok.made.0 c.in-Ok.made.1.items
+    race_of (Permitted g.G.Gate.is_for c.args.gate.now) (g.G.Gate.may_stop c.args.gate.now) c.args.opening c.args.limit _ c.args.scripts c.in-Ok.made.0 c.in-Ok.made.1.items
     c.in_ok-lanes.lanes.items c.as_mut_slice.result.now c.run_tasks.new.lanes _ c.in_ok-logs.logs.items c.as_slice.result.now
     c.as_slice-2.result.now _ c.check_origin.result c.new-tasks.result c.broken_at-broken.result
     (ap length c.as_slice-processes.ensures) c.in-Ok.ensures c.in_ok-lanes.ensures c.as_mut_slice.ensures.value c.run_tasks.ensures whole
@@ -32,5 +33,5 @@ returns-clause-report g c =
     c.as_slice-2.ensures.value c.check_origin.ensures.origin c.check_origin.ensures.ordered c.broken_at-broken.ensures
 
 pub returns-clause-counted : goal.returns-clause-counted
-returns-clause-counted g c never = race_counts (g.G.Gate.may_stop c.args.gate.now) never c.args.opening c.args.limit c.args.scripts
+returns-clause-counted g c never = race_counts (Permitted g.G.Gate.is_for c.args.gate.now) (g.G.Gate.may_stop c.args.gate.now) never c.args.opening c.args.limit c.args.scripts
     (Race c.new-tasks.result c.broken_at-broken.result) (returns-clause-report g c)

@@ -12,6 +12,6 @@ run_tasks-requires-after_bounds g c κs within =
 pub usable_passes-usable-requires : goal.usable_passes-usable-requires
 usable_passes-usable-requires g c =
     let n : c.in_ok-lanes.lanes.len ≡ length c.in_ok-lanes.lanes.items = search rules in
-    used_on _ c.in-Ok.board c.in_ok-lanes.lanes.len c.in_ok-lanes.lanes.items c.as_mut_slice.result.now
+    used_on _ _ c.in-Ok.board c.in_ok-lanes.lanes.len c.in_ok-lanes.lanes.items c.as_mut_slice.result.now
     c.run_tasks.new.lanes _ n c.as_mut_slice.ensures.value
     c.run_tasks.ensures refl

@@ -1,0 +1,37 @@
+-- The lanes are those of a new board's passes, so they have worked with fresh ones.
+use Rattle.std.proofs.Common.{rules, arith, refl, sym, subst, ◌≡◌, ◌<◌, ◌+◌, ap, ◌∙◌, length, map, Global}
+use Rattle.std.specs.Prelude.{Vec}
+use Rattle.history_core.specs.declared.band.Band.{Band}
+use Rattle.board_live.specs.declared.lane.Entry.{Entry}
+use Rattle.board_live.specs.Lanes.{AreLanes}
+use Rattle.board_live.specs.Worked.{HaveWorked, wishes_in}
+use Rattle.board_live.proofs.LaneLists.{all_ready}
+use Rattle.board_live.proofs.Works.{changed_whole, have_worked, moved_order}
+use Rattle.board_tests.proofs.orders.run_two.Goals as goal
+
+pub run_tasks-requires-after_bounds : goal.run_tasks-requires-after_bounds
+run_tasks-requires-after_bounds g c κs within =
+    rw c.as_mut_slice.ensures.value
+    (all_ready c.in-Ok.board c.in-Ok.passes.items _ c.in_ok-lanes.lanes.items c.in-Ok.ensures.passes_of c.in_ok-lanes.ensures)
+
+pub finish_lanes-requires : goal.finish_lanes-requires
+finish_lanes-requires g c =
+    let n : c.in_ok-lanes.lanes.len ≡ length c.in_ok-lanes.lanes.items = search rules in
+    let whole = changed_whole c.in_ok-lanes.lanes.len c.in_ok-lanes.lanes.items c.as_mut_slice.result.now c.run_tasks.new.lanes _ n
+    c.as_mut_slice.ensures.value c.run_tasks.ensures.lengths refl in
+    let few : wishes_in c.new.result < 18446744073709551615 =
+    rw (c.new.ensures, c.in_ok-push-2.ensures.items, c.in_ok-push.ensures.items, c.in_ok-scripts.ensures.items)
+    (omega (arith, c.in_ok-script.ensures.count, c.in_ok-script-2.ensures.count, c.requires.few)) in
+    subst (HaveWorked c.in-Ok.board) (sym whole)
+    (have_worked _ _ 2 c.args.limit c.args.opening c.in-Ok.board c.in-Ok.passes.items c.new.result c.as_mut_slice.result.now
+    c.run_tasks.new.lanes
+    c.in-Ok.ensures
+    (subst (λ z. AreLanes c.in-Ok.passes.items c.new.result z) (sym c.as_mut_slice.ensures.value) c.in_ok-lanes.ensures)
+    c.run_tasks.ensures few)
+
+pub returns-clause-sound : goal.returns-clause-sound
+returns-clause-sound g c =
+    c.check_origin-origin.ensures.ordered c.args.limit c.in_ok-logs.last
+    (moved_order _ c.args.opening _ c.args.limit _ _ c.in_ok-logs.last (ap (λ z. z.item) c.in-Ok.ensures.opened) c.in-Ok.ensures.limited
+    (sym c.in_ok-logs.ensures.logs ∙ ap (map (λ (v : Vec (Entry Band) Global). v.items)) (sym c.as_slice.ensures.value))
+    c.in_ok-logs.ensures.ordered)
