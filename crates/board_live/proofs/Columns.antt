@@ -6,10 +6,10 @@ use Rattle.std.proofs.lemmas.Option.{same_Some, none-some, slice_get_within, sli
 use Rattle.std.proofs.lemmas.List.{take_more, take_more_set, map-append}
 use Rattle.std.proofs.lemmas.List.Elements.{All-weaker}
 use Rattle.std.proofs.lemmas.Bool.Decides.{nat_tests}
-use Rattle.matrix_core.specs.Choices.{IsAtMost}
-use Rattle.matrix_core.specs.Stamps.{IsBelow, is_below}
-use Rattle.matrix_core.specs.declared.stamp.Stamp.{Stamp}
-use Rattle.matrix_core.proofs.choices.Stamps.{at_most_trans}
+use Rattle.stamps.specs.Choices.{IsAtMost}
+use Rattle.stamps.specs.Stamps.{IsBelow, is_below}
+use Rattle.stamps.specs.declared.stamp.Stamp.{Stamp}
+use Rattle.stamps.proofs.choices.Stamps.{at_most_trans}
 use Rattle.cell_live.specs.declared.cell.Calls.{Ghosts as CellWords}
 use Rattle.cell_live.specs.Running.{last_or, IsAnswer}
 use Rattle.board_live.specs.declared.clocked.Clocked.{Clocked}

@@ -6,10 +6,10 @@ use Rattle.std.specs.declared.cmp.PartialEq.{Ghosts as EqWords}
 use Rattle.std.proofs.lemmas.Option.{same_Some, none-some, slice_get_within, get_or_from_slice_get}
 use Rattle.std.proofs.lemmas.List.{take_more, map-append}
 use Rattle.std.proofs.lemmas.Bool.Decides.{nat_tests}
-use Rattle.history_core.specs.declared.play.Wish.{Wish}
-use Rattle.history_core.specs.declared.play.Wish.TheVariants.{Write, Read}
-use Rattle.matrix_core.specs.Stamps.{IsBelow}
-use Rattle.matrix_core.specs.declared.stamp.Stamp.{Stamp}
+use Rattle.history_core.specs.declared.wish.Wish.{Wish}
+use Rattle.history_core.specs.declared.wish.Wish.TheVariants.{Write, Read}
+use Rattle.stamps.specs.Stamps.{IsBelow}
+use Rattle.stamps.specs.declared.stamp.Stamp.{Stamp}
 use Rattle.cell_live.specs.declared.cell.Calls.{Ghosts as CellWords}
 use Rattle.board_live.specs.declared.board.Board.{Board}
 use Rattle.board_live.specs.declared.board.Pass.{Pass}

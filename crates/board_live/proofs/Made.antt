@@ -4,10 +4,10 @@ use Rattle.std.specs.Prelude.{slice_get, Some, Result, Ok, Err}
 use Rattle.std.specs.declared.cmp.PartialEq.{Ghosts as EqWords}
 use Rattle.history_core.specs.declared.history.Kind.{Kind}
 use Rattle.history_core.specs.declared.history.Kind.TheVariants.{Write, Read, Refused}
-use Rattle.matrix_core.specs.Calls.{Call, Dated, IsChosen, IsPosted}
-use Rattle.matrix_core.proofs.lists.Sorting.{append_left}
-use Rattle.matrix_core.specs.Stamps.{first_stamp}
-use Rattle.matrix_core.specs.declared.stamp.Stamp.{Stamp}
+use Rattle.stamps.specs.Calls.{Call, Dated, IsChosen, IsPosted}
+use Rattle.stamps.proofs.lists.Sorting.{append_left}
+use Rattle.stamps.specs.Stamps.{first_stamp}
+use Rattle.stamps.specs.declared.stamp.Stamp.{Stamp}
 use Rattle.cell_live.specs.declared.cell.Calls.{Ghosts as CellWords}
 use Rattle.board_live.specs.declared.board.Board.{Board}
 use Rattle.board_live.specs.declared.board.Pass.{Pass}

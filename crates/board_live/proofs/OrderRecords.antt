@@ -8,17 +8,17 @@ use Rattle.std.specs.List.{filter}
 use Rattle.std.proofs.lemmas.Bool.Decides.{nat_tests}
 use Rattle.history_core.specs.declared.history.Kind.{Kind}
 use Rattle.history_core.specs.declared.history.Kind.TheVariants.{Write, Read, Refused}
-use Rattle.matrix_core.specs.Calls.{AreCalls, Call, Dated, in_turn, is_by, IsChosen, IsGreatest, IsOf, IsOneOrder, IsRunning}
-use Rattle.matrix_core.specs.Choices.{IsAtMost, IsIn}
-use Rattle.matrix_core.specs.Stamps.{IsBelow, first_stamp}
-use Rattle.matrix_core.specs.declared.stamp.Stamp.{Stamp}
-use Rattle.matrix_core.proofs.calls.Clocks.{all_from, all_of, of_all}
-use Rattle.matrix_core.proofs.calls.Histories.{at_most_same, has_write, IsHistory, one_write, write_tag}
-use Rattle.matrix_core.proofs.calls.Keys.{apart, IsWrite, Le, Gt, le_gt, le_stamps, le_trans, which}
-use Rattle.matrix_core.proofs.calls.Orders.{history, in_order, no_circle, ordered}
-use Rattle.matrix_core.proofs.calls.Replays.{end_is, ends, IsCut, IsLatest, latest_other, latest_write, stands}
-use Rattle.matrix_core.proofs.choices.Stamps.{below_itself, below_or_not}
-use Rattle.matrix_core.proofs.lists.Sorting.{in_sort, sort_in, sorted_sort}
+use Rattle.stamps.specs.Calls.{AreCalls, Call, Dated, in_turn, is_by, IsChosen, IsGreatest, IsOf, IsOneOrder, IsRunning}
+use Rattle.stamps.specs.Choices.{IsAtMost, IsIn}
+use Rattle.stamps.specs.Stamps.{IsBelow, first_stamp}
+use Rattle.stamps.specs.declared.stamp.Stamp.{Stamp}
+use Rattle.stamps.proofs.calls.Clocks.{all_from, all_of, of_all}
+use Rattle.stamps.proofs.calls.Histories.{at_most_same, has_write, IsHistory, one_write, write_tag}
+use Rattle.stamps.proofs.calls.Keys.{apart, IsWrite, Le, Gt, le_gt, le_stamps, le_trans, which}
+use Rattle.stamps.proofs.calls.Orders.{history, in_order, no_circle, ordered}
+use Rattle.stamps.proofs.calls.Replays.{end_is, ends, IsCut, IsLatest, latest_other, latest_write, stands}
+use Rattle.stamps.proofs.choices.Stamps.{below_itself, below_or_not}
+use Rattle.stamps.proofs.lists.Sorting.{in_sort, sort_in, sorted_sort}
 use Rattle.board_live.specs.declared.posted.Posted.{Posted}
 use Rattle.board_live.specs.Ran.{HasRecords, Keeps, under}
 

@@ -8,14 +8,14 @@ use Rattle.std.proofs.lemmas.List.Elements.{All-head, All-tail}
 use Rattle.std.proofs.lemmas.Bool.Decides.{nat_tests}
 use Rattle.std.specs.declared.cmp.PartialEq.{Ghosts as EqWords}
 use Rattle.history_core.specs.declared.history.Kind.{Kind}
-use Rattle.matrix_core.specs.Choices.{IsAtMost, IsIn}
-use Rattle.matrix_core.specs.Stamps.{is_below}
-use Rattle.matrix_core.specs.Calls.{AreCalls, Call, Dated, InTurn, IsCall, IsGreatest, IsOf, IsOneOrder, IsPosted, IsRunning, Knew, latest}
-use Rattle.matrix_core.specs.Calls.{Ticks}
-use Rattle.matrix_core.proofs.calls.Histories.{rises_by}
-use Rattle.matrix_core.proofs.calls.Orders.{in_order, ordered}
-use Rattle.matrix_core.proofs.choices.Stamps.{at_most_trans}
-use Rattle.matrix_core.proofs.lists.Sorting.{in_append, append_left, append_right}
+use Rattle.stamps.specs.Choices.{IsAtMost, IsIn}
+use Rattle.stamps.specs.Stamps.{is_below}
+use Rattle.stamps.specs.Calls.{AreCalls, Call, Dated, InTurn, IsCall, IsGreatest, IsOf, IsOneOrder, IsPosted, IsRunning, Knew, latest}
+use Rattle.stamps.specs.Calls.{Ticks}
+use Rattle.stamps.proofs.calls.Histories.{rises_by}
+use Rattle.stamps.proofs.calls.Orders.{in_order, ordered}
+use Rattle.stamps.proofs.choices.Stamps.{at_most_trans}
+use Rattle.stamps.proofs.lists.Sorting.{in_append, append_left, append_right}
 use Rattle.cell_live.specs.declared.cell.Calls.{Ghosts as CellWords}
 use Rattle.cell_live.specs.Running.{last_or, Settled}
 use Rattle.board_live.specs.declared.board.Board.{Board}

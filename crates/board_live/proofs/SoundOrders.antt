@@ -6,11 +6,11 @@ use mathlib.Core.Bool.{cond}
 use Rattle.std.specs.List.{filter, list_any}
 use Rattle.std.proofs.lemmas.Bool.Decides.{nat_tests}
 use Rattle.std.proofs.lemmas.Option.{none-some, same_Some}
-use Rattle.history_core.specs.declared.play.Wish.{Wish}
-use Rattle.history_core.specs.declared.play.Wish.TheVariants.{Write, Read}
-use Rattle.matrix_core.specs.Choices.{IsIn}
-use Rattle.matrix_core.specs.Stamps.{IsBelow, first_stamp}
-use Rattle.matrix_core.specs.declared.stamp.Stamp.{Stamp}
+use Rattle.history_core.specs.declared.wish.Wish.{Wish}
+use Rattle.history_core.specs.declared.wish.Wish.TheVariants.{Write, Read}
+use Rattle.stamps.specs.Choices.{IsIn}
+use Rattle.stamps.specs.Stamps.{IsBelow, first_stamp}
+use Rattle.stamps.specs.declared.stamp.Stamp.{Stamp}
 use Rattle.cell_live.specs.Running.{last_or}
 use Rattle.board_live.specs.declared.lane.Entry.{Entry}
 use Rattle.board_live.specs.declared.lane.Reply.{Reply}

@@ -4,8 +4,8 @@ use Rattle.std.specs.Prelude.{All}
 use Rattle.std.specs.declared.cmp.PartialEq.{Ghosts as EqWords}
 use Rattle.std.proofs.lemmas.List.Elements.{All-head, All-tail}
 use Rattle.cell_live.specs.declared.cell.Calls.{Ghosts as CellWords}
-use Rattle.matrix_core.specs.Choices.{IsAtMost}
-use Rattle.matrix_core.proofs.choices.Stamps.{at_most_trans}
+use Rattle.stamps.specs.Choices.{IsAtMost}
+use Rattle.stamps.proofs.choices.Stamps.{at_most_trans}
 use Rattle.board_live.specs.declared.board.Board.{Board}
 use Rattle.board_live.specs.declared.board.Pass.{Pass}
 use Rattle.board_live.specs.declared.board.Receipt.{Receipt}

@@ -8,11 +8,11 @@ use Rattle.std.proofs.lemmas.Bool.Decides.{nat_tests}
 use Rattle.std.proofs.lemmas.Option.{none-some, same_Some}
 use Rattle.history_core.specs.declared.history.Kind.{Kind}
 use Rattle.history_core.specs.declared.history.Kind.TheVariants.{Write, Read, Refused}
-use Rattle.history_core.specs.declared.play.Wish.{Wish}
-use Rattle.history_core.specs.declared.play.Wish.TheVariants.{Write as Writes, Read as Reads}
-use Rattle.matrix_core.specs.Calls.{Answers, AreOfOne as CallsOfOne, Call, is_by}
-use Rattle.matrix_core.specs.Choices.{IsIn}
-use Rattle.matrix_core.specs.Stamps.{IsBelow}
+use Rattle.history_core.specs.declared.wish.Wish.{Wish}
+use Rattle.history_core.specs.declared.wish.Wish.TheVariants.{Write as Writes, Read as Reads}
+use Rattle.stamps.specs.Calls.{Answers, AreOfOne as CallsOfOne, Call, is_by}
+use Rattle.stamps.specs.Choices.{IsIn}
+use Rattle.stamps.specs.Stamps.{IsBelow}
 use Rattle.board_live.specs.declared.lane.Entry.{Entry}
 use Rattle.board_live.specs.declared.lane.Reply.{Reply}
 use Rattle.board_live.specs.declared.lane.Reply.TheVariants.{Written, Seen, Ended}

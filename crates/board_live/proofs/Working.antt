@@ -12,11 +12,11 @@ use Rattle.std.proofs.lemmas.Option.{none-some, same_Some, slice_get_within}
 use Rattle.std.specs.declared.cmp.PartialEq.{Ghosts as EqWords}
 use Rattle.history_core.specs.declared.history.Kind.{Kind}
 use Rattle.history_core.specs.declared.history.Kind.TheVariants.{Write, Read, Refused}
-use Rattle.history_core.specs.declared.play.Wish.{Wish}
-use Rattle.history_core.specs.declared.play.Wish.TheVariants.{Write as Writes, Read as Reads}
-use Rattle.matrix_core.specs.Calls.{Call, calls_in, Dated, is_by, IsChosen, IsOf, IsOneOrder, IsPosted}
-use Rattle.matrix_core.specs.Choices.{IsIn}
-use Rattle.matrix_core.proofs.lists.Sorting.{filter_none}
+use Rattle.history_core.specs.declared.wish.Wish.{Wish}
+use Rattle.history_core.specs.declared.wish.Wish.TheVariants.{Write as Writes, Read as Reads}
+use Rattle.stamps.specs.Calls.{Call, calls_in, Dated, is_by, IsChosen, IsOf, IsOneOrder, IsPosted}
+use Rattle.stamps.specs.Choices.{IsIn}
+use Rattle.stamps.proofs.lists.Sorting.{filter_none}
 use Rattle.cell_live.specs.declared.cell.Calls.{Ghosts as CellWords}
 use Rattle.board_live.specs.declared.board.Board.{Board}
 use Rattle.board_live.specs.declared.board.Pass.{Pass}

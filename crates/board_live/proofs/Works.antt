@@ -6,8 +6,8 @@ use Rattle.std.specs.Prelude.{slice_get, Some}
 use Rattle.std.proofs.lemmas.List.{append-nil, take_all}
 use Rattle.std.proofs.lemmas.Option.{slice_get_within, slice_get-get_or}
 use Rattle.std.specs.declared.cmp.PartialEq.{Ghosts as EqWords}
-use Rattle.history_core.specs.declared.play.Wish.{Wish}
-use Rattle.matrix_core.specs.Stamps.{first_stamp}
+use Rattle.history_core.specs.declared.wish.Wish.{Wish}
+use Rattle.stamps.specs.Stamps.{first_stamp}
 use Rattle.cell_live.specs.declared.cell.Calls.{Ghosts as CellWords}
 use Rattle.board_live.specs.declared.board.Board.{Board}
 use Rattle.board_live.specs.declared.board.Pass.{Pass}

@@ -2,8 +2,8 @@
 use Rattle.std.specs.Prelude.{◌≡◌, Bool, IsTrue, ℕ, ◌+◌, ◌<◌, ◌≤◌, [], ◌∷◌, ◌++◌, length, map, slice_get, Some, vec_len, Result}
 use Rattle.std.specs.Prelude.{Ok, Err, All}
 use Rattle.std.specs.declared.cmp.PartialEq.{Ghosts as EqWords}
-use Rattle.matrix_core.specs.Choices.{IsAtMost}
-use Rattle.matrix_core.specs.declared.stamp.Stamp.{Stamp}
+use Rattle.stamps.specs.Choices.{IsAtMost}
+use Rattle.stamps.specs.declared.stamp.Stamp.{Stamp}
 use Rattle.cell_live.specs.declared.cell.Calls.{Ghosts as CellWords}
 use Rattle.cell_live.specs.Running.{last_or}
 use Rattle.board_live.specs.declared.board.Board.{Board}

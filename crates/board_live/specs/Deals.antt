@@ -5,7 +5,7 @@ use Rattle.std.specs.declared.cmp.PartialEq.{Ghosts as EqWords}
 use Rattle.std.proofs.Common.{Global}
 use Rattle.cell_live.specs.declared.cell.Calls.{Ghosts as CellWords}
 use Rattle.cell_live.specs.Running.{Settled}
-use Rattle.matrix_core.specs.Stamps.{first_stamp}
+use Rattle.stamps.specs.Stamps.{first_stamp}
 use Rattle.board_live.specs.declared.board.Board.{Board}
 use Rattle.board_live.specs.declared.board.Pass.{Pass}
 use Rattle.board_live.specs.declared.board.deals.BoardError.{BoardError}

@@ -1,7 +1,7 @@
 -- A lane for each pass of a board (this project's own).
 use Rattle.std.specs.Prelude.{◌≡◌, List, [], ◌∷◌}
 use Rattle.std.specs.declared.cmp.PartialEq.{Ghosts as EqWords}
-use Rattle.history_core.specs.declared.play.Wish.{Wish}
+use Rattle.history_core.specs.declared.wish.Wish.{Wish}
 use Rattle.cell_live.specs.declared.cell.Calls.{Ghosts as CellWords}
 use Rattle.board_live.specs.declared.board.Pass.{Pass}
 use Rattle.board_live.specs.declared.clocked.Clocked.{Clocked}

@@ -1,10 +1,10 @@
 -- The logs of tasks in one order, by what they say alone (this project's own).
 use Rattle.std.specs.Prelude.{◌≡◌, ℕ, ◌+◌, ◌<◌, ◌≤◌, Bool, List, [], ◌∷◌, length, map, slice_get, Some, nat_eq}
 use Rattle.std.specs.List.{filter}
-use Rattle.history_core.specs.declared.play.Wish.{Wish}
-use Rattle.history_core.specs.declared.play.Wish.TheVariants.{Write, Read}
-use Rattle.matrix_core.specs.Choices.{IsIn}
-use Rattle.matrix_core.specs.Stamps.{IsBelow, first_stamp}
+use Rattle.history_core.specs.declared.wish.Wish.{Wish}
+use Rattle.history_core.specs.declared.wish.Wish.TheVariants.{Write, Read}
+use Rattle.stamps.specs.Choices.{IsIn}
+use Rattle.stamps.specs.Stamps.{IsBelow, first_stamp}
 use Rattle.board_live.specs.declared.posted.Posted.{Posted}
 use Rattle.board_live.specs.declared.lane.Reply.{Reply}
 use Rattle.board_live.specs.declared.lane.Reply.TheVariants.{Written, Seen, Ended}

@@ -2,10 +2,10 @@
 use Rattle.std.specs.Prelude.{◌≡◌, Bool, true, false, IsTrue, IsFalse, ◌&&◌, ◌||◌, nat_eq, ℕ, ◌+◌, ◌<◌, List, Option, Some, None, slice_get}
 use Rattle.std.specs.Prelude.{map, take}
 use Rattle.std.specs.List.{list_any}
-use Rattle.history_core.specs.declared.play.Wish.{Wish}
-use Rattle.history_core.specs.declared.play.Wish.TheVariants.{Write, Read}
-use Rattle.matrix_core.specs.declared.stamp.Stamp.{Stamp}
-use Rattle.matrix_core.specs.Stamps.{first_stamp}
+use Rattle.history_core.specs.declared.wish.Wish.{Wish}
+use Rattle.history_core.specs.declared.wish.Wish.TheVariants.{Write, Read}
+use Rattle.stamps.specs.declared.stamp.Stamp.{Stamp}
+use Rattle.stamps.specs.Stamps.{first_stamp}
 use Rattle.cell_live.specs.Running.{last_or}
 use Rattle.board_live.specs.declared.posted.Posted.{Posted}
 use Rattle.board_live.specs.declared.lane.Reply.{Reply}

@@ -3,8 +3,8 @@ use Rattle.std.specs.Prelude.{◌≡◌, ℕ, ◌<◌, List, [], ◌∷◌, ◌+
 use Rattle.std.specs.declared.cmp.PartialEq.{Ghosts as EqWords}
 use Rattle.history_core.specs.declared.history.Kind.{Kind}
 use Rattle.history_core.specs.declared.history.Kind.TheVariants.{Write, Read, Refused}
-use Rattle.matrix_core.specs.Stamps.{IsBelow}
-use Rattle.matrix_core.specs.Calls.{Call, calls_in, Dated, IsChosen, IsOneOrder, IsPosted, latest}
+use Rattle.stamps.specs.Stamps.{IsBelow}
+use Rattle.stamps.specs.Calls.{Call, calls_in, Dated, IsChosen, IsOneOrder, IsPosted, latest}
 use Rattle.cell_live.specs.declared.cell.Calls.{Ghosts as CellWords}
 use Rattle.cell_live.specs.Running.{last_or}
 use Rattle.board_live.specs.declared.board.Board.{Board}

@@ -3,8 +3,8 @@ use Rattle.std.specs.Prelude.{◌≡◌, ◌⊎◌, ℕ, List, [], ◌∷◌, Op
 use Rattle.std.proofs.Common.{refl, ◌∙◌, inl, inr, arith}
 use Rattle.board_live.specs.declared.clocked.Clocked.{Clocked}
 use Rattle.board_live.specs.declared.posted.Posted.{Posted}
-use Rattle.matrix_core.specs.declared.stamp.Stamp.{Stamp}
-use Rattle.matrix_core.specs.Stamps.{IsBelow, is_below}
+use Rattle.stamps.specs.declared.stamp.Stamp.{Stamp}
+use Rattle.stamps.specs.Stamps.{IsBelow, is_below}
 
 -- what callers see of a record in a cell
 abbrev pub posted : {V : Type 0} → Clocked V → Posted V

@@ -1,7 +1,7 @@
 //! The board, the passes of its processes, and receipts.
 ghost use Rattle.std.specs.Prelude.{◌≡◌, IsTrue};
 ghost use Rattle.board_live.specs.Lists.{IsSquare};
-ghost use Rattle.matrix_core.specs.Stamps.{first_stamp};
+ghost use Rattle.stamps.specs.Stamps.{first_stamp};
 
 use crate::clocked::Clocked;
 use crate::posted::{Posted, RecordLaw};

@@ -5,7 +5,7 @@ ghost use Rattle.board_live.specs.Clocks.{later, next_clock};
 
 use crate::posted::{Posted, RecordLaw};
 use cell_live::{Kept, Lawful};
-use matrix_core::Stamp;
+use stamps::Stamp;
 
 /// A record as it lies in a cell.
 #[derive(Clone, Copy, Debug, PartialEq, Eq)]

@@ -6,7 +6,8 @@ use crate::board::Pass;
 use crate::clocked::Clocked;
 use crate::posted::{Posted, RecordLaw};
 use cell_live::Calls;
-use matrix_core::{Stamp, Wish};
+use history_core::Wish;
+use stamps::Stamp;
 
 mod calls;
 

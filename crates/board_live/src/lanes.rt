@@ -10,8 +10,7 @@ use crate::clocked::Clocked;
 use crate::lane::{Entry, Lane};
 use crate::posted::{Posted, RecordLaw};
 use cell_live::Calls;
-use history_core::Items;
-use matrix_core::Wish;
+use history_core::{Items, Wish};
 use std::alloc::{AllocError, Global};
 
 /// A lane for each pass, with the script at its place. A refusal drops the passes.

@@ -9,7 +9,8 @@ use crate::clocked::Clocked;
 use crate::lane::{Entry, Lane, Reply};
 use crate::posted::{Posted, RecordLaw};
 use cell_live::Calls;
-use matrix_core::{Stamp, Wish};
+use history_core::Wish;
+use stamps::Stamp;
 
 /// What has a log: a lane, or a list of entries that a program kept itself.
 pub trait HasLog<V> {

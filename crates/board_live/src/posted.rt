@@ -2,7 +2,7 @@
 ghost use Rattle.std.specs.Prelude.{◌≡◌, Bool};
 
 use history_core::Band;
-use matrix_core::Stamp;
+use stamps::Stamp;
 
 /// A type of records with a law that a caller can test.
 pub trait RecordLaw: Copy + Eq {

@@ -6,7 +6,7 @@ ghost use Rattle.board_live.specs.Rising.{Rises, greatest};
 ghost use Rattle.board_live.specs.Boards.{Hears, OneMore, Posts, Stands};
 ghost use Rattle.board_live.specs.inner.Columns.{Heard, above};
 ghost use Rattle.cell_live.specs.Running.{last_or};
-ghost use Rattle.matrix_core.specs.Choices.{IsAtMost};
+ghost use Rattle.stamps.specs.Choices.{IsAtMost};
 
 use crate::clocked::{Clocked, later};
 use crate::posted::RecordLaw;

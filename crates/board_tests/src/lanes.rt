@@ -5,7 +5,7 @@ use crate::plans::{point, run_plans, said_at};
 use board_live::{Clocked, Gate, OpenGate, Origin, Posted, check_origin, into_passes};
 use cell_live::{Cell, FourSlotCell, TripleCell};
 use history_core::Band;
-use matrix_core::Stamp;
+use stamps::Stamp;
 use std::alloc::{AllocError, Global};
 use std::test::Fail;
 use std::thread::Threads;

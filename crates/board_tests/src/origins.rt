@@ -1,8 +1,8 @@
 //! The check of logs that a program kept itself.
 use crate::plans::point;
 use board_live::{Entry, Origin, Posted, Reply, check_origin};
-use history_core::Band;
-use matrix_core::{Stamp, Wish};
+use history_core::{Band, Wish};
+use stamps::Stamp;
 use std::alloc::{AllocError, Global};
 use std::test::Fail;
 

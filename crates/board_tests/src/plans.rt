@@ -8,8 +8,7 @@ ghost use Rattle.board_live.specs.Logs.{Obeys};
 
 use board_live::{Board, Clocked, Entry, Gate, Lane, Reply, make_lanes, run_tasks};
 use cell_live::Cell;
-use history_core::{Band, Items};
-use matrix_core::Wish;
+use history_core::{Band, Items, Wish};
 use std::alloc::{AllocError, Global};
 use std::thread::Threads;
 

@@ -8,7 +8,7 @@ use board_live::{
 };
 use cell_live::{Cell, FourSlotCell, TripleCell};
 use history_core::{Band, Items};
-use matrix_core::Stamp;
+use stamps::Stamp;
 use std::alloc::{AllocError, Global};
 use std::test::Fail;
 use std::thread::Threads;

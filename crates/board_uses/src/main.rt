@@ -5,11 +5,11 @@ ghost use Rattle.std.specs.Prelude.{◌≡◌, ◌≤◌, IfOk, length};
 ghost use Rattle.board_live.specs.Boards.{IsPass, IsBoardCall, seen_by};
 ghost use Rattle.board_live.specs.Deals.{AllPasses};
 ghost use Rattle.board_live.specs.Receipts.{IsReceipt};
-ghost use Rattle.matrix_core.specs.Choices.{IsAtMost};
+ghost use Rattle.stamps.specs.Choices.{IsAtMost};
 
 use board_live::{Board, BoardError, Clocked, Pass, Receipt, RecordLaw, TagsEnded};
 use cell_live::FourSlotCell;
-use matrix_core::Stamp;
+use stamps::Stamp;
 use std::alloc::Global;
 use std::io;
 

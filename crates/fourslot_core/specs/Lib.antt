@@ -1,13 +1,9 @@
 pub mod Accesses
-pub mod CellReports
 pub mod Counts
 pub mod Events
 pub mod Freshness
 pub mod Interleaving
 pub mod Invariant
 pub mod Play
-pub mod Reports
-pub mod ReportOrders
 pub mod SafeSlots
 pub mod Traces
-pub mod inner

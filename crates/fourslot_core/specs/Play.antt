@@ -1,9 +1,10 @@
 -- Schedules of one cell, and the run of one (this project's own).
 use Rattle.std.specs.Prelude.{ℕ, List, [], ◌∷◌, map, replicate, get_or}
-use Rattle.history_core.specs.declared.play.PlayError.{PlayError}
-use Rattle.history_core.specs.declared.play.PlayError.TheVariants.{NoMemory, TooManySteps}
-use Rattle.history_core.specs.declared.play.Wish.TheVariants.{Write, Read}
+use Rattle.history_core.specs.declared.wish.PlayError.{PlayError}
+use Rattle.history_core.specs.declared.wish.PlayError.TheVariants.{NoMemory, TooManySteps}
+use Rattle.history_core.specs.declared.wish.Wish.TheVariants.{Write, Read}
 use Rattle.history_core.specs.Schedules.{Span, cell_accesses, max_limit, HasOperations, IsFirstOverrun}
+use Rattle.fourslot_core.specs.declared.schedule.CellSchedule.{CellSchedule}
 use Rattle.fourslot_core.specs.declared.schedule.Turn.{Turn}
 use Rattle.fourslot_core.specs.declared.schedule.Turn.TheVariants.{Writer, Reader}
 use Rattle.fourslot_core.specs.Traces.{Trace, moments_from, trace}
@@ -17,6 +18,9 @@ actor Reader = 1
 abbrev pub span_of : {R : Type 0} → List Turn → List R → ℕ → Span R
 span_of steps writes reads =
     record { limit = max_limit; accesses = cell_accesses; plans = map Write writes ∷ (replicate reads Read ∷ []); steps = map actor steps }
+
+abbrev pub cell_span : {R : Type 0} → CellSchedule R → Span R
+cell_span s = span_of s.steps s.writes s.reads
 
 -- why a schedule isn't played: a step without an operation, the first one; or want of memory, where each step has its own
 abbrev pub IsRefusal : {R : Type 0} → Span R → PlayError → Type 0

@@ -5,12 +5,10 @@
 mod cell;
 mod event;
 pub mod laws;
-mod player;
 mod schedule;
 mod state;
 
 pub use cell::CellCore;
 pub use event::{ReadEvent, WriteEvent};
-pub use player::play_cell;
 pub use schedule::{CellReport, CellSchedule, Turn};
 pub use state::{Bits, InSlot, ReadStage, ReaderStage, Sides, Slot, Stage, State};

@@ -9,9 +9,9 @@ use Rattle.std.proofs.lemmas.List.Sums.{sum_by-cons}
 use Rattle.std.proofs.lemmas.Option.{none-some, same_Some, slice_get_within}
 use Rattle.history_core.specs.Band.{fits}
 use Rattle.history_core.specs.declared.band.Band.{Band}
-use Rattle.history_core.specs.declared.play.Wish.{Wish}
-use Rattle.history_core.specs.declared.play.Wish.TheVariants.{Write, Read}
-use Rattle.matrix_core.specs.Stamps.{first_stamp}
+use Rattle.history_core.specs.declared.wish.Wish.{Wish}
+use Rattle.history_core.specs.declared.wish.Wish.TheVariants.{Write, Read}
+use Rattle.stamps.specs.Stamps.{first_stamp}
 use Rattle.board_live.proofs.LaneLists.{all_ready, lane_at, lanes_length}
 use Rattle.board_live.proofs.Steps.{get_at}
 use Rattle.board_live.proofs.Working.{at_mapped}

@@ -8,9 +8,10 @@ use Rattle.history_core.specs.declared.history.History.{History}
 use Rattle.history_core.specs.declared.history.Verdict.{Verdict}
 use Rattle.history_core.specs.declared.history.Verdict.TheVariants.{Lawful, Listing, Precedence, Reading, Limit}
 use Rattle.history_core.specs.declared.band.Band.{Band}
-use Rattle.history_core.specs.declared.play.Wish.{Wish}
-use Rattle.matrix_core.specs.BoardReports.{IsBoardReport, board_spans}
-use Rattle.matrix_core.specs.Listings.{IsMatrixReport}
+use Rattle.history_core.specs.declared.wish.Wish.{Wish}
+use Rattle.board_play.specs.BoardReports.{IsBoardReport}
+use Rattle.matrix_core.specs.Runs.{board_spans}
+use Rattle.matrix_play.specs.MatrixReports.{IsMatrixReport}
 use Rattle.matrix_core.specs.Runs.{spans_of}
 use Rattle.matrix_core.specs.declared.schedule.BoardReport.{BoardReport}
 use Rattle.matrix_core.specs.declared.schedule.BoardSchedule.{BoardSchedule}
@@ -24,7 +25,8 @@ use Rattle.schedule_text.specs.declared.reading.document.Document.TheVariants.{C
 use Rattle.schedule_text.specs.declared.reading.document.DocError.{DocError}
 use Rattle.schedule_text.specs.declared.telling.report.Report.{Report}
 use Rattle.schedule_text.specs.declared.telling.report.Report.TheVariants as report
-use Rattle.fourslot_core.specs.CellReports.{IsCellReport, cell_span}
+use Rattle.fourslot_play.specs.CellReports.{IsCellReport}
+use Rattle.fourslot_core.specs.Play.{cell_span}
 use Rattle.fsr.specs.Races.{IsRace}
 use Rattle.fsr.specs.declared.fault.Answer.{Answer}
 use Rattle.fsr.specs.declared.fault.Fault.{Fault}

@@ -1,10 +1,10 @@
 -- What a race tells: its scripts are run as tasks over a running board of four-slot cells (this project's own).
 use Rattle.std.specs.Prelude.{◌≡◌, Bool, true, false, ◌&&◌, nat_eq, ℕ, ◌+◌, List, length, map, count_by, slice_get, Option, Some, None}
 use Rattle.history_core.specs.declared.band.Band.{Band}
-use Rattle.history_core.specs.declared.play.Wish.{Wish}
-use Rattle.history_core.specs.declared.play.Wish.TheVariants.{Write, Read}
+use Rattle.history_core.specs.declared.wish.Wish.{Wish}
+use Rattle.history_core.specs.declared.wish.Wish.TheVariants.{Write, Read}
 use Rattle.history_core.specs.contracts.band.BandPartialEq.TheImpl as band_eq
-use Rattle.matrix_core.specs.Stamps.{first_stamp}
+use Rattle.stamps.specs.Stamps.{first_stamp}
 use Rattle.cell_live.specs.declared.four_slot.FourSlotCell.{FourSlotCell}
 use Rattle.cell_live.specs.declared.cell.Calls.{Ghosts as CellWords}
 use Rattle.cell_live.specs.declared.four_slot.FourSlotPut.{FourSlotPut}

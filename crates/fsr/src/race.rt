@@ -11,8 +11,7 @@ use board_live::{
     run_tasks,
 };
 use cell_live::FourSlotCell;
-use history_core::{Band, Items};
-use matrix_core::Wish;
+use history_core::{Band, Items, Wish};
 use schedule_text::{Counts, Report};
 use std::alloc::{AllocError, Global};
 use std::thread::Threads;

@@ -9,9 +9,12 @@ ghost use Rattle.fsr.specs.Answers.{Gives, IsAnswer, printed, race_status, statu
 use crate::fault::{Answer, Fault};
 use crate::race::race;
 use board_live::OpenGate;
-use fourslot_core::{CellSchedule, play_cell};
+use board_play::play_board;
+use fourslot_core::CellSchedule;
+use fourslot_play::play_cell;
 use history_core::{Band, History, Items, Verdict, Wish, check_order};
-use matrix_core::{BoardSchedule, MatrixSchedule, play_board, play_matrix};
+use matrix_core::{BoardSchedule, MatrixSchedule};
+use matrix_play::play_matrix;
 use schedule_text::{DocError, Document, Report, Want, document_in, read_value, report_text};
 use std::alloc::{AllocError, Global};
 use std::mem::forget;

@@ -1,8 +1,9 @@
 use crate::documents::{Stopped, document};
 use crate::print;
-use fourslot_core::play_cell;
+use board_play::play_board;
+use fourslot_play::play_cell;
 use history_core::{Items, Verdict};
-use matrix_core::{MatrixCore, play_board, play_matrix};
+use matrix_play::{MatrixCore, play_matrix};
 use schedule_text::{Counts, Document, Report, report_text};
 use std::alloc::Global;
 use std::io;

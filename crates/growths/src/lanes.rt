@@ -11,8 +11,8 @@ use board_live::{
     Board, Clocked, Lane, OpenGate, Origin, Pass, check_origin, make_lanes, run_tasks,
 };
 use cell_live::{Calls, Cell, FourSlotCell, TripleCell};
-use history_core::{Band, Items};
-use matrix_core::{Stamp, Wish};
+use history_core::{Band, Items, Wish};
+use stamps::Stamp;
 use std::alloc::{AllocError, Global};
 use std::io;
 use std::thread::Threads;

@@ -5,7 +5,7 @@ ghost use Rattle.board_live.specs.Deals.{AllPasses};
 use board_live::{Board, BoardError, Clocked, Pass, Posted, RecordLaw, TagsEnded};
 use cell_live::Calls;
 use history_core::Band;
-use matrix_core::Stamp;
+use stamps::Stamp;
 use std::alloc::Global;
 
 /// What a call of a team gave.

@@ -3,7 +3,7 @@
 mod listing;
 mod precedence;
 mod reading;
-pub(crate) mod refusal;
+mod refusal;
 
 ghost use Rattle.std.specs.Prelude.{IsTrue};
 ghost use Rattle.history_core.specs.Orders.{IsVerdict};

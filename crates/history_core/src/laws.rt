@@ -1,6 +1,6 @@
 //! Laws over the definitions.
 
-ghost use Rattle.std.specs.Prelude.{◌≡◌, ◌↔◌, ℕ, List, ◌∷◌, ◌++◌, IsTrue, length, slice_get, Some};
+ghost use Rattle.std.specs.Prelude.{◌≡◌, ℕ, List, ◌∷◌, ◌++◌, IsTrue, length, slice_get, Some};
 ghost use Rattle.history_core.specs.declared.history.Kind.TheVariants.{Write};
 ghost use Rattle.history_core.specs.declared.history.Op.{Op};
 ghost use Rattle.history_core.specs.declared.history.Term.{Term};
@@ -9,7 +9,6 @@ ghost use Rattle.history_core.specs.declared.history.Verdict.TheVariants.{Lawful
 ghost use Rattle.history_core.specs.Joined.{HasFirstTerm, IsInTurn, ops_of, order_after, order_from, Part, StaysBehind, terms_after};
 ghost use Rattle.history_core.specs.Joined.{terms_from};
 ghost use Rattle.history_core.specs.Numbers.{IsByNumber};
-ghost use Rattle.history_core.specs.Points.{AreForwards, HasPoints};
 ghost use Rattle.history_core.specs.Orders.{HasNoWrites, IsAtomicOrder, IsVerdict, KeepsPrecedence, latest, ListsPlaces, RefusesLawfully};
 
 /// An order by number keeps precedence.
@@ -57,10 +56,4 @@ pub fn parts_join<R>()
         RefusesLawfully (terms_from 0 parts) (ops_of parts) (order_from 0 parts) }
     ensures last { (opening last : R) (parts : List (Part R)) → IsInTurn (λ x y. x ≡ y) opening parts last →
         latest opening (ops_of parts) (order_from 0 parts) ≡ Some last }
-{}
-
-/// An order keeps precedence, and its operations run forwards, exactly where there are points that never fall along it, each from
-/// its operation's beginning to its end.
-pub fn precedence_by_points<R>()
-    ensures { (ops : List (Op R)) (order : List ℕ) → HasPoints ops order ↔ (KeepsPrecedence ops order × AreForwards ops order) }
 {}

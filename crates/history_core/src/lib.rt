@@ -3,18 +3,15 @@
 #![tactic(auto)]
 
 mod band;
-mod breaks;
 mod check;
 mod history;
 pub mod laws;
 mod list;
-mod play;
-mod point;
+pub mod ranges;
+mod wish;
 
 pub use band::Band;
-pub use breaks::{Break, first_break};
 pub use check::check_order;
 pub use history::{History, Kind, Op, Term, Verdict};
 pub use list::Items;
-pub use play::{MAX_LIMIT, PlayError, Wish};
-pub use point::points;
+pub use wish::{MAX_LIMIT, PlayError, Wish};

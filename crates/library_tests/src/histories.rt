@@ -1,9 +1,7 @@
 //! Worked orders and their verdicts. Nothing here is taken from the program's own answers.
 
-use history_core::{
-    Band, Break, History, Items, Kind, MAX_LIMIT, Op, Term, Verdict, check_order, first_break,
-    points,
-};
+use history_core::{Band, History, Items, Kind, MAX_LIMIT, Op, Term, Verdict, check_order};
+use order_witnesses::{Break, first_break, points};
 use std::alloc::{AllocError, Global};
 use std::process::Abort;
 use std::test::Fail;

@@ -7,8 +7,10 @@ mod boards;
 mod matrices;
 mod sizes;
 
-use history_core::{Band, Items, Kind, MAX_LIMIT, Op, PlayError, Verdict, check_order};
-use matrix_core::{MatrixReport, MatrixSchedule, MatrixTerm, Stamp, Wish, play_matrix};
+use history_core::{Band, Items, Kind, MAX_LIMIT, Op, PlayError, Verdict, Wish, check_order};
+use matrix_core::{MatrixReport, MatrixSchedule, MatrixTerm};
+use matrix_play::play_matrix;
+use stamps::Stamp;
 use std::alloc::{AllocError, Global};
 use std::process::Abort;
 

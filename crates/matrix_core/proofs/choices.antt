@@ -1,8 +1,6 @@
--- From what cells answer to the law of choices, and what follows from it.
-pub mod Answers
+-- From what cells answer to the law of choices.
 pub mod Atomic
 pub mod ByAccesses
+pub mod Gathered
 pub mod Greatest
 pub mod Made
-pub mod Rise
-pub mod Stamps

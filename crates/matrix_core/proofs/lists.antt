@@ -1,3 +1,2 @@
--- Lists: elements after a write, and sorting.
+-- Lists: elements after a write.
 pub mod Elements
-pub mod Sorting

@@ -1,4 +1,2 @@
--- What private functions alone cite. No public contract names any of this.
-pub mod BoardPlays
-pub mod MatrixPlays
-pub mod MatrixReports
+-- What both players alone cite.
+pub mod Operations

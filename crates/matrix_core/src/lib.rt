@@ -1,24 +1,19 @@
-//! A register of several writers and readers from a matrix of cells that have one writer and one reader each. The idea
-//! of such a matrix with tags is credited to P. Vitányi and B. Awerbuch, FOCS 1986; the rules are this project's own.
+//! A register of several writers and readers from a matrix of cells that have one writer and one reader each, whatever the cells are:
+//! its schedules and reports, how far its processes are, and the order of its operations. The idea of such a matrix with tags is
+//! credited to P. Vitányi and B. Awerbuch, FOCS 1986; the rules are this project's own.
 #![tactic(auto)]
 
-mod board;
-mod board_play;
-mod board_report;
 pub mod laws;
-mod matrix;
 mod operations;
 mod order;
 mod overruns;
-mod play;
-mod report;
+mod progress;
 mod schedule;
-mod stamp;
 
-pub use board::BoardCore;
-pub use board_report::play_board;
-pub use history_core::Wish;
-pub use matrix::{MatrixCore, MatrixStage, Outcome};
-pub use report::play_matrix;
+pub use operations::{begun_op, chose, ended};
+pub use order::list_term;
+pub use overruns::{Cells, first_overrun};
+pub use progress::{
+    Outcome, Progress, cell_index, choose, done_at, filled, greatest_of, other, write_line,
+};
 pub use schedule::{BoardReport, BoardSchedule, MatrixReport, MatrixSchedule, MatrixTerm};
-pub use stamp::{Stamp, Stamped};

@@ -1,12 +1,13 @@
 //! What the steps of an operation make of it: it begins, chooses and ends.
 
 ghost use Rattle.std.specs.Prelude.{◌≡◌};
-ghost use Rattle.matrix_core.specs.inner.MatrixPlays.{begun_op, chose, ended};
+ghost use Rattle.matrix_core.specs.inner.Operations.{begun_op, chose, ended};
 
-use crate::matrix::Outcome;
+use crate::progress::Outcome;
 use history_core::{Kind, Op, Wish};
 
-pub(crate) fn begun_op<R: Copy>(who: usize, now: u64, wish: Wish<R>) -> Op<R>
+/// An operation that begins at the position `now`.
+pub fn begun_op<R: Copy>(who: usize, now: u64, wish: Wish<R>) -> Op<R>
     ensures { result ≡ begun_op who now wish }
 {
     match wish {
@@ -28,7 +29,7 @@ pub(crate) fn begun_op<R: Copy>(who: usize, now: u64, wish: Wish<R>) -> Op<R>
 }
 
 /// What its choice makes of an operation: a write that is refused has no item until it ends.
-pub(crate) fn chose<R: Copy>(outcome: Outcome<R>, op: Op<R>) -> Op<R>
+pub fn chose<R: Copy>(outcome: Outcome<R>, op: Op<R>) -> Op<R>
     ensures { result ≡ chose outcome op }
 {
     match outcome {
@@ -42,7 +43,7 @@ pub(crate) fn chose<R: Copy>(outcome: Outcome<R>, op: Op<R>) -> Op<R>
 }
 
 /// What its last access makes of an operation, at the position `now`.
-pub(crate) fn ended<R: Copy>(now: u64, outcome: Outcome<R>, op: Op<R>) -> Op<R>
+pub fn ended<R: Copy>(now: u64, outcome: Outcome<R>, op: Op<R>) -> Op<R>
     ensures { result ≡ ended now outcome op }
 {
     match outcome {

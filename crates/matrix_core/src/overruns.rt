@@ -29,7 +29,7 @@ impl Cells {
 }
 
 /// The first step of a process that has no operation left in its term, counted through all terms.
-pub(crate) fn first_overrun<R>(cells: Cells, terms: &[MatrixTerm<R>]) -> Option<u64>
+pub fn first_overrun<R>(cells: Cells, terms: &[MatrixTerm<R>]) -> Option<u64>
     requires each { (k : ℕ) (term : MatrixTerm R) → slice_get terms.now k ≡ Some term → IsTerm term }
     requires steps { step_count terms.now < max_position }
     ensures none { IfNone result (HasOperations (spans_by cells terms.now)) }

@@ -1,17 +1,19 @@
 -- The answer to a document: its picture with its status, or the fault (this project's own).
 use Rattle.std.specs.Prelude.{◌≡◌, ◌≢◌, ℕ, List, [], ◌∷◌, codes, Option, None, Some, Result, Ok, Err}
-use Rattle.fourslot_core.specs.CellReports.{IsCellReport, cell_span}
+use Rattle.fourslot_play.specs.CellReports.{IsCellReport}
+use Rattle.fourslot_core.specs.Play.{cell_span}
 use Rattle.fourslot_core.specs.declared.schedule.CellReport.{CellReport}
 use Rattle.fourslot_core.specs.declared.schedule.CellSchedule.{CellSchedule}
 use Rattle.history_core.specs.Schedules.{HasOperations, IsFirstOverrun}
 use Rattle.history_core.specs.declared.band.Band.{Band}
-use Rattle.history_core.specs.declared.breaks.Break.{Break}
+use Rattle.order_witnesses.specs.declared.breaks.Break.{Break}
 use Rattle.history_core.specs.declared.history.History.{History}
-use Rattle.matrix_core.specs.Listings.{IsMatrixReport}
+use Rattle.matrix_play.specs.MatrixReports.{IsMatrixReport}
 use Rattle.matrix_core.specs.Runs.{spans_of}
 use Rattle.matrix_core.specs.declared.schedule.MatrixReport.{MatrixReport}
 use Rattle.matrix_core.specs.declared.schedule.MatrixSchedule.{MatrixSchedule}
-use Rattle.matrix_core.specs.BoardReports.{IsBoardReport, board_spans}
+use Rattle.board_play.specs.BoardReports.{IsBoardReport}
+use Rattle.matrix_core.specs.Runs.{board_spans}
 use Rattle.matrix_core.specs.declared.schedule.BoardReport.{BoardReport}
 use Rattle.matrix_core.specs.declared.schedule.BoardSchedule.{BoardSchedule}
 use Rattle.picture_text.specs.Picture.{picture_of}

@@ -1,6 +1,6 @@
 -- The faults that the refusals of the crates below become (this project's own).
-use Rattle.history_core.specs.declared.play.PlayError.{PlayError}
-use Rattle.history_core.specs.declared.play.PlayError.TheVariants as play
+use Rattle.history_core.specs.declared.wish.PlayError.{PlayError}
+use Rattle.history_core.specs.declared.wish.PlayError.TheVariants as play
 use Rattle.schedule_text.specs.declared.reading.document.DocError.{DocError}
 use Rattle.schedule_text.specs.declared.reading.document.DocError.TheVariants as doc
 use Rattle.picture.specs.declared.fault.Fault.{Fault}

@@ -3,17 +3,17 @@
 use Rattle.std.specs.Prelude.{◌≡◌, ◌==◌, ◌&&◌, ◌⊎◌, IsTrue, List, ℕ, [], IfSome, Option, None}
 use Rattle.fourslot_core.specs.declared.schedule.CellReport.{CellReport}
 use Rattle.fourslot_core.specs.declared.schedule.CellSchedule.{CellSchedule}
-use Rattle.history_core.specs.Breaks.{IsFirstBreak, verdict_of}
+use Rattle.order_witnesses.specs.Breaks.{IsFirstBreak, verdict_of}
 use Rattle.history_core.specs.Orders.{IsVerdict}
-use Rattle.history_core.specs.Points.{AreEarliest, HasPoints}
+use Rattle.order_witnesses.specs.Points.{AreEarliest, HasPoints}
 use Rattle.history_core.specs.declared.band.Band.{Band}
-use Rattle.history_core.specs.declared.breaks.Break.{Break}
+use Rattle.order_witnesses.specs.declared.breaks.Break.{Break}
 use Rattle.history_core.specs.declared.history.History.{History}
 use Rattle.history_core.specs.declared.history.Op.{Op}
 use Rattle.matrix_core.specs.declared.schedule.MatrixReport.{MatrixReport}
 use Rattle.matrix_core.specs.declared.schedule.BoardReport.{BoardReport}
 use Rattle.matrix_core.specs.declared.schedule.BoardSchedule.{BoardSchedule}
-use Rattle.matrix_core.specs.declared.stamp.Stamp.{Stamp}
+use Rattle.stamps.specs.declared.stamp.Stamp.{Stamp}
 use Rattle.picture_text.specs.Visits.{board_lanes, board_visits, cell_visits}
 use Rattle.picture_text.specs.declared.scene.Lanes.{Lanes}
 use Rattle.picture_text.specs.declared.scene.Lanes.TheVariants.{Actors, Cell}

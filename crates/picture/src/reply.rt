@@ -9,9 +9,13 @@ ghost use Rattle.picture.specs.Answers.{shown_in, status_of};
 
 use crate::fault::{Answer, Fault};
 use crate::scenes::{board_scene, cell_scene, check_scene, matrix_scene};
-use fourslot_core::{CellSchedule, play_cell};
-use history_core::{Band, Break, History, Items};
-use matrix_core::{BoardSchedule, MatrixSchedule, play_board, play_matrix};
+use board_play::play_board;
+use fourslot_core::CellSchedule;
+use fourslot_play::play_cell;
+use history_core::{Band, History, Items};
+use matrix_core::{BoardSchedule, MatrixSchedule};
+use matrix_play::play_matrix;
+use order_witnesses::Break;
 use picture_text::{Scene, picture_text};
 use schedule_text::{DocError, Document, Want, document_in, read_value};
 use serde_json::Value;

@@ -5,9 +5,11 @@ ghost use Rattle.matrix_core.specs.Runs.{CanPlay};
 ghost use Rattle.picture.specs.Scenes.{ArePointsOf, Shows, ShowsBoard, ShowsCell, ShowsCheck, ShowsMatrix};
 
 use fourslot_core::{CellReport, CellSchedule};
-use history_core::{Band, Break, History, Items, first_break, points};
-use matrix_core::{BoardReport, BoardSchedule, MatrixReport, Stamp};
+use history_core::{Band, History, Items};
+use matrix_core::{BoardReport, BoardSchedule, MatrixReport};
+use order_witnesses::{Break, first_break, points};
 use picture_text::{Lanes, Scene, Visit, board_lanes, board_visits, cell_visits};
+use stamps::Stamp;
 use std::alloc::{AllocError, Global};
 
 pub fn check_scene(

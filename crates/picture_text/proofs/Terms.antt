@@ -6,7 +6,7 @@ use Rattle.std.specs.List.{fold}
 use Rattle.history_core.specs.Schedules.{access_at, board_accesses, positions}
 use Rattle.history_core.specs.declared.band.Band.{Band}
 use Rattle.history_core.specs.declared.history.Op.{Op}
-use Rattle.matrix_core.specs.BoardReports.{board_span}
+use Rattle.matrix_core.specs.Runs.{board_span}
 use Rattle.matrix_core.specs.Runs.{IsTerm}
 use Rattle.matrix_core.specs.declared.schedule.MatrixTerm.{MatrixTerm}
 use Rattle.picture_text.specs.Visits.{AllFit, events_in, own_visits, term_visits, widest}

@@ -7,11 +7,11 @@ use Rattle.std.specs.List.{flat_map}
 use Rattle.std.specs.Option.{unwrap_or}
 use Rattle.history_core.specs.Orders.{is_write, listed_at}
 use Rattle.history_core.specs.declared.band.Band.{Band}
-use Rattle.history_core.specs.declared.breaks.Break.{Break}
-use Rattle.history_core.specs.declared.breaks.Break.TheVariants.{NoPlace, Times, Precedence, NoItem, Reading, Limit}
+use Rattle.order_witnesses.specs.declared.breaks.Break.{Break}
+use Rattle.order_witnesses.specs.declared.breaks.Break.TheVariants.{NoPlace, Times, Precedence, NoItem, Reading, Limit}
 use Rattle.history_core.specs.declared.history.Op.{Op}
 use Rattle.history_core.specs.declared.history.Term.{Term}
-use Rattle.matrix_core.specs.declared.stamp.Stamp.{Stamp}
+use Rattle.stamps.specs.declared.stamp.Stamp.{Stamp}
 use Rattle.schedule_text.specs.telling.Text.{entry_at}
 use Rattle.picture_text.specs.Looks.{looks}
 use Rattle.picture_text.specs.Scales.{actors_of, far_of, scale_of, unit_in, x_of, y_of}

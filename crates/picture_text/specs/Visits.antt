@@ -4,7 +4,7 @@
 use Rattle.std.specs.Prelude.{ℕ, ◌≡◌, ◌≤◌, ◌+◌, ◌-◌, ◌*◌, List, [], ◌∷◌, ◌++◌, length, max, take, drop, get_or, slice_get, Option, None}
 use Rattle.std.specs.Prelude.{Some, nat_eq, nat_le, nat_lt, zero, suc, if◌then◌else◌}
 use Rattle.std.specs.List.{fold}
-use Rattle.fourslot_core.specs.CellReports.{cell_span}
+use Rattle.fourslot_core.specs.Play.{cell_span}
 use Rattle.fourslot_core.specs.declared.schedule.CellSchedule.{CellSchedule}
 use Rattle.fourslot_core.specs.declared.schedule.Turn.{Turn}
 use Rattle.fourslot_core.specs.declared.schedule.Turn.TheVariants.{Writer, Reader}
@@ -14,8 +14,8 @@ use Rattle.history_core.specs.declared.history.Kind.{Kind}
 use Rattle.history_core.specs.declared.history.Kind.TheVariants.{Write, Read}
 use Rattle.history_core.specs.declared.history.Op.{Op}
 use Rattle.history_core.specs.declared.history.Term.{Term}
-use Rattle.matrix_core.specs.BoardReports.{board_span}
-use Rattle.matrix_core.specs.Events.{other}
+use Rattle.matrix_core.specs.Runs.{board_span}
+use Rattle.matrix_core.specs.Lines.{other}
 use Rattle.matrix_core.specs.declared.schedule.MatrixTerm.{MatrixTerm}
 use Rattle.schedule_text.specs.telling.Text.{entry_at}
 use Rattle.picture_text.specs.declared.scene.Lanes.{Lanes}

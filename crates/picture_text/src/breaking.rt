@@ -8,7 +8,8 @@ use crate::marks::{op_at, spot_of};
 use crate::scale::Scale;
 use crate::shape::points::put_join;
 use crate::shape::{Class, bar_of, put_bar};
-use history_core::{Band, Break, Op};
+use history_core::{Band, Op};
+use order_witnesses::Break;
 use schedule_text::Line;
 use std::alloc::AllocError;
 

@@ -15,8 +15,8 @@ use crate::shape::lanes::{ROW_BAR, row_y};
 use crate::shape::points::{put_join, put_point};
 use crate::shape::{Bar, Spot, bar_of, class_of, put_bar};
 use history_core::{Band, Kind, Op};
-use matrix_core::Stamp;
 use schedule_text::Line;
+use stamps::Stamp;
 use std::alloc::AllocError;
 
 pub fn push_ops(

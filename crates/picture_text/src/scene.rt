@@ -1,5 +1,6 @@
-use history_core::{Band, Break, History, Items, Kind};
-use matrix_core::Stamp;
+use history_core::{Band, History, Items, Kind};
+use order_witnesses::Break;
+use stamps::Stamp;
 
 /// What the lanes of a picture are.
 #[derive(Clone, Copy, Debug, PartialEq, Eq)]

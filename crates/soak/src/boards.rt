@@ -11,8 +11,8 @@ use board_live::{
     run_tasks,
 };
 use cell_live::{Calls, Cell};
-use history_core::{Items, MAX_LIMIT};
-use matrix_core::{Stamp, Wish};
+use history_core::{Items, MAX_LIMIT, Wish};
+use stamps::Stamp;
 use std::alloc::{AllocError, Global};
 use std::thread::Threads;
 

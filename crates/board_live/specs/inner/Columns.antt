@@ -3,8 +3,8 @@
 use Rattle.std.specs.Prelude.{◌≡◌, IsTrue, ℕ, [], ◌∷◌, ◌++◌, Bool, Option, Some, None, if◌then◌else◌}
 use Rattle.cell_live.specs.Running.{IsAnswer}
 use Rattle.cell_live.specs.declared.cell.Calls.{Ghosts as CellWords}
-use Rattle.matrix_core.specs.Stamps.{is_below}
-use Rattle.matrix_core.specs.declared.stamp.Stamp.{Stamp}
+use Rattle.stamps.specs.Stamps.{is_below}
+use Rattle.stamps.specs.declared.stamp.Stamp.{Stamp}
 use Rattle.board_live.specs.declared.clocked.Clocked.{Clocked}
 use Rattle.board_live.specs.Clocks.{later}
 use Rattle.board_live.specs.Rising.{Rises, greater}

@@ -1,14 +1,14 @@
 //! Reading and writing.
 ghost use Rattle.std.specs.Prelude.{◌≡◌, IsTrue, IfOk, IfErr};
 ghost use Rattle.board_live.specs.Boards.{IsPass, IsBoardCall, HandsOn, Chooses, seen_by};
-ghost use Rattle.matrix_core.specs.Stamps.{IsBelow};
+ghost use Rattle.stamps.specs.Stamps.{IsBelow};
 
 use super::{Board, Pass, TagsEnded};
 use crate::clocked::{Clocked, tick};
 use crate::posted::{Posted, RecordLaw};
 use crate::rows::{column, row};
 use cell_live::Calls;
-use matrix_core::Stamp;
+use stamps::Stamp;
 
 impl<V: RecordLaw, C: Calls<Clocked<V>>> Board<V, C> {
     /// Gives the greatest of the process's own record and what its column answers, and hands it on.

@@ -1,6 +1,6 @@
 //! Making a board.
 ghost use Rattle.std.specs.Prelude.{◌≡◌, ◌<◌, ◌≤◌, ℕ, IfOk, IsTrue, length, vec_len, slice_get, Some, []};
-ghost use Rattle.matrix_core.specs.Stamps.{first_stamp};
+ghost use Rattle.stamps.specs.Stamps.{first_stamp};
 ghost use Rattle.board_live.specs.Deals.{RowDealt, IsNew, OpensWith};
 
 use super::{Board, Pass};
@@ -8,7 +8,7 @@ use crate::clocked::Clocked;
 use crate::posted::{Posted, RecordLaw};
 use crate::rows::other;
 use cell_live::Calls;
-use matrix_core::Stamp;
+use stamps::Stamp;
 use std::alloc::{AllocError, Global};
 
 /// Why no board was made. They are tested in this order.

@@ -10,7 +10,7 @@ use crate::clocked::Clocked;
 use crate::gate::Gate;
 use crate::posted::RecordLaw;
 use cell_live::Calls;
-use matrix_core::Wish;
+use history_core::Wish;
 use std::alloc::{AllocError, Global};
 
 impl<V: RecordLaw, C: Calls<Clocked<V>>> Lane<V, C> {

@@ -3,7 +3,7 @@ use super::{A, B, C, Given, OPENING, Team, UNLAWFUL, at};
 use board_live::{BoardError, Clocked, TagsEnded};
 use cell_live::{Calls, FourSlotCell, TripleCell};
 use history_core::Band;
-use matrix_core::Stamp;
+use stamps::Stamp;
 use std::alloc::Global;
 use std::test::Fail;
 

@@ -1,6 +1,6 @@
 use crate::tests::runs::play;
+use board_play::play_board;
 use history_core::{Verdict, check_order};
-use matrix_core::play_board;
 use schedule_text::{Document, Want, read_document};
 use std::test::Fail;
 

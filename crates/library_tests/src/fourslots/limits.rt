@@ -2,7 +2,8 @@
 //! step. Followed by hand, each read begins one step after its write and gets the write before, and the slots come round after
 //! four writes.
 
-use fourslot_core::{CellReport, CellSchedule, Turn, play_cell};
+use fourslot_core::{CellReport, CellSchedule, Turn};
+use fourslot_play::play_cell;
 use history_core::{Items, Kind, Op};
 use std::alloc::{AllocError, Global};
 

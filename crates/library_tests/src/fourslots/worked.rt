@@ -1,7 +1,8 @@
 //! Schedules played, with the reports that were worked out by hand. The opening is 0, the noise 987, and the writes store 1,
 //! 2 and 3.
 
-use fourslot_core::{CellReport, CellSchedule, Turn, play_cell};
+use fourslot_core::{CellReport, CellSchedule, Turn};
+use fourslot_play::play_cell;
 use history_core::{Items, Kind, MAX_LIMIT, Op, PlayError, Term, Verdict, check_order};
 use std::alloc::{AllocError, Global};
 use std::process::Abort;

@@ -3,8 +3,10 @@
 ghost use Rattle.std.specs.Prelude.{◌<◌};
 
 use crate::matrices::{A, B, C, OPENING, can_play, op, stamp, term};
-use history_core::{Band, Items, Kind, Op, PlayError, Verdict, check_order};
-use matrix_core::{BoardReport, BoardSchedule, MatrixTerm, Stamp, Wish, play_board};
+use board_play::play_board;
+use history_core::{Band, Items, Kind, Op, PlayError, Verdict, Wish, check_order};
+use matrix_core::{BoardReport, BoardSchedule, MatrixTerm};
+use stamps::Stamp;
 use std::alloc::{AllocError, Global};
 use std::process::Abort;
 use std::test::Fail;

@@ -3,8 +3,10 @@
 use crate::matrices::{
     A, B, C, OPENING, gives, op, schedule, schedule_of_two, stamp, stops_at, term,
 };
-use history_core::{Band, Kind, MAX_LIMIT};
-use matrix_core::{MatrixCore, MatrixStage, Outcome, Stamp, Stamped, Wish};
+use history_core::{Band, Kind, MAX_LIMIT, Wish};
+use matrix_core::Outcome;
+use matrix_play::{MatrixCore, MatrixStage};
+use stamps::{Stamp, Stamped};
 use std::test::Fail;
 
 /// Two writes whose accesses alternate, and a read of the later one, stepped by hand.

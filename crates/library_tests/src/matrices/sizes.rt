@@ -3,8 +3,8 @@
 ghost use Rattle.std.specs.Prelude.{◌<◌};
 
 use crate::matrices::{A, B, OPENING, op, play, schedule, stamp};
-use history_core::{Band, Items, Kind, MAX_LIMIT, PlayError, Verdict, check_order};
-use matrix_core::{MatrixReport, MatrixSchedule, MatrixTerm, Wish};
+use history_core::{Band, Items, Kind, MAX_LIMIT, PlayError, Verdict, Wish, check_order};
+use matrix_core::{MatrixReport, MatrixSchedule, MatrixTerm};
 use std::alloc::{AllocError, Global};
 use std::test::Fail;
 

@@ -1,7 +1,7 @@
 use super::A;
 use history_core::{Items, MAX_LIMIT, Verdict};
-use matrix_core::Stamp;
 use schedule_text::{Counts, Line, Report, put_item, put_number, put_stamp, report_text};
+use stamps::Stamp;
 use std::alloc::{AllocError, Global};
 use std::test::Fail;
 

@@ -10,10 +10,10 @@ use Rattle.history_core.specs.Schedules.{access_at, Span, steps_of}
 use Rattle.history_core.proofs.Played.{later_operation}
 use Rattle.fourslot_core.specs.Accesses.{IsBefore}
 use Rattle.fourslot_core.proofs.Pushed.{of_before, to_before}
-use Rattle.matrix_core.specs.declared.stamp.Stamp.{Stamp}
-use Rattle.matrix_core.specs.Stamps.{first_stamp}
-use Rattle.matrix_core.specs.Choices.{AllChoose, Choice, Chooses, ChoosesByKind, IsFrom, IsIn}
-use Rattle.matrix_core.specs.Answers.{IsReadOf, Intervals}
+use Rattle.stamps.specs.declared.stamp.Stamp.{Stamp}
+use Rattle.stamps.specs.Stamps.{first_stamp}
+use Rattle.stamps.specs.Choices.{AllChoose, Choice, Chooses, ChoosesByKind, IsFrom, IsIn}
+use Rattle.matrix_core.specs.CellAnswers.{IsReadOf, Intervals}
 use Rattle.matrix_core.proofs.choices.ByAccesses.{done_event, in_done}
 
 -- an access of one position

@@ -24,16 +24,16 @@ use Rattle.history_core.proofs.Positions.{positions_length, positions_rise, step
 use Rattle.fourslot_core.specs.Accesses.{IsBefore}
 use Rattle.fourslot_core.specs.Traces.{source_record}
 use Rattle.fourslot_core.proofs.Pushed.{get_cases, of_before, to_before}
-use Rattle.matrix_core.specs.declared.stamp.Stamp.{Stamp}
-use Rattle.matrix_core.specs.declared.stamp.Stamped.{Stamped}
-use Rattle.matrix_core.specs.Events.{first_record, other}
-use Rattle.matrix_core.specs.Choices.{Choice, HasChoices, IsChoiceOf, IsEarlier, IsIn}
-use Rattle.matrix_core.specs.Answers.{AllGather, choices_of, Gathers, greatest, IsAnswer, IsReadOf, numbered, record_of}
+use Rattle.stamps.specs.declared.stamp.Stamp.{Stamp}
+use Rattle.stamps.specs.declared.stamp.Stamped.{Stamped}
+use Rattle.matrix_core.specs.Lines.{first_record, other}
+use Rattle.stamps.specs.Choices.{Choice, HasChoices, IsChoiceOf, IsEarlier, IsIn}
+use Rattle.matrix_core.specs.CellAnswers.{AllGather, choices_of, Gathers, greatest, IsAnswer, IsReadOf, numbered, record_of}
 use Rattle.matrix_core.specs.ByAccesses.{choice_at, chooses_at, ChoosesBy, column, IsChosenBy, IsCut, row, intervals_at}
-use Rattle.matrix_core.proofs.matrices.Accesses.{other_differs, other_inside, other_reached}
-use Rattle.matrix_core.proofs.choices.Answers.{all_choose, in_mine, mine_in, mine_more, mine_same}
+use Rattle.matrix_core.proofs.lines.Others.{other_differs, other_inside, other_reached}
+use Rattle.matrix_core.proofs.choices.Gathered.{all_choose, in_mine, mine_in, mine_more, mine_same}
 use Rattle.matrix_core.proofs.lists.Elements.{get_middle}
-use Rattle.matrix_core.proofs.matrices.Steps.{get_exists}
+use Rattle.matrix_core.proofs.lists.Elements.{get_exists}
 
 -- the choices of a term by process and operation
 pub record HasRecords {R : Type 0} (at : ℕ) (span : Span R) (width : ℕ) (chosen : ℕ → ℕ → Stamped R)

@@ -7,19 +7,19 @@ use Rattle.std.proofs.lemmas.Option.{none-some, same_Some}
 use Rattle.history_core.specs.declared.history.Op.{Op}
 use Rattle.history_core.specs.Schedules.{Span, steps_of}
 use Rattle.fourslot_core.specs.Traces.{source_record}
-use Rattle.matrix_core.specs.declared.stamp.Stamp.{Stamp}
-use Rattle.matrix_core.specs.declared.stamp.Stamped.{Stamped}
-use Rattle.matrix_core.specs.declared.matrix.Progress.{Progress}
-use Rattle.matrix_core.specs.Answers.{record_of}
-use Rattle.matrix_core.specs.Choices.{Choice, HasChoices, IsAtMost, IsEarlier, IsFrom, IsGreatestChoice, IsIn}
-use Rattle.matrix_core.specs.Events.{first_record}
-use Rattle.matrix_core.specs.inner.MatrixPlays.{greatest_own}
-use Rattle.matrix_core.specs.Stamps.{greater}
-use Rattle.matrix_core.proofs.choices.Answers.{in_mine, mine_in, mine_rise}
+use Rattle.stamps.specs.declared.stamp.Stamp.{Stamp}
+use Rattle.stamps.specs.declared.stamp.Stamped.{Stamped}
+use Rattle.matrix_core.specs.declared.progress.Progress.{Progress}
+use Rattle.matrix_core.specs.CellAnswers.{record_of}
+use Rattle.stamps.specs.Choices.{Choice, HasChoices, IsAtMost, IsEarlier, IsFrom, IsGreatestChoice, IsIn}
+use Rattle.matrix_core.specs.Lines.{first_record}
+use Rattle.matrix_core.specs.inner.Operations.{greatest_own}
+use Rattle.stamps.specs.Stamps.{greater}
+use Rattle.matrix_core.proofs.choices.Gathered.{in_mine, mine_in, mine_rise}
 use Rattle.matrix_core.proofs.choices.ByAccesses.{HasRecords}
-use Rattle.matrix_core.proofs.choices.Stamps.{at_most_refl, at_most_trans, greater_first, greater_is, greater_second}
+use Rattle.stamps.proofs.choices.Stamps.{at_most_refl, at_most_trans, greater_first, greater_is, greater_second}
 use Rattle.matrix_core.proofs.choices.Made.{IsMade}
-use Rattle.matrix_core.proofs.matrices.Steps.{get_exists}
+use Rattle.matrix_core.proofs.lists.Elements.{get_exists}
 
 module _ {R : Type 0} where
   -- the greatest own record is one of them, and none of them is greater

@@ -1,10 +1,11 @@
--- Elements of a list after a write, and of a list that has one element more: each is the new one, or one of before.
+-- Elements of a list after a write, and of a list that has one element more: each is the new one, or one of before. Tests of numbers.
 use Rattle.std.proofs.Common.{◌≡◌, ◌≢◌, ℕ, zero, suc, ◌+◌, ◌<◌, List, [], ◌∷◌, ◌++◌, length, map, take, drop, replicate, set, refl, sym}
-use Rattle.std.proofs.Common.{◌∙◌, ap, add-one, arith, ◌⊎◌, inl, inr, ⊎_elim}
-use Rattle.std.specs.Prelude.{slice_get, Some}
+use Rattle.std.proofs.Common.{◌∙◌, ap, add-one, arith, ◌⊎◌, inl, inr, ⊎_elim, true, false}
+use Rattle.std.specs.Prelude.{slice_get, Some, nat_eq, ◌-◌}
 use Rattle.std.proofs.lemmas.Option.{slice_get_within, slice_get-get_or, get_or_from_slice_get, none-some, same_Some}
 use Rattle.std.specs.List.{fold}
-use Rattle.std.proofs.lemmas.List.{get_or-set_same, get_or-set_other, length-set, length-replicate, get_or-replicate}
+use Rattle.std.proofs.lemmas.List.{get_or-set_same, get_or-set_other, length-set, length-replicate, get_or-replicate, take_rest}
+use Rattle.std.proofs.lemmas.Bool.Decides.{nat_tests}
 
 pub same_or_not : (k i : ℕ) → (k ≡ i) ⊎ (k ≢ i)
 same_or_not zero zero = inl refl
@@ -90,3 +91,23 @@ get_unset (x ∷ xs) (suc i) (suc k) y ne = get_unset xs i k y (λ e. ne (ap suc
 pub map_same : {X : Type 0} (xs : List X) → map (λ x. x) xs ≡ xs
 map_same [] = refl
 map_same (x ∷ xs) = ap (λ ys. x ∷ ys) (map_same xs)
+
+pub get_exists : {X : Type 0} (xs : List X) (p : ℕ) → p < length xs → (x : X) × (slice_get xs p ≡ Some x)
+get_exists [] p h = absurd (omega arith)
+get_exists (x ∷ xs) zero h = (x, refl)
+get_exists (x ∷ xs) (suc p) h = get_exists xs p (omega arith)
+
+pub drop_append : {X : Type 0} (xs ys : List X) → drop (length xs) (xs ++ ys) ≡ ys
+drop_append [] ys = refl
+drop_append (x ∷ xs) ys = drop_append xs ys
+
+-- what stands behind the first elements of a joined list
+pub rest_is : {X : Type 0} (xs ys zs : List X) (first : ℕ) → zs ≡ xs ++ ys → first ≡ length xs →
+    take (length zs - first) (drop first zs) ≡ ys
+rest_is xs ys zs first e f = take_rest zs first ∙ (ap (λ n. drop n zs) f ∙ (ap (drop (length xs)) e ∙ drop_append xs ys))
+
+pub same : (a b : ℕ) → a ≡ b → nat_eq a b ≡ true
+same a b h = grind (arith, nat_tests)
+
+pub not_same : (a b : ℕ) → a ≢ b → nat_eq a b ≡ false
+not_same a b h = grind (arith, nat_tests)

@@ -17,12 +17,12 @@ use Rattle.std.proofs.lemmas.Option.{slice_get_within, slice_get-get_or, slice_g
 use Rattle.history_core.specs.declared.history.Op.{Op}
 use Rattle.history_core.specs.Orders.{times_of, is_write}
 use Rattle.history_core.proofs.Places.{get_pushed_cases}
-use Rattle.matrix_core.specs.declared.stamp.Stamp.{Stamp}
+use Rattle.stamps.specs.declared.stamp.Stamp.{Stamp}
 use Rattle.matrix_core.specs.declared.order.Listed.{Listed}
-use Rattle.matrix_core.specs.Stamps.{IsBelow}
+use Rattle.stamps.specs.Stamps.{IsBelow}
 use Rattle.matrix_core.specs.Listings.{is_listed, IsInOrder}
 use Rattle.matrix_core.proofs.lists.Elements.{same_or_not}
-use Rattle.matrix_core.proofs.matrices.Steps.{same, not_same}
+use Rattle.matrix_core.proofs.lists.Elements.{same, not_same}
 
 pub times_push : (p q : ℕ) (xs : List ℕ) → times_of p (xs ++ q ∷ []) ≡ times_of p xs + (if nat_eq q p then 1 else 0)
 times_push p q xs = sum_by-append (λ r. if nat_eq r p then 1 else 0) xs (q ∷ [])

@@ -1,20 +1,19 @@
 -- A step without an operation: its process has made as many steps as its plan has accesses.
-use Rattle.std.proofs.Common.{◌≡◌, ◌≢◌, ℕ, ◌+◌, ◌-◌, ◌*◌, ◌/◌, ◌<◌, ◌≤◌, List, [], ◌∷◌, ◌++◌, length, take, drop, get_or, set, refl, sym}
-use Rattle.std.proofs.Common.{◌∙◌, ap, subst, arith, ⊎_elim}
-use Rattle.std.specs.Prelude.{slice_get, Some, None, nat_eq}
+use Rattle.std.proofs.Common.{◌≡◌, ◌≢◌, ℕ, ◌+◌, ◌-◌, ◌/◌, ◌<◌, ◌≤◌, List, [], ◌∷◌, ◌++◌, length, take, drop, get_or, set, refl, sym, ◌∙◌}
+use Rattle.std.proofs.Common.{ap, subst, arith, ⊎_elim}
+use Rattle.std.specs.Prelude.{slice_get, Some, None, nat_eq, ◌-◌}
 use Rattle.std.proofs.lemmas.Option.{same_Some, none-some, slice_get_past, slice_get_within}
 use Rattle.std.proofs.lemmas.List.{get_or-set_same, get_or-set_other, length-set, length-take-le}
 use Rattle.std.proofs.lemmas.List.Sums.{count_by-le-length}
-use Rattle.history_core.specs.declared.play.Wish.{Wish}
+use Rattle.history_core.specs.declared.wish.Wish.{Wish}
 use Rattle.history_core.specs.Schedules.{steps_of, planned, Overruns, HasOperations, IsFirstOverrun}
 use Rattle.history_core.proofs.Positions.{steps_mine, steps_other}
 use Rattle.history_core.proofs.Terms.{steps_in}
-use Rattle.history_core.proofs.Overruns.{planned_in, more_has_operations, first_overrun}
+use Rattle.history_core.proofs.Overruns.{planned_in, more_has_operations, first_overrun, each_has_operations}
 use Rattle.matrix_core.specs.declared.schedule.MatrixTerm.{MatrixTerm}
 use Rattle.matrix_core.specs.Runs.{accesses_by, span_by, spans_by, step_count}
 use Rattle.matrix_core.specs.declared.overruns.Cells.{Cells}
-use Rattle.matrix_core.proofs.lists.Elements.{same_or_not, split_at, take_next}
-use Rattle.matrix_core.proofs.matrices.Steps.{get_exists}
+use Rattle.matrix_core.proofs.lists.Elements.{same_or_not, split_at, take_next, get_exists}
 
 module _ {R : Type 0} (cells : Cells) (term : MatrixTerm R) where
   pub overruns_here : (i who c : ℕ) (plan : List (Wish R)) → slice_get term.steps i ≡ Some who → slice_get term.plans who ≡ Some plan →
@@ -139,3 +138,11 @@ module _ {R : Type 0} (cells : Cells) where
       (steps_in (spans_by cells (take i terms)) + step)
       = first_overrun (spans_by cells (take i terms)) (span_by cells term) (spans_by cells (drop (i + 1) terms)) step b.left o first in
       rw e (rw (b.is ∙ sym (steps_are (take i terms))) f)
+
+-- each step of a term has an operation where each step of the schedule has one
+pub term_left : {R : Type 0} (cells : Cells) (all : List (MatrixTerm R)) (i : ℕ) (term : MatrixTerm R) → slice_get all i ≡ Some term →
+    HasOperations (spans_by cells all) → (step : ℕ) → ¬ Overruns (span_by cells term) step
+term_left cells all i term h left =
+    let e : spans_by cells all ≡ spans_by cells (take i all) ++ span_by cells term ∷ spans_by cells (drop (i + 1) all) =
+    ap (spans_by cells) (split_at all i term h) ∙ spans_join cells (take i all) (term ∷ drop (i + 1) all) in
+    each_has_operations (spans_by cells (take i all)) (span_by cells term) (spans_by cells (drop (i + 1) all)) (subst HasOperations e left)

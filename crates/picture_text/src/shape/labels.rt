@@ -5,8 +5,8 @@ ghost use Rattle.schedule_text.specs.telling.Text.{kind_text};
 ghost use Rattle.picture_text.specs.Shapes.{item_words, kind_words, stamp_words, words_head};
 
 use history_core::{Band, Kind};
-use matrix_core::Stamp;
 use schedule_text::{Line, put_item, put_stamp};
+use stamps::Stamp;
 
 #[tactic(auto, unfolding(crate::specs::Shapes::words_head), using(std::proofs::Common::append_assoc))]
 pub fn put_words_head(line: &mut Line, x: u64, y: u64)

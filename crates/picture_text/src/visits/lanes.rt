@@ -1,7 +1,7 @@
 //! The lanes of the cells of a board, and whose step of a cell an access is.
 
 ghost use Rattle.std.specs.Prelude.{◌≡◌, ◌≤◌, ◌<◌, ◌-◌, ◌^◌};
-ghost use Rattle.matrix_core.specs.Events.{other};
+ghost use Rattle.matrix_core.specs.Lines.{other};
 ghost use Rattle.picture_text.specs.Visits.{access_lane, access_turn, board_lanes, cell_lane, widest};
 
 use crate::scene::Lanes;

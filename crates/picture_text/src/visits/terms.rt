@@ -1,7 +1,7 @@
 //! The slot accesses of a board's schedule, term by term.
 
 ghost use Rattle.std.specs.Prelude.{◌≡◌, ◌≤◌, ◌<◌, ◌+◌, ◌++◌, IfOk, OnOk, drop, length, slice_get};
-ghost use Rattle.matrix_core.specs.BoardReports.{board_span};
+ghost use Rattle.matrix_core.specs.Runs.{board_span};
 ghost use Rattle.matrix_core.specs.Runs.{CanPlay, max_position, step_count};
 ghost use Rattle.picture_text.specs.Visits.{AllFit, board_visits, first_of, ops_between, term_visits, terms_visits};
 

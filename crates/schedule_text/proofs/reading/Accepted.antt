@@ -6,7 +6,7 @@ use Rattle.std.proofs.lemmas.List.Sums.{sum_by-cons}
 use Rattle.std.specs.List.{list_all}
 use Rattle.std.specs.Prelude.{⊤}
 use Rattle.history_core.specs.declared.band.Band.{Band}
-use Rattle.history_core.specs.declared.play.Wish.{Wish}
+use Rattle.history_core.specs.declared.wish.Wish.{Wish}
 use Rattle.matrix_core.specs.Runs.{CanPlay, IsTerm, step_count}
 use Rattle.matrix_core.specs.declared.schedule.MatrixTerm.{MatrixTerm}
 use Rattle.schedule_text.specs.reading.Terms.{single}

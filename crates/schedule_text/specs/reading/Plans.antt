@@ -3,8 +3,8 @@ use Rattle.std.specs.Prelude.{ℕ, List, length, Bool, true, nat_le, nat_lt, ◌
 use Rattle.std.specs.List.{list_all}
 use Rattle.history_core.specs.Band.{fits}
 use Rattle.history_core.specs.declared.band.Band.{Band}
-use Rattle.history_core.specs.declared.play.Wish.{Wish}
-use Rattle.history_core.specs.declared.play.Wish.TheVariants.{Write, Read}
+use Rattle.history_core.specs.declared.wish.Wish.{Wish}
+use Rattle.history_core.specs.declared.wish.Wish.TheVariants.{Write, Read}
 use Rattle.matrix_core.specs.declared.schedule.MatrixTerm.{MatrixTerm}
 use Rattle.schedule_text.specs.reading.Ranges.{count_in_range, limit_in_range, steps_in_range}
 

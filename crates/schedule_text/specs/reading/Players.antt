@@ -3,7 +3,7 @@ use Rattle.std.specs.Prelude.{ℕ, ◌≤◌, List, length, All, IsTrue}
 use Rattle.history_core.specs.Band.{fits}
 use Rattle.history_core.specs.Schedules.{max_limit}
 use Rattle.history_core.specs.declared.band.Band.{Band}
-use Rattle.history_core.specs.declared.play.Wish.{Wish}
+use Rattle.history_core.specs.declared.wish.Wish.{Wish}
 use Rattle.matrix_core.specs.Runs.{CanPlay}
 use Rattle.schedule_text.specs.reading.Plans.{members, wish_fits}
 use Rattle.schedule_text.specs.declared.reading.document.Document.{Document}

@@ -4,7 +4,7 @@ use Rattle.std.specs.Prelude.{ℕ, List, [], ◌∷◌, length, Bool, true, fals
 use Rattle.serde_json.specs.Data.{Data}
 use Rattle.serde_json.specs.Find.{get}
 use Rattle.history_core.specs.declared.band.Band.{Band}
-use Rattle.history_core.specs.declared.play.Wish.{Wish}
+use Rattle.history_core.specs.declared.wish.Wish.{Wish}
 use Rattle.matrix_core.specs.declared.schedule.MatrixTerm.{MatrixTerm}
 use Rattle.schedule_text.specs.declared.reading.document.DocError.{DocError}
 use Rattle.schedule_text.specs.declared.reading.document.DocError.TheVariants.{Range}

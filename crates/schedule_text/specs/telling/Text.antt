@@ -14,7 +14,7 @@ use Rattle.history_core.specs.declared.history.Verdict as verdict
 use Rattle.history_core.specs.declared.history.Verdict.TheVariants.{Lawful, Listing, Precedence, Reading, Limit}
 use Rattle.matrix_core.specs.declared.schedule.BoardReport.{BoardReport}
 use Rattle.matrix_core.specs.declared.schedule.MatrixReport.{MatrixReport}
-use Rattle.matrix_core.specs.declared.stamp.Stamp.{Stamp}
+use Rattle.stamps.specs.declared.stamp.Stamp.{Stamp}
 use Rattle.schedule_text.specs.declared.telling.report.Counts.{Counts}
 use Rattle.schedule_text.specs.declared.telling.report.Report.{Report}
 use Rattle.schedule_text.specs.declared.telling.report.Report.TheVariants.{Verdict, Cell, Matrix, Board, Race}

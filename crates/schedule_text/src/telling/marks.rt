@@ -9,7 +9,8 @@ use crate::telling::pieces::{
 };
 use fourslot_core::CellReport;
 use history_core::{Band, Items, Op};
-use matrix_core::{BoardReport, MatrixReport, Stamp};
+use matrix_core::{BoardReport, MatrixReport};
+use stamps::Stamp;
 use std::alloc::AllocError;
 
 /// What a player tells of each operation besides its history.

@@ -5,7 +5,7 @@ ghost use Rattle.schedule_text.specs.telling.Text.{interval_text, item_text, kin
 
 use crate::telling::line::Line;
 use history_core::{Band, Kind, Op};
-use matrix_core::Stamp;
+use stamps::Stamp;
 use std::alloc::AllocError;
 
 #[tactic(auto, unfolding(crate::specs::telling::Text::op_head), using(std::proofs::Common::append_assoc))]

@@ -1,12 +1,12 @@
 -- What `first_break` says of the slice it says of the order that it shows.
 use Rattle.std.proofs.Common.{◌≡◌, [], List, ℕ, IfSome, Option, subst, ◌∙◌}
 use Rattle.std.proofs.lemmas.Result.{IfOk-weaker}
-use Rattle.history_core.specs.Breaks.{IsFirstBreak, verdict_of}
+use Rattle.order_witnesses.specs.Breaks.{IsFirstBreak, verdict_of}
 use Rattle.history_core.specs.Orders.{IsVerdict}
 use Rattle.history_core.specs.declared.band.Band.{Band}
-use Rattle.history_core.specs.declared.breaks.Break.{Break}
+use Rattle.order_witnesses.specs.declared.breaks.Break.{Break}
 use Rattle.history_core.specs.declared.history.History.{History}
-use Rattle.matrix_core.specs.declared.stamp.Stamp.{Stamp}
+use Rattle.stamps.specs.declared.stamp.Stamp.{Stamp}
 use Rattle.picture_text.specs.declared.scene.Lanes.TheVariants.{Actors}
 use Rattle.picture_text.specs.declared.scene.Scene.{Scene}
 use Rattle.picture_text.specs.declared.scene.Visit.{Visit}

@@ -1,6 +1,6 @@
 -- A script for each task so far.
 use Rattle.std.proofs.Common.{◌≡◌, All, List, length, true}
-use Rattle.history_core.specs.declared.play.Wish.{Wish}
+use Rattle.history_core.specs.declared.wish.Wish.{Wish}
 use Rattle.board_live.specs.Logs.{Obeys}
 use Rattle.soak.specs.declared.record.Record.{Record}
 use Rattle.soak.proofs.boards.scripts.Given as goal

@@ -3,7 +3,7 @@ use Rattle.std.proofs.Common.{◌≡◌, ℕ, ◌<◌, List, slice_get, get_or, 
 use Rattle.std.proofs.lemmas.Option.{slice_get-get_or, slice_get_read}
 use Rattle.history_core.specs.declared.history.Op.{Op}
 use Rattle.history_core.specs.Orders.{ListsPlaces}
-use Rattle.history_core.specs.inner.Ranges.{writes_after}
+use Rattle.history_core.specs.Ranges.{writes_after}
 use Rattle.history_core.proofs.Limits.{counts_start, counts_step, counts_all, counts_broken}
 use Rattle.history_core.proofs.check.refusal.keeps_limit.Goals as goal
 

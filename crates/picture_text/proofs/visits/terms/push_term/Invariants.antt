@@ -1,6 +1,6 @@
 -- The accesses of the processes so far are told.
 use Rattle.std.proofs.Common.{◌≡◌, ◌++◌}
-use Rattle.matrix_core.specs.BoardReports.{board_span}
+use Rattle.matrix_core.specs.Runs.{board_span}
 use Rattle.picture_text.specs.Visits.{term_visits}
 use Rattle.picture_text.proofs.visits.terms.push_term.Given as goal
 

@@ -1,0 +1,5 @@
+pub mod BoardEvents
+pub mod BoardReports
+pub mod BoardSteps
+pub mod Boards
+pub mod inner

@@ -1,0 +1,2 @@
+-- What private functions alone cite. No public contract names any of this.
+pub mod BoardPlays

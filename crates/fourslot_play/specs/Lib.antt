@@ -1,0 +1,4 @@
+pub mod CellReports
+pub mod ReportOrders
+pub mod Reports
+pub mod inner

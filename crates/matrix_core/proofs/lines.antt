@@ -1,0 +1,3 @@
+-- The progress of a process, whatever its cells are.
+pub mod Accesses
+pub mod Others

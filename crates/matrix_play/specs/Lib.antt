@@ -1,0 +1,4 @@
+pub mod MatrixEvents
+pub mod MatrixReports
+pub mod MatrixRuns
+pub mod inner

@@ -1,0 +1,3 @@
+-- What private functions alone cite. No public contract names any of this.
+pub mod MatrixPlays
+pub mod PlayedReports

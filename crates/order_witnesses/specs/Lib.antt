@@ -1,0 +1,4 @@
+-- What the contracts speak of.
+pub mod Breaks
+pub mod Points
+pub mod inner

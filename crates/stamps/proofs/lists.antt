@@ -1,0 +1,2 @@
+-- Lists: sorting.
+pub mod Sorting

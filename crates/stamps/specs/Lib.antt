@@ -1,0 +1,5 @@
+pub mod CallChoices
+pub mod CallInstance
+pub mod Calls
+pub mod Choices
+pub mod Stamps

@@ -1,0 +1,8 @@
+//! Stamps, which order the records of several writers; what operations and calls choose by them; and the one order of a running
+//! board's calls. The idea of tags is credited to P. Vitányi and B. Awerbuch, FOCS 1986; the rules are this project's own.
+#![tactic(auto)]
+
+pub mod laws;
+mod stamp;
+
+pub use stamp::{Stamp, Stamped};
