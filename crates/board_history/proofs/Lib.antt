@@ -1,0 +1,6 @@
+mod Plans
+mod Sorts
+mod Calls
+mod Atomic
+mod There
+mod Last

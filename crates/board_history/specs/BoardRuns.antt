@@ -1,0 +1,97 @@
+-- A run of a board whose processes make their steps in one time: what each process did, as lists. Each call reads the register of
+-- each other process for it, rising, chooses, and then writes to the register of each other process, rising. A register is atomic by
+-- its intervals (L. Lamport, On Interprocess Communication, Parts I and II, Distributed Computing 1, 1986); the rules of the matrix are
+-- this project's own.
+use Rattle.std.specs.Prelude.{◌≡◌, ◌≢◌, ℕ, ◌+◌, ◌-◌, ◌*◌, ◌<◌, ◌≤◌, List, [], ◌∷◌, length, map, slice_get, Some, zero, suc}
+use Rattle.history_core.specs.declared.history.Kind.{Kind}
+use Rattle.history_core.specs.Schedules.{positions}
+use Rattle.stamps.specs.declared.stamp.Stamped.{Stamped}
+use Rattle.matrix_core.specs.Lines.{other}
+use Rattle.stamps.specs.Choices.{Choice, ChoosesByKind}
+use Rattle.matrix_core.specs.CellAnswers.{greatest, Intervals, IsReadOf}
+
+-- the intervals of accesses that began and ended at these times
+abbrev pub intervals : List ℕ → List ℕ → Intervals
+intervals begins ends = record { begins = slice_get begins; ends = slice_get ends }
+
+-- the steps of a call: so many reads, and as many writes, of so many steps each
+abbrev pub steps_of_call : ℕ → ℕ → ℕ
+steps_of_call width n = (2 * (n - 1)) * width
+
+-- a call that has ended: the greatest record that it saw, and the record that it chose
+pub record Called (V : Type 0) : Type 0 where
+  pub kind : Kind
+  pub seen : Stamped V
+  pub chosen : Stamped V
+
+-- what a process wrote to another one, and what it read from one: each answer with its number among the records written, 0 that of
+-- the opening
+pub record Written (V : Type 0) : Type 0 where
+  pub items : List (Stamped V)
+  pub begins : List ℕ
+  pub ends : List ℕ
+
+pub record Answered (V : Type 0) : Type 0 where
+  pub items : List (Stamped V)
+  pub numbers : List ℕ
+  pub begins : List ℕ
+  pub ends : List ℕ
+
+-- what a process did: when it made its steps, its calls, and what it wrote to and read from each process
+pub record Did (V : Type 0) : Type 0 where
+  pub times : List ℕ
+  pub calls : List (Called V)
+  pub writes : ℕ → Written V
+  pub reads : ℕ → Answered V
+
+module _ {V : Type 0} where
+  -- the record that a process had before call k: the one that its call before chose, or the opening
+  abbrev pub own_before : Stamped V → List (Called V) → ℕ → Stamped V
+  own_before first calls zero = first
+  own_before first [] (suc k) = first
+  own_before first (c ∷ calls) (suc k) = own_before c.chosen calls k
+
+  -- accesses number `access` of each call began and ended at these times
+  pub record AreAccesses (width n : ℕ) (did : Did V) (access : ℕ) (begins ends : List ℕ) : Type 0 where
+    pub begun : (k : ℕ) → k < length did.calls →
+        slice_get begins k ≡ slice_get did.times (k * steps_of_call width n + access * width)
+    pub ended : (k : ℕ) → k < length did.calls →
+        slice_get ends k ≡ slice_get did.times (k * steps_of_call width n + (access * width + (width - 1)))
+    pub all : (length begins ≡ length did.calls) × (length ends ≡ length did.calls)
+
+  -- what call k saw: the greatest of its process's own record and of one answer of each other process
+  pub record Sees (n : ℕ) (first : Stamped V) (i : ℕ) (did : Did V) (k : ℕ) (seen : Stamped V) : Type 0 where
+    pub answers : List (Stamped V)
+    pub each : length answers + 1 ≡ n
+    pub answered : (e : ℕ) (answer : Stamped V) → slice_get answers e ≡ Some answer →
+        slice_get (did.reads (other i e)).items k ≡ Some answer
+    pub greatest : seen ≡ greatest (own_before first did.calls k) answers
+
+  -- the calls of process i, all of which have ended
+  pub record IsProcess (width n limit : ℕ) (first : Stamped V) (i : ℕ) (did : Did V) : Type 0 where
+    pub long : length did.times ≡ length did.calls * steps_of_call width n
+    pub reads : (e : ℕ) → e + 1 < n → AreAccesses width n did e (did.reads (other i e)).begins (did.reads (other i e)).ends
+    pub writes : (e : ℕ) → e + 1 < n → AreAccesses width n did (n - 1 + e) (did.writes (other i e)).begins (did.writes (other i e)).ends
+    pub written : (e : ℕ) → e + 1 < n → (did.writes (other i e)).items ≡ map (λ c. c.chosen) did.calls
+    pub sees : (k : ℕ) (c : Called V) → slice_get did.calls k ≡ Some c → Sees n first i did k c.seen
+    pub chooses : (k place : ℕ) (c : Called V) → slice_get did.calls k ≡ Some c →
+        ChoosesByKind limit (record { place = place; who = i; kind = c.kind; stamp = c.chosen.stamp; item = c.chosen.item })
+        c.kind c.seen.stamp c.seen.item
+
+  -- *An atomic register* of one writer and one reader: each answer is the record with its number, which is at least that of each write
+  -- that ended before the read began, and the write with it began before the read ended
+  pub record IsRegister (first : Stamped V) (writes : Written V) (reads : Answered V) : Type 0 where
+    pub source : (m number : ℕ) (x : Stamped V) → slice_get reads.numbers m ≡ Some number → slice_get reads.items m ≡ Some x →
+        slice_get (first ∷ writes.items) number ≡ Some x
+    pub read_of : (m number : ℕ) → slice_get reads.numbers m ≡ Some number →
+        IsReadOf (intervals writes.begins writes.ends) (intervals reads.begins reads.ends) m number
+    pub numbered : length reads.numbers ≡ length reads.items
+
+  -- *A run of a board*: the steps of its processes make a schedule, each process made its calls, and each register between two
+  -- processes is atomic
+  pub record IsBoardRun (width n limit : ℕ) (first : Stamped V) (steps : List ℕ) (did : ℕ → Did V) : Type 0 where
+    pub size : (2 ≤ n) × (n ≤ 16) × (0 < width)
+    pub within : (step who : ℕ) → slice_get steps step ≡ Some who → who < n
+    pub scheduled : (i : ℕ) → i < n → (did i).times ≡ positions 1 i steps
+    pub each : (i : ℕ) → i < n → IsProcess width n limit first i (did i)
+    pub registers : (i j : ℕ) → i < n → j < n → i ≢ j → IsRegister first ((did i).writes j) ((did j).reads i)

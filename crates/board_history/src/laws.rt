@@ -1,0 +1,28 @@
+//! Laws over the definitions.
+
+ghost use Rattle.std.specs.Prelude.{◌≡◌, ℕ, List, [], ◌∷◌, Option, Some};
+ghost use Rattle.history_core.specs.declared.history.Op.{Op};
+ghost use Rattle.history_core.specs.Orders.{IsAtomicOrder, latest, RefusesLawfully};
+ghost use Rattle.stamps.specs.declared.stamp.Stamp.{Stamp};
+ghost use Rattle.stamps.specs.declared.stamp.Stamped.{Stamped};
+ghost use Rattle.matrix_core.specs.Lines.{first_record};
+ghost use Rattle.matrix_core.specs.Listings.{IsInOrder};
+ghost use Rattle.board_history.specs.BoardRuns.{Did, IsBoardRun};
+ghost use Rattle.board_history.specs.Histories.{IsGreatestOwn, IsHistory};
+
+/// Every run of a board whose processes make their steps in one time is a history, the order of its calls by stamp is atomic by their
+/// intervals, and it refuses lawfully. After it the register holds the greatest record that any process has.
+pub fn runs_are_atomic<V>()
+    ensures atomic { (width n limit : ℕ) (opening : V) (steps : List ℕ) (did : ℕ → Did V) (ops : List (Op V)) (stamps : List (Option Stamp))
+        (order : List ℕ) → IsBoardRun width n limit (first_record opening) steps did → IsHistory width n did ops stamps →
+        IsInOrder ops stamps order → IsAtomicOrder (λ x y. x ≡ y) opening ops order }
+    ensures lawful { (width n limit : ℕ) (opening : V) (steps : List ℕ) (did : ℕ → Did V) (ops : List (Op V)) (stamps : List (Option Stamp))
+        (order : List ℕ) → IsBoardRun width n limit (first_record opening) steps did → IsHistory width n did ops stamps →
+        IsInOrder ops stamps order → RefusesLawfully (record { first = 0; limit = limit } ∷ []) ops order }
+    ensures last { (width n limit : ℕ) (opening : V) (steps : List ℕ) (did : ℕ → Did V) (ops : List (Op V)) (stamps : List (Option Stamp))
+        (order : List ℕ) (greatest : Stamped V) → IsBoardRun width n limit (first_record opening) steps did → IsHistory width n did ops stamps →
+        IsInOrder ops stamps order → IsGreatestOwn n (first_record opening) did greatest → latest opening ops order ≡ Some greatest.item }
+    ensures there { (width n limit : ℕ) (opening : V) (steps : List ℕ) (did : ℕ → Did V) →
+        IsBoardRun width n limit (first_record opening) steps did →
+        (ops : List (Op V)) × (stamps : List (Option Stamp)) × (order : List ℕ) × IsHistory width n did ops stamps × IsInOrder ops stamps order }
+{}
