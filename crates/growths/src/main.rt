@@ -8,6 +8,7 @@ mod cells;
 mod documents;
 mod lanes;
 mod print;
+mod steps;
 mod team;
 
 use crate::documents::Stopped;
@@ -38,6 +39,7 @@ fn make<R: Print + Threads + Sync>(rt: &R, alloc: Global, call: &str, on: &str) 
         "read_document" => calls::read(rt, alloc, on),
         "report_text" => calls::text(rt, alloc, on),
         "play_cell" | "play_matrix" | "play_board" => calls::play(rt, alloc, on),
+        "step_cell" => steps::step(rt, on),
         "new_matrix" => calls::new_matrix(rt, alloc, on),
         "make_cell" => cells::make(rt, alloc, on),
         "new_board" => boards::new(rt, alloc, on),

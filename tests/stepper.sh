@@ -1,0 +1,11 @@
+# The page on which one steps the four slots: its table against the proved cell and, where Chromium is installed, what it shows
+# against what `fsr play` prints.
+if ! command -v python3 >/dev/null 2>&1; then
+    fail "docs/stepper.html" "there is no python3"
+elif ! has_program growths || ! has_program fsr; then
+    fail "docs/stepper.html" "growths or fsr wasn't built"
+elif timeout 300 python3 tests/stepper.py crates/growths/out/growths crates/fsr/out/fsr >"$room/out" 2>&1; then
+    pass "docs/stepper.html: $(tail -n 1 "$room/out")"
+else
+    fail "docs/stepper.html" "$(tail -n 3 "$room/out")"
+fi
