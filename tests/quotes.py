@@ -1,11 +1,11 @@
 """What docs/ quotes from the code has to stand there.
 
-    quotes.py FILE ..
+    quotes.py [--count] FILE ..
 
 A block that begins with ```LANGUAGE PATH has to be a stretch of the file PATH, but for its indentation. A row `| `PATH` | N | ..`
 of a table has to give the number of lines of PATH, or of files where PATH is a folder and ends with a slash. What a file of `specs/`
 in the tables of a document cites of `specs/` has to be in them too, and a sentence `the files of all tables together are F, in all L lines`
-has to have the sums of such rows. Prints each that doesn't, and how many were compared.
+has to have the sums of such rows; with --count both are counted anew and written. Prints each that doesn't, and how many were compared.
 """
 
 import os
@@ -49,12 +49,28 @@ def unlisted(document):
     return [f"{document}: {it} is in no table, and {by} cites it" for by in sorted(listed) for it in cited_by(by) if it not in listed]
 
 
+def sums_of(text):
+    """How many files the tables of a text have, and how many lines these."""
+    rows = {it[1]: int(it[2]) for it in map(ROW.match, text.split("\n")) if it and not it[1].endswith("/")}
+    return f"{len(rows)}", f"{sum(rows.values()):,}"
+
+
+def count_anew(document):
+    """Writes the counts and the sums of a document as they are."""
+    with open(document, encoding="utf-8") as file:
+        text = file.read()
+    counted = lambda it: f"| `{it[1]}` | {count_of(it[1])[0]} |" if os.path.exists(it[1]) else it[0]
+    text = re.sub(ROW.pattern, counted, text, flags=re.M)
+    text = SUMS.sub(lambda _: "the files of all tables together are {}, in all {} lines".format(*sums_of(text)), text)
+    with open(document, "w", encoding="utf-8") as file:
+        file.write(text)
+
+
 def wrong_sums(document):
     """The sums that a document tells of its tables, where they aren't those."""
     with open(document, encoding="utf-8") as file:
         text = file.read()
-    rows = {it[1]: int(it[2]) for it in map(ROW.match, text.split("\n")) if it and not it[1].endswith("/")}
-    sums = f"{len(rows)}", f"{sum(rows.values()):,}"
+    sums = sums_of(text)
     return [f"{document}: its tables have {sums[0]} files, in all {sums[1]} lines" for it in SUMS.findall(text) if it != sums]
 
 
@@ -80,8 +96,12 @@ def faults_of(document):
 
 
 def main():
-    faults, quoted = [], 0
-    for document in sys.argv[1:]:
+    faults, quoted, documents = [], 0, sys.argv[1:]
+    if documents[:1] == ["--count"]:
+        del documents[0]
+        for document in documents:
+            count_anew(document)
+    for document in documents:
         more, count = faults_of(document)
         faults += more + unlisted(document) + wrong_sums(document)
         quoted += count
