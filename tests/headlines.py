@@ -1,0 +1,176 @@
+"""The headlines of docs/HEADLINES.md, each with the definitions that one has to read to know what it says.
+
+    headlines.py           compares the tables of the page with what is so, and says what differs: status 1
+    headlines.py --write   writes them anew
+
+A section of the page has quotations, blocks that begin with ```LANGUAGE PATH, and a table behind the mark `<!-- reading set -->`. The
+reading set of the quotations are the definitions of the repository's `specs/` that they name, those that these name, and so on, and the
+types of `src/` among them; of each the lines with its comment are counted. What the kit defines isn't counted.
+"""
+
+import functools
+import os
+import re
+import sys
+
+TOP = os.path.dirname(os.path.dirname(os.path.realpath(__file__)))
+PAGE = f"{TOP}/docs/HEADLINES.md"
+MARK = "<!-- reading set -->\n"
+QUOTE = re.compile(r"^```\w+ (\S+)\n(.*?)^```", re.S | re.M)
+USE = re.compile(r"^\s*(?:pub )?(?:ghost )?use Rattle\.(\w+)\.specs\.([\w.]+?)(?:\.\{(.*?)\}| as (\w+))", re.S | re.M)
+HEAD = re.compile(r"^\s*(?:(?:abbrev|unfoldable|opaque|pub|record|data)\s+)+(\S+)")
+TYPE = r"^pub (?:struct|enum|trait) %s\b"
+# A name, also an operator with its places.
+WORD = re.compile(r"[^\s(){}\[\],;.:]+")
+
+
+@functools.lru_cache(maxsize=None)
+def lines_of(path):
+    with open(f"{TOP}/{path}", encoding="utf-8") as file:
+        return file.read().split("\n")
+
+
+@functools.lru_cache(maxsize=None)
+def imports(path):
+    """The names that a file takes from the repository's `specs/`, each with the crate and the path it comes from."""
+    found = {}
+    for crate, at, names, alias in USE.findall("\n".join(lines_of(path))):
+        if not os.path.isdir(f"{TOP}/crates/{crate}"):
+            continue
+        parts = at.split(".")
+        if parts[-1] in ("TheVariants", "TheImpl"):
+            names, parts = alias or names, parts[:-1]
+            found.update({it.strip(): (crate, [*parts[:-1], parts[-1]], parts[-1]) for it in names.split(",")})
+        else:
+            for name in filter(None, (it.strip() for it in names.split(","))):
+                name, _, other = name.partition(" as ")
+                found[other or name] = crate, parts, name
+    return found
+
+
+def depth_of(line):
+    return len(line) - len(line.lstrip())
+
+
+@functools.lru_cache(maxsize=None)
+def definitions(path):
+    """By its name the numbers of the lines of each definition of a file of `specs/`, with the comment above; of a file of `src/` those of
+    each ghost member."""
+    if path.endswith(".rt"):
+        return ghosts(path)
+    found, block, lines = {}, [], lines_of(path)
+    for number, line in enumerate([*lines, ""]):
+        if line.strip():
+            block.append(number)
+            continue
+        heads = [lines[it] for it in block if HEAD.match(lines[it])]
+        # (the fields of a record begin with pub too, and stand deeper)
+        depth = min(map(depth_of, heads), default=0)
+        found.update({HEAD.match(it)[1]: block for it in heads if depth_of(it) == depth})
+        block = []
+    return found
+
+
+def ghosts(path):
+    found, lines = {}, lines_of(path)
+    for number, line in enumerate(lines):
+        member = re.match(r"\s*ghost (\w+): ", line)
+        if member:
+            first, last = number, number
+            while lines[first - 1].lstrip().startswith("//"):
+                first -= 1
+            while not lines[last].rstrip().endswith(("};", "},")):
+                last += 1
+            found[member[1]] = range(first, last + 1)
+    return found
+
+
+def file_of(crate, parts):
+    """The file of `specs/` in which the module of an import stands."""
+    for count in range(len(parts), 0, -1):
+        path = f"crates/{crate}/specs/{'/'.join(parts[:count])}.antt"
+        if os.path.isfile(f"{TOP}/{path}"):
+            return path
+    return None
+
+
+@functools.lru_cache(maxsize=None)
+def type_of(crate, name):
+    """Where a type of a crate's `src/` stands, and the numbers of its lines; of a trait those of its ghost members."""
+    for at, _, names in sorted(os.walk(f"{TOP}/crates/{crate}/src")):
+        for file in sorted(names):
+            path = os.path.relpath(f"{at}/{file}", TOP)
+            lines = lines_of(path)
+            for number, line in enumerate(lines):
+                if not re.match(TYPE % re.escape(name), line):
+                    continue
+                first, last = number, number
+                while first and lines[first - 1].startswith(("///", "#[")):
+                    first -= 1
+                while not lines[last].rstrip().endswith((";", "}")) or lines[last].startswith(" "):
+                    last += 1
+                if line.startswith("pub trait"):
+                    return path, sorted(it for member in ghosts(path).values() for it in member if number <= it <= last)
+                return path, range(first, last + 1)
+    return None, ()
+
+
+def found_by(path, word):
+    """Where a word that stands in a file is defined: the file, its name there and the numbers of its lines; nothing if in the kit."""
+    if word in definitions(path):
+        return path, word, definitions(path)[word]
+    if word not in imports(path):
+        return None
+    crate, parts, name = imports(path)[word]
+    if parts[0] in ("declared", "contracts"):
+        where, numbers = type_of(crate, parts[-1])
+        return (where, parts[-1], numbers) if where else None
+    where = file_of(crate, parts)
+    return where, name, definitions(where)[name]
+
+
+def reading_set(quotes):
+    """By file the names to be read there, each with the numbers of its lines."""
+    found, waiting = {}, list(quotes)
+    while waiting:
+        path, lines = waiting.pop()
+        for word in sorted({word for line in lines for word in WORD.findall(re.sub(r"(--|//).*", "", line))}):
+            where, name, numbers = found_by(path, word) or (None, word, ())
+            if where and name not in found.setdefault(where, {}):
+                found[where][name] = numbers
+                waiting.append((where, [lines_of(where)[it] for it in numbers]))
+    return {path: names for path, names in found.items() if names}
+
+
+def table_of(quotes):
+    rows, total = [], 0
+    for path, names in sorted(reading_set(quotes).items()):
+        count = len({number for numbers in names.values() for number in numbers})
+        total += count
+        rows.append(f"| `{path}` | {', '.join(f'`{it}`' for it in sorted(names, key=str.lower))} | {count} |")
+    return "\n".join([MARK.strip(), "| Read in | The definitions | Lines |", "|---|---|---|", *rows, f"| in all | | **{total}** |", ""])
+
+
+def main(words):
+    with open(PAGE, encoding="utf-8") as file:
+        text = file.read()
+    first, *sections = re.split(r"(?m)^(?=## )", text)
+    wanted = [first]
+    for section in sections:
+        before, mark, after = section.partition(MARK)
+        quotes = [(it[1], it[2].split("\n")) for it in QUOTE.finditer(before)]
+        rest = after.split("\n\n", 1)[1] if "\n\n" in after else ""
+        wanted.append(before + (table_of(quotes) + "\n" + rest if mark else ""))
+    wanted = "".join(wanted).rstrip("\n") + "\n"
+    if words == ["--write"]:
+        with open(PAGE, "w", encoding="utf-8") as file:
+            file.write(wanted)
+        return 0
+    count = wanted.count(MARK)
+    print(f"the reading sets of {count} headlines are as docs/HEADLINES.md has them" if wanted == text else
+          "docs/HEADLINES.md has other reading sets than its headlines: run python3 tests/headlines.py --write")
+    return 0 if wanted == text and count else 1
+
+
+if __name__ == "__main__":
+    sys.exit(main(sys.argv[1:]))
