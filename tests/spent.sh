@@ -12,6 +12,8 @@ count_spent() {
 #   written ROW     as in `./test`
 written() {
     awk -F'|' -v row="\`$1\`" '
+        /^## / { inside = $0 == "## What it costs" }
+        !inside { next }
         { gsub(/^ +| +$/, "", $2); gsub(/ /, "", $3); gsub(/ /, "", $4) }
         $2 == row && $3 ~ /^[0-9.]+$/ && $4 ~ /^[0-9.]+$/ { print $3, $4 }' "$top/docs/TESTING.md"
 }
