@@ -4,3 +4,4 @@ mod Calls
 mod Atomic
 mod There
 mod Last
+mod Instances

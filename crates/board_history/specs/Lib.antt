@@ -1,2 +1,3 @@
 pub mod BoardRuns
 pub mod Histories
+pub mod Instances

@@ -8,6 +8,7 @@ ghost use Rattle.stamps.specs.declared.stamp.Stamped.{Stamped};
 ghost use Rattle.matrix_core.specs.Lines.{first_record};
 ghost use Rattle.matrix_core.specs.Listings.{IsInOrder};
 ghost use Rattle.board_history.specs.BoardRuns.{Did, IsBoardRun};
+ghost use Rattle.board_history.specs.Instances.{reads_opening, reads_seven, two_processes, zero_first};
 ghost use Rattle.board_history.specs.Histories.{IsGreatestOwn, IsHistory};
 
 /// Every run of a board whose processes make their steps in one time is a history, the order of its calls by stamp is atomic by their
@@ -25,4 +26,11 @@ pub fn runs_are_atomic<V>()
     ensures there { (width n limit : ℕ) (opening : V) (steps : List ℕ) (did : ℕ → Did V) →
         IsBoardRun width n limit (first_record opening) steps did →
         (ops : List (Op V)) × (stamps : List (Option Stamp)) × (order : List ℕ) × IsHistory width n did ops stamps × IsInOrder ops stamps order }
+{}
+
+/// What the definitions say of two processes: an answer that was written is a run's, and an answer that is older than a write that had
+/// ended before the read began is no run's, whatever number it is given.
+pub fn runs_of_two()
+    ensures fresh { IsBoardRun 1 2 5 zero_first (0 ∷ 0 ∷ 1 ∷ 1 ∷ []) (two_processes reads_seven) }
+    ensures stale { (number : ℕ) → IsBoardRun 1 2 5 zero_first (0 ∷ 0 ∷ 1 ∷ 1 ∷ []) (two_processes (reads_opening number)) → ⊥ }
 {}

@@ -1,0 +1,9 @@
+-- Both are computed place by place.
+use Rattle.board_history.proofs.Instances.{is_fresh, is_stale}
+use Rattle.board_history.proofs.laws.runs_of_two.Goals as goal
+
+pub returns-clause-fresh : goal.returns-clause-fresh
+returns-clause-fresh c = is_fresh
+
+pub returns-clause-stale : goal.returns-clause-stale
+returns-clause-stale c = is_stale
