@@ -129,7 +129,7 @@ def move_all(source, to):
     for name in os.listdir(source) if os.path.isdir(source) else ():
         if name not in STAYS:
             remove(f"{to}/{name}")
-            os.rename(f"{source}/{name}", f"{to}/{name}")
+            shutil.move(f"{source}/{name}", f"{to}/{name}")
 
 
 def remove(path):
