@@ -224,19 +224,20 @@ class Builder:
             above = [self.behind[other] for other in crates if it in other.uses]
             self.behind[it] += max(above, default=0)
 
-    def jobs_now(self):
-        """How many jobs a further proof gets, 0 where it has to wait. A proof uses its jobs in parts only: so twice as many are given."""
-        given = sum(it.jobs for it in self.rooms.values())
+    def jobs_now(self, ready):
+        """How many jobs the first of so many proofs gets, 0 where it has to wait. Each uses its jobs in parts only: so twice as many
+        are given as there are processors."""
+        left = 2 * self.processors - sum(it.jobs for it in self.rooms.values())
         free = self.memory - sum(it.memory() for it in self.rooms.values())
-        jobs = min(MOST_JOBS, self.processors, 2 * self.processors - given, 1 + int((free - FIRST_JOB) // NEXT_JOB))
+        jobs = min(MOST_JOBS, self.processors, -(-left // ready), 1 + int((free - FIRST_JOB) // NEXT_JOB))
         return jobs if jobs > 0 or self.rooms else 1
 
     def start_ready(self):
         """Begins what can begin, the longest chain first, and says whether something waits for another rt."""
         waits = False
         ready = [it for it in self.left if self.built.issuperset(it.uses)]
-        for crate in sorted(ready, key=lambda it: -self.behind[it]):
-            jobs = self.jobs_now()
+        for place, crate in enumerate(sorted(ready, key=lambda it: -self.behind[it])):
+            jobs = self.jobs_now(len(ready) - place)
             if jobs < 1:
                 break
             lower = lock([it.folder for it in below(crate)])
