@@ -1,8 +1,10 @@
-# The map of the crates has to be that of crates.txt and of the words at each crate's head.
-if ! command -v python3 >/dev/null 2>&1; then
-    fail "the map" "there is no python3"
-elif python3 tests/map.py >"$room/out" 2>&1; then
-    pass "the map: $(cat "$room/out")"
-else
-    fail "the map" "$(cat "$room/out")"
-fi
+# The map of the crates and the numbers of the page on testing have to be those of the repository.
+for what in map numbers; do
+    if ! command -v python3 >/dev/null 2>&1; then
+        fail "tests/$what.py" "there is no python3"
+    elif python3 "tests/$what.py" >"$room/out" 2>&1; then
+        pass "tests/$what.py: $(cat "$room/out")"
+    else
+        fail "tests/$what.py" "$(cat "$room/out")"
+    fi
+done

@@ -1,0 +1,70 @@
+"""The numbers of docs/TESTING.md, counted: wrong bodies and test functions by crate, examples, documents at bounds.
+
+    numbers.py           compares them with the page, and says what differs: status 1
+    numbers.py --write   writes them anew between their two marks
+"""
+
+import glob
+import os
+import re
+import sys
+
+TOP = os.path.dirname(os.path.dirname(os.path.realpath(__file__)))
+PAGE = f"{TOP}/docs/TESTING.md"
+MARKS = "<!-- counted by tests/numbers.py -->\n", "<!-- to here -->\n"
+FOLDERS = (
+    ("tests/schedules/", "schedules, what `fsr play` prints of each, and the status where it isn't 0"),
+    ("tests/growths/", "what `growths` prints of each call, with ample memory and with each request refused"),
+    ("docs/pictures/", "what `picture` draws"),
+)
+
+
+def text_of(path):
+    with open(path, encoding="utf-8") as file:
+        return file.read()
+
+
+def counted():
+    crates = re.findall(r"(?m)^(\w+)[^#\n]*:", text_of(f"{TOP}/crates.txt"))
+    bodies = {it: len(glob.glob(f"{TOP}/crates/{it}/must-fail/*.edit")) for it in crates}
+    sources = {it: glob.glob(f"{TOP}/crates/{it}/src/**/*.rt", recursive=True) for it in crates}
+    tests = {it: sum(len(re.findall(r"(?m)^\s*#\[test\]", text_of(file))) for file in sources[it]) for it in crates}
+    refused = "".join(map(text_of, glob.glob(f"{TOP}/tests/refusals/*.txt"))).split("\n")
+    random = re.search(r"--documents (\d+)", text_of(f"{TOP}/tests/documents.sh"))[1]
+    lines = [
+        f"{sum(bodies.values())} wrong bodies and {sum(tests.values())} test functions in the crates; "
+        f"{len(glob.glob(f'{TOP}/examples/*.json'))} examples; {len([it for it in refused if it and it[0] != '#'])} documents at the bounds of "
+        f"refusals;\n{int(random):,} random documents against a plain reference.",
+        "",
+        "| Crate | Wrong bodies | Tests |",
+        "|---|---|---|",
+        *[f"| `{it}` | {bodies[it] or ''} | {tests[it] or ''} |" for it in sorted(crates) if bodies[it] or tests[it]],
+        "",
+        "Beside the crates, each file compared with what a built program prints:",
+        "",
+        "| Folder | Files | Has |",
+        "|---|---|---|",
+        *[f"| `{folder}` | {len(os.listdir(f'{TOP}/{folder}'))} | {has} |" for folder, has in FOLDERS],
+    ]
+    return "\n".join(lines) + "\n"
+
+
+def main(words):
+    text = text_of(PAGE)
+    before, _, rest = text.partition(MARKS[0])
+    found, mark, after = rest.partition(MARKS[1])
+    wanted = counted()
+    if not mark:
+        print("docs/TESTING.md has lost its marks")
+        return 1
+    if words == ["--write"]:
+        with open(PAGE, "w", encoding="utf-8") as file:
+            file.write(before + MARKS[0] + wanted + MARKS[1] + after)
+        return 0
+    print("docs/TESTING.md has the numbers as they are" if found == wanted else
+          "docs/TESTING.md has other numbers than there are: run python3 tests/numbers.py --write")
+    return 0 if found == wanted else 1
+
+
+if __name__ == "__main__":
+    sys.exit(main(sys.argv[1:]))
