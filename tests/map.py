@@ -5,7 +5,8 @@
 
 The graph leaves out an arrow where a longer way leads to the same crate. In the table the crates come by their height, the number of
 crates on the longest way below them; the words are the first paragraph at the head of `lib.rt` or `main.rt`. The rows of the table
-`What crosses a boundary` have to name crates of which the upper stands on the lower, and what stands in a lower one.
+`What crosses a boundary` have to name crates of which the upper stands on the lower, and what stands in a lower one. Where a page of docs/
+tells its reader to copy crates and to write a crates.txt, the two have to name the same crates, each on those that it stands on.
 """
 
 import os
@@ -95,6 +96,21 @@ def wrong_boundaries(text):
                 yield f"docs/MAP.md: `{it}` isn't below that boundary: {line}"
 
 
+def wrong_copies():
+    """What pages tell a reader to copy who makes a repository of his own, where it isn't what stands in crates.txt."""
+    rows = stands_on()
+    for name in sorted(os.listdir(f"{TOP}/docs")):
+        if not name.endswith(".md"):
+            continue
+        with open(f"{TOP}/docs/{name}", encoding="utf-8") as file:
+            text = file.read()
+        for copied, listed in re.findall(r"for crate in ([\w ]+); do cp.*?cat > crates\.txt <<'END'\n(.*?)\n *END", text, re.S):
+            told = {head.split()[0]: words.split() for head, _, words in (row.partition(":") for row in listed.split("\n"))}
+            if set(copied.split()) != set(told):
+                yield f"docs/{name} copies other crates than it lists"
+            yield from (f"docs/{name} lists {it} on other crates than crates.txt" for it in told if sorted(told[it]) != sorted(rows.get(it, [])))
+
+
 def main(words):
     with open(MAP, encoding="utf-8") as file:
         text = file.read()
@@ -108,7 +124,7 @@ def main(words):
         with open(MAP, "w", encoding="utf-8") as file:
             file.write(before + MARKS[0] + wanted + MARKS[1] + after)
         return 0
-    faults = [f"{it} has no words at its head" for it in bare] + list(wrong_boundaries(text))
+    faults = [f"{it} has no words at its head" for it in bare] + list(wrong_boundaries(text)) + list(wrong_copies())
     if rest != wanted + MARKS[1] + after:
         faults.append("docs/MAP.md isn't the map of the crates as they are: run python3 tests/map.py --write")
     print("\n".join(faults or [f"the map has the {len(stands_on())} crates as they are"]))
