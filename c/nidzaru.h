@@ -1,13 +1,14 @@
 /* Registers that two threads share without waiting: one thread writes whole records, the other reads them.
  *
  *   struct limits { double low, high; };
- *   NIDZARU_REGISTER(limits, struct limits)            typed functions for the program's own struct
+ *   NIDZARU_REGISTER(limits, struct limits);           typed functions for the program's own struct
  *
  *   limits_writer writer = NIDZARU_EMPTY;
  *   limits_reader reader = NIDZARU_EMPTY;
  *   limits_make(&opening, &writer, &reader)            a register that holds `opening`, as its two sides
  *   limits_write(&writer, &item)                       the writing thread: shows the record to the reader
  *   limits_read(&reader, &item, &number)               the reading thread: one whole record, and its number
+ *   limits_look(&reader, &number)                      the reading thread: the number that a read would give, without the record
  *   limits_end_writer(&writer), limits_end_reader(&reader)   in any order, each from its own thread
  *
  * No write and no read waits, tries again or takes memory. The opening is number 0, and each write has the next number. A
@@ -24,15 +25,90 @@
 #include <stdint.h>
 #include <string.h>
 
+/* This header's version. `nidzaru_version()` is the library's: the two are of one release where the numbers are the same. */
+#define NIDZARU_VERSION_MAJOR 2
+#define NIDZARU_VERSION_MINOR 0
+#define NIDZARU_VERSION_PATCH 0
+#define NIDZARU_VERSION (NIDZARU_VERSION_MAJOR * 10000 + NIDZARU_VERSION_MINOR * 100 + NIDZARU_VERSION_PATCH)
+
 #define NIDZARU_INLINE __attribute__((unused)) static inline
+/* The compiler warns where the status of such a call isn't looked at. */
+#define NIDZARU_CHECKED __attribute__((warn_unused_result)) NIDZARU_INLINE
+
+/* Whether the program is compiled for ThreadSanitizer, which doesn't see inside the library. */
+#ifdef __SANITIZE_THREAD__
+#define NIDZARU_WATCHED 1
+#elif defined(__has_feature)
+#if __has_feature(thread_sanitizer)
+#define NIDZARU_WATCHED 1
+#endif
+#endif
+#ifndef NIDZARU_WATCHED
+#define NIDZARU_WATCHED 0
+#endif
+
+/* The size of the library's records that a record of this size goes into. */
+#define NIDZARU_SIZE(size)                                                                                            \
+    ((size) <= 8 ? 8 : (size) <= 24 ? 24 : (size) <= 64 ? 64 : (size) <= 128 ? 128                                    \
+     : (size) <= 256 ? 256 : (size) <= 1024 ? 1024 : 4096)
+
+/* Records that are as large as the library's and aligned to 8 are passed where they lie, others through a copy that the
+ * compiler lays out with zeros behind it. ThreadSanitizer sees what a copy reads and writes, so there each record has one. */
+#define NIDZARU_PASSES(size, alignment) (!NIDZARU_WATCHED && (size) == NIDZARU_SIZE(size) && (alignment) >= 8)
 
 #ifdef __cplusplus
 #define NIDZARU_ASSERT(holds, text) static_assert(holds, text)
 #define NIDZARU_ALIGNMENT(type) alignof(type)
+#define NIDZARU_COPIES(type) __is_trivially_copyable(type)
+#define NIDZARU_IN_PLACE(type) (NIDZARU_PASSES(sizeof(type), alignof(type)) && !nidzaru::detail::shares_tail<type>::value)
+#define NIDZARU_GIVE(item, record) nidzaru::detail::give(item, record)
+
+extern "C++" {
+namespace nidzaru {
+namespace detail {
+
+/* Whether the last bytes of a `T` may belong to another object: to what derives from it, or to a neighbour that overlaps it. */
+template <class T, bool derivable> struct probe {
+    enum { shares = true };
+};
+template <class T> struct probe<T, true> {
+    struct derived : T {
+        char more;
+    };
+    enum { shares = sizeof(derived) == sizeof(T) };
+};
+template <class T> struct shares_tail {
+    enum { value = (__is_class(T) || __is_union(T)) && probe<T, __is_class(T) && !__is_final(T)>::shares };
+};
+
+/* A place for a `T` that isn't made yet. */
+template <class T> union unmade {
+    char none;
+    T value;
+    unmade() : none() {}
+    explicit unmade(const void *record) : none() { memcpy(static_cast<void *>(this), record, sizeof(T)); }
+};
+
+/* Gives the record, and leaves what lies in its tail. */
+template <class T, bool whole> struct giving {
+    static void give(T *item, const void *record) { *item = unmade<T>(record).value; }
+};
+template <class T> struct giving<T, true> {
+    static void give(T *item, const void *record) { memcpy(static_cast<void *>(item), record, sizeof(T)); }
+};
+template <class T> void give(T *item, const void *record) { giving<T, !shares_tail<T>::value>::give(item, record); }
+
+} // namespace detail
+} // namespace nidzaru
+}
+
 extern "C" {
 #else
 #define NIDZARU_ASSERT(holds, text) _Static_assert(holds, text)
 #define NIDZARU_ALIGNMENT(type) _Alignof(type)
+#define NIDZARU_COPIES(type) 1
+#define NIDZARU_IN_PLACE(type) NIDZARU_PASSES(sizeof(type), _Alignof(type))
+#define NIDZARU_GIVE(item, record) memcpy(item, record, sizeof *(item))
 #endif
 
 enum nidzaru_status {
@@ -52,66 +128,158 @@ typedef struct {
     void *at;
 } nidzaru_side;
 
-/* A side with the place where it was put, so that a copy of the handle is refused. */
+/* A side with the place where it was put, so that a copy of the handle is refused, and with what ThreadSanitizer knows its
+ * register by. */
 typedef struct {
     nidzaru_side side;
     const void *home;
+    void *order;
 } nidzaru_handle;
 
-#define NIDZARU_EMPTY {{{0, 0}, 0}}
+#define NIDZARU_EMPTY {{{0, 0}, 0, 0}}
 
 NIDZARU_ASSERT(sizeof(void *) == 8, "the library is built for pointers of 8 bytes");
 
-/* The library's own calls: for each cell and size of record the same five. */
+/* The library's version, as NIDZARU_VERSION is counted. */
+uint32_t nidzaru_version(void);
+
+/* The library's own calls: for each cell and size of record the same six. */
 #define NIDZARU_DECLARE(cell)                                                                                         \
     uint32_t nidzaru_##cell##_make(const void *first, nidzaru_side *writer, nidzaru_side *reader);                    \
     uint32_t nidzaru_##cell##_write(nidzaru_side *writer, const void *item);                                          \
     uint32_t nidzaru_##cell##_read(nidzaru_side *reader, void *item, uint64_t *number);                               \
+    uint32_t nidzaru_##cell##_look(nidzaru_side *reader, uint64_t *number);                                           \
     uint32_t nidzaru_##cell##_end_writer(nidzaru_side *writer);                                                       \
     uint32_t nidzaru_##cell##_end_reader(nidzaru_side *reader);
 NIDZARU_DECLARE(8)
 NIDZARU_DECLARE(24)
 NIDZARU_DECLARE(64)
+NIDZARU_DECLARE(128)
 NIDZARU_DECLARE(256)
 NIDZARU_DECLARE(1024)
 NIDZARU_DECLARE(4096)
 NIDZARU_DECLARE(triple_8)
 NIDZARU_DECLARE(triple_24)
 NIDZARU_DECLARE(triple_64)
+NIDZARU_DECLARE(triple_128)
 NIDZARU_DECLARE(triple_256)
 NIDZARU_DECLARE(triple_1024)
 NIDZARU_DECLARE(triple_4096)
 #undef NIDZARU_DECLARE
 
-/* The size of the library's records that a record of this size goes into. */
-#define NIDZARU_SIZE(size)                                                                                            \
-    ((size) <= 8 ? 8 : (size) <= 24 ? 24 : (size) <= 64 ? 64 : (size) <= 256 ? 256 : (size) <= 1024 ? 1024 : 4096)
+#if NIDZARU_WATCHED
+/* What ThreadSanitizer is told: it is to ignore what the library does, and what was done before a write comes before what is
+ * done after a read of the same register. Each register is known by a byte of its own; from the 65,537th on some share one. */
+void AnnotateIgnoreReadsBegin(const char *file, int line);
+void AnnotateIgnoreReadsEnd(const char *file, int line);
+void AnnotateIgnoreWritesBegin(const char *file, int line);
+void AnnotateIgnoreWritesEnd(const char *file, int line);
+void __tsan_acquire(void *at);
+void __tsan_release(void *at);
+__attribute__((weak)) char nidzaru_orders[1 << 16];
+__attribute__((weak)) unsigned nidzaru_registers;
+
+NIDZARU_INLINE void *nidzaru_new_order(void) {
+    return &nidzaru_orders[__atomic_fetch_add(&nidzaru_registers, 1, __ATOMIC_RELAXED) % sizeof nidzaru_orders];
+}
+
+NIDZARU_INLINE void nidzaru_ignore(void) {
+    AnnotateIgnoreReadsBegin(__FILE__, __LINE__);
+    AnnotateIgnoreWritesBegin(__FILE__, __LINE__);
+}
+
+NIDZARU_INLINE void nidzaru_heed(void) {
+    AnnotateIgnoreWritesEnd(__FILE__, __LINE__);
+    AnnotateIgnoreReadsEnd(__FILE__, __LINE__);
+}
+
+/* A call with this handle begins. Two at once are a race, which the store shows. */
+NIDZARU_INLINE void nidzaru_begin(nidzaru_handle *handle) {
+    *(void *volatile *)&handle->order = handle->order;
+    nidzaru_ignore();
+}
+
+NIDZARU_INLINE void nidzaru_show(nidzaru_handle *writer) {
+    if (writer->order) __tsan_release(writer->order);
+}
+
+NIDZARU_INLINE void nidzaru_see(nidzaru_handle *reader) {
+    if (reader->order) __tsan_acquire(reader->order);
+}
+#else
+#define nidzaru_new_order() 0
+#define nidzaru_ignore() ((void)0)
+#define nidzaru_heed() ((void)0)
+#define nidzaru_begin(handle) ((void)0)
+#define nidzaru_show(writer) ((void)0)
+#define nidzaru_see(reader) ((void)0)
+#endif
 
 /* The calls with the cell and the size as arguments, which are constants wherever the functions below pass them. */
 #define NIDZARU_PICK(triple, size, call, arguments)                                                                   \
-    switch (size) {                                                                                                   \
-    case 8: return (triple) ? nidzaru_triple_8_##call arguments : nidzaru_8_##call arguments;                         \
-    case 24: return (triple) ? nidzaru_triple_24_##call arguments : nidzaru_24_##call arguments;                      \
-    case 64: return (triple) ? nidzaru_triple_64_##call arguments : nidzaru_64_##call arguments;                      \
-    case 256: return (triple) ? nidzaru_triple_256_##call arguments : nidzaru_256_##call arguments;                   \
-    case 1024: return (triple) ? nidzaru_triple_1024_##call arguments : nidzaru_1024_##call arguments;                \
-    default: return (triple) ? nidzaru_triple_4096_##call arguments : nidzaru_4096_##call arguments;                  \
-    }
+    ((size) == 8      ? (triple) ? nidzaru_triple_8_##call arguments : nidzaru_8_##call arguments                     \
+     : (size) == 24   ? (triple) ? nidzaru_triple_24_##call arguments : nidzaru_24_##call arguments                   \
+     : (size) == 64   ? (triple) ? nidzaru_triple_64_##call arguments : nidzaru_64_##call arguments                   \
+     : (size) == 128  ? (triple) ? nidzaru_triple_128_##call arguments : nidzaru_128_##call arguments                 \
+     : (size) == 256  ? (triple) ? nidzaru_triple_256_##call arguments : nidzaru_256_##call arguments                 \
+     : (size) == 1024 ? (triple) ? nidzaru_triple_1024_##call arguments : nidzaru_1024_##call arguments               \
+     : (triple)       ? nidzaru_triple_4096_##call arguments                                                          \
+                      : nidzaru_4096_##call arguments)
 
-NIDZARU_INLINE uint32_t nidzaru_sized_make(int triple, size_t size, const void *first, nidzaru_side *w, nidzaru_side *r) {
-    NIDZARU_PICK(triple, size, make, (first, w, r))
+NIDZARU_CHECKED int nidzaru_sized_make(int triple, size_t size, const void *first, nidzaru_handle *w, nidzaru_handle *r) {
+    uint32_t status;
+    nidzaru_ignore();
+    status = NIDZARU_PICK(triple, size, make, (first, &w->side, &r->side));
+    nidzaru_heed();
+    if (!status) {
+        w->home = w;
+        r->home = r;
+        w->order = r->order = nidzaru_new_order();
+    }
+    return (int)status;
 }
-NIDZARU_INLINE uint32_t nidzaru_sized_write(int triple, size_t size, nidzaru_side *w, const void *item) {
-    NIDZARU_PICK(triple, size, write, (w, item))
+
+NIDZARU_CHECKED int nidzaru_sized_write(int triple, size_t size, nidzaru_handle *w, const void *item) {
+    uint32_t status;
+    nidzaru_begin(w);
+    nidzaru_show(w);
+    status = NIDZARU_PICK(triple, size, write, (&w->side, item));
+    nidzaru_heed();
+    return (int)status;
 }
-NIDZARU_INLINE uint32_t nidzaru_sized_read(int triple, size_t size, nidzaru_side *r, void *item, uint64_t *number) {
-    NIDZARU_PICK(triple, size, read, (r, item, number))
+
+NIDZARU_CHECKED int nidzaru_sized_read(int triple, size_t size, nidzaru_handle *r, void *item, uint64_t *number) {
+    uint32_t status;
+    nidzaru_begin(r);
+    status = NIDZARU_PICK(triple, size, read, (&r->side, item, number));
+    nidzaru_see(r);
+    nidzaru_heed();
+    return (int)status;
 }
-NIDZARU_INLINE uint32_t nidzaru_sized_end_writer(int triple, size_t size, nidzaru_side *w) {
-    NIDZARU_PICK(triple, size, end_writer, (w))
+
+NIDZARU_CHECKED int nidzaru_sized_look(int triple, size_t size, nidzaru_handle *r, uint64_t *number) {
+    uint32_t status;
+    nidzaru_begin(r);
+    status = NIDZARU_PICK(triple, size, look, (&r->side, number));
+    nidzaru_see(r);
+    nidzaru_heed();
+    return (int)status;
 }
-NIDZARU_INLINE uint32_t nidzaru_sized_end_reader(int triple, size_t size, nidzaru_side *r) {
-    NIDZARU_PICK(triple, size, end_reader, (r))
+
+NIDZARU_INLINE int nidzaru_sized_end_writer(int triple, size_t size, nidzaru_handle *w) {
+    uint32_t status;
+    nidzaru_begin(w);
+    status = NIDZARU_PICK(triple, size, end_writer, (&w->side));
+    nidzaru_heed();
+    return (int)status;
+}
+
+NIDZARU_INLINE int nidzaru_sized_end_reader(int triple, size_t size, nidzaru_handle *r) {
+    uint32_t status;
+    nidzaru_begin(r);
+    status = NIDZARU_PICK(triple, size, end_reader, (&r->side));
+    nidzaru_heed();
+    return (int)status;
 }
 #undef NIDZARU_PICK
 
@@ -120,22 +288,20 @@ NIDZARU_INLINE int nidzaru_is_copied(const nidzaru_handle *handle) {
 }
 
 /* Takes the side to another handle, which must be empty. */
-NIDZARU_INLINE int nidzaru_move(nidzaru_handle *to, nidzaru_handle *from) {
+NIDZARU_CHECKED int nidzaru_move(nidzaru_handle *to, nidzaru_handle *from) {
     if (!to || !from) return NIDZARU_NULL;
     if (to->side.live) return NIDZARU_IN_USE;
     if (nidzaru_is_copied(from)) return NIDZARU_COPIED;
     to->side = from->side;
     to->home = to;
+    to->order = from->order;
     from->side.live = 0;
     from->side.at = 0;
     return NIDZARU_DONE;
 }
 
-/* Records that are as large as the library's and aligned to 8 are passed where they lie, others through a copy that the
- * compiler lays out with zeros behind it. */
-#define NIDZARU_PASSES(size, alignment) ((size) == NIDZARU_SIZE(size) && (alignment) >= 8)
-
 #define NIDZARU_FUNCTIONS(name, type, triple)                                                                         \
+    NIDZARU_ASSERT(NIDZARU_COPIES(type), "a record of a register is trivially copyable");                             \
     NIDZARU_ASSERT(sizeof(type) <= 4096, "a record of a register has at most 4096 bytes");                            \
     NIDZARU_ASSERT(NIDZARU_ALIGNMENT(type) <= 8, "a record of a register is aligned to at most 8 bytes");             \
     typedef struct {                                                                                                  \
@@ -144,54 +310,61 @@ NIDZARU_INLINE int nidzaru_move(nidzaru_handle *to, nidzaru_handle *from) {
     typedef struct {                                                                                                  \
         nidzaru_handle handle;                                                                                        \
     } name##_reader;                                                                                                  \
-    NIDZARU_INLINE int name##_make(const type *first, name##_writer *writer, name##_reader *reader) {                 \
+    /* Makes a register that holds `first` as number 0, and puts its sides into two empty handles. */                 \
+    NIDZARU_CHECKED int name##_make(const type *first, name##_writer *writer, name##_reader *reader) {                \
         uint64_t record[NIDZARU_SIZE(sizeof(type)) / 8] = {0};                                                        \
-        uint32_t status;                                                                                              \
         if (!first || !writer || !reader) return NIDZARU_NULL;                                                        \
-        memcpy(record, first, sizeof(type));                                                                          \
-        status = nidzaru_sized_make(triple, sizeof record, record, &writer->handle.side, &reader->handle.side);       \
-        if (!status) {                                                                                                \
-            writer->handle.home = &writer->handle;                                                                    \
-            reader->handle.home = &reader->handle;                                                                    \
-        }                                                                                                             \
-        return (int)status;                                                                                           \
+        memcpy(record, (const void *)first, sizeof(type));                                                            \
+        return nidzaru_sized_make(triple, sizeof record, record, &writer->handle, &reader->handle);                   \
     }                                                                                                                 \
-    NIDZARU_INLINE int name##_write(name##_writer *writer, const type *item) {                                        \
+    /* Shows the record to the reader, under the next number. What this thread did before comes before what the       \
+     * reading thread does once it has read this number, or a greater one. */                                         \
+    NIDZARU_CHECKED int name##_write(name##_writer *writer, const type *item) {                                       \
         if (!writer || !item) return NIDZARU_NULL;                                                                    \
         if (nidzaru_is_copied(&writer->handle)) return NIDZARU_COPIED;                                                \
         if (NIDZARU_PASSES(sizeof(type), NIDZARU_ALIGNMENT(type))) {                                                  \
-            return (int)nidzaru_sized_write(triple, sizeof(type), &writer->handle.side, item);                        \
+            return nidzaru_sized_write(triple, sizeof(type), &writer->handle, (const void *)item);                    \
         } else {                                                                                                      \
             uint64_t record[NIDZARU_SIZE(sizeof(type)) / 8] = {0};                                                    \
-            memcpy(record, item, sizeof(type));                                                                       \
-            return (int)nidzaru_sized_write(triple, sizeof record, &writer->handle.side, record);                     \
+            memcpy(record, (const void *)item, sizeof(type));                                                         \
+            return nidzaru_sized_write(triple, sizeof record, &writer->handle, record);                               \
         }                                                                                                             \
     }                                                                                                                 \
-    NIDZARU_INLINE int name##_read(name##_reader *reader, type *item, uint64_t *number) {                             \
+    /* Gives one whole record and its number, which is not below that of any read or look before. */                  \
+    NIDZARU_CHECKED int name##_read(name##_reader *reader, type *item, uint64_t *number) {                            \
         if (!reader || !item || !number) return NIDZARU_NULL;                                                         \
         if (nidzaru_is_copied(&reader->handle)) return NIDZARU_COPIED;                                                \
-        if (NIDZARU_PASSES(sizeof(type), NIDZARU_ALIGNMENT(type))) {                                                  \
-            return (int)nidzaru_sized_read(triple, sizeof(type), &reader->handle.side, item, number);                 \
+        if (NIDZARU_IN_PLACE(type)) {                                                                                 \
+            return nidzaru_sized_read(triple, sizeof(type), &reader->handle, (void *)item, number);                   \
         } else {                                                                                                      \
             uint64_t record[NIDZARU_SIZE(sizeof(type)) / 8] = {0};                                                    \
-            uint32_t status = nidzaru_sized_read(triple, sizeof record, &reader->handle.side, record, number);        \
-            if (!status) memcpy(item, record, sizeof(type));                                                          \
-            return (int)status;                                                                                       \
+            int status = nidzaru_sized_read(triple, sizeof record, &reader->handle, record, number);                  \
+            if (!status) NIDZARU_GIVE(item, record);                                                                  \
+            return status;                                                                                            \
         }                                                                                                             \
     }                                                                                                                 \
+    /* Gives the number that a read would give, without the record: there is news where it is greater than the last   \
+     * one. No later read gives a number below it. */                                                                 \
+    NIDZARU_CHECKED int name##_look(name##_reader *reader, uint64_t *number) {                                        \
+        if (!reader || !number) return NIDZARU_NULL;                                                                  \
+        if (nidzaru_is_copied(&reader->handle)) return NIDZARU_COPIED;                                                \
+        return nidzaru_sized_look(triple, NIDZARU_SIZE(sizeof(type)), &reader->handle, number);                       \
+    }                                                                                                                 \
+    /* Ends the writing side. The reader keeps the last record; the second end of the two frees the register. */      \
     NIDZARU_INLINE int name##_end_writer(name##_writer *writer) {                                                     \
         if (!writer) return NIDZARU_NULL;                                                                             \
         if (nidzaru_is_copied(&writer->handle)) return NIDZARU_COPIED;                                                \
-        return (int)nidzaru_sized_end_writer(triple, NIDZARU_SIZE(sizeof(type)), &writer->handle.side);               \
+        return nidzaru_sized_end_writer(triple, NIDZARU_SIZE(sizeof(type)), &writer->handle);                         \
     }                                                                                                                 \
+    /* Ends the reading side. Writes go on; the second end of the two frees the register. */                          \
     NIDZARU_INLINE int name##_end_reader(name##_reader *reader) {                                                     \
         if (!reader) return NIDZARU_NULL;                                                                             \
         if (nidzaru_is_copied(&reader->handle)) return NIDZARU_COPIED;                                                \
-        return (int)nidzaru_sized_end_reader(triple, NIDZARU_SIZE(sizeof(type)), &reader->handle.side);               \
+        return nidzaru_sized_end_reader(triple, NIDZARU_SIZE(sizeof(type)), &reader->handle);                         \
     }                                                                                                                 \
     NIDZARU_ASSERT(1, "takes a semicolon")
 
-/* The types NAME_writer and NAME_reader and the functions NAME_make, NAME_write, NAME_read, NAME_end_writer and
+/* The types NAME_writer and NAME_reader and the functions NAME_make, NAME_write, NAME_read, NAME_look, NAME_end_writer and
  * NAME_end_reader, for records of this type. */
 #define NIDZARU_REGISTER(name, type) NIDZARU_FUNCTIONS(name, type, 0)
 #define NIDZARU_TRIPLE_REGISTER(name, type) NIDZARU_FUNCTIONS(name, type, 1)

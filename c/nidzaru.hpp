@@ -3,6 +3,8 @@
 //   auto [writer, reader] = nidzaru::make(limits{0.0, 9.5});     both sides of a register that holds these limits
 //   writer.write(item)                                           0, or a status of nidzaru.h
 //   reader.read(item, number)                                    one whole record, and its number
+//   reader.latest()                                              one whole record, if there is a side
+//   reader.has_news()                                            whether `latest` would give another record than the last one
 //
 // The record's type is trivially copyable, of at most 4096 bytes, and aligned to at most 8.
 #ifndef NIDZARU_HPP
@@ -11,7 +13,9 @@
 
 #include <cstdint>
 #include <cstring>
+#include <memory>
 #include <new>
+#include <optional>
 #include <type_traits>
 #include <utility>
 
@@ -19,28 +23,45 @@ namespace nidzaru {
 
 enum class cell { four_slot, triple };
 
+template <class T, cell C> class writer;
+template <class T, cell C> class reader;
+template <class T, cell C = cell::four_slot> using sides = std::pair<writer<T, C>, reader<T, C>>;
+
+template <class T, cell C> [[nodiscard]] std::optional<sides<T, C>> try_make(const T &first) noexcept;
+
 namespace detail {
 
 // How a `T` lies in a record of the library.
 template <class T, cell C> struct record {
     static_assert(std::is_trivially_copyable<T>::value, "a record of a register is trivially copyable");
+    static_assert(!std::is_array<T>::value, "a record of a register is no array: std::array may be one");
     static_assert(sizeof(T) <= 4096, "a record of a register has at most 4096 bytes");
     static_assert(alignof(T) <= 8, "a record of a register is aligned to at most 8 bytes");
     static constexpr std::size_t size = NIDZARU_SIZE(sizeof(T));
     static constexpr bool passes = NIDZARU_PASSES(sizeof(T), alignof(T));
+    static constexpr bool in_place = NIDZARU_IN_PLACE(T);
     static constexpr int triple = C == cell::triple;
     std::uint64_t words[size / 8] = {};
+
+    record() = default;
+    explicit record(const T &item) noexcept { std::memcpy(words, std::addressof(item), sizeof(T)); }
 };
 
 // A handle that may be moved, and has no side from then on.
 class side {
   public:
     side() = default;
-    side(side &&from) noexcept { nidzaru_move(&handle, &from.handle); }
+    side(side &&from) noexcept { take(from); }
 
   protected:
-    nidzaru_handle handle = {{0, nullptr}, nullptr};
+    // (the handle is empty, and the other one is where it was made, so that no move is refused)
+    void take(side &from) noexcept {
+        if (nidzaru_move(&handle, &from.handle)) handle.side.live = 0;
+    }
+    nidzaru_handle handle = {{0, nullptr}, nullptr, nullptr};
 };
+
+template <class> inline constexpr bool never = false;
 
 } // namespace detail
 
@@ -52,29 +73,29 @@ template <class T, cell C = cell::four_slot> class writer : detail::side {
     writer() = default;
     writer(writer &&) = default;
     writer &operator=(writer &&from) noexcept {
-        end();
-        nidzaru_move(&handle, &from.handle);
+        if (this != std::addressof(from)) {
+            end();
+            take(from);
+        }
         return *this;
     }
     ~writer() { end(); }
 
-    // Shows the record to the reader, under the next number.
-    int write(const T &item) noexcept {
+    // Shows the record to the reader, under the next number. What this thread did before comes before what the reading thread
+    // does once it has read this number, or a greater one.
+    [[nodiscard]] int write(const T &item) noexcept {
         if constexpr (record::passes) {
-            return static_cast<int>(nidzaru_sized_write(record::triple, record::size, &handle.side, &item));
+            return nidzaru_sized_write(record::triple, record::size, &handle, std::addressof(item));
         } else {
-            record copy;
-            std::memcpy(copy.words, &item, sizeof(T));
-            return static_cast<int>(nidzaru_sized_write(record::triple, record::size, &handle.side, copy.words));
+            record copy(item);
+            return nidzaru_sized_write(record::triple, record::size, &handle, copy.words);
         }
     }
 
-    // Ends the side before the object goes.
-    int end() noexcept {
-        return static_cast<int>(nidzaru_sized_end_writer(record::triple, record::size, &handle.side));
-    }
+    // Ends the side before the object goes. The reader keeps the last record.
+    int end() noexcept { return nidzaru_sized_end_writer(record::triple, record::size, &handle); }
 
-    template <class U, cell D> friend auto make(const U &first);
+    template <class U, cell D> friend std::optional<sides<U, D>> try_make(const U &first) noexcept;
 };
 
 // The right to read: one thread uses it at a time.
@@ -85,47 +106,88 @@ template <class T, cell C = cell::four_slot> class reader : detail::side {
     reader() = default;
     reader(reader &&) = default;
     reader &operator=(reader &&from) noexcept {
-        end();
-        nidzaru_move(&handle, &from.handle);
+        if (this != std::addressof(from)) {
+            end();
+            take(from);
+            last = from.last;
+        }
         return *this;
     }
     ~reader() { end(); }
 
-    // Gives one whole record with its number, which is never below the last one.
-    int read(T &item, std::uint64_t &number) noexcept {
-        if constexpr (record::passes) {
-            return static_cast<int>(nidzaru_sized_read(record::triple, record::size, &handle.side, &item, &number));
+    // Gives one whole record with its number, which is never below the last one. The record is copied to where `item` lies, and
+    // nothing beside it is written, whatever keeps something in its tail.
+    [[nodiscard]] int read(T &item, std::uint64_t &number) noexcept {
+        static_assert(record::in_place || std::is_copy_assignable<T>::value,
+                      "a read into a record assigns it: where it can't be assigned there is latest()");
+        int status;
+        if constexpr (record::in_place) {
+            status = nidzaru_sized_read(record::triple, record::size, &handle, std::addressof(item), &number);
         } else {
             record copy;
-            auto status = nidzaru_sized_read(record::triple, record::size, &handle.side, copy.words, &number);
-            if (!status) std::memcpy(&item, copy.words, sizeof(T));
-            return static_cast<int>(status);
+            status = nidzaru_sized_read(record::triple, record::size, &handle, copy.words, &number);
+            if (!status) detail::give(std::addressof(item), copy.words);
         }
+        if (!status) last = number;
+        return status;
     }
 
-    // Ends the side before the object goes.
-    int end() noexcept {
-        return static_cast<int>(nidzaru_sized_end_reader(record::triple, record::size, &handle.side));
+    // One whole record, whose number is `number()` then. Nothing where there is no side.
+    [[nodiscard]] std::optional<T> latest() noexcept {
+        record copy;
+        std::uint64_t number;
+        if (nidzaru_sized_read(record::triple, record::size, &handle, copy.words, &number)) return std::nullopt;
+        last = number;
+        return std::optional<T>(std::in_place, detail::unmade<T>(copy.words).value);
     }
 
-    template <class U, cell D> friend auto make(const U &first);
+    // Gives the number that a read would give, without the record. No later read gives a number below it.
+    [[nodiscard]] int look(std::uint64_t &number) noexcept {
+        return nidzaru_sized_look(record::triple, record::size, &handle, &number);
+    }
+
+    // Whether a read would give a greater number than the last read: than 0, the opening's, where there was none.
+    [[nodiscard]] bool has_news() noexcept {
+        std::uint64_t number;
+        return !look(number) && number > last;
+    }
+
+    // The number of the record that was read last.
+    [[nodiscard]] std::uint64_t number() const noexcept { return last; }
+
+    // Ends the side before the object goes. Writes go on.
+    int end() noexcept { return nidzaru_sized_end_reader(record::triple, record::size, &handle); }
+
+    template <class U, cell D> friend std::optional<sides<U, D>> try_make(const U &first) noexcept;
+
+  private:
+    std::uint64_t last = 0;
 };
 
-// Both sides of a new register that holds `first` as number 0.
-template <class T, cell C> auto make(const T &first) {
+// Both sides of a new register that holds `first` as number 0. Nothing where memory is refused.
+template <class T, cell C> std::optional<sides<T, C>> try_make(const T &first) noexcept {
     using record = detail::record<T, C>;
-    std::pair<writer<T, C>, reader<T, C>> both;
-    record copy;
-    std::memcpy(copy.words, &first, sizeof(T));
-    nidzaru_handle &to = both.first.handle, &from = both.second.handle;
-    if (nidzaru_sized_make(record::triple, record::size, copy.words, &to.side, &from.side)) throw std::bad_alloc();
-    to.home = &to;
-    from.home = &from;
+    std::optional<sides<T, C>> both(std::in_place);
+    record copy(first);
+    if (nidzaru_sized_make(record::triple, record::size, copy.words, &both->first.handle, &both->second.handle)) return std::nullopt;
     return both;
 }
 
-template <class T> auto make(const T &first) { return make<T, cell::four_slot>(first); }
-template <class T> auto make_triple(const T &first) { return make<T, cell::triple>(first); }
+// The same, and std::bad_alloc is thrown where memory is refused. A program without exceptions takes `try_make`.
+template <class T, cell C> [[nodiscard]] sides<T, C> make([[maybe_unused]] const T &first) {
+#ifdef __cpp_exceptions
+    auto both = try_make<T, C>(first);
+    if (!both) throw std::bad_alloc();
+    return std::move(*both);
+#else
+    static_assert(detail::never<T>, "make throws where memory is refused: without exceptions there is try_make");
+#endif
+}
+
+template <class T> [[nodiscard]] auto make(const T &first) { return make<T, cell::four_slot>(first); }
+template <class T> [[nodiscard]] auto make_triple(const T &first) { return make<T, cell::triple>(first); }
+template <class T> [[nodiscard]] auto try_make(const T &first) noexcept { return try_make<T, cell::four_slot>(first); }
+template <class T> [[nodiscard]] auto try_make_triple(const T &first) noexcept { return try_make<T, cell::triple>(first); }
 
 } // namespace nidzaru
 #endif

@@ -31,6 +31,15 @@ build_over_gate() {
     ) </dev/null >&2
 }
 
+# Makes of the library's objects in this folder one whose only names for others are the library's own calls. They are hidden, so
+# that a shared object with the library inside exports none of them, and two such objects in a process don't mix their libraries.
+join_objects() {
+    {
+        nm -g --defined-only ./*.o | awk '$3 ~ /^nidzaru_/ { print ".hidden " $3 }'
+        echo '.section .note.GNU-stack,"",@progbits'
+    } >hidden.s && as hidden.s -o hidden.o && ld -r -o joined ./*.o && objcopy --wildcard --keep-global-symbol='nidzaru_*' joined nidzaru
+}
+
 # Proves and builds the library for C, where it isn't built, and puts it into the file that is named, with the toolchain's
 # one object that it needs: what takes memory from the C library.
 make_library() {
@@ -40,7 +49,8 @@ make_library() {
     unpacked=$(mktemp -d) || return 1
     (
         cd "$unpacked" || exit 1
-        ar x "$here/out/libcells_c.a" && ar x "$kit/c/liblibc_c.a" && rm -f "$1" && ar rcs "$1" ./*.o
+        ar x "$here/out/libcells_c.a" && ar x "$kit/c/liblibc_c.a" && join_objects && mv nidzaru nidzaru.o && rm -f "$1" \
+            && ar rcs "$1" nidzaru.o
     )
     made=$?
     rm -rf "$unpacked"

@@ -2,6 +2,8 @@
 #include <stdint.h>
 #include <stdlib.h>
 
+uint32_t nidzaru_version(void) { return 0; }
+
 typedef struct {
     uint64_t live;
     void *at;
@@ -52,6 +54,12 @@ static uint32_t get(size_t size, side *r, uint64_t *item, uint64_t *number) {
     return 0;
 }
 
+static uint32_t look(size_t size, side *r, uint64_t *number) {
+    uint32_t status = has(r, READS, size);
+    if (!status) *number = ((struct plain *)r->at)->number;
+    return status;
+}
+
 static uint32_t end(size_t size, side *s, uint64_t kind) {
     uint32_t status = has(s, kind, size);
     struct plain *p = s->at;
@@ -65,17 +73,20 @@ static uint32_t end(size_t size, side *s, uint64_t kind) {
     uint32_t nidzaru_##cell##_make(const void *first, side *w, side *r) { return make(size, first, w, r); }                 \
     uint32_t nidzaru_##cell##_write(side *w, const void *item) { return put(size, w, item); }                               \
     uint32_t nidzaru_##cell##_read(side *r, void *item, uint64_t *number) { return get(size, r, item, number); }            \
+    uint32_t nidzaru_##cell##_look(side *r, uint64_t *number) { return look(size, r, number); }                             \
     uint32_t nidzaru_##cell##_end_writer(side *w) { return end(size, w, WRITES); }                                          \
     uint32_t nidzaru_##cell##_end_reader(side *r) { return end(size, r, READS); }
 CELL(8, 8)
 CELL(24, 24)
 CELL(64, 64)
+CELL(128, 128)
 CELL(256, 256)
 CELL(1024, 1024)
 CELL(4096, 4096)
 CELL(triple_8, 8)
 CELL(triple_24, 24)
 CELL(triple_64, 64)
+CELL(triple_128, 128)
 CELL(triple_256, 256)
 CELL(triple_1024, 1024)
 CELL(triple_4096, 4096)

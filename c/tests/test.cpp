@@ -1,10 +1,38 @@
-// The C++ classes: two threads, moves, ends, small and unaligned records, and objects that go in any order.
+// The C++ classes: two threads, moves, ends, small and unaligned records, and objects that go in any order; records of odd types; the
+// functions of the macro in C++; refused memory. Link with --wrap=malloc,--wrap=realloc,--wrap=free.
 #include "nidzaru.hpp"
 
 #include <atomic>
 #include <cstdio>
 #include <cstdlib>
+#include <memory>
 #include <thread>
+
+// Memory: the request whose number is `refuse` fails.
+extern "C" {
+void *__real_malloc(std::size_t size);
+void *__real_realloc(void *old, std::size_t size);
+void __real_free(void *old);
+static std::atomic<long> asked, blocks;
+static long refuse = -1;
+void *__wrap_malloc(std::size_t size);
+void *__wrap_realloc(void *old, std::size_t size);
+void __wrap_free(void *old);
+
+void *__wrap_malloc(std::size_t size) {
+    if (++asked == refuse) return nullptr;
+    void *made = __real_malloc(size);
+    blocks += made != nullptr;
+    return made;
+}
+
+void *__wrap_realloc(void *old, std::size_t size) { return ++asked == refuse ? nullptr : __real_realloc(old, size); }
+
+void __wrap_free(void *old) {
+    blocks -= old != nullptr;
+    __real_free(old);
+}
+}
 
 namespace {
 
@@ -34,7 +62,7 @@ template <nidzaru::cell C, class T, class Of, class Same> void threads(std::uint
     std::atomic<bool> stopped{false};
     std::thread writing([&, w = std::move(w)]() mutable {
         for (std::uint64_t i = 1; i <= many; i++) {
-            w.write(of(i));
+            if (w.write(of(i))) return;
             if (i % 256 == 0) {
                 for (auto before = answers.load(); answers == before && !stopped;) std::this_thread::yield();
             }
@@ -71,11 +99,204 @@ void moves() {
     whole x{};
     std::uint64_t n = 0;
     check(there.read(x, n) == NIDZARU_DONE && n == 1 && x.words[2] == 6, "a read after the move");
+    auto &same_writer = to;
+    auto &same_reader = there;
+    to = std::move(same_writer);
+    there = std::move(same_reader);
+    check(to.write({{7, 5, 6}}) == NIDZARU_DONE, "a write after a move to itself");
+    check(there.read(x, n) == NIDZARU_DONE && n == 2 && there.number() == 2, "a read after a move to itself");
     check(to.end() == NIDZARU_DONE && to.end() == NIDZARU_ENDED, "an end");
-    check(there.read(x, n) == NIDZARU_DONE && n == 1 && x.words[0] == 4, "a read after the writer's end");
+    check(there.read(x, n) == NIDZARU_DONE && n == 2 && x.words[0] == 7, "a read after the writer's end");
     auto [v, s] = nidzaru::make_triple(whole{{7, 8, 9}});
     to = nidzaru::writer<whole>();
     check(v.write({{1, 1, 1}}) == NIDZARU_DONE && s.read(x, n) == NIDZARU_DONE && n == 1, "a triple buffer");
+}
+
+// A move into a handle that has a side ends that side and takes the other.
+void moves_into_live() {
+    const long had = blocks;
+    {
+        auto [w, r] = nidzaru::make(whole{{1, 0, 0}});
+        auto [v, s] = nidzaru::make(whole{{2, 0, 0}});
+        whole x{};
+        std::uint64_t n = 77;
+        const long before = blocks;
+        v = std::move(w);
+        check(blocks < before, "the side that was there is ended");
+        check(s.read(x, n) == NIDZARU_DONE && x.words[0] == 2 && n == 0, "its reader goes on");
+        check(v.write({{3, 0, 0}}) == NIDZARU_DONE && r.read(x, n) == NIDZARU_DONE && x.words[0] == 3 && n == 1, "the new side writes");
+        check(s.read(x, n) == NIDZARU_DONE && x.words[0] == 2, "and not into the old register");
+        s = std::move(r);
+        check(s.number() == 1 && !s.has_news() && s.read(x, n) == NIDZARU_DONE && x.words[0] == 3, "a reader moved into a live one");
+        check(r.read(x, n) == NIDZARU_ENDED && w.write(x) == NIDZARU_ENDED, "the sides that were moved away");
+    }
+    check(blocks == had, "blocks after moves");
+}
+
+void news() {
+    auto [w, r] = nidzaru::make(whole{{1, 2, 3}});
+    std::uint64_t n = 77;
+    check(!r.has_news() && r.number() == 0, "no news in a new register");
+    check(r.look(n) == NIDZARU_DONE && n == 0, "a look at the opening");
+    check(w.write({{4, 0, 0}}) == NIDZARU_DONE && w.write({{5, 0, 0}}) == NIDZARU_DONE, "writes");
+    const long took = asked;
+    check(r.has_news() && r.has_news() && r.number() == 0, "news stays until it is read");
+    auto x = r.latest();
+    check(x && x->words[0] == 5 && r.number() == 2, "latest");
+    check(!r.has_news() && r.look(n) == NIDZARU_DONE && n == 2, "no news after a read");
+    check(asked == took, "memory that is taken by a read");
+    check(r.end() == NIDZARU_DONE && !r.latest() && !r.has_news() && r.look(n) == NIDZARU_ENDED && n == 2, "an ended reader");
+    check(r.number() == 2, "the last number stays");
+}
+
+// Its & gives another place.
+struct elsewhere {
+    std::uint64_t words[3];
+    elsewhere *operator&() { return nullptr; }
+    const elsewhere *operator&() const { return nullptr; }
+};
+
+// A class whose last four bytes a derived one may use.
+class base {
+    double low = 0, high = 0;
+    std::int32_t serial = 0;
+
+  public:
+    base() = default;
+    explicit base(std::int32_t n) : low(-n), high(n), serial(n) {}
+    bool is(std::int32_t n) const { return low == -n && high == n && serial == n; }
+};
+
+struct derived : base {
+    std::int32_t kept = 41;
+};
+
+static_assert(sizeof(derived) == sizeof(base) && sizeof(base) == 24, "what is derived keeps something in the tail");
+
+// It can't be assigned.
+struct fixed {
+    const std::uint64_t value;
+};
+
+struct last final {
+    double value;
+    std::int32_t n;
+};
+
+union either {
+    std::uint64_t number;
+    double value;
+};
+
+enum class mode : unsigned char { off, on };
+
+template <nidzaru::cell C> void odd_types() {
+    {
+        auto [w, r] = nidzaru::make<elsewhere, C>(elsewhere{{1, 2, 3}});
+        elsewhere x{{0, 0, 0}};
+        std::uint64_t n = 77;
+        check(r.read(x, n) == NIDZARU_DONE && x.words[2] == 3, "an opening with an & of its own");
+        check(w.write(elsewhere{{4, 5, 6}}) == NIDZARU_DONE && r.read(x, n) == NIDZARU_DONE && x.words[2] == 6 && n == 1,
+              "a record with an & of its own");
+        check(r.latest()->words[0] == 4, "the latest with an & of its own");
+    }
+    {
+        auto [w, r] = nidzaru::make<base, C>(base(1));
+        derived d;
+        std::uint64_t n = 77;
+        d.kept = 42;
+        check(r.read(d, n) == NIDZARU_DONE && d.is(1) && d.kept == 42, "what is derived keeps its tail");
+        check(w.write(base(2)) == NIDZARU_DONE && r.read(d, n) == NIDZARU_DONE && d.is(2) && d.kept == 42, "and again");
+        check(w.write(d) == NIDZARU_DONE && r.latest()->is(2), "the base of what is derived is written");
+    }
+    {
+        auto [w, r] = nidzaru::make<fixed, C>(fixed{1});
+        check(w.write(fixed{2}) == NIDZARU_DONE && r.latest()->value == 2, "a record that can't be assigned");
+    }
+    {
+        auto [w, r] = nidzaru::make<last, C>(last{1.0, 1});
+        last x{};
+        std::uint64_t n;
+        check(w.write({2.0, 2}) == NIDZARU_DONE && r.read(x, n) == NIDZARU_DONE && x.value == 2.0 && x.n == 2, "a final class");
+    }
+    {
+        auto [w, r] = nidzaru::make<either, C>(either{1});
+        either x{};
+        std::uint64_t n;
+        check(w.write(either{2}) == NIDZARU_DONE && r.read(x, n) == NIDZARU_DONE && x.number == 2, "a union");
+    }
+    {
+        auto [w, r] = nidzaru::make<mode, C>(mode::off);
+        mode x = mode::off;
+        std::uint64_t n;
+        check(w.write(mode::on) == NIDZARU_DONE && r.read(x, n) == NIDZARU_DONE && x == mode::on, "an enum");
+    }
+    {
+        auto [w, r] = nidzaru::make<double, C>(1.5);
+        double x = 0;
+        std::uint64_t n;
+        check(w.write(2.5) == NIDZARU_DONE && r.read(x, n) == NIDZARU_DONE && x == 2.5, "a number");
+    }
+}
+
+// The macro's functions in C++.
+NIDZARU_REGISTER(bases, base);
+NIDZARU_REGISTER(elsewheres, elsewhere);
+NIDZARU_TRIPLE_REGISTER(numbers, double);
+
+void functions() {
+    bases_writer bw = NIDZARU_EMPTY;
+    bases_reader br = NIDZARU_EMPTY;
+    base first(1), second(2);
+    derived d;
+    std::uint64_t n = 77;
+    d.kept = 42;
+    check(!bases_make(&first, &bw, &br) && !bases_write(&bw, &second), "a register of a class");
+    check(!bases_read(&br, &d, &n) && n == 1 && d.is(2) && d.kept == 42, "the macro's read leaves the tail");
+    check(!bases_end_writer(&bw) && !bases_end_reader(&br), "ends");
+    elsewheres_writer ew = NIDZARU_EMPTY;
+    elsewheres_reader er = NIDZARU_EMPTY;
+    elsewhere x{{1, 2, 3}}, y{{0, 0, 0}};
+    check(!elsewheres_make(std::addressof(x), &ew, &er) && !elsewheres_read(&er, std::addressof(y), &n) && y.words[2] == 3,
+          "the macro's functions with an & of its own");
+    check(!elsewheres_end_writer(&ew) && !elsewheres_end_reader(&er), "ends");
+    numbers_writer nw = NIDZARU_EMPTY;
+    numbers_reader nr = NIDZARU_EMPTY;
+    double a = 1.5, b = 0;
+    check(!numbers_make(&a, &nw, &nr) && !numbers_read(&nr, &b, &n) && b == 1.5 && !numbers_look(&nr, &n) && n == 0, "numbers");
+    check(!numbers_end_writer(&nw) && !numbers_end_reader(&nr), "ends");
+}
+
+template <nidzaru::cell C> void memory() {
+    bool done = false;
+    for (long at = 1; !done; at++) {
+        const long had = blocks;
+        asked = 0;
+        refuse = at;
+        {
+            auto both = nidzaru::try_make<whole, C>(whole{{1, 2, 3}});
+            done = asked < at;
+            refuse = -1;
+            check(both.has_value() == done, "try_make where memory is refused");
+            if (both) check(both->second.latest()->words[2] == 3, "what try_make made");
+        }
+        check(blocks == had, "blocks after try_make");
+        if (done) {
+            check(at > 4, "no request was refused");
+            break;
+        }
+        bool threw = false;
+        asked = 0;
+        refuse = at;
+        try {
+            auto both = nidzaru::make<whole, C>(whole{{1, 2, 3}});
+            refuse = -1;
+        } catch (const std::bad_alloc &) {
+            refuse = -1;
+            threw = true;
+        }
+        check(threw, "make throws where memory is refused");
+    }
 }
 
 } // namespace
@@ -91,6 +312,13 @@ int main(int count, char **words) {
     threads<nidzaru::cell::four_slot, small>(many, small_of, same_small);
     threads<nidzaru::cell::triple, small>(many, small_of, same_small);
     moves();
+    moves_into_live();
+    news();
+    odd_types<nidzaru::cell::four_slot>();
+    odd_types<nidzaru::cell::triple>();
+    functions();
+    memory<nidzaru::cell::four_slot>();
+    memory<nidzaru::cell::triple>();
     std::puts(failed ? "FAILED" : "passed");
     return failed != 0;
 }

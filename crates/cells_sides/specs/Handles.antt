@@ -42,6 +42,14 @@ pub data IsRead {G W : Type 0} (reads : G → Side) (has_read : G → G → Numb
   ended : h.live ≡ 0 → Keeps h k → item' ≡ item → number' ≡ number → IsRead reads has_read h k item item' number number' 3
   other : HasOther reads h → Keeps h k → item' ≡ item → number' ≡ number → IsRead reads has_read h k item item' number number' 5
 
+-- a call that tells the number that a read would give, into what had another one, and its status: a read whose record stays behind
+pub data IsLook {G W : Type 0} (reads : G → Side) (has_read : G → G → Numbered W → Type 0)
+    (h k : Handle) (number number' : ℕ) : ℕ → Type 0 where
+  done : (p q : G) (w : W) → Has h (reads p) → Has k (reads q) → has_read p q (numbered number' w) →
+      IsLook reads has_read h k number number' 0
+  ended : h.live ≡ 0 → Keeps h k → number' ≡ number → IsLook reads has_read h k number number' 3
+  other : HasOther reads h → Keeps h k → number' ≡ number → IsLook reads has_read h k number number' 5
+
 -- a call that ends a side, and its status
 pub data IsEnd {S : Type 0} (side : S → Side) (h k : Handle) : ℕ → Type 0 where
   done : (s : S) → Has h (side s) → k.live ≡ 0 → IsEnd side h k 0

@@ -1,6 +1,6 @@
 //! The calls of C, over any size, cell and side.
 ghost use Rattle.std.specs.Prelude.{◌≡◌, IfSome};
-ghost use Rattle.cells_sides.specs.Handles.{IsMake, IsWrite, IsRead, IsEnd};
+ghost use Rattle.cells_sides.specs.Handles.{IsMake, IsWrite, IsRead, IsLook, IsEnd};
 
 use crate::handle::Handle;
 use crate::pick::{Record, Role, pick};
@@ -84,6 +84,26 @@ pub fn read<W: Record, G: Reading<W>>(
             let answer = get.read();
             *item = answer.words;
             *number = answer.number;
+            DONE
+        }
+    };
+    reader.loose.put(side);
+    status
+}
+
+/// Looks by the handle's reading side which number the newest record has, without the record.
+#[inline]
+pub fn look<W: Record, G: Reading<W>>(alloc: Global, reader: &mut Handle, number: &mut u64) -> u32
+    ensures { IsLook (λ g. W.side (G.party g)) G.has_read reader.old reader.new number.old number.new result }
+{
+    if !reader.is_live() {
+        return ENDED;
+    }
+    let mut side = reader.loose.take(alloc);
+    let status = match pick::<W, G>(side.as_mut()) {
+        None => OTHER_SIDE,
+        Some(get) => {
+            *number = get.look();
             DONE
         }
     };

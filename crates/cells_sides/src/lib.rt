@@ -16,12 +16,14 @@ mod side;
 mod status;
 mod triple;
 
-pub use calls::{end, make, read, write};
+pub use calls::{end, look, make, read, write};
 pub use four_slot::{FourSlotReader, FourSlotWriter};
 pub use handle::{Handle, handles_cross};
 pub use loose::Loose;
 pub use pick::{Record, Role};
-pub use record::{Numbered, Record8, Record24, Record64, Record256, Record1024, Record4096};
+pub use record::{
+    Numbered, Record8, Record24, Record64, Record128, Record256, Record1024, Record4096,
+};
 pub use roles::{Opens, Reading, Writing};
 pub use side::{Party, Side};
 pub use triple::{TripleReader, TripleWriter};

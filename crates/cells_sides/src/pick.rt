@@ -4,13 +4,13 @@ ghost use Rattle.std.specs.Borrow.{LendsIf, sem};
 ghost use Rattle.std.proofs.Common.{rules};
 ghost use Rattle.cells_sides.specs.declared.side.Side.{Side};
 ghost use Rattle.cells_sides.specs.declared.side.Party.{Party};
-ghost use Rattle.cells_sides.specs.declared.side.Side.TheVariants.{Of8, Of24, Of64, Of256, Of1024, Of4096};
+ghost use Rattle.cells_sides.specs.declared.side.Side.TheVariants.{Of8, Of24, Of64, Of128, Of256, Of1024, Of4096};
 ghost use Rattle.cells_sides.specs.declared.side.Party.TheVariants.{Writes, Reads, TripleWrites, TripleReads};
 ghost use Rattle.cells_sides.specs.contracts.side.Side as sides;
 ghost use Rattle.cells_sides.specs.contracts.side.Party as parties;
 
 use crate::four_slot::{FourSlotReader, FourSlotWriter};
-use crate::record::{Record8, Record24, Record64, Record256, Record1024, Record4096};
+use crate::record::{Record8, Record24, Record64, Record128, Record256, Record1024, Record4096};
 use crate::side::{Party, Side};
 use crate::triple::{TripleReader, TripleWriter};
 
@@ -88,6 +88,26 @@ impl Record for Record64 {
         ensures { result ≡ Of64 party }
     {
         Side::Of64(party)
+    }
+
+    ghost only = { Prim.search rules };
+}
+
+impl Record for Record128 {
+    ghost side = { Of128 };
+
+    fn party(among: &mut Side) -> Option<&mut Party<Record128>> {
+        if let Side::Of128(party) = among {
+            Some(party)
+        } else {
+            None
+        }
+    }
+
+    fn into_side(party: Party<Record128>) -> Side
+        ensures { result ≡ Of128 party }
+    {
+        Side::Of128(party)
     }
 
     ghost only = { Prim.search rules };

@@ -1,5 +1,6 @@
 //! What the two sides of a cell do, over either cell.
 ghost use Rattle.std.specs.Prelude.{◌≡◌, ◌+◌, ◌<◌, ◌≤◌, ◌^◌, ℕ, true, false, IfOk};
+ghost use Rattle.cells_sides.specs.Numbers.{numbered};
 ghost use Rattle.cells_sides.specs.declared.record.Numbered.{Numbered};
 
 use crate::pick::Role;
@@ -14,6 +15,10 @@ pub trait Reading<W: Copy>: Role<W> {
     /// Gives one whole record with its number.
     fn read(&mut self) -> Numbered<W>
         ensures { has_read self.old self.new result };
+
+    /// Gives the number of the record that a read would give, without the record. It counts as a read.
+    fn look(&mut self) -> u64
+        ensures { (w : W) × has_read self.old self.new (numbered result w) };
 }
 
 /// A writing side.

@@ -1,7 +1,7 @@
 //! What a handle can have.
 
 use crate::four_slot::{FourSlotReader, FourSlotWriter};
-use crate::record::{Record8, Record24, Record64, Record256, Record1024, Record4096};
+use crate::record::{Record8, Record24, Record64, Record128, Record256, Record1024, Record4096};
 use crate::triple::{TripleReader, TripleWriter};
 
 /// One side of a cell whose records have this type.
@@ -20,6 +20,7 @@ pub enum Side {
     Of8(Party<Record8>),
     Of24(Party<Record24>),
     Of64(Party<Record64>),
+    Of128(Party<Record128>),
     Of256(Party<Record256>),
     Of1024(Party<Record1024>),
     Of4096(Party<Record4096>),

@@ -1,10 +1,10 @@
 //! A four-slot cell with records of 24 bytes.
 ghost use Rattle.cells_sides.specs.FourSlotCalls.{IsMade, HasWritten, HasRead};
-ghost use Rattle.cells_sides.specs.Handles.{IsMake, IsWrite, IsRead, IsEnd};
+ghost use Rattle.cells_sides.specs.Handles.{IsMake, IsWrite, IsRead, IsLook, IsEnd};
 ghost use Rattle.cells_sides.specs.declared.side.Side.TheVariants.{Of24};
 ghost use Rattle.cells_sides.specs.declared.side.Party.TheVariants.{Writes, Reads};
 
-use cells_sides::{FourSlotReader, FourSlotWriter, Handle, Record24, end, make, read, write};
+use cells_sides::{FourSlotReader, FourSlotWriter, Handle, Record24, end, look, make, read, write};
 use std::alloc::Global;
 
 #[unsafe(no_mangle)]
@@ -40,6 +40,13 @@ pub extern "C" fn nidzaru_24_read(
         item.old item.new number.old number.new result }
 {
     read::<Record24, FourSlotReader<Record24>>(alloc, reader, item, number)
+}
+
+#[unsafe(no_mangle)]
+pub extern "C" fn nidzaru_24_look(alloc: Global, reader: &mut Handle, number: &mut u64) -> u32
+    ensures { IsLook (λ g. Of24 (Reads g)) HasRead reader.old reader.new number.old number.new result }
+{
+    look::<Record24, FourSlotReader<Record24>>(alloc, reader, number)
 }
 
 #[unsafe(no_mangle)]

@@ -1,10 +1,12 @@
 //! A four-slot cell with records of 256 bytes.
 ghost use Rattle.cells_sides.specs.FourSlotCalls.{IsMade, HasWritten, HasRead};
-ghost use Rattle.cells_sides.specs.Handles.{IsMake, IsWrite, IsRead, IsEnd};
+ghost use Rattle.cells_sides.specs.Handles.{IsMake, IsWrite, IsRead, IsLook, IsEnd};
 ghost use Rattle.cells_sides.specs.declared.side.Side.TheVariants.{Of256};
 ghost use Rattle.cells_sides.specs.declared.side.Party.TheVariants.{Writes, Reads};
 
-use cells_sides::{FourSlotReader, FourSlotWriter, Handle, Record256, end, make, read, write};
+use cells_sides::{
+    FourSlotReader, FourSlotWriter, Handle, Record256, end, look, make, read, write,
+};
 use std::alloc::Global;
 
 #[unsafe(no_mangle)]
@@ -40,6 +42,13 @@ pub extern "C" fn nidzaru_256_read(
         item.old item.new number.old number.new result }
 {
     read::<Record256, FourSlotReader<Record256>>(alloc, reader, item, number)
+}
+
+#[unsafe(no_mangle)]
+pub extern "C" fn nidzaru_256_look(alloc: Global, reader: &mut Handle, number: &mut u64) -> u32
+    ensures { IsLook (λ g. Of256 (Reads g)) HasRead reader.old reader.new number.old number.new result }
+{
+    look::<Record256, FourSlotReader<Record256>>(alloc, reader, number)
 }
 
 #[unsafe(no_mangle)]

@@ -1,10 +1,10 @@
 //! A triple buffer with records of 1,024 bytes.
 ghost use Rattle.cells_sides.specs.TripleCalls.{IsMade, HasWritten, HasRead};
-ghost use Rattle.cells_sides.specs.Handles.{IsMake, IsWrite, IsRead, IsEnd};
+ghost use Rattle.cells_sides.specs.Handles.{IsMake, IsWrite, IsRead, IsLook, IsEnd};
 ghost use Rattle.cells_sides.specs.declared.side.Side.TheVariants.{Of1024};
 ghost use Rattle.cells_sides.specs.declared.side.Party.TheVariants.{TripleWrites, TripleReads};
 
-use cells_sides::{Handle, Record1024, TripleReader, TripleWriter, end, make, read, write};
+use cells_sides::{Handle, Record1024, TripleReader, TripleWriter, end, look, make, read, write};
 use std::alloc::Global;
 
 #[unsafe(no_mangle)]
@@ -44,6 +44,17 @@ pub extern "C" fn nidzaru_triple_1024_read(
         item.old item.new number.old number.new result }
 {
     read::<Record1024, TripleReader<Record1024>>(alloc, reader, item, number)
+}
+
+#[unsafe(no_mangle)]
+pub extern "C" fn nidzaru_triple_1024_look(
+    alloc: Global,
+    reader: &mut Handle,
+    number: &mut u64,
+) -> u32
+    ensures { IsLook (λ g. Of1024 (TripleReads g)) HasRead reader.old reader.new number.old number.new result }
+{
+    look::<Record1024, TripleReader<Record1024>>(alloc, reader, number)
 }
 
 #[unsafe(no_mangle)]

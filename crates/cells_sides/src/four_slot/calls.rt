@@ -16,6 +16,11 @@ impl<W: Copy> Reading<W> for FourSlotReader<W> {
     fn read(&mut self) -> Numbered<W> {
         self.cell.read(&mut self.get)
     }
+
+    #[inline]
+    fn look(&mut self) -> u64 {
+        self.cell.read_with(&mut self.get, |record| record.number)
+    }
 }
 
 impl<W: Copy> Writing<W> for FourSlotWriter<W> {

@@ -1,0 +1,144 @@
+"""The exports of the library for C, made from one text: for each cell and size of record the same six calls.
+
+    exports.py write     writes crates/cells_c/src/exports.rt and exports/
+    exports.py check     compares them, and what c/nidzaru.h declares and c/tests/control.c has, with the text below
+"""
+
+import os
+import re
+import sys
+
+TOP = os.path.dirname(os.path.dirname(os.path.realpath(__file__)))
+EXPORTS = os.path.join(TOP, "crates/cells_c/src/exports")
+SIZES = (8, 24, 64, 128, 256, 1024, 4096)
+CELLS = {
+    "four_slot": {"words": "A four-slot cell", "prefix": "", "specs": "FourSlotCalls", "cell": "FourSlot", "party": ""},
+    "triple": {"words": "A triple buffer", "prefix": "triple_", "specs": "TripleCalls", "cell": "Triple", "party": "Triple"},
+}
+
+HEAD = """//! The exports: for each cell and size a make, a write, a read, a look and an end of either side, and the library's version. The
+//! files of the cells are made by c/exports.py.
+"""
+
+TEXT = """//! {words} with records of {bytes} bytes.
+ghost use Rattle.cells_sides.specs.{specs}.{{IsMade, HasWritten, HasRead}};
+ghost use Rattle.cells_sides.specs.Handles.{{IsMake, IsWrite, IsRead, IsLook, IsEnd}};
+ghost use Rattle.cells_sides.specs.declared.side.Side.TheVariants.{{Of{size}}};
+ghost use Rattle.cells_sides.specs.declared.side.Party.TheVariants.{{{party}Writes, {party}Reads}};
+
+use cells_sides::{{{names}}};
+use std::alloc::Global;
+
+#[unsafe(no_mangle)]
+pub extern "C" fn nidzaru_{prefix}{size}_make(
+    alloc: Global,
+    first: &Record{size},
+    writer: &mut Handle,
+    reader: &mut Handle,
+) -> u32
+    ensures {{ IsMake (λ p. Of{size} ({party}Writes p)) (λ g. Of{size} ({party}Reads g)) IsMade
+        writer.old reader.old writer.new reader.new first.now result }}
+{{
+    make::<Record{size}, {cell}Writer<Record{size}>, {cell}Reader<Record{size}>>(alloc, first, writer, reader)
+}}
+
+#[unsafe(no_mangle)]
+pub extern "C" fn nidzaru_{prefix}{size}_write(alloc: Global, writer: &mut Handle, item: &Record{size}) -> u32
+    ensures {{ IsWrite (λ p. Of{size} ({party}Writes p)) (λ p. p.number) HasWritten writer.old writer.new item.now result }}
+{{
+    write::<Record{size}, {cell}Writer<Record{size}>>(alloc, writer, item)
+}}
+
+#[unsafe(no_mangle)]
+pub extern "C" fn nidzaru_{prefix}{size}_read(
+    alloc: Global,
+    reader: &mut Handle,
+    item: &mut Record{size},
+    number: &mut u64,
+) -> u32
+    ensures {{ IsRead (λ g. Of{size} ({party}Reads g)) HasRead reader.old reader.new
+        item.old item.new number.old number.new result }}
+{{
+    read::<Record{size}, {cell}Reader<Record{size}>>(alloc, reader, item, number)
+}}
+
+#[unsafe(no_mangle)]
+pub extern "C" fn nidzaru_{prefix}{size}_look(alloc: Global, reader: &mut Handle, number: &mut u64) -> u32
+    ensures {{ IsLook (λ g. Of{size} ({party}Reads g)) HasRead reader.old reader.new number.old number.new result }}
+{{
+    look::<Record{size}, {cell}Reader<Record{size}>>(alloc, reader, number)
+}}
+
+#[unsafe(no_mangle)]
+pub extern "C" fn nidzaru_{prefix}{size}_end_writer(alloc: Global, writer: &mut Handle) -> u32
+    ensures {{ IsEnd (λ p. Of{size} ({party}Writes p)) writer.old writer.new result }}
+{{
+    end::<Record{size}, {cell}Writer<Record{size}>>(alloc, writer)
+}}
+
+#[unsafe(no_mangle)]
+pub extern "C" fn nidzaru_{prefix}{size}_end_reader(alloc: Global, reader: &mut Handle) -> u32
+    ensures {{ IsEnd (λ g. Of{size} ({party}Reads g)) reader.old reader.new result }}
+{{
+    end::<Record{size}, {cell}Reader<Record{size}>>(alloc, reader)
+}}
+"""
+
+
+def export(size, cell):
+    names = ["Handle", f"Record{size}", f"{cell['cell']}Reader", f"{cell['cell']}Writer", "end", "look", "make", "read", "write"]
+    return TEXT.format(size=size, bytes=f"{size:,}", names=", ".join(sorted(names)), **cell)
+
+
+def exports():
+    """The files by their names below crates/cells_c/src."""
+    files = {
+        f"exports/{name}_{size}.rt": export(size, cell)
+        for name, cell in CELLS.items()
+        for size in SIZES
+    }
+    modules = sorted([os.path.basename(name)[:-3] for name in files] + ["version"])
+    files["exports.rt"] = HEAD + "\n" + "".join(f"mod {name};\n" for name in modules)
+    return files
+
+
+def words(text):
+    """A text without its layout, which `rt fmt` decides: no spaces, and no comma before a bracket that closes."""
+    return re.sub(r",(?=[)\]}])", "", re.sub(r"\s+", "", text))
+
+
+def read(*path):
+    with open(os.path.join(*path), encoding="utf-8") as file:
+        return file.read()
+
+
+def faults():
+    source = os.path.dirname(EXPORTS)
+    files = exports()
+    for name, text in files.items():
+        path = os.path.join(source, name)
+        if not os.path.exists(path) or words(read(path)) != words(text):
+            yield f"crates/cells_c/src/{name} isn't the text of c/exports.py"
+    there = {f"exports/{name}" for name in os.listdir(EXPORTS)} - {"exports/version.rt"}
+    yield from (f"crates/cells_c/src/{name} is made by nothing" for name in sorted(there - set(files)))
+    cells = [f"{cell['prefix']}{size}" for cell in CELLS.values() for size in SIZES]
+    if re.findall(r"^NIDZARU_DECLARE\((\w+)\)", read(TOP, "c/nidzaru.h"), re.M) != cells:
+        yield "c/nidzaru.h declares other cells"
+    if re.findall(r"^CELL\((\w+), \d+\)", read(TOP, "c/tests/control.c"), re.M) != cells:
+        yield "c/tests/control.c has other cells"
+    version = re.search(r"result ≡ (\d+)", read(EXPORTS, "version.rt")).group(1)
+    parts = [int(part) for part in re.findall(r"#define NIDZARU_VERSION_(?:MAJOR|MINOR|PATCH) (\d+)", read(TOP, "c/nidzaru.h"))]
+    if int(version) != 10000 * parts[0] + 100 * parts[1] + parts[2]:
+        yield "c/nidzaru.h has another version than the library"
+
+
+if sys.argv[1:] == ["write"]:
+    for name, text in exports().items():
+        with open(os.path.join(os.path.dirname(EXPORTS), name), "w", encoding="utf-8") as file:
+            file.write(text)
+elif sys.argv[1:] == ["check"]:
+    found = list(faults())
+    print("\n".join(found) or f"{6 * len(CELLS) * len(SIZES)} exports of {len(CELLS) * len(SIZES)} cells")
+    sys.exit(1 if found else 0)
+else:
+    sys.exit(__doc__)

@@ -1,0 +1,267 @@
+/* The header at its edges: records of each size at which the library's next greater record is taken, and one beyond; null,
+ * copied, crossed, ended and live handles in every call; what a refused call leaves; which of the library's calls is taken;
+ * requests for memory, counted and refused. Link with --wrap=malloc,--wrap=realloc,--wrap=free. */
+#include "nidzaru.h"
+#include <stdio.h>
+#include <stdlib.h>
+
+static int failed;
+
+static void check(int holds, const char *name, const char *what) {
+    if (!holds) {
+        failed++;
+        printf("FAILED: %s: %s\n", name, what);
+    }
+}
+
+/* Memory: the request whose number is `refuse` fails. Requests and blocks that live are counted. */
+void *__real_malloc(size_t size);
+void *__real_realloc(void *old, size_t size);
+void __real_free(void *old);
+static long asked, refuse = -1, blocks;
+
+void *__wrap_malloc(size_t size) {
+    void *made;
+    if (++asked == refuse) return 0;
+    made = __real_malloc(size);
+    blocks += made != 0;
+    return made;
+}
+
+void *__wrap_realloc(void *old, size_t size) {
+    if (++asked == refuse) return 0;
+    blocks += !old;
+    return __real_realloc(old, size);
+}
+
+void __wrap_free(void *old) {
+    blocks -= old != 0;
+    __real_free(old);
+}
+
+/* The library's own calls, of each cell. */
+typedef struct {
+    const char *cell;
+    size_t size;
+    int triple;
+    uint32_t (*write)(nidzaru_side *, const void *);
+    uint32_t (*read)(nidzaru_side *, void *, uint64_t *);
+    uint32_t (*look)(nidzaru_side *, uint64_t *);
+    uint32_t (*end_writer)(nidzaru_side *);
+    uint32_t (*end_reader)(nidzaru_side *);
+} calls;
+
+#define CALLS(cell, size, triple)                                                                                             \
+    {#cell, size, triple, nidzaru_##cell##_write, nidzaru_##cell##_read, nidzaru_##cell##_look, nidzaru_##cell##_end_writer,  \
+     nidzaru_##cell##_end_reader}
+static const calls library[] = {
+    CALLS(8, 8, 0),           CALLS(24, 24, 0),         CALLS(64, 64, 0),         CALLS(128, 128, 0),
+    CALLS(256, 256, 0),       CALLS(1024, 1024, 0),     CALLS(4096, 4096, 0),     CALLS(triple_8, 8, 1),
+    CALLS(triple_24, 24, 1),  CALLS(triple_64, 64, 1),  CALLS(triple_128, 128, 1), CALLS(triple_256, 256, 1),
+    CALLS(triple_1024, 1024, 1), CALLS(triple_4096, 4096, 1),
+};
+enum { CELLS = sizeof library / sizeof library[0] };
+
+/* The cell that records of this size are to lie in: the least that has room. */
+static const calls *cell_of(size_t size, int triple) {
+    for (int k = 0; k < CELLS; k++)
+        if (library[k].triple == triple && library[k].size >= size) return &library[k];
+    return 0;
+}
+
+static int is_all(const void *bytes, size_t count, int value) {
+    for (size_t k = 0; k < count; k++)
+        if (((const unsigned char *)bytes)[k] != value) return 0;
+    return 1;
+}
+
+static void fill(void *bytes, size_t count, int seed) {
+    for (size_t k = 0; k < count; k++) ((unsigned char *)bytes)[k] = (unsigned char)(seed + 7 * (int)k + 1);
+}
+
+/* Of all the library's calls just those of one cell and side know these handles, and what they give is the record with zeros
+ * behind it. */
+static void only_these(const char *name, size_t size, int triple, nidzaru_side *w, nidzaru_side *r, const void *now, uint64_t last) {
+    static uint64_t large[4096 / 8 + 8];
+    const calls *mine = cell_of(size, triple);
+    for (int k = 0; k < CELLS; k++) {
+        const calls *its = &library[k];
+        uint32_t status;
+        uint64_t n = 77, seen = 78;
+        memset(large, 0xee, sizeof large);
+        status = its->read(r, large, &n);
+        check(status == (its == mine ? NIDZARU_DONE : NIDZARU_OTHER_SIDE), name, "which read is called");
+        if (its == mine) {
+            check(n == last && !memcmp(large, now, size), name, "what the library gives");
+            check(is_all((char *)large + size, its->size - size, 0), name, "zeros behind the record");
+            check(is_all((char *)large + its->size, sizeof large - its->size, 0xee), name, "the size of the library's record");
+        } else {
+            check(n == 77 && is_all(large, sizeof large, 0xee), name, "what a read of another cell leaves");
+        }
+        check(its->look(r, &seen) == status && seen == (its == mine ? last : 78), name, "which look is called");
+        check(its->read(w, large, &n) == NIDZARU_OTHER_SIDE && its->look(w, &n) == NIDZARU_OTHER_SIDE, name, "a writer reads");
+        check(its->write(r, large) == NIDZARU_OTHER_SIDE, name, "a reader writes");
+        check(its->end_writer(r) == NIDZARU_OTHER_SIDE && its->end_reader(w) == NIDZARU_OTHER_SIDE, name, "the other side's end");
+        if (its != mine) {
+            check(its->write(w, large) == NIDZARU_OTHER_SIDE, name, "a write of another cell");
+            check(its->end_writer(w) == NIDZARU_OTHER_SIDE && its->end_reader(r) == NIDZARU_OTHER_SIDE, name, "an end of another cell");
+        }
+    }
+}
+
+/* A record is passed where it lies only if it fills the library's and is aligned to 8. */
+NIDZARU_ASSERT(NIDZARU_WATCHED || (NIDZARU_PASSES(24, 8) && NIDZARU_PASSES(4096, 8)), "records that are passed where they lie");
+NIDZARU_ASSERT(!NIDZARU_PASSES(24, 4) && !NIDZARU_PASSES(8, 1) && !NIDZARU_PASSES(16, 8) && !NIDZARU_PASSES(4088, 8), "records that are copied");
+
+enum { GUARD = 64 };
+
+#define EDGE(name, type, register_of, triple)                                                                                 \
+    register_of(name, type);                                                                                                  \
+    typedef struct {                                                                                                          \
+        _Alignas(8) unsigned char before[GUARD];                                                                              \
+        type x;                                                                                                               \
+        unsigned char after[GUARD];                                                                                           \
+    } name##_guarded;                                                                                                         \
+    static int name##_is(const name##_guarded *g, int seed) {                                                                 \
+        type wanted;                                                                                                          \
+        fill(&wanted, sizeof wanted, seed);                                                                                   \
+        return is_all(g->before, GUARD, 0xa5) && is_all(g->after, GUARD, 0xa5) && !memcmp(&wanted, &g->x, sizeof wanted);     \
+    }                                                                                                                         \
+    static void name##_set(name##_guarded *g, int seed) {                                                                     \
+        memset(g, 0xa5, sizeof *g);                                                                                           \
+        fill(&g->x, sizeof g->x, seed);                                                                                       \
+    }                                                                                                                         \
+    /* No call that gets these handles does anything: each answers `status`. */                                               \
+    static void name##_refuses(name##_writer *w, name##_reader *r, int status, const char *what) {                            \
+        name##_guarded item, out;                                                                                             \
+        uint64_t n = 77;                                                                                                      \
+        name##_set(&item, 1);                                                                                                 \
+        name##_set(&out, 2);                                                                                                  \
+        check(name##_write(w, &item.x) == status && name##_is(&item, 1), #name, what);                                        \
+        check(name##_read(r, &out.x, &n) == status && n == 77 && name##_is(&out, 2), #name, what);                            \
+        check(name##_look(r, &n) == status && n == 77, #name, what);                                                          \
+        check(name##_end_writer(w) == status && name##_end_reader(r) == status, #name, what);                                 \
+    }                                                                                                                         \
+    /* These two are live, the last record is that of `seed`, and its number is `last`. */                                    \
+    static void name##_lives(name##_writer *w, name##_reader *r, int seed, uint64_t last, const char *what) {                 \
+        name##_guarded out;                                                                                                   \
+        uint64_t n = 77, seen = 78;                                                                                           \
+        name##_set(&out, 99);                                                                                                 \
+        check(!name##_look(r, &seen) && seen == last, #name, what);                                                           \
+        check(!name##_read(r, &out.x, &n) && n == last && name##_is(&out, seed), #name, what);                                \
+        only_these(#name, sizeof(type), triple, &w->handle.side, &r->handle.side, &out.x, last);                              \
+    }                                                                                                                         \
+    static void name##_handles(void) {                                                                                        \
+        name##_writer w = NIDZARU_EMPTY, w2 = NIDZARU_EMPTY, copied_w, moved_w = NIDZARU_EMPTY;                               \
+        name##_reader r = NIDZARU_EMPTY, r2 = NIDZARU_EMPTY, copied_r, moved_r = NIDZARU_EMPTY;                               \
+        name##_guarded item;                                                                                                  \
+        uint64_t n = 77;                                                                                                      \
+        long had = blocks, took, alive;                                                                                       \
+        name##_refuses(&w, &r, NIDZARU_ENDED, "handles that have no side yet");                                               \
+        name##_set(&item, 3);                                                                                                 \
+        check(name##_make(0, &w, &r) == NIDZARU_NULL && name##_make(&item.x, 0, &r) == NIDZARU_NULL                           \
+                  && name##_make(&item.x, &w, 0) == NIDZARU_NULL, #name, "make with a null pointer");                         \
+        check(!w.handle.side.live && !r.handle.side.live && blocks == had, #name, "what a refused make leaves");              \
+        check(!name##_make(&item.x, &w, &r) && name##_is(&item, 3), #name, "make");                                           \
+        took = asked;                                                                                                         \
+        alive = blocks;                                                                                                       \
+        name##_lives(&w, &r, 3, 0, "the opening");                                                                            \
+        name##_refuses(0, 0, NIDZARU_NULL, "null handles");                                                                   \
+        check(name##_write(&w, 0) == NIDZARU_NULL, #name, "a null record is written");                                        \
+        check(name##_read(&r, 0, &n) == NIDZARU_NULL && n == 77, #name, "a read into no record");                             \
+        check(name##_read(&r, &item.x, 0) == NIDZARU_NULL && name##_is(&item, 3), #name, "a read into no number");            \
+        check(name##_look(&r, 0) == NIDZARU_NULL, #name, "a look into no number");                                            \
+        name##_lives(&w, &r, 3, 0, "after null pointers");                                                                    \
+        copied_w = w;                                                                                                         \
+        copied_r = r;                                                                                                         \
+        name##_refuses(&copied_w, &copied_r, NIDZARU_COPIED, "copied handles");                                               \
+        check(name##_make(&item.x, &copied_w, &r2) == NIDZARU_IN_USE && name##_make(&item.x, &w2, &copied_r) == NIDZARU_IN_USE \
+                  && name##_make(&item.x, &copied_w, &copied_r) == NIDZARU_IN_USE, #name, "make in copied handles");          \
+        check(name##_make(&item.x, &w, &r2) == NIDZARU_IN_USE && name##_make(&item.x, &w2, &r) == NIDZARU_IN_USE              \
+                  && name##_make(&item.x, &w, &r) == NIDZARU_IN_USE, #name, "make in live handles");                          \
+        check(!w2.handle.side.live && !r2.handle.side.live, #name, "the free handle of a refused make");                      \
+        check(blocks == alive, #name, "blocks after makes in live handles");                                                  \
+        name##_lives(&w, &r, 3, 0, "after copies and makes");                                                                 \
+        for (int k = 1; k <= 20; k++) {                                                                                       \
+            name##_set(&item, k);                                                                                             \
+            check(!name##_write(&w, &item.x) && name##_is(&item, k), #name, "a write");                                       \
+            if (k % 3 == 0) name##_lives(&w, &r, k, (uint64_t)k, "the record just written");                                  \
+        }                                                                                                                     \
+        check(asked == took && blocks == alive, #name, "a write, a read or a look took memory");                              \
+        check(nidzaru_move(0, &w.handle) == NIDZARU_NULL && nidzaru_move(&moved_w.handle, 0) == NIDZARU_NULL, #name, "a null move"); \
+        check(nidzaru_move(&w.handle, &r.handle) == NIDZARU_IN_USE && nidzaru_move(&w.handle, &w.handle) == NIDZARU_IN_USE,   \
+              #name, "a move into a live handle");                                                                            \
+        check(nidzaru_move(&moved_w.handle, &copied_w.handle) == NIDZARU_COPIED && !moved_w.handle.side.live, #name,          \
+              "a move of a copied handle");                                                                                   \
+        name##_lives(&w, &r, 20, 20, "after refused moves");                                                                  \
+        check(!nidzaru_move(&moved_w.handle, &w.handle) && !nidzaru_move(&moved_r.handle, &r.handle), #name, "a move");       \
+        name##_refuses(&w, &r, NIDZARU_ENDED, "handles that were moved from");                                                \
+        name##_lives(&moved_w, &moved_r, 20, 20, "handles that were moved to");                                               \
+        check(!nidzaru_move(&w2.handle, &w.handle) && !w2.handle.side.live, #name, "a move of an empty handle");              \
+        check(!name##_make(&item.x, &w, &r), #name, "make in handles that were moved from");                                  \
+        check(!name##_end_writer(&w) && !name##_end_reader(&r) && blocks == alive, #name, "their ends");                      \
+        took = asked;                                                                                                         \
+        check(!name##_end_writer(&moved_w) && blocks < alive && blocks > had, #name, "the first end gives back its side");    \
+        check(!name##_read(&moved_r, &item.x, &n) && n == 20 && name##_is(&item, 20), #name, "a read after the writer's end"); \
+        check(name##_write(&moved_w, &item.x) == NIDZARU_ENDED && name##_end_writer(&moved_w) == NIDZARU_ENDED, #name,        \
+              "an ended writer");                                                                                             \
+        check(!name##_end_reader(&moved_r) && blocks == had && asked == took, #name, "blocks after the ends");                \
+        name##_refuses(&moved_w, &moved_r, NIDZARU_ENDED, "ended handles");                                                   \
+        check(!moved_w.handle.side.at && !moved_r.handle.side.at, #name, "ended handles have no pointer");                    \
+    }                                                                                                                         \
+    static void name##_memory(void) {                                                                                         \
+        for (long at = 1, done = 0; !done; at++) {                                                                            \
+            name##_writer w = NIDZARU_EMPTY;                                                                                  \
+            name##_reader r = NIDZARU_EMPTY;                                                                                  \
+            name##_guarded item;                                                                                              \
+            long had = blocks;                                                                                                \
+            int status;                                                                                                       \
+            name##_set(&item, 5);                                                                                             \
+            asked = 0;                                                                                                        \
+            refuse = at;                                                                                                      \
+            status = name##_make(&item.x, &w, &r);                                                                            \
+            done = asked < at;                                                                                                \
+            refuse = -1;                                                                                                      \
+            check(status == (done ? NIDZARU_DONE : NIDZARU_NO_MEMORY), #name, "refused memory");                              \
+            if (done) {                                                                                                       \
+                check(at > 4, #name, "no request was refused");                                                               \
+                check(!name##_end_reader(&r) && !name##_end_writer(&w), #name, "ends");                                       \
+            } else {                                                                                                          \
+                name##_refuses(&w, &r, NIDZARU_ENDED, "handles without memory");                                              \
+            }                                                                                                                 \
+            check(blocks == had, #name, "blocks after refused memory");                                                       \
+        }                                                                                                                     \
+    }                                                                                                                         \
+    static void name##_all(void) {                                                                                            \
+        name##_handles();                                                                                                     \
+        name##_memory();                                                                                                      \
+    }
+
+#define BYTES(n)                                                                                                              \
+    typedef struct { unsigned char bytes[n]; } bytes##n;                                                                      \
+    EDGE(four##n, bytes##n, NIDZARU_REGISTER, 0)                                                                              \
+    EDGE(triple##n, bytes##n, NIDZARU_TRIPLE_REGISTER, 1)
+#define WORDS(n)                                                                                                              \
+    typedef struct { uint64_t words[n]; } words##n;                                                                           \
+    EDGE(four_words##n, words##n, NIDZARU_REGISTER, 0)                                                                        \
+    EDGE(triple_words##n, words##n, NIDZARU_TRIPLE_REGISTER, 1)
+/* The sizes: each greatest one that goes into a record of the library, and one beyond. */
+#define ALL_BYTES(each)                                                                                                       \
+    each(1) each(8) each(9) each(24) each(25) each(64) each(65) each(128) each(129) each(256) each(257) each(1024) each(1025) \
+    each(4096)
+/* The same in words of 8 bytes, which are passed where they lie if they fill the library's record. */
+#define ALL_WORDS(each) each(1) each(2) each(3) each(8) each(9) each(16) each(32) each(128) each(512)
+#define RUN_BYTES(n) four##n##_all(); triple##n##_all();
+#define RUN_WORDS(n) four_words##n##_all(); triple_words##n##_all();
+
+ALL_BYTES(BYTES)
+ALL_WORDS(WORDS)
+
+int main(void) {
+    check(nidzaru_version() == NIDZARU_VERSION, "version", "header and library aren't of one version");
+    ALL_BYTES(RUN_BYTES)
+    ALL_WORDS(RUN_WORDS)
+    check(!blocks, "blocks", "some are left");
+    puts(failed ? "FAILED" : "passed");
+    return failed != 0;
+}

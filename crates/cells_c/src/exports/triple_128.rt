@@ -1,0 +1,72 @@
+//! A triple buffer with records of 128 bytes.
+ghost use Rattle.cells_sides.specs.TripleCalls.{IsMade, HasWritten, HasRead};
+ghost use Rattle.cells_sides.specs.Handles.{IsMake, IsWrite, IsRead, IsLook, IsEnd};
+ghost use Rattle.cells_sides.specs.declared.side.Side.TheVariants.{Of128};
+ghost use Rattle.cells_sides.specs.declared.side.Party.TheVariants.{TripleWrites, TripleReads};
+
+use cells_sides::{Handle, Record128, TripleReader, TripleWriter, end, look, make, read, write};
+use std::alloc::Global;
+
+#[unsafe(no_mangle)]
+pub extern "C" fn nidzaru_triple_128_make(
+    alloc: Global,
+    first: &Record128,
+    writer: &mut Handle,
+    reader: &mut Handle,
+) -> u32
+    ensures { IsMake (λ p. Of128 (TripleWrites p)) (λ g. Of128 (TripleReads g)) IsMade
+        writer.old reader.old writer.new reader.new first.now result }
+{
+    make::<Record128, TripleWriter<Record128>, TripleReader<Record128>>(
+        alloc, first, writer, reader,
+    )
+}
+
+#[unsafe(no_mangle)]
+pub extern "C" fn nidzaru_triple_128_write(
+    alloc: Global,
+    writer: &mut Handle,
+    item: &Record128,
+) -> u32
+    ensures { IsWrite (λ p. Of128 (TripleWrites p)) (λ p. p.number) HasWritten writer.old writer.new item.now result }
+{
+    write::<Record128, TripleWriter<Record128>>(alloc, writer, item)
+}
+
+#[unsafe(no_mangle)]
+pub extern "C" fn nidzaru_triple_128_read(
+    alloc: Global,
+    reader: &mut Handle,
+    item: &mut Record128,
+    number: &mut u64,
+) -> u32
+    ensures { IsRead (λ g. Of128 (TripleReads g)) HasRead reader.old reader.new
+        item.old item.new number.old number.new result }
+{
+    read::<Record128, TripleReader<Record128>>(alloc, reader, item, number)
+}
+
+#[unsafe(no_mangle)]
+pub extern "C" fn nidzaru_triple_128_look(
+    alloc: Global,
+    reader: &mut Handle,
+    number: &mut u64,
+) -> u32
+    ensures { IsLook (λ g. Of128 (TripleReads g)) HasRead reader.old reader.new number.old number.new result }
+{
+    look::<Record128, TripleReader<Record128>>(alloc, reader, number)
+}
+
+#[unsafe(no_mangle)]
+pub extern "C" fn nidzaru_triple_128_end_writer(alloc: Global, writer: &mut Handle) -> u32
+    ensures { IsEnd (λ p. Of128 (TripleWrites p)) writer.old writer.new result }
+{
+    end::<Record128, TripleWriter<Record128>>(alloc, writer)
+}
+
+#[unsafe(no_mangle)]
+pub extern "C" fn nidzaru_triple_128_end_reader(alloc: Global, reader: &mut Handle) -> u32
+    ensures { IsEnd (λ g. Of128 (TripleReads g)) reader.old reader.new result }
+{
+    end::<Record128, TripleReader<Record128>>(alloc, reader)
+}
