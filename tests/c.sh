@@ -182,4 +182,5 @@ else
     c/tests/sanitize.sh 500 "$installed/lib/libnidzaru.a" >"$room/watched" 2>&1
     sed '$d' "$room/watched"
     take_counts "$room/watched" "c/tests/sanitize.sh"
+    . tests/rust.sh
 fi

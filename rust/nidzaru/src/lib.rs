@@ -1,0 +1,280 @@
+//! Registers that two threads share without waiting: one thread writes whole records, the other reads them.
+//!
+//! A sensor's thread publishes its reading; the control loop takes the newest one whenever it likes. Neither ever waits for
+//! the other, tries again or takes memory, and no read gives half of one record and half of another. A register is no queue:
+//! it holds one record, and what isn't read before the next write is lost.
+//!
+//! ```
+//! #[derive(Clone, Copy)]
+//! struct Reading {
+//!     low: f64,
+//!     high: f64,
+//!     value: f64,
+//! }
+//!
+//! let (mut writer, mut reader) = nidzaru::register(Reading { low: 0.0, high: 9.5, value: 1.0 })?;
+//! let sensor = std::thread::spawn(move || {
+//!     for n in 1..=1000 {
+//!         let value = f64::from(n);
+//!         writer.write(&Reading { low: -value, high: value, value })?;
+//!     }
+//!     Ok::<(), nidzaru::WornOut>(())
+//! });
+//! while reader.number() < 1000 {
+//!     let seen = reader.latest();
+//!     assert!(reader.number() == 0 || seen.low == -seen.high);
+//! }
+//! sensor.join().unwrap()?;
+//! # Ok::<(), Box<dyn std::error::Error>>(())
+//! ```
+//!
+//! # Numbers
+//!
+//! The opening is number 0, and each write has the next number. A number never falls from one read to the next, and one
+//! number is one record: a greater number than the last is news, and what lies between them was missed.
+//!
+//! # Which register
+//!
+//! [`register`] is a four-slot cell, whose calls are plain loads and stores of its control bits; [`triple_register`] is a
+//! triple buffer, of three slots and with the fastest read. Both make the same promises.
+//!
+//! # Records
+//!
+//! A record is of a type that is `Copy`, `Send` and `'static`, of at most 4,096 bytes and aligned to at most 8; others are
+//! refused when the program is compiled. What the writing thread did before a write comes before what the reading thread does
+//! once it has read that write's number or a greater one; nothing is ordered the other way round.
+//!
+//! # What is proved
+//!
+//! The calls go to the static library for C, each of whose exports is proved: the status that it answers, the record that it
+//! adds, and that no number falls. This crate is tested.
+
+#![deny(unsafe_code)]
+#![warn(missing_docs)]
+
+mod raw;
+
+use raw::{Calls, ReadingSide, WritingSide};
+use std::fmt;
+use std::marker::PhantomData;
+
+/// The library's version: 10,000 times the major number, 100 times the minor one and the patch.
+pub fn library_version() -> u32 {
+    raw::version()
+}
+
+/// Memory for a register was refused.
+#[derive(Clone, Copy, Debug, PartialEq, Eq)]
+pub struct OutOfMemory;
+
+impl fmt::Display for OutOfMemory {
+    fn fmt(&self, to: &mut fmt::Formatter<'_>) -> fmt::Result {
+        to.write_str("memory for a register was refused")
+    }
+}
+
+impl std::error::Error for OutOfMemory {}
+
+/// All numbers of a register, up to 2^64 - 1, are used. The record wasn't written.
+#[derive(Clone, Copy, Debug, PartialEq, Eq)]
+pub struct WornOut;
+
+impl fmt::Display for WornOut {
+    fn fmt(&self, to: &mut fmt::Formatter<'_>) -> fmt::Result {
+        to.write_str("all numbers of a register are used")
+    }
+}
+
+impl std::error::Error for WornOut {}
+
+mod sealed {
+    pub trait Sealed {}
+}
+
+/// A mechanism over which a register runs: [`FourSlot`] or [`Triple`].
+pub trait Mechanism: sealed::Sealed + Send + 'static {
+    #[doc(hidden)]
+    const TRIPLE: bool;
+}
+
+/// Four slots, and control bits that are loaded and stored.
+#[derive(Debug)]
+pub enum FourSlot {}
+
+impl sealed::Sealed for FourSlot {}
+
+impl Mechanism for FourSlot {
+    const TRIPLE: bool = false;
+}
+
+/// Three slots, and one word that is swapped.
+#[derive(Debug)]
+pub enum Triple {}
+
+impl sealed::Sealed for Triple {}
+
+impl Mechanism for Triple {
+    const TRIPLE: bool = true;
+}
+
+/// Both sides of a register.
+pub type Sides<T, M = FourSlot> = (Writer<T, M>, Reader<T, M>);
+
+/// What is known of a record when the program is compiled.
+struct Known<T, M>(PhantomData<(T, M)>);
+
+impl<T: Copy + Send + 'static, M: Mechanism> Known<T, M> {
+    const CALLS: &'static Calls = {
+        assert!(size_of::<T>() <= 4096, "a record of a register has at most 4096 bytes");
+        assert!(align_of::<T>() <= 8, "a record of a register is aligned to at most 8 bytes");
+        raw::calls_for(size_of::<T>(), M::TRIPLE)
+    };
+}
+
+/// A four-slot register that holds `first` as number 0, as its two sides.
+///
+/// ```
+/// let (mut writer, mut reader) = nidzaru::register([0u32; 5])?;
+/// writer.write(&[1, 2, 3, 4, 5])?;
+/// assert_eq!(reader.latest(), [1, 2, 3, 4, 5]);
+/// # Ok::<(), Box<dyn std::error::Error>>(())
+/// ```
+///
+/// Records that are too large, aligned to more than 8 bytes, or not `Copy` don't compile:
+///
+/// ```compile_fail
+/// let both = nidzaru::register([0u8; 4097]);
+/// ```
+///
+/// ```compile_fail
+/// #[repr(align(16))]
+/// #[derive(Clone, Copy)]
+/// struct Wide([u8; 16]);
+/// let both = nidzaru::register(Wide([0; 16]));
+/// ```
+///
+/// ```compile_fail
+/// let both = nidzaru::register(String::new());
+/// ```
+pub fn register<T: Copy + Send + 'static>(first: T) -> Result<Sides<T>, OutOfMemory> {
+    open(first)
+}
+
+/// A triple buffer that holds `first` as number 0, as its two sides.
+///
+/// ```
+/// let (mut writer, mut reader) = nidzaru::triple_register(1.5)?;
+/// writer.write(&2.5)?;
+/// assert_eq!((reader.latest(), reader.number()), (2.5, 1));
+/// # Ok::<(), Box<dyn std::error::Error>>(())
+/// ```
+pub fn triple_register<T: Copy + Send + 'static>(first: T) -> Result<Sides<T, Triple>, OutOfMemory> {
+    open(first)
+}
+
+fn open<T: Copy + Send + 'static, M: Mechanism>(first: T) -> Result<Sides<T, M>, OutOfMemory> {
+    let (writes, reads) = raw::open(Known::<T, M>::CALLS, &first).ok_or(OutOfMemory)?;
+    let writer = Writer { side: writes, of: PhantomData };
+    Ok((writer, Reader { side: reads, last: 0, of: PhantomData }))
+}
+
+/// The right to write. It may go to another thread, and one thread uses it at a time. The reader keeps the last record when it
+/// goes.
+///
+/// It can't be shared:
+///
+/// ```compile_fail
+/// fn shared<T: Sync>(_: T) {}
+/// let (writer, _reader) = nidzaru::register(1.5).unwrap();
+/// shared(writer);
+/// ```
+pub struct Writer<T: Copy + Send + 'static, M: Mechanism = FourSlot> {
+    side: WritingSide,
+    of: PhantomData<(fn(T), M)>,
+}
+
+impl<T: Copy + Send + 'static, M: Mechanism> Writer<T, M> {
+    /// Shows the record to the reader, under the next number. The error comes after 2^64 - 1 writes.
+    #[inline]
+    pub fn write(&mut self, item: &T) -> Result<(), WornOut> {
+        raw::write(Known::<T, M>::CALLS, &mut self.side, item).then_some(()).ok_or(WornOut)
+    }
+}
+
+/// The right to read. It may go to another thread, and one thread uses it at a time. Writes go on when it goes.
+///
+/// It can't be shared:
+///
+/// ```compile_fail
+/// fn shared<T: Sync>(_: T) {}
+/// let (_writer, reader) = nidzaru::register(1.5).unwrap();
+/// shared(reader);
+/// ```
+pub struct Reader<T: Copy + Send + 'static, M: Mechanism = FourSlot> {
+    side: ReadingSide,
+    last: u64,
+    of: PhantomData<(fn() -> T, M)>,
+}
+
+impl<T: Copy + Send + 'static, M: Mechanism> Reader<T, M> {
+    /// One whole record, whose number is [`number`](Reader::number) then.
+    #[inline]
+    pub fn latest(&mut self) -> T {
+        let (item, number) = raw::read(Known::<T, M>::CALLS, &mut self.side);
+        self.last = number;
+        item
+    }
+
+    /// Gives one whole record to where `item` lies, and its number.
+    #[inline]
+    pub fn read_into(&mut self, item: &mut T) -> u64 {
+        self.last = raw::read_into(Known::<T, M>::CALLS, &mut self.side, item);
+        self.last
+    }
+
+    /// One whole record, if a read gives a greater number than the last one. No record is copied where there is no news.
+    ///
+    /// ```
+    /// let (mut writer, mut reader) = nidzaru::register(1u8)?;
+    /// assert_eq!(reader.news(), None);
+    /// writer.write(&2)?;
+    /// assert!(reader.has_news());
+    /// assert_eq!(reader.news(), Some(2));
+    /// assert_eq!(reader.news(), None);
+    /// # Ok::<(), Box<dyn std::error::Error>>(())
+    /// ```
+    #[inline]
+    pub fn news(&mut self) -> Option<T> {
+        self.has_news().then(|| self.latest())
+    }
+
+    /// Whether a read would give a greater number than the last one: than 0, the opening's, where there was none.
+    #[inline]
+    pub fn has_news(&mut self) -> bool {
+        self.look() > self.last
+    }
+
+    /// The number that a read would give, without the record. No later read gives a number below it.
+    #[inline]
+    pub fn look(&mut self) -> u64 {
+        raw::look(Known::<T, M>::CALLS, &mut self.side)
+    }
+
+    /// The number of the record that was read last.
+    #[inline]
+    pub fn number(&self) -> u64 {
+        self.last
+    }
+}
+
+impl<T: Copy + Send + 'static, M: Mechanism> fmt::Debug for Writer<T, M> {
+    fn fmt(&self, to: &mut fmt::Formatter<'_>) -> fmt::Result {
+        to.debug_struct("Writer").finish_non_exhaustive()
+    }
+}
+
+impl<T: Copy + Send + 'static, M: Mechanism> fmt::Debug for Reader<T, M> {
+    fn fmt(&self, to: &mut fmt::Formatter<'_>) -> fmt::Result {
+        to.debug_struct("Reader").field("number", &self.last).finish_non_exhaustive()
+    }
+}

@@ -1,0 +1,422 @@
+//! The library's calls, and all that is unsafe of this crate.
+//!
+//! What a call owes (the library's page for C lists it), and why it is met here:
+//!
+//! 1. *A handle begins empty, and only these calls write it.* A [`Side`] is made by [`open`] alone, its fields are private to this
+//!    module, and it is neither `Copy` nor `Clone`. The library doesn't know where a handle lies: it may be moved between calls.
+//! 2. *One call at a time with one handle.* Each call takes the handle by `&mut`. From thread to thread it goes by a move, which
+//!    std's threads and channels order.
+//! 3. *Pointers lead to whole objects, and what one call is passed doesn't overlap.* A record of the library is passed as a `T` of just
+//!    that size and alignment, or as an array of words of that size; `&mut` borrows don't overlap. The words may be uninitialized where
+//!    the record has padding: they are copied and never looked at, on either side.
+//! 4. *The record that comes back is a `T`.* The library gives a record that was written into this register, whole, or its opening:
+//!    bytes that were copied from a `T`, and a `Copy` type may be had again from its bytes. `T` is `Send`, so it may come in another
+//!    thread.
+//! 5. *The calls are those of the record's size.* They are chosen by `size_of::<T>()` at [`open`] and at each call, in one way.
+//! 6. *No call from a signal handler or a forked child of a process with threads, and one allocator*: this is left to the program, as
+//!    it is for its own use of std's allocator.
+#![allow(unsafe_code)]
+
+use std::ffi::c_void;
+use std::mem::MaybeUninit;
+use std::ptr;
+
+const DONE: u32 = 0;
+const NO_MEMORY: u32 = 1;
+const WORN_OUT: u32 = 4;
+
+/// A handle of the library.
+#[repr(C)]
+struct Side {
+    live: u64,
+    at: *mut c_void,
+}
+
+impl Side {
+    const EMPTY: Side = Side { live: 0, at: ptr::null_mut() };
+}
+
+type Make = unsafe extern "C" fn(*const c_void, *mut Side, *mut Side) -> u32;
+type Write = unsafe extern "C" fn(*mut Side, *const c_void) -> u32;
+type Read = unsafe extern "C" fn(*mut Side, *mut c_void, *mut u64) -> u32;
+type Look = unsafe extern "C" fn(*mut Side, *mut u64) -> u32;
+type End = unsafe extern "C" fn(*mut Side) -> u32;
+
+/// The calls of one cell, over records of one size.
+pub struct Calls {
+    size: usize,
+    make: Make,
+    write: Write,
+    read: Read,
+    look: Look,
+    end_writer: End,
+    end_reader: End,
+}
+
+/// Declares the calls of a cell and names them.
+macro_rules! calls {
+    ($name:ident, $size:literal, $make:ident, $write:ident, $read:ident, $look:ident, $end_writer:ident, $end_reader:ident) => {
+        extern "C" {
+            fn $make(first: *const c_void, writer: *mut Side, reader: *mut Side) -> u32;
+            fn $write(writer: *mut Side, item: *const c_void) -> u32;
+            fn $read(reader: *mut Side, item: *mut c_void, number: *mut u64) -> u32;
+            fn $look(reader: *mut Side, number: *mut u64) -> u32;
+            fn $end_writer(writer: *mut Side) -> u32;
+            fn $end_reader(reader: *mut Side) -> u32;
+        }
+        static $name: Calls =
+            Calls { size: $size, make: $make, write: $write, read: $read, look: $look, end_writer: $end_writer, end_reader: $end_reader };
+    };
+}
+
+calls!(FOUR_SLOT_8, 8, nidzaru_8_make, nidzaru_8_write, nidzaru_8_read, nidzaru_8_look, nidzaru_8_end_writer, nidzaru_8_end_reader);
+calls!(FOUR_SLOT_24, 24, nidzaru_24_make, nidzaru_24_write, nidzaru_24_read, nidzaru_24_look, nidzaru_24_end_writer, nidzaru_24_end_reader);
+calls!(FOUR_SLOT_64, 64, nidzaru_64_make, nidzaru_64_write, nidzaru_64_read, nidzaru_64_look, nidzaru_64_end_writer, nidzaru_64_end_reader);
+calls!(
+    FOUR_SLOT_128,
+    128,
+    nidzaru_128_make,
+    nidzaru_128_write,
+    nidzaru_128_read,
+    nidzaru_128_look,
+    nidzaru_128_end_writer,
+    nidzaru_128_end_reader
+);
+calls!(
+    FOUR_SLOT_256,
+    256,
+    nidzaru_256_make,
+    nidzaru_256_write,
+    nidzaru_256_read,
+    nidzaru_256_look,
+    nidzaru_256_end_writer,
+    nidzaru_256_end_reader
+);
+calls!(
+    FOUR_SLOT_1024,
+    1024,
+    nidzaru_1024_make,
+    nidzaru_1024_write,
+    nidzaru_1024_read,
+    nidzaru_1024_look,
+    nidzaru_1024_end_writer,
+    nidzaru_1024_end_reader
+);
+calls!(
+    FOUR_SLOT_4096,
+    4096,
+    nidzaru_4096_make,
+    nidzaru_4096_write,
+    nidzaru_4096_read,
+    nidzaru_4096_look,
+    nidzaru_4096_end_writer,
+    nidzaru_4096_end_reader
+);
+calls!(
+    TRIPLE_8,
+    8,
+    nidzaru_triple_8_make,
+    nidzaru_triple_8_write,
+    nidzaru_triple_8_read,
+    nidzaru_triple_8_look,
+    nidzaru_triple_8_end_writer,
+    nidzaru_triple_8_end_reader
+);
+calls!(
+    TRIPLE_24,
+    24,
+    nidzaru_triple_24_make,
+    nidzaru_triple_24_write,
+    nidzaru_triple_24_read,
+    nidzaru_triple_24_look,
+    nidzaru_triple_24_end_writer,
+    nidzaru_triple_24_end_reader
+);
+calls!(
+    TRIPLE_64,
+    64,
+    nidzaru_triple_64_make,
+    nidzaru_triple_64_write,
+    nidzaru_triple_64_read,
+    nidzaru_triple_64_look,
+    nidzaru_triple_64_end_writer,
+    nidzaru_triple_64_end_reader
+);
+calls!(
+    TRIPLE_128,
+    128,
+    nidzaru_triple_128_make,
+    nidzaru_triple_128_write,
+    nidzaru_triple_128_read,
+    nidzaru_triple_128_look,
+    nidzaru_triple_128_end_writer,
+    nidzaru_triple_128_end_reader
+);
+calls!(
+    TRIPLE_256,
+    256,
+    nidzaru_triple_256_make,
+    nidzaru_triple_256_write,
+    nidzaru_triple_256_read,
+    nidzaru_triple_256_look,
+    nidzaru_triple_256_end_writer,
+    nidzaru_triple_256_end_reader
+);
+calls!(
+    TRIPLE_1024,
+    1024,
+    nidzaru_triple_1024_make,
+    nidzaru_triple_1024_write,
+    nidzaru_triple_1024_read,
+    nidzaru_triple_1024_look,
+    nidzaru_triple_1024_end_writer,
+    nidzaru_triple_1024_end_reader
+);
+calls!(
+    TRIPLE_4096,
+    4096,
+    nidzaru_triple_4096_make,
+    nidzaru_triple_4096_write,
+    nidzaru_triple_4096_read,
+    nidzaru_triple_4096_look,
+    nidzaru_triple_4096_end_writer,
+    nidzaru_triple_4096_end_reader
+);
+
+extern "C" {
+    fn nidzaru_version() -> u32;
+}
+
+pub fn version() -> u32 {
+    // It takes nothing and reads no memory.
+    unsafe { nidzaru_version() }
+}
+
+/// The calls for records of a size of at most 4,096 bytes.
+pub const fn calls_for(size: usize, triple: bool) -> &'static Calls {
+    match (size, triple) {
+        (0..=8, false) => &FOUR_SLOT_8,
+        (9..=24, false) => &FOUR_SLOT_24,
+        (25..=64, false) => &FOUR_SLOT_64,
+        (65..=128, false) => &FOUR_SLOT_128,
+        (129..=256, false) => &FOUR_SLOT_256,
+        (257..=1024, false) => &FOUR_SLOT_1024,
+        (1025..=4096, false) => &FOUR_SLOT_4096,
+        (0..=8, true) => &TRIPLE_8,
+        (9..=24, true) => &TRIPLE_24,
+        (25..=64, true) => &TRIPLE_64,
+        (65..=128, true) => &TRIPLE_128,
+        (129..=256, true) => &TRIPLE_256,
+        (257..=1024, true) => &TRIPLE_1024,
+        (1025..=4096, true) => &TRIPLE_4096,
+        _ => panic!("a record of a register has at most 4096 bytes"),
+    }
+}
+
+/// A writing side that is live until it goes.
+pub struct WritingSide {
+    side: Side,
+    end: End,
+}
+
+/// A reading side that is live until it goes.
+pub struct ReadingSide {
+    side: Side,
+    end: End,
+}
+
+// A side may go to another thread: the library's handles may cross threads, and the records are `Send`.
+unsafe impl Send for WritingSide {}
+unsafe impl Send for ReadingSide {}
+
+impl Drop for WritingSide {
+    fn drop(&mut self) {
+        // The side is live, and is not used again.
+        let status = unsafe { (self.end)(&mut self.side) };
+        debug_assert_eq!(status, DONE);
+    }
+}
+
+impl Drop for ReadingSide {
+    fn drop(&mut self) {
+        // As above.
+        let status = unsafe { (self.end)(&mut self.side) };
+        debug_assert_eq!(status, DONE);
+    }
+}
+
+/// Whether a `T` is passed where it lies.
+const fn passes<T>(calls: &Calls) -> bool {
+    size_of::<T>() == calls.size && align_of::<T>() == 8
+}
+
+/// A record of the library with a smaller one in front.
+struct Words<const N: usize>([MaybeUninit<u64>; N]);
+
+impl<const N: usize> Words<N> {
+    #[inline]
+    fn zero() -> Self {
+        Words([const { MaybeUninit::new(0) }; N])
+    }
+
+    /// The bytes of the item, and zeros behind it.
+    #[inline]
+    fn of<T: Copy>(item: &T) -> Self {
+        assert!(size_of::<T>() <= size_of::<Self>());
+        let mut words = Self::zero();
+        // Both have room for a `T`, and a local doesn't overlap what is borrowed.
+        unsafe { ptr::copy_nonoverlapping(ptr::from_ref(item).cast::<u8>(), words.0.as_mut_ptr().cast::<u8>(), size_of::<T>()) };
+        words
+    }
+
+    #[inline]
+    fn as_ptr(&self) -> *const c_void {
+        self.0.as_ptr().cast()
+    }
+
+    #[inline]
+    fn as_mut_ptr(&mut self) -> *mut c_void {
+        self.0.as_mut_ptr().cast()
+    }
+}
+
+/// Calls `$call` with the number of words of the library's records.
+macro_rules! by_size {
+    ($calls:expr, $call:ident, $arguments:tt) => {
+        match $calls.size {
+            8 => $call::<_, 1> $arguments,
+            24 => $call::<_, 3> $arguments,
+            64 => $call::<_, 8> $arguments,
+            128 => $call::<_, 16> $arguments,
+            256 => $call::<_, 32> $arguments,
+            1024 => $call::<_, 128> $arguments,
+            _ => $call::<_, 512> $arguments,
+        }
+    };
+}
+
+/// Both sides of a new register. None where memory is refused.
+pub fn open<T: Copy>(calls: &'static Calls, first: &T) -> Option<(WritingSide, ReadingSide)> {
+    by_size!(calls, open_by, (calls, first))
+}
+
+fn open_by<T: Copy, const N: usize>(calls: &'static Calls, first: &T) -> Option<(WritingSide, ReadingSide)> {
+    let (mut writer, mut reader) = (Side::EMPTY, Side::EMPTY);
+    // The handles are empty, and the words are as many as the library's record has.
+    let status = unsafe { (calls.make)(Words::<N>::of(first).as_ptr(), &mut writer, &mut reader) };
+    match status {
+        DONE => {}
+        NO_MEMORY => return None,
+        other => unreachable!("both handles are empty, so the status isn't {other}"),
+    }
+    let writer = WritingSide { side: writer, end: calls.end_writer };
+    Some((writer, ReadingSide { side: reader, end: calls.end_reader }))
+}
+
+/// Writes the record. `false` where the numbers are used up.
+#[inline]
+pub fn write<T: Copy>(calls: &'static Calls, writer: &mut WritingSide, item: &T) -> bool {
+    if passes::<T>(calls) {
+        // The item is as large and aligned as the library's record.
+        is_written(unsafe { (calls.write)(&mut writer.side, ptr::from_ref(item).cast()) })
+    } else {
+        by_size!(calls, write_by, (calls, writer, item))
+    }
+}
+
+#[inline]
+fn write_by<T: Copy, const N: usize>(calls: &'static Calls, writer: &mut WritingSide, item: &T) -> bool {
+    // The words are as many as the library's record has.
+    is_written(unsafe { (calls.write)(&mut writer.side, Words::<N>::of(item).as_ptr()) })
+}
+
+#[inline]
+fn is_written(status: u32) -> bool {
+    match status {
+        DONE => true,
+        WORN_OUT => false,
+        other => unreachable!("the handle has the writing side, so the status isn't {other}"),
+    }
+}
+
+/// Reads a record and its number.
+#[inline]
+pub fn read<T: Copy>(calls: &'static Calls, reader: &mut ReadingSide) -> (T, u64) {
+    if passes::<T>(calls) {
+        let (mut item, mut number) = (MaybeUninit::<T>::uninit(), 0);
+        // The place is as large and aligned as the library's record.
+        must_be_done(unsafe { (calls.read)(&mut reader.side, item.as_mut_ptr().cast(), &mut number) });
+        // The call has filled it with the bytes of a `T`.
+        (unsafe { item.assume_init() }, number)
+    } else {
+        by_size!(calls, read_by, (calls, reader))
+    }
+}
+
+#[inline]
+fn read_by<T: Copy, const N: usize>(calls: &'static Calls, reader: &mut ReadingSide) -> (T, u64) {
+    assert!(size_of::<T>() <= size_of::<Words<N>>());
+    let (mut words, mut number) = (Words::<N>::zero(), 0);
+    // The words are as many as the library's record has.
+    must_be_done(unsafe { (calls.read)(&mut reader.side, words.as_mut_ptr(), &mut number) });
+    // They begin with the bytes of a `T`.
+    (unsafe { ptr::read_unaligned(words.as_ptr().cast::<T>()) }, number)
+}
+
+/// Reads a record into place, and gives its number.
+#[inline]
+pub fn read_into<T: Copy>(calls: &'static Calls, reader: &mut ReadingSide, item: &mut T) -> u64 {
+    if passes::<T>(calls) {
+        let mut number = 0;
+        // The item is as large and aligned as the library's record, and gets the bytes of a `T`.
+        must_be_done(unsafe { (calls.read)(&mut reader.side, ptr::from_mut(item).cast(), &mut number) });
+        number
+    } else {
+        let (record, number) = read(calls, reader);
+        *item = record;
+        number
+    }
+}
+
+/// The number that a read would give.
+#[inline]
+pub fn look(calls: &'static Calls, reader: &mut ReadingSide) -> u64 {
+    let mut number = 0;
+    // The pointer leads to a number.
+    must_be_done(unsafe { (calls.look)(&mut reader.side, &mut number) });
+    number
+}
+
+#[inline]
+fn must_be_done(status: u32) {
+    assert_eq!(status, DONE, "the handle has the reading side");
+}
+
+#[cfg(test)]
+mod tests {
+    use super::*;
+
+    #[test]
+    fn a_write_is_refused_when_numbers_are_used_up() {
+        assert!(is_written(DONE));
+        assert!(!is_written(WORN_OUT));
+    }
+
+    #[test]
+    fn the_least_calls_that_have_room_are_chosen() {
+        let sizes = [8, 24, 64, 128, 256, 1024, 4096];
+        for size in 0..=4096 {
+            let least = sizes.into_iter().find(|&it| it >= size).unwrap();
+            assert_eq!(calls_for(size, false).size, least);
+            assert_eq!(calls_for(size, true).size, least);
+            assert_ne!(calls_for(size, false).write as usize, calls_for(size, true).write as usize);
+        }
+    }
+
+    #[test]
+    fn what_passes_is_as_large_and_aligned_as_the_librarys_record() {
+        assert!(passes::<[u64; 3]>(calls_for(24, false)));
+        assert!(!passes::<[u32; 6]>(calls_for(24, false)));
+        assert!(!passes::<[u64; 2]>(calls_for(16, false)));
+    }
+}
