@@ -2,9 +2,9 @@
 
     clauses.py [COMMIT] [--names FILE]      of the files as they are, or of a commit
 
-A line is `OWNER::NAME | requires or ensures LABEL | TEXT`, or of a ghost member `OWNER | ghost NAME | TEXT`. Public is a `pub fn`, a method of a `pub
-trait` and a method of an `impl` of a trait; crates, files and folders aren't told, so what only moved gives the same lines. FILE has lines
-`OLD NEW`, each a word that is replaced. So two commits are compared by
+A line is `OWNER::NAME | requires or ensures LABEL | TEXT`, or of a ghost member `OWNER | ghost NAME | TEXT`. Public is a `pub fn`, in a
+private module too, a method of a `pub trait` and a method of an `impl` of a trait; crates, files and folders aren't told, so what only moved
+gives the same lines. FILE has lines `OLD NEW`, each a word that is replaced. So two commits are compared by
 
     diff <(tests/clauses.py OLD --names FILE) <(tests/clauses.py NEW)
 
