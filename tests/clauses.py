@@ -1,10 +1,11 @@
 """Prints the clauses of the repository's public functions, one a line, in an order that doesn't depend on where they stand.
 
-    clauses.py [COMMIT] [--names FILE]      of the files as they are, or of a commit
+    clauses.py [COMMIT] [--definitions] [--names FILE]      of the files as they are, or of a commit
 
 A line is `OWNER::NAME | requires or ensures LABEL | TEXT`, or of a ghost member `OWNER | ghost NAME | TEXT`. Public is a `pub fn`, in a
 private module too, a method of a `pub trait` and a method of an `impl` of a trait; crates, files and folders aren't told, so what only moved
-gives the same lines. FILE has lines `OLD NEW`, each a word that is replaced. So two commits are compared by
+gives the same lines. With --definitions there is a line of each definition of `specs/` too, `definition NAME | TEXT`, as a clause says what
+these say. FILE has lines `OLD NEW`, each a word that is replaced. So two commits are compared by
 
     diff <(tests/clauses.py OLD --names FILE) <(tests/clauses.py NEW)
 
@@ -20,6 +21,7 @@ import tarfile
 
 TOP = os.path.dirname(os.path.dirname(os.path.realpath(__file__)))
 SOURCE = re.compile(r"crates/\w+/src/.*\.rt$")
+SPECS = re.compile(r"crates/\w+/specs/.*\.antt$")
 TESTS = re.compile(r"(^|[/_])tests(/|\.rt$|_)|/library_tests/")
 # Comments, strings and characters, in which no brace counts.
 SKIPPED = re.compile(r"""//[^\n]*|"(?:[^"\\]|\\.)*"|'(?:[^'\\\n]|\\.)'""")
@@ -95,20 +97,29 @@ def clauses_of(text):
             function = head = None
 
 
-def files_of(commit):
-    """The texts of the sources as they are, or of a commit."""
+def definitions_of(text):
+    """The definitions in the text of a file of `specs/`: what stands between two empty lines, without comments and imports."""
+    for block in re.split(r"\n\s*\n", re.sub(r"(?m)^[ \t]*(--.*|(pub )?(use|mod) .*|module .*)\n", "", text + "\n")):
+        words = block.split()
+        heads = [it for it in words[:6] if it not in ("abbrev", "pub", "unfoldable", "opaque", "record", "data")]
+        if heads:
+            yield f"definition {heads[0]} | {' '.join(words)}"
+
+
+def files_of(commit, kind):
+    """The texts of the files of this kind as they are, or of a commit."""
     if not commit:
         for at, _, names in os.walk(f"{TOP}/crates"):
             for name in names:
                 path = os.path.relpath(f"{at}/{name}", TOP)
-                if SOURCE.match(path) and not TESTS.search(path):
+                if kind.match(path) and not TESTS.search(path):
                     with open(f"{TOP}/{path}", encoding="utf-8") as file:
                         yield file.read()
         return
     packed = subprocess.run(["git", "-C", TOP, "archive", commit, "crates"], stdout=subprocess.PIPE, check=True).stdout
     with tarfile.open(fileobj=io.BytesIO(packed)) as archive:
         for it in archive:
-            if it.isfile() and SOURCE.match(it.name) and not TESTS.search(it.name):
+            if it.isfile() and kind.match(it.name) and not TESTS.search(it.name):
                 yield archive.extractfile(it).read().decode()
 
 
@@ -119,7 +130,12 @@ def main(words):
         with open(words[at + 1], encoding="utf-8") as file:
             names = dict(line.split() for line in file if line.strip())
         del words[at : at + 2]
-    lines = sorted(line for text in files_of(words[0] if words else None) for line in clauses_of(text))
+    with_definitions = "--definitions" in words
+    commit = next((it for it in words if it != "--definitions"), None)
+    lines = [line for text in files_of(commit, SOURCE) for line in clauses_of(text)]
+    if with_definitions:
+        lines += [line for text in files_of(commit, SPECS) for line in definitions_of(text)]
+    lines.sort()
     for line in lines:
         print(re.sub(r"[\w]+", lambda it: names.get(it[0], it[0]), line))
     return 0 if lines else 1
