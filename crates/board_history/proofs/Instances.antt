@@ -74,6 +74,7 @@ one_process : (i : ℕ) (call : Called ℕ) (answer : Stamped ℕ) (number read 
 one_process i call answer number read written sees chooses = record {
   long = refl;
   reads = λ e l. at_read e l;
+  answered = λ e l. refl;
   writes = λ e l. at_write e l;
   written = λ e l. refl;
   sees = λ k c e. saw k c e;

@@ -4,4 +4,5 @@ mod Calls
 mod Atomic
 mod There
 mod Last
+mod Growing
 mod Instances

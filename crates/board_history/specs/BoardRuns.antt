@@ -71,6 +71,7 @@ module _ {V : Type 0} where
   pub record IsProcess (width n limit : ℕ) (first : Stamped V) (i : ℕ) (did : Did V) : Type 0 where
     pub long : length did.times ≡ length did.calls * steps_of_call width n
     pub reads : (e : ℕ) → e + 1 < n → AreAccesses width n did e (did.reads (other i e)).begins (did.reads (other i e)).ends
+    pub answered : (e : ℕ) → e + 1 < n → length (did.reads (other i e)).items ≡ length did.calls
     pub writes : (e : ℕ) → e + 1 < n → AreAccesses width n did (n - 1 + e) (did.writes (other i e)).begins (did.writes (other i e)).ends
     pub written : (e : ℕ) → e + 1 < n → (did.writes (other i e)).items ≡ map (λ c. c.chosen) did.calls
     pub sees : (k : ℕ) (c : Called V) → slice_get did.calls k ≡ Some c → Sees n first i did k c.seen

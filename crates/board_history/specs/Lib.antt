@@ -1,3 +1,4 @@
+pub mod Accesses
 pub mod BoardRuns
 pub mod Histories
 pub mod Instances

@@ -1,13 +1,14 @@
 //! Laws over the definitions.
 
-ghost use Rattle.std.specs.Prelude.{◌≡◌, ℕ, List, [], ◌∷◌, Option, Some};
+ghost use Rattle.std.specs.Prelude.{◌≡◌, ◌<◌, ◌≤◌, ℕ, List, [], ◌∷◌, Option, Some};
 ghost use Rattle.history_core.specs.declared.history.Op.{Op};
 ghost use Rattle.history_core.specs.Orders.{IsAtomicOrder, latest, RefusesLawfully};
 ghost use Rattle.stamps.specs.declared.stamp.Stamp.{Stamp};
 ghost use Rattle.stamps.specs.declared.stamp.Stamped.{Stamped};
 ghost use Rattle.matrix_core.specs.Lines.{first_record};
 ghost use Rattle.matrix_core.specs.Listings.{IsInOrder};
-ghost use Rattle.board_history.specs.BoardRuns.{Did, IsBoardRun};
+ghost use Rattle.board_history.specs.Accesses.{HasDoneNothing, MakesCall};
+ghost use Rattle.board_history.specs.BoardRuns.{Called, Did, IsBoardRun, IsProcess};
 ghost use Rattle.board_history.specs.Instances.{reads_opening, reads_seven, two_processes, zero_first};
 ghost use Rattle.board_history.specs.Histories.{IsGreatestOwn, IsHistory};
 
@@ -33,4 +34,12 @@ pub fn runs_are_atomic<V>()
 pub fn runs_of_two()
     ensures fresh { IsBoardRun 1 2 5 zero_first (0 ∷ 0 ∷ 1 ∷ 1 ∷ []) (two_processes reads_seven) }
     ensures stale { (number : ℕ) → IsBoardRun 1 2 5 zero_first (0 ∷ 0 ∷ 1 ∷ 1 ∷ []) (two_processes (reads_opening number)) → ⊥ }
+{}
+
+/// A process that has done nothing has made its calls, and one call more keeps that it made its calls: so whoever makes a board's calls
+/// shows them one by one.
+pub fn calls_add_up<V>()
+    ensures none { (width n limit i : ℕ) (first : Stamped V) (did : Did V) → HasDoneNothing did → IsProcess width n limit first i did }
+    ensures more { (width n limit i : ℕ) (first : Stamped V) (old new : Did V) (call : Called V) → 2 ≤ n → 0 < width →
+        IsProcess width n limit first i old → MakesCall width n limit first i old new call → IsProcess width n limit first i new }
 {}
