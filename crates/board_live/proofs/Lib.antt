@@ -3,6 +3,7 @@ pub mod Dealing
 pub mod Dealt
 pub mod Ended
 pub mod Ending
+pub mod FoundWrites
 pub mod Halves
 pub mod LaneLists
 pub mod LogLaws

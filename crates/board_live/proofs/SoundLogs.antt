@@ -1,4 +1,4 @@
--- Logs that were found sound so far: one more sound entry, and one more sound log.
+-- Logs that keep a rule so far: one more entry that keeps it, and one more log.
 use Rattle.std.proofs.Common.{◌≡◌, ℕ, ◌+◌, ◌<◌, List, [], ◌∷◌, ◌++◌, length, map, take, get_or, refl, sym, ◌∙◌, ap, subst, arith, Bool}
 use Rattle.std.proofs.Common.{true, ◌⊎◌, inl, inr, ⊎_elim}
 use Rattle.std.specs.Prelude.{slice_get, Some, IsTrue}
@@ -10,7 +10,7 @@ use Rattle.stamps.specs.declared.stamp.Stamp.{Stamp}
 use Rattle.cell_live.specs.Running.{last_or}
 use Rattle.board_live.specs.declared.lane.Entry.{Entry}
 use Rattle.board_live.specs.Logs.{stamp_of}
-use Rattle.board_live.specs.Origins.{is_sound, SoundBefore, stamp_before, TasksSoundBefore}
+use Rattle.board_live.specs.Origins.{KeptBefore, stamp_before, TasksKeep}
 use Rattle.board_live.proofs.Columns.{last_or-append}
 
 -- the place below one more is below, or is it
@@ -31,30 +31,30 @@ stamp_after log k e at =
     refl in
     ap (last_or first_stamp) taken ∙ last_or-append first_stamp (map f (take k log)) (f e)
 
-module _ {V : Type 0} (equal : V → V → Bool) (opening : V) (logs : List (List (Entry V))) where
-  -- the entries before this place are sound, and this is the stamp of the last of them
-  pub record IsSoundSoFar (log : List (Entry V)) (place : ℕ) (before : Stamp) : Type 0 where
+module _ {V : Type 0} (rule : ℕ → Stamp → Entry V → Bool) where
+  -- the entries before this place keep the rule, and this is the stamp of the last of them
+  pub record IsKeptSoFar (task : ℕ) (log : List (Entry V)) (place : ℕ) (before : Stamp) : Type 0 where
     pub stamp : before ≡ stamp_before log place
-    pub sound : SoundBefore equal opening logs log place
+    pub kept : KeptBefore rule task log place
 
-  pub sound_more : (log : List (Entry V)) (place : ℕ) (before : Stamp) (e : Entry V) → slice_get log place ≡ Some e
-      → IsSoundSoFar log place before
-      → is_sound equal opening logs before e ≡ true → IsSoundSoFar log (place + 1) (stamp_of e.reply)
-  sound_more log place before e at h is = record {
+  pub kept_more : (task : ℕ) (log : List (Entry V)) (place : ℕ) (before : Stamp) (e : Entry V) → slice_get log place ≡ Some e
+      → IsKeptSoFar task log place before
+      → rule task before e ≡ true → IsKeptSoFar task log (place + 1) (stamp_of e.reply)
+  kept_more task log place before e at h is = record {
     stamp = sym (stamp_after log place e at);
-    sound = λ j d l p. ⊎_elim (λ (lt : j < place). h.sound j d lt p)
+    kept = λ j d l p. ⊎_elim (λ (lt : j < place). h.kept j d lt p)
         (λ (same : j ≡ place).
         let there : Some e ≡ Some d = sym at ∙ subst (λ z. slice_get log z ≡ Some d) same p in
         rw (same, sym (same_Some e d there), sym h.stamp) is)
         (below_more j place l);
   }
 
-  pub tasks_more : (task : ℕ) (log : List (Entry V)) → slice_get logs task ≡ Some log → TasksSoundBefore equal opening logs task
-      → SoundBefore equal opening logs log (length log) → TasksSoundBefore equal opening logs (task + 1)
-  tasks_more task log at h sound t j other e l p q = ⊎_elim (λ (lt : t < task). h t j other e lt p q)
+  pub tasks_more : (logs : List (List (Entry V))) (task : ℕ) (log : List (Entry V)) → slice_get logs task ≡ Some log
+      → TasksKeep rule logs task → KeptBefore rule task log (length log) → TasksKeep rule logs (task + 1)
+  tasks_more logs task log at h kept t j other e l p q = ⊎_elim (λ (lt : t < task). h t j other e lt p q)
       (λ (same : t ≡ task).
       let there : Some log ≡ Some other = sym at ∙ subst (λ z. slice_get logs z ≡ Some other) same p in
       let is : log ≡ other = same_Some log other there in
       let here : slice_get log j ≡ Some e = rw is q in
-      subst (λ z. IsTrue (is_sound equal opening logs (stamp_before z j) e)) is (sound j e (slice_get_within log j e here) here))
+      rw same (subst (λ z. IsTrue (rule task (stamp_before z j) e)) is (kept j e (slice_get_within log j e here) here)))
       (below_more t task l)

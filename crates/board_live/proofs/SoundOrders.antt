@@ -9,7 +9,7 @@ use Rattle.std.proofs.lemmas.Option.{none-some, same_Some}
 use Rattle.history_core.specs.declared.wish.Wish.{Wish}
 use Rattle.history_core.specs.declared.wish.Wish.TheVariants.{Write, Read}
 use Rattle.stamps.specs.Choices.{IsIn}
-use Rattle.stamps.specs.Stamps.{IsBelow, first_stamp}
+use Rattle.stamps.specs.Stamps.{IsBelow, first_stamp, is_below}
 use Rattle.stamps.specs.declared.stamp.Stamp.{Stamp}
 use Rattle.cell_live.specs.Running.{last_or}
 use Rattle.board_live.specs.declared.lane.Entry.{Entry}
@@ -18,7 +18,9 @@ use Rattle.board_live.specs.declared.lane.Reply.TheVariants.{Written, Seen, Ende
 use Rattle.board_live.specs.declared.posted.Posted.{Posted}
 use Rattle.board_live.specs.LogOrders.{AreOfOne, entries_of, is_of, IsLogOrder, LogsInOrder, Noted, Takes}
 use Rattle.board_live.specs.Logs.{is_at_most, stamp_of}
-use Rattle.board_live.specs.Origins.{has_write, is_known, is_sound, IsFirstUnsound, same_stamp, sees_known, stamp_before, wrote}
+use Rattle.board_live.specs.Origins.{AllKeep, has_origin, has_write, in_order, is_known, is_reply_at, IsFirstBreak, IsOrigin, same_stamp}
+use Rattle.board_live.specs.Origins.{sees_known, stamp_before, wrote}
+use Rattle.board_live.specs.declared.origin.Origin.TheVariants.{Broken}
 use Rattle.board_live.proofs.LogLaws.{at_most_trans}
 use Rattle.board_live.proofs.Steps.{get_at}
 
@@ -30,6 +32,12 @@ at_most_self a = grind (arith, nat_tests)
 
 stamp_itself : (a : Stamp) → same_stamp a a ≡ true
 stamp_itself a = grind (arith, nat_tests)
+
+above_all : (a b c : Stamp) → is_at_most a b ≡ true → IsBelow b c → is_below a c ≡ true
+above_all a b c h k = grind (arith, nat_tests)
+
+same_task : (n m : ℕ) → nat_eq n m ≡ true → n ≡ m
+same_task n m h = grind (arith, nat_tests)
 
 task_itself : (n : ℕ) → nat_eq n n ≡ true
 task_itself n = grind (arith, nat_tests)
@@ -46,12 +54,12 @@ second_true : (a b : Bool) → b ≡ true → (a || b) ≡ true
 second_true true b e = refl
 second_true false b e = e
 
-any_in : {X : Type 0} (p : X → Bool) (xs : List X) (x : X) → IsIn x xs → p x ≡ true → list_any p xs ≡ true
+pub any_in : {X : Type 0} (p : X → Bool) (xs : List X) (x : X) → IsIn x xs → p x ≡ true → list_any p xs ≡ true
 any_in p [] x m e = absurd m
 any_in p (y ∷ ys) x (inl f) e = first_true (p y) (list_any p ys) (ap p (sym f) ∙ e)
 any_in p (y ∷ ys) x (inr m) e = second_true (p y) (list_any p ys) (any_in p ys x m e)
 
-in_at : {X : Type 0} (xs : List X) (k : ℕ) (x : X) → slice_get xs k ≡ Some x → IsIn x xs
+pub in_at : {X : Type 0} (xs : List X) (k : ℕ) (x : X) → slice_get xs k ≡ Some x → IsIn x xs
 in_at [] k x h = absurd (none-some x h)
 in_at (y ∷ ys) zero x h = inl (sym (same_Some y x h))
 in_at (y ∷ ys) (suc k) x h = inr (in_at ys k x h)
@@ -109,36 +117,55 @@ module _ {V : Type 0} where
       record { held = now; writes = writes; goes = h.1; stamp = ap (λ z. z.stamp) h.0; up = at_most_self now.stamp }
   next limit task now writes Read (Ended p) rest h = absurd h
 
-  -- stamps that never fall, from this one on
-  abbrev pub RiseFrom : Stamp → List (Entry V) → Type 0
-  RiseFrom before [] = Unit {0}
-  RiseFrom before (e ∷ es) = (is_at_most before (stamp_of e.reply) ≡ true) × RiseFrom (stamp_of e.reply) es
+  -- what a register takes is a reply in order, from a stamp on that isn't above its own
+  reply_by : (limit task : ℕ) (before : Stamp) (now : Posted V) (writes : ℕ) (wish : Wish V) (reply : Reply V) (rest : Posted V → ℕ → Type 0)
+      → is_at_most before now.stamp ≡ true → Takes limit task now writes wish reply rest → is_reply_at task before wish reply ≡ true
+  reply_by limit task before now writes (Write item) (Written s) rest u h =
+      all_true (nat_eq s.writer task) (is_below before s) (subst (λ n. nat_eq s.writer n ≡ true) h.1 (task_itself s.writer))
+      (above_all before now.stamp s u h.0)
+  reply_by limit task before now writes (Write item) (Seen p) rest u h = absurd h
+  reply_by limit task before now writes (Write item) (Ended p) rest u h =
+      subst (λ (z : Posted V). is_at_most before z.stamp ≡ true) (sym h.0) u
+  reply_by limit task before now writes Read (Written s) rest u h = absurd h
+  reply_by limit task before now writes Read (Seen p) rest u h = subst (λ (z : Posted V). is_at_most before z.stamp ≡ true) (sym h.0) u
+  reply_by limit task before now writes Read (Ended p) rest u h = absurd h
 
-  rise_by : (b : Bool) (before : Stamp) (n : Noted V) (F : List (Noted V)) → is_at_most before (stamp_of n.entry.reply) ≡ true
-      → RiseFrom (stamp_of n.entry.reply) (map (λ (m : Noted V). m.entry) F) → RiseFrom before (map (λ (m : Noted V). m.entry) F)
-      → RiseFrom before (map (λ (m : Noted V). m.entry) (cond b (n ∷ F) F))
-  rise_by true before n F u h k = (u, h)
-  rise_by false before n F u h k = k
+  -- entries of a task in order, from this stamp on
+  abbrev pub OrderedFrom : ℕ → Stamp → List (Entry V) → Type 0
+  OrderedFrom task before [] = Unit {0}
+  OrderedFrom task before (e ∷ es) = (in_order task before e ≡ true) × OrderedFrom task (stamp_of e.reply) es
 
-  rise : (limit task : ℕ) (last : Posted V) (order : List (Noted V)) (before : Stamp) (now : Posted V) (writes : ℕ)
+  ordered_by : (b : Bool) (task : ℕ) (before : Stamp) (n : Noted V) (F : List (Noted V))
+      → (b ≡ true → in_order task before n.entry ≡ true)
+      → OrderedFrom task (stamp_of n.entry.reply) (map (λ (m : Noted V). m.entry) F)
+      → OrderedFrom task before (map (λ (m : Noted V). m.entry) F)
+      → OrderedFrom task before (map (λ (m : Noted V). m.entry) (cond b (n ∷ F) F))
+  ordered_by true task before n F u h k = (u refl, h)
+  ordered_by false task before n F u h k = k
+
+  ordered : (limit task : ℕ) (last : Posted V) (order : List (Noted V)) (before : Stamp) (now : Posted V) (writes : ℕ)
       → is_at_most before now.stamp ≡ true
-      → AreOfOne limit now writes last order → RiseFrom before (entries_of task order)
-  rise limit task last [] before now writes u h = tt
-  rise limit task last (n ∷ order) before now writes u h =
+      → AreOfOne limit now writes last order → OrderedFrom task before (entries_of task order)
+  ordered limit task last [] before now writes u h = tt
+  ordered limit task last (n ∷ order) before now writes u h =
       let x : Next n.entry.reply now (λ p m. AreOfOne limit p m last order) =
       next limit n.task now writes n.entry.wish n.entry.reply (λ p m. AreOfOne limit p m last order) h in
       let v : is_at_most before x.held.stamp ≡ true = at_most_trans before now.stamp x.held.stamp u x.up in
-      rise_by (is_of task n) before n (filter (is_of task) order)
-      (subst (λ s. is_at_most before s ≡ true) (sym x.stamp) v)
-      (rise limit task last order (stamp_of n.entry.reply) x.held x.writes
+      ordered_by (is_of task n) task before n (filter (is_of task) order)
+      (λ mine.
+      let same : n.task ≡ task = same_task n.task task mine in
+      subst (λ t. in_order t before n.entry ≡ true) same
+      (reply_by limit n.task before now writes n.entry.wish n.entry.reply (λ p m. AreOfOne limit p m last order) u h))
+      (ordered limit task last order (stamp_of n.entry.reply) x.held x.writes
       (subst (λ s. is_at_most s x.held.stamp ≡ true) (sym x.stamp) (at_most_self x.held.stamp)) x.goes)
-      (rise limit task last order before x.held x.writes v x.goes)
+      (ordered limit task last order before x.held x.writes v x.goes)
 
-  rising_at : (log : List (Entry V)) (before : Stamp) (j : ℕ) (e : Entry V) → RiseFrom before log → slice_get log j ≡ Some e
-      → is_at_most (last_or before (map (λ (d : Entry V). stamp_of d.reply) (take j log))) (stamp_of e.reply) ≡ true
-  rising_at [] before j e h at = absurd (none-some e at)
-  rising_at (x ∷ log) before zero e h at = subst (λ (z : Entry V). is_at_most before (stamp_of z.reply) ≡ true) (same_Some x e at) h.0
-  rising_at (x ∷ log) before (suc j) e h at = rising_at log (stamp_of x.reply) j e h.1 at
+  ordered_at : (task : ℕ) (log : List (Entry V)) (before : Stamp) (j : ℕ) (e : Entry V) → OrderedFrom task before log → slice_get log j ≡ Some e
+      → in_order task (last_or before (map (λ (d : Entry V). stamp_of d.reply) (take j log))) e ≡ true
+  ordered_at task [] before j e h at = absurd (none-some e at)
+  ordered_at task (x ∷ log) before zero e h at =
+      subst (λ (z : Entry V). in_order task before z ≡ true) (same_Some x e at) h.0
+  ordered_at task (x ∷ log) before (suc j) e h at = ordered_at task log (stamp_of x.reply) j e h.1 at
 
   module _ (equal : V → V → Bool) (itself : (x : V) → equal x x ≡ true) (opening : V) (logs : List (List (Entry V))) (limit : ℕ)
       (last : Posted V) (order : List (Noted V)) (is : IsLogOrder opening limit logs last order) where
@@ -206,28 +233,39 @@ module _ {V : Type 0} where
         (has_write equal (record { stamp = first_stamp; item = opening }) (slice_get logs 0))
         (all_true (same_stamp first_stamp first_stamp) (equal opening opening) (stamp_itself first_stamp) (itself opening))
 
-    pub all_sound : (t j : ℕ) (log : List (Entry V)) (e : Entry V) → slice_get logs t ≡ Some log → slice_get log j ≡ Some e
-        → IsTrue (is_sound equal opening logs (stamp_before log j) e)
-    all_sound t j log e at in_log =
+    pub all_known_at : AllKeep (has_origin equal opening logs) logs
+    all_known_at t j log e at in_log =
         let mine : entries_of t order ≡ log = is.each t log at in
         let n = noted_in t order e (subst (λ z. IsIn e z) (sym mine) (in_at log j e in_log)) in
-        let k : sees_known equal opening logs e.reply ≡ true =
         subst (λ (z : Entry V). sees_known equal opening logs z.reply ≡ true) (sym n.2)
-        (all_known order (record { stamp = first_stamp; item = opening }) 0 (λ d i. i) is.one first_known n.0 n.1) in
-        let r : RiseFrom first_stamp log =
-        subst (RiseFrom first_stamp) mine
-        (rise limit t last order first_stamp (record { stamp = first_stamp; item = opening }) 0 (at_most_self first_stamp) is.one) in
-        all_true (is_at_most (stamp_before log j) (stamp_of e.reply)) (sees_known equal opening logs e.reply)
-        (rising_at log first_stamp j e r in_log) k
+        (all_known order (record { stamp = first_stamp; item = opening }) 0 (λ d i. i) is.one first_known n.0 n.1)
 
-  -- so no entry is the first that isn't sound
-  pub never_unsound : (equal : V → V → Bool) → ((x : V) → equal x x ≡ true)
-      → (opening : V) (logs : List (List (Entry V))) (limit : ℕ) (last : Posted V) → LogsInOrder opening limit logs last
-      → (task place : ℕ) (log : List (Entry V)) → slice_get logs task ≡ Some log → IsFirstUnsound equal opening logs log place → ⊥
-  never_unsound equal itself opening logs limit last h task place log at u =
-      not_both (is_sound equal opening logs (stamp_before log place) u.entry)
-      (all_sound equal itself opening logs limit last h.0 h.1 task place log u.entry at u.at) u.unsound
+  -- every entry is in order
+  all_ordered : (opening : V) (logs : List (List (Entry V))) (limit : ℕ) (last : Posted V) → LogsInOrder opening limit logs last
+      → AllKeep in_order logs
+  all_ordered opening logs limit last h t j log e at in_log =
+      let mine : entries_of t h.0 ≡ log = h.1.each t log at in
+      ordered_at t log first_stamp j e
+      (subst (OrderedFrom t first_stamp) mine
+      (ordered limit t last h.0 first_stamp (record { stamp = first_stamp; item = opening }) 0 (at_most_self first_stamp) h.1.one)) in_log
+
+  -- an entry that breaks a rule isn't one of those that all keep it
+  pub breaks_none : (rule : ℕ → Stamp → Entry V → Bool) (logs : List (List (Entry V))) → AllKeep rule logs
+      → (task call : ℕ) → IsFirstBreak rule logs task call → ⊥
+  breaks_none rule logs all task call broken =
+      not_both (rule task (stamp_before broken.log broken.place) broken.breaks.entry)
+      (all task broken.place broken.log broken.breaks.entry broken.at broken.breaks.at) broken.breaks.breaks
     where
       not_both : (v : Bool) → IsTrue v → IsFalse v → ⊥
       not_both true t f = cc
       not_both false t f = cc
+
+  -- so logs that have one order aren't broken
+  pub never_broken : (equal : V → V → Bool) → ((x : V) → equal x x ≡ true)
+      → (opening : V) (logs : List (List (Entry V))) (limit : ℕ) (last : Posted V) → LogsInOrder opening limit logs last
+      → (task call : ℕ) → IsOrigin equal opening logs (Broken task call) → ⊥
+  never_broken equal itself opening logs limit last h task call broken = elim broken.either [
+    | inl first ↦ breaks_none in_order logs (all_ordered opening logs limit last h) task call first
+    | inr (_, first) ↦
+        breaks_none (has_origin equal opening logs) logs (all_known_at equal itself opening logs limit last h.0 h.1) task call first
+  ]

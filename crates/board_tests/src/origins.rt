@@ -93,6 +93,73 @@ fn records_without_a_write_are_told(rt: HostRuntime) -> Result<(), Fail> {
 }
 
 #[test]
+fn stamps_of_writes_are_their_own(rt: HostRuntime) -> Result<(), Fail> {
+    let alloc = rt.alloc();
+    let broken = |task, call| Origin::Broken { task, call };
+    let twice = [write(1, 0, 5), write(1, 0, 6)];
+    assert_eq!(rt;
+        verdict(alloc, &twice, &[read(1, 0, 6)])?,
+        broken(0, 2),
+        "two writes of one stamp"
+    );
+    assert_eq!(rt;
+        verdict(alloc, &[write(1, 1, 5)], &[])?,
+        broken(0, 1),
+        "the stamp of another task"
+    );
+    assert_eq!(rt;
+        verdict(alloc, &[write(0, 0, 0)], &[])?,
+        broken(0, 1),
+        "the stamp of the opening"
+    );
+    let odd = Entry {
+        wish: Wish::Read,
+        reply: Reply::Written(Stamp { tag: 1, writer: 0 }),
+    };
+    assert_eq!(rt;
+        verdict(alloc, &[odd], &[])?,
+        broken(0, 1),
+        "a reply to another wish"
+    );
+    Ok(())
+}
+
+/// What is out of order is told before what has no origin.
+#[test]
+fn order_is_looked_at_first(rt: HostRuntime) -> Result<(), Fail> {
+    let falls = [write(2, 1, 6), write(1, 1, 5)];
+    assert_eq!(rt;
+        verdict(rt.alloc(), &[read(3, 1, 7)], &falls)?,
+        Origin::Broken { task: 1, call: 2 }
+    );
+    Ok(())
+}
+
+#[test]
+fn records_are_found_in_long_logs(rt: HostRuntime) -> Result<(), Fail> {
+    let alloc = rt.alloc();
+    let mut first = Vec::new(alloc);
+    let mut second = Vec::new(alloc);
+    for k in 0..1_000 {
+        first.push(write(2 * k + 1, 0, k))?;
+        second.push(read(2 * k + 1, 0, k))?;
+    }
+    assert_eq!(rt;
+        verdict(alloc, first.as_slice(), second.as_slice())?,
+        Origin::Sound
+    );
+    second.push(read(2_000, 0, 999))?;
+    assert_eq!(rt;
+        verdict(alloc, first.as_slice(), second.as_slice())?,
+        Origin::Broken {
+            task: 1,
+            call: 1_001
+        }
+    );
+    Ok(())
+}
+
+#[test]
 fn stamps_that_fall_are_told(rt: HostRuntime) -> Result<(), Fail> {
     let alloc = rt.alloc();
     let writes = [write(1, 0, 5), write(2, 0, 6)];
