@@ -12,8 +12,8 @@ TOP = os.path.dirname(os.path.dirname(os.path.realpath(__file__)))
 EXPORTS = os.path.join(TOP, "crates/cells_c/src/exports")
 SIZES = (8, 24, 64, 128, 256, 1024, 4096)
 CELLS = {
-    "four_slot": {"words": "A four-slot cell", "prefix": "", "specs": "FourSlotCalls", "cell": "FourSlot", "party": ""},
-    "triple": {"words": "A triple buffer", "prefix": "triple_", "specs": "TripleCalls", "cell": "Triple", "party": "Triple"},
+    "four_slot": {"words": "A four-slot cell", "prefix": "", "specs": "FourSlotCalls", "name": "four_slot", "party": ""},
+    "triple": {"words": "A triple buffer", "prefix": "triple_", "specs": "TripleCalls", "name": "triple", "party": "Triple"},
 }
 
 HEAD = """//! The exports: for each cell and size a make, a write, a read, a look and an end of either side, and the library's version. The
@@ -39,14 +39,14 @@ pub extern "C" fn nidzaru_{prefix}{size}_make(
     ensures {{ IsMake (λ p. Of{size} ({party}Writes p)) (λ g. Of{size} ({party}Reads g)) IsMade
         writer.old reader.old writer.new reader.new first.now result }}
 {{
-    make::<Record{size}, {cell}Writer<Record{size}>, {cell}Reader<Record{size}>>(alloc, first, writer, reader)
+    {name}_make::<Record{size}>(alloc, first, writer, reader)
 }}
 
 #[unsafe(no_mangle)]
 pub extern "C" fn nidzaru_{prefix}{size}_write(alloc: Global, writer: &mut Handle, item: &Record{size}) -> u32
     ensures {{ IsWrite (λ p. Of{size} ({party}Writes p)) (λ p. p.number) HasWritten writer.old writer.new item.now result }}
 {{
-    write::<Record{size}, {cell}Writer<Record{size}>>(alloc, writer, item)
+    {name}_write::<Record{size}>(alloc, writer, item)
 }}
 
 #[unsafe(no_mangle)]
@@ -59,34 +59,35 @@ pub extern "C" fn nidzaru_{prefix}{size}_read(
     ensures {{ IsRead (λ g. Of{size} ({party}Reads g)) HasRead reader.old reader.new
         item.old item.new number.old number.new result }}
 {{
-    read::<Record{size}, {cell}Reader<Record{size}>>(alloc, reader, item, number)
+    {name}_read::<Record{size}>(alloc, reader, item, number)
 }}
 
 #[unsafe(no_mangle)]
 pub extern "C" fn nidzaru_{prefix}{size}_look(alloc: Global, reader: &mut Handle, number: &mut u64) -> u32
     ensures {{ IsLook (λ g. Of{size} ({party}Reads g)) HasRead reader.old reader.new number.old number.new result }}
 {{
-    look::<Record{size}, {cell}Reader<Record{size}>>(alloc, reader, number)
+    {name}_look::<Record{size}>(alloc, reader, number)
 }}
 
 #[unsafe(no_mangle)]
 pub extern "C" fn nidzaru_{prefix}{size}_end_writer(alloc: Global, writer: &mut Handle) -> u32
     ensures {{ IsEnd (λ p. Of{size} ({party}Writes p)) writer.old writer.new result }}
 {{
-    end::<Record{size}, {cell}Writer<Record{size}>>(alloc, writer)
+    {name}_end_writer::<Record{size}>(alloc, writer)
 }}
 
 #[unsafe(no_mangle)]
 pub extern "C" fn nidzaru_{prefix}{size}_end_reader(alloc: Global, reader: &mut Handle) -> u32
     ensures {{ IsEnd (λ g. Of{size} ({party}Reads g)) reader.old reader.new result }}
 {{
-    end::<Record{size}, {cell}Reader<Record{size}>>(alloc, reader)
+    {name}_end_reader::<Record{size}>(alloc, reader)
 }}
 """
 
 
 def export(size, cell):
-    names = ["Handle", f"Record{size}", f"{cell['cell']}Reader", f"{cell['cell']}Writer", "end", "look", "make", "read", "write"]
+    calls = ("end_reader", "end_writer", "look", "make", "read", "write")
+    names = ["Handle", f"Record{size}", *(f"{cell['name']}_{call}" for call in calls)]
     return TEXT.format(size=size, bytes=f"{size:,}", names=", ".join(sorted(names)), **cell)
 
 

@@ -10,6 +10,12 @@ use std::alloc::Global;
 use std::sync::Arc;
 
 mod calls;
+mod exported;
+
+pub use exported::{
+    four_slot_end_reader, four_slot_end_writer, four_slot_look, four_slot_make, four_slot_read,
+    four_slot_write,
+};
 
 /// The writing side.
 #[derive(Drop)]

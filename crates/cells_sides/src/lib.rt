@@ -7,6 +7,7 @@
 mod calls;
 mod four_slot;
 mod handle;
+mod layout;
 mod loose;
 mod parts;
 mod pick;
@@ -17,7 +18,10 @@ mod status;
 mod triple;
 
 pub use calls::{end, look, make, read, write};
-pub use four_slot::{FourSlotReader, FourSlotWriter};
+pub use four_slot::{
+    FourSlotReader, FourSlotWriter, four_slot_end_reader, four_slot_end_writer, four_slot_look,
+    four_slot_make, four_slot_read, four_slot_write,
+};
 pub use handle::{Handle, handles_cross};
 pub use loose::Loose;
 pub use pick::{Record, Role};
@@ -26,4 +30,7 @@ pub use record::{
 };
 pub use roles::{Opens, Reading, Writing};
 pub use side::{Party, Side};
-pub use triple::{TripleReader, TripleWriter};
+pub use triple::{
+    TripleReader, TripleWriter, triple_end_reader, triple_end_writer, triple_look, triple_make,
+    triple_read, triple_write,
+};

@@ -10,6 +10,11 @@ use std::alloc::Global;
 use std::sync::Arc;
 
 mod calls;
+mod exported;
+
+pub use exported::{
+    triple_end_reader, triple_end_writer, triple_look, triple_make, triple_read, triple_write,
+};
 
 /// The writing side.
 #[derive(Drop)]

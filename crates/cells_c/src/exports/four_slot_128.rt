@@ -5,7 +5,8 @@ ghost use Rattle.cells_sides.specs.declared.side.Side.TheVariants.{Of128};
 ghost use Rattle.cells_sides.specs.declared.side.Party.TheVariants.{Writes, Reads};
 
 use cells_sides::{
-    FourSlotReader, FourSlotWriter, Handle, Record128, end, look, make, read, write,
+    Handle, Record128, four_slot_end_reader, four_slot_end_writer, four_slot_look, four_slot_make,
+    four_slot_read, four_slot_write,
 };
 use std::alloc::Global;
 
@@ -19,16 +20,14 @@ pub extern "C" fn nidzaru_128_make(
     ensures { IsMake (λ p. Of128 (Writes p)) (λ g. Of128 (Reads g)) IsMade
         writer.old reader.old writer.new reader.new first.now result }
 {
-    make::<Record128, FourSlotWriter<Record128>, FourSlotReader<Record128>>(
-        alloc, first, writer, reader,
-    )
+    four_slot_make::<Record128>(alloc, first, writer, reader)
 }
 
 #[unsafe(no_mangle)]
 pub extern "C" fn nidzaru_128_write(alloc: Global, writer: &mut Handle, item: &Record128) -> u32
     ensures { IsWrite (λ p. Of128 (Writes p)) (λ p. p.number) HasWritten writer.old writer.new item.now result }
 {
-    write::<Record128, FourSlotWriter<Record128>>(alloc, writer, item)
+    four_slot_write::<Record128>(alloc, writer, item)
 }
 
 #[unsafe(no_mangle)]
@@ -41,26 +40,26 @@ pub extern "C" fn nidzaru_128_read(
     ensures { IsRead (λ g. Of128 (Reads g)) HasRead reader.old reader.new
         item.old item.new number.old number.new result }
 {
-    read::<Record128, FourSlotReader<Record128>>(alloc, reader, item, number)
+    four_slot_read::<Record128>(alloc, reader, item, number)
 }
 
 #[unsafe(no_mangle)]
 pub extern "C" fn nidzaru_128_look(alloc: Global, reader: &mut Handle, number: &mut u64) -> u32
     ensures { IsLook (λ g. Of128 (Reads g)) HasRead reader.old reader.new number.old number.new result }
 {
-    look::<Record128, FourSlotReader<Record128>>(alloc, reader, number)
+    four_slot_look::<Record128>(alloc, reader, number)
 }
 
 #[unsafe(no_mangle)]
 pub extern "C" fn nidzaru_128_end_writer(alloc: Global, writer: &mut Handle) -> u32
     ensures { IsEnd (λ p. Of128 (Writes p)) writer.old writer.new result }
 {
-    end::<Record128, FourSlotWriter<Record128>>(alloc, writer)
+    four_slot_end_writer::<Record128>(alloc, writer)
 }
 
 #[unsafe(no_mangle)]
 pub extern "C" fn nidzaru_128_end_reader(alloc: Global, reader: &mut Handle) -> u32
     ensures { IsEnd (λ g. Of128 (Reads g)) reader.old reader.new result }
 {
-    end::<Record128, FourSlotReader<Record128>>(alloc, reader)
+    four_slot_end_reader::<Record128>(alloc, reader)
 }

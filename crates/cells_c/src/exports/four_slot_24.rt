@@ -4,7 +4,10 @@ ghost use Rattle.cells_sides.specs.Handles.{IsMake, IsWrite, IsRead, IsLook, IsE
 ghost use Rattle.cells_sides.specs.declared.side.Side.TheVariants.{Of24};
 ghost use Rattle.cells_sides.specs.declared.side.Party.TheVariants.{Writes, Reads};
 
-use cells_sides::{FourSlotReader, FourSlotWriter, Handle, Record24, end, look, make, read, write};
+use cells_sides::{
+    Handle, Record24, four_slot_end_reader, four_slot_end_writer, four_slot_look, four_slot_make,
+    four_slot_read, four_slot_write,
+};
 use std::alloc::Global;
 
 #[unsafe(no_mangle)]
@@ -17,16 +20,14 @@ pub extern "C" fn nidzaru_24_make(
     ensures { IsMake (λ p. Of24 (Writes p)) (λ g. Of24 (Reads g)) IsMade
         writer.old reader.old writer.new reader.new first.now result }
 {
-    make::<Record24, FourSlotWriter<Record24>, FourSlotReader<Record24>>(
-        alloc, first, writer, reader,
-    )
+    four_slot_make::<Record24>(alloc, first, writer, reader)
 }
 
 #[unsafe(no_mangle)]
 pub extern "C" fn nidzaru_24_write(alloc: Global, writer: &mut Handle, item: &Record24) -> u32
     ensures { IsWrite (λ p. Of24 (Writes p)) (λ p. p.number) HasWritten writer.old writer.new item.now result }
 {
-    write::<Record24, FourSlotWriter<Record24>>(alloc, writer, item)
+    four_slot_write::<Record24>(alloc, writer, item)
 }
 
 #[unsafe(no_mangle)]
@@ -39,26 +40,26 @@ pub extern "C" fn nidzaru_24_read(
     ensures { IsRead (λ g. Of24 (Reads g)) HasRead reader.old reader.new
         item.old item.new number.old number.new result }
 {
-    read::<Record24, FourSlotReader<Record24>>(alloc, reader, item, number)
+    four_slot_read::<Record24>(alloc, reader, item, number)
 }
 
 #[unsafe(no_mangle)]
 pub extern "C" fn nidzaru_24_look(alloc: Global, reader: &mut Handle, number: &mut u64) -> u32
     ensures { IsLook (λ g. Of24 (Reads g)) HasRead reader.old reader.new number.old number.new result }
 {
-    look::<Record24, FourSlotReader<Record24>>(alloc, reader, number)
+    four_slot_look::<Record24>(alloc, reader, number)
 }
 
 #[unsafe(no_mangle)]
 pub extern "C" fn nidzaru_24_end_writer(alloc: Global, writer: &mut Handle) -> u32
     ensures { IsEnd (λ p. Of24 (Writes p)) writer.old writer.new result }
 {
-    end::<Record24, FourSlotWriter<Record24>>(alloc, writer)
+    four_slot_end_writer::<Record24>(alloc, writer)
 }
 
 #[unsafe(no_mangle)]
 pub extern "C" fn nidzaru_24_end_reader(alloc: Global, reader: &mut Handle) -> u32
     ensures { IsEnd (λ g. Of24 (Reads g)) reader.old reader.new result }
 {
-    end::<Record24, FourSlotReader<Record24>>(alloc, reader)
+    four_slot_end_reader::<Record24>(alloc, reader)
 }

@@ -5,7 +5,8 @@ ghost use Rattle.cells_sides.specs.declared.side.Side.TheVariants.{Of256};
 ghost use Rattle.cells_sides.specs.declared.side.Party.TheVariants.{Writes, Reads};
 
 use cells_sides::{
-    FourSlotReader, FourSlotWriter, Handle, Record256, end, look, make, read, write,
+    Handle, Record256, four_slot_end_reader, four_slot_end_writer, four_slot_look, four_slot_make,
+    four_slot_read, four_slot_write,
 };
 use std::alloc::Global;
 
@@ -19,16 +20,14 @@ pub extern "C" fn nidzaru_256_make(
     ensures { IsMake (λ p. Of256 (Writes p)) (λ g. Of256 (Reads g)) IsMade
         writer.old reader.old writer.new reader.new first.now result }
 {
-    make::<Record256, FourSlotWriter<Record256>, FourSlotReader<Record256>>(
-        alloc, first, writer, reader,
-    )
+    four_slot_make::<Record256>(alloc, first, writer, reader)
 }
 
 #[unsafe(no_mangle)]
 pub extern "C" fn nidzaru_256_write(alloc: Global, writer: &mut Handle, item: &Record256) -> u32
     ensures { IsWrite (λ p. Of256 (Writes p)) (λ p. p.number) HasWritten writer.old writer.new item.now result }
 {
-    write::<Record256, FourSlotWriter<Record256>>(alloc, writer, item)
+    four_slot_write::<Record256>(alloc, writer, item)
 }
 
 #[unsafe(no_mangle)]
@@ -41,26 +40,26 @@ pub extern "C" fn nidzaru_256_read(
     ensures { IsRead (λ g. Of256 (Reads g)) HasRead reader.old reader.new
         item.old item.new number.old number.new result }
 {
-    read::<Record256, FourSlotReader<Record256>>(alloc, reader, item, number)
+    four_slot_read::<Record256>(alloc, reader, item, number)
 }
 
 #[unsafe(no_mangle)]
 pub extern "C" fn nidzaru_256_look(alloc: Global, reader: &mut Handle, number: &mut u64) -> u32
     ensures { IsLook (λ g. Of256 (Reads g)) HasRead reader.old reader.new number.old number.new result }
 {
-    look::<Record256, FourSlotReader<Record256>>(alloc, reader, number)
+    four_slot_look::<Record256>(alloc, reader, number)
 }
 
 #[unsafe(no_mangle)]
 pub extern "C" fn nidzaru_256_end_writer(alloc: Global, writer: &mut Handle) -> u32
     ensures { IsEnd (λ p. Of256 (Writes p)) writer.old writer.new result }
 {
-    end::<Record256, FourSlotWriter<Record256>>(alloc, writer)
+    four_slot_end_writer::<Record256>(alloc, writer)
 }
 
 #[unsafe(no_mangle)]
 pub extern "C" fn nidzaru_256_end_reader(alloc: Global, reader: &mut Handle) -> u32
     ensures { IsEnd (λ g. Of256 (Reads g)) reader.old reader.new result }
 {
-    end::<Record256, FourSlotReader<Record256>>(alloc, reader)
+    four_slot_end_reader::<Record256>(alloc, reader)
 }

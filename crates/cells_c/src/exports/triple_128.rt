@@ -4,7 +4,10 @@ ghost use Rattle.cells_sides.specs.Handles.{IsMake, IsWrite, IsRead, IsLook, IsE
 ghost use Rattle.cells_sides.specs.declared.side.Side.TheVariants.{Of128};
 ghost use Rattle.cells_sides.specs.declared.side.Party.TheVariants.{TripleWrites, TripleReads};
 
-use cells_sides::{Handle, Record128, TripleReader, TripleWriter, end, look, make, read, write};
+use cells_sides::{
+    Handle, Record128, triple_end_reader, triple_end_writer, triple_look, triple_make, triple_read,
+    triple_write,
+};
 use std::alloc::Global;
 
 #[unsafe(no_mangle)]
@@ -17,9 +20,7 @@ pub extern "C" fn nidzaru_triple_128_make(
     ensures { IsMake (λ p. Of128 (TripleWrites p)) (λ g. Of128 (TripleReads g)) IsMade
         writer.old reader.old writer.new reader.new first.now result }
 {
-    make::<Record128, TripleWriter<Record128>, TripleReader<Record128>>(
-        alloc, first, writer, reader,
-    )
+    triple_make::<Record128>(alloc, first, writer, reader)
 }
 
 #[unsafe(no_mangle)]
@@ -30,7 +31,7 @@ pub extern "C" fn nidzaru_triple_128_write(
 ) -> u32
     ensures { IsWrite (λ p. Of128 (TripleWrites p)) (λ p. p.number) HasWritten writer.old writer.new item.now result }
 {
-    write::<Record128, TripleWriter<Record128>>(alloc, writer, item)
+    triple_write::<Record128>(alloc, writer, item)
 }
 
 #[unsafe(no_mangle)]
@@ -43,7 +44,7 @@ pub extern "C" fn nidzaru_triple_128_read(
     ensures { IsRead (λ g. Of128 (TripleReads g)) HasRead reader.old reader.new
         item.old item.new number.old number.new result }
 {
-    read::<Record128, TripleReader<Record128>>(alloc, reader, item, number)
+    triple_read::<Record128>(alloc, reader, item, number)
 }
 
 #[unsafe(no_mangle)]
@@ -54,19 +55,19 @@ pub extern "C" fn nidzaru_triple_128_look(
 ) -> u32
     ensures { IsLook (λ g. Of128 (TripleReads g)) HasRead reader.old reader.new number.old number.new result }
 {
-    look::<Record128, TripleReader<Record128>>(alloc, reader, number)
+    triple_look::<Record128>(alloc, reader, number)
 }
 
 #[unsafe(no_mangle)]
 pub extern "C" fn nidzaru_triple_128_end_writer(alloc: Global, writer: &mut Handle) -> u32
     ensures { IsEnd (λ p. Of128 (TripleWrites p)) writer.old writer.new result }
 {
-    end::<Record128, TripleWriter<Record128>>(alloc, writer)
+    triple_end_writer::<Record128>(alloc, writer)
 }
 
 #[unsafe(no_mangle)]
 pub extern "C" fn nidzaru_triple_128_end_reader(alloc: Global, reader: &mut Handle) -> u32
     ensures { IsEnd (λ g. Of128 (TripleReads g)) reader.old reader.new result }
 {
-    end::<Record128, TripleReader<Record128>>(alloc, reader)
+    triple_end_reader::<Record128>(alloc, reader)
 }

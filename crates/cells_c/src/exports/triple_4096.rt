@@ -4,7 +4,10 @@ ghost use Rattle.cells_sides.specs.Handles.{IsMake, IsWrite, IsRead, IsLook, IsE
 ghost use Rattle.cells_sides.specs.declared.side.Side.TheVariants.{Of4096};
 ghost use Rattle.cells_sides.specs.declared.side.Party.TheVariants.{TripleWrites, TripleReads};
 
-use cells_sides::{Handle, Record4096, TripleReader, TripleWriter, end, look, make, read, write};
+use cells_sides::{
+    Handle, Record4096, triple_end_reader, triple_end_writer, triple_look, triple_make,
+    triple_read, triple_write,
+};
 use std::alloc::Global;
 
 #[unsafe(no_mangle)]
@@ -17,9 +20,7 @@ pub extern "C" fn nidzaru_triple_4096_make(
     ensures { IsMake (λ p. Of4096 (TripleWrites p)) (λ g. Of4096 (TripleReads g)) IsMade
         writer.old reader.old writer.new reader.new first.now result }
 {
-    make::<Record4096, TripleWriter<Record4096>, TripleReader<Record4096>>(
-        alloc, first, writer, reader,
-    )
+    triple_make::<Record4096>(alloc, first, writer, reader)
 }
 
 #[unsafe(no_mangle)]
@@ -30,7 +31,7 @@ pub extern "C" fn nidzaru_triple_4096_write(
 ) -> u32
     ensures { IsWrite (λ p. Of4096 (TripleWrites p)) (λ p. p.number) HasWritten writer.old writer.new item.now result }
 {
-    write::<Record4096, TripleWriter<Record4096>>(alloc, writer, item)
+    triple_write::<Record4096>(alloc, writer, item)
 }
 
 #[unsafe(no_mangle)]
@@ -43,7 +44,7 @@ pub extern "C" fn nidzaru_triple_4096_read(
     ensures { IsRead (λ g. Of4096 (TripleReads g)) HasRead reader.old reader.new
         item.old item.new number.old number.new result }
 {
-    read::<Record4096, TripleReader<Record4096>>(alloc, reader, item, number)
+    triple_read::<Record4096>(alloc, reader, item, number)
 }
 
 #[unsafe(no_mangle)]
@@ -54,19 +55,19 @@ pub extern "C" fn nidzaru_triple_4096_look(
 ) -> u32
     ensures { IsLook (λ g. Of4096 (TripleReads g)) HasRead reader.old reader.new number.old number.new result }
 {
-    look::<Record4096, TripleReader<Record4096>>(alloc, reader, number)
+    triple_look::<Record4096>(alloc, reader, number)
 }
 
 #[unsafe(no_mangle)]
 pub extern "C" fn nidzaru_triple_4096_end_writer(alloc: Global, writer: &mut Handle) -> u32
     ensures { IsEnd (λ p. Of4096 (TripleWrites p)) writer.old writer.new result }
 {
-    end::<Record4096, TripleWriter<Record4096>>(alloc, writer)
+    triple_end_writer::<Record4096>(alloc, writer)
 }
 
 #[unsafe(no_mangle)]
 pub extern "C" fn nidzaru_triple_4096_end_reader(alloc: Global, reader: &mut Handle) -> u32
     ensures { IsEnd (λ g. Of4096 (TripleReads g)) reader.old reader.new result }
 {
-    end::<Record4096, TripleReader<Record4096>>(alloc, reader)
+    triple_end_reader::<Record4096>(alloc, reader)
 }

@@ -4,7 +4,10 @@ ghost use Rattle.cells_sides.specs.Handles.{IsMake, IsWrite, IsRead, IsLook, IsE
 ghost use Rattle.cells_sides.specs.declared.side.Side.TheVariants.{Of64};
 ghost use Rattle.cells_sides.specs.declared.side.Party.TheVariants.{TripleWrites, TripleReads};
 
-use cells_sides::{Handle, Record64, TripleReader, TripleWriter, end, look, make, read, write};
+use cells_sides::{
+    Handle, Record64, triple_end_reader, triple_end_writer, triple_look, triple_make, triple_read,
+    triple_write,
+};
 use std::alloc::Global;
 
 #[unsafe(no_mangle)]
@@ -17,7 +20,7 @@ pub extern "C" fn nidzaru_triple_64_make(
     ensures { IsMake (λ p. Of64 (TripleWrites p)) (λ g. Of64 (TripleReads g)) IsMade
         writer.old reader.old writer.new reader.new first.now result }
 {
-    make::<Record64, TripleWriter<Record64>, TripleReader<Record64>>(alloc, first, writer, reader)
+    triple_make::<Record64>(alloc, first, writer, reader)
 }
 
 #[unsafe(no_mangle)]
@@ -28,7 +31,7 @@ pub extern "C" fn nidzaru_triple_64_write(
 ) -> u32
     ensures { IsWrite (λ p. Of64 (TripleWrites p)) (λ p. p.number) HasWritten writer.old writer.new item.now result }
 {
-    write::<Record64, TripleWriter<Record64>>(alloc, writer, item)
+    triple_write::<Record64>(alloc, writer, item)
 }
 
 #[unsafe(no_mangle)]
@@ -41,7 +44,7 @@ pub extern "C" fn nidzaru_triple_64_read(
     ensures { IsRead (λ g. Of64 (TripleReads g)) HasRead reader.old reader.new
         item.old item.new number.old number.new result }
 {
-    read::<Record64, TripleReader<Record64>>(alloc, reader, item, number)
+    triple_read::<Record64>(alloc, reader, item, number)
 }
 
 #[unsafe(no_mangle)]
@@ -52,19 +55,19 @@ pub extern "C" fn nidzaru_triple_64_look(
 ) -> u32
     ensures { IsLook (λ g. Of64 (TripleReads g)) HasRead reader.old reader.new number.old number.new result }
 {
-    look::<Record64, TripleReader<Record64>>(alloc, reader, number)
+    triple_look::<Record64>(alloc, reader, number)
 }
 
 #[unsafe(no_mangle)]
 pub extern "C" fn nidzaru_triple_64_end_writer(alloc: Global, writer: &mut Handle) -> u32
     ensures { IsEnd (λ p. Of64 (TripleWrites p)) writer.old writer.new result }
 {
-    end::<Record64, TripleWriter<Record64>>(alloc, writer)
+    triple_end_writer::<Record64>(alloc, writer)
 }
 
 #[unsafe(no_mangle)]
 pub extern "C" fn nidzaru_triple_64_end_reader(alloc: Global, reader: &mut Handle) -> u32
     ensures { IsEnd (λ g. Of64 (TripleReads g)) reader.old reader.new result }
 {
-    end::<Record64, TripleReader<Record64>>(alloc, reader)
+    triple_end_reader::<Record64>(alloc, reader)
 }

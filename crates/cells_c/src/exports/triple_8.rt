@@ -4,7 +4,10 @@ ghost use Rattle.cells_sides.specs.Handles.{IsMake, IsWrite, IsRead, IsLook, IsE
 ghost use Rattle.cells_sides.specs.declared.side.Side.TheVariants.{Of8};
 ghost use Rattle.cells_sides.specs.declared.side.Party.TheVariants.{TripleWrites, TripleReads};
 
-use cells_sides::{Handle, Record8, TripleReader, TripleWriter, end, look, make, read, write};
+use cells_sides::{
+    Handle, Record8, triple_end_reader, triple_end_writer, triple_look, triple_make, triple_read,
+    triple_write,
+};
 use std::alloc::Global;
 
 #[unsafe(no_mangle)]
@@ -17,14 +20,14 @@ pub extern "C" fn nidzaru_triple_8_make(
     ensures { IsMake (λ p. Of8 (TripleWrites p)) (λ g. Of8 (TripleReads g)) IsMade
         writer.old reader.old writer.new reader.new first.now result }
 {
-    make::<Record8, TripleWriter<Record8>, TripleReader<Record8>>(alloc, first, writer, reader)
+    triple_make::<Record8>(alloc, first, writer, reader)
 }
 
 #[unsafe(no_mangle)]
 pub extern "C" fn nidzaru_triple_8_write(alloc: Global, writer: &mut Handle, item: &Record8) -> u32
     ensures { IsWrite (λ p. Of8 (TripleWrites p)) (λ p. p.number) HasWritten writer.old writer.new item.now result }
 {
-    write::<Record8, TripleWriter<Record8>>(alloc, writer, item)
+    triple_write::<Record8>(alloc, writer, item)
 }
 
 #[unsafe(no_mangle)]
@@ -37,26 +40,26 @@ pub extern "C" fn nidzaru_triple_8_read(
     ensures { IsRead (λ g. Of8 (TripleReads g)) HasRead reader.old reader.new
         item.old item.new number.old number.new result }
 {
-    read::<Record8, TripleReader<Record8>>(alloc, reader, item, number)
+    triple_read::<Record8>(alloc, reader, item, number)
 }
 
 #[unsafe(no_mangle)]
 pub extern "C" fn nidzaru_triple_8_look(alloc: Global, reader: &mut Handle, number: &mut u64) -> u32
     ensures { IsLook (λ g. Of8 (TripleReads g)) HasRead reader.old reader.new number.old number.new result }
 {
-    look::<Record8, TripleReader<Record8>>(alloc, reader, number)
+    triple_look::<Record8>(alloc, reader, number)
 }
 
 #[unsafe(no_mangle)]
 pub extern "C" fn nidzaru_triple_8_end_writer(alloc: Global, writer: &mut Handle) -> u32
     ensures { IsEnd (λ p. Of8 (TripleWrites p)) writer.old writer.new result }
 {
-    end::<Record8, TripleWriter<Record8>>(alloc, writer)
+    triple_end_writer::<Record8>(alloc, writer)
 }
 
 #[unsafe(no_mangle)]
 pub extern "C" fn nidzaru_triple_8_end_reader(alloc: Global, reader: &mut Handle) -> u32
     ensures { IsEnd (λ g. Of8 (TripleReads g)) reader.old reader.new result }
 {
-    end::<Record8, TripleReader<Record8>>(alloc, reader)
+    triple_end_reader::<Record8>(alloc, reader)
 }

@@ -1,0 +1,68 @@
+//! The calls of C on a four-slot cell, over any size.
+ghost use Rattle.cells_sides.specs.FourSlotCalls.{IsMade, HasWritten, HasRead};
+ghost use Rattle.cells_sides.specs.Handles.{IsMake, IsWrite, IsRead, IsLook, IsEnd};
+ghost use Rattle.cells_sides.specs.declared.side.Party.TheVariants.{Writes, Reads};
+
+use super::{FourSlotReader, FourSlotWriter};
+use crate::calls::{end, look, make, read, write};
+use crate::handle::Handle;
+use crate::pick::Record;
+use std::alloc::Global;
+
+/// Puts both sides of a new cell into the handles.
+#[inline]
+pub fn four_slot_make<W: Record>(
+    alloc: Global,
+    first: &W,
+    writer: &mut Handle,
+    reader: &mut Handle,
+) -> u32
+    ensures { IsMake (λ p. W.side (Writes p)) (λ g. W.side (Reads g)) IsMade
+        writer.old reader.old writer.new reader.new first.now result }
+{
+    make::<W, FourSlotWriter<W>, FourSlotReader<W>>(alloc, first, writer, reader)
+}
+
+/// Writes the record.
+#[inline]
+pub fn four_slot_write<W: Record>(alloc: Global, writer: &mut Handle, item: &W) -> u32
+    ensures { IsWrite (λ p. W.side (Writes p)) (λ p. p.number) HasWritten writer.old writer.new item.now result }
+{
+    write::<W, FourSlotWriter<W>>(alloc, writer, item)
+}
+
+/// Reads a record and its number.
+#[inline]
+pub fn four_slot_read<W: Record>(
+    alloc: Global,
+    reader: &mut Handle,
+    item: &mut W,
+    number: &mut u64,
+) -> u32
+    ensures { IsRead (λ g. W.side (Reads g)) HasRead reader.old reader.new
+        item.old item.new number.old number.new result }
+{
+    read::<W, FourSlotReader<W>>(alloc, reader, item, number)
+}
+
+/// Looks which number the newest record has.
+#[inline]
+pub fn four_slot_look<W: Record>(alloc: Global, reader: &mut Handle, number: &mut u64) -> u32
+    ensures { IsLook (λ g. W.side (Reads g)) HasRead reader.old reader.new number.old number.new result }
+{
+    look::<W, FourSlotReader<W>>(alloc, reader, number)
+}
+
+/// Ends the writing side.
+pub fn four_slot_end_writer<W: Record>(alloc: Global, writer: &mut Handle) -> u32
+    ensures { IsEnd (λ p. W.side (Writes p)) writer.old writer.new result }
+{
+    end::<W, FourSlotWriter<W>>(alloc, writer)
+}
+
+/// Ends the reading side.
+pub fn four_slot_end_reader<W: Record>(alloc: Global, reader: &mut Handle) -> u32
+    ensures { IsEnd (λ g. W.side (Reads g)) reader.old reader.new result }
+{
+    end::<W, FourSlotReader<W>>(alloc, reader)
+}
