@@ -1,1 +1,9 @@
+pub mod Heard
+pub mod Histories
+pub mod Instances
 pub mod ListLaws
+pub mod Merging
+pub mod Reports
+pub mod Timing
+pub mod four_slots
+pub mod triple_buffer

@@ -1,6 +1,6 @@
 -- Laws of the lists that a cell's contract names.
 use Rattle.std.proofs.Common.{◌≡◌, ◌≢◌, ℕ, zero, suc, List, [], ◌∷◌, ◌++◌, All, ⊎_elim, inl, inr, refl, sym, ap, ◌∙◌, subst, arith, get_or}
-use Rattle.std.proofs.Common.{take, set, ◌<◌, ◌≤◌}
+use Rattle.std.proofs.Common.{take, set, ◌<◌, ◌≤◌, length, slice_get, Some}
 use Rattle.std.proofs.lemmas.List.Elements.{All-append}
 use mathlib.Core.Option.{some, some-injective, some-ne-none}
 use lib.ListN.{get_elem?}
@@ -9,6 +9,10 @@ use Rattle.atomic_table.proofs.Lists.{at_longer, at_set}
 use Rattle.cell_live.specs.Running.{last_or, settled_from, Settled, Stands, Rising, held_slots}
 
 module _ {T : Type 0} where
+  pub last_here : (x : T) (ys : List T) → slice_get (x ∷ ys) (length ys) ≡ Some (last_or x ys)
+  last_here x [] = refl
+  last_here x (y ∷ ys) = last_here y ys
+
   pub last_snoc : (x : T) (ys : List T) (z : T) → last_or x (ys ++ z ∷ []) ≡ z
   last_snoc x [] z = refl
   last_snoc x (y ∷ ys) z = last_snoc y ys z

@@ -1,3 +1,6 @@
+pub mod Acts
+pub mod Histories
+pub mod Intervals
 pub mod Running
 pub mod Sights
 pub mod four_slot

@@ -10,6 +10,7 @@ ghost use Rattle.cell_live.specs.declared.sight.Sight.TheVariants.{Writer, Reade
 ghost use Rattle.cell_live.specs.Running.{last_or, snap};
 ghost use Rattle.cell_live.specs.Sights.{writer_or, reader_or, receipt_or};
 ghost use Rattle.cell_live.specs.four_slot.Steps.{first_writer, first_reader, slot_of_choice, bit_words};
+ghost use Rattle.cell_live.specs.Intervals.{dated};
 
 use crate::cell::Lawful;
 use atomic_table::TableRule;
@@ -71,5 +72,5 @@ pub struct FourSlotTold<T: Copy> {
     seat: FourSlotSeat<T>,
     /// The opening: the record's default in proofs.
     spare: T,
-    ghost known: { seat.inner.me ≡ (Told (snap (receipt_or spare seat.inner.me.0)), []) },
+    ghost known: { seat.inner.me ≡ (Told (snap (receipt_or (dated spare) seat.inner.me.0)), []) },
 }

@@ -15,6 +15,7 @@ mod four_slot;
 pub mod laws;
 mod lays;
 mod sight;
+mod times;
 mod triple;
 
 pub use cell::{Calls, Cell, Kept, Lawful};

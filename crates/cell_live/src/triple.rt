@@ -7,6 +7,7 @@ ghost use Rattle.cell_live.specs.declared.sight.Sight.TheVariants.{Writer, Reade
 ghost use Rattle.cell_live.specs.Running.{held_slots, snap};
 ghost use Rattle.cell_live.specs.Sights.{writer_or, reader_or, receipt_or};
 ghost use Rattle.cell_live.specs.triple.Steps.{first_writer, first_reader};
+ghost use Rattle.cell_live.specs.Intervals.{dated};
 
 use crate::cell::Lawful;
 use atomic_table::TableRule;
@@ -68,5 +69,5 @@ pub struct TripleTold<T: Copy> {
     seat: TripleSeat<T>,
     /// The opening: the record's default in proofs.
     spare: T,
-    ghost known: { seat.inner.me ≡ (Told (snap (receipt_or spare seat.inner.me.0)), []) },
+    ghost known: { seat.inner.me ≡ (Told (snap (receipt_or (dated spare) seat.inner.me.0)), []) },
 }

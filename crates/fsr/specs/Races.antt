@@ -11,7 +11,7 @@ use Rattle.cell_live.specs.declared.four_slot.FourSlotPut.{FourSlotPut}
 use Rattle.cell_live.specs.declared.four_slot.FourSlotGet.{FourSlotGet}
 use Rattle.cell_live.specs.declared.four_slot.FourSlotTold.{FourSlotTold}
 use Rattle.cell_live.specs.four_slot.Words.{opening_of, is_put_of, is_get_of, is_told_of, written_by, answers_of, at_hand_of, told_to}
-use Rattle.cell_live.specs.four_slot.Words.{named_by, writer_accesses, reader_accesses}
+use Rattle.cell_live.specs.four_slot.Words.{named_by, writer_accesses, reader_accesses, put_times, get_times, numbers_of, known_to, time_of}
 use Rattle.board_live.specs.contracts.posted.BandRecordLaw.TheImpl as band_law
 use Rattle.board_live.specs.declared.board.Board.{Board}
 use Rattle.board_live.specs.declared.board.Pass.{Pass}
@@ -84,6 +84,11 @@ words = record {
   named = named_by;
   put_accesses = writer_accesses;
   get_accesses = reader_accesses;
+  put_times = put_times;
+  get_times = get_times;
+  numbers = numbers_of;
+  known = known_to;
+  time_of = time_of;
 }
 
 abbrev pub RaceBoard : Type 0

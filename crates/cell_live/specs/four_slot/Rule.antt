@@ -1,7 +1,8 @@
 -- The rule of the running four-slot cell: word 0 is `latest`, word 1 `reading`, words 2 and 3 are the bits of the pairs, and
 -- a slot has the number 2 * pair + index. Its states are those of the register of H. Simpson, Four-slot fully
 -- asynchronous communication mechanism, IEE Proceedings E, 1990.
-use Rattle.std.specs.Prelude.{◌≡◌, ◌≢◌, ℕ, suc, ◌+◌, ◌-◌, ◌<◌, ◌≤◌, Bool, Some, List, [], ◌∷◌, length, take, All, if◌then◌else◌}
+use Rattle.std.specs.Prelude.{◌≡◌, ◌≢◌, ℕ, suc, ◌+◌, ◌-◌, ◌<◌, ◌≤◌, Bool, Some, List, [], ◌∷◌, length, take, All, slice_get}
+use Rattle.std.specs.Prelude.{if◌then◌else◌}
 use mathlib.Core.Option.{some, Option as Opt}
 use lib.ListN.{get_elem?}
 use Rattle.atomic_table.specs.Table.{State}
@@ -20,6 +21,7 @@ use Rattle.fourslot_core.specs.Invariant.{IsUnderWay, HasSlot, IsStored, IsKept,
 use Rattle.fourslot_core.specs.Freshness.{IsBegun}
 use Rattle.fourslot_core.specs.Interleaving.{Leads}
 use Rattle.cell_live.specs.Running.{Settled, Rising}
+use Rattle.cell_live.specs.Intervals.{At, InTurn, IsBy, IsLate, HasBegun, AreFirst}
 use Rattle.cell_live.specs.declared.four_slot.notes.WriterNotes.{WriterNotes}
 use Rattle.cell_live.specs.declared.four_slot.notes.ReaderNotes.{ReaderNotes}
 use Rattle.cell_live.specs.four_slot.Steps.{FourSlotSight}
@@ -40,6 +42,12 @@ number_in slots k = number_from 0 0 slots k
 abbrev pub finished_number : Stage → ℕ → ℕ
 finished_number writer.W5 n = n
 finished_number _ n = n - 1
+
+-- the number of reads that have begun, where so many have ended
+abbrev pub begun_number : ReaderStage → ℕ → ℕ
+begun_number reader.R1 n = n + 1
+begun_number reader.R2 n = n + 1
+begun_number _ n = n
 
 -- between two steps of a table the last events are these: W1, W2 and W3 are one step, and so are R3, R4 and R5
 abbrev pub IsWriterShown : Stage → Type 0
@@ -110,11 +118,39 @@ module _ {T : Type 0} where
     pub to_latest : UpTo o written answers told (number_in slots (latest_slot c))
     pub to_pair : IsBegun c.reader → UpTo o written answers told (number_in slots (named_slot c c.read.pair))
 
+  -- The calls in the table's time, of which `now` is the last. `shown` is the number of the record in the slot that `latest` and its
+  -- bit name, and `pair` that of the record in the slot that the reader's pair and its bit name.
+  pub record IsTimed (o : T) (p : WriterNotes T) (g : ReaderNotes T) (now : ℕ) (w : Stage) (r : ReaderStage) (shown pair : ℕ) : Type 0 where
+    -- no pass knows of a later time
+    pub put_clock : p.times.clock ≤ now
+    pub get_clock : g.times.clock ≤ now
+    pub put_by : IsBy p.times
+    pub get_by : IsBy g.times
+    pub put_turn : InTurn p.times.begins p.times.ends
+    pub get_turn : InTurn g.times.begins g.times.ends
+    -- each write has its beginning and, once it is finished, its end; and so has each read, and once it has ended its number
+    pub begun_writes : length p.times.begins ≡ length p.written
+    pub ended_writes : length p.times.ends ≡ finished_number w (length p.written)
+    pub begun_reads : length g.times.begins ≡ begun_number r (length g.answers)
+    pub ended_reads : length g.times.ends ≡ length g.answers
+    pub numbered : length g.numbers ≡ length g.answers
+    -- an answer is the record with its number; no write that ended before the read began has a greater number; and the write with
+    -- the number began before the read ended
+    pub source : (m n : ℕ) (x : T) → At g.numbers m n → slice_get g.answers m ≡ Some x → slice_get (o ∷ p.written) n ≡ Some x
+    pub late : (m n b : ℕ) → At g.numbers m n → At g.times.begins m b → IsLate p.times.ends b n
+    pub begun : (m n e : ℕ) → At g.numbers m n → At g.times.ends m e → HasBegun p.times.begins e n
+    -- the numbers never fall, up to what the next read can have
+    pub rising : (i j a b : ℕ) → At g.numbers i a → At g.numbers j b → i ≤ j → a ≤ b
+    pub to_latest : (m n : ℕ) → At g.numbers m n → n ≤ shown
+    pub to_pair : IsBegun r → (m n : ℕ) → At g.numbers m n → n ≤ pair
+    -- what the read in progress will be told is late enough already
+    pub pending : IsBegun r → (b : ℕ) → At g.times.begins (length g.answers) b → IsLate p.times.ends b pair
+
   -- What a seat knows. `shown` is the number of the record in the slot that `latest` and its bit name.
-  module _ (o : T) (p : WriterNotes T) (g : ReaderNotes T) (shown writer reader seat : ℕ) where
+  module _ (o : T) (p : WriterNotes T) (g : ReaderNotes T) (shown now writer reader seat : ℕ) where
     abbrev pub Sees : FourSlotSight T → Type 0
     Sees Spent = Unit {0}
-    Sees (Told x) = StandsBy shown (o ∷ p.written) x.value
+    Sees (Told x) = StandsBy shown (o ∷ p.written) x.value.item × (x.value.time ≤ now)
     Sees (Writer q) = (q ≡ p) × (seat ≡ writer)
     Sees (Reader h) = (h ≡ g) × (seat ≡ reader)
     Sees (Both q h) = (q ≡ p) × (h ≡ g) × (seat ≡ writer) × (seat ≡ reader)
@@ -157,5 +193,11 @@ pub record FourSlotRule {T : Type 0} (fits : T → Type 0) (rises : T → T → 
   pub openings : (put.opening.value ≡ o) × (get.opening.value ≡ o)
   pub lawful : fits o × Rising fits rises o put.written
   pub leads : Leads put.events get.events (opening_state o o) core
+  -- the time of the last step on a word
+  pub now : ℕ
+  pub timed : IsTimed o put get now core.writer core.reader (number_in put.slots (latest_slot core))
+      (number_in put.slots (named_slot core core.read.pair))
+  -- the writes that the reader knows of are the first of those made
+  pub known : AreFirst get.known put.written put.times
   pub each_seat : (j : ℕ) (v : FourSlotSight T) → get_elem? s.views j ≡ some v →
-      Sees o put get (number_in put.slots (latest_slot core)) writer reader j v
+      Sees o put get (number_in put.slots (latest_slot core)) now writer reader j v

@@ -5,8 +5,12 @@ use Rattle.fourslot_core.specs.declared.event.WriteEvent.{WriteEvent}
 use Rattle.fourslot_core.specs.declared.event.ReadEvent.{ReadEvent}
 use Rattle.fourslot_core.specs.declared.event.ReadEvent.TheVariants.{R1, R2, R3, R4, R5}
 use Rattle.cell_live.specs.Running.{Name, IsName, IsAnswer, snap}
+use Rattle.cell_live.specs.Intervals.{IsNextCall, IsNextAnswer}
+use Rattle.cell_live.specs.declared.times.Times.{Times}
+use Rattle.cell_live.specs.declared.times.Known.{Known}
 use Rattle.cell_live.specs.Sights.{writer_or, reader_or, receipt_or}
 use Rattle.cell_live.specs.four_slot.Steps.{first_writer, first_reader}
+use Rattle.cell_live.specs.Intervals.{dated}
 use Rattle.cell_live.specs.declared.four_slot.notes.WriterNotes.{WriterNotes}
 use Rattle.cell_live.specs.declared.four_slot.notes.ReaderNotes.{ReaderNotes}
 use Rattle.cell_live.specs.declared.four_slot.FourSlotCell.{FourSlotCell}
@@ -47,7 +51,24 @@ module _ {T : Type 0} where
 
   -- the record that a receipt names
   abbrev pub named_by : FourSlotTold T → T
-  named_by t = receipt_or t.spare t.seat.inner.me.0
+  named_by t = (receipt_or (dated t.spare) t.seat.inner.me.0).item
+
+  -- a time at which that record was written
+  abbrev pub time_of : FourSlotTold T → ℕ
+  time_of t = (receipt_or (dated t.spare) t.seat.inner.me.0).time
+
+  -- the calls made with a pass, in the table's time; the numbers of the answers; and the writes of which a reader knows
+  abbrev pub put_times : FourSlotPut T → Times
+  put_times p = (put_notes p).times
+
+  abbrev pub get_times : FourSlotGet T → Times
+  get_times g = (get_notes g).times
+
+  abbrev pub numbers_of : FourSlotGet T → List ℕ
+  numbers_of g = (get_notes g).numbers
+
+  abbrev pub known_to : FourSlotGet T → Known T
+  known_to g = (get_notes g).known
 
   -- the events made with a pass, and the count of its control accesses
   abbrev pub write_events : FourSlotPut T → List (WriteEvent T)
@@ -83,3 +104,5 @@ module _ {T : Type 0} where
     pub events : read_events h ≡ read_events g ++ R1 ∷ R2 ∷ R3 ∷ R4 ∷ R5 (snap (at_hand_of h)) ∷ []
     pub held : held_by h ≡ (slot, at_hand_of h) ∷ []
     pub chosen : chosen_slot h ≡ slot
+    pub timed : IsNextCall (get_times g) (get_times h)
+    pub numbered : IsNextAnswer (opening_of c) (known_to g) (known_to h) (numbers_of g) (numbers_of h) (answers_of h) (get_times h) (at_hand_of h)

@@ -1,10 +1,11 @@
 -- The rule of the triple buffer: one word, `middle + 4 * fresh`, and three slots. The triple buffer is in common use; the layout of
 -- the word is this project's own.
-use Rattle.std.specs.Prelude.{◌≡◌, ◌≢◌, ℕ, ◌+◌, ◌*◌, ◌<◌, List, [], ◌∷◌, length, All}
+use Rattle.std.specs.Prelude.{◌≡◌, ◌≢◌, ℕ, ◌+◌, ◌*◌, ◌<◌, ◌≤◌, Some, List, [], ◌∷◌, length, All, slice_get}
 use mathlib.Core.Option.{some, Option as Opt}
 use lib.ListN.{get_elem?}
 use Rattle.atomic_table.specs.Table.{State}
 use Rattle.cell_live.specs.Running.{last_or, Settled, Stands, Rising}
+use Rattle.cell_live.specs.Intervals.{At, InTurn, IsBy, IsLate, HasBegun, AreFirst}
 use Rattle.cell_live.specs.declared.triple.notes.WriterNotes.{WriterNotes}
 use Rattle.cell_live.specs.declared.triple.notes.ReaderNotes.{ReaderNotes}
 use Rattle.cell_live.specs.triple.Steps.{TripleSight}
@@ -39,11 +40,34 @@ module _ {T : Type 0} where
   abbrev pub IsSettled : T → List T → List T → List T → Type 0
   IsSettled o written answers told = Settled (o ∷ written) answers × All (λ x. Stands x (o ∷ written)) told
 
+  -- The calls in the table's time, of which `now` is the last
+  pub record IsTimed (o : T) (p : WriterNotes T) (g : ReaderNotes T) (now : ℕ) : Type 0 where
+    -- no pass knows of a later time
+    pub put_clock : p.times.clock ≤ now
+    pub get_clock : g.times.clock ≤ now
+    pub put_by : IsBy p.times
+    pub get_by : IsBy g.times
+    pub put_turn : InTurn p.times.begins p.times.ends
+    pub get_turn : InTurn g.times.begins g.times.ends
+    -- each write has its beginning and its end, and so has each read, and its number; one more has begun while a mark was found
+    pub begun_writes : length p.times.begins ≡ length p.written
+    pub ended_writes : length p.times.ends ≡ length p.written
+    pub begun_reads : length g.times.begins ≡ length g.answers + g.asked
+    pub ended_reads : length g.times.ends ≡ length g.answers
+    pub numbered : length g.numbers ≡ length g.answers
+    -- an answer is the record with its number; no write that ended before the read began has a greater number; the write with the
+    -- number began before the read ended; and the numbers never fall, up to that of the last write
+    pub source : (m n : ℕ) (x : T) → At g.numbers m n → slice_get g.answers m ≡ Some x → slice_get (o ∷ p.written) n ≡ Some x
+    pub late : (m n b : ℕ) → At g.numbers m n → At g.times.begins m b → IsLate p.times.ends b n
+    pub begun : (m n e : ℕ) → At g.numbers m n → At g.times.ends m e → HasBegun p.times.begins e n
+    pub rising : (i j a b : ℕ) → At g.numbers i a → At g.numbers j b → i ≤ j → a ≤ b
+    pub to_last : (m n : ℕ) → At g.numbers m n → n ≤ length p.written
+
   -- what a seat's view says, where the writer's notes are p and the reader's g
-  module _ (o : T) (p : WriterNotes T) (g : ReaderNotes T) (writer reader seat : ℕ) where
+  module _ (o : T) (p : WriterNotes T) (g : ReaderNotes T) (now writer reader seat : ℕ) where
     abbrev pub Sees : TripleSight T → Type 0
     Sees Spent = Unit {0}
-    Sees (Told x) = Stands x.value (o ∷ p.written)
+    Sees (Told x) = Stands x.value.item (o ∷ p.written) × (x.value.time ≤ now)
     Sees (Writer q) = (q ≡ p) × (seat ≡ writer)
     Sees (Reader h) = (h ≡ g) × (seat ≡ reader)
     Sees (Both q h) = (q ≡ p) × (h ≡ g) × (seat ≡ writer) × (seat ≡ reader)
@@ -63,4 +87,9 @@ pub record TripleRule {T : Type 0} (fits : T → Type 0) (rises : T → T → Ty
   pub counted : IsCounted put get
   pub openings : (put.opening.value ≡ o) × (get.opening.value ≡ o)
   pub lawful : fits o × Rising fits rises o put.written
-  pub each_seat : (j : ℕ) (v : TripleSight T) → get_elem? s.views j ≡ some v → Sees o put get writer reader j v
+  -- the time of the last step of a call
+  pub now : ℕ
+  pub timed : IsTimed o put get now
+  -- the writes that the reader knows of are the first of those made
+  pub known : AreFirst get.known put.written put.times
+  pub each_seat : (j : ℕ) (v : TripleSight T) → get_elem? s.views j ≡ some v → Sees o put get now writer reader j v

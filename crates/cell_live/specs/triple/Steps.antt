@@ -2,13 +2,16 @@
 use Rattle.std.specs.Prelude.{◌≡◌, ℕ, ◌+◌, ◌%◌, ◌<◌, ◌≤◌, [], ◌∷◌, ◌++◌}
 use Rattle.atomic_table.specs.Table.{Me, Step}
 use Rattle.cell_live.specs.Running.{last_or, IsAnswer, snap}
+use Rattle.cell_live.specs.Intervals.{begun_at, ended_at, made_at, heard_at, no_times, none_known, dated_at, IsNextAnswer}
+use Rattle.cell_live.specs.declared.times.Dated.{Dated}
+use Rattle.cell_live.specs.declared.times.Known.{Known}
 use Rattle.cell_live.specs.declared.triple.notes.WriterNotes.{WriterNotes}
 use Rattle.cell_live.specs.declared.triple.notes.ReaderNotes.{ReaderNotes}
 use Rattle.cell_live.specs.declared.sight.Sight.{Sight}
 use Rattle.cell_live.specs.declared.sight.Sight.TheVariants.{Spent, Told, Writer, Reader, Both}
 
 abbrev pub TripleSight : Type 0 → Type 0
-TripleSight T = Sight T (WriterNotes T) (ReaderNotes T)
+TripleSight T = Sight (Dated T) (WriterNotes T) (ReaderNotes T)
 
 abbrev Sat : Type 0 → Type 0
 Sat T = Me T (TripleSight T)
@@ -23,18 +26,39 @@ module _ {T : Type 0} where
   get_took st m n m' =
       (g : ReaderNotes T) → m.0 ≡ Reader g → (m'.0 ≡ Reader (record g { has = 1 })) × (m'.1 ≡ (g.slot, g.at_hand.value) ∷ [])
 
-  -- the writer's swap puts its record in the middle and takes what was there
+  -- the writer's swap puts its record in the middle and takes what was there: the whole write
+  abbrev pub published : WriterNotes T → ℕ → T → ℕ → WriterNotes T
+  published p slot x t =
+      record p { slot = slot; written = p.written ++ x ∷ []; swaps = p.swaps + 1; times = made_at p.times t }
+
   abbrev pub put_swapped : Step T → Sat T → ℕ → Sat T → Type 0
   put_swapped st m n m' = (p : WriterNotes T) (x : T) → m.0 ≡ Writer p → m.1 ≡ (p.slot, x) ∷ []
-      → (y : T) × (n % 4 < 3) × (m'.0 ≡ Writer (record p {
-        slot = n % 4;
-        written = p.written ++ x ∷ [];
-        swaps = p.swaps + 1;
-      })) × (m'.1 ≡ (n % 4, y) ∷ [])
+      → (y : T) × (n % 4 < 3) × (t : ℕ) × (p.times.clock < t) × (m'.0 ≡ Writer (published p (n % 4) x t)) × (m'.1 ≡ (n % 4, y) ∷ [])
 
-  -- the notes after an answer
-  abbrev pub answered : ReaderNotes T → T → ReaderNotes T
-  answered g x = record g { answers = g.answers ++ x ∷ []; asked = 0 }
+  -- the notes after a load that found this word, and then with a mark
+  abbrev pub looked_by : ReaderNotes T → ℕ → ℕ → ReaderNotes T
+  looked_by g n t = record g { found = n; loads = g.loads + 1; times = begun_at g.times t }
+
+  abbrev pub asked_by : ReaderNotes T → ℕ → ℕ → ReaderNotes T
+  asked_by g n t = record (looked_by g n t) { asked = 1 }
+
+  -- the notes after the swap that took this slot with this record
+  abbrev pub fetched : ReaderNotes T → ℕ → T → ReaderNotes T
+  fetched g slot y = record g { slot = slot; at_hand = snap y; swaps = g.swaps + 1 }
+
+  -- the notes after an answer, which the step at this time decides
+  abbrev pub answered : ReaderNotes T → T → ℕ → ℕ → Known T → ReaderNotes T
+  answered g x t k writes = record g {
+    answers = g.answers ++ x ∷ [];
+    asked = 0;
+    times = ended_at g.times t;
+    numbers = g.numbers ++ k ∷ [];
+    known = writes;
+  }
+
+  -- what the reader's notes say of the answer with which they go on
+  abbrev pub HasAnswered : ReaderNotes T → ReaderNotes T → T → Type 0
+  HasAnswered g h x = IsNextAnswer g.opening.value g.known h.known g.numbers h.numbers h.answers h.times x
 
   module _ (fits : T → Type 0) (rises : T → T → Type 0) where
     abbrev pub MayAnswer : ReaderNotes T → T → Type 0
@@ -43,18 +67,20 @@ module _ {T : Type 0} where
     -- the reader's load: with no mark its own slot has the answer
     abbrev pub looked : Step T → Sat T → ℕ → Sat T → Type 0
     looked st m n m' = (g : ReaderNotes T) → m.0 ≡ Reader g
-        → (m'.1 ≡ m.1) × (4 ≤ n → m'.0 ≡ Reader (record g { found = n; asked = 1; loads = g.loads + 1 }))
-        × (n < 4 → (m'.0 ≡ Reader (answered (record g { found = n; loads = g.loads + 1 }) g.at_hand.value)) × MayAnswer g g.at_hand.value)
+        → (t : ℕ) × (g.times.clock < t) × (m'.1 ≡ m.1) × (4 ≤ n → m'.0 ≡ Reader (asked_by g n t))
+        × (n < 4 → (k : ℕ) × (writes : Known T) × (m'.0 ≡ Reader (answered (looked_by g n t) g.at_hand.value t k writes))
+        × MayAnswer g g.at_hand.value × HasAnswered g (answered (looked_by g n t) g.at_hand.value t k writes) g.at_hand.value)
 
     -- the reader's swap takes the middle, which is the answer
     abbrev pub get_swapped : Step T → Sat T → ℕ → Sat T → Type 0
     get_swapped st m n m' = (g : ReaderNotes T) (x : T) → m.0 ≡ Reader g → m.1 ≡ (g.slot, x) ∷ [] → g.asked ≡ 1
-        → (y : T) × (n % 4 < 3) × (m'.0 ≡ Reader (answered (record g { slot = n % 4; at_hand = snap y; swaps = g.swaps + 1 }) y))
-        × (m'.1 ≡ (n % 4, y) ∷ []) × MayAnswer g y
+        → (y : T) × (n % 4 < 3) × (t : ℕ) × (k : ℕ) × (writes : Known T) × (g.times.clock < t)
+        × (m'.0 ≡ Reader (answered (fetched g (n % 4) y) y t k writes)) × (m'.1 ≡ (n % 4, y) ∷ []) × MayAnswer g y
+        × HasAnswered g (answered (fetched g (n % 4) y) y t k writes) y
 
   -- the views at the start: the writer has slot 0 and the reader slot 2
   abbrev pub first_writer : T → WriterNotes T
-  first_writer o = record { opening = snap o; slot = 0; has = 0; written = []; swaps = 0 }
+  first_writer o = record { opening = snap o; slot = 0; has = 0; written = []; swaps = 0; times = no_times }
 
   abbrev pub first_reader : T → ReaderNotes T
   first_reader o = record {
@@ -68,6 +94,9 @@ module _ {T : Type 0} where
     told = [];
     loads = 0;
     swaps = 0;
+    times = no_times;
+    numbers = [];
+    known = none_known;
   }
 
   abbrev pub first_sight : T → TripleSight T
@@ -75,11 +104,14 @@ module _ {T : Type 0} where
 
   -- what is parted off for a receipt, and what is taken in
   abbrev pub receipt_for : TripleSight T → TripleSight T
-  receipt_for (Writer p) = Told (snap (last_or p.opening.value p.written))
+  receipt_for (Writer p) = Told (snap (dated_at (last_or p.opening.value p.written) p.times.clock))
   receipt_for v = Spent
 
+  abbrev pub heard_by : ReaderNotes T → Dated T → ReaderNotes T
+  heard_by g x = record g { told = g.told ++ x.item ∷ []; times = heard_at g.times x.time }
+
   abbrev pub hears_of : TripleSight T → TripleSight T → TripleSight T
-  hears_of (Reader g) (Told x) = Reader (record g { told = g.told ++ x.value ∷ [] })
+  hears_of (Reader g) (Told x) = Reader (heard_by g x.value)
   hears_of v w = v
 
   abbrev pub whole_of : TripleSight T → TripleSight T → TripleSight T

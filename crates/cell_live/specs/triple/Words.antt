@@ -1,8 +1,12 @@
 -- The words of the contract, of the passes of a triple buffer (this project's own).
 use Rattle.std.specs.Prelude.{◌≡◌, ℕ, ◌+◌, ◌<◌, ◌≤◌, List, [], ◌∷◌, ◌++◌}
 use Rattle.cell_live.specs.Running.{Name, IsName, IsAnswer}
+use Rattle.cell_live.specs.Intervals.{IsNextCall, IsNextAnswer}
+use Rattle.cell_live.specs.declared.times.Times.{Times}
+use Rattle.cell_live.specs.declared.times.Known.{Known}
 use Rattle.cell_live.specs.Sights.{writer_or, reader_or, receipt_or}
 use Rattle.cell_live.specs.triple.Steps.{first_writer, first_reader}
+use Rattle.cell_live.specs.Intervals.{dated}
 use Rattle.cell_live.specs.declared.triple.notes.WriterNotes.{WriterNotes}
 use Rattle.cell_live.specs.declared.triple.notes.ReaderNotes.{ReaderNotes}
 use Rattle.cell_live.specs.declared.triple.TripleCell.{TripleCell}
@@ -47,7 +51,24 @@ module _ {T : Type 0} where
 
   -- the record that a receipt names
   abbrev pub named_by : TripleTold T → T
-  named_by t = receipt_or t.spare t.seat.inner.me.0
+  named_by t = (receipt_or (dated t.spare) t.seat.inner.me.0).item
+
+  -- a time at which that record was written
+  abbrev pub time_of : TripleTold T → ℕ
+  time_of t = (receipt_or (dated t.spare) t.seat.inner.me.0).time
+
+  -- the calls made with a pass, in the table's time; the numbers of the answers; and the writes of which a reader knows
+  abbrev pub put_times : TriplePut T → Times
+  put_times p = (put_notes p).times
+
+  abbrev pub get_times : TripleGet T → Times
+  get_times g = (get_notes g).times
+
+  abbrev pub numbers_of : TripleGet T → List ℕ
+  numbers_of g = (get_notes g).numbers
+
+  abbrev pub known_to : TripleGet T → Known T
+  known_to g = (get_notes g).known
 
   abbrev pub swaps_of_put : TriplePut T → ℕ
   swaps_of_put p = (put_notes p).swaps
@@ -76,3 +97,5 @@ module _ {T : Type 0} where
     pub unmarked : found_by h < 4 → swaps_of h ≡ swaps_of g
     pub marked : 4 ≤ found_by h → swaps_of h ≡ swaps_of g + 1
     pub accesses : loads_of h + swaps_of h ≤ loads_of g + swaps_of g + 3
+    pub timed : IsNextCall (get_times g) (get_times h)
+    pub numbered : IsNextAnswer (opening_of c) (known_to g) (known_to h) (numbers_of g) (numbers_of h) (answers_of h) (get_times h) (at_hand_of h)

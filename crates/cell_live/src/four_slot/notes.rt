@@ -1,5 +1,6 @@
 //! What the seats of a four-slot cell know. No value of these types is made.
 use crate::sight::Sight;
+use crate::times::{Dated, Known, Times};
 use fourslot_core::{ReadEvent, ReaderStage, Sides, Slot, Stage, WriteEvent};
 use std::collections::LinkedList;
 use std::snapshot::Snapshot;
@@ -22,6 +23,8 @@ pub struct WriterNotes<T> {
     pub events: LinkedList<WriteEvent<T>>,
     /// The control accesses made.
     pub accesses: u64,
+    /// Each write from W1 to W5.
+    pub times: Times,
 }
 
 /// What the reader's seat knows.
@@ -40,7 +43,13 @@ pub struct ReaderNotes<T> {
     pub events: LinkedList<ReadEvent<T>>,
     /// The control accesses made.
     pub accesses: u64,
+    /// Each read from R1 to R3.
+    pub times: Times,
+    /// The number of each answer, where the writes have the numbers 1, 2, .. and the opening has 0.
+    pub numbers: LinkedList<u64>,
+    /// The writes that had begun when the last read ended.
+    pub known: Known<T>,
 }
 
 /// What a seat of this cell knows.
-pub type FourSlotSight<T> = Sight<T, WriterNotes<T>, ReaderNotes<T>>;
+pub type FourSlotSight<T> = Sight<Dated<T>, WriterNotes<T>, ReaderNotes<T>>;

@@ -12,6 +12,9 @@ ghost use Rattle.cell_live.specs.Running.{last_or, Settled, held_slots};
 ghost use Rattle.cell_live.specs.Sights.{writer_part, reader_part};
 ghost use Rattle.cell_live.specs.four_slot.Steps.{begins, stores, finishes, asks, says, takes, first_sight, receipt_for, hears_of};
 ghost use Rattle.cell_live.specs.four_slot.Steps.{whole_of, slot_of_choice};
+ghost use Rattle.cell_live.specs.four_slot.Rule.{IsTimed};
+ghost use Rattle.cell_live.specs.Intervals.{AreFirst};
+ghost use Rattle.cell_live.specs.declared.times.Dated.{Dated};
 ghost use Rattle.cell_live.specs.declared.four_slot.notes.WriterNotes.{WriterNotes};
 ghost use Rattle.cell_live.specs.declared.four_slot.notes.ReaderNotes.{ReaderNotes};
 ghost use Rattle.cell_live.specs.declared.sight.Sight.TheVariants.{Writer, Reader, Told, Both};
@@ -86,7 +89,7 @@ impl<T: Lawful> FourSlotTable<T> {
         requires own { (seat.old.inner.table_id ≡ self.now.inner.shared.table_id)
             × (receipt.inner.table_id ≡ self.now.inner.shared.table_id) }
         requires idle { (g : ReaderNotes T) × (seat.old.inner.me.0 ≡ Reader g) × (g.stage ≡ R5) }
-        requires receipt { (x : Snapshot T) × (receipt.inner.me ≡ (Told x, [])) }
+        requires receipt { (x : Snapshot (Dated T)) × (receipt.inner.me ≡ (Told x, [])) }
         ensures own { seat.new.inner.table_id ≡ seat.old.inner.table_id }
         ensures joined { seat.new.inner.me ≡ (hears_of seat.old.inner.me.0 receipt.inner.me.0, seat.old.inner.me.1) }
     {
@@ -112,8 +115,11 @@ impl<T: Lawful> FourSlotTable<T> {
     /// Frees the table. Here the seat's two lists meet.
     pub(super) fn close(self, seat: FourSlotSeat<T>)
         requires { seat.inner.table_id ≡ self.inner.shared.table_id }
-        ensures { (p : WriterNotes T) (g : ReaderNotes T) → seat.inner.me.0 ≡ Both p g →
+        ensures settled { (p : WriterNotes T) (g : ReaderNotes T) → seat.inner.me.0 ≡ Both p g →
             Settled (self.inner.shared.key ∷ p.written) g.answers }
+        ensures timed { (p : WriterNotes T) (g : ReaderNotes T) → seat.inner.me.0 ≡ Both p g →
+            (now : ℕ) × (shown : ℕ) × (pair : ℕ) × IsTimed self.inner.shared.key p g now p.stage g.stage shown pair }
+        ensures known { (p : WriterNotes T) (g : ReaderNotes T) → seat.inner.me.0 ≡ Both p g → AreFirst g.known p.written p.times }
     {
         let FourSlotTable { inner: table } = self;
         let FourSlotSeat { inner: seat } = seat;

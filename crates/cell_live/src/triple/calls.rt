@@ -4,6 +4,8 @@ ghost use Rattle.std.specs.Fn.{FnOnceTakesAt, FnOnceReturnsAt};
 ghost use Rattle.cell_live.specs.Running.{last_or, IsAnswer};
 ghost use Rattle.cell_live.specs.triple.Words.{opening_of, is_put_of, is_get_of, is_told_of, written_by, answers_of, at_hand_of, told_to};
 ghost use Rattle.cell_live.specs.triple.Words.{named_by, swaps_of_put, loads_of, swaps_of, held_by, found_by, HasLooked};
+ghost use Rattle.cell_live.specs.triple.Words.{put_times, get_times, numbers_of, known_to, time_of};
+ghost use Rattle.cell_live.specs.Intervals.{IsNextAnswer, IsNextCall};
 
 use super::table::TripleTable;
 use super::{TripleCell, TripleGet, TriplePut, TripleTold};
@@ -35,6 +37,7 @@ impl<T: Lawful> TripleCell<T> {
         ensures written { written_by put.new ≡ written_by put.old ++ L.whole parts.now ∷ [] }
         ensures accesses { swaps_of_put put.new ≤ swaps_of_put put.old + 3 }
         ensures swapped { swaps_of_put put.new ≡ swaps_of_put put.old + 1 }
+        ensures timed { IsNextCall (put_times put.old) (put_times put.new) }
     {
         self.table.fill(&mut put.seat, put.slot, parts);
         let found = self.table.publish(&mut put.seat, put.slot as u64 + 4);
@@ -71,6 +74,16 @@ impl<T: Lawful> Calls<T> for TripleCell<T> {
 
     ghost get_accesses = { λ g. loads_of g + swaps_of g };
 
+    ghost put_times = { put_times };
+
+    ghost get_times = { get_times };
+
+    ghost numbers = { numbers_of };
+
+    ghost known = { known_to };
+
+    ghost time_of = { time_of };
+
     fn make(alloc: Global, first: T) -> Result<(Self, TriplePut<T>, TripleGet<T>), AllocError> {
         let (table, mut put) = TripleTable::new(alloc, first)?;
         let mut get = table.part(&mut put);
@@ -99,6 +112,7 @@ impl<T: Lawful> Calls<T> for TripleCell<T> {
         ensures written { written_by put.new ≡ written_by put.old ++ item ∷ [] }
         ensures accesses { swaps_of_put put.new ≤ swaps_of_put put.old + 3 }
         ensures swapped { swaps_of_put put.new ≡ swaps_of_put put.old + 1 }
+        ensures timed { IsNextCall (put_times put.old) (put_times put.new) }
     {
         self.write_from(put, &item);
     }
@@ -111,6 +125,7 @@ impl<T: Lawful> Calls<T> for TripleCell<T> {
         ensures written { written_by put.new ≡ written_by put.old ++ item.now ∷ [] }
         ensures accesses { swaps_of_put put.new ≤ swaps_of_put put.old + 3 }
         ensures swapped { swaps_of_put put.new ≡ swaps_of_put put.old + 1 }
+        ensures timed { IsNextCall (put_times put.old) (put_times put.new) }
     {
         self.write_laid(put, &Whole { item });
     }
@@ -129,6 +144,9 @@ impl<T: Lawful> Calls<T> for TripleCell<T> {
         ensures marked { 4 ≤ found_by get.new → swaps_of get.new ≡ swaps_of get.old + 1 }
         // The answer is the record of the slot that the pass then holds.
         ensures held { held_by get.new ≡ (get.new.slot, result) ∷ [] }
+        ensures timed { IsNextCall (get_times get.old) (get_times get.new) }
+        ensures numbered { IsNextAnswer (opening_of self.now) (known_to get.old) (known_to get.new) (numbers_of get.old) (numbers_of get.new)
+            (answers_of get.new) (get_times get.new) result }
     {
         refresh(self, get);
         self.table.copy(&mut get.seat, get.slot)
@@ -148,6 +166,9 @@ impl<T: Lawful> Calls<T> for TripleCell<T> {
         ensures unmarked { found_by get.new < 4 → swaps_of get.new ≡ swaps_of get.old }
         ensures marked { 4 ≤ found_by get.new → swaps_of get.new ≡ swaps_of get.old + 1 }
         ensures held { held_by get.new ≡ (get.new.slot, at_hand_of get.new) ∷ [] }
+        ensures timed { IsNextCall (get_times get.old) (get_times get.new) }
+        ensures numbered { IsNextAnswer (opening_of self.now) (known_to get.old) (known_to get.new) (numbers_of get.old) (numbers_of get.new)
+            (answers_of get.new) (get_times get.new) (at_hand_of get.new) }
         ensures looked { FnOnceReturnsAt F.FnOnce look (at_hand_of get.new) result }
     {
         refresh(self, get);

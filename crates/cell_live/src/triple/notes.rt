@@ -1,5 +1,6 @@
 //! What the seats of a triple buffer know. No value of these types is made.
 use crate::sight::Sight;
+use crate::times::{Dated, Known, Times};
 use std::collections::LinkedList;
 use std::snapshot::Snapshot;
 
@@ -12,6 +13,8 @@ pub struct WriterNotes<T> {
     pub written: LinkedList<T>,
     /// The swaps made with the pass.
     pub swaps: u64,
+    /// Each write is its swap.
+    pub times: Times,
 }
 
 /// What the reader's seat knows.
@@ -30,7 +33,13 @@ pub struct ReaderNotes<T> {
     /// The loads and the swaps made with the pass.
     pub loads: u64,
     pub swaps: u64,
+    /// Each read from its load to its swap, where the load found the mark, and else the load alone.
+    pub times: Times,
+    /// The number of each answer, where the writes have the numbers 1, 2, .. and the opening has 0.
+    pub numbers: LinkedList<u64>,
+    /// The writes made when the last read ended.
+    pub known: Known<T>,
 }
 
 /// What a seat of this cell knows.
-pub type TripleSight<T> = Sight<T, WriterNotes<T>, ReaderNotes<T>>;
+pub type TripleSight<T> = Sight<Dated<T>, WriterNotes<T>, ReaderNotes<T>>;

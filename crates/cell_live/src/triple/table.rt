@@ -1,6 +1,6 @@
 //! The table of a triple buffer and every step on it. No other module can reach the table: what stands here is all that can be
 //! done with it. A step on the word is one function, whose `Play` tells the seat's view what it did and raises the pass's count.
-ghost use Rattle.std.specs.Prelude.{◌≡◌, ◌+◌, [], ◌∷◌, IfOk};
+ghost use Rattle.std.specs.Prelude.{◌≡◌, ℕ, ◌+◌, [], ◌∷◌, IfOk};
 ghost use Rattle.std.specs.Fn.{FnOnceTakesAt, FnOnceReturnsAt};
 ghost use mathlib.Core.Option.{none};
 ghost use Rattle.std.specs.declared.snapshot.Snapshot.{Snapshot};
@@ -9,6 +9,9 @@ ghost use Rattle.cell_live.specs.Running.{last_or, Settled, held_slots};
 ghost use Rattle.cell_live.specs.Sights.{writer_part, reader_part};
 ghost use Rattle.cell_live.specs.triple.Steps.{put_took, get_took, put_swapped, looked, get_swapped, first_sight, receipt_for, hears_of};
 ghost use Rattle.cell_live.specs.triple.Steps.{whole_of};
+ghost use Rattle.cell_live.specs.triple.Rule.{IsTimed};
+ghost use Rattle.cell_live.specs.Intervals.{AreFirst};
+ghost use Rattle.cell_live.specs.declared.times.Dated.{Dated};
 ghost use Rattle.cell_live.specs.declared.triple.notes.WriterNotes.{WriterNotes};
 ghost use Rattle.cell_live.specs.declared.triple.notes.ReaderNotes.{ReaderNotes};
 ghost use Rattle.cell_live.specs.declared.sight.Sight.TheVariants.{Spent, Writer, Reader, Told, Both};
@@ -90,7 +93,7 @@ impl<T: Lawful> TripleTable<T> {
         requires own { (seat.old.inner.table_id ≡ self.now.inner.shared.table_id)
             × (receipt.inner.table_id ≡ self.now.inner.shared.table_id) }
         requires reader { (g : ReaderNotes T) × (seat.old.inner.me.0 ≡ Reader g) }
-        requires receipt { (x : Snapshot T) × (receipt.inner.me ≡ (Told x, [])) }
+        requires receipt { (x : Snapshot (Dated T)) × (receipt.inner.me ≡ (Told x, [])) }
         ensures own { seat.new.inner.table_id ≡ seat.old.inner.table_id }
         ensures joined { seat.new.inner.me ≡ (hears_of seat.old.inner.me.0 receipt.inner.me.0, seat.old.inner.me.1) }
     {
@@ -116,8 +119,11 @@ impl<T: Lawful> TripleTable<T> {
     /// Frees the table. Here the seat's two lists meet.
     pub(super) fn close(self, seat: TripleSeat<T>)
         requires { seat.inner.table_id ≡ self.inner.shared.table_id }
-        ensures { (p : WriterNotes T) (g : ReaderNotes T) → seat.inner.me.0 ≡ Both p g →
+        ensures settled { (p : WriterNotes T) (g : ReaderNotes T) → seat.inner.me.0 ≡ Both p g →
             Settled (self.inner.shared.key ∷ p.written) g.answers }
+        ensures timed { (p : WriterNotes T) (g : ReaderNotes T) → seat.inner.me.0 ≡ Both p g →
+            (now : ℕ) × IsTimed self.inner.shared.key p g now }
+        ensures known { (p : WriterNotes T) (g : ReaderNotes T) → seat.inner.me.0 ≡ Both p g → AreFirst g.known p.written p.times }
     {
         let TripleTable { inner: table } = self;
         let TripleSeat { inner: seat } = seat;

@@ -39,7 +39,7 @@ loop-preserved g c =
     c.index_mut-in-loop.ensures.value in (
       rw r (ending_more rest c.in-Some.cell stands inv is_row c.index_mut.result.now _ c.index_mut-in-loop.result.now _ c.in-Some-pop.put
           c.in-Some-pop-2.get
-          at_w c.in-Some-pop.ensures.items refl at_r c.in-Some-pop-2.ensures.items refl c.finish.ensures),
+          at_w c.in-Some-pop.ensures.items refl at_r c.in-Some-pop-2.ensures.items refl c.finish.ensures.settled),
       omega (arith, c.loop.invariant.1, one_more rest c.in-Some.cell stands inv is_row),
     )
 

@@ -1,5 +1,6 @@
 -- The swap puts the filled slot in the middle and takes the old middle, which nobody holds; the list grows by the record.
-use Rattle.std.proofs.Common.{rules, ◌∷◌, [], sym, ap, ◌∙◌, subst}
+use Rattle.std.proofs.Common.{rules, ◌∷◌, [], sym, ap, ◌∙◌, subst, refl, le_refl}
+use Rattle.cell_live.specs.Intervals.{IsNextCall}
 use Rattle.cell_live.specs.Running.{last_or, held_slots}
 use Rattle.cell_live.specs.Sights.{writer_or}
 use Rattle.cell_live.specs.triple.Steps.{first_writer}
@@ -32,8 +33,20 @@ invariant_of-put g c =
     let t = c.publish-found.ensures.swapped p item
     (ap (λ m. m.0) now ∙ put.known) (ap (λ m. m.1) now ∙ (λ i. (sym put.ready.1 i, item) ∷ [])) in
     let d' : WriterNotes g.row.T.Denot = first_writer put.spare in record {
-      known = t.2 ∙ ap (λ v. Writer (writer_or d' v)) (sym t.2);
-      ready = (ap (λ v. (writer_or d' v).has) t.2 ∙ put.ready.0, ap (λ v. (writer_or d' v).slot) t.2);
-      held = ap held_slots t.3;
+      known = t.4 ∙ ap (λ v. Writer (writer_or d' v)) (sym t.4);
+      ready = (ap (λ v. (writer_or d' v).has) t.4 ∙ put.ready.0, ap (λ v. (writer_or d' v).slot) t.4);
+      held = ap held_slots t.5;
       low = t.1;
     }
+
+pub returns-clause-timed : goal.returns-clause-timed
+returns-clause-timed g c =
+    let item : g.row.T.Denot = g.L.Lays.whole c.args.parts.now in
+    let put = c.args.put.now in
+    let d : WriterNotes g.row.T.Denot = first_writer put.spare in
+    let p : WriterNotes g.row.T.Denot = writer_or d put.seat.inner.me.0 in
+    let now = c.fill.ensures.filled in
+    let t = c.publish-found.ensures.swapped p item
+    (ap (λ m. m.0) now ∙ put.known) (ap (λ m. m.1) now ∙ (λ i. (sym put.ready.1 i, item) ∷ [])) in
+    subst (λ z. IsNextCall p.times (writer_or d z).times) (sym t.4)
+    (record { begin = t.2; end = t.2; after = t.3; forwards = le_refl t.2; begins = refl; ends = refl; clock = refl })

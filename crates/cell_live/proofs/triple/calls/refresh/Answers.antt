@@ -1,8 +1,9 @@
 -- The load tells the notes whether the word had the mark: without it the answer is at hand, with it the swap brings it.
-use Rattle.std.proofs.Common.{rules, arith, ◌≡◌, ◌+◌, ◌%◌, ◌∷◌, ◌++◌, [], sym, ap, ◌∙◌, subst, refl}
+use Rattle.std.proofs.Common.{rules, arith, ◌≡◌, ◌+◌, ◌%◌, ◌∷◌, ◌++◌, [], sym, ap, ◌∙◌, subst, refl, le_refl, le_of_lt}
 use Rattle.cell_live.specs.Running.{IsAnswer}
 use Rattle.cell_live.specs.Sights.{reader_or}
-use Rattle.cell_live.specs.triple.Steps.{first_reader}
+use Rattle.cell_live.specs.triple.Steps.{first_reader, asked_by}
+use Rattle.cell_live.specs.Intervals.{IsNextCall, IsNextAnswer}
 use Rattle.cell_live.specs.declared.triple.notes.ReaderNotes.{ReaderNotes}
 use Rattle.cell_live.specs.declared.sight.Sight.TheVariants.{Reader}
 use Rattle.cell_live.proofs.triple.calls.refresh.Goals as goal
@@ -18,7 +19,7 @@ invariant_of-get g c =
     let get = c.args.get.now in
     let d : ReaderNotes g.row.T.Denot = first_reader get.spare in
     let n : ReaderNotes g.row.T.Denot = reader_or d get.seat.inner.me.0 in
-    let t = c.look-found.ensures.looked n get.known in let v = (t.2 c.if-found-lt4.true).0 in let had = t.0 ∙ get.held in record {
+    let t = c.look-found.ensures.looked n get.known in let v = (t.4 c.if-found-lt4.true).2 in let had = t.2 ∙ get.held in record {
       known = v ∙ ap (λ z. Reader (reader_or d z)) (sym v);
       ready = (
         ap (λ z. (reader_or d z).has) v ∙ get.ready.0,
@@ -34,7 +35,8 @@ returns-then-found-lt4 g c =
     let get = c.args.get.now in
     let d : ReaderNotes g.row.T.Denot = first_reader get.spare in
     let n : ReaderNotes g.row.T.Denot = reader_or d get.seat.inner.me.0 in
-    let u = (c.look-found.ensures.looked n get.known).2 c.if-found-lt4.true in let v = u.0 in
+    let t = c.look-found.ensures.looked n get.known in
+    let u = t.4 c.if-found-lt4.true in let v = u.2 in
     let same : c.look-found.new.seat.inner.table_id ≡ get.seat.inner.table_id = search rules in
     let loads = ap (λ z. (reader_or d z).loads) v in
     let swaps = ap (λ z. (reader_or d z).swaps) v in
@@ -45,21 +47,25 @@ returns-then-found-lt4 g c =
       answers = ap (λ z. (reader_or d z).answers) v ∙ (λ i. n.answers ++ (reader_or d (sym v i)).at_hand.value ∷ []);
       told = ap (λ z. (reader_or d z).told) v;
       running = subst (λ (z : g.row.T.Denot × g.row.T.Denot). IsAnswer g.T.Lawful.fits g.T.Lawful.rises z.0 n.answers n.told z.1)
-          (λ i. ((c.requires i).opening, (reader_or d (sym v i)).at_hand.value)) u.1;
+          (λ i. ((c.requires i).opening, (reader_or d (sym v i)).at_hand.value)) u.3;
       loaded = loads;
       unmarked = λ _. swaps;
       marked = λ high. omega arith;
       accesses = omega arith;
+      timed = subst (λ z. IsNextCall n.times (reader_or d z).times) (sym v)
+          (record { begin = t.0; end = t.0; after = t.1; forwards = le_refl t.0; begins = refl; ends = refl; clock = refl });
+      numbered = subst (λ (z : g.row.T.Denot × ReaderNotes g.row.T.Denot). IsNextAnswer z.0 n.known z.1.known n.numbers z.1.numbers
+          z.1.answers z.1.times z.1.at_hand.value) (λ i. ((c.requires i).opening, reader_or d (sym v i))) u.4;
     }
 
 pub fetch-taken-requires-clause-marked : goal.fetch-taken-requires-clause-marked
 fetch-taken-requires-clause-marked g c =
     let get = c.args.get.now in
     let n : ReaderNotes g.row.T.Denot = reader_or (first_reader get.spare) get.seat.inner.me.0 in
-    let m : ReaderNotes g.row.T.Denot = record n { found = c.look-found.result; asked = 1; loads = n.loads + 1 } in
     let t = c.look-found.ensures.looked n get.known in
-    let had = t.0 ∙ get.held in
-    let view : c.look-found.new.seat.inner.me.0 ≡ Reader m = t.1 c.if-found-lt4.false in
+    let m : ReaderNotes g.row.T.Denot = asked_by n c.look-found.result t.0 in
+    let had = t.2 ∙ get.held in
+    let view : c.look-found.new.seat.inner.me.0 ≡ Reader m = t.3 c.if-found-lt4.false in
     (m, (λ i. (view i, (had ∙ (λ i. (sym get.ready.1 i, n.at_hand.value) ∷ [])) i)), get.ready.0, refl, sym get.ready.1)
 
 pub invariant_of-get-2 : goal.invariant_of-get-2
@@ -67,16 +73,16 @@ invariant_of-get-2 g c =
     let get = c.args.get.now in
     let d : ReaderNotes g.row.T.Denot = first_reader get.spare in
     let n : ReaderNotes g.row.T.Denot = reader_or d get.seat.inner.me.0 in
-    let m : ReaderNotes g.row.T.Denot = record n { found = c.look-found.result; asked = 1; loads = n.loads + 1 } in
     let t = c.look-found.ensures.looked n get.known in
-    let had = t.0 ∙ get.held in
-    let view : c.look-found.new.seat.inner.me.0 ≡ Reader m = t.1 c.if-found-lt4.false in
+    let m : ReaderNotes g.row.T.Denot = asked_by n c.look-found.result t.0 in
+    let had = t.2 ∙ get.held in
+    let view : c.look-found.new.seat.inner.me.0 ≡ Reader m = t.3 c.if-found-lt4.false in
     let u = c.fetch-taken.ensures.swapped m n.at_hand.value view (had ∙ (λ i. (sym get.ready.1 i, n.at_hand.value) ∷ [])) refl in
-    let v = u.2 in
+    let v = u.6 in
     record {
       known = v ∙ ap (λ z. Reader (reader_or d z)) (sym v);
       ready = (ap (λ z. (reader_or d z).has) v ∙ get.ready.0, ap (λ z. (reader_or d z).slot) v, ap (λ z. (reader_or d z).asked) v);
-      held = u.3 ∙ (λ i. ((c.fetch-taken.result % 4), (reader_or d (sym v i)).at_hand.value) ∷ []);
+      held = u.7 ∙ (λ i. ((c.fetch-taken.result % 4), (reader_or d (sym v i)).at_hand.value) ∷ []);
       low = u.1;
     }
 
@@ -85,12 +91,12 @@ returns g c =
     let get = c.args.get.now in
     let d : ReaderNotes g.row.T.Denot = first_reader get.spare in
     let n : ReaderNotes g.row.T.Denot = reader_or d get.seat.inner.me.0 in
-    let m : ReaderNotes g.row.T.Denot = record n { found = c.look-found.result; asked = 1; loads = n.loads + 1 } in
     let t = c.look-found.ensures.looked n get.known in
-    let had = t.0 ∙ get.held in
-    let view : c.look-found.new.seat.inner.me.0 ≡ Reader m = t.1 c.if-found-lt4.false in
+    let m : ReaderNotes g.row.T.Denot = asked_by n c.look-found.result t.0 in
+    let had = t.2 ∙ get.held in
+    let view : c.look-found.new.seat.inner.me.0 ≡ Reader m = t.3 c.if-found-lt4.false in
     let u = c.fetch-taken.ensures.swapped m n.at_hand.value view (had ∙ (λ i. (sym get.ready.1 i, n.at_hand.value) ∷ [])) refl in
-    let v = u.2 in
+    let v = u.6 in
     let same : c.fetch-taken.new.seat.inner.table_id ≡ get.seat.inner.table_id = search rules in
     let loads = ap (λ z. (reader_or d z).loads) v in
     let swaps = ap (λ z. (reader_or d z).swaps) v in
@@ -101,9 +107,13 @@ returns g c =
       answers = ap (λ z. (reader_or d z).answers) v ∙ (λ i. n.answers ++ (reader_or d (sym v i)).at_hand.value ∷ []);
       told = ap (λ z. (reader_or d z).told) v;
       running = subst (λ (z : g.row.T.Denot × g.row.T.Denot). IsAnswer g.T.Lawful.fits g.T.Lawful.rises z.0 n.answers n.told z.1)
-          (λ i. ((c.requires i).opening, (reader_or d (sym v i)).at_hand.value)) u.4;
+          (λ i. ((c.requires i).opening, (reader_or d (sym v i)).at_hand.value)) u.8;
       loaded = loads;
       unmarked = λ low. omega arith;
       marked = λ _. swaps;
       accesses = omega arith;
+      timed = subst (λ z. IsNextCall n.times (reader_or d z).times) (sym v)
+          (record { begin = t.0; end = u.2; after = t.1; forwards = le_of_lt u.5; begins = refl; ends = refl; clock = refl });
+      numbered = subst (λ (z : g.row.T.Denot × ReaderNotes g.row.T.Denot). IsNextAnswer z.0 n.known z.1.known n.numbers z.1.numbers
+          z.1.answers z.1.times z.1.at_hand.value) (λ i. ((c.requires i).opening, reader_or d (sym v i))) u.9;
     }

@@ -1,6 +1,6 @@
 -- The load of `latest` begins a read.
 use Rattle.std.proofs.Common.{arith}
-use Rattle.cell_live.proofs.four_slot.Keeps.{asks_ok}
+use Rattle.cell_live.proofs.four_slots.Keeps.{asks_ok}
 use Rattle.cell_live.proofs.four_slot.table.FourSlotTable.ask.Goals as goal
 
 pub load-requires : goal.load-requires

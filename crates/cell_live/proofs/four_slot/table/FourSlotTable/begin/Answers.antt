@@ -1,6 +1,6 @@
 -- The load of `reading` begins a write.
 use Rattle.std.proofs.Common.{ap, arith}
-use Rattle.cell_live.proofs.four_slot.Keeps.{begins_ok}
+use Rattle.cell_live.proofs.four_slots.Keeps.{begins_ok}
 use Rattle.cell_live.proofs.four_slot.table.FourSlotTable.begin.Goals as goal
 
 pub load-requires : goal.load-requires

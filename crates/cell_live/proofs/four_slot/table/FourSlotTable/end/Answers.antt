@@ -1,6 +1,6 @@
 -- The two views are made one.
 use Rattle.std.proofs.Common.{ap, arith}
-use Rattle.cell_live.proofs.four_slot.Keeps.{ends_ok}
+use Rattle.cell_live.proofs.four_slots.Keeps.{ends_ok}
 use Rattle.cell_live.proofs.four_slot.table.FourSlotTable.end.Goals as goal
 
 pub join_seat-requires : goal.join_seat-requires

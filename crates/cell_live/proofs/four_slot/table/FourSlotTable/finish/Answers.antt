@@ -1,6 +1,6 @@
 -- The store of the pair finishes the write.
 use Rattle.std.proofs.Common.{arith}
-use Rattle.cell_live.proofs.four_slot.Keeps.{finishes_ok}
+use Rattle.cell_live.proofs.four_slots.Keeps.{finishes_ok}
 use Rattle.cell_live.proofs.four_slot.table.FourSlotTable.finish.Goals as goal
 
 pub store-requires : goal.store-requires

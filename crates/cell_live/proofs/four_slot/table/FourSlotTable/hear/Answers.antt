@@ -1,6 +1,6 @@
 -- The record of a receipt is shown already.
 use Rattle.std.proofs.Common.{ap, arith}
-use Rattle.cell_live.proofs.four_slot.Keeps.{hears_ok}
+use Rattle.cell_live.proofs.four_slots.Keeps.{hears_ok}
 use Rattle.cell_live.proofs.four_slot.table.FourSlotTable.hear.Goals as goal
 
 pub join_seat-requires : goal.join_seat-requires

@@ -3,7 +3,7 @@ use Rattle.std.proofs.Common.{rules, ◌≡◌, [], ◌∷◌, List, sym, subst}
 use Rattle.atomic_table.specs.Table.{opening}
 use Rattle.cell_live.specs.four_slot.Rule.{FourSlotRule}
 use Rattle.cell_live.specs.four_slot.Steps.{first_sight}
-use Rattle.cell_live.proofs.four_slot.Keeps.{starts}
+use Rattle.cell_live.proofs.four_slots.Keeps.{starts}
 use Rattle.cell_live.proofs.four_slot.table.FourSlotTable.new.Goals as goal
 
 pub new-requires : goal.new-requires

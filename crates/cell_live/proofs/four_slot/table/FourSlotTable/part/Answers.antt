@@ -1,6 +1,6 @@
 -- The two parts of the whole view keep the rule.
 use Rattle.std.proofs.Common.{arith}
-use Rattle.cell_live.proofs.four_slot.Keeps.{parts_ok}
+use Rattle.cell_live.proofs.four_slots.Keeps.{parts_ok}
 use Rattle.cell_live.proofs.four_slot.table.FourSlotTable.part.Goals as goal
 
 pub split_seat-parted-requires : goal.split_seat-parted-requires

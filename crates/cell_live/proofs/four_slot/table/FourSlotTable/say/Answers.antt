@@ -1,6 +1,6 @@
 -- The store of the pair gives the slot of the read before back.
 use Rattle.std.proofs.Common.{ap, arith}
-use Rattle.cell_live.proofs.four_slot.Keeps.{says_ok}
+use Rattle.cell_live.proofs.four_slots.Keeps.{says_ok}
 use Rattle.cell_live.proofs.four_slot.table.FourSlotTable.say.Goals as goal
 
 pub store-requires : goal.store-requires

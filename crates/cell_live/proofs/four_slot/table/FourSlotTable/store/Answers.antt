@@ -1,7 +1,7 @@
 -- The store of the index gives the filled slot back.
 use Rattle.std.proofs.Common.{ap, arith}
-use Rattle.cell_live.proofs.four_slot.Slots.{bit_low}
-use Rattle.cell_live.proofs.four_slot.Keeps.{stores_ok}
+use Rattle.cell_live.proofs.four_slots.Slots.{bit_low}
+use Rattle.cell_live.proofs.four_slots.Keeps.{stores_ok}
 use Rattle.cell_live.proofs.four_slot.table.FourSlotTable.store.Goals as goal
 
 pub store-requires : goal.store-requires

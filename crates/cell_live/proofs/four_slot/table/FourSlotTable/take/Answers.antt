@@ -1,7 +1,7 @@
 -- The load of the pair's word takes the slot that it names.
 use Rattle.std.proofs.Common.{ap, arith}
-use Rattle.cell_live.proofs.four_slot.Slots.{bit_low}
-use Rattle.cell_live.proofs.four_slot.Keeps.{takes_ok}
+use Rattle.cell_live.proofs.four_slots.Slots.{bit_low}
+use Rattle.cell_live.proofs.four_slots.Keeps.{takes_ok}
 use Rattle.cell_live.proofs.four_slot.table.FourSlotTable.take.Goals as goal
 
 pub load-requires : goal.load-requires

@@ -1,6 +1,6 @@
 -- Between two writes the last finished record is shown, so a receipt may name it.
 use Rattle.std.proofs.Common.{arith}
-use Rattle.cell_live.proofs.four_slot.Keeps.{tells_ok}
+use Rattle.cell_live.proofs.four_slots.Keeps.{tells_ok}
 use Rattle.cell_live.proofs.four_slot.table.FourSlotTable.tell.Goals as goal
 
 pub split_seat-parted-requires : goal.split_seat-parted-requires

@@ -1,6 +1,6 @@
 -- The two views are made one.
 use Rattle.std.proofs.Common.{ap, arith}
-use Rattle.cell_live.proofs.triple.Keeps.{ends_at}
+use Rattle.cell_live.proofs.triple_buffer.Keeps.{ends_at}
 use Rattle.cell_live.proofs.triple.table.TripleTable.end.Goals as goal
 
 pub join_seat-requires : goal.join_seat-requires

@@ -1,6 +1,6 @@
 -- The slot in the middle has the record written last.
 use Rattle.std.proofs.Common.{ap, arith}
-use Rattle.cell_live.proofs.triple.Keeps.{gets}
+use Rattle.cell_live.proofs.triple_buffer.Keeps.{gets}
 use Rattle.cell_live.proofs.triple.table.TripleTable.fetch.Goals as goal
 
 pub swap-requires : goal.swap-requires

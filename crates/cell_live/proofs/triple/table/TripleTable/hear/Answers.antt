@@ -1,6 +1,6 @@
 -- The record of a receipt stands in the list.
 use Rattle.std.proofs.Common.{ap, arith}
-use Rattle.cell_live.proofs.triple.Keeps.{hears_at}
+use Rattle.cell_live.proofs.triple_buffer.Keeps.{hears_at}
 use Rattle.cell_live.proofs.triple.table.TripleTable.hear.Goals as goal
 
 pub join_seat-requires : goal.join_seat-requires

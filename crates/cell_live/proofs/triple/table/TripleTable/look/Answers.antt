@@ -1,6 +1,6 @@
 -- The load changes the notes alone.
 use Rattle.std.proofs.Common.{arith}
-use Rattle.cell_live.proofs.triple.Keeps.{looks}
+use Rattle.cell_live.proofs.triple_buffer.Keeps.{looks}
 use Rattle.cell_live.proofs.triple.table.TripleTable.look.Goals as goal
 
 pub load-requires : goal.load-requires

@@ -3,7 +3,7 @@ use Rattle.std.proofs.Common.{rules, ◌≡◌, sym, subst, List, [], ◌∷◌}
 use Rattle.atomic_table.specs.Table.{opening}
 use Rattle.cell_live.specs.triple.Rule.{TripleRule}
 use Rattle.cell_live.specs.triple.Steps.{first_sight}
-use Rattle.cell_live.proofs.triple.Keeps.{starts}
+use Rattle.cell_live.proofs.triple_buffer.Keeps.{starts}
 use Rattle.cell_live.proofs.triple.table.TripleTable.new.Goals as goal
 
 pub new-requires : goal.new-requires

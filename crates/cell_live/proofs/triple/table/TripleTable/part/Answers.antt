@@ -1,6 +1,6 @@
 -- The two parts of the whole view keep the rule.
 use Rattle.std.proofs.Common.{arith}
-use Rattle.cell_live.proofs.triple.Keeps.{parts_at}
+use Rattle.cell_live.proofs.triple_buffer.Keeps.{parts_at}
 use Rattle.cell_live.proofs.triple.table.TripleTable.part.Goals as goal
 
 pub split_seat-parted-requires : goal.split_seat-parted-requires

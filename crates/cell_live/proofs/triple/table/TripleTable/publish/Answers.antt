@@ -1,6 +1,6 @@
 -- The filled slot goes into the middle.
 use Rattle.std.proofs.Common.{ap, arith}
-use Rattle.cell_live.proofs.triple.Keeps.{puts}
+use Rattle.cell_live.proofs.triple_buffer.Keeps.{puts}
 use Rattle.cell_live.proofs.triple.table.TripleTable.publish.Goals as goal
 
 pub swap-requires : goal.swap-requires

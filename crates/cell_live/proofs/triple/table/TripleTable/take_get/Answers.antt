@@ -1,6 +1,6 @@
 -- The reader's first slot is at home until this load.
 use Rattle.std.proofs.Common.{ap, arith}
-use Rattle.cell_live.proofs.triple.Keeps.{get_takes}
+use Rattle.cell_live.proofs.triple_buffer.Keeps.{get_takes}
 use Rattle.cell_live.proofs.triple.table.TripleTable.take_get.Goals as goal
 
 pub load-requires : goal.load-requires

@@ -1,6 +1,6 @@
 -- The writer's first slot is at home until this load.
 use Rattle.std.proofs.Common.{ap, arith}
-use Rattle.cell_live.proofs.triple.Keeps.{put_takes}
+use Rattle.cell_live.proofs.triple_buffer.Keeps.{put_takes}
 use Rattle.cell_live.proofs.triple.table.TripleTable.take_put.Goals as goal
 
 pub load-requires : goal.load-requires

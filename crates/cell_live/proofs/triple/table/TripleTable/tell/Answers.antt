@@ -1,6 +1,6 @@
 -- The record written last stands in the list.
 use Rattle.std.proofs.Common.{arith}
-use Rattle.cell_live.proofs.triple.Keeps.{tells_at}
+use Rattle.cell_live.proofs.triple_buffer.Keeps.{tells_at}
 use Rattle.cell_live.proofs.triple.table.TripleTable.tell.Goals as goal
 
 pub split_seat-parted-requires : goal.split_seat-parted-requires

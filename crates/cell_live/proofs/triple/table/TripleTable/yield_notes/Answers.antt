@@ -1,6 +1,6 @@
 -- The notes move to a seat of their own.
 use Rattle.std.proofs.Common.{arith}
-use Rattle.cell_live.proofs.triple.Keeps.{yields_at}
+use Rattle.cell_live.proofs.triple_buffer.Keeps.{yields_at}
 use Rattle.cell_live.proofs.triple.table.TripleTable.yield_notes.Goals as goal
 
 pub split_seat-parted-requires : goal.split_seat-parted-requires

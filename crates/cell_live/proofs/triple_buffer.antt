@@ -1,2 +1,3 @@
 -- The rule of the triple buffer is kept by each step.
 pub mod Keeps
+pub mod Timing

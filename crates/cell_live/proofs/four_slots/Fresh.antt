@@ -17,8 +17,8 @@ use Rattle.fourslot_core.specs.Freshness.{IsBegun}
 use Rattle.fourslot_core.proofs.events.TwoSides.{bit_cases, side_same, side_other, record_same, record_other}
 use Rattle.cell_live.specs.Running.{last_or, Settled, Rising, IsAnswer}
 use Rattle.cell_live.specs.four_slot.Rule.{number_in, finished_number, named_slot, StandsBy, UpTo, IsNumbered, IsSettled, IsWriterShown}
-use Rattle.cell_live.proofs.four_slot.Slots.{same_or_not, not_named, number_here, number_else, number_bound}
-use Rattle.cell_live.proofs.four_slot.Clear.{free_slot, begun, read_on, same_opposite}
+use Rattle.cell_live.proofs.four_slots.Slots.{same_or_not, not_named, number_here, number_else, number_bound}
+use Rattle.cell_live.proofs.four_slots.Clear.{free_slot, begun, read_on, same_opposite}
 use Rattle.cell_live.proofs.ListLaws.{settled_more, settled_at, last_by, all_each, rises_at, fits_at, take_more}
 
 -- the stages of a write that a table shows
@@ -31,7 +31,7 @@ shown_cases writer.W5 n = inr (inr refl)
 
 module _ {T : Type 0} (o : T) where
   -- the slot of a write under way is none that a bit names
-  free_unnamed : (c : Core T) (last : T) (q : Bool) → IsSound c last → named_slot c q ≢ free_slot c
+  pub free_unnamed : (c : Core T) (last : T) (q : Bool) → IsSound c last → named_slot c q ≢ free_slot c
   free_unnamed c last q sound = not_named c (free_slot c) q (same_opposite c last sound)
 
   -- W1 leaves the number of the record that is shown
@@ -147,7 +147,7 @@ module _ {T : Type 0} (o : T) where
       record { to_latest = longer c.latest s.to_latest; to_pair = λ b. longer c.read.pair (s.to_pair b) }
 
   -- W4: the slot that the writer's pair names is the newest, and the other pair names what it did
-  number_grows : (ws : List T) (js : List Slot) (c : Core T) (last x : T) (q : Bool) → IsNumbered o ws js last c →
+  pub number_grows : (ws : List T) (js : List Slot) (c : Core T) (last x : T) (q : Bool) → IsNumbered o ws js last c →
       number_in js (named_slot c q) ≤ number_in js (named_slot (after_write writer.W3 x c) q)
   number_grows ws js c last x q h =
       let low = number_bound js (named_slot c q) in
@@ -190,6 +190,27 @@ module _ {T : Type 0} (o : T) where
     to_latest = up_to_more ws xs hs _ _ (shown_grows ws js c last x h sound w) s.to_latest;
     to_pair = s.to_pair;
   }
+
+  -- the record that is shown is no older than the last finished write
+  pub finished_shown : (ws : List T) (js : List Slot) (c : Core T) (last : T) → IsNumbered o ws js last c → IsSound c last →
+      IsWriterShown c.writer → finished_number c.writer (length ws) ≤ number_in js (latest_slot c)
+  finished_shown ws js c last h sound shown =
+      let plain : (IsStored c.writer → c.write.pair ≢ c.latest) → finished_number c.writer (length ws) ≤ number_in js (latest_slot c) =
+      λ u. let e : number_in js (latest_slot c) ≡ finished_number c.writer (length ws) = h.latest u in omega arith in
+      ⊎_elim
+      (λ (w : c.writer ≡ writer.W3). plain (λ z. absurd (subst IsStored w z)))
+      (λ (t : (c.writer ≡ writer.W4) ⊎ (c.writer ≡ writer.W5)). ⊎_elim
+      (λ (w : c.writer ≡ writer.W4). ⊎_elim
+      (λ (e : c.write.pair ≡ c.latest).
+      let l : number_in js (latest_slot c) ≡ length ws =
+      ap (λ (z : Bool). number_in js (named_slot c z)) (sym e) ∙ (ap (number_in js) (named_written c last sound w) ∙ h.newest) in
+      let f : finished_number c.writer (length ws) ≡ length ws - 1 = ap (λ (z : Stage). finished_number z (length ws)) w in
+      omega arith)
+      (λ (ne : c.write.pair ≢ c.latest). plain (λ _. ne))
+      (bit_cases c.write.pair c.latest))
+      (λ (w : c.writer ≡ writer.W5). plain (λ z. absurd (subst IsStored w z)))
+      t)
+      (shown_cases c.writer shown)
 
   -- R1
   pub settled_asks : (ws : List T) (js : List Slot) (xs hs : List T) (c : Core T) → IsSettled o ws js xs hs c →

@@ -4,3 +4,4 @@ pub mod Events
 pub mod Fresh
 pub mod Keeps
 pub mod Slots
+pub mod Timing

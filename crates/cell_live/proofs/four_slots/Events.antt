@@ -18,7 +18,7 @@ use Rattle.fourslot_core.proofs.events.Interleaved.{then_writes, then_reads}
 use Rattle.fourslot_core.proofs.events.Keeping.{keep_write, keep_read}
 use Rattle.cell_live.specs.Running.{snap}
 use Rattle.cell_live.specs.four_slot.Rule.{IsWriterShown, named_slot, control_writes, control_reads}
-use Rattle.cell_live.proofs.four_slot.Clear.{begun, read_on}
+use Rattle.cell_live.proofs.four_slots.Clear.{begun, read_on}
 
 snoc_three : {A : Type 0} (xs : List A) (a b c : A) → ((xs ++ a ∷ []) ++ b ∷ []) ++ c ∷ [] ≡ xs ++ a ∷ b ∷ c ∷ []
 snoc_three [] a b c = refl

@@ -17,7 +17,7 @@ use Rattle.fourslot_core.specs.Invariant.{HasSlot, IsKept, IsSound}
 use Rattle.fourslot_core.proofs.events.TwoSides.{not_same, record_same, record_other}
 use Rattle.cell_live.specs.four_slot.Rule.{InTable, HeldByWriter, HeldByReader, named_slot}
 use Rattle.cell_live.specs.four_slot.Steps.{slot_of_choice}
-use Rattle.cell_live.proofs.four_slot.Slots.{slot_low, number_of_slot, same_or_not, not_named}
+use Rattle.cell_live.proofs.four_slots.Slots.{slot_low, number_of_slot, same_or_not, not_named}
 
 -- word 2 + q is the bit of the pair q
 word_at : (l r : ℕ) (s : Sides Bool) (q : Bool) →

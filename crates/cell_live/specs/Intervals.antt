@@ -1,0 +1,135 @@
+-- The calls of a cell as intervals of the table's time, in which each step on a word has a time of its own. Operations as
+-- intervals and their precedence are L. Lamport's, On Interprocess Communication, Parts I and II, Distributed Computing 1, 1986;
+-- numbers of reads are this project's own.
+use Rattle.std.specs.Prelude.{◌≡◌, ℕ, ◌+◌, ◌<◌, ◌≤◌, max, List, [], ◌∷◌, ◌++◌, length, slice_get, Option, Some}
+use Rattle.fourslot_core.specs.Accesses.{IsBefore}
+use Rattle.cell_live.specs.declared.times.Times.{Times}
+use Rattle.cell_live.specs.declared.times.Known.{Known}
+use Rattle.cell_live.specs.declared.times.Dated.{Dated}
+
+-- the list has t at place k
+abbrev pub At : List ℕ → ℕ → ℕ → Type 0
+At ts k t = slice_get ts k ≡ Some t
+
+abbrev pub no_times : Times
+no_times = record { begins = []; ends = []; clock = 0 }
+
+abbrev pub none_known : {T : Type 0} → Known T
+none_known = record { items = []; times = no_times }
+
+-- what a receipt names, and its default
+abbrev pub dated_at : {T : Type 0} → T → ℕ → Dated T
+dated_at x t = record { item = x; time = t }
+
+abbrev pub dated : {T : Type 0} → T → Dated T
+dated x = dated_at x 0
+
+-- after a step at time t, with which a call begins, goes on or ends; and after a receipt with a time
+abbrev pub begun_at : Times → ℕ → Times
+begun_at s t = record s { begins = s.begins ++ t ∷ []; clock = t }
+
+abbrev pub passed_at : Times → ℕ → Times
+passed_at s t = record s { clock = t }
+
+abbrev pub ended_at : Times → ℕ → Times
+ended_at s t = record s { ends = s.ends ++ t ∷ []; clock = t }
+
+-- a call of one step begins and ends with it
+abbrev pub made_at : Times → ℕ → Times
+made_at s t = ended_at (begun_at s t) t
+
+abbrev pub heard_at : Times → ℕ → Times
+heard_at s t = record s { clock = max s.clock t }
+
+-- *The next call*: one call more. It begins after all that the pass knew of, and ends no earlier than it begins
+pub record IsNextCall (old new : Times) : Type 0 where
+  pub begin : ℕ
+  pub end : ℕ
+  pub after : old.clock < begin
+  pub forwards : begin ≤ end
+  pub begins : new.begins ≡ old.begins ++ begin ∷ []
+  pub ends : new.ends ≡ old.ends ++ end ∷ []
+  pub clock : new.clock ≡ end
+
+-- no call more, and the pass knows of this time
+pub record IsHeard (old new : Times) (time : ℕ) : Type 0 where
+  pub begins : new.begins ≡ old.begins
+  pub ends : new.ends ≡ old.ends
+  pub later : old.clock ≤ new.clock
+  pub heard : time ≤ new.clock
+
+-- one call after the other
+pub record InTurn (begins ends : List ℕ) : Type 0 where
+  pub forwards : (k b e : ℕ) → At begins k b → At ends k e → b ≤ e
+  pub follows : (k e b : ℕ) → At ends k e → At begins (k + 1) b → e < b
+
+-- all lie up to the clock
+pub record IsBy (s : Times) : Type 0 where
+  pub begun : (k t : ℕ) → At s.begins k t → t ≤ s.clock
+  pub ended : (k t : ℕ) → At s.ends k t → t ≤ s.clock
+
+-- the number is at least that of each write that ended before this time
+abbrev pub IsLate : List ℕ → ℕ → ℕ → Type 0
+IsLate ends time n = (k e : ℕ) → At ends k e → e < time → k < n
+
+-- the write with this number, if it is one, began before this time
+abbrev pub HasBegun : List ℕ → ℕ → ℕ → Type 0
+HasBegun begins time n = (k : ℕ) → n ≡ k + 1 → (b : ℕ) × At begins k b × (b < time)
+
+-- the same as of a board's cells: the calls of one side, and what is known of a read with a number
+pub record Intervals : Type 0 where
+  pub begins : ℕ → Option ℕ
+  pub ends : ℕ → Option ℕ
+
+abbrev pub intervals : Times → Intervals
+intervals s = record { begins = slice_get s.begins; ends = slice_get s.ends }
+
+pub record IsReadOf (writes reads : Intervals) (m n : ℕ) : Type 0 where
+  pub late : (k : ℕ) → IsBefore (writes.ends k) (reads.begins m) → k < n
+  pub begun : (k : ℕ) → n ≡ k + 1 → IsBefore (writes.begins k) (reads.ends m)
+
+-- *Atomic by intervals*: each answer has a number, which is that of its record; a write that ended before the read began has no
+-- greater number; the write with the number began before the read ended; and numbers never fall. The last write may be under way
+pub record AreAtomic {T : Type 0} (opening : T) (written : List T) (writes : Times) (answers : List T) (numbers : List ℕ)
+    (reads : Times) : Type 0 where
+  pub source : (m n : ℕ) (x : T) → At numbers m n → slice_get answers m ≡ Some x → slice_get (opening ∷ written) n ≡ Some x
+  pub read_of : (m n : ℕ) → At numbers m n → IsReadOf (intervals writes) (intervals reads) m n
+  pub rising : (i j a b : ℕ) → At numbers i a → At numbers j b → i ≤ j → a ≤ b
+  -- the intervals are those of calls in turn, and the numbers are as many as the answers
+  pub writes_in_turn : InTurn writes.begins writes.ends
+  pub reads_in_turn : InTurn reads.begins reads.ends
+  pub writes_begun : length writes.begins ≡ length written
+  pub writes_ended : (length writes.ends ≤ length written) × (length written ≤ length writes.ends + 1)
+  pub reads_counted : (length reads.begins ≡ length answers) × (length reads.ends ≡ length answers)
+  pub numbered : length numbers ≡ length answers
+
+-- no call is under way
+abbrev pub HaveEnded : Times → Type 0
+HaveEnded s = length s.ends ≡ length s.begins
+
+-- the second list goes on from the first
+abbrev pub IsBeginning : {A : Type 0} → List A → List A → Type 0
+IsBeginning {A} xs ys = (more : List A) × (ys ≡ xs ++ more)
+
+-- the writes known are the first of these, by their records and their intervals
+pub record AreFirst {T : Type 0} (known : Known T) (written : List T) (writes : Times) : Type 0 where
+  pub items : IsBeginning known.items written
+  pub begins : IsBeginning known.times.begins writes.begins
+  pub ends : IsBeginning known.times.ends writes.ends
+
+-- *The next answer*: one number more, and the answer is the record with this number of the writes known, where the opening has
+-- number 0. What was known is still, and with the writes known all answers are atomic by their intervals
+pub record IsNextAnswer {T : Type 0} (opening : T) (old new : Known T) (before after : List ℕ) (answers : List T) (reads : Times)
+    (answer : T) : Type 0 where
+  pub number : ℕ
+  pub numbers : after ≡ before ++ number ∷ []
+  pub source : slice_get (opening ∷ new.items) number ≡ Some answer
+  pub known : AreFirst old new.items new.times
+  pub atomic : AreAtomic opening new.items new.times answers after reads
+
+-- an instance: a write from 1 to 3, a read from 2 to 4 that meets it, and a read from 5 to 6
+abbrev pub one_write : Times
+one_write = record { begins = 1 ∷ []; ends = 3 ∷ []; clock = 3 }
+
+abbrev pub two_reads : Times
+two_reads = record { begins = 2 ∷ 5 ∷ []; ends = 4 ∷ 6 ∷ []; clock = 6 }
