@@ -288,9 +288,9 @@ class Builder:
 
 
 def clear_rooms(base):
-    """Removes the rooms of builds that were killed."""
+    """Removes the rooms of builds that were killed. (A build locks its own a moment after it has made them.)"""
     for name in os.listdir(base):
-        if name.startswith("rooms-"):
+        if name.startswith("rooms-") and os.stat(f"{base}/{name}").st_mtime < time.time() - 60:
             held = lock([f"{base}/{name}"])
             if held:
                 shutil.rmtree(f"{base}/{name}", ignore_errors=True)
