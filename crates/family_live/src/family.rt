@@ -1,0 +1,114 @@
+//! What a family promises.
+ghost use Rattle.std.specs.Prelude.{◌≡◌, ◌≢◌, ℕ, ◌<◌, ◌≤◌, List, [], ◌∷◌, ◌++◌, length, vec_len, IfOk};
+ghost use Rattle.std.specs.Fn.{FnOnceTakesAt, FnOnceReturnsAt};
+ghost use Rattle.history_core.specs.Schedules.{positions};
+ghost use Rattle.cell_live.specs.Running.{IsAnswer, last_or};
+ghost use Rattle.family_live.specs.Accesses.{Writes, Reads, IsUnused, IsAccess, IsWrite, IsRead, IsHeardRead, Keeps, KeepsOthers};
+ghost use Rattle.family_live.specs.Ends.{Each, EachTwo, IsSchedule, IsAtomicCell};
+
+use cell_live::{Kept, Lawful};
+use std::alloc::{AllocError, Global};
+
+/// The calls of a family: registers of one writer and one reader each, from each of 2 to 16 processes to each other one.
+///
+/// Lists, numbers and times are known to contracts alone. The running program has none of them.
+pub trait Family<T: Lawful>: Sized + Drop {
+    /// The right to write and to read as one of the processes.
+    type Seat: Drop;
+
+    /// A receipt of a process for what it has written.
+    type Told: Drop;
+
+    // The record that each register opened with, and how many processes there are.
+    ghost opening: { Self → T };
+
+    ghost processes: { Self → ℕ };
+
+    // The steps of the schedule that an access makes.
+    ghost width: { ℕ };
+
+    // Whether the seat or the receipt is of this family.
+    ghost is_seat: { Self → Self.Seat → Type 0 };
+
+    ghost is_told: { Self → Self.Told → Type 0 };
+
+    // The process, the last time of which it knows, and the times of its steps.
+    ghost who: { Self.Seat → ℕ };
+
+    ghost clock: { Self.Seat → ℕ };
+
+    ghost times: { Self.Seat → List ℕ };
+
+    // What it wrote to a process, and what it read from one.
+    ghost writes: { Self.Seat → ℕ → Writes T };
+
+    ghost reads: { Self.Seat → ℕ → Reads T };
+
+    // Whose receipt it is, its time, and the record that it names to a process.
+    ghost sender: { Self.Told → ℕ };
+
+    ghost time_of: { Self.Told → ℕ };
+
+    ghost named: { Self.Told → ℕ → T };
+
+    /// A family of `n` processes whose registers all hold `first`, with the seat of each process.
+    fn make(alloc: Global, n: usize, first: T) -> Result<(Self, Vec<Self::Seat>), AllocError>
+        requires lawful { T.fits first }
+        requires processes { (2 ≤ n) × (n ≤ 16) }
+        ensures opens { IfOk result (λ r. (opening r.0 ≡ first) × (processes r.0 ≡ n)) }
+        ensures seats { IfOk result (λ r. (vec_len r.1 ≡ n) × Each (λ i s. is_seat r.0 s × (who s ≡ i)) r.1.items) }
+        ensures unused { IfOk result (λ r. Each (λ i s. IsUnused (clock s) (times s) (writes s) (reads s)) r.1.items) };
+
+    /// Shows the record to one other process.
+    fn write_from(&self, seat: &mut Self::Seat, to: usize, item: &T)
+        requires own { is_seat self.now seat.old }
+        requires other { (to < processes self.now) × (to ≢ who seat.old) }
+        requires lawful { T.fits item.now × T.rises (last_or (opening self.now) (writes seat.old to).items) item.now }
+        ensures own { is_seat self.now seat.new × (who seat.new ≡ who seat.old) }
+        ensures access { IsAccess width (clock seat.old) (clock seat.new) (times seat.old) (times seat.new)
+            (writes seat.old to).times (writes seat.new to).times }
+        ensures written { IsWrite (writes seat.old to) (writes seat.new to) item.now }
+        ensures others { KeepsOthers to (writes seat.old) (writes seat.new) × Keeps (reads seat.old) (reads seat.new) };
+
+    /// Lends one whole record of another process where it lies, so that nothing is copied: `look` is called once with it. It is a
+    /// record that was written, and by its law it may stand after each that this process saw or was told of that one.
+    fn read_with<R, F: FnOnce(&T) -> R>(&self, seat: &mut Self::Seat, from: usize, look: F) -> R
+        requires own { is_seat self.now seat.old }
+        requires other { (from < processes self.now) × (from ≢ who seat.old) }
+        requires callable { (x : T) → IsAnswer T.fits T.rises (opening self.now) (reads seat.old from).answers (reads seat.old from).told x →
+            FnOnceTakesAt F.FnOnce look x }
+        ensures own { is_seat self.now seat.new × (who seat.new ≡ who seat.old) }
+        ensures access { IsAccess width (clock seat.old) (clock seat.new) (times seat.old) (times seat.new)
+            (reads seat.old from).times (reads seat.new from).times }
+        ensures answer { (x : T) × IsRead (opening self.now) (reads seat.old from) (reads seat.new from) x
+            × IsAnswer T.fits T.rises (opening self.now) (reads seat.old from).answers (reads seat.old from).told x
+            × FnOnceReturnsAt F.FnOnce look x result }
+        ensures others { KeepsOthers from (reads seat.old) (reads seat.new) × Keeps (writes seat.old) (writes seat.new) };
+
+    /// Gives a receipt for all that the process has written.
+    fn tell(&self, seat: &mut Self::Seat) -> Self::Told
+        requires own { is_seat self.now seat.old }
+        ensures own { is_seat self.now seat.new × (who seat.new ≡ who seat.old) }
+        ensures told { is_told self.now result × (sender result ≡ who seat.old) × (time_of result ≡ clock seat.old) }
+        ensures named { (j : ℕ) → j < processes self.now → j ≢ who seat.old → named result j ≡ last_or (opening self.now) (writes seat.old j).items }
+        ensures same { (clock seat.new ≡ clock seat.old) × (times seat.new ≡ times seat.old) }
+        ensures calls { Keeps (writes seat.old) (writes seat.new) × Keeps (reads seat.old) (reads seat.new) };
+
+    /// Takes a receipt in: what this process calls from now on begins later than all that its sender had done.
+    fn learn(&self, seat: &mut Self::Seat, told: Self::Told)
+        requires own { is_seat self.now seat.old × is_told self.now told }
+        ensures own { is_seat self.now seat.new × (who seat.new ≡ who seat.old) }
+        ensures later { (clock seat.old ≤ clock seat.new) × (time_of told ≤ clock seat.new) × (times seat.new ≡ times seat.old) }
+        ensures heard { sender told ≢ who seat.old →
+            IsHeardRead (reads seat.old (sender told)) (reads seat.new (sender told)) (named told (who seat.old)) }
+        ensures others { Keeps (writes seat.old) (writes seat.new) × KeepsOthers (sender told) (reads seat.old) (reads seat.new) };
+
+    /// Ends the family: all that was done is one schedule, and the calls of each register are atomic by their intervals in its time.
+    fn finish(self, seats: Vec<Self::Seat>)
+        requires { (vec_len seats ≡ processes self) × Each (λ i s. is_seat self s × (who s ≡ i)) seats.items }
+        ensures scheduled { (steps : List ℕ) × IsSchedule (processes self) steps × Each (λ i s. times s ≡ positions 1 i steps) seats.items }
+        ensures atomic { EachTwo (λ i j s t. IsAtomicCell (opening self) (writes s j) (reads t i)) seats.items };
+}
+
+/// A family that threads can share.
+pub trait SharedFamily<T: Kept>: Family<T> + Send + Sync {}
