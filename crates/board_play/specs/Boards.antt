@@ -1,7 +1,7 @@
 -- The composed board: a matrix whose cells are four-slot cells (H. Simpson, Four-slot fully asynchronous communication mechanism,
 -- IEE Proceedings E, 1990), each of which makes one event at each step that is its. Which steps those are, and with them the
 -- accesses of each cell, the schedule says by itself. The composition is this project's own.
-use Rattle.std.specs.Prelude.{◌≡◌, ◌≢◌, ℕ, ◌+◌, ◌-◌, ◌*◌, ◌/◌, ◌%◌, ◌<◌, ◌≤◌, List, [], ◌∷◌, ◌++◌, length, slice_get, Option, None, Some}
+use Rattle.std.specs.Prelude.{◌≡◌, ◌≢◌, ℕ, ◌+◌, ◌-◌, ◌*◌, ◌/◌, ◌%◌, ◌<◌, List, [], ◌∷◌, ◌++◌, length, slice_get, Option, None, Some}
 use Rattle.std.specs.Prelude.{Bool, ◌&&◌, nat_eq, nat_le, nat_lt, if◌then◌else◌}
 use Rattle.history_core.specs.declared.history.Op.{Op}
 use Rattle.history_core.specs.declared.history.Kind.TheVariants.{Write, Refused}

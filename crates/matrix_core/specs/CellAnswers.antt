@@ -1,7 +1,7 @@
 -- What the order needs of the cells, whatever they are. An access of a cell is an interval of positions. A read of it has the
 -- number of a write, or 0, that of the opening; and what an operation saw is the greatest of its process's own record and of
 -- the records whose numbers the reads of its column have. This is this project's own, over Lamport's intervals.
-use Rattle.std.specs.Prelude.{◌≡◌, ℕ, zero, suc, ◌+◌, ◌<◌, ◌≤◌, List, [], ◌∷◌, ◌++◌, length, slice_get, Option, None, Some, nat_eq}
+use Rattle.std.specs.Prelude.{◌≡◌, ℕ, zero, suc, ◌+◌, ◌<◌, List, [], ◌∷◌, ◌++◌, length, slice_get, Option, Some, nat_eq}
 use Rattle.std.specs.Prelude.{if◌then◌else◌}
 use Rattle.std.specs.List.{fold}
 use Rattle.std.specs.Option.{option_map}

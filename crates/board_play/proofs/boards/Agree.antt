@@ -1,12 +1,11 @@
 -- Two runs of one term of a composed board agree. The slots of a cell don't depend on the records in it; so its reads have the same
 -- numbers in both, and what an operation saw was chosen before it: by induction over the positions.
-use Rattle.std.proofs.Common.{◌≡◌, ◌≢◌, ℕ, zero, suc, ◌+◌, ◌-◌, ◌*◌, ◌<◌, ◌≤◌, List, [], ◌∷◌, length, slice_get, Option, None, Some, refl}
-use Rattle.std.proofs.Common.{sym, subst, ◌∙◌, ap, arith, ◌⊎◌, inl, inr}
+use Rattle.std.proofs.Common.{◌≡◌, ℕ, zero, suc, ◌+◌, ◌-◌, ◌*◌, ◌<◌, ◌≤◌, List, [], ◌∷◌, length, slice_get, Option, None, Some, refl}
+use Rattle.std.proofs.Common.{sym, subst, ◌∙◌, ap, arith, inl, inr}
 use Rattle.std.specs.Option.{option_and_then}
 use Rattle.std.proofs.lemmas.Bool.{cases_lt}
-use Rattle.std.proofs.lemmas.Option.{none-some, same_Some, slice_get_within}
+use Rattle.std.proofs.lemmas.Option.{same_Some, slice_get_within}
 use Rattle.history_core.specs.declared.history.Op.{Op}
-use Rattle.history_core.specs.declared.history.Kind.{Kind}
 use Rattle.history_core.specs.declared.history.Kind.TheVariants.{Write as WriteKind, Read as ReadKind, Refused as RefusedKind}
 use Rattle.history_core.specs.declared.wish.Wish.{Wish}
 use Rattle.history_core.specs.declared.wish.Wish.TheVariants.{Write, Read}
@@ -27,7 +26,6 @@ use Rattle.matrix_core.specs.Lines.{first_record, other}
 use Rattle.matrix_core.proofs.lines.Others.{other_differs, other_inside, other_reached}
 use Rattle.board_play.proofs.boards.Runs.{board_numbers}
 use Rattle.matrix_core.proofs.choices.ByAccesses.{event_before, event_upto}
-use Rattle.matrix_core.proofs.lists.Elements.{get_exists}
 
 -- the slots of a cell by the positions of its steps alone
 

@@ -1,19 +1,19 @@
 -- The steps of each cell of a composed board: a side's steps of the cell are those of its process that the accesses of the cell are
 -- made of. So the positions of the cell's accesses are those of the schedule, and the cell's freshness is what the order needs.
-use Rattle.std.proofs.Common.{◌≡◌, ◌≢◌, ℕ, zero, suc, ◌+◌, ◌-◌, ◌*◌, ◌/◌, ◌%◌, ◌<◌, ◌≤◌, List, [], ◌∷◌, ◌++◌, length, slice_get, Option}
-use Rattle.std.proofs.Common.{None, Some, IsSome, Bool, true, false, nat_eq, refl, sym, subst, ◌∙◌, ap, arith, ◌⊎◌, inl, inr, append-nil}
+use Rattle.std.proofs.Common.{◌≡◌, ◌≢◌, ℕ, suc, ◌+◌, ◌-◌, ◌*◌, ◌/◌, ◌%◌, ◌<◌, ◌≤◌, List, [], ◌∷◌, ◌++◌, length, slice_get, Option}
+use Rattle.std.proofs.Common.{None, Some, Bool, true, false, nat_eq, refl, sym, subst, ◌∙◌, ap, arith, inl, inr, append-nil}
 use Rattle.std.proofs.Common.{append_assoc}
 use Rattle.std.specs.Prelude.{◌&&◌, nat_le, nat_lt, if◌then◌else◌}
 use Rattle.std.proofs.lemmas.Bool.{cases_Bool, cases_eq, cases_lt}
 use Rattle.std.proofs.lemmas.Bool.Decides.{nat_tests}
 use Rattle.std.proofs.lemmas.Nat.{div-add-mod'}
-use Rattle.std.proofs.lemmas.Option.{none-some, same_Some, slice_get_within}
+use Rattle.std.proofs.lemmas.Option.{none-some}
 use Rattle.history_core.proofs.Folds.{fold_keeps_all}
 use Rattle.history_core.proofs.Positions.{positions_length, positions_mine, positions_other}
 use Rattle.history_core.specs.Schedules.{access_at, positions, Span, steps_of}
 use Rattle.fourslot_core.specs.declared.schedule.Turn.{Turn}
 use Rattle.fourslot_core.specs.declared.schedule.Turn.TheVariants.{Writer, Reader}
-use Rattle.fourslot_core.specs.Accesses.{Accesses, IsBefore, IsFreshRead}
+use Rattle.fourslot_core.specs.Accesses.{IsBefore, IsFreshRead}
 use Rattle.fourslot_core.specs.Traces.{Moment, moment_at, moments_of, reads_of, RisesFrom, source_record, then_step, Trace, trace}
 use Rattle.fourslot_core.specs.Traces.{writes_of}
 use Rattle.fourslot_core.proofs.traces.Laws.{moments_of_more, moments_of_rise, trace_more, traces_fresh}

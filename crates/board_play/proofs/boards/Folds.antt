@@ -1,30 +1,26 @@
 -- A whole term of a composed board: each operation that chose saw the answers of the cells of its column.
-use Rattle.std.proofs.Common.{◌≡◌, ◌≢◌, ℕ, zero, suc, ◌+◌, ◌-◌, ◌*◌, ◌/◌, ◌<◌, ◌≤◌, List, [], ◌∷◌, ◌++◌, length, take, replicate, slice_get}
-use Rattle.std.proofs.Common.{Option, None, Some, Bool, true, false, refl, sym, subst, ◌∙◌, ap, arith, ◌⊎◌, inl, inr, append-nil}
+use Rattle.std.proofs.Common.{◌≡◌, ℕ, ◌+◌, ◌-◌, ◌*◌, ◌/◌, ◌<◌, ◌≤◌, List, [], ◌∷◌, ◌++◌, length, take, replicate, slice_get}
+use Rattle.std.proofs.Common.{Some, Bool, true, false, refl, sym, subst, ◌∙◌, ap, arith, inl, inr, append-nil}
 use Rattle.std.proofs.Common.{append_assoc}
 use Rattle.std.specs.Prelude.{nat_lt, if◌then◌else◌}
-use Rattle.std.specs.List.{fold}
 use Rattle.std.proofs.lemmas.Bool.{cases_lt}
 use Rattle.std.proofs.lemmas.Bool.Decides.{nat_tests}
 use Rattle.std.proofs.lemmas.List.{length-replicate, length_push, take_at}
-use Rattle.std.proofs.lemmas.Option.{none-some, same_Some}
 use Rattle.history_core.specs.declared.history.Kind.{Kind}
 use Rattle.history_core.specs.declared.history.Kind.TheVariants.{Write as WriteKind, Refused as RefusedKind}
 use Rattle.matrix_core.specs.declared.progress.Outcome.{Outcome}
 use Rattle.matrix_core.specs.declared.progress.Outcome.TheVariants.{Written, Ended}
 use Rattle.history_core.specs.declared.wish.Wish.{Wish}
 use Rattle.history_core.specs.declared.wish.Wish.TheVariants.{Write, Read}
-use Rattle.history_core.specs.Schedules.{access_at, Overruns, planned, Span, steps_of}
+use Rattle.history_core.specs.Schedules.{Overruns, planned, Span, steps_of}
 use Rattle.history_core.proofs.Folds.{fold_keeps_all}
 use Rattle.history_core.proofs.Overruns.{operation_number, planned_next}
-use Rattle.fourslot_core.specs.Traces.{source_record}
 use Rattle.stamps.specs.declared.stamp.Stamped.{Stamped}
 use Rattle.matrix_core.specs.declared.progress.Progress.{Progress}
 use Rattle.stamps.specs.Choices.{Choice, ChoosesByKind}
-use Rattle.matrix_core.specs.Lines.{choice, first_record, opening_line, other}
-use Rattle.matrix_core.specs.CellAnswers.{greatest}
+use Rattle.matrix_core.specs.Lines.{choice, first_record, opening_line}
 use Rattle.board_play.specs.Boards.{noise_record, SeesCells}
-use Rattle.board_play.specs.BoardEvents.{after_event, Board, board_size, opening_board}
+use Rattle.board_play.specs.BoardEvents.{after_event, Board, opening_board}
 use Rattle.matrix_core.proofs.terms.Kinds.{kind_chosen}
 use Rattle.board_play.specs.BoardSteps.{board_after, board_on, chosen_in, own_at, wish_after, wish_or_read}
 use Rattle.matrix_core.specs.Lines.{own_or}

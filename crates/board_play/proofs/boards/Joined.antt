@@ -1,14 +1,14 @@
 -- The terms of a composed board's report, one after the other: each opens with the latest record of the one before, so the whole
 -- order is atomic and refuses lawfully, and the operations have the schedule's shape.
-use Rattle.std.proofs.Common.{◌≡◌, ℕ, ◌+◌, ◌-◌, ◌*◌, ◌<◌, ◌≤◌, List, [], ◌∷◌, ◌++◌, length, map, take, drop, refl, sym, ◌∙◌, ap, subst}
+use Rattle.std.proofs.Common.{◌≡◌, ℕ, ◌+◌, ◌≤◌, List, [], ◌∷◌, ◌++◌, length, map, drop, refl, sym, ◌∙◌, ap, subst}
 use Rattle.std.proofs.Common.{arith, append-nil, append_assoc}
 use Rattle.std.specs.Prelude.{slice_get, Option, Some}
 use Rattle.std.proofs.lemmas.List.{drop_all, length-append}
 use Rattle.history_core.specs.declared.history.Op.{Op}
 use Rattle.history_core.specs.declared.history.Term.{Term}
 use Rattle.history_core.specs.Joined.{ops_of, order_from, Part, terms_from}
-use Rattle.history_core.specs.Orders.{IsAtomicOrder, latest, RefusesLawfully}
-use Rattle.history_core.specs.Schedules.{HasShape, Overruns}
+use Rattle.history_core.specs.Orders.{latest, RefusesLawfully}
+use Rattle.history_core.specs.Schedules.{Overruns}
 use Rattle.history_core.proofs.JoinedParts.{atomic_parts, lawful_parts}
 use Rattle.history_core.proofs.JoinedSpans.{IsPlayedInTurn, played_in_turn, shape_in_turn}
 use Rattle.stamps.specs.declared.stamp.Stamp.{Stamp}
@@ -17,20 +17,18 @@ use Rattle.matrix_core.specs.declared.schedule.BoardSchedule.{BoardSchedule}
 use Rattle.matrix_core.specs.declared.schedule.BoardReport.{BoardReport}
 use Rattle.matrix_core.specs.Lines.{first_record}
 use Rattle.matrix_core.specs.Listings.{IsInOrder}
-use Rattle.matrix_core.specs.inner.Operations.{greatest_own}
+use Rattle.matrix_core.specs.inner.Operations.{greatest_own, one_term}
 use Rattle.matrix_core.specs.Runs.{IsTerm, step_count}
 use Rattle.board_play.specs.inner.BoardPlays.{next_board_opening, board_play_of, BoardPlaying}
-use Rattle.board_play.specs.BoardReports.{AreBoardParts, BoardPart, BoardCameAbout, history_part, history_parts}
+use Rattle.board_play.specs.BoardReports.{AreBoardParts, BoardPart, BoardCameAbout, history_parts}
 use Rattle.matrix_core.specs.Runs.{board_span, board_spans}
 use Rattle.board_play.specs.BoardReports.{IsBoardPart, IsBoardReport, board_slots, board_stamps}
 use Rattle.board_play.specs.BoardSteps.{board_after, chosen_in}
 use Rattle.board_play.proofs.boards.Holds.{greatest_chosen}
-use Rattle.board_play.proofs.boards.Plays.{IsBoardSoFar}
 use Rattle.board_play.proofs.boards.Reports.{is_run, slot_in}
 use Rattle.board_play.proofs.boards.Runs.{board_clear, board_fresh, board_fully}
 use Rattle.board_play.proofs.boards.Terms.{played_term, term_cut, term_high, term_low}
 use Rattle.matrix_core.proofs.lists.Elements.{drop_next}
-use Rattle.matrix_core.proofs.lists.Elements.{rest_is}
 use Rattle.matrix_core.proofs.orders.Terms.{term_atomic, term_last, term_lawful}
 
 module _ {R : Type 0} where
@@ -182,28 +180,23 @@ module _ {R : Type 0} (all : List (MatrixTerm R)) (first noise : R) where
   -- the same, as the code has its parts
   pub report_step : (i : ℕ) (opening opening' : R) (now now' : ℕ) (terms terms' : List Term) (ops ops' : List (Op R))
       (stamps stamps' : List (Option Stamp)) (slots slots' : List (List (Option ℕ))) (order order' mine : List ℕ) (term : MatrixTerm R)
-      (play : BoardPlaying R) (place : ℕ)
+      (play : BoardPlaying R)
       → slice_get all i ≡ Some term → IsTerm term → ((step : ℕ) → ¬ Overruns (board_span term) step) →
-      play ≡ board_play_of now opening noise term → place ≡ length ops
+      play ≡ board_play_of now opening noise term
       → opening' ≡ next_board_opening opening play → now' ≡ now + length term.steps →
-      terms' ≡ terms ++ record { first = place; limit = term.limit } ∷ [] → ops' ≡ ops ++ play.ops → stamps' ≡ stamps ++ play.stamps →
+      terms' ≡ terms ++ one_term (length ops) term.limit → ops' ≡ ops ++ play.ops → stamps' ≡ stamps ++ play.stamps →
       slots' ≡ slots ++ play.slots
-      → IsInOrder (take (length ops' - place) (drop place ops')) (take (length stamps' - place) (drop place stamps')) mine →
-      order' ≡ order ++ map (λ p. place + p) mine
+      → IsInOrder play.ops play.stamps mine → order' ≡ order ++ map (λ p. length ops + p) mine
       → IsBoardReportSoFar i opening now terms ops stamps slots order →
       IsBoardReportSoFar (i + 1) opening' now' terms' ops' stamps' slots' order'
-  report_step i opening opening' now now' terms terms' ops ops' stamps stamps' slots slots' order order' mine term play place at t left is
-      pl eo en et eops est esl sorted eord r =
-      let so : IsInOrder play.ops play.stamps mine = rw (
-        rest_is ops play.ops ops' place eops pl,
-        rest_is stamps play.stamps stamps' place est (pl ∙ sym r.long),
-      ) at sorted in
-      let so' : IsInOrder (board_play_of now opening noise term).ops (board_play_of now opening noise term).stamps mine =
-      subst (λ (p : BoardPlaying R). IsInOrder p.ops p.stamps mine) is so in
-      let p = term_part now opening noise term mine t left so' in
+  report_step i opening opening' now now' terms terms' ops ops' stamps stamps' slots slots' order order' mine term play at t left is
+      eo en et eops est esl sorted eord r =
+      let so : IsInOrder (board_play_of now opening noise term).ops (board_play_of now opening noise term).stamps mine =
+      subst (λ (p : BoardPlaying R). IsInOrder p.ops p.stamps mine) is sorted in
+      let p = term_part now opening noise term mine t left so in
       let m = report_more i opening (next_board_opening opening (board_play_of now opening noise term)) now terms ops stamps slots order
       term (part_of now opening noise term mine) at p.0 p.1 r in
-      rw (eo, en, et, eops, est, esl, eord, pl, is) m
+      rw (eo, en, et, eops, est, esl, eord, is) m
 
   -- no term is left
   pub report_ends : (i : ℕ) (opening : R) (now : ℕ) (terms : List Term) (ops : List (Op R)) (stamps : List (Option Stamp))

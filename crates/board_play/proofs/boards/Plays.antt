@@ -1,10 +1,10 @@
 -- The play of a term of a composed board, step by step: the operations so far with what they chose, and of each the slots of its
 -- accesses. A step opens an operation, goes on, chooses or ends; what it chose is known from the board.
-use Rattle.std.proofs.Common.{◌≡◌, ◌≢◌, ℕ, zero, suc, ◌+◌, ◌-◌, ◌*◌, ◌/◌, ◌<◌, ◌≤◌, List, [], ◌∷◌, ◌++◌, length, replicate, set, slice_get}
-use Rattle.std.proofs.Common.{Option, None, Some, Bool, true, false, refl, sym, subst, ◌∙◌, ap, arith, ◌⊎◌, inl, inr}
+use Rattle.std.proofs.Common.{◌≡◌, ◌≢◌, ℕ, ◌+◌, ◌-◌, ◌*◌, ◌/◌, ◌<◌, ◌≤◌, List, [], ◌∷◌, ◌++◌, length, replicate, set, slice_get}
+use Rattle.std.proofs.Common.{Option, None, Some, Bool, true, false, refl, sym, subst, ◌∙◌, ap, arith, inl, inr}
 use Rattle.std.specs.Prelude.{nat_lt, nat_eq, if◌then◌else◌}
 use Rattle.std.specs.List.{fold}
-use Rattle.std.proofs.lemmas.Bool.{cases_Bool, cases_eq, cases_lt}
+use Rattle.std.proofs.lemmas.Bool.{cases_Bool, cases_eq}
 use Rattle.std.proofs.lemmas.List.{get_or-replicate, get_or-set_other, get_or-set_same, length-replicate, length-set, length_push}
 use Rattle.std.proofs.lemmas.Option.{none-some, same_Some, slice_get_within}
 use Rattle.history_core.specs.declared.history.Op.{Op}
@@ -15,14 +15,14 @@ use Rattle.history_core.specs.declared.wish.Wish.TheVariants.{Write, Read}
 use Rattle.history_core.specs.Schedules.{access_at, board_accesses, Follows, IsOperation, Overruns, planned, Span, steps_of}
 use Rattle.history_core.proofs.Folds.{fold_keeps_all}
 use Rattle.history_core.proofs.Overruns.{operation_number, planned_next}
-use Rattle.history_core.proofs.Places.{get_last, get_pushed_cases, get_set_other as get_set_else, get_stays}
+use Rattle.history_core.proofs.Places.{get_last, get_pushed_cases, get_set_other as get_set_else}
 use Rattle.history_core.proofs.Played.{after, IsReplaced, IsUnderWay, nothing_played, operation_once, replaced_by_set}
 use Rattle.history_core.proofs.Played.{same_operation_number}
 use Rattle.history_core.proofs.Positions.{position_new, position_once, position_stays, steps_mine, steps_other}
 use Rattle.stamps.specs.declared.stamp.Stamp.{Stamp}
 use Rattle.stamps.specs.declared.stamp.Stamped.{Stamped}
 use Rattle.matrix_core.specs.declared.progress.Outcome.{Outcome}
-use Rattle.matrix_core.specs.declared.progress.Outcome.TheVariants.{Written, Seen, Ended}
+use Rattle.matrix_core.specs.declared.progress.Outcome.TheVariants.{Written, Ended}
 use Rattle.matrix_core.specs.declared.progress.Progress.{Progress}
 use Rattle.board_play.specs.declared.board_term.BoardSeat.{BoardSeat}
 use Rattle.matrix_core.specs.Lines.{cell_place, choice, other}
@@ -31,11 +31,11 @@ use Rattle.matrix_core.specs.inner.Operations.{begun_op, chose, ended}
 use Rattle.matrix_core.specs.ByAccesses.{IsCut}
 use Rattle.board_play.specs.BoardEvents.{after_event, Board, board_size, opening_board, slot_of}
 use Rattle.board_play.specs.inner.BoardPlays.{after_board_step, board_seat, choosing, first_board_seat, happened, moved, next_seat, noted}
-use Rattle.board_play.specs.inner.BoardPlays.{opened, opened_first, opening_board_play, BoardPlaying, told_ops, told_stamps, wish_now}
+use Rattle.board_play.specs.inner.BoardPlays.{opened, opening_board_play, BoardPlaying, told_ops, told_stamps}
 use Rattle.board_play.specs.BoardSteps.{board_after, chosen_in, wish_after, wish_or_read}
 use Rattle.board_play.proofs.boards.Outcomes.{outcome_in}
 use Rattle.matrix_core.proofs.lines.Others.{other_differs, other_inside}
-use Rattle.board_play.proofs.boards.Folds.{answers_in, at_first, board_more, boards, chose_in, one_more, picks_by, wished_by}
+use Rattle.board_play.proofs.boards.Folds.{at_first, board_more, one_more, picks_by, wished_by}
 use Rattle.board_play.proofs.boards.Slots.{Shows, slot_at, step_shows}
 use Rattle.board_play.proofs.boards.Steps.{outcome_stays}
 use Rattle.board_play.proofs.boards.Telling.{goes_on, happens, notes, opened_seat, opens, step_plays, tells_choice, tells_end}

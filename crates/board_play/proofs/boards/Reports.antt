@@ -1,19 +1,16 @@
 -- From the operations that a player has told to the run of the board: what is told is what the board's events chose.
-use Rattle.std.proofs.Common.{◌≡◌, ℕ, ◌+◌, ◌-◌, ◌*◌, ◌<◌, ◌≤◌, List, [], ◌∷◌, ◌++◌, length, slice_get, Option, None, Some, Bool, true}
-use Rattle.std.proofs.Common.{false, refl, sym, subst, ◌∙◌, ap, arith, append-nil, ◌⊎◌, inl, inr}
+use Rattle.std.proofs.Common.{◌≡◌, ℕ, ◌+◌, ◌-◌, ◌*◌, ◌<◌, List, [], length, slice_get, Option, Some, Bool, true}
+use Rattle.std.proofs.Common.{false, refl, sym, ◌∙◌, ap, arith, append-nil}
 use Rattle.std.specs.Prelude.{nat_lt, if◌then◌else◌}
 use Rattle.std.proofs.lemmas.Bool.Decides.{nat_tests}
 use Rattle.history_core.specs.declared.history.Op.{Op}
-use Rattle.history_core.specs.declared.history.Kind.{Kind}
 use Rattle.history_core.specs.declared.history.Kind.TheVariants.{Write as WriteKind, Refused as RefusedKind}
 use Rattle.matrix_core.specs.declared.progress.Outcome.TheVariants.{Written, Ended}
 use Rattle.history_core.specs.declared.wish.Wish.{Wish}
 use Rattle.history_core.specs.declared.wish.Wish.TheVariants.{Write, Read}
-use Rattle.history_core.specs.Schedules.{access_at, IsOperation, IsPlayed, Overruns, Span, steps_of}
+use Rattle.history_core.specs.Schedules.{IsOperation, Overruns, Span}
 use Rattle.history_core.proofs.Positions.{missing_position, position_below}
 use Rattle.stamps.specs.declared.stamp.Stamp.{Stamp}
-use Rattle.stamps.specs.declared.stamp.Stamped.{Stamped}
-use Rattle.matrix_core.specs.declared.progress.Outcome.{Outcome}
 use Rattle.matrix_core.specs.declared.progress.Progress.{Progress}
 use Rattle.matrix_core.specs.Lines.{choice, other}
 use Rattle.matrix_core.proofs.terms.Kinds.{kind_of}

@@ -12,7 +12,6 @@ use Rattle.history_core.specs.declared.wish.Wish.{Wish}
 use Rattle.history_core.specs.Schedules.{Span, steps_of}
 use Rattle.fourslot_core.specs.declared.schedule.Turn.TheVariants.{Writer, Reader}
 use Rattle.fourslot_core.specs.declared.state.State.{State}
-use Rattle.fourslot_core.specs.declared.state.Stage.TheVariants.{W1}
 use Rattle.fourslot_core.specs.Events.{after_write, next_write, slot_number}
 use Rattle.fourslot_core.specs.Traces.{then_step, Trace}
 use Rattle.fourslot_core.proofs.Pushed.{get_last}

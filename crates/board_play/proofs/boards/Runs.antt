@@ -1,10 +1,10 @@
 -- The run of a composed board chooses by the law of choices, and its cells are clear and fresh at the accesses that the schedule
 -- says, with the slots of the report.
-use Rattle.std.proofs.Common.{◌≡◌, ℕ, ◌+◌, ◌-◌, ◌*◌, ◌<◌, ◌≤◌, List, [], ◌∷◌, length, slice_get, Option, None, Some, IsSome, refl, sym}
-use Rattle.std.proofs.Common.{subst, ◌∙◌, ap, arith, ◌⊎◌, inl, inr}
+use Rattle.std.proofs.Common.{◌≡◌, ℕ, ◌+◌, ◌<◌, List, length, slice_get, Option, Some, IsSome, refl, sym}
+use Rattle.std.proofs.Common.{subst, ◌∙◌, ap, arith, inl, inr}
 use Rattle.std.proofs.lemmas.Option.{slice_get_within}
 use Rattle.history_core.specs.declared.history.Op.{Op}
-use Rattle.history_core.specs.Schedules.{access_at, board_accesses, IsPlayed, Span}
+use Rattle.history_core.specs.Schedules.{IsPlayed, Span}
 use Rattle.fourslot_core.specs.Accesses.{Accesses, Fills, IsBefore, IsClear, IsFreshRead, IsSameSlot, IsSource}
 use Rattle.fourslot_core.specs.Traces.{reads_of, source_record, Trace, writes_of}
 use Rattle.fourslot_core.proofs.Pushed.{some_of}

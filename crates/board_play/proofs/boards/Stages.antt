@@ -1,5 +1,5 @@
 -- What the events of a four-slot cell make of a process that reads or writes it, by the stage of its side: a case for each stage.
-use Rattle.std.proofs.Common.{◌≡◌, ◌≢◌, ℕ, ◌+◌, ◌-◌, ◌*◌, ◌<◌, ◌≤◌, List, [], ◌∷◌, ◌++◌, slice_get, Option, None, Some, refl, ap, arith}
+use Rattle.std.proofs.Common.{◌≡◌, ◌≢◌, ℕ, ◌+◌, ◌*◌, ◌<◌, ◌≤◌, List, [], ◌∷◌, ◌++◌, slice_get, Option, None, Some, refl, ap, arith}
 use Rattle.std.proofs.Common.{append-nil}
 use Rattle.std.specs.Prelude.{nat_eq, if◌then◌else◌}
 use Rattle.history_core.specs.declared.wish.Wish.{Wish}
@@ -17,7 +17,7 @@ use Rattle.fourslot_core.proofs.traces.Counts.{has_chosen, left, made}
 use Rattle.fourslot_core.proofs.traces.Laws.{trace_more}
 use Rattle.stamps.specs.declared.stamp.Stamped.{Stamped}
 use Rattle.matrix_core.specs.declared.progress.Progress.{Progress}
-use Rattle.matrix_core.specs.Lines.{begun, chosen as chosen_by, gathered, other}
+use Rattle.matrix_core.specs.Lines.{begun, chosen as chosen_by, gathered}
 use Rattle.board_play.specs.BoardEvents.{heard, posted}
 
 -- the stage of a side, by how many of its steps of an access it has made

@@ -1,7 +1,7 @@
 -- A step of a composed board, as an equation for each of its two kinds; and that the board keeps its shape.
-use Rattle.std.proofs.Common.{◌≡◌, ℕ, ◌+◌, ◌-◌, ◌*◌, ◌<◌, ◌≤◌, List, length, replicate, set, Bool, true, false, refl, sym, ap, arith}
+use Rattle.std.proofs.Common.{◌≡◌, ℕ, ◌+◌, ◌-◌, ◌*◌, ◌<◌, ◌≤◌, List, length, replicate, set, true, false, refl, sym, ap, arith}
 use Rattle.std.proofs.Common.{⊎_elim, ◌∙◌, inl, inr}
-use Rattle.std.specs.Prelude.{slice_get, Some, nat_lt, nat_eq, if◌then◌else◌}
+use Rattle.std.specs.Prelude.{slice_get, Some, nat_lt, nat_eq}
 use Rattle.std.proofs.lemmas.Bool.Decides.{nat_tests}
 use Rattle.std.proofs.lemmas.List.{length-replicate, length-set}
 use Rattle.history_core.specs.declared.wish.Wish.{Wish}

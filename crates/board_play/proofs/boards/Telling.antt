@@ -1,11 +1,10 @@
 -- What a step of a composed board tells, by its number within the operation: one opens it, one chooses, the last one ends it, and the
 -- others leave the operations as they are.
-use Rattle.std.proofs.Common.{◌≡◌, ◌≢◌, ℕ, ◌+◌, ◌-◌, ◌*◌, ◌/◌, ◌<◌, ◌≤◌, List, [], ◌∷◌, ◌++◌, length, set, replicate, Bool, true, false}
+use Rattle.std.proofs.Common.{◌≡◌, ◌≢◌, ℕ, ◌+◌, ◌-◌, ◌*◌, ◌/◌, ◌<◌, ◌≤◌, List, [], ◌∷◌, ◌++◌, length, set, Bool}
 use Rattle.std.proofs.Common.{refl, sym, ◌∙◌, ap, subst, arith, inl, inr}
 use Rattle.std.specs.Prelude.{slice_get, Option, Some, None, nat_eq, if◌then◌else◌}
 use Rattle.std.proofs.lemmas.Bool.{cases_eq}
 use Rattle.std.proofs.lemmas.List.{get_or-set_same, length-replicate, length-set, length_push}
-use Rattle.std.proofs.lemmas.Option.{slice_get_within}
 use Rattle.history_core.specs.declared.history.Op.{Op}
 use Rattle.history_core.specs.declared.wish.Wish.{Wish}
 use Rattle.history_core.specs.Schedules.{board_accesses}
@@ -14,13 +13,12 @@ use Rattle.stamps.specs.declared.stamp.Stamp.{Stamp}
 use Rattle.matrix_core.specs.declared.progress.Progress.{Progress}
 use Rattle.board_play.specs.declared.board_term.BoardSeat.{BoardSeat}
 use Rattle.matrix_core.specs.inner.Operations.{begun_op, changed, chose, ended}
-use Rattle.board_play.specs.BoardEvents.{after_event, Board, board_size, slot_of}
+use Rattle.board_play.specs.BoardEvents.{after_event, Board, slot_of}
 use Rattle.board_play.specs.inner.BoardPlays.{board_seat, CanHappen, CanStep, choosing, first_board_seat, happened, moved, next_seat}
 use Rattle.board_play.specs.inner.BoardPlays.{noted, opened, opened_first, BoardPlaying, plays, after_board_step, told_ops, told_stamps}
 use Rattle.board_play.specs.inner.BoardPlays.{wish_now}
-use Rattle.matrix_core.proofs.lists.Elements.{get_set_same}
 use Rattle.matrix_core.proofs.terms.Steps.{changed_is}
-use Rattle.matrix_core.proofs.lists.Elements.{get_exists, not_same, same}
+use Rattle.matrix_core.proofs.lists.Elements.{not_same, same}
 
 module _ {R : Type 0} (n : ℕ) (seat : BoardSeat) (now : ℕ) (line : Progress R) (ops : List (Op R)) where
   pub tells_choice : (op : Op R) → seat.made ≡ choosing n → slice_get ops seat.place ≡ Some op →

@@ -1,26 +1,20 @@
 -- A term of a composed board, played: what its steps tell is a run of the board, so its operations have choices by the law of
 -- choices, and each of its cells is clear and fresh.
-use Rattle.std.proofs.Common.{◌≡◌, ◌≢◌, ℕ, ◌+◌, ◌-◌, ◌*◌, ◌/◌, ◌<◌, ◌≤◌, List, [], ◌∷◌, ◌++◌, length, take, drop, slice_get, Option, None}
-use Rattle.std.proofs.Common.{Some, IsSome, refl, sym, subst, ◌∙◌, ap, arith, inl, inr}
+use Rattle.std.proofs.Common.{◌≡◌, ℕ, ◌+◌, ◌-◌, ◌*◌, ◌<◌, ◌≤◌, List, [], ◌∷◌, ◌++◌, length, take, drop, slice_get}
+use Rattle.std.proofs.Common.{Some, IsSome, refl, sym, subst, ◌∙◌, ap, arith}
 use Rattle.std.specs.List.{fold}
-use Rattle.std.proofs.lemmas.Bool.{cases_eq}
 use Rattle.std.proofs.Math.Nat.{mul-le-mul_left}
-use Rattle.std.proofs.lemmas.List.{length-append, length-take-le, take_all}
+use Rattle.std.proofs.lemmas.List.{length-append}
 use Rattle.std.proofs.lemmas.List.Sums.{count_by-le-length}
 use Rattle.std.specs.Prelude.{nat_eq}
 use Rattle.std.proofs.lemmas.Option.{slice_get_within}
-use Rattle.history_core.specs.declared.history.Op.{Op}
-use Rattle.history_core.specs.declared.wish.Wish.{Wish}
-use Rattle.history_core.specs.Schedules.{board_accesses, Overruns, Span, steps_of}
+use Rattle.history_core.specs.Schedules.{Overruns, steps_of}
 use Rattle.history_core.proofs.Overruns.{planned_next}
-use Rattle.history_core.proofs.Played.{IsUnderWay}
-use Rattle.board_play.specs.declared.board_term.BoardSeat.{BoardSeat}
 use Rattle.matrix_core.specs.declared.schedule.MatrixTerm.{MatrixTerm}
 use Rattle.matrix_core.specs.Runs.{IsTerm}
 use Rattle.matrix_core.specs.ByAccesses.{IsCut}
 use Rattle.matrix_core.specs.Runs.{board_span}
 use Rattle.board_play.specs.inner.BoardPlays.{after_board_step, board_seat, CanStep, opening_board_play, board_play_of, BoardPlaying}
-use Rattle.board_play.specs.inner.BoardPlays.{wish_now}
 use Rattle.board_play.proofs.boards.Plays.{IsBoardSoFar, one_step, opens_play, term_plays}
 use Rattle.matrix_core.proofs.lists.Elements.{fold_more, split_at, take_next}
 
@@ -122,3 +116,10 @@ module _ {R : Type 0} (at : ℕ) (opening noise : R) (term : MatrixTerm R) where
             (term_low at opening noise term) (term_high at opening noise term t) (take i term.steps) (drop (i + 1) term.steps) who
             (split_at term.steps i who h) play (s.so_far t left) (t.steps i who h));
       }
+
+-- each operation of a run has its stamp
+pub long_stamps : {R : Type 0} (at : ℕ) (opening noise : R) (term : MatrixTerm R) (play : BoardPlaying R) → IsTerm term →
+    ((step : ℕ) → ¬ Overruns (board_span term) step) → play ≡ board_play_of at opening noise term → length play.stamps ≡ length play.ops
+long_stamps {R} at opening noise term play t left is =
+    ap (λ (z : BoardPlaying R). length z.stamps) is
+    ∙ ((played_term at opening noise term t left).told.long ∙ ap (λ (z : BoardPlaying R). length z.ops) (sym is))

@@ -1,6 +1,6 @@
 -- A composed board while a term of it is played: the board, and what its steps have told of the operations. Only the player's loop
 -- goes by this; what a report is, BoardReports says. This is this project's own.
-use Rattle.std.specs.Prelude.{◌≡◌, ◌≢◌, ℕ, ◌+◌, ◌-◌, ◌*◌, ◌/◌, ◌<◌, ◌≤◌, List, [], ◌∷◌, ◌++◌, length, replicate, slice_get, slice_set}
+use Rattle.std.specs.Prelude.{◌≡◌, ℕ, ◌+◌, ◌-◌, ◌*◌, ◌/◌, ◌<◌, ◌≤◌, List, [], ◌∷◌, ◌++◌, length, replicate, slice_get, slice_set}
 use Rattle.std.specs.Prelude.{slice_index_or, Option, None, Some, IsSome, nat_eq, if◌then◌else◌}
 use Rattle.std.specs.List.{fold}
 use Rattle.std.specs.Option.{option_and_then}

@@ -1,7 +1,7 @@
 -- Atomic cells keep the law that the order needs: each access has one position, and a read has the number of the last write before
 -- it, which is how many writes come before it. And no stamp passes the limit, so the noise is never chosen.
-use Rattle.std.proofs.Common.{◌≡◌, ◌≢◌, ℕ, zero, suc, ◌+◌, ◌-◌, ◌*◌, ◌/◌, ◌%◌, ◌<◌, ◌≤◌, ◌↔◌, List, [], ◌∷◌, ◌++◌, length, slice_get}
-use Rattle.std.proofs.Common.{Option, None, Some, refl, sym, subst, ◌∙◌, ap, arith, ◌⊎◌, inl, inr}
+use Rattle.std.proofs.Common.{◌≡◌, ℕ, ◌+◌, ◌*◌, ◌/◌, ◌%◌, ◌<◌, ◌≤◌, List, [], ◌∷◌, ◌++◌, length}
+use Rattle.std.proofs.Common.{Some, sym, subst, ◌∙◌, ap, arith, inl, inr}
 use Rattle.std.proofs.lemmas.Bool.{cases_lt}
 use Rattle.std.proofs.lemmas.Nat.{div-add-mod'}
 use Rattle.history_core.specs.declared.history.Kind.{Kind}
@@ -11,8 +11,7 @@ use Rattle.history_core.proofs.Played.{later_operation}
 use Rattle.fourslot_core.specs.Accesses.{IsBefore}
 use Rattle.fourslot_core.proofs.Pushed.{of_before, to_before}
 use Rattle.stamps.specs.declared.stamp.Stamp.{Stamp}
-use Rattle.stamps.specs.Stamps.{first_stamp}
-use Rattle.stamps.specs.Choices.{AllChoose, Choice, Chooses, ChoosesByKind, IsFrom, IsIn}
+use Rattle.stamps.specs.Choices.{AllChoose, Choice, ChoosesByKind, IsFrom, IsIn}
 use Rattle.matrix_core.specs.CellAnswers.{IsReadOf, Intervals}
 use Rattle.matrix_core.proofs.choices.ByAccesses.{done_event, in_done}
 

@@ -2,18 +2,15 @@
 -- a read answered is a record of the past, since its write began before the read ended; and it isn't too old, since the write of
 -- an operation that ended before precedes the read.
 use Rattle.std.proofs.Common.{◌≡◌, ◌≢◌, ℕ, zero, suc, ◌+◌, ◌-◌, ◌*◌, ◌/◌, ◌%◌, ◌<◌, ◌≤◌, List, [], ◌∷◌, ◌++◌, length, slice_get, Option}
-use Rattle.std.proofs.Common.{None, Some, true, false, nat_eq, refl, sym, subst, ◌∙◌, ap, arith, ◌⊎◌, inl, inr, append-nil}
+use Rattle.std.proofs.Common.{None, Some, true, nat_eq, refl, sym, subst, ◌∙◌, ap, arith, inl, inr, append-nil}
 use Rattle.std.specs.Prelude.{if◌then◌else◌}
 use Rattle.std.proofs.lemmas.Bool.Decides.{nat_tests}
 use Rattle.std.proofs.lemmas.List.{length_push}
-use Rattle.std.specs.List.{fold}
 use Rattle.std.specs.Option.{option_map}
 use Rattle.std.proofs.lemmas.Bool.{cases_eq, cases_lt}
 use Rattle.std.proofs.lemmas.Nat.{div-add-mod'}
 use Rattle.std.proofs.lemmas.Option.{none-some, same_Some, slice_get_within}
 use Rattle.history_core.specs.declared.history.Op.{Op}
-use Rattle.history_core.specs.declared.history.Kind.TheVariants.{Write}
-use Rattle.history_core.specs.Orders.{Precedes}
 use Rattle.history_core.specs.Schedules.{access_at, IsOperation, IsPlayed, positions, Span, steps_of}
 use Rattle.history_core.proofs.Folds.{fold_keeps_all}
 use Rattle.history_core.proofs.Listed.{some_and_of}
@@ -21,15 +18,14 @@ use Rattle.history_core.proofs.Places.{get_after, get_before}
 use Rattle.history_core.proofs.Played.{later_operation, number_once, operation_once, same_operation_number}
 use Rattle.history_core.proofs.Positions.{position_below, position_exists, position_least, position_made, position_once, positions_join}
 use Rattle.history_core.proofs.Positions.{positions_length, positions_rise, steps_mine, steps_other}
-use Rattle.fourslot_core.specs.Accesses.{IsBefore}
 use Rattle.fourslot_core.specs.Traces.{source_record}
 use Rattle.fourslot_core.proofs.Pushed.{get_cases, of_before, to_before}
 use Rattle.stamps.specs.declared.stamp.Stamp.{Stamp}
 use Rattle.stamps.specs.declared.stamp.Stamped.{Stamped}
 use Rattle.matrix_core.specs.Lines.{first_record, other}
 use Rattle.stamps.specs.Choices.{Choice, HasChoices, IsChoiceOf, IsEarlier, IsIn}
-use Rattle.matrix_core.specs.CellAnswers.{AllGather, choices_of, Gathers, greatest, IsAnswer, IsReadOf, numbered, record_of}
-use Rattle.matrix_core.specs.ByAccesses.{choice_at, chooses_at, ChoosesBy, column, IsChosenBy, IsCut, row, intervals_at}
+use Rattle.matrix_core.specs.CellAnswers.{AllGather, choices_of, Gathers, IsAnswer, IsReadOf, numbered, record_of}
+use Rattle.matrix_core.specs.ByAccesses.{choice_at, chooses_at, ChoosesBy, column, IsChosenBy, IsCut, row}
 use Rattle.matrix_core.proofs.lines.Others.{other_differs, other_inside, other_reached}
 use Rattle.matrix_core.proofs.choices.Gathered.{all_choose, in_mine, mine_in, mine_more, mine_same}
 use Rattle.matrix_core.proofs.lists.Elements.{get_middle}

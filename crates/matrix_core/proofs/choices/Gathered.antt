@@ -1,20 +1,18 @@
 -- From the law of answers to the law of choices: what an operation saw is from the past, since its number is that of a choice
 -- of the past; and not too old, since the stamps of one process never fall.
-use Rattle.std.proofs.Common.{◌≡◌, ◌≢◌, ℕ, zero, suc, ◌+◌, ◌<◌, ◌≤◌, List, [], ◌∷◌, ◌++◌, length, slice_get, Option, None, Some, Bool, true}
-use Rattle.std.proofs.Common.{false, nat_eq, refl, sym, subst, ◌∙◌, ap, arith, ◌⊎◌, inl, inr}
+use Rattle.std.proofs.Common.{◌≡◌, ◌≢◌, ℕ, zero, suc, ◌+◌, ◌<◌, ◌≤◌, List, [], ◌∷◌, ◌++◌, length, slice_get, Option, None, Some, true}
+use Rattle.std.proofs.Common.{false, nat_eq, refl, sym, subst, ◌∙◌, ap, arith, inl, inr}
 use Rattle.std.specs.Prelude.{if◌then◌else◌}
-use Rattle.std.specs.List.{fold}
 use Rattle.std.specs.Option.{option_map}
-use Rattle.std.proofs.lemmas.Bool.{cases_Bool, cases_eq}
+use Rattle.std.proofs.lemmas.Bool.{cases_eq}
 use Rattle.std.proofs.lemmas.Bool.Decides.{nat_tests}
 use Rattle.std.proofs.lemmas.Option.{none-some, same_Some, slice_get_within}
-use Rattle.stamps.specs.declared.stamp.Stamp.{Stamp}
 use Rattle.stamps.specs.declared.stamp.Stamped.{Stamped}
-use Rattle.stamps.specs.Stamps.{first_stamp, greater}
+use Rattle.stamps.specs.Stamps.{greater}
 use Rattle.matrix_core.specs.Lines.{first_record, other}
-use Rattle.stamps.specs.Choices.{AllChoose, Choice, Chooses, IsAtMost, ChoosesByKind, IsFrom, IsIn}
+use Rattle.stamps.specs.Choices.{AllChoose, Choice, Chooses, IsAtMost, IsFrom, IsIn}
 use Rattle.matrix_core.specs.CellAnswers.{AllGather, choices_of, Gathers, greatest, IsAnswer, numbered, record_of}
-use Rattle.matrix_core.proofs.lines.Others.{other_differs, other_reached}
+use Rattle.matrix_core.proofs.lines.Others.{other_reached}
 use Rattle.stamps.proofs.choices.Rise.{chosen_at_least}
 use Rattle.stamps.proofs.choices.Stamps.{at_most_refl, at_most_trans, greater_first, greater_is, greater_second}
 use Rattle.matrix_core.proofs.lists.Elements.{get_exists}

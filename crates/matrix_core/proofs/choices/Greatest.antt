@@ -1,6 +1,6 @@
 -- The greatest record that a process holds when its term has ended is the greatest that an operation chose: each process holds the
 -- last that it chose, and what one process chose never falls.
-use Rattle.std.proofs.Common.{◌≡◌, ℕ, zero, suc, ◌+◌, ◌-◌, ◌*◌, ◌<◌, ◌≤◌, List, [], ◌∷◌, length, refl, sym, ◌∙◌, ap, subst, arith, inl, inr}
+use Rattle.std.proofs.Common.{◌≡◌, ℕ, zero, suc, ◌+◌, ◌-◌, ◌*◌, ◌<◌, List, [], ◌∷◌, length, refl, sym, ◌∙◌, ap, subst, arith, inl, inr}
 use Rattle.std.proofs.Common.{⊎_elim}
 use Rattle.std.specs.Prelude.{slice_get, Option, Some}
 use Rattle.std.proofs.lemmas.Option.{none-some, same_Some}

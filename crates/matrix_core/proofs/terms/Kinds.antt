@@ -1,5 +1,5 @@
 -- The kind that an operation has once it has chosen, by what it saw and by what it answers.
-use Rattle.std.specs.Prelude.{ℕ, if◌then◌else◌, nat_lt, ◌-◌, Option, None, Some}
+use Rattle.std.specs.Prelude.{ℕ, if◌then◌else◌, nat_lt, Option, None, Some}
 use Rattle.history_core.specs.declared.history.Kind.{Kind}
 use Rattle.history_core.specs.declared.history.Kind.TheVariants.{Write as WriteKind, Read as ReadKind, Refused as RefusedKind}
 use Rattle.history_core.specs.declared.wish.Wish.{Wish}

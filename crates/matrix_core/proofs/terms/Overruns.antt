@@ -1,7 +1,7 @@
 -- A step without an operation: its process has made as many steps as its plan has accesses.
-use Rattle.std.proofs.Common.{◌≡◌, ◌≢◌, ℕ, ◌+◌, ◌-◌, ◌/◌, ◌<◌, ◌≤◌, List, [], ◌∷◌, ◌++◌, length, take, drop, get_or, set, refl, sym, ◌∙◌}
+use Rattle.std.proofs.Common.{◌≡◌, ◌≢◌, ℕ, ◌+◌, ◌/◌, ◌<◌, ◌≤◌, List, [], ◌∷◌, ◌++◌, length, take, drop, get_or, set, refl, sym, ◌∙◌}
 use Rattle.std.proofs.Common.{ap, subst, arith, ⊎_elim}
-use Rattle.std.specs.Prelude.{slice_get, Some, None, nat_eq, ◌-◌}
+use Rattle.std.specs.Prelude.{slice_get, Some, None, nat_eq}
 use Rattle.std.proofs.lemmas.Option.{same_Some, none-some, slice_get_past, slice_get_within}
 use Rattle.std.proofs.lemmas.List.{get_or-set_same, get_or-set_other, length-set, length-take-le}
 use Rattle.std.proofs.lemmas.List.Sums.{count_by-le-length}
@@ -13,7 +13,7 @@ use Rattle.history_core.proofs.Overruns.{planned_in, more_has_operations, first_
 use Rattle.matrix_core.specs.declared.schedule.MatrixTerm.{MatrixTerm}
 use Rattle.matrix_core.specs.Runs.{accesses_by, span_by, spans_by, step_count}
 use Rattle.matrix_core.specs.declared.overruns.Cells.{Cells}
-use Rattle.matrix_core.proofs.lists.Elements.{same_or_not, split_at, take_next, get_exists}
+use Rattle.matrix_core.proofs.lists.Elements.{same_or_not, split_at, take_next, get_exists, drop_next}
 
 module _ {R : Type 0} (cells : Cells) (term : MatrixTerm R) where
   pub overruns_here : (i who c : ℕ) (plan : List (Wish R)) → slice_get term.steps i ≡ Some who → slice_get term.plans who ≡ Some plan →
@@ -146,3 +146,10 @@ term_left cells all i term h left =
     let e : spans_by cells all ≡ spans_by cells (take i all) ++ span_by cells term ∷ spans_by cells (drop (i + 1) all) =
     ap (spans_by cells) (split_at all i term h) ∙ spans_join cells (take i all) (term ∷ drop (i + 1) all) in
     each_has_operations (spans_by cells (take i all)) (span_by cells term) (spans_by cells (drop (i + 1) all)) (subst HasOperations e left)
+
+-- the steps so far and those of the next term are among all
+pub steps_left : {R : Type 0} (all : List (MatrixTerm R)) (i now : ℕ) (term : MatrixTerm R) → slice_get all i ≡ Some term →
+    now + step_count (drop i all) ≡ step_count all → now + length term.steps ≤ step_count all
+steps_left all i now term at s =
+    let d : step_count (drop i all) ≡ length term.steps + step_count (drop (i + 1) all) = ap step_count (drop_next all i term at) in
+    omega arith

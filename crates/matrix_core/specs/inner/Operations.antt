@@ -2,6 +2,7 @@
 -- report is, its own words say. This is this project's own.
 use Rattle.std.specs.Prelude.{ℕ, zero, suc, List, [], ◌∷◌, None, Some}
 use Rattle.history_core.specs.declared.history.Op.{Op}
+use Rattle.history_core.specs.declared.history.Term.{Term}
 use Rattle.history_core.specs.declared.history.Kind.TheVariants.{Write as WriteKind, Read as ReadKind, Refused as RefusedKind}
 use Rattle.history_core.specs.declared.wish.Wish.{Wish}
 use Rattle.history_core.specs.declared.wish.Wish.TheVariants.{Write, Read}
@@ -16,6 +17,10 @@ abbrev pub changed : {X : Type 0} → (X → X) → ℕ → List X → List X
 changed f place [] = []
 changed f zero (x ∷ xs) = f x ∷ xs
 changed f (suc place) (x ∷ xs) = x ∷ changed f place xs
+
+-- the term that begins at this place
+abbrev pub one_term : ℕ → ℕ → List Term
+one_term first limit = record { first = first; limit = limit } ∷ []
 
 module _ {R : Type 0} where
   -- an operation that begins at the position `now`

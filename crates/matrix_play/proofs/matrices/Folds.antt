@@ -1,6 +1,6 @@
 -- A whole term of a matrix: what the steps tell is a run by accesses of one step each.
-use Rattle.std.proofs.Common.{◌≡◌, ◌≢◌, ℕ, zero, suc, ◌+◌, ◌-◌, ◌*◌, ◌<◌, ◌≤◌, List, [], ◌∷◌, ◌++◌, length, take, replicate, slice_get}
-use Rattle.std.proofs.Common.{Option, None, Some, Bool, true, false, refl, sym, subst, ◌∙◌, ap, arith, ◌⊎◌, inl, inr, append-nil}
+use Rattle.std.proofs.Common.{◌≡◌, ℕ, suc, ◌+◌, ◌-◌, ◌*◌, ◌<◌, ◌≤◌, List, [], ◌∷◌, ◌++◌, length, take, slice_get}
+use Rattle.std.proofs.Common.{Option, None, Some, Bool, true, false, refl, sym, subst, ◌∙◌, ap, arith, inl, inr, append-nil}
 use Rattle.std.proofs.Common.{append_assoc}
 use Rattle.std.specs.Prelude.{nat_lt}
 use Rattle.std.specs.List.{fold}
@@ -8,7 +8,6 @@ use Rattle.std.proofs.lemmas.Bool.{cases_lt}
 use Rattle.std.proofs.lemmas.Bool.Decides.{nat_tests}
 use Rattle.std.proofs.lemmas.List.{length-replicate, length_push, take_at}
 use Rattle.history_core.specs.declared.history.Op.{Op}
-use Rattle.history_core.specs.declared.history.Kind.{Kind}
 use Rattle.history_core.specs.declared.wish.Wish.{Wish}
 use Rattle.history_core.specs.declared.wish.Wish.TheVariants.{Write, Read}
 use Rattle.history_core.specs.Schedules.{access_at, IsOperation, Overruns, Span, steps_of}
@@ -34,7 +33,7 @@ use Rattle.matrix_core.proofs.lists.Elements.{fold_more, get_middle, get_replica
 use Rattle.matrix_core.proofs.choices.Made.{IsMade, made_past, made_so_far}
 use Rattle.matrix_play.proofs.matrices.Shape.{opens}
 use Rattle.matrix_play.proofs.matrices.Telling.{IsPlay, play_step, wrote}
-use Rattle.matrix_play.proofs.matrices.Traces.{IsAt, IsLineAt, Saw}
+use Rattle.matrix_play.proofs.matrices.Traces.{IsLineAt, Saw}
 use Rattle.matrix_play.proofs.matrices.Plays.{IsSpan, opening_so_far}
 use Rattle.matrix_core.proofs.terms.Told.{IsToldOf, nothing_told}
 

@@ -24,7 +24,7 @@ use Rattle.matrix_core.specs.declared.progress.Progress.{Progress}
 use Rattle.matrix_core.specs.declared.progress.Outcome.{Outcome}
 use Rattle.matrix_core.specs.declared.progress.Outcome.TheVariants.{Written, Seen, Ended}
 use Rattle.matrix_core.specs.declared.schedule.MatrixTerm.{MatrixTerm}
-use Rattle.matrix_core.specs.Lines.{begun, after_write, opening_line, choice, chosen}
+use Rattle.matrix_core.specs.Lines.{begun, after_write, opening_line}
 use Rattle.matrix_core.specs.inner.Operations.{begun_op, chose, ended}
 use Rattle.matrix_core.specs.Runs.{IsTerm, span_of}
 use Rattle.matrix_core.proofs.lines.Accesses.{begun_first, begun_later, read_done}
@@ -603,3 +603,10 @@ module _ {R : Type 0} (at : ℕ) (opening : R) (term : MatrixTerm R) where
       (λ done rest run who whole g.
       let h : slice_get term.steps (length done) ≡ Some who = ap (λ xs. slice_get xs (length done)) whole ∙ get_middle done who rest in
       one_step at (span_of term) done rest run who (term_span t) (t.steps (length done) who h) whole (left (length done)) g)
+
+-- each operation of a run has its stamp
+pub long_stamps : {R : Type 0} (at : ℕ) (opening : R) (term : MatrixTerm R) (run : MatrixPlaying R) → IsTerm term →
+    ((step : ℕ) → ¬ Overruns (span_of term) step) → run ≡ matrix_play_of at opening term → length run.stamps ≡ length run.ops
+long_stamps {R} at opening term run t left is =
+    ap (λ (z : MatrixPlaying R). length z.stamps) is
+    ∙ ((term_played at opening term t left).stamps ∙ ap (λ (z : MatrixPlaying R). length z.ops) (sym is))

@@ -1,15 +1,16 @@
 -- The report so far: what the terms played gave, with what the terms to come will give, is what all terms give.
-use Rattle.std.proofs.Common.{◌≡◌, ℕ, ◌+◌, ◌≤◌, List, [], ◌∷◌, ◌++◌, length, map, drop, take, refl, sym, ◌∙◌, ap, subst, arith}
+use Rattle.std.proofs.Common.{◌≡◌, ℕ, ◌+◌, ◌≤◌, List, [], ◌∷◌, ◌++◌, length, map, drop, refl, sym, ◌∙◌, ap, subst, arith}
 use Rattle.std.proofs.Common.{append_assoc, append-nil}
-use Rattle.std.specs.Prelude.{slice_get, Option, Some, ◌-◌}
+use Rattle.std.specs.Prelude.{slice_get, Option, Some}
 use Rattle.std.proofs.lemmas.List.{length-append, drop_all}
 use Rattle.history_core.specs.declared.history.Op.{Op}
 use Rattle.history_core.specs.declared.history.Term.{Term}
 use Rattle.stamps.specs.declared.stamp.Stamp.{Stamp}
 use Rattle.matrix_core.specs.declared.schedule.MatrixTerm.{MatrixTerm}
 use Rattle.matrix_core.specs.Listings.{IsInOrder}
+use Rattle.matrix_core.specs.inner.Operations.{one_term}
 use Rattle.matrix_core.specs.Runs.{step_count}
-use Rattle.matrix_core.proofs.lists.Elements.{drop_next, same, rest_is}
+use Rattle.matrix_core.proofs.lists.Elements.{drop_next}
 use Rattle.matrix_play.specs.inner.PlayedReports.{HasOrders}
 use Rattle.matrix_play.specs.inner.MatrixPlays.{MatrixPlaying, matrix_play_of, matrix_plays_of, ops_of, stamps_of, terms_of, next_opening}
 
@@ -72,21 +73,15 @@ module _ {R : Type 0} (all : List (MatrixTerm R)) (first : R) where
 
   -- the same, as the code has its parts
   pub report_step : (i : ℕ) (opening opening' : R) (now now' : ℕ) (terms terms' : List Term) (ops ops' : List (Op R))
-      (stamps stamps' : List (Option Stamp)) (order order' mine : List ℕ) (term : MatrixTerm R) (run : MatrixPlaying R) (place : ℕ)
-      → slice_get all i ≡ Some term → run ≡ matrix_play_of now opening term → length run.stamps ≡ length run.ops → place ≡ length ops
+      (stamps stamps' : List (Option Stamp)) (order order' mine : List ℕ) (term : MatrixTerm R) (run : MatrixPlaying R)
+      → slice_get all i ≡ Some term → run ≡ matrix_play_of now opening term → length run.stamps ≡ length run.ops
       → opening' ≡ next_opening opening run → now' ≡ now + length term.steps →
-      terms' ≡ terms ++ record { first = place; limit = term.limit } ∷ [] → ops' ≡ ops ++ run.ops → stamps' ≡ stamps ++ run.stamps
-      → IsInOrder (take (length ops' - place) (drop place ops')) (take (length stamps' - place) (drop place stamps')) mine →
-      order' ≡ order ++ map (λ p. place + p) mine
+      terms' ≡ terms ++ one_term (length ops) term.limit → ops' ≡ ops ++ run.ops → stamps' ≡ stamps ++ run.stamps
+      → IsInOrder run.ops run.stamps mine → order' ≡ order ++ map (λ p. length ops + p) mine
       → IsReportSoFar i opening now terms ops stamps order → IsReportSoFar (i + 1) opening' now' terms' ops' stamps' order'
-  report_step i opening opening' now now' terms terms' ops ops' stamps stamps' order order' mine term run place at is long pl eo en et
-      eops est sorted eord r =
-      let so : IsInOrder run.ops run.stamps mine = rw (
-        rest_is ops run.ops ops' place eops pl,
-        rest_is stamps run.stamps stamps' place est (pl ∙ sym r.long),
-      ) at sorted in
-      let m = report_more i opening now terms ops stamps order mine term run at is long so r in
-      rw (eo, en, et, eops, est, eord, pl) m
+  report_step i opening opening' now now' terms terms' ops ops' stamps stamps' order order' mine term run at is long eo en et eops est
+      sorted eord r =
+      rw (eo, en, et, eops, est, eord) (report_more i opening now terms ops stamps order mine term run at is long sorted r)
 
   -- no term is left
   pub report_ends : (i : ℕ) (opening : R) (now : ℕ) (terms : List Term) (ops : List (Op R)) (stamps : List (Option Stamp))

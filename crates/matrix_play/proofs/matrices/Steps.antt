@@ -8,7 +8,6 @@ use Rattle.history_core.specs.declared.wish.Wish.TheVariants.{Read}
 use Rattle.stamps.specs.declared.stamp.Stamp.{Stamp}
 use Rattle.matrix_core.specs.declared.progress.Progress.{Progress}
 use Rattle.matrix_core.specs.inner.Operations.{chose, ended}
-use Rattle.matrix_core.specs.Lines.{other}
 use Rattle.matrix_core.proofs.lists.Elements.{same, not_same, get_exists}
 use Rattle.matrix_core.proofs.terms.Steps.{changed_is}
 use Rattle.matrix_play.specs.MatrixEvents.{Matrix, size, after_access}

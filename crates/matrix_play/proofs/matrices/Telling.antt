@@ -1,10 +1,9 @@
 -- A step of a matrix's run tells of the operations what its access makes of them: one begins, chooses, goes on or ends, and where two
 -- processes play, one begins and chooses at once.
 use Rattle.std.proofs.Common.{◌≡◌, ◌≢◌, ℕ, zero, suc, ◌+◌, ◌-◌, ◌*◌, ◌<◌, ◌≤◌, List, [], ◌∷◌, ◌++◌, length, set, slice_get, Option, None}
-use Rattle.std.proofs.Common.{Some, Bool, true, false, refl, sym, subst, ◌∙◌, ap, arith, ◌⊎◌, inl, inr, ⊎_elim}
+use Rattle.std.proofs.Common.{Some, Bool, true, false, refl, sym, subst, ◌∙◌, ap, arith, inl, inr}
 use Rattle.std.specs.Prelude.{if◌then◌else◌, nat_eq, nat_lt}
-use Rattle.std.proofs.lemmas.Bool.{cases_eq, cases_lt}
-use Rattle.std.proofs.lemmas.Bool.Decides.{nat_tests}
+use Rattle.std.proofs.lemmas.Bool.{cases_eq}
 use Rattle.std.proofs.lemmas.List.{length_push, length-set}
 use Rattle.std.proofs.lemmas.Option.{same_Some, slice_get_within}
 use Rattle.history_core.specs.declared.history.Op.{Op}
@@ -17,7 +16,6 @@ use Rattle.history_core.proofs.Overruns.{planned_next}
 use Rattle.history_core.proofs.Places.{get_last}
 use Rattle.history_core.proofs.Played.{after, IsUnderWay, replaced_by_set, same_operation_number}
 use Rattle.history_core.proofs.Positions.{steps_mine}
-use Rattle.stamps.specs.declared.stamp.Stamp.{Stamp}
 use Rattle.stamps.specs.declared.stamp.Stamped.{Stamped}
 use Rattle.matrix_core.specs.declared.progress.Progress.{Progress}
 use Rattle.matrix_core.specs.declared.progress.Outcome.{Outcome}
@@ -32,7 +30,7 @@ use Rattle.matrix_play.specs.inner.MatrixPlays.{MatrixPlaying}
 use Rattle.matrix_play.proofs.matrices.Accesses.{access_of, IsAccess}
 use Rattle.matrix_core.proofs.lists.Elements.{get_set_same, get_unset}
 use Rattle.matrix_play.proofs.matrices.Traces.{IsAt, IsLineAt, matrix_step, Saw}
-use Rattle.matrix_play.proofs.matrices.Plays.{began_other, began_seat, chose_follows, does_planned}
+use Rattle.matrix_play.proofs.matrices.Plays.{began_other, began_seat, does_planned}
 use Rattle.matrix_core.proofs.terms.Steps.{chose_ends, chose_starts, chose_who}
 use Rattle.matrix_core.proofs.terms.Steps.{ended_ends, ended_starts, ended_who}
 use Rattle.matrix_play.proofs.matrices.Plays.{ended_follows, IsProcess, IsPlaySoFar, IsSpan}

@@ -1,32 +1,31 @@
 -- The records of a matrix are those that the operations chose: by induction over the steps of the term. A cell has the record whose
 -- number is how many writes of it are made, so a read has the number of the last write before it.
-use Rattle.std.proofs.Common.{◌≡◌, ◌≢◌, ℕ, zero, suc, ◌+◌, ◌-◌, ◌*◌, ◌<◌, ◌≤◌, List, [], ◌∷◌, ◌++◌, length, set, slice_get, Option, None}
-use Rattle.std.proofs.Common.{Some, true, false, refl, sym, subst, ◌∙◌, ap, arith, ◌⊎◌, inl, inr, ⊎_elim}
+use Rattle.std.proofs.Common.{◌≡◌, ◌≢◌, ℕ, suc, ◌+◌, ◌-◌, ◌*◌, ◌<◌, ◌≤◌, List, [], ◌∷◌, ◌++◌, length, set, slice_get}
+use Rattle.std.proofs.Common.{Some, sym, subst, ◌∙◌, ap, arith, inl, inr, ⊎_elim}
 use Rattle.std.proofs.lemmas.Bool.{cases_eq, cases_lt}
 use Rattle.std.proofs.lemmas.List.{length_push}
-use Rattle.std.proofs.lemmas.Option.{none-some, same_Some, slice_get_within}
+use Rattle.std.proofs.lemmas.Option.{none-some, same_Some}
 use Rattle.history_core.proofs.Played.{same_operation_number}
 use Rattle.history_core.proofs.Positions.{steps_mine, steps_other}
 use Rattle.history_core.specs.declared.wish.Wish.{Wish}
 use Rattle.history_core.specs.Schedules.{access_at, planned, Span, steps_of}
-use Rattle.fourslot_core.specs.Accesses.{IsBefore}
 use Rattle.fourslot_core.specs.Traces.{source_record}
 use Rattle.fourslot_core.proofs.Pushed.{get_cases, of_before, to_before}
 use Rattle.stamps.specs.declared.stamp.Stamped.{Stamped}
 use Rattle.matrix_core.specs.declared.progress.Progress.{Progress}
 use Rattle.matrix_core.specs.declared.progress.Outcome.{Outcome}
-use Rattle.matrix_core.specs.CellAnswers.{greatest, IsReadOf, Intervals}
+use Rattle.matrix_core.specs.CellAnswers.{greatest, IsReadOf}
 use Rattle.matrix_core.specs.ByAccesses.{column, row, intervals_at}
 use Rattle.matrix_play.specs.MatrixEvents.{after_access, IsMatrix, Matrix}
-use Rattle.matrix_core.specs.Lines.{after_write, begun, cell_place, choice, first_record, gathered, other}
+use Rattle.matrix_core.specs.Lines.{begun, cell_place, choice, first_record, gathered, other}
 use Rattle.matrix_play.specs.MatrixEvents.{size}
 use Rattle.stamps.specs.Stamps.{greater}
 use Rattle.matrix_play.proofs.matrices.Accesses.{access_of, after_last_read, after_other_read, IsAccess, IsRead}
 use Rattle.matrix_core.proofs.lines.Accesses.{begun_first, begun_later}
 use Rattle.matrix_play.proofs.matrices.Accesses.{IsWrite}
-use Rattle.matrix_core.proofs.lines.Others.{other_above, other_below, other_differs, other_inside}
+use Rattle.matrix_core.proofs.lines.Others.{other_above, other_below, other_inside}
 use Rattle.matrix_core.proofs.choices.ByAccesses.{done_event, in_done, step_event}
-use Rattle.matrix_core.proofs.lists.Elements.{fold_more, get_set, get_set_same}
+use Rattle.matrix_core.proofs.lists.Elements.{fold_more, get_set}
 use Rattle.matrix_core.proofs.choices.Made.{IsMade, made_past, made_stays}
 use Rattle.matrix_core.proofs.lines.Accesses.{read_done}
 use Rattle.matrix_core.proofs.lines.Others.{same_writer}

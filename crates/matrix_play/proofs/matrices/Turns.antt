@@ -1,12 +1,11 @@
 -- The terms of a report in turn: each opens with the latest record of the one before, which is the greatest that a process
 -- held; so the whole order is atomic, and refuses lawfully.
-use Rattle.std.proofs.Common.{◌≡◌, ℕ, zero, suc, ◌+◌, ◌-◌, ◌<◌, List, [], ◌∷◌, ◌++◌, length, map, refl, sym, ◌∙◌, ap, subst, arith}
-use Rattle.std.specs.Prelude.{slice_get, Some}
+use Rattle.std.proofs.Common.{◌≡◌, ℕ, ◌+◌, List, [], ◌∷◌, ◌++◌, length, map, refl, sym, ◌∙◌, ap, subst, arith}
 use Rattle.history_core.specs.declared.history.Op.{Op}
 use Rattle.history_core.specs.declared.history.Term.{Term}
-use Rattle.history_core.specs.Joined.{Part, order_from, terms_from, ops_of as part_ops}
+use Rattle.history_core.specs.Joined.{order_from, terms_from, ops_of as part_ops}
 use Rattle.history_core.specs.Orders.{IsAtomicOrder, RefusesLawfully}
-use Rattle.history_core.specs.Schedules.{HasOperations, Span}
+use Rattle.history_core.specs.Schedules.{HasOperations}
 use Rattle.history_core.proofs.JoinedParts.{atomic_parts, lawful_parts}
 use Rattle.history_core.proofs.JoinedSpans.{IsPlayedInTurn, played_in_turn}
 use Rattle.matrix_core.specs.declared.schedule.MatrixTerm.{MatrixTerm}

@@ -1,5 +1,5 @@
 -- After the last turn there are as many as wanted.
-use Rattle.std.proofs.Common.{rules, ◌≡◌, ◌∙◌, ap, arith, replicate}
+use Rattle.std.proofs.Common.{◌≡◌, ◌∙◌, ap, arith, replicate}
 use Rattle.fourslot_core.specs.Events.{opening_state}
 use Rattle.board_play.proofs.board.cells_filled.Goals as goal
 

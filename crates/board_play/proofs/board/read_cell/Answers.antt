@@ -1,5 +1,5 @@
 -- The cell at the place makes its event, and no other changes; the slot is that of its state after the event.
-use Rattle.std.proofs.Common.{rules, ◌≡◌, ◌<◌, length, refl}
+use Rattle.std.proofs.Common.{rules, ◌<◌, length, refl}
 use Rattle.std.proofs.lemmas.Option.{slice_get_read}
 use Rattle.board_play.proofs.board.read_cell.Goals as goal
 

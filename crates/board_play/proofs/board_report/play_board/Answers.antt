@@ -1,5 +1,4 @@
 -- What the first overrun asks of each term is what the schedule must be.
-use Rattle.std.proofs.Common.{rules}
 use Rattle.board_play.proofs.board_report.play_board.Goals as goal
 
 pub first_overrun-requires-clause-each : goal.first_overrun-requires-clause-each

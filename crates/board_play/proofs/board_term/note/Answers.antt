@@ -1,6 +1,6 @@
 -- The row of the operation gets the slot at its access.
-use Rattle.std.proofs.Common.{rules, ◌≡◌, ◌≢◌, ◌<◌, length, refl, true, false, sym, ◌∙◌}
-use Rattle.std.specs.Prelude.{slice_get, Some, None}
+use Rattle.std.proofs.Common.{rules, ◌≡◌, ◌<◌, length, refl}
+use Rattle.std.specs.Prelude.{slice_get, Some}
 use Rattle.std.proofs.lemmas.Option.{slice_get_read}
 use Rattle.board_play.proofs.boards.Telling.{notes_it}
 use Rattle.board_play.proofs.board_term.note.Goals as goal

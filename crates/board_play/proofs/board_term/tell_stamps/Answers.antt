@@ -1,5 +1,5 @@
 -- The step that chooses reports the stamp.
-use Rattle.std.proofs.Common.{rules, ◌≡◌, ◌<◌, length, sym}
+use Rattle.std.proofs.Common.{rules, ◌<◌, length, sym}
 use Rattle.board_play.proofs.boards.Telling.{tells_stamp}
 use Rattle.matrix_core.proofs.lists.Elements.{get_exists}
 use Rattle.board_play.proofs.board_term.tell_stamps.Goals as goal

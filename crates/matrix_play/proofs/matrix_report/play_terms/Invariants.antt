@@ -3,5 +3,5 @@ use Rattle.matrix_play.proofs.matrices.Reports.{IsReportSoFar}
 use Rattle.matrix_play.proofs.matrix_report.play_terms.Given as goal
 
 abbrev pub invariant-loop-term : goal.invariant-loop-term
-invariant-loop-term g l =
-    IsReportSoFar l.schedule.terms l.schedule.opening l.term-index l.opening l.now l.terms.items l.ops.items l.stamps.items l.order.items
+invariant-loop-term g l = IsReportSoFar l.schedule.terms l.schedule.opening l.term-index l.opening l.now l.told.terms.items
+    l.told.ops.items l.told.stamps.items l.told.order.items

@@ -9,7 +9,7 @@ use Rattle.fourslot_core.specs.Events.{after_read, after_write, next_read, next_
 use Rattle.stamps.specs.declared.stamp.Stamped.{Stamped}
 use Rattle.matrix_core.specs.declared.progress.Progress.{Progress}
 use Rattle.matrix_core.specs.Lines.{cell_place, other}
-use Rattle.board_play.specs.BoardEvents.{after_event, Board, board_size, heard, IsBoard, posted, read_slot, slot_of, write_slot}
+use Rattle.board_play.specs.BoardEvents.{after_event, Board, heard, posted, read_slot, slot_of, write_slot}
 use Rattle.matrix_core.proofs.lines.Others.{other_inside}
 use Rattle.board_play.proofs.boards.Steps.{hear_is, hear_slot, heard_done, keeps_board, post_is, post_slot, posted_done}
 use Rattle.board_play.proofs.board.BoardCore.step.Goals as goal

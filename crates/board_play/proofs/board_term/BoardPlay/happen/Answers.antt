@@ -2,7 +2,6 @@
 use Rattle.std.proofs.Common.{rules, ◌≡◌, ◌∙◌, ◌<◌, ap, sym, refl, length}
 use Rattle.std.specs.Prelude.{slice_get, Some}
 use Rattle.std.proofs.lemmas.Option.{get_or_from_slice_get, slice_get_read}
-use Rattle.board_play.specs.declared.board_term.BoardSeat.{BoardSeat}
 use Rattle.board_play.specs.inner.BoardPlays.{board_seat, first_board_seat, happened, BoardPlaying}
 use Rattle.board_play.proofs.boards.Telling.{moved_as}
 use Rattle.board_play.proofs.board_term.BoardPlay.happen.Goals as goal

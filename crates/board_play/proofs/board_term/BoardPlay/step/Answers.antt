@@ -1,5 +1,5 @@
 -- The operation begins where it has to, and then the step is made.
-use Rattle.std.proofs.Common.{◌≡◌, ◌∙◌, ap, sym, subst}
+use Rattle.std.proofs.Common.{◌∙◌, ap, sym, subst}
 use Rattle.board_play.specs.inner.BoardPlays.{CanHappen, happened, BoardPlaying}
 use Rattle.board_play.proofs.boards.Telling.{can_happen, step_plays}
 use Rattle.board_play.proofs.board_term.BoardPlay.step.Goals as goal

@@ -1,0 +1,17 @@
+-- The lists of the term stand behind those of the terms before.
+use Rattle.std.proofs.Common.{◌≡◌, ◌++◌, length, rules, ◌∙◌}
+use Rattle.std.proofs.lemmas.Result.{IfOk-weaker}
+use Rattle.matrix_core.proofs.orders.Behind.{listed_behind}
+use Rattle.matrix_play.proofs.matrix_report.add_term.Goals as goal
+
+pub returns-clause-order : goal.returns-clause-order
+returns-clause-order g c =
+    let ops : c.deref-2.result.now ≡ c.args.told.now.ops.items ++ c.args.play.ops = c.deref-2.ensures.value ∙ c.in_ok-give.ensures.ops in
+    let stamps : c.deref.result.now ≡ c.args.told.now.stamps.items ++ c.args.play.stamps =
+    c.deref.ensures.value ∙ c.in_ok-give.ensures.stamps in
+    let place : c.len-first.result ≡ length c.args.told.now.ops.items = search rules in
+    IfOk-weaker c.list_term.result _ _ (λ r h.
+    let l = listed_behind c.args.told.now.ops.items c.args.play.ops c.deref-2.result.now c.args.told.now.stamps.items
+    c.args.play.stamps c.deref.result.now c.len-first.result c.args.told.now.order.items c.list_term.new.order.items h.0 ops stamps
+    place c.requires.told h.1 h.2 in
+    (h.0, l.0, l.1)) c.list_term.ensures
