@@ -1,8 +1,8 @@
 mod Plans
 mod Sorts
 mod Calls
-mod Atomic
-mod There
-mod Last
-mod Growing
+pub mod Atomic
+pub mod There
+pub mod Last
+pub mod Growing
 mod Instances

@@ -27,6 +27,8 @@ pub trait Family<T: Lawful>: Sized + Drop {
     // The steps of the schedule that an access makes.
     ghost width: { ℕ };
 
+    ghost some_steps: { 0 < width };
+
     // Whether the seat or the receipt is of this family.
     ghost is_seat: { Self → Self.Seat → Type 0 };
 

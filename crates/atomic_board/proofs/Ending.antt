@@ -1,0 +1,79 @@
+-- What the end of a board rests on: the greatest of the own records, and the seats in their order.
+use Rattle.std.proofs.Common.{◌≡◌, Bool, true, false, ℕ, zero, suc, ◌+◌, ◌<◌, ◌≤◌, List, [], ◌∷◌, ◌++◌, length, map, reverse, slice_get, Some}
+use Rattle.std.proofs.Common.{refl, sym, ◌∙◌, ap, subst, arith, append_assoc, append-nil, ◌⊎◌, inl, inr}
+use Rattle.std.specs.Prelude.{if◌then◌else◌}
+use Rattle.std.proofs.lemmas.Bool.{cases_eq, cases_lt}
+use Rattle.std.proofs.lemmas.List.{reverse-append}
+use Rattle.std.proofs.lemmas.Option.{same_Some}
+use Rattle.stamps.specs.declared.stamp.Stamp.{Stamp}
+use Rattle.stamps.specs.Choices.{IsAtMost}
+use Rattle.stamps.specs.Stamps.{greater as greater_stamped, IsBelow, is_below}
+use Rattle.stamps.proofs.choices.Stamps.{at_most_refl, at_most_trans, greater_first, greater_second}
+use Rattle.atomic_board.specs.declared.board.Pass.{Pass}
+use Rattle.atomic_board.specs.declared.record.Posted.{Posted}
+use Rattle.atomic_board.specs.Records.{greater, stamped}
+use Rattle.atomic_board.proofs.Records.{stamped_greater}
+
+-- a list of what was made so far from the last elements, last first
+pub record MappedFrom {A B : Type 0} (f : A → B) (whole left : List A) (made : List B) : Type 0 where
+  pub done : List A
+  pub of : whole ≡ left ++ done
+  pub are : reverse made ≡ map f done
+
+pub mapped_none : {A B : Type 0} (f : A → B) (whole : List A) → MappedFrom f whole whole []
+mapped_none f whole = record { done = []; of = sym (append-nil whole); are = refl }
+
+pub mapped_more : {A B : Type 0} (f : A → B) (whole before left : List A) (made : List B) (x : A) → MappedFrom f whole before made
+    → before ≡ left ++ x ∷ [] → MappedFrom f whole left (made ++ f x ∷ [])
+mapped_more f whole before left made x h e = record {
+  done = x ∷ h.done;
+  of = h.of ∙ ap (λ z. z ++ h.done) e ∙ append_assoc left (x ∷ []) h.done;
+  are = reverse-append made (f x ∷ []) ∙ ap (λ z. f x ∷ z) h.are;
+}
+
+pub mapped_all : {A B : Type 0} (f : A → B) (whole left : List A) (made : List B) → MappedFrom f whole left made → length left ≡ 0
+    → reverse made ≡ map f whole
+mapped_all f whole [] made h e = h.are ∙ ap (map f) (sym h.of)
+mapped_all f whole (x ∷ xs) made h e = absurd (omega (arith, e))
+
+either : {V : Type 0} (a b : Posted V) (t : Bool) → ((if t then b else a) ≡ a) ⊎ ((if t then b else a) ≡ b)
+either a b true = inr refl
+either a b false = inl refl
+
+module _ {V F S T : Type 0} where
+  -- the greatest of the first passes
+  pub record IsGreatestSoFar (passes : List (Pass V F S T)) (count : ℕ) (last : Posted V) : Type 0 where
+    pub process : ℕ
+    pub pass : Pass V F S T
+    pub there : slice_get passes process ≡ Some pass
+    pub own : last ≡ pass.own
+    pub greatest : (i : ℕ) (p : Pass V F S T) → i < count → slice_get passes i ≡ Some p → IsAtMost p.own.stamp last.stamp
+
+  pub first_is : (passes : List (Pass V F S T)) (pass : Pass V F S T) → slice_get passes 0 ≡ Some pass → IsGreatestSoFar passes 0 pass.own
+  first_is passes pass there = record {
+    process = 0;
+    pass = pass;
+    there = there;
+    own = refl;
+    greatest = λ i p l h. absurd (omega arith);
+  }
+
+  pub greatest_more : (passes : List (Pass V F S T)) (count : ℕ) (last last' : Posted V) (next : Pass V F S T) →
+      IsGreatestSoFar passes count last → slice_get passes count ≡ Some next → last' ≡ greater last next.own →
+      IsGreatestSoFar passes (count + 1) last'
+  greatest_more passes count last last' next h there e =
+      let first : IsAtMost last.stamp last'.stamp = subst (λ z. IsAtMost last.stamp z.stamp) (sym e)
+      (subst (λ z. IsAtMost last.stamp z.stamp) (sym (stamped_greater last next.own)) (greater_first (stamped last) (stamped next.own))) in
+      let second : IsAtMost next.own.stamp last'.stamp = subst (λ z. IsAtMost next.own.stamp z.stamp) (sym e)
+      (subst (λ z. IsAtMost next.own.stamp z.stamp) (sym (stamped_greater last next.own)) (greater_second (stamped last) (stamped next.own))) in
+      let all : (i : ℕ) (p : Pass V F S T) → i < count + 1 → slice_get passes i ≡ Some p → IsAtMost p.own.stamp last'.stamp = λ i p l at.
+      elim (cases_lt i count) [
+        | inl lt ↦ at_most_trans p.own.stamp last.stamp last'.stamp (h.greatest i p lt at) first
+        | inr ge ↦
+            let same : p ≡ next = same_Some p next (sym at ∙ ap (slice_get passes) (let z : i ≡ count = omega arith in z) ∙ there) in
+            subst (λ (z : Pass V F S T). IsAtMost z.own.stamp last'.stamp) (sym same) second
+      ] in
+      elim (either last next.own (is_below last.stamp next.own.stamp)) [
+        | inl a ↦ record { process = h.process; pass = h.pass; there = h.there; own = e ∙ a ∙ h.own; greatest = all }
+        | inr b ↦ record { process = count; pass = next; there = there; own = e ∙ b; greatest = all }
+      ]

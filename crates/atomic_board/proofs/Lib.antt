@@ -1,0 +1,7 @@
+mod Records
+mod Accessing
+mod Calling
+mod Ending
+mod Whole
+mod Dealing
+mod Same

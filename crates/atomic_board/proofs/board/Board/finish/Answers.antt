@@ -1,0 +1,24 @@
+-- The family gives one schedule of all steps and atomic registers: with the calls of the passes that is a run.
+use Rattle.std.proofs.Common.{arith, ap, sym, ◌∙◌, ◌≡◌, ◌≤◌, length}
+use Rattle.std.specs.Prelude.{vec_capacity}
+use Rattle.atomic_board.proofs.Whole.{all_atomic, all_seats, room_for_all}
+use Rattle.atomic_board.proofs.board.Board.finish.Goals as goal
+
+pub seats_of-requires-clause-room : goal.seats_of-requires-clause-room
+seats_of-requires-clause-room g c =
+    let r : length c.args.passes.items ≤ vec_capacity c.args.self.room =
+    (room_for_all g.F.Family g.V.RecordLaw.obeys c.args.self c.args.passes.items c.requires).0 in
+    omega arith
+
+pub seats_of-requires-clause-empty : goal.seats_of-requires-clause-empty
+seats_of-requires-clause-empty g c = (room_for_all g.F.Family g.V.RecordLaw.obeys c.args.self c.args.passes.items c.requires).1
+
+pub finish-requires : goal.finish-requires
+finish-requires g c =
+    let x = all_seats g.F.Family g.V.RecordLaw.obeys c.args.self c.args.passes.items c.requires c.seats_of.result.items c.seats_of.ensures in
+    let n : length c.seats_of.result.items ≡ g.F.Family.processes c.args.self.family = x.0 in
+    (omega arith, x.1)
+
+pub returns-clause-atomic : goal.returns-clause-atomic
+returns-clause-atomic g c = all_atomic g.F.Family g.V.RecordLaw.obeys c.args.self c.args.passes.items c.requires c.seats_of.result.items
+    c.seats_of.ensures c.greatest_own-last.result c.greatest_own-last.ensures c.finish.ensures.scheduled c.finish.ensures.atomic

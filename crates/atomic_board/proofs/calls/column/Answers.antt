@@ -1,0 +1,15 @@
+-- Each turn reads one more.
+use Rattle.std.proofs.Common.{subst}
+use Rattle.atomic_board.specs.inner.Calls.{HasHeard}
+use Rattle.atomic_board.proofs.Accessing.{nothing_read, read_more}
+use Rattle.atomic_board.proofs.calls.column.Goals as goal
+
+pub loop-k-init : goal.loop-k-init
+loop-k-init g c = nothing_read g.F.Family g.V.RecordLaw.obeys c.args.family.now c.args.process c.args.seat.now c.args.seen.now
+    c.requires.of.seat c.requires.lawful
+
+pub loop-k-preserved : goal.loop-k-preserved
+loop-k-preserved g c = read_more g.F.Family g.V.RecordLaw.obeys c.args.family.now c.args.process c.loop-k.k c.args.seat.now c.loop-k.seat
+    c.hear.new.seat c.args.seen.now c.loop-k.seen c.hear.new.seen c.loop-k.invariant
+    (subst (λ z. HasHeard g.F.Family g.V.RecordLaw.obeys c.args.family.now z c.loop-k.seat c.hear.new.seat c.loop-k.seen c.hear.new.seen)
+    c.other.ensures c.hear.ensures)

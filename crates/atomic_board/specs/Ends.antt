@@ -1,0 +1,57 @@
+-- A board that ends: the calls of all its passes together (atomic orders are L. Lamport's, On Interprocess Communication, Parts I and II,
+-- Distributed Computing 1, 1986).
+use Rattle.std.specs.Prelude.{◌≡◌, Bool, ℕ, ◌+◌, ◌<◌, ◌≤◌, List, [], ◌∷◌, length, slice_get, Option, Some, None}
+use Rattle.family_live.specs.declared.family.Family.{Ghosts as FamilyWords}
+use Rattle.history_core.specs.declared.history.Op.{Op}
+use Rattle.history_core.specs.Orders.{IsAtomicOrder, latest, RefusesLawfully}
+use Rattle.stamps.specs.declared.stamp.Stamp.{Stamp}
+use Rattle.stamps.specs.Choices.{IsAtMost}
+use Rattle.matrix_core.specs.Listings.{IsInOrder}
+use Rattle.board_history.specs.BoardRuns.{Called, Did}
+use Rattle.board_history.specs.Histories.{IsHistory}
+use Rattle.atomic_board.specs.declared.board.Board.{Board}
+use Rattle.atomic_board.specs.declared.board.Pass.{Pass}
+use Rattle.atomic_board.specs.declared.record.Posted.{Posted}
+use Rattle.atomic_board.specs.Passes.{did_of, HasMade, IsPass}
+
+module _ {V F S T : Type 0} where
+  -- the greatest of the records that the processes chose last
+  pub record IsGreatest (passes : List (Pass V F S T)) (last : Posted V) : Type 0 where
+    pub process : ℕ
+    pub pass : Pass V F S T
+    pub there : slice_get passes process ≡ Some pass
+    pub own : last ≡ pass.own
+    pub greatest : (i : ℕ) (p : Pass V F S T) → slice_get passes i ≡ Some p → IsAtMost p.own.stamp last.stamp
+
+module _ {V F S T : Type 0} (words : FamilyWords F (Posted V) S T) where
+  -- the passes of all processes, in their order
+  pub record AllPasses (obeys : V → Bool) (board : Board V F S T) (passes : List (Pass V F S T)) : Type 0 where
+    pub all : length passes ≡ board.processes
+    pub some : 0 < length passes
+    pub each : (i : ℕ) (p : Pass V F S T) → slice_get passes i ≡ Some p → IsPass words obeys board p × (p.process ≡ i)
+
+  abbrev pub did_at : Option (Pass V F S T) → List (Called V) → Did V
+  did_at (Some p) calls = did_of words p.seat calls
+  did_at None calls = record {
+    times = [];
+    calls = [];
+    writes = λ j. record { items = []; begins = []; ends = [] };
+    reads = λ j. record { items = []; numbers = []; begins = []; ends = [] };
+  }
+
+  -- what each process did
+  abbrev pub did_by : List (Pass V F S T) → (ℕ → List (Called V)) → ℕ → Did V
+  did_by passes calls i = did_at (slice_get passes i) (calls i)
+
+  -- *Atomic*: whatever calls were made with the passes, they are the operations of a history, each once, with the interval of its steps in
+  -- the schedule of all steps; and there is an order of them by stamp that is atomic by these intervals and refuses lawfully, after which
+  -- the register holds this record
+  abbrev pub HaveAtomicOrder : Board V F S T → List (Pass V F S T) → Posted V → Type 0
+  HaveAtomicOrder board passes last = (calls : ℕ → List (Called V))
+      → ((i : ℕ) (p : Pass V F S T) → slice_get passes i ≡ Some p → HasMade words board p (calls i))
+      → (ops : List (Op V)) × (stamps : List (Option Stamp)) × (order : List ℕ)
+      × IsHistory words.width board.processes (did_by passes calls) ops stamps
+      × IsInOrder ops stamps order
+      × IsAtomicOrder (λ x y. x ≡ y) board.first.item ops order
+      × RefusesLawfully (record { first = 0; limit = board.limit } ∷ []) ops order
+      × (latest board.first.item ops order ≡ Some last.item)

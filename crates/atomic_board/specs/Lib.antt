@@ -1,0 +1,5 @@
+pub mod Deals
+pub mod Ends
+pub mod Passes
+pub mod Records
+pub mod inner

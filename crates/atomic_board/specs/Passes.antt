@@ -1,0 +1,80 @@
+-- The passes of a board's processes, and the calls that were made with them (this project's own).
+use Rattle.std.specs.Prelude.{◌≡◌, ◌≢◌, Bool, IsTrue, ℕ, ◌+◌, ◌<◌, ◌≤◌, List, [], ◌∷◌, ◌++◌, length, map, vec_capacity, Result, Ok, Err}
+use Rattle.cell_live.specs.Running.{last_or}
+use Rattle.family_live.specs.declared.family.Family.{Ghosts as FamilyWords}
+use Rattle.family_live.specs.Accesses.{Writes, Reads}
+use Rattle.stamps.specs.declared.stamp.Stamped.{Stamped}
+use Rattle.history_core.specs.declared.history.Kind.{Kind}
+use Rattle.history_core.specs.declared.history.Kind.TheVariants.{Write, Refused}
+use Rattle.stamps.specs.declared.stamp.Stamp.{Stamp}
+use Rattle.stamps.specs.Stamps.{first_stamp}
+use Rattle.board_history.specs.BoardRuns.{Answered, Called, Did, IsProcess, own_before, Written}
+use Rattle.atomic_board.specs.declared.board.Board.{Board}
+use Rattle.atomic_board.specs.declared.board.Pass.{Pass}
+use Rattle.atomic_board.specs.declared.board.TagsEnded.{TagsEnded}
+use Rattle.atomic_board.specs.declared.record.Posted.{Posted}
+use Rattle.atomic_board.specs.Records.{Rises, stamped}
+
+module _ {V : Type 0} where
+  abbrev pub written_of : Writes (Posted V) → Written V
+  written_of w = record { items = map stamped w.items; begins = w.times.begins; ends = w.times.ends }
+
+  abbrev pub answered_of : Reads (Posted V) → Answered V
+  answered_of r = record { items = map stamped r.answers; numbers = r.numbers; begins = r.times.begins; ends = r.times.ends }
+
+module _ {V F S T : Type 0} (family : FamilyWords F (Posted V) S T) where
+  -- what a process did, by its seat
+  abbrev pub did_of : S → List (Called V) → Did V
+  did_of seat calls = record {
+    times = family.times seat;
+    calls = calls;
+    writes = λ j. written_of (family.writes seat j);
+    reads = λ j. answered_of (family.reads seat j);
+  }
+
+  -- the pass is of this board, and its process has written its own record last
+  pub record IsPass (obeys : V → Bool) (board : Board V F S T) (pass : Pass V F S T) : Type 0 where
+    pub size : (2 ≤ board.processes) × (board.processes ≤ 16)
+    pub some : 0 < family.width
+    pub processes : family.processes board.family ≡ board.processes
+    pub opens : family.opening board.family ≡ board.first
+    pub first : board.first.stamp ≡ first_stamp
+    pub inside : pass.process < board.processes
+    pub room : (board.processes ≤ vec_capacity board.room) × (board.room.items ≡ [])
+    pub seat : family.is_seat board.family pass.seat
+    pub who : family.who pass.seat ≡ pass.process
+    pub lawful : IsTrue (obeys pass.own.item)
+    pub last : (j : ℕ) → j < board.processes → j ≢ pass.process → last_or board.first (family.writes pass.seat j).items ≡ pass.own
+
+  -- these calls were made with the pass
+  pub record HasMade (board : Board V F S T) (pass : Pass V F S T) (calls : List (Called V)) : Type 0 where
+    pub made : IsProcess family.width board.processes board.limit (stamped board.first) pass.process (did_of pass.seat calls)
+    pub own : stamped pass.own ≡ own_before (stamped board.first) calls (length calls)
+
+  -- *A call*: its process saw this record, the greatest of its own and one answer of each other process, and chose its own one; all of
+  -- the calls that were made with the pass are those made before and this one
+  pub record IsCall (board : Board V F S T) (kind : Kind) (old new : Pass V F S T) (seen : Posted V) : Type 0 where
+    pub process : new.process ≡ old.process
+    pub rises : Rises old.own seen
+    pub onward : Rises seen new.own
+    pub made : (calls : List (Called V)) → HasMade board old calls →
+        HasMade board new (calls ++ record { kind = kind; seen = stamped seen; chosen = stamped new.own } ∷ [])
+
+module _ {V F S T : Type 0} (family : FamilyWords F (Posted V) S T) where
+  -- no call was made: whatever calls were made with the pass still are
+  pub record HasSame (board : Board V F S T) (old new : Pass V F S T) : Type 0 where
+    pub process : new.process ≡ old.process
+    pub own : new.own ≡ old.own
+    pub later : family.clock old.seat ≤ family.clock new.seat
+    pub made : (calls : List (Called V)) → HasMade family board old calls → HasMade family board new calls
+
+module _ {V : Type 0} where
+  -- what a write chooses, and answers: below the limit its item with the next stamp, else what was seen
+  abbrev pub Chooses : ℕ → ℕ → V → Posted V → Posted V → Result Stamp (TagsEnded V) → Type 0
+  Chooses limit process item seen chosen (Ok s) =
+      (seen.stamp.tag < limit) × (s ≡ record { tag = seen.stamp.tag + 1; writer = process }) × (chosen ≡ record { stamp = s; item = item })
+  Chooses limit process item seen chosen (Err e) = (limit ≤ seen.stamp.tag) × (e.seen ≡ seen) × (chosen ≡ seen)
+
+  abbrev pub kind_of : Result Stamp (TagsEnded V) → Kind
+  kind_of (Ok s) = Write
+  kind_of (Err e) = Refused

@@ -1,0 +1,63 @@
+-- A call, access by access. Only private functions cite this, which is this project's own; what a call promises stands in Passes.
+use Rattle.std.specs.Prelude.{◌≡◌, ◌≢◌, Bool, IsTrue, ℕ, ◌+◌, ◌*◌, ◌<◌, ◌≤◌, List, [], ◌∷◌, ◌++◌, length, slice_get, Some}
+use Rattle.cell_live.specs.declared.times.Times.{Times}
+use Rattle.cell_live.specs.Running.{last_or}
+use Rattle.family_live.specs.declared.family.Family.{Ghosts as FamilyWords}
+use Rattle.family_live.specs.Accesses.{IsAccess, Keeps, KeepsOthers, Reads, Writes}
+use Rattle.stamps.specs.declared.stamp.Stamped.{Stamped}
+use Rattle.matrix_core.specs.CellAnswers.{greatest}
+use Rattle.matrix_core.specs.Lines.{other}
+use Rattle.board_history.specs.Accesses.{ReadsOnce, WritesOnce}
+use Rattle.atomic_board.specs.declared.record.Posted.{Posted}
+use Rattle.atomic_board.specs.Passes.{answered_of, written_of}
+use Rattle.atomic_board.specs.Records.{greater, Rises, stamped}
+
+module _ {V F S T : Type 0} (words : FamilyWords F (Posted V) S T) where
+  -- the seat is that of this process of a family of so many
+  pub record IsOf (family : F) (processes process : ℕ) (pass : S) : Type 0 where
+    pub size : (2 ≤ processes) × (processes ≤ 16)
+    pub all : words.processes family ≡ processes
+    pub inside : process < processes
+    pub seat : words.is_seat family pass
+    pub who : words.who pass ≡ process
+
+  -- one register was read: one access more, one answer more, and what was seen is raised to it
+  pub record HasHeard (obeys : V → Bool) (family : F) (from : ℕ) (seat seat' : S) (seen seen' : Posted V) : Type 0 where
+    pub of : words.is_seat family seat' × (words.who seat' ≡ words.who seat)
+    pub access : IsAccess words.width (words.clock seat) (words.clock seat') (words.times seat) (words.times seat')
+        (words.reads seat from).times (words.reads seat' from).times
+    pub answer : Posted V
+    pub more : (words.reads seat' from).answers ≡ (words.reads seat from).answers ++ answer ∷ []
+    pub lawful : IsTrue (obeys answer.item)
+    pub others : KeepsOthers from (words.reads seat) (words.reads seat')
+    pub writes : Keeps (words.writes seat) (words.writes seat')
+    pub raised : seen' ≡ greater seen answer
+
+  -- the first of the others were read, each once
+  pub record HasRead (obeys : V → Bool) (family : F) (process count : ℕ) (seat seat' : S) (seen seen' : Posted V) : Type 0 where
+    pub of : words.is_seat family seat' × (words.who seat' ≡ words.who seat)
+    pub steps : List ℕ
+    pub long : length steps ≡ count * words.width
+    pub times : words.times seat' ≡ words.times seat ++ steps
+    pub answers : List (Stamped V)
+    pub each : length answers ≡ count
+    pub reads : (e : ℕ) (answer : Stamped V) → slice_get answers e ≡ Some answer →
+        ReadsOnce words.width steps e (answered_of (words.reads seat (other process e))) (answered_of (words.reads seat' (other process e))) answer
+    pub unread : (e : ℕ) → count ≤ e → words.reads seat' (other process e) ≡ words.reads seat (other process e)
+    pub writes : Keeps (words.writes seat) (words.writes seat')
+    pub sees : stamped seen' ≡ greatest (stamped seen) answers
+    pub lawful : IsTrue (obeys seen'.item)
+    pub rises : Rises seen seen'
+
+  -- the record was written to the first of the others, once to each
+  pub record HasWritten (family : F) (process count : ℕ) (seat seat' : S) (item : Posted V) : Type 0 where
+    pub of : words.is_seat family seat' × (words.who seat' ≡ words.who seat)
+    pub steps : List ℕ
+    pub long : length steps ≡ count * words.width
+    pub times : words.times seat' ≡ words.times seat ++ steps
+    pub writes : (e : ℕ) → e < count →
+        WritesOnce words.width steps e (written_of (words.writes seat (other process e))) (written_of (words.writes seat' (other process e)))
+        (stamped item)
+    pub unwritten : (e : ℕ) → count ≤ e → words.writes seat' (other process e) ≡ words.writes seat (other process e)
+    pub last : (e : ℕ) (first : Posted V) → e < count → last_or first (words.writes seat' (other process e)).items ≡ item
+    pub reads : Keeps (words.reads seat) (words.reads seat')

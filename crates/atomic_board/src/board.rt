@@ -1,0 +1,29 @@
+//! The board, and the passes of its processes.
+
+use crate::record::{Posted, RecordLaw};
+use family_live::Family;
+
+/// A board: a family of registers, one from each process to each other one.
+#[derive(Drop)]
+pub struct Board<V: RecordLaw, F: Family<Posted<V>>> {
+    pub(crate) family: F,
+    pub(crate) processes: usize,
+    pub(crate) limit: u64,
+    pub(crate) first: Posted<V>,
+    /// Room for the seats of all passes, so that the board's end takes no memory.
+    pub(crate) room: Vec<F::Seat>,
+}
+
+/// The right to call as one of the processes.
+#[derive(Drop)]
+pub struct Pass<V: RecordLaw, F: Family<Posted<V>>> {
+    pub(crate) process: usize,
+    pub(crate) own: Posted<V>,
+    pub(crate) seat: F::Seat,
+}
+
+/// The tags have ended. What was seen is handed on, as by a read.
+#[derive(Debug, Drop)]
+pub struct TagsEnded<V> {
+    pub seen: Posted<V>,
+}

@@ -1,0 +1,65 @@
+//! Ending a board.
+ghost use Rattle.std.specs.Prelude.{◌≡◌, ◌<◌, ◌≤◌, vec_len, vec_capacity, map, []};
+ghost use Rattle.atomic_board.specs.Ends.{AllPasses, HaveAtomicOrder, IsGreatest};
+
+use crate::board::{Board, Pass};
+use crate::record::{Posted, RecordLaw};
+use family_live::Family;
+
+/// The greatest of the own records, of equal stamps that of the smaller process number.
+fn greatest_own<V: RecordLaw, F: Family<Posted<V>>>(passes: &Vec<Pass<V, F>>) -> Posted<V>
+    requires { 0 < vec_len passes.now }
+    ensures { IsGreatest passes.now.items result }
+{
+    let mut last = passes[0].own;
+    for k in 0..passes.len() {
+        last.raise(&passes[k].own);
+    }
+    last
+}
+
+/// The seats of the passes, in their order.
+fn seats_of<V: RecordLaw, F: Family<Posted<V>>>(
+    passes: Vec<Pass<V, F>>,
+    room: Vec<F::Seat>,
+) -> Vec<F::Seat>
+    requires room { vec_len passes ≤ vec_capacity room }
+    requires empty { room.items ≡ [] }
+    ensures { result.items ≡ map (λ p. p.seat) passes.items }
+{
+    let mut passes = passes;
+    let mut seats = room;
+    for _ in 0..passes.len() {
+        let Some(pass) = passes.pop() else {
+            unreachable!();
+        };
+        let Pass {
+            process: _,
+            own: _,
+            seat,
+        } = pass;
+        seats.push_reserved(seat);
+    }
+    seats.reverse();
+    seats
+}
+
+impl<V: RecordLaw, F: Family<Posted<V>>> Board<V, F> {
+    /// Ends the board: only here do all passes meet. Gives the greatest of the processes' own records.
+    pub fn finish(self, passes: Vec<Pass<V, F>>) -> Posted<V>
+        requires { AllPasses ⟦<F as Family<Posted<V>>>⟧ V.obeys self passes.items }
+        ensures last { IsGreatest passes.items result }
+        ensures atomic { HaveAtomicOrder ⟦<F as Family<Posted<V>>>⟧ self passes.items result }
+    {
+        let last = greatest_own(&passes);
+        let Board {
+            family,
+            processes: _,
+            limit: _,
+            first: _,
+            room,
+        } = self;
+        family.finish(seats_of(passes, room));
+        last
+    }
+}

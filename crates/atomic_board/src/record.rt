@@ -1,0 +1,84 @@
+//! Records that several processes share, with the stamps under which they were written.
+ghost use Rattle.std.specs.Prelude.{◌≡◌, Bool, IsTrue};
+
+use cell_live::{Kept, Lawful};
+use stamps::Stamp;
+
+/// A type of records with a law that a caller can test.
+pub trait RecordLaw: Copy + Eq {
+    // Whether a record obeys its law.
+    ghost obeys: { Self → Bool };
+
+    /// Whether the record obeys its law.
+    fn fits(&self) -> bool
+        ensures { result ≡ obeys self.now };
+}
+
+/// A record with the stamp of its write. The opening has the stamp 0.0.
+#[derive(Clone, Copy, Debug, PartialEq, Eq)]
+pub struct Posted<V> {
+    pub stamp: Stamp,
+    pub item: V,
+}
+
+impl<V: Copy> Posted<V> {
+    ghost use Rattle.atomic_board.specs.declared.record.Posted.{Posted};
+    ghost use Rattle.atomic_board.specs.Records.{above, greater, or_item};
+
+    /// This record, where its stamp is above that one.
+    #[inline]
+    pub(crate) fn above(&self, stamp: Stamp) -> Option<Posted<V>>
+        ensures { result ≡ above stamp self.now }
+    {
+        if stamp < self.stamp {
+            Some(*self)
+        } else {
+            None
+        }
+    }
+
+    /// Becomes the other, where there is one: the greater of this record and one that was looked at for its stamp.
+    #[inline]
+    pub(crate) fn take(&mut self, newer: Option<Posted<V>>)
+        ensures { (a : Posted V) → newer ≡ above self.old.stamp a → self.new ≡ greater self.old a }
+    {
+        if let Some(newer) = newer {
+            *self = newer;
+        }
+    }
+
+    /// Takes the other where its stamp is greater.
+    #[inline]
+    pub(crate) fn raise(&mut self, other: &Posted<V>)
+        ensures { self.new ≡ greater self.old other.now }
+    {
+        if self.stamp < other.stamp {
+            *self = *other;
+        }
+    }
+
+    /// Takes the item under this stamp, where there is one.
+    #[inline]
+    pub(crate) fn renew(&mut self, stamp: Option<Stamp>, item: V)
+        ensures { self.new ≡ or_item self.old stamp item }
+    {
+        if let Some(stamp) = stamp {
+            self.stamp = stamp;
+            self.item = item;
+        }
+    }
+}
+
+impl<V: RecordLaw> Lawful for Posted<V> {
+    ghost use Rattle.atomic_board.specs.Records.{Rises, rises_itself, rises_on};
+
+    ghost fits = { λ p. IsTrue (V.obeys p.item) };
+
+    ghost rises = { Rises };
+
+    ghost reflexive = { rises_itself };
+
+    ghost transitive = { rises_on };
+}
+
+impl<V: RecordLaw + Send + Sync> Kept for Posted<V> {}
