@@ -1,10 +1,11 @@
-use crate::documents::{Stopped, document};
+use crate::documents::{Stopped, check, race, schedule};
 use crate::print;
 use board_play::play_board;
 use fourslot_play::play_cell;
-use history_core::{Items, Verdict};
+use history_core::Items;
 use matrix_play::{MatrixCore, play_matrix};
-use schedule_text::{Counts, Document, Report, report_text};
+use report_text::{Counts, Report, report_text};
+use schedule_text::ScheduleDocument;
 use std::alloc::Global;
 use std::io;
 
@@ -23,9 +24,19 @@ const TASKS: [Counts; 2] = [
 ];
 
 pub fn read(rt: &impl Print, alloc: Global, on: &str) -> io::Result<()> {
-    match document(alloc, on) {
-        Ok(document) => print::document(rt, &document),
-        Err(why) => print::stopped(rt, why),
+    match on {
+        "check" => match check(alloc) {
+            Ok(document) => print::check(rt, &document),
+            Err(why) => print::stopped(rt, why),
+        },
+        "race" => match race(alloc) {
+            Ok(document) => print::race(rt, &document),
+            Err(why) => print::stopped(rt, why),
+        },
+        _ => match schedule(alloc, on) {
+            Ok(document) => print::schedule(rt, &document),
+            Err(why) => print::stopped(rt, why),
+        },
     }
 }
 
@@ -34,7 +45,6 @@ pub fn play(rt: &impl Print, alloc: Global, on: &str) -> io::Result<()> {
         Ok(Report::Cell(report)) => print::cell_report(rt, &report),
         Ok(Report::Matrix { report, .. }) => print::matrix_report(rt, &report),
         Ok(Report::Board { report, .. }) => print::board_report(rt, &report),
-        Ok(Report::Verdict(verdict)) => println!(rt; "{verdict:?}"),
         Ok(Report::Race { tasks, broken }) => println!(rt; "{:?} {broken:?}", tasks.as_slice()),
         Err(why) => print::stopped(rt, why),
     }
@@ -60,37 +70,38 @@ pub fn text(rt: &impl Print, alloc: Global, on: &str) -> io::Result<()> {
     }
 }
 
-/// What the document of this name prints: a played schedule's report, or else the verdict of a lawful order. A race isn't run:
-/// its report says that every call of its two tasks was made.
+/// The report of the schedule of this name.
 fn played(alloc: Global, on: &str) -> Result<Report, Stopped> {
-    match document(alloc, on)? {
-        Document::Check {
-            history: _history,
-            order: _order,
-        } => Ok(Report::Verdict(Verdict::Lawful)),
-        Document::Cell(schedule) => {
+    match schedule(alloc, on)? {
+        ScheduleDocument::Cell(schedule) => {
             let report = play_cell(alloc, &schedule)?;
             Ok(Report::Cell(report))
         }
-        Document::Matrix { schedule, titled } => {
+        ScheduleDocument::Matrix { schedule, titled } => {
             let report = play_matrix(alloc, &schedule)?;
             Ok(Report::Matrix { report, titled })
         }
-        Document::Board { schedule, titled } => {
+        ScheduleDocument::Board { schedule, titled } => {
             let report = play_board(alloc, &schedule)?;
             Ok(Report::Board { report, titled })
-        }
-        Document::Race { .. } => {
-            let tasks = Items::new(TASKS.to_vec(alloc)?);
-            Ok(Report::Race {
-                tasks,
-                broken: None,
-            })
         }
     }
 }
 
+/// The report of a race that isn't run: it says that every call of its two tasks was made.
+fn raced(alloc: Global) -> Result<Report, Stopped> {
+    let tasks = Items::new(TASKS.to_vec(alloc)?);
+    Ok(Report::Race {
+        tasks,
+        broken: None,
+    })
+}
+
 fn text_of(alloc: Global, on: &str) -> Result<Vec<u8>, Stopped> {
-    let report = played(alloc, on)?;
+    let report = if on == "race" {
+        raced(alloc)?
+    } else {
+        played(alloc, on)?
+    };
     report_text(alloc, &report).map_err(|_| Stopped::NoMemory)
 }

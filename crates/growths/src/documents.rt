@@ -1,8 +1,9 @@
 ghost use Rattle.std.specs.Prelude.{IfOk};
-ghost use Rattle.schedule_text.specs.reading.Players.{CanBePlayed};
+ghost use Rattle.schedule_text.specs.Players.{CanBePlayed};
 
 use history_core::PlayError;
-use schedule_text::{DocError, Document, Want, read_document};
+use history_text::{CheckDocument, DocError, read_check};
+use schedule_text::{RaceDocument, ScheduleDocument, read_race, read_schedule};
 use std::alloc::{AllocError, Global};
 
 /// A write, and a read of its record.
@@ -67,24 +68,43 @@ impl From<AllocError> for Stopped {
     }
 }
 
-/// The document of this name. Its schedule can be played.
-pub fn document(alloc: Global, name: &str) -> Result<Document, Stopped>
+impl From<DocError> for Stopped {
+    fn from(error: DocError) -> Stopped {
+        match error {
+            DocError::NoMemory => Stopped::NoMemory,
+            _ => Stopped::NoSuchCall,
+        }
+    }
+}
+
+/// The document of a history.
+pub fn check(alloc: Global) -> Result<CheckDocument, Stopped> {
+    let document = read_check(alloc, CHECK.as_bytes())?;
+    Ok(document)
+}
+
+/// The document of a race.
+pub fn race(alloc: Global) -> Result<RaceDocument, Stopped> {
+    let document = read_race(alloc, RACE.as_bytes())?;
+    Ok(document)
+}
+
+/// The schedule of this name. It can be played.
+pub fn schedule(alloc: Global, name: &str) -> Result<ScheduleDocument, Stopped>
     ensures { IfOk result CanBePlayed }
 {
-    let (want, text) = match name {
-        "check" => (Want::Check, CHECK),
-        "cell" => (Want::Play, CELL),
-        "stalled" => (Want::Play, STALLED),
-        "meeting" => (Want::Play, MEETING),
-        "handed_on" => (Want::Play, HANDED_ON),
-        "refused" => (Want::Play, REFUSED),
-        "terms" => (Want::Play, TERMS),
-        "board" => (Want::Play, BOARD),
-        "board_terms" => (Want::Play, BOARD_TERMS),
-        "race" => (Want::Race, RACE),
+    let text = match name {
+        "cell" => CELL,
+        "stalled" => STALLED,
+        "meeting" => MEETING,
+        "handed_on" => HANDED_ON,
+        "refused" => REFUSED,
+        "terms" => TERMS,
+        "board" => BOARD,
+        "board_terms" => BOARD_TERMS,
         _ => return Err(Stopped::NoSuchCall),
     };
-    match read_document(alloc, want, text.as_bytes()) {
+    match read_schedule(alloc, text.as_bytes()) {
         Ok(document) => Ok(document),
         Err(DocError::NoMemory) => Err(Stopped::NoMemory),
         Err(_) => Err(Stopped::NoSuchCall),

@@ -1,8 +1,9 @@
 use crate::documents::Stopped;
 use fourslot_core::CellReport;
 use history_core::{Band, History};
+use history_text::CheckDocument;
 use matrix_core::{BoardReport, MatrixReport, MatrixTerm};
-use schedule_text::Document;
+use schedule_text::{RaceDocument, ScheduleDocument};
 use std::io;
 
 pub fn stopped(rt: &impl Print, why: Stopped) -> io::Result<()> {
@@ -12,43 +13,38 @@ pub fn stopped(rt: &impl Print, why: Stopped) -> io::Result<()> {
     }
 }
 
-pub fn document(rt: &impl Print, document: &Document) -> io::Result<()> {
+pub fn check(rt: &impl Print, document: &CheckDocument) -> io::Result<()> {
+    history(rt, &document.history)?;
+    println!(rt; "{:?}", document.order.as_slice())
+}
+
+pub fn schedule(rt: &impl Print, document: &ScheduleDocument) -> io::Result<()> {
     match document {
-        Document::Check {
-            history: ops,
-            order,
-        } => {
-            history(rt, ops)?;
-            println!(rt; "{:?}", order.as_slice())
-        }
-        Document::Cell(schedule) => {
+        ScheduleDocument::Cell(schedule) => {
             println!(rt; "{:?} {:?}", schedule.opening, schedule.noise)?;
             println!(rt; "{:?} {}", schedule.writes.as_slice(), schedule.reads)?;
             println!(rt; "{:?}", schedule.steps.as_slice())
         }
-        Document::Matrix { schedule, titled } => {
+        ScheduleDocument::Matrix { schedule, titled } => {
             println!(rt; "{:?}", schedule.opening)?;
             terms(rt, schedule.terms.as_slice())?;
             println!(rt; "{titled}")
         }
-        Document::Board { schedule, titled } => {
+        ScheduleDocument::Board { schedule, titled } => {
             println!(rt; "{:?} {:?}", schedule.opening, schedule.noise)?;
             terms(rt, schedule.terms.as_slice())?;
             println!(rt; "{titled}")
         }
-        Document::Race {
-            opening,
-            limit,
-            scripts,
-        } => {
-            println!(rt; "{opening:?}")?;
-            print!(rt; "{limit}")?;
-            for script in scripts.as_slice() {
-                print!(rt; " {:?}", script.as_slice())?;
-            }
-            println!(rt)
-        }
     }
+}
+
+pub fn race(rt: &impl Print, document: &RaceDocument) -> io::Result<()> {
+    println!(rt; "{:?}", document.opening)?;
+    print!(rt; "{}", document.limit)?;
+    for script in document.scripts.as_slice() {
+        print!(rt; " {:?}", script.as_slice())?;
+    }
+    println!(rt)
 }
 
 fn terms(rt: &impl Print, terms: &[MatrixTerm<Band>]) -> io::Result<()> {

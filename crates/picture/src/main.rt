@@ -1,12 +1,7 @@
 //! `picture`: draws a history with an order of it, or the report of a schedule, that comes as a document on standard input.
 #![tactic(auto)]
 
-mod fault;
-mod reply;
-mod run;
-mod scenes;
-
-use crate::run::{NO_MEMORY, run};
+use picture_answers::{PICTURE, run};
 use std::io::ErrorKind;
 use std::process::ExitCode;
 use streams::{Over, tell};
@@ -18,7 +13,7 @@ fn main(rt: HostRuntime) -> ExitCode {
         Ok(all) => all.count(),
         Err(e) => {
             if e.kind() == ErrorKind::OutOfMemory {
-                tell(&mut faults, NO_MEMORY);
+                tell(&mut faults, PICTURE.no_memory);
                 return ExitCode::from(4);
             }
             2

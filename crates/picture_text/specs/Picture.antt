@@ -12,7 +12,7 @@ use Rattle.order_witnesses.specs.declared.breaks.Break.TheVariants.{NoPlace, Tim
 use Rattle.history_core.specs.declared.history.Op.{Op}
 use Rattle.history_core.specs.declared.history.Term.{Term}
 use Rattle.stamps.specs.declared.stamp.Stamp.{Stamp}
-use Rattle.schedule_text.specs.telling.Text.{entry_at}
+use Rattle.report_text.specs.Text.{entry_at}
 use Rattle.picture_text.specs.Looks.{looks}
 use Rattle.picture_text.specs.Scales.{actors_of, far_of, scale_of, unit_in, x_of, y_of}
 use Rattle.picture_text.specs.Shapes.{bar_of, bar_text, class_of, join_text, lane_text, op_shapes, row_y, point_text, term_text, tick_text}

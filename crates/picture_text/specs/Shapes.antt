@@ -8,7 +8,7 @@ use Rattle.history_core.specs.declared.history.Kind.TheVariants.{Write, Read, Re
 use Rattle.history_core.specs.declared.history.Op.{Op}
 use Rattle.matrix_core.specs.Lines.{other}
 use Rattle.stamps.specs.declared.stamp.Stamp.{Stamp}
-use Rattle.schedule_text.specs.telling.Text.{item_text, kind_text, stamp_text}
+use Rattle.report_text.specs.Text.{item_text, kind_text, stamp_text}
 use Rattle.picture_text.specs.Scales.{far_of, x_of, y_of}
 use Rattle.picture_text.specs.declared.scale.Scale.{Scale}
 use Rattle.picture_text.specs.declared.scene.Lanes.{Lanes}

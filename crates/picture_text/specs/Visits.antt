@@ -17,7 +17,7 @@ use Rattle.history_core.specs.declared.history.Term.{Term}
 use Rattle.matrix_core.specs.Runs.{board_span}
 use Rattle.matrix_core.specs.Lines.{other}
 use Rattle.matrix_core.specs.declared.schedule.MatrixTerm.{MatrixTerm}
-use Rattle.schedule_text.specs.telling.Text.{entry_at}
+use Rattle.report_text.specs.Text.{entry_at}
 use Rattle.picture_text.specs.declared.scene.Lanes.{Lanes}
 use Rattle.picture_text.specs.declared.scene.Lanes.TheVariants.{Actors, Board}
 use Rattle.picture_text.specs.declared.scene.Visit.{Visit}

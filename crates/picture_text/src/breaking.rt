@@ -10,7 +10,7 @@ use crate::shape::points::put_join;
 use crate::shape::{Class, bar_of, put_bar};
 use history_core::{Band, Op};
 use order_witnesses::Break;
-use schedule_text::Line;
+use report_text::Line;
 use std::alloc::AllocError;
 
 /// The line that says what breaks the order, and the end of the picture.

@@ -11,7 +11,7 @@ use crate::scene::Lanes;
 use crate::shape::axis::{put_term, put_tick};
 use crate::shape::lanes::{put_lane, put_row};
 use history_core::{Band, Op, Term};
-use schedule_text::Line;
+use report_text::Line;
 use std::alloc::AllocError;
 
 #[tactic(auto, unfolding(crate::specs::Picture::frame_text), using(std::proofs::Common::append_assoc))]

@@ -2,7 +2,7 @@
 
 ghost use Rattle.std.specs.Prelude.{◌≡◌, ◌≤◌, ◌++◌, None, OnOk, slice_get};
 ghost use Rattle.std.specs.List.{flat_map};
-ghost use Rattle.schedule_text.specs.telling.Text.{entry_at};
+ghost use Rattle.report_text.specs.Text.{entry_at};
 ghost use Rattle.picture_text.specs.Picture.{join_at, joins_text, ops_text, order_shapes, point_at, points_text, row_bar, slot_bar};
 ghost use Rattle.picture_text.specs.Picture.{spot_of, visit_bar, visit_text, write_after};
 ghost use Rattle.picture_text.specs.Shapes.{op_shapes};
@@ -15,7 +15,7 @@ use crate::shape::lanes::{ROW_BAR, row_y};
 use crate::shape::points::{put_join, put_point};
 use crate::shape::{Bar, Spot, bar_of, class_of, put_bar};
 use history_core::{Band, Kind, Op};
-use schedule_text::Line;
+use report_text::Line;
 use stamps::Stamp;
 use std::alloc::AllocError;
 

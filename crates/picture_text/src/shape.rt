@@ -7,7 +7,7 @@ ghost use Rattle.picture_text.specs.Shapes.{bar_end, bar_head, bar_of, bar_sides
 use crate::places::y_of;
 use crate::scale::Scale;
 use history_core::Kind;
-use schedule_text::Line;
+use report_text::Line;
 
 pub mod axis;
 pub mod labels;

@@ -1,9 +1,16 @@
-//! The documents that `fsr` reads and the reports that it prints: `reading` leads from JSON text to values, `telling` from values to
-//! lines.
+//! Documents of schedules and races, as `fsr` reads them: from bytes to a document, a file for each kind.
 #![tactic(auto)]
 
-mod reading;
-mod telling;
+mod board;
+mod cell;
+mod document;
+mod matrix;
+mod plans;
+mod race;
+mod ranges;
+mod read;
+mod terms;
+mod turns;
 
-pub use reading::{DocError, Document, Key, Want, document_in, read_document, read_value};
-pub use telling::{Counts, Line, Report, put_item, put_number, put_stamp, report_text};
+pub use document::{RaceDocument, ScheduleDocument};
+pub use read::{race_document, read_race, read_schedule, schedule_document};

@@ -1,6 +1,7 @@
 use super::A;
 use history_core::{Items, MAX_LIMIT, Verdict};
-use schedule_text::{Counts, Line, Report, put_item, put_number, put_stamp, report_text};
+use history_text::verdict_text;
+use report_text::{Counts, Line, Report, put_item, put_number, put_stamp, report_text};
 use stamps::Stamp;
 use std::alloc::{AllocError, Global};
 use std::test::Fail;
@@ -22,7 +23,7 @@ fn puts_pieces(rt: HostRuntime) {
 }
 
 #[test]
-fn prints_verdicts(rt: HostRuntime) -> Result<(), Fail> {
+fn prints_verdicts(rt: HostRuntime) {
     for (verdict, line) in [
         (Verdict::Lawful, "lawful\n"),
         (Verdict::Listing, "unlawful listing\n"),
@@ -30,10 +31,8 @@ fn prints_verdicts(rt: HostRuntime) -> Result<(), Fail> {
         (Verdict::Reading, "unlawful reading\n"),
         (Verdict::Limit, "unlawful limit\n"),
     ] {
-        let text = report_text(rt.alloc(), &Report::Verdict(verdict))?;
-        assert_eq!(rt; text.as_slice(), line.as_bytes());
+        assert_eq!(rt; verdict_text(verdict), line);
     }
-    Ok(())
 }
 
 /// The text of a race.

@@ -6,7 +6,7 @@ ghost use Rattle.picture_text.specs.Shapes.{actor_name, cell_name, lane_head, la
 use crate::places::y_of;
 use crate::scene::Lanes;
 use crate::visits::other;
-use schedule_text::Line;
+use report_text::Line;
 
 /// The height of a row in the lane of a board's cell.
 const ROW: u64 = 14;

@@ -4,7 +4,7 @@ ghost use Rattle.std.specs.Prelude.{◌≡◌, ◌+◌, ◌≤◌, ◌++◌, len
 ghost use Rattle.picture_text.specs.Shapes.{circle_text, join_head, join_text, point_number, point_text, spot_text};
 
 use crate::shape::Spot;
-use schedule_text::Line;
+use report_text::Line;
 
 #[tactic(auto, unfolding(crate::specs::Shapes::point_text), using(std::proofs::Common::append_assoc))]
 pub fn put_point(line: &mut Line, number: usize, at: Spot)

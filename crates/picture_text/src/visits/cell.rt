@@ -3,7 +3,7 @@
 ghost use Rattle.std.specs.Prelude.{◌≡◌, ◌+◌, ◌++◌, [], IfOk, OnOk, map, nat_eq, if◌then◌else◌};
 ghost use Rattle.fourslot_core.specs.Play.{actor};
 ghost use Rattle.history_core.specs.Schedules.{positions};
-ghost use Rattle.schedule_text.specs.telling.Text.{entry_at};
+ghost use Rattle.report_text.specs.Text.{entry_at};
 ghost use Rattle.picture_text.specs.Visits.{access_visits, cell_visits, events_in, side_visits};
 
 use crate::scene::Visit;

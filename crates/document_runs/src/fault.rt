@@ -1,0 +1,72 @@
+ghost use Rattle.std.specs.Prelude.{◌≡◌};
+ghost use Rattle.document_runs.specs.Faults.{play_fault, refusal_fault};
+ghost use Rattle.document_runs.specs.declared.fault.Fault.TheVariants.{NoMemory};
+
+use history_core::{Items, PlayError};
+use history_text::DocError;
+use std::alloc::AllocError;
+use thiserror::Error;
+
+/// What goes to standard output, and the status that the program ends with.
+#[derive(Drop)]
+pub struct Answer {
+    pub text: Items<u8>,
+    pub status: u8,
+}
+
+/// Why a document has no answer.
+#[derive(Clone, Copy, Debug, PartialEq, Eq, Error)]
+pub enum Fault {
+    #[error("document: {0}")]
+    Document(DocError),
+    /// The step at this position of the schedule is of an actor that has no operation left.
+    #[error("schedule: no operation left at step {position}")]
+    Schedule { position: u64 },
+    #[error("out of memory")]
+    NoMemory,
+}
+
+impl Fault {
+    ghost use Rattle.std.specs.Prelude.{◌≡◌};
+    ghost use Rattle.document_runs.specs.Run.{fault_status};
+
+    /// The status that the program ends with.
+    pub fn status(&self) -> u8
+        ensures { result ≡ fault_status self.now }
+    {
+        match self {
+            Fault::Document(_) | Fault::Schedule { .. } => 3,
+            Fault::NoMemory => 4,
+        }
+    }
+}
+
+impl From<AllocError> for Fault {
+    ghost from_gives = { λ _ fault. fault ≡ NoMemory };
+
+    fn from(_e: AllocError) -> Fault {
+        Fault::NoMemory
+    }
+}
+
+impl From<DocError> for Fault {
+    ghost from_gives = { λ refusal fault. fault ≡ refusal_fault refusal };
+
+    fn from(refusal: DocError) -> Fault {
+        match refusal {
+            DocError::NoMemory => Fault::NoMemory,
+            _ => Fault::Document(refusal),
+        }
+    }
+}
+
+impl From<PlayError> for Fault {
+    ghost from_gives = { λ error fault. fault ≡ play_fault error };
+
+    fn from(error: PlayError) -> Fault {
+        match error {
+            PlayError::NoMemory => Fault::NoMemory,
+            PlayError::TooManySteps { position } => Fault::Schedule { position },
+        }
+    }
+}

@@ -1,0 +1,8 @@
+//! A run over one document: the input is read whole, the answer to it written, or the fault told, and the status says how it ended.
+#![tactic(auto)]
+
+mod fault;
+mod run;
+
+pub use fault::{Answer, Fault};
+pub use run::{Program, give_answer, take_document};

@@ -1,0 +1,2 @@
+pub mod LowStatus
+pub mod RaceLemmas

@@ -1,0 +1,84 @@
+//! Played schedules: the report of each, printed.
+ghost use Rattle.std.specs.Prelude.{◌≡◌, IfOk};
+ghost use Rattle.document_runs.specs.Answers.{Gives};
+ghost use Rattle.history_text.specs.Refusals.{Gives as Reads};
+ghost use Rattle.matrix_core.specs.Runs.{CanPlay};
+ghost use Rattle.schedule_text.specs.Document.{schedule_of};
+ghost use Rattle.schedule_text.specs.Players.{CanBePlayed};
+ghost use Rattle.fsr_answers.specs.Answers.{AnswersBoard, AnswersCell, AnswersMatrix, IsPlayAnswer, printed};
+
+use board_play::play_board;
+use document_runs::{Answer, Fault};
+use fourslot_core::CellSchedule;
+use fourslot_play::play_cell;
+use history_core::{Band, Items};
+use history_text::{DocError, read_value};
+use matrix_core::{BoardSchedule, MatrixSchedule};
+use matrix_play::play_matrix;
+use report_text::{Report, report_text};
+use schedule_text::{ScheduleDocument, schedule_document};
+use std::alloc::{AllocError, Global};
+use std::mem::forget;
+
+/// The answer of the command `play` to the bytes of a document: the report of its schedule.
+pub fn play(alloc: Global, bytes: &[u8]) -> Result<Answer, Fault>
+    ensures { Gives (IsPlayAnswer bytes.now) result }
+{
+    match read(alloc, bytes)? {
+        ScheduleDocument::Cell(schedule) => cell(alloc, &schedule),
+        ScheduleDocument::Matrix { schedule, titled } => matrix(alloc, &schedule, titled),
+        ScheduleDocument::Board { schedule, titled } => board(alloc, &schedule, titled),
+    }
+}
+
+/// The schedule that the bytes stand for. The JSON value that they are is left unfreed: a run reads one document and ends, and
+/// the value goes with the process.
+#[tactic(auto, unfolding(schedule_text::specs::Document::schedule_of))]
+fn read(alloc: Global, bytes: &[u8]) -> Result<ScheduleDocument, DocError>
+    ensures document { Reads (λ d. d) result (schedule_of bytes.now) }
+    ensures playable { IfOk result CanBePlayed }
+{
+    let value = read_value(alloc, bytes)?;
+    let document = schedule_document(alloc, &value);
+    forget(value);
+    document
+}
+
+/// The report of a cell's schedule.
+fn cell(alloc: Global, schedule: &CellSchedule<Band>) -> Result<Answer, Fault>
+    ensures { Gives (AnswersCell schedule.now) result }
+{
+    let report = play_cell(alloc, schedule)?;
+    let answer = print(alloc, Report::Cell(report), 0)?;
+    Ok(answer)
+}
+
+/// The report of a matrix's schedule, with the terms told where it is titled.
+fn matrix(alloc: Global, schedule: &MatrixSchedule<Band>, titled: bool) -> Result<Answer, Fault>
+    requires { CanPlay schedule.now.terms }
+    ensures { Gives (AnswersMatrix schedule.now titled) result }
+{
+    let report = play_matrix(alloc, schedule)?;
+    let answer = print(alloc, Report::Matrix { report, titled }, 0)?;
+    Ok(answer)
+}
+
+/// The report of a composed board's schedule, likewise.
+fn board(alloc: Global, schedule: &BoardSchedule<Band>, titled: bool) -> Result<Answer, Fault>
+    requires { CanPlay schedule.now.terms }
+    ensures { Gives (AnswersBoard schedule.now titled) result }
+{
+    let report = play_board(alloc, schedule)?;
+    let answer = print(alloc, Report::Board { report, titled }, 0)?;
+    Ok(answer)
+}
+
+/// The text of a report, with this status. The report, too, goes with the process: of a board each operation has a list of slots.
+pub(crate) fn print(alloc: Global, report: Report, status: u8) -> Result<Answer, AllocError>
+    ensures { IfOk result (λ answer. answer ≡ printed report status) }
+{
+    let text = report_text(alloc, &report);
+    forget(report);
+    let text = Items::new(text?);
+    Ok(Answer { text, status })
+}

@@ -1,0 +1,84 @@
+ghost use Rattle.std.specs.Prelude.{◌≡◌, ◌≢◌, None, Some, map, IfOk, IfErr};
+ghost use Rattle.clap.specs.Words.{app_of};
+ghost use Rattle.fsr_words.specs.Command.{fsr, command_of, want_named, without_race, Refuses};
+
+use clap::error::ErrorKind;
+use clap::{Command, Error};
+use std::alloc::{AllocError, Global};
+use std::convert::AsStr;
+
+/// A command of `fsr`. Each takes documents of its own kinds.
+#[derive(Clone, Copy, Debug, PartialEq, Eq)]
+pub enum Want {
+    Check,
+    Play,
+    Race,
+}
+
+/// Why words are no command.
+#[derive(Drop)]
+pub enum NoCommand {
+    /// Among them a request for help.
+    Refused(Error),
+    /// The line has a subcommand that no command stands for.
+    Unknown,
+    NoMemory,
+}
+
+/// The command line of `fsr`, but for the command `race`.
+fn line_without_race<'a>(alloc: Global) -> Result<Command<'a>, AllocError>
+    ensures { IfOk result (λ c. app_of c ≡ without_race) }
+{
+    let check = Command::new(alloc, "check").about("Checks that an order of a history is atomic");
+    let play = Command::new(alloc, "play").about("Plays a schedule and reports its history");
+    Command::new(alloc, "fsr")
+        .about("Reads a document on standard input")
+        .subcommand_required(true)
+        .subcommand(check)?
+        .subcommand(play)
+}
+
+/// The command line of `fsr`, which has this name in what clap tells, whatever the file is called.
+fn command_line<'a>(alloc: Global) -> Result<Command<'a>, AllocError>
+    ensures { IfOk result (λ c. app_of c ≡ fsr) }
+{
+    let race = Command::new(alloc, "race").about("Runs tasks over a board and checks their logs");
+    line_without_race(alloc)?.subcommand(race)?.bin_name("fsr")
+}
+
+fn want_named(name: &str) -> Option<Want>
+    ensures { result ≡ want_named name.now }
+{
+    match name {
+        "check" => Some(Want::Check),
+        "play" => Some(Want::Play),
+        "race" => Some(Want::Race),
+        _ => None,
+    }
+}
+
+/// The command that the words name. The first word is the program's name.
+pub fn command_of<'a, S: AsStr>(alloc: Global, words: &'a [S]) -> Result<Want, NoCommand>
+    ensures ok { IfOk result (λ want. command_of (map S.text words.now) ≡ Some want) }
+    ensures err { IfErr result (λ e. Refuses e (command_of (map S.text words.now))) }
+{
+    let Ok(line) = command_line(alloc) else {
+        return Err(NoCommand::NoMemory);
+    };
+    match line.try_get_matches_from(words) {
+        Ok(matches) => match matches.subcommand_name() {
+            Some(name) => match want_named(name) {
+                Some(want) => Ok(want),
+                None => Err(NoCommand::Unknown),
+            },
+            None => Err(NoCommand::Unknown),
+        },
+        Err(e) => {
+            if e.kind() == ErrorKind::OutOfMemory {
+                Err(NoCommand::NoMemory)
+            } else {
+                Err(NoCommand::Refused(e))
+            }
+        }
+    }
+}

@@ -1,0 +1,10 @@
+//! The words of `fsr`: the command that they name, as clap matches them, and what is told where they name none.
+#![tactic(auto)]
+
+mod command;
+mod refusal;
+mod words;
+
+pub use command::{NoCommand, Want, command_of};
+pub use refusal::{NO_MEMORY, tell_refusal};
+pub use words::words_of;

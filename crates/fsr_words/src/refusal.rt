@@ -1,0 +1,35 @@
+ghost use Rattle.std.specs.Prelude.{◌≡◌, ◌≤◌, ◌+◌};
+ghost use Rattle.fsr_words.specs.Command.{TellsRefusal};
+ghost use Rattle.streams.specs.Stream.{HasRoom};
+
+use crate::NoCommand;
+use std::alloc::Global;
+use streams::{Sink, tell};
+
+/// The line of a run that found no memory.
+pub const NO_MEMORY: &str = "fsr: out of memory\n";
+
+/// Tells what clap says of words that are no command, and gives the status that the run ends with.
+pub fn tell_refusal<E: Sink>(alloc: Global, refusal: NoCommand, faults: &mut E) -> u8
+    requires { HasRoom (E.failed faults.old) }
+    ensures status { TellsRefusal refusal result }
+    ensures faults { E.failed faults.new ≤ E.failed faults.old + 1 }
+{
+    match refusal {
+        NoCommand::NoMemory => {
+            tell(faults, NO_MEMORY);
+            4
+        }
+        NoCommand::Unknown => 2,
+        NoCommand::Refused(e) => match format!(in alloc; "{e}") {
+            Ok(text) => {
+                tell(faults, text.as_str());
+                2
+            }
+            Err(_) => {
+                tell(faults, NO_MEMORY);
+                4
+            }
+        },
+    }
+}

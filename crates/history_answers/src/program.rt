@@ -1,0 +1,99 @@
+ghost use Rattle.std.specs.Prelude.{◌≡◌, ◌≤◌, ◌+◌, Some, map};
+ghost use Rattle.document_runs.specs.Run.{Fails, IsToldBy, Runs};
+ghost use Rattle.fsr_words.specs.Command.{command_of};
+ghost use Rattle.history_answers.specs.Check.{IsCheckAnswer};
+ghost use Rattle.history_answers.specs.Run.{IsOutcome};
+ghost use Rattle.streams.specs.Stream.{HasRoom};
+
+use crate::verdict::check;
+use document_runs::{Program, give_answer, take_document};
+use fsr_words::{NO_MEMORY, Want, command_of, tell_refusal};
+use std::alloc::Global;
+use std::convert::AsStr;
+use streams::{Sink, Source, tell};
+
+/// The name of `fsr`, and the lines that it tells where a stream fails or memory runs out.
+pub const FSR: Program = Program {
+    name: "fsr",
+    read_failed: "fsr: read failed\n",
+    write_failed: "fsr: write failed\n",
+    no_memory: NO_MEMORY,
+};
+
+/// The line of a run that was asked for a command of the whole program.
+const NOT_HERE: &str = "fsr: this program has the command check alone\n";
+
+/// Runs `fsr`, as far as it stands on histories alone, over its words, of which the first is its name, and its streams, and gives
+/// the status that it ends with. The text goes to `out`, and what is to be told besides goes to `faults`, whose failures change no
+/// status.
+pub fn run<'a, S: AsStr, I: Source, O: Sink, E: Sink>(
+    alloc: Global,
+    words: &'a [S],
+    input: &mut I,
+    out: &mut O,
+    faults: &mut E,
+) -> u8
+    requires input { HasRoom (I.failed input.old) }
+    requires out { HasRoom (O.failed out.old) }
+    requires faults { HasRoom (E.failed faults.old) }
+    ensures runs { Runs (IsOutcome (command_of (map S.text words.now))) (I.remaining input.old)
+        (I.remaining input.new) (O.contents out.old) (O.contents out.new) result }
+    ensures fails { Fails (I.failed input.old) (I.failed input.new) (O.failed out.old)
+        (O.failed out.new) result }
+    ensures faults { E.failed faults.new ≤ E.failed faults.old + 1 }
+{
+    match command_of(alloc, words) {
+        Ok(want) => run_command(alloc, want, input, out, faults),
+        Err(refusal) => tell_refusal(alloc, refusal, faults),
+    }
+}
+
+fn run_command<I: Source, O: Sink, E: Sink>(
+    alloc: Global,
+    want: Want,
+    input: &mut I,
+    out: &mut O,
+    faults: &mut E,
+) -> u8
+    requires input { HasRoom (I.failed input.old) }
+    requires out { HasRoom (O.failed out.old) }
+    requires faults { HasRoom (E.failed faults.old) }
+    ensures runs { Runs (IsOutcome (Some want)) (I.remaining input.old) (I.remaining input.new)
+        (O.contents out.old) (O.contents out.new) result }
+    ensures fails { Fails (I.failed input.old) (I.failed input.new) (O.failed out.old)
+        (O.failed out.new) result }
+    ensures faults { E.failed faults.new ≤ E.failed faults.old + 1 }
+{
+    match want {
+        Want::Check => run_check(alloc, input, out, faults),
+        Want::Play | Want::Race => {
+            tell(faults, NOT_HERE);
+            2
+        }
+    }
+}
+
+/// The run of the command `check`.
+fn run_check<I: Source, O: Sink, E: Sink>(
+    alloc: Global,
+    input: &mut I,
+    out: &mut O,
+    faults: &mut E,
+) -> u8
+    requires input { HasRoom (I.failed input.old) }
+    requires out { HasRoom (O.failed out.old) }
+    requires faults { HasRoom (E.failed faults.old) }
+    ensures runs { Runs (IsToldBy IsCheckAnswer) (I.remaining input.old) (I.remaining input.new)
+        (O.contents out.old) (O.contents out.new) result }
+    ensures fails { Fails (I.failed input.old) (I.failed input.new) (O.failed out.old)
+        (O.failed out.new) result }
+    ensures faults { E.failed faults.new ≤ E.failed faults.old + 1 }
+{
+    match take_document(alloc, &FSR, input, faults) {
+        Ok(bytes) => {
+            let reply = check(alloc, bytes.as_slice());
+            give_answer(alloc, &FSR, reply, out, faults)
+        }
+        Err(status) => status,
+    }
+}

@@ -1,0 +1,18 @@
+-- The keys of a document (this project's own).
+use Rattle.std.specs.Prelude.{ℕ, List, codes}
+use Rattle.history_text.specs.declared.key.Key.{Key}
+use Rattle.history_text.specs.declared.key.Key.TheVariants.{Opening, Noise, Limit, Ops, Order}
+use Rattle.history_text.specs.declared.key.Key.TheVariants.{Writes, Reads, Steps, Plans, Scripts, Terms}
+
+abbrev pub name_of : Key → List ℕ
+name_of Opening = codes "opening"
+name_of Noise = codes "noise"
+name_of Limit = codes "limit"
+name_of Ops = codes "ops"
+name_of Order = codes "order"
+name_of Writes = codes "writes"
+name_of Reads = codes "reads"
+name_of Steps = codes "steps"
+name_of Plans = codes "plans"
+name_of Scripts = codes "scripts"
+name_of Terms = codes "terms"

@@ -1,0 +1,66 @@
+//! An operation of a history.
+ghost use Rattle.std.specs.Prelude.{◌≡◌, option_map};
+ghost use Rattle.serde_json.specs.View.{view};
+ghost use Rattle.history_text.specs.Shapes.{as_band, as_op, as_whole, kind_named, optional};
+
+use crate::shape::{Shape, band_in, place_in};
+use history_core::{Band, Kind, Op};
+use serde_json::Value;
+use std::alloc::{AllocError, Global};
+
+impl Shape for Op<Band> {
+    ghost shape = { as_op };
+
+    fn read(_alloc: Global, value: &Value) -> Result<Option<Op<Band>>, AllocError> {
+        Ok(op_in(value))
+    }
+}
+
+fn op_in(value: &Value) -> Option<Op<Band>>
+    ensures { result ≡ as_op (view value.now) }
+{
+    Some(Op {
+        who: place_in(value.get("who")?)?,
+        kind: kind_named(value.get("kind")?.as_str()?)?,
+        starts: value.get("begin")?.as_u64()?,
+        ends: optional_number(value.get("end"))?,
+        item: optional_band(value.get("record"))?,
+    })
+}
+
+fn kind_named(name: &str) -> Option<Kind>
+    ensures { result ≡ kind_named name.now }
+{
+    match name {
+        "write" => Some(Kind::Write),
+        "read" => Some(Kind::Read),
+        "refused" => Some(Kind::Refused),
+        _ => None,
+    }
+}
+
+/// A number that may be missing, or null.
+fn optional_number(value: Option<&Value>) -> Option<Option<u64>>
+    ensures { result ≡ optional as_whole (option_map (λ v. view v.now) value.entry) }
+{
+    match value {
+        None | Some(Value::Null) => Some(None),
+        Some(value) => match value.as_u64() {
+            Some(number) => Some(Some(number)),
+            None => None,
+        },
+    }
+}
+
+/// A record that may be missing, or null.
+fn optional_band(value: Option<&Value>) -> Option<Option<Band>>
+    ensures { result ≡ optional as_band (option_map (λ v. view v.now) value.entry) }
+{
+    match value {
+        None | Some(Value::Null) => Some(None),
+        Some(value) => match band_in(value) {
+            Some(band) => Some(Some(band)),
+            None => None,
+        },
+    }
+}

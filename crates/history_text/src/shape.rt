@@ -1,0 +1,106 @@
+//! The shape of a value, and those of numbers, records and arrays.
+ghost use Rattle.std.specs.Prelude.{◌≡◌, Option, map, option_map, IfOk};
+ghost use Rattle.serde_json.specs.Data.{Data};
+ghost use Rattle.serde_json.specs.View.{view};
+ghost use Rattle.history_text.specs.Shapes.{all_of, as_band, as_items, as_list, as_three, as_whole};
+
+use history_core::Band;
+use serde_json::Value;
+use std::alloc::{AllocError, Global};
+
+/// What can be read from one value of a document, where the value has its shape.
+pub trait Shape: Sized + Drop {
+    ghost shape: { Data → Option Self };
+
+    fn read(alloc: Global, value: &Value) -> Result<Option<Self>, AllocError>
+        ensures { IfOk result (λ found. found ≡ shape (view value.now)) };
+}
+
+impl Shape for u64 {
+    ghost shape = { as_whole };
+
+    fn read(_alloc: Global, value: &Value) -> Result<Option<u64>, AllocError> {
+        Ok(value.as_u64())
+    }
+}
+
+impl Shape for usize {
+    ghost shape = { as_whole };
+
+    fn read(_alloc: Global, value: &Value) -> Result<Option<usize>, AllocError> {
+        Ok(place_in(value))
+    }
+}
+
+impl Shape for Band {
+    ghost shape = { as_band };
+
+    fn read(_alloc: Global, value: &Value) -> Result<Option<Band>, AllocError> {
+        Ok(band_in(value))
+    }
+}
+
+pub fn place_in(value: &Value) -> Option<usize>
+    ensures { result ≡ as_whole (view value.now) }
+{
+    match value.as_u64() {
+        Some(number) => Some(number as usize),
+        None => None,
+    }
+}
+
+pub fn band_in(value: &Value) -> Option<Band>
+    ensures { result ≡ as_band (view value.now) }
+{
+    three(items_in(value)?)
+}
+
+#[tactic(auto, using(crate::proofs::ListLemmas::as_three_short, crate::proofs::ListLemmas::as_three_long))]
+fn three(items: &[Value]) -> Option<Band>
+    ensures { result ≡ as_three (map view items.now) }
+{
+    let [lo, now, hi] = items else {
+        return None;
+    };
+    Some(Band {
+        lo: lo.as_u64()?,
+        now: now.as_u64()?,
+        hi: hi.as_u64()?,
+    })
+}
+
+/// The items of an array.
+#[tactic(auto, using(crate::proofs::ListLemmas::as_items_seen))]
+pub fn items_in(value: &Value) -> Option<&[Value]>
+    ensures { option_map (λ s. map view s.now) result ≡ as_items (view value.now) }
+{
+    match value.as_array() {
+        Some(items) => Some(items.as_slice()),
+        None => None,
+    }
+}
+
+/// The values of an array, each of its shape.
+pub fn list_of<T: Shape>(alloc: Global, value: &Value) -> Result<Option<Vec<T>>, AllocError>
+    ensures { IfOk result (λ found. option_map (λ v. v.items) found
+        ≡ as_list T.shape (view value.now)) }
+{
+    match items_in(value) {
+        Some(values) => all_of(alloc, values),
+        None => Ok(None),
+    }
+}
+
+fn all_of<T: Shape>(alloc: Global, values: &[Value]) -> Result<Option<Vec<T>>, AllocError>
+    ensures { IfOk result (λ found. option_map (λ v. v.items) found
+        ≡ all_of T.shape (map view values.now)) }
+{
+    let mut found = Vec::with_capacity(alloc, values.len())?;
+    for item in values {
+        let Some(x) = T::read(alloc, item)? else {
+            return Ok(None);
+        };
+        found.push(x)?;
+    }
+    Ok(Some(found))
+}

@@ -1,4 +1,0 @@
-pub mod Answers
-pub mod Faults
-pub mod Run
-pub mod Scenes

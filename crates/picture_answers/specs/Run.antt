@@ -1,0 +1,10 @@
+-- What comes of the input of the program that draws (this project's own).
+use Rattle.std.specs.Prelude.{◌≡◌, ℕ, Bool, true, false, List}
+use Rattle.document_runs.specs.Run.{IsToldBy, nothing_asked}
+use Rattle.document_runs.specs.declared.fault.Answer.{Answer}
+use Rattle.picture_answers.specs.Answers.{IsAnswer}
+
+-- what is made of the input; where words besides the program's name were given, nothing is, with status 2
+abbrev pub IsOutcome : Bool → List ℕ → Answer → Type 0
+IsOutcome false bytes told = told ≡ nothing_asked
+IsOutcome true bytes told = IsToldBy IsAnswer bytes told

@@ -1,0 +1,134 @@
+ghost use Rattle.std.specs.Prelude.{◌≡◌, IfOk};
+ghost use Rattle.document_runs.specs.Answers.{Gives};
+ghost use Rattle.history_text.specs.Refusals.{Gives as Reads};
+ghost use Rattle.matrix_core.specs.Runs.{CanPlay};
+ghost use Rattle.picture_answers.specs.Answers.{AnswersBoard, AnswersCell, AnswersCheck, AnswersMatrix, CanBeShown, document_of, drawn};
+ghost use Rattle.picture_answers.specs.Answers.{AnswersSchedule, IsAnswer, shown_in, status_of};
+ghost use Rattle.schedule_text.specs.Players.{CanBePlayed};
+ghost use Rattle.serde_json.specs.View.{view};
+
+use crate::scenes::{board_scene, cell_scene, check_scene, matrix_scene};
+use board_play::play_board;
+use document_runs::{Answer, Fault};
+use fourslot_core::CellSchedule;
+use fourslot_play::play_cell;
+use history_core::{Band, Items};
+use history_text::{CheckDocument, DocError, check_document, read_value};
+use matrix_core::{BoardSchedule, MatrixSchedule};
+use matrix_play::play_matrix;
+use order_witnesses::Break;
+use picture_text::{Scene, picture_text};
+use schedule_text::{ScheduleDocument, schedule_document};
+use serde_json::Value;
+use std::alloc::{AllocError, Global};
+use std::mem::forget;
+
+/// What a picture is drawn of.
+#[derive(Drop)]
+pub enum Shown {
+    History(CheckDocument),
+    Schedule(ScheduleDocument),
+}
+
+/// The picture of the document that the bytes stand for.
+pub fn answer(alloc: Global, bytes: &[u8]) -> Result<Answer, Fault>
+    ensures { Gives (IsAnswer bytes.now) result }
+{
+    match read(alloc, bytes)? {
+        Shown::History(document) => check(alloc, document),
+        Shown::Schedule(document) => play(alloc, &document),
+    }
+}
+
+/// The document that the bytes stand for. The JSON value that they are is left unfreed: a run reads one document and ends, and
+/// the value goes with the process.
+#[tactic(auto, unfolding(crate::specs::Answers::document_of))]
+fn read(alloc: Global, bytes: &[u8]) -> Result<Shown, DocError>
+    ensures document { Reads (λ d. d) result (document_of bytes.now) }
+    ensures playable { IfOk result CanBeShown }
+{
+    let value = read_value(alloc, bytes)?;
+    let document = shown_in(alloc, &value);
+    forget(value);
+    document
+}
+
+fn shown_in(alloc: Global, value: &Value) -> Result<Shown, DocError>
+    ensures document { Reads (λ d. d) result (shown_in (view value.now)) }
+    ensures playable { IfOk result CanBeShown }
+{
+    match check_document(alloc, value) {
+        Ok(document) => Ok(Shown::History(document)),
+        Err(DocError::Kind) => match schedule_document(alloc, value) {
+            Ok(document) => Ok(Shown::Schedule(document)),
+            Err(refusal) => Err(refusal),
+        },
+        Err(refusal) => Err(refusal),
+    }
+}
+
+fn play(alloc: Global, document: &ScheduleDocument) -> Result<Answer, Fault>
+    requires { CanBePlayed document.now }
+    ensures { Gives (AnswersSchedule document.now) result }
+{
+    match document {
+        ScheduleDocument::Cell(schedule) => cell(alloc, schedule),
+        ScheduleDocument::Matrix { schedule, .. } => matrix(alloc, schedule),
+        ScheduleDocument::Board { schedule, .. } => board(alloc, schedule),
+    }
+}
+
+fn check(alloc: Global, document: CheckDocument) -> Result<Answer, Fault>
+    ensures { Gives (AnswersCheck document) result }
+{
+    let scene = check_scene(alloc, document.history, document.order)?;
+    let answer = draw(alloc, &scene)?;
+    Ok(answer)
+}
+
+fn cell(alloc: Global, schedule: &CellSchedule<Band>) -> Result<Answer, Fault>
+    ensures { Gives (AnswersCell schedule.now) result }
+{
+    let report = play_cell(alloc, schedule)?;
+    let scene = cell_scene(alloc, schedule, report)?;
+    let answer = draw(alloc, &scene)?;
+    Ok(answer)
+}
+
+fn matrix(alloc: Global, schedule: &MatrixSchedule<Band>) -> Result<Answer, Fault>
+    requires { CanPlay schedule.now.terms }
+    ensures { Gives (AnswersMatrix schedule.now) result }
+{
+    let report = play_matrix(alloc, schedule)?;
+    let scene = matrix_scene(alloc, report)?;
+    let answer = draw(alloc, &scene)?;
+    Ok(answer)
+}
+
+fn board(alloc: Global, schedule: &BoardSchedule<Band>) -> Result<Answer, Fault>
+    requires { CanPlay schedule.now.terms }
+    ensures { Gives (AnswersBoard schedule.now) result }
+{
+    let report = play_board(alloc, schedule)?;
+    let scene = board_scene(alloc, schedule, report)?;
+    let answer = draw(alloc, &scene)?;
+    Ok(answer)
+}
+
+/// The picture of a scene, with its status.
+fn draw(alloc: Global, scene: &Scene) -> Result<Answer, AllocError>
+    ensures { IfOk result (λ answer. answer ≡ drawn scene.now) }
+{
+    let status = status_of(scene.broken);
+    let text = Items::new(picture_text(alloc, scene)?);
+    Ok(Answer { text, status })
+}
+
+fn status_of(broken: Option<Break>) -> u8
+    ensures { result ≡ status_of broken }
+{
+    match broken {
+        Some(_) => 1,
+        None => 0,
+    }
+}

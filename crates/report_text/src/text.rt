@@ -1,0 +1,87 @@
+ghost use Rattle.std.specs.Prelude.{◌≡◌, ◌++◌, [], IfOk};
+ghost use Rattle.report_text.specs.Text.{history_lines, order_text, race_text, text_of};
+
+use crate::lines::{push_history, push_order};
+use crate::marks::Marks;
+use crate::races::{push_origin, push_tasks};
+use crate::{Counts, Report};
+use history_core::{Band, History};
+use std::alloc::{AllocError, Global};
+
+/// The greatest number of operations for which room is made before they are printed.
+const MOST_ROOM: usize = 100_000;
+
+/// The printed lines of a report. Where a played report has no entry for an operation, as no report of a player has it,
+/// a dash stands in its place.
+pub fn report_text(alloc: Global, report: &Report) -> Result<Vec<u8>, AllocError>
+    ensures { IfOk result (λ v. v.items ≡ text_of report.now) }
+{
+    match report {
+        Report::Cell(report) => {
+            played_text(
+                alloc,
+                report,
+                &report.history,
+                false,
+                report.order.as_slice(),
+            )
+        }
+        Report::Matrix { report, titled } => {
+            played_text(
+                alloc,
+                report,
+                &report.history,
+                *titled,
+                report.order.as_slice(),
+            )
+        }
+        Report::Board { report, titled } => {
+            played_text(
+                alloc,
+                report,
+                &report.history,
+                *titled,
+                report.order.as_slice(),
+            )
+        }
+        Report::Race { tasks, broken } => race_text(alloc, tasks.as_slice(), *broken),
+    }
+}
+
+/// The lines of a played report.
+fn played_text<M: Marks>(
+    alloc: Global,
+    marks: &M,
+    history: &History<Band>,
+    titled: bool,
+    order: &[usize],
+) -> Result<Vec<u8>, AllocError>
+    ensures { IfOk result (λ v. v.items ≡ history_lines (M.mark marks.now) history.now titled ++ order_text order.now) }
+{
+    let mut text = with_room(alloc, history.ops.as_slice().len(), order.len())?;
+    push_history(&mut text, marks, history, titled)?;
+    push_order(&mut text, order)?;
+    Ok(text)
+}
+
+/// A line for each task of a race, and that of its origins.
+fn race_text(
+    alloc: Global,
+    tasks: &[Counts],
+    broken: Option<(usize, usize)>,
+) -> Result<Vec<u8>, AllocError>
+    ensures { IfOk result (λ v. v.items ≡ race_text tasks.now broken) }
+{
+    let mut text = Vec::with_capacity(alloc, 64 * tasks.len().min(MOST_ROOM))?;
+    push_tasks(&mut text, tasks)?;
+    push_origin(&mut text, broken)?;
+    Ok(text)
+}
+
+/// No text yet, with room for the lines of most reports of this size.
+fn with_room(alloc: Global, operations: usize, listed: usize) -> Result<Vec<u8>, AllocError>
+    ensures { IfOk result (λ v. v.items ≡ []) }
+{
+    let lines = 64 * operations.min(MOST_ROOM);
+    Vec::with_capacity(alloc, lines + 6 * listed.min(MOST_ROOM))
+}

@@ -1,0 +1,30 @@
+-- Documents of kind `cell`: a schedule of a four-slot register (this project's own).
+use Rattle.std.specs.Prelude.{◌+◌, [], ◌∷◌, length, Result, Ok}
+use Rattle.std.specs.List.{list_all}
+use Rattle.serde_json.specs.Data.{Data}
+use Rattle.history_core.specs.Band.{fits}
+use Rattle.schedule_text.specs.declared.document.ScheduleDocument.{ScheduleDocument}
+use Rattle.schedule_text.specs.declared.document.ScheduleDocument.TheVariants as document
+use Rattle.history_text.specs.declared.document.DocError.{DocError}
+use Rattle.history_text.specs.declared.document.DocError.TheVariants.{Range, Law}
+use Rattle.history_text.specs.declared.key.Key.TheVariants.{Opening, Noise, Writes, Reads, Steps}
+use Rattle.history_text.specs.Ranges.{count_in_range}
+use Rattle.schedule_text.specs.Ranges.{steps_in_range}
+use Rattle.history_text.specs.Refusals.{◌>>=◌, field, must, required}
+use Rattle.history_text.specs.Shapes.{as_whole, as_band, as_list}
+use Rattle.schedule_text.specs.Shapes.{as_turns}
+
+unfoldable pub cell_in : Data → Result ScheduleDocument DocError
+cell_in d = do
+  all_there ← required (Opening ∷ Noise ∷ Writes ∷ Reads ∷ Steps ∷ []) d
+  opening ← field Opening as_band d
+  noise ← field Noise as_band d
+  writes ← field Writes (as_list as_band) d
+  reads ← field Reads as_whole d
+  steps ← field Steps as_turns d
+  writes_ok ← must (count_in_range (length writes)) (Range Writes)
+  reads_ok ← must (count_in_range (length writes + reads)) (Range Reads)
+  steps_ok ← must (steps_in_range (length steps)) (Range Steps)
+  opening_fits ← must (fits opening) (Law Opening)
+  writes_fit ← must (list_all fits writes) (Law Writes)
+  Ok (document.Cell (record { opening = opening; noise = noise; steps = steps; writes = writes; reads = reads }))

@@ -1,0 +1,34 @@
+-- The schedule or the race that bytes stand for, or the first refusal with its first key (this project's own).
+use Rattle.std.specs.Prelude.{ℕ, List, codes, if◌then◌else◌, Result, Err}
+use Rattle.serde_json.specs.Data.{Data}
+use Rattle.history_text.specs.Document.{is_kind, value_of}
+use Rattle.history_text.specs.Refusals.{◌>>=◌}
+use Rattle.history_text.specs.declared.document.DocError.{DocError}
+use Rattle.history_text.specs.declared.document.DocError.TheVariants.{Kind}
+use Rattle.schedule_text.specs.Board.{board_in}
+use Rattle.schedule_text.specs.Cell.{cell_in}
+use Rattle.schedule_text.specs.Matrix.{matrix_in}
+use Rattle.schedule_text.specs.Race.{race_in}
+use Rattle.schedule_text.specs.declared.document.RaceDocument.{RaceDocument}
+use Rattle.schedule_text.specs.declared.document.ScheduleDocument.{ScheduleDocument}
+
+-- a document of one of the kinds of schedules
+abbrev pub schedule_document : Data → Result ScheduleDocument DocError
+schedule_document d =
+    if is_kind (codes "cell") d then cell_in d
+    else (if is_kind (codes "matrix") d then matrix_in d
+    else (if is_kind (codes "board") d then board_in d
+    else Err Kind))
+
+abbrev pub race_document : Data → Result RaceDocument DocError
+race_document d = if is_kind (codes "race") d then race_in d else Err Kind
+
+unfoldable pub schedule_of : List ℕ → Result ScheduleDocument DocError
+schedule_of bytes = do
+  d ← value_of bytes
+  schedule_document d
+
+unfoldable pub race_of : List ℕ → Result RaceDocument DocError
+race_of bytes = do
+  d ← value_of bytes
+  race_document d

@@ -1,0 +1,25 @@
+-- Documents of kind `race`: a script for each of several tasks that share one board (this project's own).
+use Rattle.std.specs.Prelude.{[], ◌∷◌, Result, Ok}
+use Rattle.serde_json.specs.Data.{Data}
+use Rattle.history_core.specs.Band.{fits}
+use Rattle.schedule_text.specs.declared.document.RaceDocument.{RaceDocument}
+use Rattle.history_text.specs.declared.document.DocError.{DocError}
+use Rattle.history_text.specs.declared.document.DocError.TheVariants.{Range, Law}
+use Rattle.history_text.specs.declared.key.Key.TheVariants.{Opening, Limit, Scripts}
+use Rattle.schedule_text.specs.Plans.{plans_fit, plans_in_range}
+use Rattle.history_text.specs.Ranges.{limit_in_range}
+use Rattle.history_text.specs.Refusals.{◌>>=◌, field, must, required}
+use Rattle.history_text.specs.Shapes.{as_whole, as_band, as_list, as_plan}
+
+-- a script is a plan by another name
+unfoldable pub race_in : Data → Result RaceDocument DocError
+race_in d = do
+  all_there ← required (Opening ∷ Limit ∷ Scripts ∷ []) d
+  opening ← field Opening as_band d
+  limit ← field Limit as_whole d
+  scripts ← field Scripts (as_list as_plan) d
+  limit_ok ← must (limit_in_range limit) (Range Limit)
+  scripts_ok ← must (plans_in_range scripts) (Range Scripts)
+  opening_fits ← must (fits opening) (Law Opening)
+  writes_fit ← must (plans_fit scripts) (Law Scripts)
+  Ok (record { opening = opening; limit = limit; scripts = scripts })

@@ -1,0 +1,36 @@
+//! Documents of kind `race`.
+ghost use Rattle.std.specs.Prelude.{◌≡◌, IfOk};
+ghost use Rattle.serde_json.specs.View.{view};
+ghost use Rattle.schedule_text.specs.Players.{CanRace};
+ghost use Rattle.schedule_text.specs.Race.{race_in};
+ghost use Rattle.history_text.specs.Refusals.{Gives};
+
+use crate::RaceDocument;
+use crate::plans::{plans_fit, plans_in_range};
+use history_core::{Band, Items, Wish};
+use history_text::{DocError, Key, field, limit_in_range, list_field, must, required};
+use serde_json::Value;
+use std::alloc::Global;
+
+#[tactic(auto, unfolding(crate::specs::Race::race_in))]
+pub fn race_in(alloc: Global, value: &Value) -> Result<RaceDocument, DocError>
+    ensures document { Gives (λ d. d) result (race_in (view value.now)) }
+    ensures playable { IfOk result (λ d. CanRace d.opening d.limit d.scripts) }
+{
+    required(value, &[Key::Opening, Key::Limit, Key::Scripts])?;
+    let opening: Band = field(alloc, value, Key::Opening)?;
+    let limit: u64 = field(alloc, value, Key::Limit)?;
+    let scripts: Vec<Items<Wish<Band>>> = list_field(alloc, value, Key::Scripts)?;
+    must(limit_in_range(limit), DocError::Range(Key::Limit))?;
+    must(
+        plans_in_range(scripts.as_slice()),
+        DocError::Range(Key::Scripts),
+    )?;
+    must(opening.fits(), DocError::Law(Key::Opening))?;
+    must(plans_fit(scripts.as_slice()), DocError::Law(Key::Scripts))?;
+    Ok(RaceDocument {
+        opening,
+        limit,
+        scripts: Items::new(scripts),
+    })
+}
