@@ -1,5 +1,5 @@
 # Words that are no command: those that are not UTF-8 have a line of their own, and a standard error that takes nothing leaves
-# the status at 2.
+# the status at 2. What clap tells of a command. The runs of `picture` outside its text, which are told as those of `fsr`.
 
 # Runs `fsr` with these words. Standard error goes to the file named first.
 refuses_words() {
@@ -30,4 +30,59 @@ if [ -c /dev/full ]; then
     refuses_words /dev/full "$title" "$(printf '\377')" && pass "$title"
     title="words that are no command, with a full standard error"
     refuses_words /dev/full "$title" checks && pass "$title"
+fi
+
+# Sees that `fsr` tells this first line of a command, and how it is used, whatever program answers it.
+#   helps PROGRAM COMMAND LINE
+helps() {
+    title="$1 $2 --help"
+    if ! has_program "$1"; then
+        fail "$title" "$1 wasn't built"
+        return
+    fi
+    "crates/$1/out/$1" "$2" --help </dev/null >"$room/out" 2>"$room/err"
+    status=$?
+    if [ "$status" != 2 ] || [ -s "$room/out" ]; then
+        fail "$title" "it ended with status $status and not 2, or something stands on standard output"
+    elif [ "$(head -n 1 "$room/err")" != "$3" ] || ! grep -qx "Usage: fsr $2" "$room/err"; then
+        fail "$title" "$(head -c 200 "$room/err")"
+    else
+        pass "$title"
+    fi
+}
+
+for program in fsr fsr_check; do
+    helps "$program" check "Checks that an order of a history is atomic"
+    helps "$program" play "Plays a schedule and reports its history"
+    helps "$program" race "Runs tasks over a board and checks their logs"
+done
+
+# Sees how `picture` ends with these words: the status, and the line on standard error.
+#   ends_picture TITLE INPUT OUTPUT STATUS LINE WORDS..
+ends_picture() {
+    title=$1 input=$2 output=$3 wanted_status=$4 line=$5
+    shift 5
+    if ! has_program picture; then
+        fail "$title" "picture wasn't built"
+        return
+    fi
+    : >"$room/out"
+    crates/picture/out/picture "$@" <"$input" >"$output" 2>"$room/err"
+    status=$?
+    if [ "$status" = "$wanted_status" ] && [ "$(cat "$room/err")" = "$line" ] && [ ! -s "$room/out" ]; then
+        pass "$title"
+    else
+        fail "$title" "it ended with status $status and not $wanted_status: $(head -c 200 "$room/out" "$room/err")"
+    fi
+}
+
+no_words="picture: takes no words: ./picture < DOCUMENT > FILE.svg"
+ends_picture "picture with a word" examples/lawful.json "$room/out" 2 "$no_words" examples/lawful.json
+ends_picture "picture with --help" examples/lawful.json "$room/out" 2 "$no_words" --help
+ends_picture "picture with a word that isn't UTF-8" examples/lawful.json "$room/out" 2 "$no_words" "$(printf '\377')"
+ends_picture "picture < a folder" examples "$room/out" 5 "picture: read failed"
+printf '{"kind":"check\377"}' >"$room/not_utf8"
+ends_picture "picture < a byte that isn't UTF-8" "$room/not_utf8" "$room/out" 3 "picture: document: not JSON"
+if [ -c /dev/full ]; then
+    ends_picture "picture into a full output" examples/lawful.json /dev/full 5 "picture: write failed"
 fi
