@@ -12,4 +12,6 @@ mod matrices;
 #[cfg(test)]
 mod schedules;
 #[cfg(test)]
+mod searches;
+#[cfg(test)]
 mod sinks;

@@ -1,0 +1,4 @@
+-- What the contracts speak of.
+pub mod Reasons
+pub mod Searches
+pub mod inner

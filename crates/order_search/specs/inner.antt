@@ -1,0 +1,4 @@
+pub mod Groups
+pub mod Ranks
+pub mod Limits
+pub mod Found
