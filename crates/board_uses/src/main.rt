@@ -7,11 +7,15 @@ ghost use Rattle.board_live.specs.Deals.{AllPasses};
 ghost use Rattle.board_live.specs.Receipts.{IsReceipt};
 ghost use Rattle.stamps.specs.Choices.{IsAtMost};
 
-use board_live::{Board, BoardError, Clocked, Pass, Receipt, RecordLaw, TagsEnded};
+use board_live::{Board, BoardError, Clocked, Pass, Posted, Receipt, RecordLaw, TagsEnded};
 use cell_live::FourSlotCell;
 use stamps::Stamp;
-use std::alloc::Global;
+use std::alloc::{AllocError, Global};
 use std::io;
+
+mod receipts;
+
+use receipts::ends_in_order;
 
 /// What the tasks share.
 #[derive(Clone, Copy, Debug, PartialEq, Eq)]
@@ -200,10 +204,38 @@ fn two_boards(alloc: Global) -> Result<Option<[u64; 2]>, BoardError> {
     Ok(Some([first, second]))
 }
 
+/// The last record of a board of two processes, of which one has written, told and ended; none where its tags have ended.
+fn last_of_two(alloc: Global) -> Result<Option<Posted<Control>>, AllocError> {
+    let opening = Control {
+        low: 0,
+        reading: 0,
+        high: 0,
+    };
+    let Ok((board, mut passes)) = Board::<Control, Cells>::new(alloc, 2, 9, opening) else {
+        return Err(AllocError);
+    };
+    let Some(reader) = passes.pop() else {
+        return Err(AllocError);
+    };
+    let Some(writer) = passes.pop() else {
+        return Err(AllocError);
+    };
+    let item = Control {
+        low: 10,
+        reading: 15,
+        high: 20,
+    };
+    ends_in_order(alloc, board, writer, reader, item)
+}
+
 fn main(rt: HostRuntime) -> io::Result<()> {
     let Ok(Some(steered)) = two_boards(rt.alloc()) else {
         return println!(rt; "the first board didn't end as it should, or there was no memory");
     };
     let [first, second] = steered;
-    println!(rt; "steering by {first}, and by {second} on the next board")
+    println!(rt; "steering by {first}, and by {second} on the next board")?;
+    let Ok(Some(last)) = last_of_two(rt.alloc()) else {
+        return println!(rt; "the board of two didn't end as it should, or there was no memory");
+    };
+    println!(rt; "a board of two ends with {}", last.item.reading)
 }

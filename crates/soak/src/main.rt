@@ -2,16 +2,11 @@
 //! it, and `planted` looks for a planted bug. A run ends with status 1 at the first torn, older or foreign record.
 #![tactic(auto)]
 
-mod boards;
-mod finding;
-mod pair;
-mod planted;
-mod record;
-
 use board_live::Clocked;
 use cell_live::{Cell, FourSlotCell, TripleCell};
-use finding::{Finding, Tally, status};
-use record::{Record, Shared};
+use soak_rounds::finding::{Finding, Tally, status};
+use soak_rounds::record::{Record, Shared};
+use soak_rounds::{boards, pair, planted};
 use std::alloc::Global;
 use std::io;
 use std::process::ExitCode;
@@ -170,13 +165,17 @@ fn since(rt: &impl Clock, start: Instant) -> u64 {
 
 /// Prints the count of one soak. A pair of a writer and a reader has one task that reads.
 fn say(rt: &impl Print, name: &str, bytes: u64, tasks: usize, tally: Tally) -> io::Result<()> {
-    let reads = tally.reads;
-    match tally.found {
+    let Tally {
+        writes,
+        reads,
+        found,
+    } = tally;
+    match found {
         None => println!(rt;
-            "{name}, {bytes} bytes, {tasks} that read: {reads} reads, nothing found"
+            "{name}, {bytes} bytes, {tasks} that read: {writes} writes, {reads} reads, nothing found"
         ),
         Some(finding) => println!(rt;
-            "{name}, {bytes} bytes, {tasks} that read: {reads} reads, and {finding}"
+            "{name}, {bytes} bytes, {tasks} that read: {writes} writes, {reads} reads, and {finding}"
         ),
     }
 }

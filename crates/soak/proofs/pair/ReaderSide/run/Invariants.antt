@@ -1,5 +1,0 @@
--- Each call leaves the pass one of this cell.
-use Rattle.soak.proofs.pair.ReaderSide.run.Given as goal
-
-abbrev pub invariant-loop : goal.invariant-loop
-invariant-loop g l = g.C.Calls.is_get l.self.cell.now l.self.get

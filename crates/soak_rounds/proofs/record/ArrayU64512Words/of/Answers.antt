@@ -1,0 +1,7 @@
+-- All words are the number.
+use Rattle.std.proofs.Common.{arith}
+use Rattle.soak_rounds.proofs.Wholes.{whole}
+use Rattle.soak_rounds.proofs.record.ArrayU64512Words.of.Goals as goal
+
+pub returns : goal.returns
+returns c = whole 512 c.args.number (omega arith)

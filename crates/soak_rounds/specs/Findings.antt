@@ -1,0 +1,61 @@
+-- What a soak may find (this project's own).
+use Rattle.std.specs.Prelude.{◌≡◌, ℕ, ◌+◌, ◌<◌, List, length, All, Option, Some, None, Result, Ok, Err, nat_lt, if◌then◌else◌, min}
+use Rattle.std.specs.Option.{option_or}
+use Rattle.soak_rounds.specs.declared.finding.Finding.{Finding}
+use Rattle.soak_rounds.specs.declared.finding.Finding.TheVariants.{Torn, Older, Foreign}
+use Rattle.soak_rounds.specs.declared.finding.Tally.{Tally}
+
+-- the words of a whole record of the write with this number: there are some, and each is the number
+pub record IsWhole (words : List ℕ) (number : ℕ) : Type 0 where
+  pub some : 0 < length words
+  pub each : All (λ word. word ≡ number) words
+
+-- the write that words are of; none where they are of no one write
+abbrev pub AreOf : List ℕ → Option ℕ → Type 0
+AreOf words (Some number) = IsWhole words number
+AreOf words None = (number : ℕ) → IsWhole words number → ⊥
+
+-- what is wrong with a record that was read after one of the write `last`. Of a torn record no write is known
+abbrev pub wrong_read : ℕ → Option ℕ → Option Finding
+wrong_read last None = Some Torn
+wrong_read last (Some number) = if nat_lt number last then Some Older else None
+
+-- the last write of which a record was read
+abbrev pub last_read : ℕ → Option ℕ → ℕ
+last_read last None = last
+last_read last (Some number) = number
+
+-- what is wrong with the last record that was read in a round: it is foreign where no write has its number yet
+abbrev pub wrong_end : ℕ → ℕ → Option Finding
+wrong_end written read = if nat_lt written read then Some Foreign else None
+
+-- a count that stands still at its end
+abbrev pub counted : ℕ → ℕ → ℕ
+counted a b = min (a + b) 18446744073709551615
+
+-- ---- what is counted
+
+abbrev pub no_tally : Tally
+no_tally = record { writes = 0; reads = 0; found = None }
+
+-- one more write
+abbrev pub with_write : Tally → Tally
+with_write t = record { writes = counted t.writes 1; reads = t.reads; found = t.found }
+
+-- one more read, of a record of this write, after one of the write `last`. What was found first stays
+abbrev pub with_read : Tally → ℕ → Option ℕ → Tally
+with_read t last number = record { writes = t.writes; reads = counted t.reads 1; found = option_or t.found (wrong_read last number) }
+
+-- what another counted after this
+abbrev pub with_tally : Tally → Tally → Tally
+with_tally t u = record { writes = counted t.writes u.writes; reads = counted t.reads u.reads; found = option_or t.found u.found }
+
+-- the end of a round that wrote and read up to these numbers
+abbrev pub with_end : Tally → ℕ → ℕ → Tally
+with_end t written read = record { writes = t.writes; reads = t.reads; found = option_or t.found (wrong_end written read) }
+
+-- the exit status of a soak that ended so
+abbrev pub status_of : {E : Type 0} → Result (Option Finding) E → ℕ
+status_of (Ok None) = 0
+status_of (Ok (Some found)) = 1
+status_of (Err error) = 2
