@@ -17,7 +17,7 @@ use atomic_table::TableRule;
 use notes::FourSlotSight;
 use table::{FourSlotSeat, FourSlotTable};
 
-mod bits;
+pub(crate) mod bits;
 mod calls;
 pub(crate) mod notes;
 mod plays;

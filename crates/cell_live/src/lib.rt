@@ -19,6 +19,8 @@ mod times;
 mod triple;
 
 pub use cell::{Calls, Cell, Kept, Lawful};
+pub use four_slot::bits::{bit_of, other_bit, set_bit, slot_of, word_of};
+pub use four_slot::notes::FourSlotSight;
 pub use four_slot::{FourSlotCell, FourSlotGet, FourSlotPut, FourSlotTold};
 pub use lays::Lays;
 pub use triple::{TripleCell, TripleGet, TriplePut, TripleTold};

@@ -7,7 +7,8 @@ use lib.ListN.{get_elem?}
 use lib.Seq.{set-get_or}
 use Rattle.atomic_table.specs.Table.{State, Me, step, Act, keeps, takes, gives, rest, stepped, carried_after, homes_after, Allows, Valid, Splits, Joins}
 use Rattle.atomic_table.specs.Table.{opening, Final, Seen}
-use Rattle.atomic_table.proofs.Lists.{at_set, at_snoc}
+use Rattle.atomic_table.proofs.Lists.{at_set, at_snoc, set_again, set_else}
+use Rattle.std.proofs.lemmas.Bool.{cases_eq}
 use Rattle.std.specs.declared.snapshot.Snapshot.{Snapshot}
 use Rattle.fourslot_core.specs.declared.state.Sides.{Sides}
 use Rattle.fourslot_core.specs.declared.state.Slot.{Slot}
@@ -123,7 +124,7 @@ module _ {T : Type 0} (fits : T → Type 0) (rises : T → T → Type 0) (o : T)
   abbrev Rule : St → Type 0
   Rule = FourSlotRule fits rises o
 
-  abbrev shown_number : {s : St} → Rule s → ℕ
+  abbrev pub shown_number : {s : St} → Rule s → ℕ
   shown_number r = number_in r.put.slots (latest_slot r.core)
 
   -- the rule, up to a time
@@ -892,3 +893,46 @@ module _ {T : Type 0} (fits : T → Type 0) (rises : T → T → Type 0) (o : T)
 
   pub starts : fits o → Rule (opening (0 ∷ 0 ∷ 0 ∷ 0 ∷ []) (o ∷ o ∷ o ∷ o ∷ []) (first_sight o))
   starts f = (starts_at f).0
+
+  -- for a family, in which a cell's rule holds up to a time that goes on: other views, each of which sees what the rule says
+  pub reseated_at : (t : ℕ) (s : St) (r : RuleAt t s) (w g : ℕ) (vs : List V) →
+      ((j : ℕ) (v : V) → get_elem? vs j ≡ some v → Sees o r.0.put r.0.get (shown_number r.0) r.0.now w g j v) →
+      RuleAt t (record { words = s.words; homes = s.homes; views = vs })
+  unfolding reseated
+  reseated_at t s r w g vs seats = (reseated s r.0 w g vs seats, r.1)
+
+  -- a receipt is told
+  pub tells_at : (t : ℕ) (s : St) (r : RuleAt t s) (id : ℕ) (p : WriterNotes T) → p.stage ≡ writer.W5 → get_elem? s.views id ≡ some (Writer p) →
+      RuleAt t (record { words = s.words; homes = s.homes; views = s.views ++ receipt_for (Writer p) ∷ [] })
+  unfolding tells reseated
+  tells_at t s r id p idle at = subst (λ (vs : List V). RuleAt t (record { words = s.words; homes = s.homes; views = vs ++ receipt_for (Writer p) ∷ [] }))
+      (set_again s.views id (Writer p) at) (tells id p idle s r.0 at, r.1)
+
+  -- a receipt is heard, and its seat keeps it
+  pub hears_at : (t : ℕ) (s : St) (r : RuleAt t s) (id other : ℕ) (g : ReaderNotes T) (x : Snapshot (Dated T)) → g.stage ≡ reader.R5 →
+      get_elem? s.views id ≡ some (Reader g) → get_elem? s.views other ≡ some (Told x) → id ≢ other →
+      RuleAt t (record { words = s.words; homes = s.homes; views = set s.views id (hears_of (Reader g) (Told x)) })
+  unfolding hears reseated
+  hears_at t s r id other g x idle at there ne =
+      let h : V = hears_of (Reader g) (Told x) in
+      let vs : List V = set s.views id h in
+      let same : get_elem? vs other ≡ some (Told x) = set_else s.views id other h (λ e. ne (sym e)) ∙ there in
+      let next : Rule (record { words = s.words; homes = s.homes; views = set vs other Spent }) =
+      hears id other g x idle s r.0 at (λ e. ne (sym e)) same in (
+        reseated (record { words = s.words; homes = s.homes; views = set vs other Spent }) next next.writer next.reader vs
+            (λ j v e. ⊎_elim
+            (λ (b : j ≡ other).
+            let is : Told x ≡ v = some-injective (Told x) v (sym same ∙ (ap (get_elem? vs) (sym b) ∙ e)) in
+            subst (Sees o next.put next.get (shown_number next) next.now next.writer next.reader j) is (r.0.each_seat other (Told x) there))
+            (λ (b : j ≢ other). next.each_seat j v (set_else vs other j Spent b ∙ e))
+            (cases_eq j other)),
+        r.1,
+      )
+
+  -- the start, with any views
+  pub parted_at : fits o → (w g : ℕ) (vs : List V) →
+      ((j : ℕ) (v : V) → get_elem? vs j ≡ some v → Sees o (first_writer o) (first_reader o) 0 0 w g j v) →
+      RuleAt 0 (record { words = 0 ∷ 0 ∷ 0 ∷ 0 ∷ []; homes = some o ∷ some o ∷ some o ∷ some o ∷ []; views = vs })
+  unfolding starts_at reseated
+  parted_at f w g vs seats =
+      reseated_at 0 (opening (0 ∷ 0 ∷ 0 ∷ 0 ∷ []) (o ∷ o ∷ o ∷ o ∷ []) (first_sight o)) (starts_at f) w g vs seats

@@ -6,7 +6,7 @@ ghost use Rattle.cell_live.specs.four_slot.Steps.{bit_words};
 
 /// The other bit.
 #[inline]
-pub(super) fn other_bit(bit: u64) -> u64
+pub fn other_bit(bit: u64) -> u64
     ensures { (b : Bool) → bit ≡ bit_number b → result ≡ bit_number (not b) }
 {
     bit ^ 1
@@ -14,7 +14,7 @@ pub(super) fn other_bit(bit: u64) -> u64
 
 /// The bit of a pair.
 #[inline]
-pub(super) fn bit_of(bits: &[u64; 2], pair: u64) -> u64
+pub fn bit_of(bits: &[u64; 2], pair: u64) -> u64
     requires { (s : Sides Bool) × (p : Bool) × (bit_words s ≡ bits.now) × (pair ≡ bit_number p) }
     ensures { (s : Sides Bool) (p : Bool) → bit_words s ≡ bits.now → pair ≡ bit_number p → result ≡ bit_number (side s p) }
 {
@@ -22,7 +22,7 @@ pub(super) fn bit_of(bits: &[u64; 2], pair: u64) -> u64
 }
 
 #[inline]
-pub(super) fn set_bit(bits: &mut [u64; 2], pair: u64, index: u64)
+pub fn set_bit(bits: &mut [u64; 2], pair: u64, index: u64)
     requires { (s : Sides Bool) × (p : Bool) × (bit_words s ≡ bits.old) × (pair ≡ bit_number p) }
     ensures { (s : Sides Bool) (p i : Bool) → bit_words s ≡ bits.old → pair ≡ bit_number p → index ≡ bit_number i →
         bit_words (with_side s p i) ≡ bits.new }
@@ -32,7 +32,7 @@ pub(super) fn set_bit(bits: &mut [u64; 2], pair: u64, index: u64)
 
 /// The number of a slot.
 #[inline]
-pub(super) fn slot_of(pair: u64, index: u64) -> usize
+pub fn slot_of(pair: u64, index: u64) -> usize
     requires { (p : Bool) × (i : Bool) × (pair ≡ bit_number p) × (index ≡ bit_number i) }
     ensures { (p i : Bool) → pair ≡ bit_number p → index ≡ bit_number i → result ≡ slot_number (slot_with p i) }
 {
@@ -41,7 +41,7 @@ pub(super) fn slot_of(pair: u64, index: u64) -> usize
 
 /// The place of the word of a pair's bit.
 #[inline]
-pub(super) fn word_of(pair: u64) -> usize
+pub fn word_of(pair: u64) -> usize
     requires { (p : Bool) × (pair ≡ bit_number p) }
     ensures { (p : Bool) → pair ≡ bit_number p → result ≡ 2 + bit_number p }
 {

@@ -1,0 +1,15 @@
+pub mod Acts
+pub mod Calls
+pub mod Cells
+pub mod Ends
+pub mod FourSlots
+pub mod Held
+pub mod Places
+pub mod Receipts
+pub mod Rests
+pub mod Seats
+pub mod Slices
+pub mod Starts
+pub mod Steps
+pub mod Told
+pub mod Totals

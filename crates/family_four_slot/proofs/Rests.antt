@@ -1,0 +1,168 @@
+-- Between two calls: a call on one cell leaves what the process knows of each other cell, and the slots that its seat has of them.
+use Rattle.std.proofs.Common.{◌≡◌, ◌≢◌, ◌⊎◌, ℕ, zero, suc, ◌+◌, ◌*◌, ◌-◌, ◌<◌, ◌≤◌, List, [], ◌∷◌, ◌++◌, map, length, set, get_or, refl, sym, ap, ◌∙◌, subst, arith, ⊎_elim, inl, inr}
+use Rattle.std.proofs.lemmas.Bool.{cases_eq}
+use Rattle.std.specs.Prelude.{Option, None, Some}
+use Rattle.fourslot_core.specs.declared.state.Slot.{Slot}
+use Rattle.fourslot_core.specs.declared.state.Stage.TheVariants as writer
+use Rattle.fourslot_core.specs.declared.state.ReaderStage.TheVariants as reader
+use Rattle.fourslot_core.specs.Events.{slot_number}
+use Rattle.cell_live.specs.Running.{last_or, held_slots}
+use Rattle.cell_live.specs.Sights.{writer_or, reader_or}
+use Rattle.cell_live.specs.declared.four_slot.notes.WriterNotes.{WriterNotes}
+use Rattle.cell_live.specs.declared.four_slot.notes.ReaderNotes.{ReaderNotes}
+use Rattle.cell_live.specs.declared.sight.Sight.TheVariants.{Spent, Writer, Reader}
+use Rattle.cell_live.specs.four_slot.Steps.{FourSlotSight, first_writer, first_reader, bit_words, slot_of_choice}
+use Rattle.cell_live.proofs.four_slots.Slots.{slot_low}
+use Rattle.family_four_slot.specs.declared.notes.Process.{Process}
+use Rattle.family_four_slot.specs.Layouts.{shift}
+use Rattle.family_four_slot.specs.Places.{place, slot_at, four_slots}
+use Rattle.family_four_slot.specs.Family.{of_cell, knows}
+use Rattle.family_four_slot.specs.FourSlots.{Idle}
+use Rattle.family_four_slot.specs.Words.{IsAtRest, IsRow, IsColumn, HasSlots}
+use Rattle.family_four_slot.proofs.Places.{place_in, place_apart, is_layout}
+use Rattle.family_four_slot.proofs.Slices.{get_set_here, get_set_else, set_long}
+
+-- one cell's notes change, and nothing else of what is known of cells
+pub record IsChanged {V : Type 0} (blank : V) (v u : Process V) (k : ℕ) (w : V) : Type 0 where
+  pub who : u.who ≡ v.who
+  pub long : length u.parts ≡ length v.parts
+  pub here : of_cell blank k u.parts ≡ w
+  pub others : (j : ℕ) → j ≢ k → of_cell blank j u.parts ≡ of_cell blank j v.parts
+
+module _ {V : Type 0} (blank : V) where
+  pub changed : (v : Process V) (k t : ℕ) (w : V) (held : List ℕ) → k < length v.parts → IsChanged blank v (knows blank v k w t held) k w
+  changed v k t w held l = record {
+    who = refl;
+    long = set_long v.parts k w;
+    here = get_set_here v.parts k w blank l;
+    others = λ j ne. get_set_else v.parts k j w blank ne;
+  }
+
+  pub changed_again : (v u : Process V) (k t : ℕ) (x w : V) (held : List ℕ) → k < length v.parts → IsChanged blank v u k x →
+      IsChanged blank v (knows blank u k w t held) k w
+  changed_again v u k t x w held l c =
+      let long : length u.parts ≡ length v.parts = c.long in record {
+        who = c.who;
+        long = set_long u.parts k w ∙ c.long;
+        here = get_set_here u.parts k w blank (omega arith);
+        others = λ j ne. get_set_else u.parts k j w blank ne ∙ c.others j ne;
+      }
+
+-- of two elements of a list, one is taken away
+module _ {A : Type 0} where
+  pub split_less : (xs ys zs ws : List A) (x y : A) → x ≢ y → xs ++ x ∷ ys ≡ zs ++ y ∷ ws →
+      (fs : List A) × (bs : List A) × (zs ++ ws ≡ fs ++ x ∷ bs)
+  split_less [] ys [] ws x y ne e = absurd (ne (heads x y ys ws e)) where
+    head_or : A → List A → A
+    head_or d [] = d
+    head_or d (a ∷ fs) = a
+
+    heads : (a b : A) (fs bs : List A) → a ∷ fs ≡ b ∷ bs → a ≡ b
+    heads a b fs bs h = ap (head_or a) h
+  split_less [] ys (z ∷ zs) ws x y ne e = ([], zs ++ ws, (λ i. head_of x (sym e i) ∷ (zs ++ ws))) where
+    head_of : A → List A → A
+    head_of d [] = d
+    head_of d (a ∷ fs) = a
+  split_less (a ∷ xs) ys [] ws x y ne e = (xs, ys, sym (ap tail_of e)) where
+    tail_of : List A → List A
+    tail_of [] = []
+    tail_of (b ∷ bs) = bs
+  split_less (a ∷ xs) ys (z ∷ zs) ws x y ne e =
+      let t = split_less xs ys zs ws x y ne (ap tail_of e) in (z ∷ t.0, t.1, ap (λ cs. z ∷ cs) t.2) where
+        tail_of : List A → List A
+        tail_of [] = []
+        tail_of (b ∷ bs) = bs
+
+module _ {T : Type 0} where
+  -- the slots of other cells stay, where a cell's are given back and another slot of it is taken
+  pub slots_stay : (n k j : ℕ) (g h : ReaderNotes T) (before behind : List (ℕ × T)) (y : ℕ × T) → j ≢ k →
+      HasSlots j h (before ++ (shift (slot_at k) (slot_of_choice g.chosen g.at_hand.value) ++ behind)) → HasSlots j h (y ∷ (before ++ behind))
+  slots_stay n k j g h before behind y ne has = stays h.chosen g.chosen has.0 has.1 has.2 where
+    stays : (ch mine : Option Slot) (xs ys : List (ℕ × T)) →
+        before ++ (shift (slot_at k) (slot_of_choice mine g.at_hand.value) ++ behind) ≡ xs ++ (shift (slot_at j) (slot_of_choice ch h.at_hand.value) ++ ys) →
+        (fs : List (ℕ × T)) × (bs : List (ℕ × T)) × (y ∷ (before ++ behind) ≡ fs ++ (shift (slot_at j) (slot_of_choice ch h.at_hand.value) ++ bs))
+    stays None mine xs ys e = ([], y ∷ (before ++ behind), refl)
+    stays (Some s) None xs ys e = (y ∷ xs, ys, ap (λ zs. y ∷ zs) e)
+    stays (Some s) (Some t) xs ys e =
+        let a : ℕ × T = (slot_at j (slot_number s), h.at_hand.value) in
+        let b : ℕ × T = (slot_at k (slot_number t), g.at_hand.value) in
+        let apart : a ≢ b = λ same. ne ((is_layout n).slot_apart j (slot_number s) k (slot_number t) (slot_low s) (slot_low t) (ap (λ z. z.0) same)).0 in
+        let x = split_less xs ys before behind a b apart (sym e) in
+        (y ∷ x.0, x.1, ap (λ zs. y ∷ zs) x.2)
+
+module _ {T : Type 0} (o : T) (n : ℕ) where
+  abbrev V : Type 0
+  V = FourSlotSight T
+
+  -- a process at rest, after a write to process j
+  pub rest_write : (v u : Process V) (kept kept' : List (List ℕ)) (cs : List (ℕ × T)) (j : ℕ) (p : WriterNotes T) → j < n → j ≢ v.who →
+      IsAtRest o n v kept cs → IsChanged Spent v u (place n v.who j) (Writer p) → p.stage ≡ writer.W5 → p.opening.value ≡ o →
+      p.finished.value ≡ last_or o p.written → bit_words p.remembered ≡ get_or kept' j [] →
+      ((i : ℕ) → i ≢ j → get_or kept' i [] ≡ get_or kept i []) → u.held ≡ held_slots cs → IsAtRest o n u kept' cs
+  rest_write v u kept kept' cs j p lj ne r c idle opened newest bit same held =
+      let k : ℕ = place n v.who j in
+      let who : u.who ≡ v.who = c.who in
+      let mine : (i : ℕ) → i < n → i ≢ v.who → i ≢ j → place n v.who i ≢ k =
+      λ i li nw nj e. nj (place_apart n v.who i v.who j r.inside li nw r.inside lj ne e).1 in
+      let theirs : (i : ℕ) → i < n → i ≢ v.who → place n i v.who ≢ k =
+      λ i li nw e. nw (place_apart n i v.who v.who j li r.inside (λ h. nw (sym h)) r.inside lj ne e).0 in
+      record {
+        inside = subst (λ z. z < n) (sym who) r.inside;
+        parts = c.long ∙ r.parts;
+        held = held;
+        idle = λ i. ⊎_elim (λ (e : i ≡ k). subst Idle (sym (ap (λ z. of_cell Spent z u.parts) e ∙ c.here)) idle)
+            (λ (d : i ≢ k). subst Idle (sym (c.others i d)) (r.idle i)) (cases_eq i k);
+        row = λ i li nw.
+            let other : i ≢ v.who = λ h. nw (h ∙ sym who) in
+            subst (λ z. IsRow o (of_cell Spent (place n z i) u.parts) (get_or kept' i [])) (sym who) (⊎_elim
+            (λ (e : i ≡ j). subst (λ z. IsRow o (of_cell Spent (place n v.who z) u.parts) (get_or kept' z [])) (sym e)
+            (record { notes = p; is = c.here; idle = idle; opened = opened; newest = newest; bits = bit }))
+            (λ (d : i ≢ j). subst (λ (z : V × List ℕ). IsRow o z.0 z.1) (λ h. (sym (c.others (place n v.who i) (mine i li other d)) h, sym (same i d) h))
+            (r.row i li other))
+            (cases_eq i j));
+        column = λ i li nw.
+            let other : i ≢ v.who = λ h. nw (h ∙ sym who) in
+            subst (λ z. IsColumn o (place n i z) (of_cell Spent (place n i z) u.parts) cs) (sym who)
+            (subst (λ z. IsColumn o (place n i v.who) z cs) (sym (c.others (place n i v.who) (theirs i li other))) (r.column i li other));
+      }
+
+  -- and after a read from process j
+  pub rest_read : (v u : Process V) (kept : List (List ℕ)) (before behind : List (ℕ × T)) (y : ℕ × T) (j : ℕ) (g h : ReaderNotes T) → j < n → j ≢ v.who →
+      IsAtRest o n v kept (before ++ (shift (slot_at (place n j v.who)) (slot_of_choice g.chosen g.at_hand.value) ++ behind)) →
+      IsChanged Spent v u (place n j v.who) (Reader h) → h.stage ≡ reader.R5 → h.opening.value ≡ o →
+      HasSlots (place n j v.who) h (y ∷ (before ++ behind)) → u.held ≡ held_slots (y ∷ (before ++ behind)) →
+      IsAtRest o n u kept (y ∷ (before ++ behind))
+  rest_read v u kept before behind y j g h lj ne r c idle opened slots held =
+      let k : ℕ = place n j v.who in
+      let who : u.who ≡ v.who = c.who in
+      let mine : (i : ℕ) → i < n → i ≢ v.who → place n v.who i ≢ k =
+      λ i li nw e. ne (sym (place_apart n v.who i j v.who r.inside li nw lj r.inside (λ q. ne (sym q)) e).0) in
+      let theirs : (i : ℕ) → i < n → i ≢ v.who → i ≢ j → place n i v.who ≢ k =
+      λ i li nw nj e. nj (place_apart n i v.who j v.who li r.inside (λ q. nw (sym q)) lj r.inside (λ q. ne (sym q)) e).0 in
+      record {
+        inside = subst (λ z. z < n) (sym who) r.inside;
+        parts = c.long ∙ r.parts;
+        held = held;
+        idle = λ i. ⊎_elim (λ (e : i ≡ k). subst Idle (sym (ap (λ z. of_cell Spent z u.parts) e ∙ c.here)) idle)
+            (λ (d : i ≢ k). subst Idle (sym (c.others i d)) (r.idle i)) (cases_eq i k);
+        row = λ i li nw.
+            let other : i ≢ v.who = λ q. nw (q ∙ sym who) in
+            subst (λ z. IsRow o (of_cell Spent (place n z i) u.parts) (get_or kept i [])) (sym who)
+            (subst (λ z. IsRow o z (get_or kept i [])) (sym (c.others (place n v.who i) (mine i li other))) (r.row i li other));
+        column = λ i li nw.
+            let other : i ≢ v.who = λ q. nw (q ∙ sym who) in
+            subst (λ z. IsColumn o (place n i z) (of_cell Spent (place n i z) u.parts) (y ∷ (before ++ behind))) (sym who) (⊎_elim
+            (λ (e : i ≡ j). subst (λ z. IsColumn o (place n z v.who) (of_cell Spent (place n z v.who) u.parts) (y ∷ (before ++ behind))) (sym e)
+            (record { notes = h; is = c.here; idle = idle; opened = opened; slots = slots }))
+            (λ (d : i ≢ j).
+            let old = r.column i li other in
+            let away = theirs i li other d in
+            subst (λ z. IsColumn o (place n i v.who) z (y ∷ (before ++ behind))) (sym (c.others (place n i v.who) away)) (record {
+              notes = old.notes;
+              is = old.is;
+              idle = old.idle;
+              opened = old.opened;
+              slots = slots_stay n k (place n i v.who) g old.notes before behind y away old.slots;
+            }))
+            (cases_eq i j));
+      }

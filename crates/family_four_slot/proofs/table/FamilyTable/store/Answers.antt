@@ -1,0 +1,30 @@
+-- The store of the index gives the slot back.
+use Rattle.std.proofs.Common.{refl, arith, ◌≡◌, ◌+◌, ◌*◌, ◌<◌, subst, sym, ap, ◌∙◌}
+use mathlib.Core.Option.{none}
+use Rattle.atomic_table.specs.Table.{step}
+use Rattle.cell_live.proofs.four_slots.Slots.{bit_low}
+use Rattle.family_four_slot.specs.Steps.{stores}
+use Rattle.family_four_slot.proofs.Places.{bit_word}
+use Rattle.family_four_slot.proofs.Told.{stores_ok}
+use Rattle.family_four_slot.proofs.table.FamilyTable.store.Goals as goal
+
+pub store-requires : goal.store-requires
+store-requires g c =
+    let t = c.requires.filled in
+    let s = c.args.self.now.sized in
+    let place = c.requires.place in
+    let b = c.base.ensures in
+    let low = bit_low t.1.slot.pair in
+    let word : c.base.result + (2 + c.args.pair) ≡ 16 * c.args.cell + 8 + (2 + c.args.pair) = omega arith in
+    let pair = t.6 in (
+      c.requires.own,
+      omega arith,
+      stores_ok g.T.Lawful.fits g.T.Lawful.rises _ _ _ _ _ c.args.cell (2 + c.args.pair) _ _ t.0 t.1 t.2 (word ∙ bit_word c.args.cell c.args.pair) place
+          t.3.process.has t.3.process.one t.3.notes t.4 t.3.process.held t.5 (ap (λ z. 2 + z) pair) (omega arith) t.7,
+    )
+
+pub returns-clause-stored : goal.returns-clause-stored
+returns-clause-stored g c =
+    let b = c.base.ensures in
+    subst (λ z. stores (step c.args.self.now.inner.shared.table_id.slots z c.args.index 0 none) c.args.seat.now.inner.me c.args.index c.store.new.seat.me)
+    (omega arith) c.store.ensures.2

@@ -1,0 +1,30 @@
+-- The load of the pair's bit takes the slot that it names.
+use Rattle.std.proofs.Common.{refl, arith, ◌≡◌, ◌+◌, ◌*◌, ◌<◌, subst, sym, ap, ◌∙◌}
+use mathlib.Core.Option.{none}
+use Rattle.atomic_table.specs.Table.{step}
+use Rattle.cell_live.proofs.four_slots.Slots.{bit_low}
+use Rattle.family_four_slot.specs.Steps.{takes}
+use Rattle.family_four_slot.proofs.Places.{bit_word}
+use Rattle.family_four_slot.proofs.Told.{takes_ok}
+use Rattle.family_four_slot.proofs.table.FamilyTable.take.Goals as goal
+
+pub load-requires : goal.load-requires
+load-requires g c =
+    let t = c.requires.said in
+    let s = c.args.self.now.sized in
+    let place = c.requires.place in
+    let b = c.base.ensures in
+    let low = bit_low t.1.slot.pair in
+    let word : c.base.result + (2 + c.args.pair) ≡ 16 * c.args.cell + 8 + (2 + c.args.pair) = omega arith in
+    let pair = t.4 in (
+      c.requires.own,
+      omega arith,
+      takes_ok g.T.Lawful.fits g.T.Lawful.rises _ _ g.T.Lawful.reflexive g.T.Lawful.transitive _ _ _ c.args.cell (2 + c.args.pair) _ t.0 t.1
+          (word ∙ bit_word c.args.cell c.args.pair) place t.2.process.has t.2.process.one t.2.notes t.2.process.held t.3 (ap (λ z. 2 + z) pair) (omega arith),
+    )
+
+pub returns-clause-taken : goal.returns-clause-taken
+returns-clause-taken g c =
+    let b = c.base.ensures in
+    subst (λ z. takes g.T.Lawful.fits g.T.Lawful.rises (step c.args.self.now.inner.shared.table_id.slots z 0 0 none) c.args.seat.now.inner.me
+    c.load.result c.load.new.seat.me) (omega arith) c.load.ensures.2

@@ -1,0 +1,48 @@
+-- A family of four-slot cells (this project's own).
+use Rattle.std.specs.Prelude.{◌≡◌, ℕ, zero, suc, ◌+◌, ◌-◌, ◌*◌, ◌≤◌, nat_eq, cond, List, [], ◌∷◌}
+use Rattle.atomic_table.specs.Table.{State, Me}
+use Rattle.fourslot_core.specs.declared.state.Stage.TheVariants as writer
+use Rattle.fourslot_core.specs.declared.state.ReaderStage.TheVariants as reader
+use Rattle.cell_live.specs.declared.sight.Sight.TheVariants.{Spent, Told, Writer, Reader, Both}
+use Rattle.cell_live.specs.four_slot.Rule.{FourSlotRule}
+use Rattle.cell_live.specs.four_slot.Steps.{FourSlotSight, first_writer, first_reader, clock_of}
+use Rattle.family_four_slot.specs.declared.notes.Process.{Process}
+use Rattle.family_four_slot.specs.declared.notes.View.{View}
+use Rattle.family_four_slot.specs.declared.notes.View.TheVariants.{Has}
+use Rattle.family_four_slot.specs.Family.{FamilyRule}
+use Rattle.family_four_slot.specs.Places.{four_slots, writer_of, reader_of}
+
+-- m of these in turn
+abbrev pub upto : {A : Type 0} → (ℕ → A) → ℕ → ℕ → List A
+upto f i zero = []
+upto f i (suc m) = f i ∷ upto f (i + 1) m
+
+module _ {T : Type 0} where
+  -- what a process knows of cell k at the start
+  abbrev pub first_part : T → ℕ → ℕ → ℕ → FourSlotSight T
+  first_part o n i k =
+      cond (nat_eq i (writer_of n k)) (Writer (first_writer o)) (cond (nat_eq i (reader_of n k)) (Reader (first_reader o)) Spent)
+
+  abbrev pub first_process : T → ℕ → ℕ → Process (FourSlotSight T)
+  first_process o n i = record { who = i; clock = 0; times = []; held = []; parts = upto (first_part o n i) 0 (n * (n - 1)) }
+
+  abbrev pub first_view : T → ℕ → View (FourSlotSight T)
+  first_view o n = Has (upto (first_process o n) 0 n)
+
+  -- no call of this cell is under way
+  abbrev pub Idle : FourSlotSight T → Type 0
+  Idle (Writer p) = p.stage ≡ writer.W5
+  Idle (Reader g) = g.stage ≡ reader.R5
+  Idle _ = Unit {0}
+
+  -- a cell's step, made at this time
+  abbrev pub When : (ℕ → Me T (FourSlotSight T) → Type 0) → ℕ → ℕ → Me T (FourSlotSight T) → Type 0
+  When happens t n m = happens n m × (clock_of m.0 ≡ t)
+
+  -- the rule of one cell up to a time, and of a family of n processes
+  module _ (fits : T → Type 0) (rises : T → T → Type 0) (o : T) where
+    abbrev pub CellRule : ℕ → State T (FourSlotSight T) → Type 0
+    CellRule now s = (r : FourSlotRule fits rises o s) × (r.now ≤ now)
+
+    abbrev pub FourSlotFamily : ℕ → State T (View (FourSlotSight T)) → Type 0
+    FourSlotFamily n s = FamilyRule Spent (four_slots n) CellRule n s

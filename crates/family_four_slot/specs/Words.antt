@@ -1,0 +1,88 @@
+-- What contracts see of a family of four-slot cells (this project's own).
+use Rattle.std.specs.Prelude.{◌≡◌, ◌≢◌, ℕ, ◌+◌, ◌*◌, ◌-◌, ◌<◌, ◌≤◌, List, [], ◌∷◌, ◌++◌, length, slice_index_or, slice_index}
+use Rattle.atomic_table.specs.Table.{Me}
+use Rattle.fourslot_core.specs.declared.state.Slot.{Slot}
+use Rattle.fourslot_core.specs.declared.state.Stage.TheVariants as writer
+use Rattle.fourslot_core.specs.declared.state.ReaderStage.TheVariants as reader
+use Rattle.fourslot_core.specs.Events.{slot_number}
+use Rattle.std.specs.declared.snapshot.Snapshot.{Snapshot}
+use Rattle.cell_live.specs.Running.{last_or, held_slots}
+use Rattle.cell_live.specs.Sights.{writer_or, reader_or, receipt_or}
+use Rattle.cell_live.specs.declared.four_slot.notes.WriterNotes.{WriterNotes}
+use Rattle.cell_live.specs.declared.four_slot.notes.ReaderNotes.{ReaderNotes}
+use Rattle.cell_live.specs.declared.sight.Sight.TheVariants.{Spent, Writer, Reader}
+use Rattle.cell_live.specs.four_slot.Steps.{FourSlotSight, first_writer, first_reader, bit_words, slot_of_choice}
+use Rattle.family_live.specs.Accesses.{Writes, Reads}
+use Rattle.family_four_slot.specs.declared.notes.Process.{Process}
+use Rattle.family_four_slot.specs.declared.notes.Receipt.{Receipt}
+use Rattle.family_four_slot.specs.declared.notes.View.{View}
+use Rattle.family_four_slot.specs.declared.notes.View.TheVariants.{Told, Has}
+use Rattle.family_four_slot.specs.Layouts.{shift}
+use Rattle.family_four_slot.specs.Places.{place, slot_at}
+use Rattle.family_four_slot.specs.Family.{of_cell}
+use Rattle.family_four_slot.specs.FourSlots.{Idle}
+
+module _ {V : Type 0} where
+  -- the process that a view has, and the receipt
+  abbrev pub no_process : Process V
+  no_process = record { who = 0; clock = 0; times = []; held = []; parts = [] }
+
+  abbrev pub first_or : Process V → List (Process V) → Process V
+  first_or d [] = d
+  first_or d (p ∷ ps) = p
+
+  abbrev pub process_of : View V → Process V
+  process_of (Told r) = no_process
+  process_of (Has ps) = first_or no_process ps
+
+  abbrev pub receipt_in : View V → Receipt V
+  receipt_in (Told r) = r
+  receipt_in (Has ps) = record { clock = 0; parts = [] }
+
+module _ {T : Type 0} (o : T) (n : ℕ) where
+  -- what a process wrote to process j, and what it read from it
+  abbrev pub writer_to : Process (FourSlotSight T) → ℕ → WriterNotes T
+  writer_to v j = writer_or (first_writer o) (of_cell Spent (place n v.who j) v.parts)
+
+  abbrev pub reader_from : Process (FourSlotSight T) → ℕ → ReaderNotes T
+  reader_from v j = reader_or (first_reader o) (of_cell Spent (place n j v.who) v.parts)
+
+  abbrev pub writes_to : Process (FourSlotSight T) → ℕ → Writes T
+  writes_to v j = let p = writer_to v j in record { items = p.written; times = p.times }
+
+  abbrev pub reads_from : Process (FourSlotSight T) → ℕ → Reads T
+  reads_from v j = let g = reader_from v j in
+      record { answers = g.answers; numbers = g.numbers; known = g.known; told = g.told; times = g.times }
+
+module _ {T : Type 0} where
+  -- the seat has the slot of the last read of a cell, among others
+  abbrev pub HasSlots : ℕ → ReaderNotes T → List (ℕ × T) → Type 0
+  HasSlots k g cs = (before : List (ℕ × T)) × (behind : List (ℕ × T))
+      × (cs ≡ before ++ (shift (slot_at k) (slot_of_choice g.chosen g.at_hand.value) ++ behind))
+
+module _ {T : Type 0} (o : T) where
+  -- a cell that a process writes, between two calls: the pairs' bits are those that the seat remembers
+  pub record IsRow (part : FourSlotSight T) (remembered : List ℕ) : Type 0 where
+    pub notes : WriterNotes T
+    pub is : part ≡ Writer notes
+    pub idle : notes.stage ≡ writer.W5
+    pub opened : notes.opening.value ≡ o
+    pub newest : notes.finished.value ≡ last_or o notes.written
+    pub bits : bit_words notes.remembered ≡ remembered
+
+  -- and one that it reads
+  pub record IsColumn (k : ℕ) (part : FourSlotSight T) (cs : List (ℕ × T)) : Type 0 where
+    pub notes : ReaderNotes T
+    pub is : part ≡ Reader notes
+    pub idle : notes.stage ≡ reader.R5
+    pub opened : notes.opening.value ≡ o
+    pub slots : HasSlots k notes cs
+
+  -- a process of n between two calls
+  pub record IsAtRest (n : ℕ) (v : Process (FourSlotSight T)) (remembered : List (List ℕ)) (cs : List (ℕ × T)) : Type 0 where
+    pub inside : v.who < n
+    pub parts : length v.parts ≡ n * (n - 1)
+    pub held : v.held ≡ held_slots cs
+    pub idle : (k : ℕ) → Idle (of_cell Spent k v.parts)
+    pub row : (j : ℕ) → j < n → j ≢ v.who → IsRow (of_cell Spent (place n v.who j) v.parts) (slice_index_or remembered j [])
+    pub column : (j : ℕ) → j < n → j ≢ v.who → IsColumn (place n j v.who) (of_cell Spent (place n j v.who) v.parts) cs

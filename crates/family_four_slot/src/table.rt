@@ -1,0 +1,279 @@
+//! The table of a family of four-slot cells and every step on it. No other module can reach the table: what stands here is all that can
+//! be done with it.
+ghost use Rattle.std.specs.Prelude.{◌≡◌, ◌≢◌, ℕ, ◌+◌, ◌*◌, ◌-◌, ◌<◌, ◌≤◌, List, [], ◌∷◌, ◌++◌, length, IfOk};
+ghost use Rattle.std.specs.Fn.{FnOnceTakesAt, FnOnceReturnsAt};
+ghost use mathlib.Core.Option.{none};
+ghost use Rattle.std.specs.declared.snapshot.Snapshot.{Snapshot};
+ghost use Rattle.atomic_table.specs.Table.{step};
+ghost use Rattle.fourslot_core.specs.declared.state.Stage.TheVariants.{W3, W4, W5};
+ghost use Rattle.fourslot_core.specs.declared.state.ReaderStage.TheVariants.{R1, R2, R5};
+ghost use Rattle.fourslot_core.specs.Events.{bit_number, slot_number};
+ghost use Rattle.cell_live.specs.Running.{last_or, held_slots};
+ghost use Rattle.cell_live.specs.declared.four_slot.notes.WriterNotes.{WriterNotes};
+ghost use Rattle.cell_live.specs.declared.four_slot.notes.ReaderNotes.{ReaderNotes};
+ghost use Rattle.cell_live.specs.declared.sight.Sight.TheVariants.{Writer, Reader, Spent};
+ghost use Rattle.cell_live.specs.four_slot.Steps.{FourSlotSight, slot_of_choice};
+ghost use Rattle.family_four_slot.specs.declared.notes.Process.{Process};
+ghost use Rattle.family_four_slot.specs.Layouts.{shift};
+ghost use Rattle.family_four_slot.specs.Places.{four_slots, slot_at};
+ghost use Rattle.family_four_slot.specs.FourSlots.{first_view, Idle};
+ghost use Rattle.family_four_slot.specs.Steps.{begins, stores, finishes, asks, says, takes};
+ghost use Rattle.family_four_slot.specs.Tables.{HasWriter, HasReader, IsEnded};
+ghost use Rattle.family_four_slot.specs.declared.notes.Receipt.{Receipt};
+ghost use Rattle.family_four_slot.specs.declared.notes.View.TheVariants.{Told, Has};
+ghost use Rattle.family_four_slot.specs.Family.{of_cell};
+ghost use Rattle.family_four_slot.specs.Seats.{all_but_first, first_of, told_by, learnt_by, joined};
+ghost use Rattle.cell_live.specs.four_slot.Steps.{hears_of, receipt_for};
+
+use crate::FamilyLaw;
+use crate::closed::empty;
+use crate::notes::{FamilySight, Opened};
+use crate::plays::{
+    All, Asks, Begins, Finishes, First, Gathers, Item, Learns, Says, Stores, Takes, Tells,
+};
+use atomic_table::{Seat, Table};
+use cell_live::Lawful;
+use std::alloc::{AllocError, Global};
+use std::snapshot::Snapshot;
+
+/// The words and slots of all cells. Eight words that nobody stores to come first.
+#[derive(Drop)]
+pub struct FamilyTable<T: Lawful> {
+    inner: Table<T, FamilySight<T>, Opened<T>, FamilyLaw, Global>,
+    ghost sized: { inner.shared.table_id.words ≡ (four_slots inner.shared.key.processes).words },
+    ghost some: { (2 ≤ inner.shared.key.processes) × (inner.shared.key.processes ≤ 16) },
+}
+
+/// A seat at the table.
+#[derive(Drop)]
+pub struct FamilySeat<T: Copy> {
+    inner: Seat<T, FamilySight<T>>,
+}
+
+/// The first of a cell's words.
+#[inline]
+fn base(cell: usize) -> usize
+    requires { cell < 240 }
+    ensures { result ≡ 16 * cell + 8 }
+{
+    16 * cell + 8
+}
+
+impl<T: Lawful> FamilyTable<T> {
+    /// A table of the cells of so many processes, which all hold this record, and a seat that has all processes.
+    pub fn new(
+        alloc: Global,
+        processes: usize,
+        first: T,
+    ) -> Result<(Self, FamilySeat<T>), AllocError>
+        requires lawful { T.fits first }
+        requires some { (2 ≤ processes) × (processes ≤ 16) }
+        ensures key { IfOk result (λ r. r.0.inner.shared.key ≡ record { first = first; processes = processes }) }
+        ensures seat { IfOk result (λ r. (r.1.inner.table_id ≡ r.0.inner.shared.table_id) × (r.1.inner.me ≡ (first_view first processes, []))) }
+    {
+        let cells = processes * (processes - 1);
+        let mut words = Vec::new(alloc);
+        words.resize(16 * cells + 8, 0).map_err(|_| AllocError)?;
+        let mut slots = Vec::new(alloc);
+        slots.resize(4 * cells, first).map_err(|_| AllocError)?;
+        let (table, seat) = Table::new(
+            alloc,
+            words.as_slice(),
+            slots,
+            &Opened { first, processes },
+        ).map_err(|_| AllocError)?;
+        Ok((FamilyTable { inner: table }, FamilySeat { inner: seat }))
+    }
+
+    /// W1 of a write to this cell, of which the seat's view is told the item.
+    #[inline]
+    pub(super) fn begin<K: Item<T>>(
+        &self,
+        seat: &mut FamilySeat<T>,
+        cell: usize,
+        item: Snapshot<T>,
+    ) -> u64
+        requires own { seat.old.inner.table_id ≡ self.now.inner.shared.table_id }
+        requires place { cell < (four_slots self.now.inner.shared.key.processes).cells }
+        requires item { K.item ≡ item.value ∷ [] }
+        requires idle { (v : Process (FourSlotSight T)) × (p : WriterNotes T) × HasWriter seat.old.inner.me cell v p × (p.stage ≡ W5) × T.fits item.value
+            × T.rises (last_or p.opening.value p.written) item.value }
+        ensures own { seat.new.inner.table_id ≡ seat.old.inner.table_id }
+        ensures begun { begins K.item (step self.now.inner.shared.table_id.slots (16 * cell + 8 + 8) 0 0 none) seat.old.inner.me result seat.new.inner.me }
+    {
+        self.inner
+            .shared
+            .load::<Begins<K>>(&mut seat.inner, base(cell) + 8)
+    }
+
+    /// W4: stores the index in the pair's word, and gives the slot back.
+    #[inline]
+    pub(super) fn store(&self, seat: &mut FamilySeat<T>, cell: usize, pair: u64, index: u64)
+        requires own { seat.old.inner.table_id ≡ self.now.inner.shared.table_id }
+        requires place { cell < (four_slots self.now.inner.shared.key.processes).cells }
+        requires filled { (v : Process (FourSlotSight T)) × (p : WriterNotes T) × (cs : List (ℕ × T)) × HasWriter seat.old.inner.me cell v p
+            × (seat.old.inner.me.1 ≡ (slot_at cell (slot_number p.slot), p.item.value) ∷ cs) × (p.stage ≡ W3)
+            × (pair ≡ bit_number p.slot.pair) × (index ≡ bit_number p.slot.index) }
+        ensures own { seat.new.inner.table_id ≡ seat.old.inner.table_id }
+        ensures stored { stores (step self.now.inner.shared.table_id.slots (16 * cell + 8 + (2 + pair)) index 0 none) seat.old.inner.me index
+            seat.new.inner.me }
+    {
+        self.inner
+            .shared
+            .store::<Stores>(&mut seat.inner, base(cell) + (2 + pair as usize), index);
+    }
+
+    /// W5: stores the pair in `latest`.
+    #[inline]
+    pub(super) fn finish(&self, seat: &mut FamilySeat<T>, cell: usize, pair: u64)
+        requires own { seat.old.inner.table_id ≡ self.now.inner.shared.table_id }
+        requires place { cell < (four_slots self.now.inner.shared.key.processes).cells }
+        requires stored { (v : Process (FourSlotSight T)) × (p : WriterNotes T) × HasWriter seat.old.inner.me cell v p × (p.stage ≡ W4)
+            × (pair ≡ bit_number p.slot.pair) }
+        ensures own { seat.new.inner.table_id ≡ seat.old.inner.table_id }
+        ensures finished { finishes (step self.now.inner.shared.table_id.slots (16 * cell + 8) pair 0 none) seat.old.inner.me pair seat.new.inner.me }
+    {
+        self.inner
+            .shared
+            .store::<Finishes>(&mut seat.inner, base(cell), pair);
+    }
+
+    /// R1: loads `latest`.
+    #[inline]
+    pub(super) fn ask(&self, seat: &mut FamilySeat<T>, cell: usize) -> u64
+        requires own { seat.old.inner.table_id ≡ self.now.inner.shared.table_id }
+        requires place { cell < (four_slots self.now.inner.shared.key.processes).cells }
+        requires idle { (v : Process (FourSlotSight T)) × (g : ReaderNotes T) × HasReader seat.old.inner.me cell v g × (g.stage ≡ R5) }
+        ensures own { seat.new.inner.table_id ≡ seat.old.inner.table_id }
+        ensures asked { asks (step self.now.inner.shared.table_id.slots (16 * cell + 8) 0 0 none) seat.old.inner.me result seat.new.inner.me }
+    {
+        self.inner.shared.load::<Asks>(&mut seat.inner, base(cell))
+    }
+
+    /// R2: stores the pair in `reading`, and gives the slot of the read before back.
+    #[inline]
+    pub(super) fn say(&self, seat: &mut FamilySeat<T>, cell: usize, pair: u64)
+        requires own { seat.old.inner.table_id ≡ self.now.inner.shared.table_id }
+        requires place { cell < (four_slots self.now.inner.shared.key.processes).cells }
+        requires asked { (v : Process (FourSlotSight T)) × (g : ReaderNotes T) × (before : List (ℕ × T)) × (behind : List (ℕ × T))
+            × HasReader seat.old.inner.me cell v g
+            × (seat.old.inner.me.1 ≡ before ++ (shift (slot_at cell) (slot_of_choice g.chosen g.at_hand.value) ++ behind)) × (g.stage ≡ R1)
+            × (pair ≡ bit_number g.slot.pair) }
+        ensures own { seat.new.inner.table_id ≡ seat.old.inner.table_id }
+        ensures said { says (step self.now.inner.shared.table_id.slots (16 * cell + 8 + 8) pair 0 none) seat.old.inner.me pair seat.new.inner.me }
+    {
+        self.inner
+            .shared
+            .store::<Says>(&mut seat.inner, base(cell) + 8, pair);
+    }
+
+    /// R3: loads the pair's word, and takes the slot that it names.
+    #[inline]
+    pub(super) fn take(&self, seat: &mut FamilySeat<T>, cell: usize, pair: u64) -> u64
+        requires own { seat.old.inner.table_id ≡ self.now.inner.shared.table_id }
+        requires place { cell < (four_slots self.now.inner.shared.key.processes).cells }
+        requires said { (v : Process (FourSlotSight T)) × (g : ReaderNotes T) × HasReader seat.old.inner.me cell v g × (g.stage ≡ R2)
+            × (pair ≡ bit_number g.slot.pair) }
+        ensures own { seat.new.inner.table_id ≡ seat.old.inner.table_id }
+        ensures taken { takes T.fits T.rises (step self.now.inner.shared.table_id.slots (16 * cell + 8 + (2 + pair)) 0 0 none) seat.old.inner.me
+            result seat.new.inner.me }
+    {
+        self.inner
+            .shared
+            .load::<Takes>(&mut seat.inner, base(cell) + (2 + pair as usize))
+    }
+
+    /// Parts the first process of a seat off.
+    pub(super) fn part(&self, seat: &mut FamilySeat<T>) -> FamilySeat<T>
+        requires own { seat.old.inner.table_id ≡ self.now.inner.shared.table_id }
+        requires some { (p : Process (FourSlotSight T)) × (ps : List (Process (FourSlotSight T))) × (seat.old.inner.me.0 ≡ Has (p ∷ ps)) }
+        ensures own { (seat.new.inner.table_id ≡ seat.old.inner.table_id) × (result.inner.table_id ≡ seat.old.inner.table_id) }
+        ensures parted { (seat.new.inner.me ≡ (all_but_first seat.old.inner.me.0, seat.old.inner.me.1))
+            × (result.inner.me ≡ (first_of seat.old.inner.me.0, [])) }
+    {
+        let parted = self.inner.shared.split_seat::<First>(&mut seat.inner);
+        FamilySeat { inner: parted }
+    }
+
+    /// Parts a receipt of a process off.
+    pub(super) fn tell(&self, seat: &mut FamilySeat<T>) -> FamilySeat<T>
+        requires own { seat.old.inner.table_id ≡ self.now.inner.shared.table_id }
+        requires idle { (v : Process (FourSlotSight T)) × (seat.old.inner.me.0 ≡ Has (v ∷ [])) × ((k : ℕ) → Idle (of_cell Spent k v.parts)) }
+        ensures own { (seat.new.inner.table_id ≡ seat.old.inner.table_id) × (result.inner.table_id ≡ seat.old.inner.table_id) }
+        ensures parted { (seat.new.inner.me ≡ seat.old.inner.me) × (result.inner.me ≡ (told_by receipt_for seat.old.inner.me.0, [])) }
+    {
+        let parted = self.inner.shared.split_seat::<Tells>(&mut seat.inner);
+        FamilySeat { inner: parted }
+    }
+
+    /// Joins a receipt into the seat of a process.
+    pub(super) fn hear(&self, seat: &mut FamilySeat<T>, receipt: FamilySeat<T>)
+        requires own { (seat.old.inner.table_id ≡ self.now.inner.shared.table_id)
+            × (receipt.inner.table_id ≡ self.now.inner.shared.table_id) }
+        requires idle { (v : Process (FourSlotSight T)) × (seat.old.inner.me.0 ≡ Has (v ∷ [])) × ((k : ℕ) → Idle (of_cell Spent k v.parts)) }
+        requires receipt { (r : Receipt (FourSlotSight T)) × (receipt.inner.me ≡ (Told r, [])) }
+        ensures own { seat.new.inner.table_id ≡ seat.old.inner.table_id }
+        ensures joined { seat.new.inner.me ≡ (learnt_by hears_of seat.old.inner.me.0 receipt.inner.me.0, seat.old.inner.me.1) }
+    {
+        let FamilySeat { inner: receipt } = receipt;
+        self.inner
+            .shared
+            .join_seat::<Learns>(&mut seat.inner, receipt);
+    }
+
+    /// Joins what another seat knows of processes into this one. The other's slots stay out.
+    pub(super) fn gather(&self, seat: &mut FamilySeat<T>, other: FamilySeat<T>)
+        requires own { (seat.old.inner.table_id ≡ self.now.inner.shared.table_id)
+            × (other.inner.table_id ≡ self.now.inner.shared.table_id) }
+        requires some { (ps : List (Process (FourSlotSight T))) × (seat.old.inner.me.0 ≡ Has ps) }
+        requires other { (ps : List (Process (FourSlotSight T))) × (other.inner.me.0 ≡ Has ps) }
+        ensures own { seat.new.inner.table_id ≡ seat.old.inner.table_id }
+        ensures joined { seat.new.inner.me ≡ (joined seat.old.inner.me.0 other.inner.me.0, seat.old.inner.me.1) }
+    {
+        let FamilySeat { inner: mut other } = other;
+        let bare = self.inner.shared.split_seat::<All>(&mut other);
+        self.inner
+            .shared
+            .join_seat::<Gathers>(&mut seat.inner, bare);
+    }
+
+    /// Frees the table.
+    pub(super) fn close(self, seat: FamilySeat<T>)
+        requires { seat.inner.table_id ≡ self.inner.shared.table_id }
+        ensures { (ps : List (Process (FourSlotSight T))) → seat.inner.me.0 ≡ Has ps →
+            IsEnded self.inner.shared.key.processes self.inner.shared.key.first ps }
+    {
+        let FamilyTable { inner: table } = self;
+        let FamilySeat { inner: seat } = seat;
+        empty(table.close_with(seat));
+    }
+
+    /// W2 and W3: copies the record into the slot.
+    #[inline]
+    pub(super) fn fill(&self, seat: &mut FamilySeat<T>, slot: usize, item: &T)
+        requires own { seat.old.inner.table_id ≡ self.now.inner.shared.table_id }
+        requires held { (x : T) × (cs : List (ℕ × T)) × (seat.old.inner.me.1 ≡ (slot, x) ∷ cs) }
+        ensures own { seat.new.inner.table_id ≡ seat.old.inner.table_id }
+        ensures filled { (x : T) (cs : List (ℕ × T)) → seat.old.inner.me.1 ≡ (slot, x) ∷ cs →
+            seat.new.inner.me ≡ (seat.old.inner.me.0, (slot, item.now) ∷ cs) }
+    {
+        *seat.inner.slot_mut(&self.inner.shared, slot) = *item;
+    }
+
+    /// R4 and R5: lends the record where it lies.
+    #[inline]
+    pub(super) fn lend<R, F: FnOnce(&T) -> R>(
+        &self,
+        seat: &mut FamilySeat<T>,
+        slot: usize,
+        look: F,
+    ) -> R
+        requires own { seat.old.inner.table_id ≡ self.now.inner.shared.table_id }
+        requires held { (x : T) × (cs : List (ℕ × T)) × (seat.old.inner.me.1 ≡ (slot, x) ∷ cs) × FnOnceTakesAt F.FnOnce look x }
+        ensures own { seat.new.inner.table_id ≡ seat.old.inner.table_id }
+        ensures same { seat.new.inner.me ≡ seat.old.inner.me }
+        ensures seen { (item : T) (cs : List (ℕ × T)) → seat.old.inner.me.1 ≡ (slot, item) ∷ cs → FnOnceReturnsAt F.FnOnce look item result }
+    {
+        look(&*seat.inner.slot_mut(&self.inner.shared, slot))
+    }
+}
