@@ -1,6 +1,7 @@
 -- The lists of the term stand behind those of the terms before.
-use Rattle.std.proofs.Common.{◌≡◌, ◌++◌, length, rules, ◌∙◌}
+use Rattle.std.proofs.Common.{◌≡◌, ◌++◌, length, rules, ap, ◌∙◌}
 use Rattle.std.proofs.lemmas.Result.{IfOk-weaker}
+use Rattle.matrix_core.specs.inner.Operations.{one_term}
 use Rattle.matrix_core.proofs.orders.Behind.{listed_behind}
 use Rattle.matrix_play.proofs.matrix_report.add_term.Goals as goal
 
@@ -15,3 +16,15 @@ returns-clause-order g c =
     c.args.play.stamps c.deref.result.now c.len-first.result c.args.told.now.order.items c.list_term.new.order.items h.0 ops stamps
     place c.requires.told h.1 h.2 in
     (h.0, l.0, l.1)) c.list_term.ensures
+
+pub returns-clause-terms : goal.returns-clause-terms
+returns-clause-terms g c =
+    let place : c.len-first.result ≡ length c.args.told.now.ops.items = search rules in
+    IfOk-weaker c.list_term.result _ _
+    (λ r h. c.in_ok-push.ensures.items ∙ ap (λ n. c.args.told.now.terms.items ++ one_term n c.args.limit) place) c.list_term.ensures
+
+pub returns-clause-ops : goal.returns-clause-ops
+returns-clause-ops g c = IfOk-weaker c.list_term.result _ _ (λ r h. c.in_ok-give.ensures.ops) c.list_term.ensures
+
+pub returns-clause-stamps : goal.returns-clause-stamps
+returns-clause-stamps g c = IfOk-weaker c.list_term.result _ _ (λ r h. c.in_ok-give.ensures.stamps) c.list_term.ensures
