@@ -70,14 +70,18 @@ elif ! "$compiler" -O1 -shared -fPIC -o "$room/refuse.so" tests/refuse.c -ldl; t
 else
     wanted_status=0
     : >"$room/wanted_line"
-    for name in lawful cell matrix refused_write terms board race; do
+    for name in lawful found_order cell matrix refused_write terms board race; do
         document=examples/$name.json
         cp "examples/$name.txt" "$room/wanted"
         refuse_each fsr "$document" "$(command_for "$document")"
     done
+    # A log without a lawful order.
+    wanted_status=1
+    cp examples/crossed.txt "$room/wanted"
+    refuse_each fsr examples/crossed.json order
     # Refused documents: the status is that of the line that is told.
     : >"$room/wanted"
-    for name in no_limit too_many_steps; do
+    for name in no_limit written_twice too_many_steps; do
         document=examples/$name.json
         wanted_status=$(cat "examples/$name.status")
         cp "examples/$name.txt" "$room/wanted_line"

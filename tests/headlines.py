@@ -125,8 +125,8 @@ def found_by(path, word):
     if parts[0] in ("declared", "contracts"):
         where, numbers = type_of(crate, parts[-1])
         return (where, parts[-1], numbers) if where else None
-    where = file_of(crate, parts)
-    return where, name, definitions(where)[name]
+    # (a module may pass on a name that it takes from another)
+    return found_by(file_of(crate, parts), name)
 
 
 def reading_set(quotes):

@@ -1,16 +1,27 @@
 """Draws the documents that are named, and some hundreds that are made here, and parses each picture as XML.
 
 Besides that a picture is well formed it is asked of a history that it has a bar for each operation and a point for each entry of the
-order that is a place, and of a board that it has a lane for each cell. The documents are the same in each run.
+order that is a place, and of a board that it has a lane for each cell. Of a log it is asked that it says what the plain reference does, and has
+a point for each operation that ended and no more than one for each operation, or the marks and arrows of the reason why there is no order.
+The documents are the same in each run.
 """
 
 import json
+import os
 import random
 import subprocess
 import sys
 import xml.etree.ElementTree as tree
 
+TOP = os.path.dirname(os.path.dirname(os.path.realpath(__file__)))
+sys.path.insert(0, f"{TOP}/tests/reference")
+
+import answers
+
 MADE = 400
+
+# Of each reason why a log has no order how many operations are marked, one that is named twice twice, and how many arrows there are.
+REASONS = {"unwritten": (1, 0), "early": (2, 1), "stale": (2, 1), "crossed": (4, 2), "limit": (1, 0)}
 SVG = "{http://www.w3.org/2000/svg}"
 
 
@@ -32,6 +43,22 @@ def check(dice):
         ops.append(op)
     order = [dice.randrange(len(ops) + 1) for _ in ops] if dice.randrange(2) else dice.sample(range(len(ops)), len(ops))
     return {"kind": "check", "opening": record(dice), "limit": dice.randrange(1, 5), "ops": ops, "order": order}
+
+
+def log(dice):
+    """A log of a few records, each written once or, now and then, not at all, and of reads and refused writes that mostly give one of them."""
+    records = [[number, number, number] for number in range(1, dice.randrange(2, 5))]
+    given = [("write", it) for it in records if dice.randrange(20)]
+    given += [(dice.choice(["read", "read", "refused"]), dice.choice([[0, 0, 0], *records, *records])) for _ in range(dice.randrange(5))]
+    dice.shuffle(given)
+    ops = []
+    for kind, it in given:
+        begin = dice.randrange(12) if dice.randrange(20) else dice.randrange(2**64)
+        op = {"who": dice.randrange(16), "kind": kind, "begin": begin, "record": it}
+        if dice.randrange(6):
+            op["end"] = begin + dice.randrange(min(6, 2**64 - begin))
+        ops.append(op)
+    return {"kind": "log", "opening": [0, 0, 0], "limit": dice.randrange(1, 3), "ops": ops}
 
 
 def cell(dice):
@@ -81,11 +108,31 @@ def cells_drawn(document):
     return processes * (processes - 1) if processes <= 4 else 0
 
 
+def fault_of_log(document, status, picture):
+    ops = document["ops"]
+    points = sum(1 for _ in picture.iter(SVG + "circle"))
+    bars, marks, arrows = (classes(picture, "path", tuple(named)) for named in ("wrf", "x", "p"))
+    lines = [text.text for text in picture.iter(SVG + "text") if (text.text or "").split(" ")[0] in ("lawful", "unlawful")]
+    told, _, wanted = answers.answer("order", json.dumps(document).encode())
+    if len(lines) != 1 or bars != len(ops):
+        return "not a bar for each operation and one line"
+    if status != wanted or lines[0].split(":")[0] != told.split("\n")[0]:
+        return f"it says {lines[0]}, and the reference {told}"
+    if lines == ["lawful"]:
+        if status or marks or arrows or not sum("end" in op for op in ops) <= points <= len(ops):
+            return "not the points of an order"
+    elif status != 1 or points or (marks, arrows) != REASONS[lines[0].split(" ")[1].rstrip(":")]:
+        return "not the marks and arrows of its reason"
+    return None
+
+
 def fault_of(document, answer):
     if answer.returncode not in (0, 1):
         return f"status {answer.returncode}: {answer.stderr.decode(errors='replace').strip()}"
     picture = tree.fromstring(answer.stdout)
     circles = sum(1 for _ in picture.iter(SVG + "circle"))
+    if document.get("kind") == "log":
+        return fault_of_log(document, answer.returncode, picture)
     if document.get("kind") == "check":
         ops = document["ops"]
         if classes(picture, "path", ("w", "r", "f")) != len(ops):
@@ -109,7 +156,7 @@ def main():
         with open(path, encoding="utf-8") as file:
             documents.append((path, file.read()))
     for number in range(MADE):
-        document = dice.choice([check, cell, matrix, board])(dice)
+        document = dice.choice([check, log, cell, matrix, board])(dice)
         documents.append((f"document {number}", json.dumps(document)))
     drawn = 0
     for name, text in documents:

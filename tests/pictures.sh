@@ -7,7 +7,7 @@ for file in docs/pictures/*.svg; do
 done
 
 # What has no picture: the status and the line are those of `fsr`, under the name of the program.
-for name in no_limit too_many_steps; do
+for name in no_limit too_many_steps written_twice; do
     sed 's/^fsr: /picture: /' "examples/$name.txt" >"$room/wanted_line"
     sees "picture < examples/$name.json" picture "examples/$name.json" "$room/wanted_line"
 done
@@ -21,10 +21,11 @@ else
 fi
 
 if [ -e "$room/refuse.so" ]; then
-    wanted_status=0
     : >"$room/wanted_line"
-    for name in lawful cell matrix board; do
+    for name in lawful found_order crossed cell matrix board; do
         crates/picture/out/picture <"examples/$name.json" >"$room/wanted" 2>/dev/null
+        wanted_status=0
+        [ -f "examples/$name.status" ] && wanted_status=$(cat "examples/$name.status")
         refuse_each picture "examples/$name.json"
     done
 fi

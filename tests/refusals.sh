@@ -2,13 +2,13 @@
 # and the document; documents that are too long for a line are made here.
 
 # Sees that a command tells this of the document in $room/document: a fault on standard error alone with status 3, or as the last
-# line of its text with status 0, or 1 for an unlawful order.
+# line of its text with status 0, or 1 for an unlawful order or a log without a lawful one.
 #   tells COMMAND TOLD
 tells() {
     crates/fsr/out/fsr "$1" <"$room/document" >"$room/out" 2>"$room/err"
     status=$?
     case $2 in
-    document:* | schedule:*) wanted_status=3 wanted="fsr: $2" told=$(cat "$room/err") other=out ;;
+    document:* | history:* | schedule:*) wanted_status=3 wanted="fsr: $2" told=$(cat "$room/err") other=out ;;
     unlawful*) wanted_status=1 wanted=$2 told=$(tail -n 1 "$room/out") other=err ;;
     *) wanted_status=0 wanted=$2 told=$(tail -n 1 "$room/out") other=err ;;
     esac
@@ -58,6 +58,13 @@ long_check() {
     printf '],"order":['
     copies "$2" 0 ,
     printf '],"x":%snull%s}' "$(copies "$3" '[' '')" "$(copies "$3" ']' '')"
+}
+
+# A `log` document of so many operations, with an order that isn't read.
+long_log() {
+    printf '{"kind":"log","opening":[0,0,0],"order":0,"limit":0,"limit":9,"ops":['
+    copies "$1" '{"who":0,"kind":"read","begin":4}' ,
+    printf ']}'
 }
 
 # A `cell` document of so many writes, this many reads and so many steps `w`, with a letter after them.
@@ -139,6 +146,7 @@ if ! has_program fsr; then
     fail "refusals" "fsr wasn't built"
 else
     table_of check
+    table_of order
     table_of play
     sees_parts
     sees_long check 'document: not JSON' byte_255
@@ -150,6 +158,8 @@ else
     sees_long check 'unlawful listing' long_check 10000 10000 0
     sees_long check 'document: range of ops' long_check 10001 10001 0
     sees_long check 'document: range of order' long_check 10000 10001 0
+    sees_long order 'order:' long_log 10000
+    sees_long order 'document: range of ops' long_log 10001
     sees_long play 'schedule: no operation left at step 50000' long_cell 10000 0 100000
     sees_long play 'document: range of reads' long_cell 10000 1 100001
     sees_long play 'document: range of steps' long_cell 10000 0 100001

@@ -1,28 +1,55 @@
-# The largest schedules: a register's of 5,000 writes and 5,000 reads, and a board's of one term with 10,000 operations, played and drawn.
-# Their documents and what is printed of them are made by the plain reference. No contract says that memory is there, so a call that
-# answers want of memory where there is ample is seen here alone.
+# The largest documents: a register's schedule of 5,000 writes and 5,000 reads, a board's of one term with 10,000 operations, and logs of as
+# many, played, searched and drawn. They and what is printed of them are made by `tests/sizes.py`. No contract says that memory is there, so
+# a call that answers want of memory where there is ample is seen here alone.
+
+# Sees that `picture` ends with this status on a document, and draws what the text tells.
+#   draws TITLE DOCUMENT TEXT STATUS
+draws() {
+    title=$1 wanted_status=$4
+    if ! has_program picture; then
+        fail "$title" "picture wasn't built"
+        return
+    fi
+    crates/picture/out/picture <"$2" >"$room/drawn.svg" 2>"$room/err"
+    status=$?
+    if [ "$status" != "$wanted_status" ] || [ -s "$room/err" ]; then
+        fail "$title" "it ended with status $status: $(head -c 200 "$room/err")"
+    elif python3 tests/sizes.py --drawn "$room/drawn.svg" "$3" 2>"$room/err"; then
+        pass "$title"
+    else
+        fail "$title" "$(tail -n 1 "$room/err")"
+    fi
+}
+
+# Sees that `fsr order` tells one of the reasons in this text.
+#   tells_reason TITLE DOCUMENT TEXT
+tells_reason() {
+    title=$1
+    if ! has_program fsr; then
+        fail "$title" "fsr wasn't built"
+        return
+    fi
+    crates/fsr/out/fsr order <"$2" >"$room/out" 2>"$room/err"
+    status=$?
+    if [ "$status" = 1 ] && [ ! -s "$room/err" ] && [ "$(wc -l <"$room/out")" = 1 ] && grep -qxFf "$3" "$room/out"; then
+        pass "$title"
+    else
+        fail "$title" "it ended with status $status: $(head -c 200 "$room/out" "$room/err")"
+    fi
+}
 
 if ! command -v python3 >/dev/null 2>&1; then
-    fail "the largest schedules" "there is no python3"
+    fail "the largest documents" "there is no python3"
 elif mkdir "$room/sizes" && python3 tests/sizes.py "$room/sizes" 2>"$room/err"; then
-    for name in cell board; do
+    for name in cell board log; do
         document=$room/sizes/$name.json
-        sees "fsr play < the largest $name" fsr "$document" "$room/sizes/$name.txt" play
-        title="picture < the largest $name"
-        if ! has_program picture; then
-            fail "$title" "picture wasn't built"
-            continue
-        fi
-        crates/picture/out/picture <"$document" >"$room/sizes/$name.svg" 2>"$room/err"
-        status=$?
-        if [ "$status" != 0 ] || [ -s "$room/err" ]; then
-            fail "$title" "it ended with status $status: $(head -c 200 "$room/err")"
-        elif python3 tests/sizes.py --drawn "$room/sizes/$name.svg" "$room/sizes/$name.txt" 2>"$room/err"; then
-            pass "$title"
-        else
-            fail "$title" "$(tail -n 1 "$room/err")"
-        fi
+        command=play
+        [ "$name" = log ] && command=order
+        sees "fsr $command < the largest $name" fsr "$document" "$room/sizes/$name.txt" $command
+        draws "picture < the largest $name" "$document" "$room/sizes/$name.txt" 0
     done
+    tells_reason "fsr order < the largest log without an order" "$room/sizes/crossed.json" "$room/sizes/crossed.txt"
+    draws "picture < the largest log without an order" "$room/sizes/crossed.json" "$room/sizes/crossed.txt" 1
 else
-    fail "the largest schedules" "$(tail -n 1 "$room/err")"
+    fail "the largest documents" "$(tail -n 1 "$room/err")"
 fi

@@ -1,7 +1,6 @@
 # What no contract of the running cells can refuse, looked for in their sources. Each cell has one file, table.rt, that touches
 # its table. That file makes just these calls, each with its kind of step: an access that tells the view nothing, a swap where a
 # store belongs, a load with no seat or one more call would be another list. It has no loop. No other file touches the table.
-cells=crates/cell_live/src
 
 # The code of a file: no comments, no clauses, no space.
 code_of() {
@@ -48,7 +47,7 @@ slot_mut(&self.inner.shared,slot)
 slot_mut(&self.inner.shared,slot)
 slot_mut(&self.inner.shared,slot)
 LIST
-is_listed $cells/four_slot/table.rt
+is_listed crates/cell_four_slot/src/table.rt
 
 cat >"$room/listed" <<'LIST'
 Table::new(alloc,&[1],slots,&first)
@@ -68,11 +67,11 @@ slot_mut(&self.inner.shared,slot)
 slot_mut(&self.inner.shared,slot)
 slot_mut(&self.inner.shared,slot)
 LIST
-is_listed $cells/triple/table.rt
+is_listed crates/cell_triple/src/table.rt
 
 # Elsewhere only what a rule and its kinds of step are made of is taken from `atomic_table`, and what a closed table leaves.
-title="no other file of the cells touches a table"
-find $cells -name '*.rt' ! -path '*/table.rt' ! -path '*/tests/*' ! -name tests.rt | sort >"$room/files"
+title="no other file of the cells and of a family touches a table"
+find crates/cell_live/src crates/cell_four_slot/src crates/cell_triple/src crates/family_four_slot/src -name '*.rt' ! -path '*/table.rt' ! -path '*/tests/*' ! -name tests.rt | sort >"$room/files"
 {
     while read -r file; do
         code_of "$file" | grep -oE 'atomic_table[^;]*;' | grep -vxE 'atomic_table::(TableRule|Closed|Split|\{Join,Play,Split\});' | sed "s:^:$file\: :"

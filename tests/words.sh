@@ -53,6 +53,7 @@ helps() {
 
 for program in fsr fsr_check; do
     helps "$program" check "Checks that an order of a history is atomic"
+    helps "$program" order "Finds a lawful order of a log, or tells why there is none"
     helps "$program" play "Plays a schedule and reports its history"
     helps "$program" race "Runs tasks over a board and checks their logs"
 done

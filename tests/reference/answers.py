@@ -2,10 +2,11 @@
 
 import documents
 import players
+import searches
 
 
 def answer(command, data):
-    """The text, the line on standard error (or nothing) and the status."""
+    """The text, the line on standard error (or nothing) and the status. Of a log the words before the places alone."""
     try:
         kind, found = documents.read(command, data)
     except documents.Refused as refusal:
@@ -14,6 +15,8 @@ def answer(command, data):
         return printed(kind, found)
     except players.TooManySteps as refusal:
         return "", f"fsr: schedule: no operation left at step {refusal.position}\n", 3
+    except searches.NotSearched as refusal:
+        return "", f"fsr: history: {refusal}\n", 3
 
 
 def printed(kind, found):
@@ -22,6 +25,9 @@ def printed(kind, found):
     if kind == "check":
         line = players.verdict(found["opening"], found["limit"], found["ops"], found["order"])
         return line + "\n", "", 0 if line == "lawful" else 1
+    if kind == "log":
+        rule, _ = searches.search(found["opening"], found["limit"], found["ops"])
+        return "lawful" if rule == "lawful" else f"unlawful {rule}", "", 0 if rule == "lawful" else 1
     if kind == "cell":
         ops, order = players.play_cell(found["opening"], found["noise"], found["writes"], found["reads"], found["steps"])
         return report(kind, ops, order, []), "", 0

@@ -1,14 +1,16 @@
 """Compares `fsr` with the plain reference on random documents.
 
-    compare.py PROGRAM [--documents N] [--seed S] [--kinds check,cell,matrix,board,race]
+    compare.py PROGRAM [--documents N] [--seed S] [--kinds check,log,cell,matrix,board,race]
 
 The last line is how many documents gave the same bytes and status, by kind of ending. The first difference ends the run with
 status 1, with the document kept in the file that is named. Where it depends on the run which writes of a race are refused, the
-writes of each task and its refused ones are compared together.
+writes of each task and its refused ones are compared together. Which order of a log is told is free, and which reason of a rule: the
+places have to be such an order or reason, and `check` has to call the order lawful.
 """
 
 import argparse
 import collections
+import json
 import random
 import re
 import subprocess
@@ -16,7 +18,9 @@ import sys
 import tempfile
 
 import answers
+import documents
 import make_documents
+import searches
 
 
 def words():
@@ -24,7 +28,7 @@ def words():
     parser.add_argument("program")
     parser.add_argument("--documents", type=int, default=2000)
     parser.add_argument("--seed", type=int, default=1)
-    parser.add_argument("--kinds", default="check,cell,matrix,board")
+    parser.add_argument("--kinds", default="check,log,cell,matrix,board")
     return parser.parse_args()
 
 
@@ -33,15 +37,35 @@ def ended(program, command, text):
     return done.stdout.decode(), done.stderr.decode(), done.returncode
 
 
-def agree(found, wanted):
-    """Whether the program ended as the reference says, which may leave open which writes of a race are refused."""
+def agree(program, command, text, found, wanted):
+    """Whether the program ended as the reference says, which may leave open which writes of a race are refused, and of a log the places."""
+    if command == "order" and wanted[2] < 2:
+        return found[1:] == wanted[1:] and tells_of_log(program, documents.read(command, text)[1], found[0])
     return found == wanted or (together(found[0]), *found[1:]) == wanted
+
+
+def tells_of_log(program, log, told):
+    """Whether a text tells an order of the log that `check` calls lawful, or a reason, as the reference has them."""
+    order = searches.places_told("lawful\norder:", told)
+    if order is not None:
+        claim = json.dumps({"kind": "check", **log, "order": order}).encode()
+        if ended(program, "check", claim) != ("lawful\n", "", 0):
+            return False
+    return searches.may_tell(log, told)
 
 
 def together(text):
     def writes(line):
         return f"{int(line[1]) + int(line[3])} writes or refused, {line[2]} reads"
     return re.sub(r"(\d+) writes, (\d+) reads, (\d+) refused", writes, text)
+
+
+def ending_of(command, wanted):
+    """How a document ended, without numbers."""
+    text, told, status = wanted
+    if status == 3:
+        return re.sub(r"\d+", "N", told.rstrip("\n").removeprefix("fsr: "))
+    return text if command == "order" else ("printed", "unlawful")[status]
 
 
 def keep(text):
@@ -57,12 +81,12 @@ def main():
         command, text = make_documents.make_document(source, given.kinds.split(","))
         wanted = answers.answer(command, text)
         found = ended(given.program, command, text)
-        if not agree(found, wanted):
+        if not agree(given.program, command, text, found, wanted):
             print(f"document {number} of seed {given.seed}, {command} < {keep(text)}")
             print("the program:", *found, sep="\n")
             print("the reference:", *wanted, sep="\n")
             return 1
-        counts[("printed", "unlawful", "", wanted[1].rstrip("\n").removeprefix("fsr: ").split(" at step")[0])[wanted[2]]] += 1
+        counts[ending_of(command, wanted)] += 1
     for ending, count in sorted(counts.items()):
         print(f"{count} {ending}")
     print(f"{given.documents} documents of seed {given.seed}: the same bytes and status")

@@ -231,6 +231,7 @@ def is_lawful(key, value):
 
 KINDS = {
     "check": {"check": ["opening", "limit", "ops", "order"]},
+    "order": {"log": ["opening", "limit", "ops"]},
     "play": {
         "cell": ["opening", "noise", "writes", "reads", "steps"],
         "matrix": ["opening", "limit", "plans", "steps"],

@@ -112,14 +112,41 @@ def claim(random, ops, order):
         order[at], order[at + 1] = order[at + 1], order[at]
 
 
+def log(random):
+    """A log that a register made, or a slack one, with one record changed at times. Each write has a record of its own, but for a few."""
+    dense = random.random() < 0.5
+    ops = [operation(random, None) for _ in range(random.randint(5, 7) if dense else random.randint(0, 7))]
+    number, longest = 0, random.choice([1, 6])
+    for each in ops:
+        if dense and each["kind"] == "refused":
+            each["kind"] = "read"
+        if "end" in each:
+            each["end"] = min(each["end"], each["begin"] + longest)
+        if each["kind"] == "write":
+            number += random.random() < 0.99
+            each["record"] = [number] * 3 if random.random() < 0.995 else [0, 0, 0]
+    slack = random.choice([0, 0, 5])
+    moments = [(random.uniform(each["begin"] - slack, each.get("end", 18) + slack), place) for place, each in enumerate(ops)]
+    latest = [0, 0, 0]
+    for _, place in sorted(moments):
+        if ops[place]["kind"] == "write":
+            latest = ops[place]["record"] if "end" in ops[place] or random.random() < 0.6 else latest
+        elif "record" in ops[place]:
+            ops[place]["record"] = latest
+    answers = [each for each in ops if each["kind"] != "write" and "record" in each]
+    if answers and random.random() < 0.3:
+        random.choice(answers)["record"] = [random.choice([*range(number + 1), 9])] * 3
+    return {"kind": "log", "opening": [0, 0, 0], "limit": random.choice([1, 1, 2, 3]), "ops": ops}
+
+
 def race(random):
     scripts = plans(random, processes_of(random))
     return {"kind": "race", "opening": record(random), "limit": random.choice([1, 2, 3, 9, 99, number(random)]), "scripts": scripts}
 
 
-KINDS = {"check": check, "cell": cell, "matrix": matrix, "board": board, "race": race}
+KINDS = {"check": check, "log": log, "cell": cell, "matrix": matrix, "board": board, "race": race}
 
-COMMANDS = {"check": "check", "cell": "play", "matrix": "play", "board": "play", "race": "race"}
+COMMANDS = {"check": "check", "log": "order", "cell": "play", "matrix": "play", "board": "play", "race": "race"}
 
 
 def places(value, path=()):

@@ -1,28 +1,25 @@
 -- One access more of a call: it is the last of its steps, and those before keep their places.
-use Rattle.std.proofs.Common.{◌≡◌, ◌≢◌, Bool, ℕ, ◌+◌, ◌-◌, ◌*◌, ◌<◌, ◌≤◌, List, [], ◌∷◌, ◌++◌, length, map, slice_get, Some}
+use Rattle.std.proofs.Common.{◌≡◌, Bool, ℕ, zero, suc, ◌+◌, ◌-◌, ◌*◌, ◌<◌, ◌≤◌, List, [], ◌∷◌, ◌++◌, length, slice_get, Some}
 use Rattle.std.proofs.Common.{refl, sym, ◌∙◌, ap, subst, arith, inl, inr, append_assoc, append-nil, add-mul}
 use Rattle.std.specs.Prelude.{IsTrue}
 use Rattle.std.proofs.lemmas.Bool.{cases_lt}
-use Rattle.std.proofs.lemmas.List.{length_push, length-append, map-append}
+use Rattle.std.proofs.lemmas.List.{length_push, length-append}
 use Rattle.std.proofs.lemmas.List.Sums.{fold-append}
-use Rattle.std.proofs.lemmas.Option.{none-some, slice_get_within}
+use Rattle.std.proofs.lemmas.Option.{none-some, same_Some, slice_get_within}
 use Rattle.history_core.proofs.Places.{get_after, get_before, get_pushed_cases}
 use Rattle.history_core.proofs.Played.{later_operation}
 use Rattle.cell_live.specs.declared.times.Times.{Times}
 use Rattle.cell_live.specs.Running.{last_or}
 use Rattle.family_live.specs.declared.family.Family.{Ghosts as FamilyWords}
-use Rattle.family_live.specs.Accesses.{IsAccess, Keeps, KeepsOthers, Reads, Writes}
-use Rattle.stamps.specs.declared.stamp.Stamped.{Stamped}
-use Rattle.stamps.specs.Stamps.{greater as greater_stamped}
-use Rattle.matrix_core.specs.CellAnswers.{greatest}
+use Rattle.family_live.specs.Accesses.{IsAccess, IsWrite, Keeps, KeepsOthers, Reads, Rises as Later, Writes}
 use Rattle.matrix_core.specs.Lines.{other}
 use Rattle.matrix_core.proofs.lines.Others.{other_above, other_below}
-use Rattle.board_history.specs.Accesses.{IsInterval, ReadsOnce, WritesOnce}
+use Rattle.board_history.specs.Accesses.{IsInterval}
 use Rattle.atomic_board.specs.declared.record.Posted.{Posted}
-use Rattle.atomic_board.specs.inner.Calls.{HasHeard, HasRead, HasWritten}
-use Rattle.atomic_board.specs.Passes.{answered_of, written_of}
-use Rattle.atomic_board.specs.Records.{greater, Rises, rises_on, stamped}
-use Rattle.atomic_board.proofs.Records.{greater_either, rises_greater, stamped_greater}
+use Rattle.atomic_board.specs.inner.Calls.{HasHeard, HasRead, HasWritten, IsIntervalOf, IsSpan}
+use Rattle.atomic_board.specs.Passes.{IsAnswered}
+use Rattle.atomic_board.specs.Records.{greater, Rises, rises_on}
+use Rattle.atomic_board.proofs.Records.{greater_either, rises_greater}
 
 pub other_once : (i e r : ℕ) → other i e ≡ other i r → e ≡ r
 other_once i e r h = elim (cases_lt e i) [
@@ -71,6 +68,54 @@ longer width count steps more a b = length-append steps more
 some_steps : (width clock clock' : ℕ) (times times' : List ℕ) (old new : Times) → IsAccess width clock clock' times times' old new → 0 < width
 some_steps width clock clock' times times' old new h = let l = slice_get_within h.steps 0 h.first h.first_is in let e = h.long in omega arith
 
+-- steps that rise, and their last
+rises_above : (clock : ℕ) (steps : List ℕ) (k b : ℕ) → Later clock steps → slice_get steps k ≡ Some b → clock < b
+rises_above clock [] k b h e = absurd (none-some b e)
+rises_above clock (t ∷ ts) zero b h e = let z : t ≡ b = same_Some t b e in let l = h.0 in omega arith
+rises_above clock (t ∷ ts) (suc k) b h e = let l = h.0 in let m : t < b = rises_above t ts k b h.1 e in omega arith
+
+rises_from : (clock : ℕ) (steps : List ℕ) (k a b : ℕ) → Later clock steps → slice_get steps 0 ≡ Some a → slice_get steps k ≡ Some b →
+    (clock < a) × (a ≤ b)
+rises_from clock [] k a b h e f = absurd (none-some a e)
+rises_from clock (t ∷ ts) zero a b h e f =
+    let y : t ≡ a = same_Some t a e in let z : t ≡ b = same_Some t b f in let l = h.0 in (omega arith, omega arith)
+rises_from clock (t ∷ ts) (suc k) a b h e f =
+    let y : t ≡ a = same_Some t a e in
+    let l = h.0 in
+    let m : t < b = rises_above t ts k b h.1 f in
+    (omega arith, omega arith)
+
+access_span : (width clock clock' : ℕ) (times times' : List ℕ) (old new : Times) → (h : IsAccess width clock clock' times times' old new) →
+    IsSpan clock clock' h.steps
+access_span width clock clock' times times' old new h =
+    let r = rises_from clock h.steps (width - 1) h.first clock' h.rising h.first_is h.last_is in
+    inr (h.first, h.first_is, r.0, r.1, subst (λ m. slice_get h.steps (m - 1) ≡ Some clock') (sym h.long) h.last_is)
+
+-- steps after steps
+pub span_on : (a b c : ℕ) (steps more : List ℕ) → IsSpan a b steps → IsSpan b c more → IsSpan a c (steps ++ more)
+span_on a b c steps more (inl x) (inl y) =
+    inl (ap (λ z. z ++ more) x.0 ∙ y.0, y.1 ∙ x.1)
+span_on a b c steps more (inl x) (inr y) =
+    subst (λ z. IsSpan z c (steps ++ more)) x.1 (subst (λ z. IsSpan b c (z ++ more)) (sym x.0) (inr y))
+span_on a b c steps more (inr x) (inl y) =
+    subst (λ z. IsSpan a z (steps ++ more)) (sym y.1)
+    (subst (λ z. IsSpan a b (steps ++ z)) (sym y.0) (subst (IsSpan a b) (sym (append-nil steps)) (inr x)))
+span_on a b c steps more (inr x) (inr y) =
+    let n = slice_get_within steps 0 x.0 x.1 in
+    let m = slice_get_within more 0 y.0 y.1 in
+    let l = x.3 in
+    let k = y.2 in
+    let j = y.3 in
+    inr (
+      x.0,
+      get_before steps more 0 n ∙ x.1,
+      x.2,
+      omega arith,
+      ap (slice_get (steps ++ more)) (let e : length (steps ++ more) ≡ length steps + length more = length-append steps more in
+          let z : length (steps ++ more) - 1 ≡ length steps + (length more - 1) = omega arith in z)
+          ∙ get_after steps more (length more - 1) ∙ y.4,
+    )
+
 module _ {V F S T : Type 0} (words : FamilyWords F (Posted V) S T) where
   pub nothing_read : (obeys : V → Bool) (family : F) (process : ℕ) (seat : S) (seen : Posted V) → words.is_seat family seat →
       IsTrue (obeys seen.item) → HasRead words obeys family process 0 seat seat seen seen
@@ -79,6 +124,7 @@ module _ {V F S T : Type 0} (words : FamilyWords F (Posted V) S T) where
     steps = [];
     long = let z : 0 ≡ 0 * words.width = omega arith in z;
     times = sym (append-nil (words.times seat));
+    span = inl (refl, refl);
     answers = [];
     each = refl;
     reads = λ e answer there. absurd (none-some answer there);
@@ -97,36 +143,36 @@ module _ {V F S T : Type 0} (words : FamilyWords F (Posted V) S T) where
     steps = r.steps ++ h.access.steps;
     long = longer words.width count r.steps h.access.steps r.long h.access.long;
     times = h.access.made ∙ ap (λ ts. ts ++ h.access.steps) r.times ∙ append_assoc (words.times start) r.steps h.access.steps;
-    answers = r.answers ++ stamped h.answer ∷ [];
-    each = length_push r.answers (stamped h.answer) ∙ ap (λ m. m + 1) r.each;
-    reads = λ e answer there. elim (get_pushed_cases r.answers (stamped h.answer) e answer there) [
+    span = span_on (words.clock start) (words.clock now) (words.clock next) r.steps h.access.steps r.span
+        (access_span words.width (words.clock now) (words.clock next) (words.times now) (words.times next)
+        (words.reads now (other process count)).times (words.reads next (other process count)).times h.access);
+    answers = r.answers ++ h.answer ∷ [];
+    each = length_push r.answers h.answer ∙ ap (λ m. m + 1) r.each;
+    reads = λ e answer there. elim (get_pushed_cases r.answers h.answer e answer there) [
       | inl was ↦
           let l : e < count = let a = slice_get_within r.answers e answer was in let b = r.each in omega arith in
           let x = r.reads e answer was in
-          subst (λ z. ReadsOnce words.width (r.steps ++ h.access.steps) e (answered_of (words.reads start (other process e))) (answered_of z) answer)
+          subst (λ (z : Reads (Posted V)). IsIntervalOf words.width (r.steps ++ h.access.steps) e (words.reads start (other process e)).times z.times
+          × IsAnswered obeys (words.opening family) (words.reads start (other process e)) z answer)
           (sym (h.others (other process e) (λ s. let z = other_once process e count s in omega arith)))
-          (record {
-            interval = stays words.width r.steps h.access.steps e count _ _ _ _ r.long l some x.interval;
-            items = x.items;
-          })
+          (stays words.width r.steps h.access.steps e count _ _ _ _ r.long l some x.0, x.1)
       | inr new ↦
           let at : e ≡ count = new.0 ∙ r.each in
-          subst (λ z. ReadsOnce words.width (r.steps ++ h.access.steps) z (answered_of (words.reads start (other process z)))
-          (answered_of (words.reads next (other process z))) answer) (sym at)
-          (subst (λ z. ReadsOnce words.width (r.steps ++ h.access.steps) count (answered_of z)
-          (answered_of (words.reads next (other process count))) answer) (r.unread count (omega arith))
-          (record {
-            interval = newest words.width (words.clock now) (words.clock next) (words.times now) (words.times next) r.steps
-                (words.reads now (other process count)).times (words.reads next (other process count)).times count r.long h.access;
-            items = ap (map stamped) h.more ∙ map-append stamped (words.reads now (other process count)).answers (h.answer ∷ [])
-                ∙ ap (λ z. map stamped (words.reads now (other process count)).answers ++ z ∷ []) new.1;
-          }))
+          subst (λ z. IsIntervalOf words.width (r.steps ++ h.access.steps) z (words.reads start (other process z)).times
+          (words.reads next (other process z)).times
+          × IsAnswered obeys (words.opening family) (words.reads start (other process z)) (words.reads next (other process z)) answer) (sym at)
+          (subst (λ (z : Reads (Posted V)). IsIntervalOf words.width (r.steps ++ h.access.steps) count z.times (words.reads next (other process count)).times
+          × IsAnswered obeys (words.opening family) z (words.reads next (other process count)) answer) (r.unread count (omega arith)) (
+            newest words.width (words.clock now) (words.clock next) (words.times now) (words.times next) r.steps
+                (words.reads now (other process count)).times (words.reads next (other process count)).times count r.long h.access,
+            subst (IsAnswered obeys (words.opening family) (words.reads now (other process count)) (words.reads next (other process count))) new.1
+                h.answered,
+          ))
     ];
     unread = λ e l. h.others (other process e) (λ s. let z = other_once process e count s in omega arith) ∙ r.unread e (omega arith);
     writes = λ j. h.writes j ∙ r.writes j;
-    sees = ap stamped h.raised ∙ stamped_greater seen h.answer ∙ ap (λ z. greater_stamped z (stamped h.answer)) r.sees
-        ∙ sym (fold-append greater_stamped (stamped own) r.answers (stamped h.answer ∷ []));
-    lawful = subst (λ z. IsTrue (obeys z.item)) (sym h.raised) (greater_either obeys seen h.answer r.lawful h.lawful);
+    sees = h.raised ∙ ap (λ z. greater z h.answer) r.sees ∙ sym (fold-append greater own r.answers (h.answer ∷ []));
+    lawful = subst (λ z. IsTrue (obeys z.item)) (sym h.raised) (greater_either obeys seen h.answer r.lawful h.answered.running.0);
     rises = subst (λ z. Rises own z) (sym h.raised) (rises_on own seen (greater seen h.answer) r.rises (rises_greater seen h.answer));
   }
     where
@@ -145,6 +191,7 @@ module _ {V F S T : Type 0} (words : FamilyWords F (Posted V) S T) where
     steps = [];
     long = let z : 0 ≡ 0 * words.width = omega arith in z;
     times = sym (append-nil (words.times seat));
+    span = inl (refl, refl);
     writes = λ e l. absurd (omega arith);
     unwritten = λ e l. refl;
     last = λ e first l. absurd (omega arith);
@@ -155,7 +202,7 @@ module _ {V F S T : Type 0} (words : FamilyWords F (Posted V) S T) where
       words.is_seat family next × (words.who next ≡ words.who now) →
       IsAccess words.width (words.clock now) (words.clock next) (words.times now) (words.times next)
       (words.writes now (other process count)).times (words.writes next (other process count)).times →
-      (words.writes next (other process count)).items ≡ (words.writes now (other process count)).items ++ item ∷ [] →
+      IsWrite (words.writes now (other process count)) (words.writes next (other process count)) item →
       KeepsOthers (other process count) (words.writes now) (words.writes next) × Keeps (words.reads now) (words.reads next) →
       HasWritten words family process (count + 1) start next item
   write_more family process count start now next item r of access more others = record {
@@ -163,23 +210,28 @@ module _ {V F S T : Type 0} (words : FamilyWords F (Posted V) S T) where
     steps = r.steps ++ access.steps;
     long = longer words.width count r.steps access.steps r.long access.long;
     times = access.made ∙ ap (λ ts. ts ++ access.steps) r.times ∙ append_assoc (words.times start) r.steps access.steps;
+    span = span_on (words.clock start) (words.clock now) (words.clock next) r.steps access.steps r.span
+        (access_span words.width (words.clock now) (words.clock next) (words.times now) (words.times next)
+        (words.writes now (other process count)).times (words.writes next (other process count)).times access);
     writes = λ e l. elim (cases_lt e count) [
       | inl lt ↦
           let x = r.writes e lt in
-          subst (λ z. WritesOnce words.width (r.steps ++ access.steps) e (written_of (words.writes start (other process e))) (written_of z) (stamped item))
+          subst (λ (z : Writes (Posted V)). IsIntervalOf words.width (r.steps ++ access.steps) e (words.writes start (other process e)).times z.times
+          × IsWrite (words.writes start (other process e)) z item)
           (sym (others.0 (other process e) (λ s. let z = other_once process e count s in omega arith)))
-          (record { interval = stays words.width r.steps access.steps e count _ _ _ _ r.long lt some x.interval; items = x.items })
+          (stays words.width r.steps access.steps e count _ _ _ _ r.long lt some x.0, x.1)
       | inr ge ↦
           let at : e ≡ count = omega arith in
-          subst (λ z. WritesOnce words.width (r.steps ++ access.steps) z (written_of (words.writes start (other process z)))
-          (written_of (words.writes next (other process z))) (stamped item)) (sym at)
-          (subst (λ z. WritesOnce words.width (r.steps ++ access.steps) count (written_of z)
-          (written_of (words.writes next (other process count))) (stamped item)) (r.unwritten count (omega arith))
-          (record {
-            interval = newest words.width (words.clock now) (words.clock next) (words.times now) (words.times next) r.steps
-                (words.writes now (other process count)).times (words.writes next (other process count)).times count r.long access;
-            items = ap (map stamped) more ∙ map-append stamped (words.writes now (other process count)).items (item ∷ []);
-          }))
+          subst (λ z. IsIntervalOf words.width (r.steps ++ access.steps) z (words.writes start (other process z)).times
+          (words.writes next (other process z)).times × IsWrite (words.writes start (other process z)) (words.writes next (other process z)) item)
+          (sym at)
+          (subst (λ (z : Writes (Posted V)). IsIntervalOf words.width (r.steps ++ access.steps) count z.times
+          (words.writes next (other process count)).times × IsWrite z (words.writes next (other process count)) item)
+          (r.unwritten count (omega arith)) (
+            newest words.width (words.clock now) (words.clock next) (words.times now) (words.times next) r.steps
+                (words.writes now (other process count)).times (words.writes next (other process count)).times count r.long access,
+            more,
+          ))
     ];
     unwritten = λ e l. others.0 (other process e) (λ s. let z = other_once process e count s in omega arith) ∙ r.unwritten e (omega arith);
     last = λ e first l. elim (cases_lt e count) [
@@ -187,7 +239,7 @@ module _ {V F S T : Type 0} (words : FamilyWords F (Posted V) S T) where
           ∙ r.last e first lt
       | inr ge ↦
           let at : e ≡ count = omega arith in
-          ap (λ z. last_or first (words.writes next (other process z)).items) at ∙ ap (last_or first) more
+          ap (λ z. last_or first (words.writes next (other process z)).items) at ∙ ap (last_or first) more.items
           ∙ last_of first (words.writes now (other process count)).items item
     ];
     reads = λ j. others.1 j ∙ r.reads j;

@@ -1,18 +1,16 @@
 -- What the end of a board rests on: the greatest of the own records, and the seats in their order.
-use Rattle.std.proofs.Common.{◌≡◌, Bool, true, false, ℕ, zero, suc, ◌+◌, ◌<◌, ◌≤◌, List, [], ◌∷◌, ◌++◌, length, map, reverse, slice_get, Some}
-use Rattle.std.proofs.Common.{refl, sym, ◌∙◌, ap, subst, arith, append_assoc, append-nil, ◌⊎◌, inl, inr}
-use Rattle.std.specs.Prelude.{if◌then◌else◌}
-use Rattle.std.proofs.lemmas.Bool.{cases_eq, cases_lt}
+use Rattle.std.proofs.Common.{◌≡◌, ℕ, ◌+◌, ◌<◌, List, [], ◌∷◌, ◌++◌, length, map, reverse, slice_get, Some}
+use Rattle.std.proofs.Common.{refl, sym, ◌∙◌, ap, subst, arith, append_assoc, append-nil, inl, inr}
+use Rattle.std.proofs.lemmas.Bool.{cases_lt}
 use Rattle.std.proofs.lemmas.List.{reverse-append}
 use Rattle.std.proofs.lemmas.Option.{same_Some}
-use Rattle.stamps.specs.declared.stamp.Stamp.{Stamp}
 use Rattle.stamps.specs.Choices.{IsAtMost}
-use Rattle.stamps.specs.Stamps.{greater as greater_stamped, IsBelow, is_below}
-use Rattle.stamps.proofs.choices.Stamps.{at_most_refl, at_most_trans, greater_first, greater_second}
+use Rattle.stamps.specs.Stamps.{IsBelow}
+use Rattle.stamps.proofs.choices.Stamps.{at_most_below, at_most_trans, greater_first, greater_second}
 use Rattle.atomic_board.specs.declared.board.Pass.{Pass}
 use Rattle.atomic_board.specs.declared.record.Posted.{Posted}
 use Rattle.atomic_board.specs.Records.{greater, stamped}
-use Rattle.atomic_board.proofs.Records.{stamped_greater}
+use Rattle.atomic_board.proofs.Records.{either_greater, stamped_greater}
 
 -- a list of what was made so far from the last elements, last first
 pub record MappedFrom {A B : Type 0} (f : A → B) (whole left : List A) (made : List B) : Type 0 where
@@ -36,10 +34,6 @@ pub mapped_all : {A B : Type 0} (f : A → B) (whole left : List A) (made : List
 mapped_all f whole [] made h e = h.are ∙ ap (map f) (sym h.of)
 mapped_all f whole (x ∷ xs) made h e = absurd (omega (arith, e))
 
-either : {V : Type 0} (a b : Posted V) (t : Bool) → ((if t then b else a) ≡ a) ⊎ ((if t then b else a) ≡ b)
-either a b true = inr refl
-either a b false = inl refl
-
 module _ {V F S T : Type 0} where
   -- the greatest of the first passes
   pub record IsGreatestSoFar (passes : List (Pass V F S T)) (count : ℕ) (last : Posted V) : Type 0 where
@@ -48,6 +42,7 @@ module _ {V F S T : Type 0} where
     pub there : slice_get passes process ≡ Some pass
     pub own : last ≡ pass.own
     pub greatest : (i : ℕ) (p : Pass V F S T) → i < count → slice_get passes i ≡ Some p → IsAtMost p.own.stamp last.stamp
+    pub earliest : (i : ℕ) (p : Pass V F S T) → i < process → slice_get passes i ≡ Some p → IsBelow p.own.stamp last.stamp
 
   pub first_is : (passes : List (Pass V F S T)) (pass : Pass V F S T) → slice_get passes 0 ≡ Some pass → IsGreatestSoFar passes 0 pass.own
   first_is passes pass there = record {
@@ -56,6 +51,7 @@ module _ {V F S T : Type 0} where
     there = there;
     own = refl;
     greatest = λ i p l h. absurd (omega arith);
+    earliest = λ i p l h. absurd (omega arith);
   }
 
   pub greatest_more : (passes : List (Pass V F S T)) (count : ℕ) (last last' : Posted V) (next : Pass V F S T) →
@@ -73,7 +69,22 @@ module _ {V F S T : Type 0} where
             let same : p ≡ next = same_Some p next (sym at ∙ ap (slice_get passes) (let z : i ≡ count = omega arith in z) ∙ there) in
             subst (λ (z : Pass V F S T). IsAtMost z.own.stamp last'.stamp) (sym same) second
       ] in
-      elim (either last next.own (is_below last.stamp next.own.stamp)) [
-        | inl a ↦ record { process = h.process; pass = h.pass; there = h.there; own = e ∙ a ∙ h.own; greatest = all }
-        | inr b ↦ record { process = count; pass = next; there = there; own = e ∙ b; greatest = all }
+      elim (either_greater last next.own) [
+        | inl a ↦ record {
+          process = h.process;
+          pass = h.pass;
+          there = h.there;
+          own = e ∙ a ∙ h.own;
+          greatest = all;
+          earliest = λ i p l at. subst (λ z. IsBelow p.own.stamp z.stamp) (sym (e ∙ a)) (h.earliest i p l at);
+        }
+        | inr b ↦ record {
+          process = count;
+          pass = next;
+          there = there;
+          own = e ∙ b.0;
+          greatest = all;
+          earliest = λ i p l at. subst (λ z. IsBelow p.own.stamp z.stamp) (sym (e ∙ b.0))
+              (at_most_below p.own.stamp last.stamp next.own.stamp (h.greatest i p l at) b.1);
+        }
       ]

@@ -1,5 +1,5 @@
 -- A pass with which no call was made: what its process did is what it did before.
-use Rattle.std.proofs.Common.{◌≡◌, ◌≢◌, ℕ, ◌+◌, ◌-◌, ◌*◌, ◌<◌, List, [], ◌∷◌, length, map, slice_get, Some}
+use Rattle.std.proofs.Common.{◌≡◌, ◌≢◌, ℕ, ◌+◌, ◌-◌, ◌*◌, ◌<◌, List, length, map, slice_get}
 use Rattle.std.proofs.Common.{refl, sym, ◌∙◌, ap, subst, inl, inr}
 use Rattle.std.proofs.lemmas.Bool.{cases_eq}
 use Rattle.family_live.specs.declared.family.Family.{Ghosts as FamilyWords}
@@ -34,6 +34,9 @@ same_process : {V : Type 0} (width n limit : ℕ) (first : Stamped V) (i : ℕ) 
     IsProcess width n limit first i old → IsProcess width n limit first i new
 same_process width n limit first i old new times calls reads writes h = record {
   long = ap length times ∙ h.long ∙ ap (λ cs. length cs * steps_of_call width n) (sym calls);
+  begun = λ k c e. ap (λ ts. slice_get ts (k * steps_of_call width n)) times ∙ h.begun k c (ap (λ cs. slice_get cs k) (sym calls) ∙ e);
+  ended = λ k c e. ap (λ ts. slice_get ts (k * steps_of_call width n + (steps_of_call width n - 1))) times
+      ∙ h.ended k c (ap (λ cs. slice_get cs k) (sym calls) ∙ e);
   reads = λ e l. same_accesses width n old new e _ _ _ _ times calls (reads e).begins (reads e).ends (h.reads e l);
   answered = λ e l. ap length (reads e).items ∙ h.answered e l ∙ ap length (sym calls);
   writes = λ e l. same_accesses width n old new (n - 1 + e) _ _ _ _ times calls (ap (λ w. w.begins) (writes e)) (ap (λ w. w.ends) (writes e))

@@ -1,24 +1,19 @@
 -- All passes of a board that ends: their calls and the family's registers are a board's run.
-use Rattle.std.proofs.Common.{◌≡◌, ◌≢◌, Bool, ℕ, zero, suc, ◌+◌, ◌<◌, ◌≤◌, List, [], ◌∷◌, length, map, slice_get, Option, Some, None}
-use Rattle.std.proofs.Common.{refl, sym, ◌∙◌, ap, subst, arith}
+use Rattle.std.proofs.Common.{◌≡◌, ◌≢◌, Bool, ℕ, ◌<◌, ◌≤◌, List, [], ◌∷◌, length, map, slice_get, Some}
+use Rattle.std.proofs.Common.{sym, ◌∙◌, ap, subst, arith}
 use Rattle.std.specs.Prelude.{vec_capacity}
 use Rattle.std.specs.Option.{option_map}
 use Rattle.std.proofs.lemmas.List.{length-map}
 use Rattle.std.proofs.lemmas.Option.{same_Some, slice_get-map, slice_get_within}
 use Rattle.history_core.specs.Schedules.{positions}
-use Rattle.fourslot_core.specs.Accesses.{IsBefore}
-use Rattle.cell_live.specs.Intervals.{AreAtomic}
 use Rattle.family_live.specs.declared.family.Family.{Ghosts as FamilyWords}
 use Rattle.family_live.specs.Accesses.{Reads, Writes}
 use Rattle.family_live.specs.Ends.{Each, EachTwo, IsAtomicCell, IsSchedule}
-use Rattle.stamps.specs.declared.stamp.Stamp.{Stamp}
 use Rattle.stamps.specs.declared.stamp.Stamped.{Stamped}
 use Rattle.stamps.specs.Choices.{IsAtMost}
-use Rattle.matrix_core.specs.CellAnswers.{IsReadOf}
 use Rattle.matrix_core.specs.Lines.{first_record}
 use Rattle.matrix_core.proofs.lists.Elements.{get_exists}
-use Rattle.stamps.proofs.choices.Stamps.{stamp_same}
-use Rattle.board_history.specs.BoardRuns.{Answered, Called, Did, intervals, IsBoardRun, IsProcess, IsRegister, own_before, Written}
+use Rattle.board_history.specs.BoardRuns.{IsBoardRun, IsProcess, IsRegister, own_before}
 use Rattle.board_history.specs.Histories.{IsGreatestOwn, own_after}
 use Rattle.board_history.proofs.Atomic.{history_atomic, history_lawful}
 use Rattle.board_history.proofs.Last.{history_last}
@@ -26,8 +21,8 @@ use Rattle.board_history.proofs.There.{all_there}
 use Rattle.atomic_board.specs.declared.board.Board.{Board}
 use Rattle.atomic_board.specs.declared.board.Pass.{Pass}
 use Rattle.atomic_board.specs.declared.record.Posted.{Posted}
-use Rattle.atomic_board.specs.Ends.{AllPasses, did_at, did_by, HaveAtomicOrder, IsGreatest}
-use Rattle.atomic_board.specs.Passes.{answered_of, did_of, HasMade, IsPass, written_of}
+use Rattle.atomic_board.specs.Ends.{AllAtomic, AllPasses, did_at, did_by, HaveAtomicOrder, IsGreatest}
+use Rattle.atomic_board.specs.Passes.{answered_of, did_of, IsPass, written_of}
 use Rattle.atomic_board.specs.Records.{stamped}
 
 -- a register of the family, as a played board has it
@@ -76,27 +71,34 @@ module _ {V F S T : Type 0} (words : FamilyWords F (Posted V) S T) (obeys : V �
           subst (λ z. words.is_seat board.family z × (words.who z ≡ i)) same (x.0.seat, x.0.who ∙ x.1),
     )
 
+    -- the registers between the passes
+    pub all_registers : EachTwo (λ i j s t. IsAtomicCell (words.opening board.family) (words.writes s j) (words.reads t i)) seats →
+        AllAtomic words board passes
+    all_registers registers i j p q at_p at_q ne =
+        subst (λ f. IsAtomicCell f (words.writes p.seat j) (words.reads q.seat i)) first_pass.1.opens
+        (registers i j p.seat q.seat (seat_at i p at_p) (seat_at j q at_q) ne)
+
     pub all_atomic : (last : Posted V) → IsGreatest passes last →
         (steps : List ℕ) × IsSchedule (words.processes board.family) steps × Each (λ i s. words.times s ≡ positions 1 i steps) seats →
         EachTwo (λ i j s t. IsAtomicCell (words.opening board.family) (words.writes s j) (words.reads t i)) seats →
         HaveAtomicOrder words board passes last
     all_atomic last greatest scheduled registers calls made =
         let there = all_there words.width board.processes board.limit board.first.item scheduled.0 (did_by words passes calls) run in
-        let ops = there.0 in
-        let stamps = there.1 in
-        let order = there.2 in (
-          ops,
-          stamps,
-          order,
-          there.3,
-          there.4,
-          history_atomic words.width board.processes board.limit board.first.item scheduled.0 (did_by words passes calls) run ops stamps there.3
-              order there.4,
-          history_lawful words.width board.processes board.limit board.first.item scheduled.0 (did_by words passes calls) run ops stamps there.3
-              order there.4,
-          history_last words.width board.processes board.limit board.first.item scheduled.0 (did_by words passes calls) run ops stamps there.3
-              order (stamped last) there.4 own,
-        )
+        record {
+          ops = there.0;
+          stamps = there.1;
+          order = there.2;
+          history = there.3;
+          by_stamp = there.4;
+          atomic = history_atomic words.width board.processes board.limit board.first.item scheduled.0 (did_by words passes calls) run there.0
+              there.1 there.3 there.2 there.4;
+          lawful = history_lawful words.width board.processes board.limit board.first.item scheduled.0 (did_by words passes calls) run there.0
+              there.1 there.3 there.2 there.4;
+          holds = history_last words.width board.processes board.limit board.first.item scheduled.0 (did_by words passes calls) run there.0
+              there.1 there.3 there.2 (stamped last) there.4 own;
+          steps = scheduled.0;
+          run = run;
+        }
       where
         first_is : stamped board.first ≡ first_record board.first.item
         first_is = ap (λ s. record { stamp = s; item = board.first.item }) first_pass.1.first
@@ -122,10 +124,8 @@ module _ {V F S T : Type 0} (words : FamilyWords F (Posted V) S T) (obeys : V �
         register_at i j li lj ne =
             let p = pass_at i li in
             let q = pass_at j lj in
-            let opens : words.opening board.family ≡ board.first = first_pass.1.opens in
             let cell : IsAtomicCell board.first (words.writes p.0.seat j) (words.reads q.0.seat i) =
-            subst (λ f. IsAtomicCell f (words.writes p.0.seat j) (words.reads q.0.seat i)) opens
-            (registers i j p.0.seat q.0.seat (seat_at i p.0 p.1) (seat_at j q.0 q.1) ne) in
+            all_registers registers i j p.0 q.0 p.1 q.1 ne in
             subst (λ d. IsRegister (first_record board.first.item) (d.writes j) ((did_by words passes calls j).reads i)) (sym (did_is i p.0 p.1))
             (subst (λ d. IsRegister (first_record board.first.item) (written_of (words.writes p.0.seat j)) (d.reads i)) (sym (did_is j q.0 q.1))
             (subst (λ f. IsRegister f (written_of (words.writes p.0.seat j)) (answered_of (words.reads q.0.seat i))) first_is

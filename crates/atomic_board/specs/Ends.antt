@@ -1,13 +1,16 @@
 -- A board that ends: the calls of all its passes together (atomic orders are L. Lamport's, On Interprocess Communication, Parts I and II,
 -- Distributed Computing 1, 1986).
-use Rattle.std.specs.Prelude.{◌≡◌, Bool, ℕ, ◌+◌, ◌<◌, ◌≤◌, List, [], ◌∷◌, length, slice_get, Option, Some, None}
+use Rattle.std.specs.Prelude.{◌≡◌, Bool, ℕ, ◌<◌, List, [], ◌∷◌, length, slice_get, Option, Some, None}
 use Rattle.family_live.specs.declared.family.Family.{Ghosts as FamilyWords}
+use Rattle.family_live.specs.Ends.{EachTwo, IsAtomicCell}
 use Rattle.history_core.specs.declared.history.Op.{Op}
 use Rattle.history_core.specs.Orders.{IsAtomicOrder, latest, RefusesLawfully}
 use Rattle.stamps.specs.declared.stamp.Stamp.{Stamp}
 use Rattle.stamps.specs.Choices.{IsAtMost}
+use Rattle.stamps.specs.Stamps.{IsBelow}
 use Rattle.matrix_core.specs.Listings.{IsInOrder}
-use Rattle.board_history.specs.BoardRuns.{Called, Did}
+use Rattle.matrix_core.specs.Lines.{first_record}
+use Rattle.board_history.specs.BoardRuns.{Called, Did, IsBoardRun}
 use Rattle.board_history.specs.Histories.{IsHistory}
 use Rattle.atomic_board.specs.declared.board.Board.{Board}
 use Rattle.atomic_board.specs.declared.board.Pass.{Pass}
@@ -15,13 +18,14 @@ use Rattle.atomic_board.specs.declared.record.Posted.{Posted}
 use Rattle.atomic_board.specs.Passes.{did_of, HasMade, IsPass}
 
 module _ {V F S T : Type 0} where
-  -- the greatest of the records that the processes chose last
+  -- the greatest of the records that the processes chose last, of equal stamps that of the smaller process
   pub record IsGreatest (passes : List (Pass V F S T)) (last : Posted V) : Type 0 where
     pub process : ℕ
     pub pass : Pass V F S T
     pub there : slice_get passes process ≡ Some pass
     pub own : last ≡ pass.own
     pub greatest : (i : ℕ) (p : Pass V F S T) → slice_get passes i ≡ Some p → IsAtMost p.own.stamp last.stamp
+    pub earliest : (i : ℕ) (p : Pass V F S T) → i < process → slice_get passes i ≡ Some p → IsBelow p.own.stamp last.stamp
 
 module _ {V F S T : Type 0} (words : FamilyWords F (Posted V) S T) where
   -- the passes of all processes, in their order
@@ -43,15 +47,27 @@ module _ {V F S T : Type 0} (words : FamilyWords F (Posted V) S T) where
   abbrev pub did_by : List (Pass V F S T) → (ℕ → List (Called V)) → ℕ → Did V
   did_by passes calls i = did_at (slice_get passes i) (calls i)
 
-  -- *Atomic*: whatever calls were made with the passes, they are the operations of a history, each once, with the interval of its steps in
-  -- the schedule of all steps; and there is an order of them by stamp that is atomic by these intervals and refuses lawfully, after which
-  -- the register holds this record
+  -- *An atomic run*: the calls are the operations of a history, each once, with their intervals, and there is an order of them by stamp
+  -- that is atomic by these intervals and refuses lawfully; after it the register holds this record. This comes of one schedule of all
+  -- steps, by which each register between two processes is atomic
+  pub record IsAtomicRun (board : Board V F S T) (did : ℕ → Did V) (last : Posted V) : Type 0 where
+    pub ops : List (Op V)
+    pub stamps : List (Option Stamp)
+    pub order : List ℕ
+    pub history : IsHistory board.processes did ops stamps
+    pub by_stamp : IsInOrder ops stamps order
+    pub atomic : IsAtomicOrder (λ x y. x ≡ y) board.first.item ops order
+    pub lawful : RefusesLawfully (record { first = 0; limit = board.limit } ∷ []) ops order
+    pub holds : latest board.first.item ops order ≡ Some last.item
+    pub steps : List ℕ
+    pub run : IsBoardRun words.width board.processes board.limit (first_record board.first.item) steps did
+
+  -- *Atomic*: whatever calls were made with the passes, they are an atomic run
   abbrev pub HaveAtomicOrder : Board V F S T → List (Pass V F S T) → Posted V → Type 0
   HaveAtomicOrder board passes last = (calls : ℕ → List (Called V))
       → ((i : ℕ) (p : Pass V F S T) → slice_get passes i ≡ Some p → HasMade words board p (calls i))
-      → (ops : List (Op V)) × (stamps : List (Option Stamp)) × (order : List ℕ)
-      × IsHistory words.width board.processes (did_by passes calls) ops stamps
-      × IsInOrder ops stamps order
-      × IsAtomicOrder (λ x y. x ≡ y) board.first.item ops order
-      × RefusesLawfully (record { first = 0; limit = board.limit } ∷ []) ops order
-      × (latest board.first.item ops order ≡ Some last.item)
+      → IsAtomicRun board (did_by passes calls) last
+
+  -- each register between two processes is atomic by its intervals: each answer is the record with its number of those written
+  abbrev pub AllAtomic : Board V F S T → List (Pass V F S T) → Type 0
+  AllAtomic board passes = EachTwo (λ i j p q. IsAtomicCell board.first (words.writes p.seat j) (words.reads q.seat i)) passes

@@ -1,19 +1,21 @@
 -- The passes of a board's processes, and the calls that were made with them (this project's own).
-use Rattle.std.specs.Prelude.{◌≡◌, ◌≢◌, Bool, IsTrue, ℕ, ◌+◌, ◌<◌, ◌≤◌, List, [], ◌∷◌, ◌++◌, length, map, vec_capacity, Result, Ok, Err}
-use Rattle.cell_live.specs.Running.{last_or}
+use Rattle.std.specs.Prelude.{◌≡◌, ◌≢◌, ◌⊎◌, Bool, IsTrue, ℕ, ◌+◌, ◌<◌, ◌≤◌, List, [], ◌∷◌, ◌++◌, length, map, slice_get, Some}
+use Rattle.std.specs.Prelude.{All, vec_capacity, Result, Ok, Err}
+use Rattle.cell_live.specs.Running.{IsAnswer, last_or}
 use Rattle.family_live.specs.declared.family.Family.{Ghosts as FamilyWords}
-use Rattle.family_live.specs.Accesses.{Writes, Reads}
-use Rattle.stamps.specs.declared.stamp.Stamped.{Stamped}
+use Rattle.family_live.specs.Accesses.{IsRead, IsWrite, Keeps, Reads, Writes}
 use Rattle.history_core.specs.declared.history.Kind.{Kind}
 use Rattle.history_core.specs.declared.history.Kind.TheVariants.{Write, Refused}
 use Rattle.stamps.specs.declared.stamp.Stamp.{Stamp}
+use Rattle.stamps.specs.Choices.{IsAtMost}
 use Rattle.stamps.specs.Stamps.{first_stamp}
+use Rattle.matrix_core.specs.Lines.{other}
 use Rattle.board_history.specs.BoardRuns.{Answered, Called, Did, IsProcess, own_before, Written}
 use Rattle.atomic_board.specs.declared.board.Board.{Board}
 use Rattle.atomic_board.specs.declared.board.Pass.{Pass}
 use Rattle.atomic_board.specs.declared.board.TagsEnded.{TagsEnded}
 use Rattle.atomic_board.specs.declared.record.Posted.{Posted}
-use Rattle.atomic_board.specs.Records.{Rises, stamped}
+use Rattle.atomic_board.specs.Records.{greatest, Rises, stamped}
 
 module _ {V : Type 0} where
   abbrev pub written_of : Writes (Posted V) → Written V
@@ -21,6 +23,12 @@ module _ {V : Type 0} where
 
   abbrev pub answered_of : Reads (Posted V) → Answered V
   answered_of r = record { items = map stamped r.answers; numbers = r.numbers; begins = r.times.begins; ends = r.times.ends }
+
+  -- one answer more of another process: it is the record with its number of the writes that are known, atomic by its interval; and it
+  -- obeys its law, and is no older than the opening, the answer before it and all that was told of that process
+  pub record IsAnswered (obeys : V → Bool) (opening : Posted V) (old new : Reads (Posted V)) (answer : Posted V) : Type 0 where
+    pub read : IsRead opening old new answer
+    pub running : IsAnswer (λ p. IsTrue (obeys p.item)) Rises opening old.answers old.told answer
 
 module _ {V F S T : Type 0} (family : FamilyWords F (Posted V) S T) where
   -- what a process did, by its seat
@@ -51,14 +59,32 @@ module _ {V F S T : Type 0} (family : FamilyWords F (Posted V) S T) where
     pub made : IsProcess family.width board.processes board.limit (stamped board.first) pass.process (did_of pass.seat calls)
     pub own : stamped pass.own ≡ own_before (stamped board.first) calls (length calls)
 
-  -- *A call*: its process saw this record, the greatest of its own and one answer of each other process, and chose its own one; all of
+  -- *Known*: it is the own record, or the record with a number of those that the process knows another one to have written to it, where
+  -- the opening has number 0
+  abbrev pub IsKnown : Board V F S T → Pass V F S T → Pass V F S T → Posted V → Type 0
+  IsKnown board old new seen = (seen ≡ old.own) ⊎ ((j : ℕ) × (number : ℕ) × (j < board.processes) × (j ≢ old.process)
+      × (slice_get (board.first ∷ (family.reads new.seat j).known.items) number ≡ Some seen))
+
+  -- *A call*: its process saw this record, the greatest of its own and of one answer of each other process, none of which is below what
+  -- it was told of that one; and it wrote the record that it chose to each. The call begins after all that the process knew of. All of
   -- the calls that were made with the pass are those made before and this one
-  pub record IsCall (board : Board V F S T) (kind : Kind) (old new : Pass V F S T) (seen : Posted V) : Type 0 where
+  pub record IsCall (obeys : V → Bool) (board : Board V F S T) (kind : Kind) (old new : Pass V F S T) (seen : Posted V) : Type 0 where
     pub process : new.process ≡ old.process
+    pub begin : ℕ
+    pub end : ℕ
+    pub interval : (family.clock old.seat < begin) × (begin < end) × (family.clock new.seat ≡ end)
+    pub answers : List (Posted V)
+    pub each : length answers + 1 ≡ board.processes
+    pub answered : (e : ℕ) (answer : Posted V) → slice_get answers e ≡ Some answer →
+        IsAnswered obeys board.first (family.reads old.seat (other old.process e)) (family.reads new.seat (other old.process e)) answer
+    pub is_seen : seen ≡ greatest old.own answers
+    pub known : IsKnown board old new seen
+    pub heeds : (j : ℕ) → j < board.processes → j ≢ old.process → All (λ t. IsAtMost t.stamp seen.stamp) (family.reads old.seat j).told
     pub rises : Rises old.own seen
     pub onward : Rises seen new.own
+    pub written : (j : ℕ) → j < board.processes → j ≢ old.process → IsWrite (family.writes old.seat j) (family.writes new.seat j) new.own
     pub made : (calls : List (Called V)) → HasMade board old calls →
-        HasMade board new (calls ++ record { kind = kind; seen = stamped seen; chosen = stamped new.own } ∷ [])
+        HasMade board new (calls ++ record { begin = begin; end = end; kind = kind; seen = stamped seen; chosen = stamped new.own } ∷ [])
 
 module _ {V F S T : Type 0} (family : FamilyWords F (Posted V) S T) where
   -- no call was made: whatever calls were made with the pass still are
@@ -66,6 +92,7 @@ module _ {V F S T : Type 0} (family : FamilyWords F (Posted V) S T) where
     pub process : new.process ≡ old.process
     pub own : new.own ≡ old.own
     pub later : family.clock old.seat ≤ family.clock new.seat
+    pub writes : Keeps (family.writes old.seat) (family.writes new.seat)
     pub made : (calls : List (Called V)) → HasMade family board old calls → HasMade family board new calls
 
 module _ {V : Type 0} where

@@ -1,5 +1,6 @@
 -- Records with stamps: their order, and the greatest of several (this project's own).
-use Rattle.std.specs.Prelude.{◌≡◌, ◌⊎◌, Option, Some, None, if◌then◌else◌}
+use Rattle.std.specs.Prelude.{◌≡◌, ◌⊎◌, List, Option, Some, None, if◌then◌else◌}
+use Rattle.std.specs.List.{fold}
 use Rattle.std.proofs.Common.{refl, ◌∙◌, inl, inr, arith}
 use Rattle.stamps.specs.declared.stamp.Stamp.{Stamp}
 use Rattle.stamps.specs.declared.stamp.Stamped.{Stamped}
@@ -17,6 +18,10 @@ Rises a b = IsBelow a.stamp b.stamp ⊎ ((a.stamp ≡ b.stamp) × (a.item ≡ b.
 -- the greater of two by stamp, the first where the stamps are equal
 abbrev pub greater : {V : Type 0} → Posted V → Posted V → Posted V
 greater a b = if is_below a.stamp b.stamp then b else a
+
+-- the greatest of a record and of others, the first of equal stamps
+abbrev pub greatest : {V : Type 0} → Posted V → List (Posted V) → Posted V
+greatest own answers = fold greater own answers
 
 -- the record, where its stamp is above that one
 abbrev pub above : {V : Type 0} → Stamp → Posted V → Option (Posted V)

@@ -1,10 +1,11 @@
 //! Reading and writing.
-ghost use Rattle.std.specs.Prelude.{◌≡◌, ◌≢◌, ◌+◌, ◌-◌, ◌<◌, ◌≤◌, IsTrue};
+ghost use Rattle.std.specs.Prelude.{◌≡◌, ◌≢◌, ◌-◌, ◌<◌, IfErr, IfOk, IsTrue};
 ghost use Rattle.matrix_core.specs.Lines.{other};
 ghost use Rattle.atomic_board.specs.inner.Calls.{HasHeard, HasRead, HasWritten, IsOf};
 ghost use Rattle.cell_live.specs.Running.{last_or};
 ghost use Rattle.history_core.specs.declared.history.Kind.TheVariants.{Read};
-ghost use Rattle.atomic_board.specs.Passes.{Chooses, IsCall, IsPass, kind_of};
+ghost use Rattle.atomic_board.specs.Passes.{Chooses, IsCall, IsKnown, IsPass, kind_of};
+ghost use Rattle.stamps.specs.Stamps.{IsBelow};
 ghost use Rattle.atomic_board.specs.Records.{above, Rises};
 
 use crate::board::{Board, Pass, TagsEnded};
@@ -86,13 +87,16 @@ fn row<V: RecordLaw, F: Family<Posted<V>>>(
 }
 
 impl<V: RecordLaw, F: Family<Posted<V>>> Board<V, F> {
-    /// Gives the greatest of the process's own record and what each other process shows, and hands it on.
+    /// Gives the greatest of the process's own record and what each other process shows, and hands it on. It is a record that was
+    /// really written, or the opening.
     #[inline]
     pub fn read(&self, pass: &mut Pass<V, F>) -> Posted<V>
         requires { IsPass ⟦<F as Family<Posted<V>>>⟧ V.obeys self.now pass.old }
         ensures pass { IsPass ⟦<F as Family<Posted<V>>>⟧ V.obeys self.now pass.new }
-        ensures call { IsCall ⟦<F as Family<Posted<V>>>⟧ self.now Read pass.old pass.new result }
+        ensures call { IsCall ⟦<F as Family<Posted<V>>>⟧ V.obeys self.now Read pass.old pass.new result }
+        ensures known { IsKnown ⟦<F as Family<Posted<V>>>⟧ self.now pass.old pass.new result }
         ensures chosen { pass.new.own ≡ result }
+        ensures lawful { IsTrue (V.obeys result.item) }
     {
         let own = pass.own;
         let mut seen = own;
@@ -123,8 +127,10 @@ impl<V: RecordLaw, F: Family<Posted<V>>> Board<V, F> {
         requires pass { IsPass ⟦<F as Family<Posted<V>>>⟧ V.obeys self.now pass.old }
         requires item { IsTrue (V.obeys item) }
         ensures pass { IsPass ⟦<F as Family<Posted<V>>>⟧ V.obeys self.now pass.new }
-        ensures call { (seen : _) × IsCall ⟦<F as Family<Posted<V>>>⟧ self.now (kind_of result) pass.old pass.new seen
+        ensures call { (seen : _) × IsCall ⟦<F as Family<Posted<V>>>⟧ V.obeys self.now (kind_of result) pass.old pass.new seen
             × Chooses self.now.limit pass.old.process item seen pass.new.own result }
+        ensures raised { IfOk result (λ s. IsBelow pass.old.own.stamp s) }
+        ensures lawful { IfErr result (λ e. IsTrue (V.obeys e.seen.item)) }
     {
         let own = pass.own;
         let mut chosen = own;

@@ -88,4 +88,16 @@ impl<V: RecordLaw, F: Family<Posted<V>>> Board<V, F> {
             Err(_) => Err(BoardError::NoMemory),
         }
     }
+
+    /// A new board that opens with the item of the last record of another.
+    pub fn renew(
+        alloc: Global,
+        n: usize,
+        limit: u64,
+        last: Posted<V>,
+    ) -> Result<(Board<V, F>, Vec<Pass<V, F>>), BoardError>
+        ensures { OpensWith ⟦<F as Family<Posted<V>>>⟧ V.obeys n limit last.item result }
+    {
+        Board::new(alloc, n, limit, last.item)
+    }
 }

@@ -1,6 +1,6 @@
 //! Ending a board.
 ghost use Rattle.std.specs.Prelude.{◌≡◌, ◌<◌, ◌≤◌, vec_len, vec_capacity, map, []};
-ghost use Rattle.atomic_board.specs.Ends.{AllPasses, HaveAtomicOrder, IsGreatest};
+ghost use Rattle.atomic_board.specs.Ends.{AllAtomic, AllPasses, HaveAtomicOrder, IsGreatest};
 
 use crate::board::{Board, Pass};
 use crate::record::{Posted, RecordLaw};
@@ -45,10 +45,12 @@ fn seats_of<V: RecordLaw, F: Family<Posted<V>>>(
 }
 
 impl<V: RecordLaw, F: Family<Posted<V>>> Board<V, F> {
-    /// Ends the board: only here do all passes meet. Gives the greatest of the processes' own records.
+    /// Ends the board: only here do all passes meet. Gives the greatest of the processes' own records. All calls are atomic by their
+    /// intervals.
     pub fn finish(self, passes: Vec<Pass<V, F>>) -> Posted<V>
         requires { AllPasses ⟦<F as Family<Posted<V>>>⟧ V.obeys self passes.items }
         ensures last { IsGreatest passes.items result }
+        ensures registers { AllAtomic ⟦<F as Family<Posted<V>>>⟧ self passes.items }
         ensures atomic { HaveAtomicOrder ⟦<F as Family<Posted<V>>>⟧ self passes.items result }
     {
         let last = greatest_own(&passes);

@@ -2,6 +2,7 @@
 ghost use Rattle.std.specs.Prelude.{◌≡◌, Bool, IsTrue};
 
 use cell_live::{Kept, Lawful};
+use history_core::Band;
 use stamps::Stamp;
 
 /// A type of records with a law that a caller can test.
@@ -66,6 +67,16 @@ impl<V: Copy> Posted<V> {
             self.stamp = stamp;
             self.item = item;
         }
+    }
+}
+
+impl RecordLaw for Band {
+    ghost use Rattle.history_core.specs.Band.{fits};
+
+    ghost obeys = { fits };
+
+    fn fits(&self) -> bool {
+        Band::fits(self)
     }
 }
 

@@ -1,13 +1,12 @@
 -- A history of a board's run is one by accesses, so its calls choose by the law of choices.
 use Rattle.std.proofs.Common.{◌≡◌, ◌≢◌, ℕ, zero, suc, ◌+◌, ◌-◌, ◌*◌, ◌<◌, ◌≤◌, List, [], ◌∷◌, length, map, slice_get}
-use Rattle.std.proofs.Common.{Option, None, Some, refl, sym, ◌∙◌, ap, subst, arith, ◌⊎◌, inl, inr, mul-le-mul_right}
-use Rattle.std.specs.Option.{option_map}
+use Rattle.std.proofs.Common.{Option, None, Some, sym, ◌∙◌, ap, subst, arith, inl, inr, mul-le-mul_right}
 use Rattle.std.proofs.lemmas.Bool.{cases_lt}
-use Rattle.std.proofs.lemmas.Option.{get_or_from_slice_get, none-some, same_Some, slice_get-map, slice_get_past, slice_get_within}
+use Rattle.std.proofs.lemmas.Option.{get_or_from_slice_get, none-some, same_Some, slice_get_past, slice_get_within}
 use Rattle.history_core.specs.declared.history.Op.{Op}
 use Rattle.history_core.specs.declared.history.Kind.{Kind}
 use Rattle.history_core.specs.Orders.{IsAtomicOrder, RefusesLawfully}
-use Rattle.history_core.specs.Schedules.{access_at, IsOperation, positions}
+use Rattle.history_core.specs.Schedules.{IsOperation, positions}
 use Rattle.history_core.proofs.Played.{later_operation}
 use Rattle.fourslot_core.specs.Accesses.{IsBefore}
 use Rattle.fourslot_core.specs.Traces.{source_record}
@@ -22,9 +21,9 @@ use Rattle.matrix_core.proofs.choices.ByAccesses.{chosen_by_law}
 use Rattle.matrix_core.proofs.lines.Others.{other_differs, other_inside}
 use Rattle.matrix_core.proofs.lists.Elements.{get_exists}
 use Rattle.matrix_core.proofs.orders.Terms.{term_atomic, term_lawful}
-use Rattle.board_history.specs.BoardRuns.{AreAccesses, Called, Did, intervals, IsBoardRun, IsProcess, IsRegister, own_before, Sees, steps_of_call}
+use Rattle.board_history.specs.BoardRuns.{AreAccesses, Called, Did, intervals, IsBoardRun, IsRegister, Sees, steps_of_call}
 use Rattle.board_history.specs.Histories.{IsCall, IsHistory}
-use Rattle.board_history.proofs.Calls.{call_of, chosen_by, chosen_is, cut, is_operation, own_is, played, processes, span_of, step_is}
+use Rattle.board_history.proofs.Calls.{call_of, chosen_by, chosen_is, cut, own_is, played, processes, span_of, step_is}
 
 -- what is known of a read stays where the intervals are the same
 same_read : (writes v reads r : Intervals) (m number : ℕ) → ((k : ℕ) → (writes.begins k ≡ v.begins k) × (writes.ends k ≡ v.ends k)) →
@@ -80,7 +79,7 @@ module _ {V : Type 0} (width n limit : ℕ) (opening : V) (steps : List ℕ) (di
         )
   ]
 
-  module _ (ops : List (Op V)) (stamps : List (Option Stamp)) (h : IsHistory width n did ops stamps) where
+  module _ (ops : List (Op V)) (stamps : List (Option Stamp)) (h : IsHistory n did ops stamps) where
     -- the answer of each other process is a record that it chose, with a number as the order needs it
     answered : (i k : ℕ) (seen : Stamped V) (s : Sees n (first_record opening) i (did i) k seen) → i < n → (e write : ℕ) (answer : Stamped V) →
         slice_get s.answers e ≡ Some answer → other (other i e) write ≡ i → write + 1 < n →
@@ -123,7 +122,7 @@ module _ {V : Type 0} (width n limit : ℕ) (opening : V) (steps : List ℕ) (di
     chooses p k op e is =
         let span = span_of width n limit opening steps did run in
         let x = call_of width n limit opening steps did run ops stamps h p k op e is in
-        let c : IsCall width n did op x.0 k = x.2 in
+        let c : IsCall n did op x.0 k = x.2 in
         let process = run.each op.who c.who in
         let s = process.sees k c.call c.made in
         let own = own_is opening (did op.who).calls k c.call c.made in
@@ -140,7 +139,7 @@ module _ {V : Type 0} (width n limit : ℕ) (opening : V) (steps : List ℕ) (di
         }
 
     -- each call of a history has chosen
-    has_chosen : (k : ℕ) (op : Op V) (stamp : Option Stamp) → IsCall width n did op stamp k →
+    has_chosen : (k : ℕ) (op : Op V) (stamp : Option Stamp) → IsCall n did op stamp k →
         chooses_at 1 (span_of width n limit opening steps did run) width op.who k ≢ None
     has_chosen k op stamp c none =
         let span = span_of width n limit opening steps did run in

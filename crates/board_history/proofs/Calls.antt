@@ -1,18 +1,17 @@
 -- The calls of a board's run are the operations of the schedule that its processes' steps make: each has the positions of its steps,
 -- and each register's accesses are those of the calls.
-use Rattle.std.proofs.Common.{◌≡◌, ◌≢◌, ℕ, zero, suc, ◌+◌, ◌-◌, ◌*◌, ◌<◌, ◌≤◌, List, [], ◌∷◌, length, map, get_or, slice_get}
-use Rattle.std.proofs.Common.{Option, None, Some, option_and_then, refl, sym, ◌∙◌, ap, subst, arith, ◌⊎◌, inl, inr}
+use Rattle.std.proofs.Common.{◌≡◌, ℕ, zero, suc, ◌+◌, ◌-◌, ◌*◌, ◌<◌, List, [], ◌∷◌, length, map, get_or, slice_get}
+use Rattle.std.proofs.Common.{Option, Some, option_and_then, refl, sym, ◌∙◌, ap, subst, arith, inl, inr}
 use Rattle.std.proofs.Math.Nat.{lt_of_mul-lt-mul_right}
 use Rattle.std.specs.Option.{option_map}
-use Rattle.std.proofs.lemmas.Bool.{cases_lt}
-use Rattle.std.proofs.lemmas.Option.{get_or_from_slice_get, none-some, same_Some, slice_get-map, slice_get_past, slice_get_within}
+use Rattle.std.proofs.lemmas.Option.{get_or_from_slice_get, same_Some, slice_get-map, slice_get_within}
 use Rattle.history_core.specs.declared.history.Op.{Op}
 use Rattle.history_core.specs.declared.history.Kind.{Kind}
 use Rattle.history_core.specs.declared.history.Kind.TheVariants.{Write as WriteKind, Read as ReadKind, Refused as RefusedKind}
 use Rattle.history_core.specs.declared.wish.Wish.{Wish}
 use Rattle.history_core.specs.declared.wish.Wish.TheVariants.{Write, Read}
 use Rattle.history_core.specs.Schedules.{access_at, Follows, IsOperation, IsPlayed, planned, positions, Span}
-use Rattle.history_core.proofs.Played.{later_operation, number_once}
+use Rattle.history_core.proofs.Played.{number_once}
 use Rattle.history_core.proofs.Positions.{position_step}
 use Rattle.fourslot_core.specs.Traces.{source_record}
 use Rattle.stamps.specs.declared.stamp.Stamp.{Stamp}
@@ -20,7 +19,7 @@ use Rattle.stamps.specs.declared.stamp.Stamped.{Stamped}
 use Rattle.matrix_core.specs.Lines.{first_record}
 use Rattle.matrix_core.specs.ByAccesses.{IsCut}
 use Rattle.matrix_core.proofs.lists.Elements.{get_exists}
-use Rattle.board_history.specs.BoardRuns.{AreAccesses, Called, Did, IsBoardRun, IsProcess, own_before, steps_of_call}
+use Rattle.board_history.specs.BoardRuns.{Called, Did, IsBoardRun, own_before, steps_of_call}
 use Rattle.board_history.specs.Histories.{IsCall, IsHistory}
 use Rattle.board_history.proofs.Plans.{upto, upto_at, upto_length}
 
@@ -89,10 +88,12 @@ module _ {V : Type 0} (width n limit : ℕ) (opening : V) (steps : List ℕ) (di
   pub step_is : (i index : ℕ) → i < n → slice_get (positions 1 i steps) index ≡ slice_get (did i).times index
   step_is i index l = ap (λ ts. slice_get ts index) (sym (run.scheduled i l))
 
-  pub is_operation : (op : Op V) (stamp : Option Stamp) (k : ℕ) → IsCall width n did op stamp k → IsOperation 1 span_of k op
+  pub is_operation : (op : Op V) (stamp : Option Stamp) (k : ℕ) → IsCall n did op stamp k → IsOperation 1 span_of k op
   is_operation op stamp k is = record {
-    begins = step_is op.who (k * steps_of_call width n + 0) is.who ∙ ap (slice_get (did op.who).times) (omega arith) ∙ is.begins;
-    finishes = step_is op.who (k * steps_of_call width n + (steps_of_call width n - 1)) is.who ∙ sym is.ends;
+    begins = step_is op.who (k * steps_of_call width n + 0) is.who ∙ ap (slice_get (did op.who).times) (omega arith)
+        ∙ (run.each op.who is.who).begun k is.call is.made ∙ ap Some (sym is.begins);
+    finishes = step_is op.who (k * steps_of_call width n + (steps_of_call width n - 1)) is.who
+        ∙ (run.each op.who is.who).ended k is.call is.made ∙ sym is.ends;
     follows = subst (λ o. Follows o op) (sym (planned_is op.who k is.call is.who is.made))
         (follows_by is.call.kind is.call.chosen.item op is.kind is.item);
   }
@@ -110,16 +111,16 @@ module _ {V : Type 0} (width n limit : ℕ) (opening : V) (steps : List ℕ) (di
       some_of (suc a) zero la lb = absurd (omega arith)
       some_of (suc a) (suc b) la lb = omega arith
 
-  module _ (ops : List (Op V)) (stamps : List (Option Stamp)) (h : IsHistory width n did ops stamps) where
+  module _ (ops : List (Op V)) (stamps : List (Option Stamp)) (h : IsHistory n did ops stamps) where
     -- the call of an operation, by its number
     pub call_of : (p k : ℕ) (op : Op V) → slice_get ops p ≡ Some op → IsOperation 1 span_of k op →
-        (stamp : Option Stamp) × (slice_get stamps p ≡ Some stamp) × IsCall width n did op stamp k
+        (stamp : Option Stamp) × (slice_get stamps p ≡ Some stamp) × IsCall n did op stamp k
     call_of p k op e is =
         let l : p < length stamps = let a = slice_get_within ops p op e in let b = h.long in omega arith in
         let s = get_exists stamps p l in
         let c = h.each p op s.0 e s.1 in
         let same : c.0 ≡ k = number_once 1 span_of c.0 k op op steps_some refl refl (is_operation op s.0 c.0 c.1) is in
-        (s.0, s.1, subst (λ j. IsCall width n did op s.0 j) same c.1)
+        (s.0, s.1, subst (λ j. IsCall n did op s.0 j) same c.1)
 
     pub played : IsPlayed 1 span_of ops
     played = record {
@@ -145,5 +146,10 @@ module _ {V : Type 0} (width n limit : ℕ) (opening : V) (steps : List ℕ) (di
             let c = get_exists (did who).calls k made in
             let x = h.all who k c.0 inside c.1 in
             let same : slice_get (did x.1.who).times (k * steps_of_call width n) ≡ slice_get (did who).times (k * steps_of_call width n) =
-            ap (λ i. slice_get (did i).times (k * steps_of_call width n)) x.5 in
-            (x.0, x.1, x.3, x.5, same_Some x.1.starts begin (sym x.6.begins ∙ same ∙ there))
+            ap (λ i. slice_get (did i).times (k * steps_of_call width n)) x.5 in (
+              x.0,
+              x.1,
+              x.3,
+              x.5,
+              x.6.begins ∙ same_Some x.6.call.begin begin (sym ((run.each x.1.who x.6.who).begun k x.6.call x.6.made) ∙ same ∙ there),
+            )

@@ -1,9 +1,9 @@
 -- One call more: its accesses are the last of each list, and what was there before stays.
-use Rattle.std.proofs.Common.{◌≡◌, ℕ, zero, suc, ◌+◌, ◌-◌, ◌*◌, ◌<◌, ◌≤◌, List, [], ◌∷◌, ◌++◌, length, map, slice_get, Option, None, Some}
-use Rattle.std.proofs.Common.{refl, sym, ◌∙◌, ap, subst, arith, ◌⊎◌, inl, inr, add-mul}
-use Rattle.std.proofs.lemmas.Bool.{cases_eq, cases_lt}
+use Rattle.std.proofs.Common.{◌≡◌, ℕ, zero, suc, ◌+◌, ◌-◌, ◌*◌, ◌<◌, ◌≤◌, List, [], ◌∷◌, ◌++◌, length, map, slice_get, Some}
+use Rattle.std.proofs.Common.{refl, sym, ◌∙◌, ap, subst, arith, inl, inr, add-mul}
+use Rattle.std.proofs.lemmas.Bool.{cases_lt}
 use Rattle.std.proofs.lemmas.List.{length_push, length-append, map-append}
-use Rattle.std.proofs.lemmas.Option.{none-some, same_Some, slice_get_within}
+use Rattle.std.proofs.lemmas.Option.{none-some, slice_get_within}
 use Rattle.history_core.proofs.Places.{get_after, get_before, get_last, get_pushed, get_pushed_cases}
 use Rattle.history_core.proofs.Played.{later_operation}
 use Rattle.stamps.specs.declared.stamp.Stamped.{Stamped}
@@ -11,8 +11,8 @@ use Rattle.stamps.specs.Choices.{ChoosesByKind}
 use Rattle.matrix_core.specs.CellAnswers.{greatest}
 use Rattle.matrix_core.specs.Lines.{other}
 use Rattle.matrix_core.proofs.lists.Elements.{get_exists}
-use Rattle.board_history.specs.Accesses.{HasDoneNothing, IsInterval, MakesCall, ReadsOnce, WritesOnce}
-use Rattle.board_history.specs.BoardRuns.{Answered, AreAccesses, Called, Did, IsProcess, own_before, Sees, steps_of_call, Written}
+use Rattle.board_history.specs.Accesses.{HasDoneNothing, IsInterval, MakesCall}
+use Rattle.board_history.specs.BoardRuns.{AreAccesses, Called, Did, IsProcess, own_before, Sees, steps_of_call}
 
 -- what a process had before a call doesn't change with a later call
 own_stays : {V : Type 0} (first : Stamped V) (calls : List (Called V)) (c : Called V) (k : ℕ) → k ≤ length calls →
@@ -92,6 +92,8 @@ module _ {V : Type 0} (width n limit : ℕ) (first : Stamped V) (i : ℕ) where
   nothing_made did h = record {
     long = ap length h.times ∙ (let z : 0 ≡ 0 * steps_of_call width n = omega arith in z)
         ∙ ap (λ cs. length cs * steps_of_call width n) (sym h.calls);
+    begun = λ k c e. absurd (none-some c (ap (λ cs. slice_get cs k) (sym h.calls) ∙ e));
+    ended = λ k c e. absurd (none-some c (ap (λ cs. slice_get cs k) (sym h.calls) ∙ e));
     reads = λ e l. none e (did.reads (other i e)).begins (did.reads (other i e)).ends (ap (λ r. r.begins) (h.reads (other i e)))
         (ap (λ r. r.ends) (h.reads (other i e)));
     answered = λ e l. ap (λ r. length r.items) (h.reads (other i e)) ∙ ap length (sym h.calls);
@@ -120,6 +122,18 @@ module _ {V : Type 0} (width n limit : ℕ) (first : Stamped V) (i : ℕ) where
         let l = h.long in
         let z = m.long in
         t ∙ omega arith ∙ sym s ∙ ap (λ c. c * steps_of_call width n) (sym c);
+    begun = λ k c e. elim (get_pushed_cases old.calls call k c (ap (λ cs. slice_get cs k) (sym m.calls) ∙ e)) [
+      | inl was ↦ let b = h.begun k c was in stays (k * steps_of_call width n) c.begin b
+      | inr now ↦ subst (λ z. slice_get new.times z ≡ Some c.begin) (sym (ap (λ z. z * steps_of_call width n) now.0 ∙ sym h.long))
+          (subst (λ z. slice_get new.times z ≡ Some c.begin) (let z : length old.times + 0 ≡ length old.times = omega arith in z)
+          (last 0 ∙ m.begun ∙ ap (λ z. Some z.begin) now.1))
+    ];
+    ended = λ k c e. elim (get_pushed_cases old.calls call k c (ap (λ cs. slice_get cs k) (sym m.calls) ∙ e)) [
+      | inl was ↦ let b = h.ended k c was in stays (k * steps_of_call width n + (steps_of_call width n - 1)) c.end b
+      | inr now ↦ subst (λ z. slice_get new.times (z + (steps_of_call width n - 1)) ≡ Some c.end)
+          (sym (ap (λ z. z * steps_of_call width n) now.0 ∙ sym h.long))
+          (last (steps_of_call width n - 1) ∙ m.ended ∙ ap (λ z. Some z.end) now.1)
+    ];
     reads = λ e l.
         let x = get_exists m.answers e (let z = m.each in omega arith) in
         let r = m.reads e x.0 x.1 in
@@ -147,6 +161,13 @@ module _ {V : Type 0} (width n limit : ℕ) (first : Stamped V) (i : ℕ) where
     where
       count : length new.calls ≡ length old.calls + 1
       count = ap length m.calls ∙ length_push old.calls call
+
+      -- a step of an earlier call stays where it is, and one of the last call follows
+      stays : (at time : ℕ) → slice_get old.times at ≡ Some time → slice_get new.times at ≡ Some time
+      stays at time e = ap (λ ts. slice_get ts at) m.times ∙ get_before old.times m.steps at (slice_get_within old.times at time e) ∙ e
+
+      last : (at : ℕ) → slice_get new.times (length old.times + at) ≡ slice_get m.steps at
+      last at = ap (λ ts. slice_get ts (length old.times + at)) m.times ∙ get_after old.times m.steps at
 
       own_same : (k : ℕ) → k ≤ length old.calls → own_before first new.calls k ≡ own_before first old.calls k
       own_same k l = ap (λ cs. own_before first cs k) m.calls ∙ own_stays first old.calls call k l

@@ -1,5 +1,5 @@
 -- The two runs of two processes: every list has one or two elements, so each fact computes at its places.
-use Rattle.std.proofs.Common.{◌≡◌, ◌≢◌, ℕ, zero, suc, ◌+◌, ◌-◌, ◌*◌, ◌<◌, ◌≤◌, List, [], ◌∷◌, length, slice_get, Option, None, Some}
+use Rattle.std.proofs.Common.{◌≡◌, ◌≢◌, ℕ, zero, suc, ◌+◌, ◌*◌, ◌<◌, [], ◌∷◌, slice_get, Some}
 use Rattle.std.proofs.Common.{refl, sym, ◌∙◌, ap, subst, arith}
 use Rattle.std.proofs.lemmas.Option.{none-some, same_Some}
 use Rattle.fourslot_core.specs.Accesses.{IsBefore}
@@ -67,12 +67,14 @@ one_each item answer number read written is late begun = record {
     read_of (suc m) n a = absurd (none-some n a)
 
 -- a process that made one call
-one_process : (i : ℕ) (call : Called ℕ) (answer : Stamped ℕ) (number read written : ℕ) → call.seen ≡ greater zero_first answer →
+one_process : (i : ℕ) (call : Called ℕ) (answer : Stamped ℕ) (number read written : ℕ) → call.begin ≡ read → call.end ≡ written → call.seen ≡ greater zero_first answer →
     ((place : ℕ) → ChoosesByKind 5 (record { place = place; who = i; kind = call.kind; stamp = call.chosen.stamp; item = call.chosen.item })
     call.kind call.seen.stamp call.seen.item) →
     IsProcess 1 2 5 zero_first i (one_call call answer number read written)
-one_process i call answer number read written sees chooses = record {
+one_process i call answer number read written begin end sees chooses = record {
   long = refl;
+  begun = λ k c e. begun k c e;
+  ended = λ k c e. ended k c e;
   reads = λ e l. at_read e l;
   answered = λ e l. refl;
   writes = λ e l. at_write e l;
@@ -81,6 +83,14 @@ one_process i call answer number read written sees chooses = record {
   chooses = λ k place c e. chose k place c e;
 }
   where
+    begun : (k : ℕ) (c : Called ℕ) → slice_get (call ∷ []) k ≡ Some c → slice_get (read ∷ written ∷ []) (k * 2) ≡ Some c.begin
+    begun zero c e = ap Some (sym begin ∙ ap (λ (z : Called ℕ). z.begin) (same_Some call c e))
+    begun (suc k) c e = absurd (none-some c e)
+
+    ended : (k : ℕ) (c : Called ℕ) → slice_get (call ∷ []) k ≡ Some c → slice_get (read ∷ written ∷ []) (k * 2 + 1) ≡ Some c.end
+    ended zero c e = ap Some (sym end ∙ ap (λ (z : Called ℕ). z.end) (same_Some call c e))
+    ended (suc k) c e = absurd (none-some c e)
+
     at_read : (e : ℕ) → e + 1 < 2 → AreAccesses 1 2 (one_call call answer number read written) e (read ∷ []) (read ∷ [])
     at_read zero l = (one_access call answer number read written).0
     at_read (suc e) l = absurd (omega arith)
@@ -131,8 +141,8 @@ is_fresh = record {
     scheduled (suc (suc i)) l = absurd (omega arith)
 
     each : (i : ℕ) → i < 2 → IsProcess 1 2 5 zero_first i (two_processes reads_seven i)
-    each zero l = one_process 0 (record { kind = Write; seen = zero_first; chosen = seven }) zero_first 0 1 2 refl (λ place. (omega arith, refl))
-    each (suc zero) l = one_process 1 (record { kind = Read; seen = seven; chosen = seven }) seven 1 3 4 refl (λ place. (refl, refl))
+    each zero l = one_process 0 (record { begin = 1; end = 2; kind = Write; seen = zero_first; chosen = seven }) zero_first 0 1 2 refl refl refl (λ place. (omega arith, refl))
+    each (suc zero) l = one_process 1 (record { begin = 3; end = 4; kind = Read; seen = seven; chosen = seven }) seven 1 3 4 refl refl refl (λ place. (refl, refl))
     each (suc (suc i)) l = absurd (omega arith)
 
     registers : (i j : ℕ) → i < 2 → j < 2 → i ≢ j →

@@ -1,17 +1,16 @@
 -- After the order of a board's run the register holds the greatest record that any process has: a process's stamps never fall, so the
 -- greatest of what was chosen is what some process chose last.
-use Rattle.std.proofs.Common.{◌≡◌, ℕ, zero, suc, ◌+◌, ◌-◌, ◌*◌, ◌<◌, ◌≤◌, List, [], ◌∷◌, length, slice_get}
-use Rattle.std.proofs.Common.{Option, None, Some, refl, sym, ◌∙◌, ap, subst, arith, ◌⊎◌, inl, inr}
+use Rattle.std.proofs.Common.{◌≡◌, ℕ, zero, suc, ◌+◌, ◌-◌, ◌<◌, ◌≤◌, List, [], ◌∷◌, length, slice_get}
+use Rattle.std.proofs.Common.{Option, Some, refl, sym, ◌∙◌, ap, subst, arith, inl, inr}
 use Rattle.std.proofs.lemmas.Bool.{cases_eq}
 use Rattle.std.proofs.lemmas.Option.{same_Some, slice_get_within}
 use Rattle.history_core.specs.declared.history.Op.{Op}
 use Rattle.history_core.specs.declared.history.Kind.{Kind}
 use Rattle.history_core.specs.declared.history.Kind.TheVariants.{Write, Read, Refused}
 use Rattle.history_core.specs.Orders.{latest}
-use Rattle.history_core.proofs.Played.{later_operation}
 use Rattle.stamps.specs.declared.stamp.Stamp.{Stamp}
 use Rattle.stamps.specs.declared.stamp.Stamped.{Stamped}
-use Rattle.stamps.specs.Choices.{Choice, ChoosesByKind, HasChoices, IsAtMost, IsChoiceOf, IsFrom, IsIn}
+use Rattle.stamps.specs.Choices.{Choice, ChoosesByKind, HasChoices, IsAtMost, IsChoiceOf, IsFrom}
 use Rattle.stamps.specs.Stamps.{greater, IsBelow}
 use Rattle.stamps.proofs.choices.Stamps.{at_most_trans, greater_first}
 use Rattle.matrix_core.specs.CellAnswers.{greatest}
@@ -19,10 +18,9 @@ use Rattle.matrix_core.specs.Lines.{first_record}
 use Rattle.matrix_core.specs.Listings.{IsInOrder}
 use Rattle.matrix_core.proofs.lists.Elements.{get_exists}
 use Rattle.matrix_core.proofs.orders.Terms.{term_last}
-use Rattle.board_history.specs.BoardRuns.{Called, Did, IsBoardRun, IsProcess, own_before, Sees, steps_of_call}
+use Rattle.board_history.specs.BoardRuns.{Called, Did, IsBoardRun, own_before}
 use Rattle.board_history.specs.Histories.{IsCall, IsGreatestOwn, IsHistory, own_after}
 use Rattle.board_history.proofs.Atomic.{choices_there}
-use Rattle.board_history.proofs.Calls.{steps_some}
 
 greatest_first : {V : Type 0} (own : Stamped V) (answers : List (Stamped V)) → IsAtMost own.stamp (greatest own answers).stamp
 greatest_first own [] = inl refl
@@ -82,7 +80,7 @@ module _ {V : Type 0} (width n limit : ℕ) (opening : V) (steps : List ℕ) (di
       subst (λ z. IsAtMost z.stamp (own_after first (did i)).stamp) (own_next first (did i).calls k c e)
       (subst (λ m. IsAtMost (own_before first (did i).calls (suc k)).stamp (own_before first (did i).calls m).stamp) all up)
 
-  module _ (ops : List (Op V)) (stamps : List (Option Stamp)) (h : IsHistory width n did ops stamps) where
+  module _ (ops : List (Op V)) (stamps : List (Option Stamp)) (h : IsHistory n did ops stamps) where
     -- the call at a choice's place
     at_choice : (c : Choice V) → IsChoiceOf ops stamps c → (i : ℕ) × (k : ℕ) × (d : Called V) × (i < n) × (slice_get (did i).calls k ≡ Some d)
         × (d.chosen.stamp ≡ c.stamp)
@@ -105,7 +103,7 @@ module _ {V : Type 0} (width n limit : ℕ) (opening : V) (steps : List ℕ) (di
           ap (own_before (first_record opening) (did i).calls) (let e : length (did i).calls ≡ suc k = omega arith in e)
           ∙ own_next (first_record opening) (did i).calls k c.0 c.1 in
           let w = h.all i k c.0 l c.1 in
-          let call : IsCall width n did w.1 w.2 k = w.6 in
+          let call : IsCall n did w.1 w.2 k = w.6 in
           let made : call.call ≡ c.0 = same_Some call.call c.0 (sym call.made ∙ ap (λ j. slice_get (did j).calls k) w.5 ∙ c.1) in
           let end = ended i k w.1 w.2 l w.5 call in
           let d = x.finished w.0 end.0 w.1 w.3 end.1 in
@@ -120,16 +118,9 @@ module _ {V : Type 0} (width n limit : ℕ) (opening : V) (steps : List ℕ) (di
           inr (d.0, d.1, stamp ∙ ap (λ z. z.stamp) (sym last), item ∙ ap (λ z. z.item) (sym last))
     ]
       where
-        ended : (i k : ℕ) (op : Op V) (stamp : Option Stamp) → i < n → op.who ≡ i → IsCall width n did op stamp k →
+        ended : (i k : ℕ) (op : Op V) (stamp : Option Stamp) → i < n → op.who ≡ i → IsCall n did op stamp k →
             (end : ℕ) × (op.ends ≡ Some end)
-        ended i k op stamp l who call =
-            let long : length (did op.who).times ≡ length (did op.who).calls * steps_of_call width n = (run.each op.who call.who).long in
-            let m : k < length (did op.who).calls = slice_get_within (did op.who).calls k call.call call.made in
-            let room : k * steps_of_call width n + steps_of_call width n ≤ length (did op.who).calls * steps_of_call width n =
-            later_operation (steps_of_call width n) k (length (did op.who).calls) m in
-            let s : 0 < steps_of_call width n = steps_some width n limit opening steps did run in
-            let x = get_exists (did op.who).times (k * steps_of_call width n + (steps_of_call width n - 1)) (omega arith) in
-            (x.0, call.ends ∙ x.1)
+        ended i k op stamp l who call = (call.call.end, call.ends)
 
     pub history_last : (order : List ℕ) (last : Stamped V) → IsInOrder ops stamps order → IsGreatestOwn n (first_record opening) did last →
         latest opening ops order ≡ Some last.item

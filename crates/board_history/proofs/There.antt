@@ -1,19 +1,17 @@
 -- The history of a board's run: its calls, sorted by beginning, and their order by stamp.
-use Rattle.std.proofs.Common.{◌≡◌, ◌≢◌, ℕ, zero, suc, ◌+◌, ◌-◌, ◌*◌, ◌<◌, ◌≤◌, Bool, true, false, List, [], ◌∷◌, ◌++◌, length, map}
-use Rattle.std.proofs.Common.{get_or, slice_get, Option, None, Some, refl, sym, ◌∙◌, ap, subst, arith, ◌⊎◌, inl, inr, ⊎_elim}
+use Rattle.std.proofs.Common.{◌≡◌, ℕ, zero, suc, ◌*◌, ◌<◌, Bool, true, false, List, [], ◌∷◌, ◌++◌, length, map}
+use Rattle.std.proofs.Common.{get_or, slice_get, Option, Some, refl, sym, ◌∙◌, ap, subst, arith, ◌⊎◌, inl, inr, ⊎_elim}
 use Rattle.std.specs.Prelude.{if◌then◌else◌}
 use Rattle.std.specs.Option.{option_map}
 use Rattle.std.proofs.lemmas.Bool.{cases_order}
 use Rattle.std.proofs.lemmas.List.{length-map}
 use Rattle.std.proofs.lemmas.Option.{get_or_from_slice_get, same_Some, slice_get-get_or, slice_get-map, slice_get_within}
 use Rattle.history_core.specs.declared.history.Op.{Op}
-use Rattle.history_core.specs.declared.history.Kind.{Kind}
-use Rattle.history_core.specs.declared.history.Kind.TheVariants.{Write, Read, Refused}
-use Rattle.history_core.specs.Numbers.{StandsAt}
-use Rattle.history_core.specs.Orders.{is_write, times_of}
+use Rattle.history_core.specs.declared.history.Kind.TheVariants.{Read}
+use Rattle.history_core.specs.Orders.{is_write}
 use Rattle.history_core.specs.Schedules.{positions}
 use Rattle.history_core.proofs.Listing.{times_once}
-use Rattle.history_core.proofs.Played.{later_operation, same_operation_number}
+use Rattle.history_core.proofs.Played.{same_operation_number}
 use Rattle.history_core.proofs.Positions.{position_actor, position_once}
 use Rattle.stamps.specs.declared.stamp.Stamp.{Stamp}
 use Rattle.stamps.specs.Choices.{IsIn}
@@ -22,12 +20,11 @@ use Rattle.matrix_core.specs.Listings.{IsInOrder, is_listed, MayPrecede}
 use Rattle.stamps.specs.Stamps.{first_stamp, IsBelow}
 use Rattle.stamps.proofs.choices.Stamps.{below_itself, below_trans, stamp_same}
 use Rattle.stamps.proofs.lists.Sorting.{append_left, append_right, in_append, in_here}
-use Rattle.matrix_core.proofs.lists.Elements.{get_exists}
 use Rattle.matrix_core.proofs.orders.Listing.{get_map_back}
 use Rattle.board_history.specs.BoardRuns.{Called, Did, IsBoardRun, steps_of_call}
 use Rattle.board_history.specs.Histories.{IsCall, IsHistory}
 use Rattle.board_history.proofs.Calls.{step_is, steps_some}
-use Rattle.board_history.proofs.Plans.{upto, upto_at, upto_length}
+use Rattle.board_history.proofs.Plans.{upto, upto_at}
 use Rattle.board_history.proofs.Sorts.{in_sort, rises, sort, sort_in, stands_at, Strict, strict_sort}
 
 in_upto : {X : Type 0} (f : ℕ → X) (n : ℕ) (x : X) → IsIn x (upto f n) → (k : ℕ) × (k < n) × (x ≡ f k)
@@ -119,18 +116,17 @@ module _ (stamp_of : ℕ → Stamp) (rank : ℕ → ℕ) where
 module _ {V : Type 0} (width n limit : ℕ) (opening : V) (steps : List ℕ) (did : ℕ → Did V)
     (run : IsBoardRun width n limit (first_record opening) steps did) where
   abbrev no_call : Called V
-  no_call = record { kind = Read; seen = first_record opening; chosen = first_record opening }
+  no_call = record { begin = 0; end = 0; kind = Read; seen = first_record opening; chosen = first_record opening }
 
   abbrev entry : ℕ → ℕ → Entry V
   entry i k =
       let c : Called V = get_or (did i).calls k no_call in
-      let first : ℕ = k * steps_of_call width n in
       record {
         op = record {
           who = i;
           kind = c.kind;
-          starts = get_or (did i).times first 0;
-          ends = Some (get_or (did i).times (first + (steps_of_call width n - 1)) 0);
+          starts = c.begin;
+          ends = Some c.end;
           item = Some c.chosen.item;
         };
         stamp = c.chosen.stamp;
@@ -152,23 +148,11 @@ module _ {V : Type 0} (width n limit : ℕ) (opening : V) (steps : List ℕ) (di
   entries_in i k li lk =
       join_in (λ i. upto (entry i) (length (did i).calls)) n i (entry i k) li (upto_in (entry i) (length (did i).calls) k lk)
 
-  -- the steps of a call that was made are there
-  made_step : (i k at : ℕ) → i < n → k < length (did i).calls → at < steps_of_call width n →
-      slice_get (did i).times (k * steps_of_call width n + at) ≡ Some (get_or (did i).times (k * steps_of_call width n + at) 0)
-  made_step i k at li lk la =
-      let long : length (did i).times ≡ length (did i).calls * steps_of_call width n = (run.each i li).long in
-      let room : k * steps_of_call width n + steps_of_call width n ≤ length (did i).calls * steps_of_call width n =
-      later_operation (steps_of_call width n) k (length (did i).calls) lk in
-      slice_get-get_or (did i).times (k * steps_of_call width n + at) 0 (omega arith)
-
   begins_at : (i k : ℕ) → i < n → k < length (did i).calls →
       slice_get (did i).times (k * steps_of_call width n) ≡ Some (entry i k).op.starts
-  begins_at i k li lk =
-      let z : k * steps_of_call width n + 0 ≡ k * steps_of_call width n = omega arith in
-      subst (λ m. slice_get (did i).times m ≡ Some (get_or (did i).times m 0)) z
-      (made_step i k 0 li lk (steps_some width n limit opening steps did run))
+  begins_at i k li lk = (run.each i li).begun k (get_or (did i).calls k no_call) (slice_get-get_or (did i).calls k no_call lk)
 
-  is_call : (i k : ℕ) → i < n → k < length (did i).calls → IsCall width n did (entry i k).op (Some (entry i k).stamp) k
+  is_call : (i k : ℕ) → i < n → k < length (did i).calls → IsCall n did (entry i k).op (Some (entry i k).stamp) k
   is_call i k li lk = record {
     who = li;
     call = get_or (did i).calls k no_call;
@@ -176,9 +160,8 @@ module _ {V : Type 0} (width n limit : ℕ) (opening : V) (steps : List ℕ) (di
     kind = refl;
     item = refl;
     stamp = refl;
-    begins = begins_at i k li lk;
-    ends = sym (made_step i k (steps_of_call width n - 1) li lk
-        (let s : 0 < steps_of_call width n = steps_some width n limit opening steps did run in omega arith));
+    begins = refl;
+    ends = refl;
   }
 
   -- two calls that begin at one time are one
@@ -256,16 +239,16 @@ module _ {V : Type 0} (width n limit : ℕ) (opening : V) (steps : List ℕ) (di
   many = (length-map sorted (λ e. e.op), length-map sorted (λ e. Some e.stamp))
 
   call_at : (p : ℕ) (op : Op V) (stamp : Option Stamp) → slice_get ops p ≡ Some op → slice_get stamps p ≡ Some stamp →
-      (k : ℕ) × IsCall width n did op stamp k
+      (k : ℕ) × IsCall n did op stamp k
   call_at p op stamp h g =
       let e = op_from p op h in
       let w = in_sorted p e.0 e.1 in
       let s : Some e.0.stamp ≡ stamp = same_Some (Some e.0.stamp) stamp (sym (stamp_at p e.0 e.1) ∙ g) in
-      let c : IsCall width n did e.0.op (Some e.0.stamp) w.1 =
-      subst (λ z. IsCall width n did z.op (Some z.stamp) w.1) (sym w.4) (is_call w.0 w.1 w.2 w.3) in
-      (w.1, subst (λ z. IsCall width n did op z w.1) s (subst (λ z. IsCall width n did z (Some e.0.stamp) w.1) e.2 c))
+      let c : IsCall n did e.0.op (Some e.0.stamp) w.1 =
+      subst (λ z. IsCall n did z.op (Some z.stamp) w.1) (sym w.4) (is_call w.0 w.1 w.2 w.3) in
+      (w.1, subst (λ z. IsCall n did op z w.1) s (subst (λ z. IsCall n did z (Some e.0.stamp) w.1) e.2 c))
 
-  history_there : IsHistory width n did ops stamps
+  history_there : IsHistory n did ops stamps
   history_there = record {
     long = let m = many in omega arith;
     each = λ p op stamp h g. call_at p op stamp h g;
@@ -376,6 +359,6 @@ module _ {V : Type 0} (width n limit : ℕ) (opening : V) (steps : List ℕ) (di
         (rank_is q y.0 y.1) (rises_at i j p q ha.0 hb.0 l);
   }
 
-  pub all_there : (ops : List (Op V)) × (stamps : List (Option Stamp)) × (order : List ℕ) × IsHistory width n did ops stamps
+  pub all_there : (ops : List (Op V)) × (stamps : List (Option Stamp)) × (order : List ℕ) × IsHistory n did ops stamps
       × IsInOrder ops stamps order
   all_there = (ops, stamps, order, history_there, order_there)

@@ -1,10 +1,10 @@
 -- A call of a process, access by access: so many reads, one of each other process, rising, and then as many writes (this project's own).
-use Rattle.std.specs.Prelude.{◌≡◌, ℕ, ◌+◌, ◌-◌, ◌*◌, ◌<◌, ◌≤◌, List, [], ◌∷◌, ◌++◌, length, slice_get, Some}
+use Rattle.std.specs.Prelude.{◌≡◌, ℕ, ◌+◌, ◌-◌, ◌*◌, ◌<◌, List, [], ◌∷◌, ◌++◌, length, slice_get, Some}
 use Rattle.stamps.specs.declared.stamp.Stamped.{Stamped}
 use Rattle.stamps.specs.Choices.{ChoosesByKind}
 use Rattle.matrix_core.specs.CellAnswers.{greatest}
 use Rattle.matrix_core.specs.Lines.{other}
-use Rattle.board_history.specs.BoardRuns.{Answered, Called, Did, own_before, Written}
+use Rattle.board_history.specs.BoardRuns.{Answered, Called, Did, own_before, steps_of_call, Written}
 
 -- access number `access` of these steps: it begins with its first step, and ends with its last
 pub record IsInterval (width : ℕ) (steps : List ℕ) (access : ℕ) (begins ends begins' ends' : List ℕ) : Type 0 where
@@ -30,7 +30,9 @@ module _ {V : Type 0} where
   pub record MakesCall (width n limit : ℕ) (first : Stamped V) (i : ℕ) (old new : Did V) (call : Called V) : Type 0 where
     pub calls : new.calls ≡ old.calls ++ call ∷ []
     pub steps : List ℕ
-    pub long : length steps ≡ (2 * (n - 1)) * width
+    pub long : length steps ≡ steps_of_call width n
+    pub begun : slice_get steps 0 ≡ Some call.begin
+    pub ended : slice_get steps (steps_of_call width n - 1) ≡ Some call.end
     pub times : new.times ≡ old.times ++ steps
     pub answers : List (Stamped V)
     pub each : length answers + 1 ≡ n

@@ -7,7 +7,7 @@ use Rattle.history_core.specs.declared.history.Kind.{Kind}
 use Rattle.history_core.specs.Schedules.{positions}
 use Rattle.stamps.specs.declared.stamp.Stamped.{Stamped}
 use Rattle.matrix_core.specs.Lines.{other}
-use Rattle.stamps.specs.Choices.{Choice, ChoosesByKind}
+use Rattle.stamps.specs.Choices.{ChoosesByKind}
 use Rattle.matrix_core.specs.CellAnswers.{greatest, Intervals, IsReadOf}
 
 -- the intervals of accesses that began and ended at these times
@@ -18,8 +18,10 @@ intervals begins ends = record { begins = slice_get begins; ends = slice_get end
 abbrev pub steps_of_call : ℕ → ℕ → ℕ
 steps_of_call width n = (2 * (n - 1)) * width
 
--- a call that has ended: the greatest record that it saw, and the record that it chose
+-- a call that has ended: the times of its first and its last step, the greatest record that it saw, and the record that it chose
 pub record Called (V : Type 0) : Type 0 where
+  pub begin : ℕ
+  pub end : ℕ
   pub kind : Kind
   pub seen : Stamped V
   pub chosen : Stamped V
@@ -70,6 +72,9 @@ module _ {V : Type 0} where
   -- the calls of process i, all of which have ended
   pub record IsProcess (width n limit : ℕ) (first : Stamped V) (i : ℕ) (did : Did V) : Type 0 where
     pub long : length did.times ≡ length did.calls * steps_of_call width n
+    pub begun : (k : ℕ) (c : Called V) → slice_get did.calls k ≡ Some c → slice_get did.times (k * steps_of_call width n) ≡ Some c.begin
+    pub ended : (k : ℕ) (c : Called V) → slice_get did.calls k ≡ Some c →
+        slice_get did.times (k * steps_of_call width n + (steps_of_call width n - 1)) ≡ Some c.end
     pub reads : (e : ℕ) → e + 1 < n → AreAccesses width n did e (did.reads (other i e)).begins (did.reads (other i e)).ends
     pub answered : (e : ℕ) → e + 1 < n → length (did.reads (other i e)).items ≡ length did.calls
     pub writes : (e : ℕ) → e + 1 < n → AreAccesses width n did (n - 1 + e) (did.writes (other i e)).begins (did.writes (other i e)).ends

@@ -1,33 +1,39 @@
 -- The calls of a board's run as operations with intervals (operations, their precedence and atomic orders are L. Lamport's, On
 -- Interprocess Communication, Parts I and II, Distributed Computing 1, 1986).
-use Rattle.std.specs.Prelude.{◌≡◌, ℕ, ◌+◌, ◌-◌, ◌*◌, ◌<◌, List, length, slice_get, Option, Some}
+use Rattle.std.specs.Prelude.{◌≡◌, ◌⊎◌, ℕ, ◌<◌, List, length, slice_get, Option, Some}
+use Rattle.history_core.specs.declared.history.Kind.TheVariants.{Write}
 use Rattle.history_core.specs.declared.history.Op.{Op}
 use Rattle.stamps.specs.declared.stamp.Stamp.{Stamp}
 use Rattle.stamps.specs.declared.stamp.Stamped.{Stamped}
 use Rattle.stamps.specs.Choices.{IsAtMost}
-use Rattle.board_history.specs.BoardRuns.{Called, Did, own_before, steps_of_call}
+use Rattle.board_history.specs.BoardRuns.{Called, Did, own_before}
 
 module _ {V : Type 0} where
-  -- the operation is call k of its process: it begins with the first step of the call, and ends with the last
-  pub record IsCall (width n : ℕ) (did : ℕ → Did V) (op : Op V) (chose : Option Stamp) (k : ℕ) : Type 0 where
+  -- the operation is call k of its process: it has the call's interval, its kind and the record that it chose
+  pub record IsCall (n : ℕ) (did : ℕ → Did V) (op : Op V) (chose : Option Stamp) (k : ℕ) : Type 0 where
     pub who : op.who < n
     pub call : Called V
     pub made : slice_get (did op.who).calls k ≡ Some call
     pub kind : op.kind ≡ call.kind
     pub item : op.item ≡ Some call.chosen.item
     pub stamp : chose ≡ Some call.chosen.stamp
-    pub begins : slice_get (did op.who).times (k * steps_of_call width n) ≡ Some op.starts
-    pub ends : op.ends ≡ slice_get (did op.who).times (k * steps_of_call width n + (steps_of_call width n - 1))
+    pub begins : op.starts ≡ call.begin
+    pub ends : op.ends ≡ Some call.end
 
   -- *The history*: the operations are the calls, each once, with the stamps that they chose, in order of beginning
-  pub record IsHistory (width n : ℕ) (did : ℕ → Did V) (ops : List (Op V)) (stamps : List (Option Stamp)) : Type 0 where
+  pub record IsHistory (n : ℕ) (did : ℕ → Did V) (ops : List (Op V)) (stamps : List (Option Stamp)) : Type 0 where
     pub long : length stamps ≡ length ops
     pub each : (p : ℕ) (op : Op V) (stamp : Option Stamp) → slice_get ops p ≡ Some op → slice_get stamps p ≡ Some stamp →
-        (k : ℕ) × IsCall width n did op stamp k
+        (k : ℕ) × IsCall n did op stamp k
     pub all : (i k : ℕ) (c : Called V) → i < n → slice_get (did i).calls k ≡ Some c →
         (p : ℕ) × (op : Op V) × (stamp : Option Stamp) × (slice_get ops p ≡ Some op) × (slice_get stamps p ≡ Some stamp) × (op.who ≡ i)
-        × IsCall width n did op stamp k
+        × IsCall n did op stamp k
     pub rising : (p q : ℕ) (a b : Op V) → slice_get ops p ≡ Some a → slice_get ops q ≡ Some b → p < q → a.starts < b.starts
+
+  -- *Written*: what a call chose is the opening, or the record of a call that is a write
+  abbrev pub ChoseFrom : ℕ → Stamped V → (ℕ → Did V) → Called V → Type 0
+  ChoseFrom n first did c = (c.chosen ≡ first) ⊎ ((j : ℕ) × (m : ℕ) × (w : Called V) × (j < n) × (slice_get (did j).calls m ≡ Some w)
+      × (w.kind ≡ Write) × (c.chosen ≡ w.chosen))
 
   -- the record that a process has after its calls: what the last one chose, or the opening
   abbrev pub own_after : Stamped V → Did V → Stamped V

@@ -1,10 +1,10 @@
 -- Two processes over registers whose accesses take one step: process 0 writes 7 at the times 1 and 2, and process 1 reads at 3 and 4. Once it
 -- is answered the write, and once the opening, which is older than a write that had ended.
-use Rattle.std.specs.Prelude.{ℕ, zero, suc, List, [], ◌∷◌}
+use Rattle.std.specs.Prelude.{ℕ, zero, suc, [], ◌∷◌}
 use Rattle.history_core.specs.declared.history.Kind.TheVariants.{Write, Read}
 use Rattle.stamps.specs.declared.stamp.Stamped.{Stamped}
 use Rattle.matrix_core.specs.Lines.{first_record}
-use Rattle.board_history.specs.BoardRuns.{Answered, Called, Did, Written}
+use Rattle.board_history.specs.BoardRuns.{Called, Did}
 
 abbrev pub zero_first : Stamped ℕ
 zero_first = first_record 0
@@ -22,11 +22,11 @@ one_call call answer number read written = record {
 }
 
 abbrev pub two_processes : Did ℕ → ℕ → Did ℕ
-two_processes reader zero = one_call (record { kind = Write; seen = zero_first; chosen = seven }) zero_first 0 1 2
+two_processes reader zero = one_call (record { begin = 1; end = 2; kind = Write; seen = zero_first; chosen = seven }) zero_first 0 1 2
 two_processes reader (suc i) = reader
 
 abbrev pub reads_seven : Did ℕ
-reads_seven = one_call (record { kind = Read; seen = seven; chosen = seven }) seven 1 3 4
+reads_seven = one_call (record { begin = 3; end = 4; kind = Read; seen = seven; chosen = seven }) seven 1 3 4
 
 abbrev pub reads_opening : ℕ → Did ℕ
-reads_opening number = one_call (record { kind = Read; seen = zero_first; chosen = zero_first }) zero_first number 3 4
+reads_opening number = one_call (record { begin = 3; end = 4; kind = Read; seen = zero_first; chosen = zero_first }) zero_first number 3 4

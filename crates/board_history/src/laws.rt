@@ -1,32 +1,47 @@
 //! Laws over the definitions.
 
-ghost use Rattle.std.specs.Prelude.{◌≡◌, ◌<◌, ◌≤◌, ℕ, List, [], ◌∷◌, Option, Some};
+ghost use Rattle.std.specs.Prelude.{◌≡◌, ◌<◌, ◌≤◌, ℕ, List, [], ◌∷◌, slice_get, Option, Some};
 ghost use Rattle.history_core.specs.declared.history.Op.{Op};
+ghost use Rattle.history_core.specs.declared.history.Kind.TheVariants.{Write};
 ghost use Rattle.history_core.specs.Orders.{IsAtomicOrder, latest, RefusesLawfully};
 ghost use Rattle.stamps.specs.declared.stamp.Stamp.{Stamp};
 ghost use Rattle.stamps.specs.declared.stamp.Stamped.{Stamped};
+ghost use Rattle.stamps.specs.Choices.{IsAtMost};
+ghost use Rattle.stamps.specs.Stamps.{IsBelow};
 ghost use Rattle.matrix_core.specs.Lines.{first_record};
 ghost use Rattle.matrix_core.specs.Listings.{IsInOrder};
 ghost use Rattle.board_history.specs.Accesses.{HasDoneNothing, MakesCall};
 ghost use Rattle.board_history.specs.BoardRuns.{Called, Did, IsBoardRun, IsProcess};
 ghost use Rattle.board_history.specs.Instances.{reads_opening, reads_seven, two_processes, zero_first};
-ghost use Rattle.board_history.specs.Histories.{IsGreatestOwn, IsHistory};
+ghost use Rattle.board_history.specs.Histories.{ChoseFrom, IsGreatestOwn, IsHistory};
 
 /// Every run of a board whose processes make their steps in one time is a history, the order of its calls by stamp is atomic by their
 /// intervals, and it refuses lawfully. After it the register holds the greatest record that any process has.
 pub fn runs_are_atomic<V>()
     ensures atomic { (width n limit : ℕ) (opening : V) (steps : List ℕ) (did : ℕ → Did V) (ops : List (Op V)) (stamps : List (Option Stamp))
-        (order : List ℕ) → IsBoardRun width n limit (first_record opening) steps did → IsHistory width n did ops stamps →
+        (order : List ℕ) → IsBoardRun width n limit (first_record opening) steps did → IsHistory n did ops stamps →
         IsInOrder ops stamps order → IsAtomicOrder (λ x y. x ≡ y) opening ops order }
     ensures lawful { (width n limit : ℕ) (opening : V) (steps : List ℕ) (did : ℕ → Did V) (ops : List (Op V)) (stamps : List (Option Stamp))
-        (order : List ℕ) → IsBoardRun width n limit (first_record opening) steps did → IsHistory width n did ops stamps →
+        (order : List ℕ) → IsBoardRun width n limit (first_record opening) steps did → IsHistory n did ops stamps →
         IsInOrder ops stamps order → RefusesLawfully (record { first = 0; limit = limit } ∷ []) ops order }
     ensures last { (width n limit : ℕ) (opening : V) (steps : List ℕ) (did : ℕ → Did V) (ops : List (Op V)) (stamps : List (Option Stamp))
-        (order : List ℕ) (greatest : Stamped V) → IsBoardRun width n limit (first_record opening) steps did → IsHistory width n did ops stamps →
+        (order : List ℕ) (greatest : Stamped V) → IsBoardRun width n limit (first_record opening) steps did → IsHistory n did ops stamps →
         IsInOrder ops stamps order → IsGreatestOwn n (first_record opening) did greatest → latest opening ops order ≡ Some greatest.item }
     ensures there { (width n limit : ℕ) (opening : V) (steps : List ℕ) (did : ℕ → Did V) →
         IsBoardRun width n limit (first_record opening) steps did →
-        (ops : List (Op V)) × (stamps : List (Option Stamp)) × (order : List ℕ) × IsHistory width n did ops stamps × IsInOrder ops stamps order }
+        (ops : List (Op V)) × (stamps : List (Option Stamp)) × (order : List ℕ) × IsHistory n did ops stamps × IsInOrder ops stamps order }
+{}
+
+/// What calls of a run know of each other. A call that begins after another one had ended chooses no smaller stamp, and a greater one
+/// where it is a write. And what a call chose is the opening, or the record of a write.
+pub fn calls_heed<V>()
+    ensures rises { (width n limit : ℕ) (opening : V) (steps : List ℕ) (did : ℕ → Did V) (i j k m : ℕ) (c d : Called V) →
+        IsBoardRun width n limit (first_record opening) steps did → i < n → j < n → slice_get (did i).calls k ≡ Some c →
+        slice_get (did j).calls m ≡ Some d → c.end < d.begin →
+        IsAtMost c.chosen.stamp d.chosen.stamp × (d.kind ≡ Write → IsBelow c.chosen.stamp d.chosen.stamp) }
+    ensures written { (width n limit : ℕ) (opening : V) (steps : List ℕ) (did : ℕ → Did V) (i k : ℕ) (c : Called V) →
+        IsBoardRun width n limit (first_record opening) steps did → i < n → slice_get (did i).calls k ≡ Some c →
+        ChoseFrom n (first_record opening) did c }
 {}
 
 /// What the definitions say of two processes: an answer that was written is a run's, and an answer that is older than a write that had

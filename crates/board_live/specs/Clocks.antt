@@ -1,6 +1,7 @@
 -- Clocks that order the calls of a board. Happened-before and its clocks: L. Lamport, Time, Clocks, and the Ordering of Events
 -- in a Distributed System, CACM 1978; clocks of a limited size are this project's own.
-use Rattle.std.specs.Prelude.{ℕ, ◌+◌, List, [], ◌∷◌, if◌then◌else◌, nat_lt}
+use Rattle.std.specs.Prelude.{ℕ, List, [], ◌∷◌, if◌then◌else◌, nat_lt}
+pub use Rattle.stamps.specs.Calls.{next_clock}
 
 -- the later of two clocks
 abbrev pub later : ℕ → ℕ → ℕ
@@ -10,7 +11,3 @@ later a b = if nat_lt a b then b else a
 abbrev pub latest_clock : ℕ → List ℕ → ℕ
 latest_clock n [] = n
 latest_clock n (m ∷ ms) = latest_clock (later n m) ms
-
--- one more; after the greatest number comes 0
-abbrev pub next_clock : ℕ → ℕ
-next_clock n = if nat_lt n 18446744073709551615 then n + 1 else 0

@@ -10,16 +10,18 @@ use Rattle.history_core.specs.Joined.{ops_of, order_from, Part, terms_from}
 use Rattle.history_core.specs.Orders.{IsAtomicOrder, latest, RefusesLawfully}
 use Rattle.history_core.specs.Schedules.{HasOperations, HasShape, IsFirstOverrun, IsOperation, IsPlayed, Span}
 use Rattle.fourslot_core.specs.Accesses.{IsClear, IsFreshRead}
+use Rattle.fourslot_core.specs.CellSlots.{IsOverSafeSlots}
+use Rattle.fourslot_core.specs.Traces.{source_record}
 use Rattle.stamps.specs.declared.stamp.Stamp.{Stamp}
 use Rattle.stamps.specs.declared.stamp.Stamped.{Stamped}
 use Rattle.stamps.specs.Choices.{Choice, HasChoices}
 use Rattle.matrix_core.specs.declared.schedule.MatrixTerm.{MatrixTerm}
 use Rattle.matrix_core.specs.declared.schedule.BoardSchedule.{BoardSchedule}
 use Rattle.matrix_core.specs.declared.schedule.BoardReport.{BoardReport}
-use Rattle.matrix_core.specs.Lines.{other}
+use Rattle.matrix_core.specs.Lines.{first_record, other}
 use Rattle.matrix_core.specs.Listings.{IsInOrder}
 use Rattle.matrix_core.specs.Runs.{board_span, board_spans}
-use Rattle.board_play.specs.Boards.{column_accesses, IsBoardRun, row_accesses}
+use Rattle.board_play.specs.Boards.{cell_trace, column_accesses, IsBoardRun, noise_record, row_accesses}
 
 module _ {R : Type 0} where
   -- the slots that are listed for each operation, those of its column before those of its row
@@ -42,7 +44,8 @@ pub record BoardPart (R : Type 0) : Type 0 where
 module _ {R : Type 0} where
   -- a term's part came about so, where the term begins at the position `at` and opens with this record: its operations are the
   -- schedule's; `chosen i k` is what operation k of process i chose, and `slot i k` has the slots of its accesses, by a run of
-  -- the board; each cell is clear and fresh; the choices follow the law of choices, and the order is by stamp
+  -- the board; each cell is clear and over safe slots, and fresh, which is so of a read with the number of the write whose record it
+  -- answers; the choices follow the law of choices, and the order is by stamp
   pub record IsBoardPart (at : ℕ) (opening noise : R) (term : MatrixTerm R) (part : BoardPart R) : Type 0 where
     pub limit : part.limit ≡ term.limit
     pub played : IsPlayed at (board_span term) part.ops
@@ -55,6 +58,10 @@ module _ {R : Type 0} where
     pub fresh : (i j write read : ℕ) → other i write ≡ j → write + 1 < length term.plans → other j read ≡ i → read + 1 < length term.plans
         → (m : ℕ) → IsSome ((column_accesses at (board_span term) slot j read).at m 4)
         → (n : ℕ) × IsFreshRead (row_accesses at (board_span term) slot i write) (column_accesses at (board_span term) slot j read) m n
+        × (slice_get (cell_trace at (board_span term) opening noise chosen i j).answers m
+        ≡ Some (source_record (first_record opening) (chosen i) n))
+    pub safe : (i j : ℕ) →
+        IsOverSafeSlots (first_record opening) (noise_record noise) (chosen i) (cell_trace at (board_span term) opening noise chosen i j)
     pub choices : List (Choice R)
     pub chose : HasChoices opening term.limit part.ops part.stamps choices
     pub order : IsInOrder part.ops part.stamps part.order

@@ -5,16 +5,18 @@ ghost use Rattle.history_core.specs.declared.history.Op.{Op};
 ghost use Rattle.history_core.specs.Schedules.{IsOperation, IsPlayed, Span, Overruns};
 ghost use Rattle.history_core.specs.declared.history.Kind.{Kind};
 ghost use Rattle.fourslot_core.specs.Accesses.{IsClear, IsFreshRead};
+ghost use Rattle.fourslot_core.specs.CellSlots.{IsOverSafeSlots};
+ghost use Rattle.fourslot_core.specs.Traces.{source_record};
 ghost use Rattle.stamps.specs.declared.stamp.Stamp.{Stamp};
 ghost use Rattle.stamps.specs.Choices.{Choice, HasChoices};
 ghost use Rattle.stamps.specs.declared.stamp.Stamped.{Stamped};
 ghost use Rattle.matrix_core.specs.ByAccesses.{IsCut, chooses_at};
-ghost use Rattle.matrix_core.specs.Lines.{other};
-ghost use Rattle.board_play.specs.Boards.{column_accesses, IsBoardRun, row_accesses, SeesCells};
+ghost use Rattle.matrix_core.specs.Lines.{first_record, other};
+ghost use Rattle.board_play.specs.Boards.{cell_trace, column_accesses, IsBoardRun, noise_record, row_accesses, SeesCells};
 ghost use Rattle.board_play.specs.BoardSteps.{chosen_in};
 
-/// The run of a term of a composed board has choices by the law of choices, and each of its cells is clear and fresh, by the slots
-/// of the report and the positions of the schedule.
+/// The run of a term of a composed board has choices by the law of choices. Each of its cells is clear and fresh, by the slots of the
+/// report and the positions of the schedule, and a read of it answers the record with the number of its source.
 pub fn boards_choose<R>()
     ensures chosen { (at : ℕ) (span : Span R) (opening noise : R) (ops : List (Op R)) (stamps : List (Option Stamp))
         (slot : ℕ → ℕ → ℕ → Option ℕ) (chosen : ℕ → ℕ → Stamped R) →
@@ -30,7 +32,14 @@ pub fn boards_choose<R>()
         IsCut 5 span → IsBoardRun at span opening noise ops stamps slot chosen →
         (i j write read : ℕ) → other i write ≡ j → write + 1 < length span.plans → other j read ≡ i → read + 1 < length span.plans →
         (m : ℕ) → IsSome ((column_accesses at span slot j read).at m 4) →
-        (n : ℕ) × IsFreshRead (row_accesses at span slot i write) (column_accesses at span slot j read) m n }
+        (n : ℕ) × IsFreshRead (row_accesses at span slot i write) (column_accesses at span slot j read) m n
+        × (slice_get (cell_trace at span opening noise chosen i j).answers m ≡ Some (source_record (first_record opening) (chosen i) n)) }
+{}
+
+/// Each cell of a composed board answers as a four-slot cell over safe slots, whatever its writes take.
+pub fn boards_are_over_safe_slots<R>()
+    ensures { (at : ℕ) (span : Span R) (opening noise : R) (chosen : ℕ → ℕ → Stamped R) (i j : ℕ) →
+        IsOverSafeSlots (first_record opening) (noise_record noise) (chosen i) (cell_trace at span opening noise chosen i j) }
 {}
 
 /// Each operation that chooses in the steps of a term of a composed board has a kind, and saw the answers of the cells of its column,

@@ -3,7 +3,7 @@ ghost use Rattle.std.specs.Prelude.{◌≡◌};
 
 use crate::plans::run_plans;
 use board_live::{Clocked, CountingGate, Gate, TimedGate};
-use cell_live::FourSlotCell;
+use cell_four_slot::FourSlotCell;
 use history_core::Band;
 use std::sync::atomic::{AtomicU64, Ordering};
 use std::test::Fail;

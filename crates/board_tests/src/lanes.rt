@@ -3,7 +3,9 @@ ghost use Rattle.std.specs.Prelude.{◌≡◌};
 
 use crate::plans::{point, run_plans, said_at};
 use board_live::{Clocked, Gate, OpenGate, Origin, Posted, check_origin, into_passes};
-use cell_live::{Cell, FourSlotCell, TripleCell};
+use cell_four_slot::FourSlotCell;
+use cell_live::Cell;
+use cell_triple::TripleCell;
 use history_core::Band;
 use stamps::Stamp;
 use std::alloc::{AllocError, Global};

@@ -4,7 +4,9 @@ ghost use Rattle.std.specs.Prelude.{◌≡◌};
 
 use crate::plans::run_plans;
 use board_live::{Clocked, Gate};
-use cell_live::{Cell, FourSlotCell, TripleCell};
+use cell_four_slot::FourSlotCell;
+use cell_live::Cell;
+use cell_triple::TripleCell;
 use history_core::Band;
 use std::alloc::{AllocError, Global};
 use std::sync::atomic::{AtomicBool, AtomicUsize, Ordering};

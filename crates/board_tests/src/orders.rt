@@ -9,7 +9,7 @@ use board_live::{
     Board, Clocked, Entry, OpenGate, Origin, Posted, check_origin, finish_lanes, make_lanes,
     run_tasks,
 };
-use cell_live::FourSlotCell;
+use cell_four_slot::FourSlotCell;
 use history_core::{Band, Items};
 use std::alloc::{AllocError, Global};
 use std::test::Fail;

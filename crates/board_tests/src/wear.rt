@@ -6,7 +6,9 @@ use board_live::{
     Board, Clocked, Entry, OpenGate, Origin, Posted, Reply, check_origin, finish_lanes, make_lanes,
     run_tasks,
 };
-use cell_live::{Cell, FourSlotCell, TripleCell};
+use cell_four_slot::FourSlotCell;
+use cell_live::Cell;
+use cell_triple::TripleCell;
 use history_core::{Band, Items};
 use stamps::Stamp;
 use std::alloc::{AllocError, Global};

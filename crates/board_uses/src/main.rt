@@ -2,20 +2,28 @@
 #![tactic(auto)]
 
 ghost use Rattle.std.specs.Prelude.{◌≡◌, ◌≤◌, IfOk, length};
-ghost use Rattle.board_live.specs.Boards.{IsPass, IsBoardCall, seen_by};
+ghost use Rattle.history_core.specs.declared.history.Kind.TheVariants.{Read};
+ghost use Rattle.board_live.specs.Boards.{IsPass};
 ghost use Rattle.board_live.specs.Deals.{AllPasses};
+ghost use Rattle.board_live.specs.Ran.{MakesCall};
 ghost use Rattle.board_live.specs.Receipts.{IsReceipt};
+ghost use Rattle.board_uses.specs.Turns.{TakesTurn, command_of, with_limits, with_reading};
+ghost use Rattle.board_uses.specs.Motors.{WasCounted};
 ghost use Rattle.stamps.specs.Choices.{IsAtMost};
 
 use board_live::{Board, BoardError, Clocked, Pass, Posted, Receipt, RecordLaw, TagsEnded};
-use cell_live::FourSlotCell;
+use cell_four_slot::FourSlotCell;
 use stamps::Stamp;
 use std::alloc::{AllocError, Global};
 use std::io;
 
+mod program;
 mod receipts;
+mod tasks;
 
+use program::run;
 use receipts::ends_in_order;
+use tasks::Motor;
 
 /// What the tasks share.
 #[derive(Clone, Copy, Debug, PartialEq, Eq)]
@@ -23,6 +31,23 @@ struct Control {
     low: u64,
     reading: u64,
     high: u64,
+}
+
+impl Control {
+    /// The reading, but not beyond its limits.
+    fn command(&self) -> u64
+        requires { self.now.low ≤ self.now.high }
+        ensures command { result ≡ command_of self.now }
+        ensures within { (self.now.low ≤ result) × (result ≤ self.now.high) }
+    {
+        if self.reading < self.low {
+            self.low
+        } else if self.high < self.reading {
+            self.high
+        } else {
+            self.reading
+        }
+    }
 }
 
 impl RecordLaw for Control {
@@ -55,6 +80,7 @@ fn set_limits(
     requires limits { low ≤ high }
     ensures pass { IsPass board.now pass.new }
     ensures process { pass.new.process ≡ pass.old.process }
+    ensures turn { TakesTurn board.now (with_limits low high) pass.old pass.new result }
 {
     let reading = board.read(pass).item.reading;
     board.write(pass, Control { low, reading, high })
@@ -69,6 +95,7 @@ fn publish(
     requires { IsPass board.now pass.old }
     ensures pass { IsPass board.now pass.new }
     ensures process { pass.new.process ≡ pass.old.process }
+    ensures turn { TakesTurn board.now (with_reading reading) pass.old pass.new result }
 {
     let Control {
         low,
@@ -78,14 +105,16 @@ fn publish(
     board.write(pass, Control { low, reading, high })
 }
 
-/// The steering task only reads: the reading, but not beyond its limits.
+/// The steering task only reads, and gives the command that follows from its record.
 fn steer(board: &Board<Control, Cells>, pass: &mut Pass<Control, Cells>) -> u64
     requires { IsPass board.now pass.old }
     ensures pass { IsPass board.now pass.new }
-    ensures call { IsBoardCall board.now.first pass.old pass.new (seen_by pass.old pass.new) }
+    ensures call { MakesCall board.now Read pass.old pass.new }
+    ensures command { result ≡ command_of pass.new.own.item }
+    ensures within { (pass.new.own.item.low ≤ result) × (result ≤ pass.new.own.item.high) }
 {
-    let Control { low, reading, high } = board.read(pass).item;
-    reading.max(low).min(high)
+    let seen = board.read(pass);
+    seen.item.command()
 }
 
 /// The reading's task publishes, and gives a receipt for the steering task.
@@ -228,7 +257,42 @@ fn last_of_two(alloc: Global) -> Result<Option<Posted<Control>>, AllocError> {
     ends_in_order(alloc, board, writer, reader, item)
 }
 
+/// A motor that keeps count of its commands, and of those that lie outside both limits.
+#[derive(Clone, Copy, Debug, Drop)]
+struct Counted {
+    commands: u64,
+    outside: u64,
+}
+
+impl Motor for Counted {
+    ghost was_sent = { WasCounted };
+
+    fn send(&mut self, command: u64) {
+        self.commands = self.commands.saturating_add(1);
+        if !(10..=20).contains(&command) && !(30..=40).contains(&command) {
+            self.outside = self.outside.saturating_add(1);
+        }
+    }
+}
+
 fn main(rt: HostRuntime) -> io::Result<()> {
+    let opening = Control {
+        low: 10,
+        reading: 15,
+        high: 20,
+    };
+    let motor = Counted {
+        commands: 0,
+        outside: 0,
+    };
+    let Ok(Some((_last, motor))) = run(rt, rt.alloc(), opening, 1_000, motor) else {
+        return println!(rt; "the control program didn't end as it should, or there was no memory");
+    };
+    println!(rt;
+        "1,000 commands or more: {}, outside their limits: {}",
+        1_000 <= motor.commands,
+        motor.outside
+    )?;
     let Ok(Some(steered)) = two_boards(rt.alloc()) else {
         return println!(rt; "the first board didn't end as it should, or there was no memory");
     };

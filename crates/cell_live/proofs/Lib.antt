@@ -5,5 +5,3 @@ pub mod ListLaws
 pub mod Merging
 pub mod Reports
 pub mod Timing
-pub mod four_slots
-pub mod triple_buffer

@@ -5,7 +5,7 @@ use atomic_table::Closed;
 use std::alloc::Allocator;
 
 /// Drops what the slots of a closed table have.
-pub(crate) fn empty<S: Copy, A: Allocator>(mut closed: Closed<S, A>)
+pub fn empty<S: Copy, A: Allocator>(mut closed: Closed<S, A>)
     requires { IsFull closed.slots }
 {
     let mut i = 0;

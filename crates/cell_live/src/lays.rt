@@ -19,8 +19,8 @@ pub trait Lays<T: Copy> {
 
 /// A record that lies somewhere whole.
 #[derive(Drop)]
-pub(crate) struct Whole<'a, T> {
-    pub(crate) item: &'a T,
+pub struct Whole<'a, T> {
+    pub item: &'a T,
 }
 
 impl<'a, T: Copy> Lays<T> for Whole<'a, T> {

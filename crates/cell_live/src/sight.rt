@@ -15,7 +15,7 @@ pub enum Sight<T, W, G> {
 }
 
 /// The reader's notes are parted off.
-pub(crate) struct Parts;
+pub struct Parts;
 
 impl<T, W, G> Split<Sight<T, W, G>> for Parts {
     ghost left = { writer_part };

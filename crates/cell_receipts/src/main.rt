@@ -5,7 +5,9 @@
 ghost use Rattle.std.specs.Prelude.{◌≡◌, IfOk};
 ghost use Rattle.cell_live.specs.Running.{last_or};
 
-use cell_live::{Calls, FourSlotCell, Lawful, TripleCell};
+use cell_four_slot::FourSlotCell;
+use cell_live::{Calls, Lawful};
+use cell_triple::TripleCell;
 use std::alloc::{AllocError, Global};
 use std::io;
 

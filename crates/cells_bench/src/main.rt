@@ -13,7 +13,9 @@ mod solo;
 
 use board_live::Clocked;
 use boards::{Item, PROCESSES};
-use cell_live::{Cell, FourSlotCell, TripleCell};
+use cell_four_slot::FourSlotCell;
+use cell_live::Cell;
+use cell_triple::TripleCell;
 use measure::Op;
 use record::{Record, Shared};
 use std::alloc::{AllocError, Global};

@@ -2,10 +2,10 @@
 ghost use Rattle.std.specs.Prelude.{◌≡◌};
 ghost use Rattle.std.specs.Arc.{arc_value};
 ghost use Rattle.cell_live.specs.Running.{last_or};
-ghost use Rattle.cell_live.specs.triple.Words.{opening_of, is_put_of, is_get_of, written_by};
+ghost use Rattle.cell_triple.specs.Words.{opening_of, is_put_of, is_get_of, written_by};
 
 use crate::record::Numbered;
-use cell_live::{TripleCell, TripleGet, TriplePut};
+use cell_triple::{TripleCell, TripleGet, TriplePut};
 use std::alloc::Global;
 use std::sync::Arc;
 

@@ -14,11 +14,22 @@ pub struct Answer {
     pub status: u8,
 }
 
+/// Why no order is looked for of a history. Places are those of its operations, counted from 0.
+#[derive(Clone, Copy, Debug, PartialEq, Eq, Error)]
+pub enum HistoryFault {
+    #[error("operations {first} and {second} write one record")]
+    WritesTwice { first: usize, second: usize },
+    #[error("operation {place} writes the opening")]
+    WritesOpening { place: usize },
+}
+
 /// Why a document has no answer.
 #[derive(Clone, Copy, Debug, PartialEq, Eq, Error)]
 pub enum Fault {
     #[error("document: {0}")]
     Document(DocError),
+    #[error("history: {0}")]
+    History(HistoryFault),
     /// The step at this position of the schedule is of an actor that has no operation left.
     #[error("schedule: no operation left at step {position}")]
     Schedule { position: u64 },
@@ -35,7 +46,7 @@ impl Fault {
         ensures { result ≡ fault_status self.now }
     {
         match self {
-            Fault::Document(_) | Fault::Schedule { .. } => 3,
+            Fault::Document(_) | Fault::History(_) | Fault::Schedule { .. } => 3,
             Fault::NoMemory => 4,
         }
     }

@@ -4,5 +4,5 @@
 mod fault;
 mod run;
 
-pub use fault::{Answer, Fault};
+pub use fault::{Answer, Fault, HistoryFault};
 pub use run::{Program, give_answer, take_document};

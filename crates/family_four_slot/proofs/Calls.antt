@@ -1,5 +1,5 @@
 -- What three steps make a call: one access more, with a record or an answer, and the process is at rest again.
-use Rattle.std.proofs.Common.{◌≡◌, ◌≢◌, ◌⊎◌, ℕ, zero, suc, ◌+◌, ◌*◌, ◌-◌, ◌<◌, ◌≤◌, Bool, List, [], ◌∷◌, ◌++◌, map, length, set, get_or, refl, sym, ap, ◌∙◌, subst, arith}
+use Rattle.std.proofs.Common.{◌≡◌, ◌≢◌, ◌⊎◌, ℕ, zero, suc, ◌+◌, ◌*◌, ◌-◌, ◌<◌, ◌≤◌, Bool, List, [], ◌∷◌, ◌++◌, map, length, set, get_or, nat_eq, cond, refl, sym, ap, ◌∙◌, subst, arith}
 use Rattle.fourslot_core.specs.declared.state.Stage.TheVariants as writer
 use Rattle.fourslot_core.specs.declared.state.ReaderStage.TheVariants as reader
 use Rattle.fourslot_core.specs.Events.{slot_number, slot_with}
@@ -7,19 +7,21 @@ use Rattle.cell_live.specs.Running.{last_or, held_slots}
 use Rattle.cell_live.specs.Sights.{writer_or, reader_or}
 use Rattle.cell_live.specs.declared.times.Known.{Known}
 use Rattle.cell_live.specs.declared.times.Times.{Times}
-use Rattle.cell_live.specs.declared.four_slot.notes.WriterNotes.{WriterNotes}
-use Rattle.cell_live.specs.declared.four_slot.notes.ReaderNotes.{ReaderNotes}
+use Rattle.cell_four_slot.specs.declared.notes.WriterNotes.{WriterNotes}
+use Rattle.cell_four_slot.specs.declared.notes.ReaderNotes.{ReaderNotes}
 use Rattle.cell_live.specs.declared.sight.Sight.TheVariants.{Spent, Writer, Reader}
-use Rattle.cell_live.specs.four_slot.Steps.{FourSlotSight, first_writer, first_reader, bit_words, slot_of_choice}
-use Rattle.cell_live.specs.four_slot.Steps.{begun_with, stored_by, finished_by, asked_by, said_by, got_by, HasAnswered}
+use Rattle.cell_four_slot.specs.Steps.{FourSlotSight, first_writer, first_reader, bit_words, slot_of_choice}
+use Rattle.cell_four_slot.specs.Steps.{begun_with, stored_by, finished_by, asked_by, said_by, got_by, HasAnswered}
 use Rattle.cell_live.specs.Intervals.{IsNextAnswer}
-use Rattle.family_live.specs.Accesses.{IsAccess, IsRead, IsWrite, Reads, Rises}
+use Rattle.family_live.specs.Accesses.{IsAccess, IsRead, IsWrite, Keeps, KeepsOthers, Reads, Rises}
 use Rattle.family_four_slot.specs.declared.notes.Process.{Process}
 use Rattle.family_four_slot.specs.Layouts.{shift}
 use Rattle.family_four_slot.specs.Places.{place, slot_at, four_slots}
 use Rattle.family_four_slot.specs.Family.{of_cell, knows}
 use Rattle.family_four_slot.specs.Words.{writes_to, reads_from, IsAtRest, IsRow, IsColumn, HasSlots}
 use Rattle.family_four_slot.proofs.Places.{place_in}
+use Rattle.family_four_slot.proofs.Seats.{differ}
+use Rattle.family_four_slot.proofs.Frames.{row_apart, column_apart, other_writes, other_reads, same_writes, same_reads}
 use Rattle.family_four_slot.proofs.Rests.{IsChanged, changed, changed_again, rest_write, rest_read}
 
 joined : (xs : List ℕ) (a b c : ℕ) → ((xs ++ a ∷ []) ++ b ∷ []) ++ c ∷ [] ≡ xs ++ a ∷ b ∷ c ∷ []
@@ -46,31 +48,33 @@ module _ {T : Type 0} (o : T) (n : ℕ) where
   V = FourSlotSight T
 
   -- the notes of process j's cell, as contracts see them
-  sees_writes : (u : Process V) (who j : ℕ) (p : WriterNotes T) → u.who ≡ who → of_cell Spent (place n who j) u.parts ≡ Writer p →
+  pub sees_writes : (u : Process V) (who j : ℕ) (p : WriterNotes T) → j ≢ who → u.who ≡ who → of_cell Spent (place n who j) u.parts ≡ Writer p →
       writes_to o n u j ≡ record { items = p.written; times = p.times }
-  sees_writes u who j p same is =
-      let e : of_cell Spent (place n u.who j) u.parts ≡ Writer p = ap (λ z. of_cell Spent (place n z j) u.parts) same ∙ is in
+  sees_writes u who j p ne same is =
+      let e : cond (nat_eq j u.who) Spent (of_cell Spent (place n u.who j) u.parts) ≡ Writer p =
+      ap (λ b. cond {A = V} b Spent (of_cell Spent (place n u.who j) u.parts)) (differ j u.who (λ h. ne (h ∙ same)))
+      ∙ (ap (λ z. of_cell Spent (place n z j) u.parts) same ∙ is) in
       ap (λ z. let q = writer_or (first_writer o) z in record { items = q.written; times = q.times }) e
 
-  sees_reads : (u : Process V) (who j : ℕ) (g : ReaderNotes T) → u.who ≡ who → of_cell Spent (place n j who) u.parts ≡ Reader g →
+  pub sees_reads : (u : Process V) (who j : ℕ) (g : ReaderNotes T) → j ≢ who → u.who ≡ who → of_cell Spent (place n j who) u.parts ≡ Reader g →
       reads_from o n u j ≡ record { answers = g.answers; numbers = g.numbers; known = g.known; told = g.told; times = g.times }
-  sees_reads u who j g same is =
-      let e : of_cell Spent (place n j u.who) u.parts ≡ Reader g = ap (λ z. of_cell Spent (place n j z) u.parts) same ∙ is in
+  sees_reads u who j g ne same is =
+      let e : cond (nat_eq j u.who) Spent (of_cell Spent (place n j u.who) u.parts) ≡ Reader g =
+      ap (λ b. cond {A = V} b Spent (of_cell Spent (place n j u.who) u.parts)) (differ j u.who (λ h. ne (h ∙ same)))
+      ∙ (ap (λ z. of_cell Spent (place n j z) u.parts) same ∙ is) in
       ap (λ z. let q = reader_or (first_reader o) z in record { answers = q.answers; numbers = q.numbers; known = q.known; told = q.told; times = q.times }) e
 
   -- a write: W1, W4 and W5 of the cell to process j
   pub a_write : (v : Process V) (kept kept' : List (List ℕ)) (cs : List (ℕ × T)) (j : ℕ) (p : WriterNotes T) (b : Bool) (x : T) (a c d : ℕ)
-      (h1 h2 : List ℕ) → j < n → j ≢ v.who → IsAtRest o n v kept cs → of_cell Spent (place n v.who j) v.parts ≡ Writer p → p.opening.value ≡ o →
+      (h1 h2 : List ℕ) (k : ℕ) → k ≡ place n v.who j → j < n → j ≢ v.who → IsAtRest o n v kept cs → of_cell Spent k v.parts ≡ Writer p → p.opening.value ≡ o →
       v.clock < a → a < c → c < d →
       let q = finished_by (stored_by (begun_with p b x a) c) d in
-      let k = place n v.who j in
       let u = knows Spent (knows Spent (knows Spent v k (Writer (begun_with p b x a)) a h1) k (Writer (stored_by (begun_with p b x a) c)) c h2) k
       (Writer q) d (held_slots cs) in
       bit_words q.remembered ≡ get_or kept' j [] → ((i : ℕ) → i ≢ j → get_or kept' i [] ≡ get_or kept i []) → last_or o (p.written ++ x ∷ []) ≡ x →
       IsAtRest o n u kept' cs × IsAccess 3 v.clock u.clock v.times u.times (writes_to o n v j).times (writes_to o n u j).times
-      × IsWrite (writes_to o n v j) (writes_to o n u j) x
-  a_write v kept kept' cs j p b x a c d h1 h2 lj ne r is opened la lc ld bits same newest =
-      let k : ℕ = place n v.who j in
+      × IsWrite (writes_to o n v j) (writes_to o n u j) x × KeepsOthers j (writes_to o n v) (writes_to o n u) × Keeps (reads_from o n v) (reads_from o n u)
+  a_write v kept kept' cs j p b x a c d h1 h2 k place_is lj ne r is opened la lc ld bits same newest =
       let p1 : WriterNotes T = begun_with p b x a in
       let p2 : WriterNotes T = stored_by p1 c in
       let q : WriterNotes T = finished_by p2 d in
@@ -78,25 +82,27 @@ module _ {T : Type 0} (o : T) (n : ℕ) where
       let v2 : Process V = knows Spent v1 k (Writer p2) c h2 in
       let u : Process V = knows Spent v2 k (Writer q) d (held_slots cs) in
       let has : k < length v.parts = let e : length v.parts ≡ n * (n - 1) = r.parts in
-      let l = place_in n v.who j r.inside lj ne in
+      let l : place n v.who j < n * (n - 1) = place_in n v.who j r.inside lj ne in
       omega arith in
       let one = changed Spent v k a (Writer p1) h1 has in
       let two = changed_again Spent v v1 k c (Writer p1) (Writer p2) h2 has one in
       let all = changed_again Spent v v2 k d (Writer p2) (Writer q) (held_slots cs) has two in
-      let before = sees_writes v v.who j p refl is in
-      let after = sees_writes u v.who j q refl all.here in (
-        rest_write o n v u kept kept' cs j q lj ne r all refl opened (sym newest) bits same refl,
+      let there : IsChanged Spent v u (place n v.who j) (Writer q) = subst (λ z. IsChanged Spent v u z (Writer q)) place_is all in
+      let before = sees_writes v v.who j p ne refl (subst (λ z. of_cell Spent z v.parts ≡ Writer p) place_is is) in
+      let after = sees_writes u v.who j q ne refl there.here in (
+        rest_write o n v u kept kept' cs j q lj ne r there refl opened (sym newest) bits same refl,
         subst (λ (z : Times × Times). IsAccess 3 v.clock d v.times u.times z.0 z.1) (λ i. ((sym before i).times, (sym after i).times))
             (access_of v.times v.clock a c d p.times q.times la lc ld refl refl),
         record { items = ap (λ z. z.items) after ∙ ap (λ z. z.items ++ x ∷ []) (sym before) },
+        λ i di. other_writes o n v u (place n v.who j) (Writer q) there i (λ nw e. di (row_apart n v.who i j nw ne e)),
+        λ i. same_reads o n v u k (Writer q) all (ap (reader_or (first_reader o)) (sym is)) i,
       )
 
   -- a read: R1, R2 and R3 of the cell from process j
-  pub a_read : (v : Process V) (kept : List (List ℕ)) (before behind : List (ℕ × T)) (y : ℕ) (j : ℕ) (g : ReaderNotes T) (b : Bool) (x : T)
-      (a c d number : ℕ) (bit : Bool) (writes : Known T) (h1 h2 : List ℕ) → j < n → j ≢ v.who →
-      IsAtRest o n v kept (before ++ (shift (slot_at (place n j v.who)) (slot_of_choice g.chosen g.at_hand.value) ++ behind)) →
-      of_cell Spent (place n j v.who) v.parts ≡ Reader g → g.opening.value ≡ o → v.clock < a → a < c → c < d →
-      let k = place n j v.who in
+  pub a_read : (v : Process V) (kept : List (List ℕ)) (before behind : List (ℕ × T)) (j : ℕ) (g : ReaderNotes T) (b : Bool) (x : T)
+      (a c d number : ℕ) (bit : Bool) (writes : Known T) (h1 h2 : List ℕ) (k : ℕ) → k ≡ place n j v.who → j < n → j ≢ v.who →
+      IsAtRest o n v kept (before ++ (shift (slot_at k) (slot_of_choice g.chosen g.at_hand.value) ++ behind)) →
+      of_cell Spent k v.parts ≡ Reader g → g.opening.value ≡ o → v.clock < a → a < c → c < d →
       let g2 = said_by (asked_by g b a) c in
       let h = got_by g2 bit x d number writes in
       let u = knows Spent (knows Spent (knows Spent v k (Reader (asked_by g b a)) a h1) k (Reader g2) c h2) k (Reader h) d
@@ -104,9 +110,8 @@ module _ {T : Type 0} (o : T) (n : ℕ) where
       HasAnswered g2 h x →
       IsAtRest o n u kept ((slot_at k (slot_number (slot_with b bit)), x) ∷ (before ++ behind))
       × IsAccess 3 v.clock u.clock v.times u.times (reads_from o n v j).times (reads_from o n u j).times
-      × IsRead o (reads_from o n v j) (reads_from o n u j) x
-  a_read v kept before behind y j g b x a c d number bit writes h1 h2 lj ne r is opened la lc ld answered =
-      let k : ℕ = place n j v.who in
+      × IsRead o (reads_from o n v j) (reads_from o n u j) x × KeepsOthers j (reads_from o n v) (reads_from o n u) × Keeps (writes_to o n v) (writes_to o n u)
+  a_read v kept before behind j g b x a c d number bit writes h1 h2 k place_is lj ne r is opened la lc ld answered =
       let g1 : ReaderNotes T = asked_by g b a in
       let g2 : ReaderNotes T = said_by g1 c in
       let h : ReaderNotes T = got_by g2 bit x d number writes in
@@ -115,14 +120,17 @@ module _ {T : Type 0} (o : T) (n : ℕ) where
       let v2 : Process V = knows Spent v1 k (Reader g2) c h2 in
       let u : Process V = knows Spent v2 k (Reader h) d (held_slots (slot ∷ (before ++ behind))) in
       let has : k < length v.parts = let e : length v.parts ≡ n * (n - 1) = r.parts in
-      let l = place_in n j v.who lj r.inside (λ q. ne (sym q)) in
+      let l : place n j v.who < n * (n - 1) = place_in n j v.who lj r.inside (λ q. ne (sym q)) in
       omega arith in
       let one = changed Spent v k a (Reader g1) h1 has in
       let two = changed_again Spent v v1 k c (Reader g1) (Reader g2) h2 has one in
       let all = changed_again Spent v v2 k d (Reader g2) (Reader h) (held_slots (slot ∷ (before ++ behind))) has two in
-      let old = sees_reads v v.who j g refl is in
-      let new = sees_reads u v.who j h refl all.here in (
-        rest_read o n v u kept before behind slot j g h lj ne r all refl opened ([], before ++ behind, refl) refl,
+      let there : IsChanged Spent v u (place n j v.who) (Reader h) = subst (λ z. IsChanged Spent v u z (Reader h)) place_is all in
+      let old = sees_reads v v.who j g ne refl (subst (λ z. of_cell Spent z v.parts ≡ Reader g) place_is is) in
+      let new = sees_reads u v.who j h ne refl there.here in (
+        rest_read o n v u kept before behind slot j g h lj ne
+            (subst (λ z. IsAtRest o n v kept (before ++ (shift (slot_at z) (slot_of_choice g.chosen g.at_hand.value) ++ behind))) place_is r) there refl opened
+            (subst (λ z. HasSlots z h (slot ∷ (before ++ behind))) place_is ([], before ++ behind, refl)) refl,
         subst (λ (z : Times × Times). IsAccess 3 v.clock d v.times u.times z.0 z.1) (λ i. ((sym old i).times, (sym new i).times))
             (access_of v.times v.clock a c d g.times h.times la lc ld refl refl),
         subst (λ (z : Reads T × Reads T). IsRead o z.0 z.1 x) (λ i. (sym old i, sym new i)) (record {
@@ -130,4 +138,6 @@ module _ {T : Type 0} (o : T) (n : ℕ) where
           numbered = subst (λ z. IsNextAnswer z g.known h.known g.numbers h.numbers h.answers h.times x) opened answered;
           told = refl;
         }),
+        λ i di. other_reads o n v u (place n j v.who) (Reader h) there i (λ nw e. di (column_apart n i j v.who lj r.inside ne nw e)),
+        λ i. same_writes o n v u k (Reader h) all (ap (writer_or (first_writer o)) (sym is)) i,
       )

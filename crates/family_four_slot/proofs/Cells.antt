@@ -10,15 +10,15 @@ use Rattle.atomic_table.proofs.Lists.{at_set, at_snoc, at_longer, set_again, set
 use Rattle.fourslot_core.specs.declared.state.ReaderStage.TheVariants as reader
 use Rattle.std.specs.declared.snapshot.Snapshot.{Snapshot}
 use Rattle.cell_live.specs.declared.times.Dated.{Dated}
-use Rattle.cell_live.specs.declared.four_slot.notes.WriterNotes.{WriterNotes}
-use Rattle.cell_live.specs.declared.four_slot.notes.ReaderNotes.{ReaderNotes}
+use Rattle.cell_four_slot.specs.declared.notes.WriterNotes.{WriterNotes}
+use Rattle.cell_four_slot.specs.declared.notes.ReaderNotes.{ReaderNotes}
 use Rattle.cell_live.specs.declared.sight.Sight.TheVariants.{Spent, Told, Writer, Reader, Both}
-use Rattle.cell_live.specs.four_slot.Rule.{FourSlotRule, Sees}
-use Rattle.cell_live.specs.four_slot.Steps.{FourSlotSight, first_sight, first_writer, first_reader, receipt_for, hears_of}
+use Rattle.cell_four_slot.specs.Rule.{FourSlotRule, Sees}
+use Rattle.cell_four_slot.specs.Steps.{FourSlotSight, first_sight, first_writer, first_reader, receipt_for, hears_of}
 use Rattle.family_four_slot.specs.Family.{CellTells, CellHears}
 use Rattle.family_four_slot.specs.FourSlots.{CellRule, Idle, first_part}
 use Rattle.family_four_slot.specs.Places.{writer_of, reader_of}
-use Rattle.cell_live.proofs.four_slots.Keeps.{shown_number, reseated_at, tells_at, hears_at, parted_at}
+use Rattle.cell_four_slot.proofs.Keeps.{shown_number, reseated_at, tells_at, hears_at, parted_at}
 use Rattle.family_four_slot.proofs.Slices.{within}
 
 module _ {T : Type 0} (fits : T → Type 0) (rises : T → T → Type 0) (o : T) where

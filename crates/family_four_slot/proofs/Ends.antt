@@ -11,12 +11,12 @@ use Rattle.fourslot_core.specs.declared.state.ReaderStage.{ReaderStage}
 use Rattle.fourslot_core.specs.declared.state.ReaderStage.TheVariants as reader
 use Rattle.fourslot_core.specs.Invariant.{latest_slot}
 use Rattle.cell_live.specs.Intervals.{AreAtomic, AreFirst, HaveEnded}
-use Rattle.cell_live.specs.declared.four_slot.notes.WriterNotes.{WriterNotes}
-use Rattle.cell_live.specs.declared.four_slot.notes.ReaderNotes.{ReaderNotes}
+use Rattle.cell_four_slot.specs.declared.notes.WriterNotes.{WriterNotes}
+use Rattle.cell_four_slot.specs.declared.notes.ReaderNotes.{ReaderNotes}
 use Rattle.cell_live.specs.declared.sight.Sight.TheVariants.{Spent, Writer, Reader}
-use Rattle.cell_live.specs.four_slot.Rule.{FourSlotRule, IsTimed, Sees, number_in, named_slot}
-use Rattle.cell_live.specs.four_slot.Steps.{FourSlotSight}
-use Rattle.cell_live.proofs.four_slots.Timing.{timed_atomic}
+use Rattle.cell_four_slot.specs.Rule.{FourSlotRule, IsTimed, Sees, number_in, named_slot}
+use Rattle.cell_four_slot.specs.Steps.{FourSlotSight}
+use Rattle.cell_four_slot.proofs.Timing.{timed_atomic}
 use Rattle.family_four_slot.specs.declared.notes.Process.{Process}
 use Rattle.family_four_slot.specs.declared.notes.Receipt.{Receipt}
 use Rattle.family_four_slot.specs.declared.notes.View.{View}

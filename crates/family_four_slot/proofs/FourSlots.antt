@@ -10,11 +10,11 @@ use Rattle.fourslot_core.specs.declared.state.Stage.TheVariants as writer
 use Rattle.fourslot_core.specs.declared.state.ReaderStage.TheVariants as reader
 use Rattle.fourslot_core.specs.Events.{bit_number, slot_number}
 use Rattle.cell_live.specs.Running.{last_or, held_slots}
-use Rattle.cell_live.specs.declared.four_slot.notes.WriterNotes.{WriterNotes}
-use Rattle.cell_live.specs.declared.four_slot.notes.ReaderNotes.{ReaderNotes}
+use Rattle.cell_four_slot.specs.declared.notes.WriterNotes.{WriterNotes}
+use Rattle.cell_four_slot.specs.declared.notes.ReaderNotes.{ReaderNotes}
 use Rattle.cell_live.specs.declared.sight.Sight.TheVariants.{Spent, Told, Writer, Reader, Both}
-use Rattle.cell_live.specs.four_slot.Rule.{FourSlotRule}
-use Rattle.cell_live.specs.four_slot.Steps.{FourSlotSight, first_sight, begins, stores, finishes, asks, says, takes, slot_of_choice}
+use Rattle.cell_four_slot.specs.Rule.{FourSlotRule}
+use Rattle.cell_four_slot.specs.Steps.{FourSlotSight, first_sight, begins, stores, finishes, asks, says, takes, slot_of_choice}
 use Rattle.family_four_slot.specs.declared.notes.Process.{Process}
 use Rattle.family_four_slot.specs.declared.notes.View.{View}
 use Rattle.family_four_slot.specs.declared.notes.View.TheVariants.{Has}
@@ -22,8 +22,8 @@ use Rattle.family_four_slot.specs.Layouts.{shift, Inside}
 use Rattle.family_four_slot.specs.Places.{four_slots, word_at, slot_at}
 use Rattle.family_four_slot.specs.Family.{of_cell, CellAllows, Tells}
 use Rattle.family_four_slot.specs.FourSlots.{When, CellRule, FourSlotFamily}
-use Rattle.cell_live.proofs.four_slots.Keeps.{begins_at, stores_at, finishes_at, asks_at, says_at, takes_at}
-use Rattle.cell_live.proofs.four_slots.Slots.{bit_low, slot_low}
+use Rattle.cell_four_slot.proofs.Keeps.{begins_at, stores_at, finishes_at, asks_at, says_at, takes_at}
+use Rattle.cell_four_slot.proofs.Slots.{bit_low, slot_low}
 use Rattle.family_four_slot.proofs.Places.{is_layout}
 use Rattle.family_four_slot.proofs.Steps.{family_allows}
 

@@ -1,9 +1,14 @@
 pub mod Acts
 pub mod Calls
 pub mod Cells
+pub mod Done
 pub mod Ends
 pub mod FourSlots
+pub mod Frames
+pub mod Going
 pub mod Held
+pub mod Learning
+pub mod Parting
 pub mod Places
 pub mod Receipts
 pub mod Rests

@@ -25,7 +25,7 @@ among_small n i j li lj ne = ⊎_elim (λ (l : j < i). let e = among_less i j l 
       apart : (i j : ℕ) → i ≤ j → j ≢ i → i < j
       apart i j l ne = ⊎_elim (λ (h : i < j). h) (λ (h : j ≤ i). absurd (ne (omega arith))) (cases_lt i j)
 
-other_among : (i j : ℕ) → j ≢ i → other i (among i j) ≡ j
+pub other_among : (i j : ℕ) → j ≢ i → other i (among i j) ≡ j
 other_among i j ne = ⊎_elim
     (λ (l : j < i). ap (other i) (among_less i j l) ∙ ap (λ b. cond {A = ℕ} b j (j + 1)) (below j i l))
     (λ (l : i ≤ j). let more : i < j = ⊎_elim (λ (h : i < j). h) (λ (h : j ≤ i). absurd (ne (omega arith))) (cases_lt i j) in

@@ -8,18 +8,18 @@ use Rattle.fourslot_core.specs.declared.state.ReaderStage.TheVariants as reader
 use Rattle.fourslot_core.specs.Events.{slot_number}
 use Rattle.cell_live.specs.Running.{last_or, held_slots}
 use Rattle.cell_live.specs.Sights.{writer_or, reader_or}
-use Rattle.cell_live.specs.declared.four_slot.notes.WriterNotes.{WriterNotes}
-use Rattle.cell_live.specs.declared.four_slot.notes.ReaderNotes.{ReaderNotes}
+use Rattle.cell_four_slot.specs.declared.notes.WriterNotes.{WriterNotes}
+use Rattle.cell_four_slot.specs.declared.notes.ReaderNotes.{ReaderNotes}
 use Rattle.cell_live.specs.declared.sight.Sight.TheVariants.{Spent, Writer, Reader}
-use Rattle.cell_live.specs.four_slot.Steps.{FourSlotSight, first_writer, first_reader, bit_words, slot_of_choice}
-use Rattle.cell_live.proofs.four_slots.Slots.{slot_low}
+use Rattle.cell_four_slot.specs.Steps.{FourSlotSight, first_writer, first_reader, bit_words, slot_of_choice, receipt_for}
+use Rattle.cell_four_slot.proofs.Slots.{slot_low}
 use Rattle.family_four_slot.specs.declared.notes.Process.{Process}
 use Rattle.family_four_slot.specs.Layouts.{shift}
-use Rattle.family_four_slot.specs.Places.{place, slot_at, four_slots}
+use Rattle.family_four_slot.specs.Places.{place, slot_at, four_slots, writer_of}
 use Rattle.family_four_slot.specs.Family.{of_cell, knows}
 use Rattle.family_four_slot.specs.FourSlots.{Idle}
 use Rattle.family_four_slot.specs.Words.{IsAtRest, IsRow, IsColumn, HasSlots}
-use Rattle.family_four_slot.proofs.Places.{place_in, place_apart, is_layout}
+use Rattle.family_four_slot.proofs.Places.{place_in, place_apart, is_layout, writer_there}
 use Rattle.family_four_slot.proofs.Slices.{get_set_here, get_set_else, set_long}
 
 -- one cell's notes change, and nothing else of what is known of cells
@@ -112,6 +112,9 @@ module _ {T : Type 0} (o : T) (n : ℕ) where
         held = held;
         idle = λ i. ⊎_elim (λ (e : i ≡ k). subst Idle (sym (ap (λ z. of_cell Spent z u.parts) e ∙ c.here)) idle)
             (λ (d : i ≢ k). subst Idle (sym (c.others i d)) (r.idle i)) (cases_eq i k);
+        quiet = λ i nw.
+            let away : i ≢ k = λ e. nw (ap (writer_of n) e ∙ (writer_there n v.who j r.inside lj ne ∙ sym who)) in
+            ap receipt_for (c.others i away) ∙ r.quiet i (λ e. nw (e ∙ sym who));
         row = λ i li nw.
             let other : i ≢ v.who = λ h. nw (h ∙ sym who) in
             subst (λ z. IsRow o (of_cell Spent (place n z i) u.parts) (get_or kept' i [])) (sym who) (⊎_elim
@@ -145,6 +148,8 @@ module _ {T : Type 0} (o : T) (n : ℕ) where
         held = held;
         idle = λ i. ⊎_elim (λ (e : i ≡ k). subst Idle (sym (ap (λ z. of_cell Spent z u.parts) e ∙ c.here)) idle)
             (λ (d : i ≢ k). subst Idle (sym (c.others i d)) (r.idle i)) (cases_eq i k);
+        quiet = λ i nw. ⊎_elim (λ (e : i ≡ k). ap receipt_for (ap (λ z. of_cell Spent z u.parts) e ∙ c.here))
+            (λ (d : i ≢ k). ap receipt_for (c.others i d) ∙ r.quiet i (λ e. nw (e ∙ sym who))) (cases_eq i k);
         row = λ i li nw.
             let other : i ≢ v.who = λ q. nw (q ∙ sym who) in
             subst (λ z. IsRow o (of_cell Spent (place n z i) u.parts) (get_or kept i [])) (sym who)

@@ -17,7 +17,7 @@ use Rattle.family_four_slot.specs.Family.{total, cell, holders, Shows, FamilyRul
 use Rattle.family_four_slot.proofs.Steps.{count_of}
 use Rattle.family_four_slot.proofs.Totals.{total_set, total_snoc}
 
-differ : (m n : ℕ) → m ≢ n → nat_eq m n ≡ false
+pub differ : (m n : ℕ) → m ≢ n → nat_eq m n ≡ false
 differ m n ne = grind (arith, nat_tests)
 
 module _ {A : Type 0} (P : A → Type 0) where

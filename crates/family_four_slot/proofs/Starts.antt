@@ -6,7 +6,7 @@ use mathlib.Core.Option.{none, some, some-injective, some-ne-none}
 use lib.ListN.{get_elem?}
 use Rattle.atomic_table.specs.Table.{State, opening}
 use Rattle.cell_live.specs.declared.sight.Sight.TheVariants.{Spent}
-use Rattle.cell_live.specs.four_slot.Steps.{FourSlotSight}
+use Rattle.cell_four_slot.specs.Steps.{FourSlotSight}
 use Rattle.family_four_slot.specs.declared.notes.Process.{Process}
 use Rattle.family_four_slot.specs.Layouts.{gather}
 use Rattle.family_four_slot.specs.Family.{of_cell, cell}

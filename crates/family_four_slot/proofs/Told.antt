@@ -9,11 +9,11 @@ use Rattle.fourslot_core.specs.Events.{bit_number, slot_number, slot_with}
 use Rattle.cell_live.specs.Running.{last_or, held_slots, IsAnswer}
 use Rattle.cell_live.specs.Sights.{writer_or, reader_or}
 use Rattle.cell_live.specs.declared.times.Known.{Known}
-use Rattle.cell_live.specs.declared.four_slot.notes.WriterNotes.{WriterNotes}
-use Rattle.cell_live.specs.declared.four_slot.notes.ReaderNotes.{ReaderNotes}
+use Rattle.cell_four_slot.specs.declared.notes.WriterNotes.{WriterNotes}
+use Rattle.cell_four_slot.specs.declared.notes.ReaderNotes.{ReaderNotes}
 use Rattle.cell_live.specs.declared.sight.Sight.TheVariants.{Spent, Writer, Reader}
-use Rattle.cell_live.specs.four_slot.Steps.{FourSlotSight, clock_of, begun_with, stored_by, finished_by, asked_by, said_by, got_by, slot_of_choice, HasAnswered}
-use Rattle.cell_live.specs.four_slot.Steps.{begins as cell_begins, stores as cell_stores, finishes as cell_finishes, asks as cell_asks, says as cell_says, takes as cell_takes}
+use Rattle.cell_four_slot.specs.Steps.{FourSlotSight, clock_of, begun_with, stored_by, finished_by, asked_by, said_by, got_by, slot_of_choice, HasAnswered}
+use Rattle.cell_four_slot.specs.Steps.{begins as cell_begins, stores as cell_stores, finishes as cell_finishes, asks as cell_asks, says as cell_says, takes as cell_takes}
 use Rattle.family_four_slot.specs.declared.notes.Process.{Process}
 use Rattle.family_four_slot.specs.declared.notes.View.{View}
 use Rattle.family_four_slot.specs.declared.notes.View.TheVariants.{Told, Has}

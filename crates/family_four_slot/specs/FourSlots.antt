@@ -4,8 +4,8 @@ use Rattle.atomic_table.specs.Table.{State, Me}
 use Rattle.fourslot_core.specs.declared.state.Stage.TheVariants as writer
 use Rattle.fourslot_core.specs.declared.state.ReaderStage.TheVariants as reader
 use Rattle.cell_live.specs.declared.sight.Sight.TheVariants.{Spent, Told, Writer, Reader, Both}
-use Rattle.cell_live.specs.four_slot.Rule.{FourSlotRule}
-use Rattle.cell_live.specs.four_slot.Steps.{FourSlotSight, first_writer, first_reader, clock_of}
+use Rattle.cell_four_slot.specs.Rule.{FourSlotRule}
+use Rattle.cell_four_slot.specs.Steps.{FourSlotSight, first_writer, first_reader, clock_of}
 use Rattle.family_four_slot.specs.declared.notes.Process.{Process}
 use Rattle.family_four_slot.specs.declared.notes.View.{View}
 use Rattle.family_four_slot.specs.declared.notes.View.TheVariants.{Has}

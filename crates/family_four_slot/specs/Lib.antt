@@ -2,6 +2,7 @@ pub mod Family
 pub mod FourSlots
 pub mod Layouts
 pub mod Places
+pub mod Seated
 pub mod Seats
 pub mod Steps
 pub mod Tables

@@ -5,10 +5,10 @@ use Rattle.atomic_table.specs.Table.{Me, Step}
 use Rattle.fourslot_core.specs.Events.{slot_with, bit_number, slot_number}
 use Rattle.cell_live.specs.Running.{IsAnswer, held_slots}
 use Rattle.cell_live.specs.declared.times.Known.{Known}
-use Rattle.cell_live.specs.declared.four_slot.notes.WriterNotes.{WriterNotes}
-use Rattle.cell_live.specs.declared.four_slot.notes.ReaderNotes.{ReaderNotes}
+use Rattle.cell_four_slot.specs.declared.notes.WriterNotes.{WriterNotes}
+use Rattle.cell_four_slot.specs.declared.notes.ReaderNotes.{ReaderNotes}
 use Rattle.cell_live.specs.declared.sight.Sight.TheVariants.{Spent, Writer, Reader}
-use Rattle.cell_live.specs.four_slot.Steps.{FourSlotSight, begun_with, stored_by, finished_by, asked_by, said_by, got_by, slot_of_choice, HasAnswered}
+use Rattle.cell_four_slot.specs.Steps.{FourSlotSight, begun_with, stored_by, finished_by, asked_by, said_by, got_by, slot_of_choice, HasAnswered}
 use Rattle.family_four_slot.specs.declared.notes.Process.{Process}
 use Rattle.family_four_slot.specs.declared.notes.View.{View}
 use Rattle.family_four_slot.specs.declared.notes.View.TheVariants.{Has}

@@ -1,5 +1,5 @@
 -- What contracts see of a family of four-slot cells (this project's own).
-use Rattle.std.specs.Prelude.{◌≡◌, ◌≢◌, ℕ, ◌+◌, ◌*◌, ◌-◌, ◌<◌, ◌≤◌, List, [], ◌∷◌, ◌++◌, length, slice_index_or, slice_index}
+use Rattle.std.specs.Prelude.{◌≡◌, ◌≢◌, ℕ, ◌+◌, ◌*◌, ◌-◌, ◌<◌, ◌≤◌, nat_eq, cond, List, [], ◌∷◌, ◌++◌, length, slice_index_or, slice_index}
 use Rattle.atomic_table.specs.Table.{Me}
 use Rattle.fourslot_core.specs.declared.state.Slot.{Slot}
 use Rattle.fourslot_core.specs.declared.state.Stage.TheVariants as writer
@@ -8,17 +8,17 @@ use Rattle.fourslot_core.specs.Events.{slot_number}
 use Rattle.std.specs.declared.snapshot.Snapshot.{Snapshot}
 use Rattle.cell_live.specs.Running.{last_or, held_slots}
 use Rattle.cell_live.specs.Sights.{writer_or, reader_or, receipt_or}
-use Rattle.cell_live.specs.declared.four_slot.notes.WriterNotes.{WriterNotes}
-use Rattle.cell_live.specs.declared.four_slot.notes.ReaderNotes.{ReaderNotes}
+use Rattle.cell_four_slot.specs.declared.notes.WriterNotes.{WriterNotes}
+use Rattle.cell_four_slot.specs.declared.notes.ReaderNotes.{ReaderNotes}
 use Rattle.cell_live.specs.declared.sight.Sight.TheVariants.{Spent, Writer, Reader}
-use Rattle.cell_live.specs.four_slot.Steps.{FourSlotSight, first_writer, first_reader, bit_words, slot_of_choice}
+use Rattle.cell_four_slot.specs.Steps.{FourSlotSight, first_writer, first_reader, bit_words, slot_of_choice, receipt_for}
 use Rattle.family_live.specs.Accesses.{Writes, Reads}
 use Rattle.family_four_slot.specs.declared.notes.Process.{Process}
 use Rattle.family_four_slot.specs.declared.notes.Receipt.{Receipt}
 use Rattle.family_four_slot.specs.declared.notes.View.{View}
 use Rattle.family_four_slot.specs.declared.notes.View.TheVariants.{Told, Has}
 use Rattle.family_four_slot.specs.Layouts.{shift}
-use Rattle.family_four_slot.specs.Places.{place, slot_at}
+use Rattle.family_four_slot.specs.Places.{place, slot_at, writer_of}
 use Rattle.family_four_slot.specs.Family.{of_cell}
 use Rattle.family_four_slot.specs.FourSlots.{Idle}
 
@@ -40,12 +40,12 @@ module _ {V : Type 0} where
   receipt_in (Has ps) = record { clock = 0; parts = [] }
 
 module _ {T : Type 0} (o : T) (n : ℕ) where
-  -- what a process wrote to process j, and what it read from it
+  -- what a process wrote to process j, and what it read from it. It has no cell of its own
   abbrev pub writer_to : Process (FourSlotSight T) → ℕ → WriterNotes T
-  writer_to v j = writer_or (first_writer o) (of_cell Spent (place n v.who j) v.parts)
+  writer_to v j = writer_or (first_writer o) (cond (nat_eq j v.who) Spent (of_cell Spent (place n v.who j) v.parts))
 
   abbrev pub reader_from : Process (FourSlotSight T) → ℕ → ReaderNotes T
-  reader_from v j = reader_or (first_reader o) (of_cell Spent (place n j v.who) v.parts)
+  reader_from v j = reader_or (first_reader o) (cond (nat_eq j v.who) Spent (of_cell Spent (place n j v.who) v.parts))
 
   abbrev pub writes_to : Process (FourSlotSight T) → ℕ → Writes T
   writes_to v j = let p = writer_to v j in record { items = p.written; times = p.times }
@@ -78,11 +78,12 @@ module _ {T : Type 0} (o : T) where
     pub opened : notes.opening.value ≡ o
     pub slots : HasSlots k notes cs
 
-  -- a process of n between two calls
+  -- a process of n between two calls. Of cells that it doesn't write it tells nothing
   pub record IsAtRest (n : ℕ) (v : Process (FourSlotSight T)) (remembered : List (List ℕ)) (cs : List (ℕ × T)) : Type 0 where
     pub inside : v.who < n
     pub parts : length v.parts ≡ n * (n - 1)
     pub held : v.held ≡ held_slots cs
     pub idle : (k : ℕ) → Idle (of_cell Spent k v.parts)
+    pub quiet : (k : ℕ) → writer_of n k ≢ v.who → receipt_for (of_cell Spent k v.parts) ≡ Spent
     pub row : (j : ℕ) → j < n → j ≢ v.who → IsRow (of_cell Spent (place n v.who j) v.parts) (slice_index_or remembered j [])
     pub column : (j : ℕ) → j < n → j ≢ v.who → IsColumn (place n j v.who) (of_cell Spent (place n j v.who) v.parts) cs

@@ -1,5 +1,9 @@
-//! The table of a family of four-slot cells: its rule, and each kind of step that keeps it. The calls over it, by which a type would
-//! be a `Family`, aren't written yet.
+//! A family of four-slot cells: registers of one writer and one reader each, from each of 2 to 16 processes to each other one, in one
+//! table and so in one time. `FourSlotFamily` meets the contract of `family_live`: each write and each read makes three steps of the
+//! schedule that all processes share, plain loads and stores of one word, and copies the record once or not at all.
+//!
+//! The rule that words, slots and seats keep between any two steps stands in `specs/Family.antt` and `specs/FourSlots.antt`, where each cell
+//! lies in `specs/Places.antt`, and what contracts see of a seat in `specs/Seated.antt`.
 #![tactic(auto)]
 
 use atomic_table::TableRule;
@@ -7,9 +11,12 @@ use cell_live::Lawful;
 use notes::{FamilySight, Opened};
 
 mod closed;
+mod family;
 pub mod notes;
 mod plays;
 mod table;
+
+pub use family::{FourSlotFamily, FourSlotSeat, FourSlotTold};
 
 /// The rule of the table.
 pub struct FamilyLaw;

@@ -1,5 +1,5 @@
 //! What the seats of a family know, and what its table is told once. No value of the first three types is made.
-use cell_live::FourSlotSight;
+use cell_four_slot::FourSlotSight;
 use std::collections::LinkedList;
 
 /// What a process knows: its number, the last time of which it knows, the times of its steps, the slots that its seat has, and what

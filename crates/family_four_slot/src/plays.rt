@@ -1,6 +1,6 @@
 //! What each step tells, and what goes from seat to seat.
 ghost use Rattle.std.specs.Prelude.{List, []};
-ghost use Rattle.cell_live.specs.four_slot.Steps.{hears_of, receipt_for};
+ghost use Rattle.cell_four_slot.specs.Steps.{hears_of, receipt_for};
 ghost use Rattle.family_four_slot.specs.Steps.{begins, stores, finishes, asks, says, takes};
 ghost use Rattle.family_four_slot.specs.Seats.{all_but_first, first_of, no_process, all_of, told_by, learnt_by, joined, no_one};
 

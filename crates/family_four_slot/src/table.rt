@@ -9,13 +9,13 @@ ghost use Rattle.fourslot_core.specs.declared.state.Stage.TheVariants.{W3, W4, W
 ghost use Rattle.fourslot_core.specs.declared.state.ReaderStage.TheVariants.{R1, R2, R5};
 ghost use Rattle.fourslot_core.specs.Events.{bit_number, slot_number};
 ghost use Rattle.cell_live.specs.Running.{last_or, held_slots};
-ghost use Rattle.cell_live.specs.declared.four_slot.notes.WriterNotes.{WriterNotes};
-ghost use Rattle.cell_live.specs.declared.four_slot.notes.ReaderNotes.{ReaderNotes};
+ghost use Rattle.cell_four_slot.specs.declared.notes.WriterNotes.{WriterNotes};
+ghost use Rattle.cell_four_slot.specs.declared.notes.ReaderNotes.{ReaderNotes};
 ghost use Rattle.cell_live.specs.declared.sight.Sight.TheVariants.{Writer, Reader, Spent};
-ghost use Rattle.cell_live.specs.four_slot.Steps.{FourSlotSight, slot_of_choice};
+ghost use Rattle.cell_four_slot.specs.Steps.{FourSlotSight, slot_of_choice};
 ghost use Rattle.family_four_slot.specs.declared.notes.Process.{Process};
 ghost use Rattle.family_four_slot.specs.Layouts.{shift};
-ghost use Rattle.family_four_slot.specs.Places.{four_slots, slot_at};
+ghost use Rattle.family_four_slot.specs.Places.{four_slots, place, slot_at};
 ghost use Rattle.family_four_slot.specs.FourSlots.{first_view, Idle};
 ghost use Rattle.family_four_slot.specs.Steps.{begins, stores, finishes, asks, says, takes};
 ghost use Rattle.family_four_slot.specs.Tables.{HasWriter, HasReader, IsEnded};
@@ -23,7 +23,7 @@ ghost use Rattle.family_four_slot.specs.declared.notes.Receipt.{Receipt};
 ghost use Rattle.family_four_slot.specs.declared.notes.View.TheVariants.{Told, Has};
 ghost use Rattle.family_four_slot.specs.Family.{of_cell};
 ghost use Rattle.family_four_slot.specs.Seats.{all_but_first, first_of, told_by, learnt_by, joined};
-ghost use Rattle.cell_live.specs.four_slot.Steps.{hears_of, receipt_for};
+ghost use Rattle.cell_four_slot.specs.Steps.{hears_of, receipt_for};
 
 use crate::FamilyLaw;
 use crate::closed::empty;
@@ -57,6 +57,25 @@ fn base(cell: usize) -> usize
     ensures { result ≡ 16 * cell + 8 }
 {
     16 * cell + 8
+}
+
+/// The place of a cell's slot.
+#[inline]
+fn slot_place(cell: usize, slot: usize) -> usize
+    requires { (cell < 240) × (slot < 4) }
+    ensures { result ≡ slot_at cell slot }
+{
+    4 * cell + slot
+}
+
+/// The cell that process `i` writes and process `j` reads.
+#[inline]
+pub(super) fn place(processes: usize, i: usize, j: usize) -> usize
+    requires { (processes ≤ 16) × (i < processes) × (j < processes) × (j ≢ i) }
+    ensures { result ≡ place processes i j }
+{
+    let among = if j < i { j } else { j - 1 };
+    i * (processes - 1) + among
 }
 
 impl<T: Lawful> FamilyTable<T> {
@@ -250,14 +269,16 @@ impl<T: Lawful> FamilyTable<T> {
 
     /// W2 and W3: copies the record into the slot.
     #[inline]
-    pub(super) fn fill(&self, seat: &mut FamilySeat<T>, slot: usize, item: &T)
+    pub(super) fn fill(&self, seat: &mut FamilySeat<T>, cell: usize, slot: usize, item: &T)
         requires own { seat.old.inner.table_id ≡ self.now.inner.shared.table_id }
-        requires held { (x : T) × (cs : List (ℕ × T)) × (seat.old.inner.me.1 ≡ (slot, x) ∷ cs) }
+        requires place { (cell < (four_slots self.now.inner.shared.key.processes).cells) × (slot < 4) }
+        requires held { (x : T) × (cs : List (ℕ × T)) × (seat.old.inner.me.1 ≡ (slot_at cell slot, x) ∷ cs) }
         ensures own { seat.new.inner.table_id ≡ seat.old.inner.table_id }
-        ensures filled { (x : T) (cs : List (ℕ × T)) → seat.old.inner.me.1 ≡ (slot, x) ∷ cs →
-            seat.new.inner.me ≡ (seat.old.inner.me.0, (slot, item.now) ∷ cs) }
+        ensures filled { (x : T) (cs : List (ℕ × T)) → seat.old.inner.me.1 ≡ (slot_at cell slot, x) ∷ cs →
+            seat.new.inner.me ≡ (seat.old.inner.me.0, (slot_at cell slot, item.now) ∷ cs) }
     {
-        *seat.inner.slot_mut(&self.inner.shared, slot) = *item;
+        let at = slot_place(cell, slot);
+        *seat.inner.slot_mut(&self.inner.shared, at) = *item;
     }
 
     /// R4 and R5: lends the record where it lies.
@@ -265,15 +286,20 @@ impl<T: Lawful> FamilyTable<T> {
     pub(super) fn lend<R, F: FnOnce(&T) -> R>(
         &self,
         seat: &mut FamilySeat<T>,
+        cell: usize,
         slot: usize,
         look: F,
     ) -> R
         requires own { seat.old.inner.table_id ≡ self.now.inner.shared.table_id }
-        requires held { (x : T) × (cs : List (ℕ × T)) × (seat.old.inner.me.1 ≡ (slot, x) ∷ cs) × FnOnceTakesAt F.FnOnce look x }
+        requires place { (cell < (four_slots self.now.inner.shared.key.processes).cells) × (slot < 4) }
+        requires held { (x : T) × (cs : List (ℕ × T)) × (seat.old.inner.me.1 ≡ (slot_at cell slot, x) ∷ cs)
+            × FnOnceTakesAt F.FnOnce look x }
         ensures own { seat.new.inner.table_id ≡ seat.old.inner.table_id }
         ensures same { seat.new.inner.me ≡ seat.old.inner.me }
-        ensures seen { (item : T) (cs : List (ℕ × T)) → seat.old.inner.me.1 ≡ (slot, item) ∷ cs → FnOnceReturnsAt F.FnOnce look item result }
+        ensures seen { (item : T) (cs : List (ℕ × T)) → seat.old.inner.me.1 ≡ (slot_at cell slot, item) ∷ cs →
+            FnOnceReturnsAt F.FnOnce look item result }
     {
-        look(&*seat.inner.slot_mut(&self.inner.shared, slot))
+        let at = slot_place(cell, slot);
+        look(&*seat.inner.slot_mut(&self.inner.shared, at))
     }
 }

@@ -1,3 +1,4 @@
 -- Slots, as intervals.
+pub mod Cells
 pub mod Records
 pub mod Steps

@@ -1,4 +1,5 @@
 pub mod Accesses
+pub mod CellSlots
 pub mod Counts
 pub mod Events
 pub mod Freshness

@@ -7,6 +7,7 @@ ghost use Rattle.fourslot_core.specs.declared.event.ReadEvent.{ReadEvent};
 ghost use Rattle.fourslot_core.specs.declared.event.WriteEvent.{WriteEvent};
 ghost use Rattle.fourslot_core.specs.declared.schedule.Turn.{Turn};
 ghost use Rattle.fourslot_core.specs.Accesses.{Accesses, Agree, IsClear, IsFreshRead};
+ghost use Rattle.fourslot_core.specs.CellSlots.{IsOverSafeSlots};
 ghost use Rattle.fourslot_core.specs.Counts.{IsCounted};
 ghost use Rattle.fourslot_core.specs.Events.{after_read, after_write, opening_state, reader_state, record_in, slot_number};
 ghost use Rattle.fourslot_core.specs.Freshness.{floor_after, IsFresh, prev_after};
@@ -35,6 +36,13 @@ pub fn slots_are_safe<R>()
         let t = slot_trace s items moments in
         (m : ℕ) (read : SlotRead R) → slice_get t.reads m ≡ Some read →
         IsSafe (λ slot. record_in s.records slot) s.noise (slot_writes t) read }
+{}
+
+/// A cell that is stepped from its opening in any interleaving, at positions that rise, answers as a cell over safe slots: its slot
+/// writes and slot reads are those of its steps, and each slot read is judged by their intervals alone.
+pub fn cells_are_over_safe_slots<R>()
+    ensures { (opening noise : R) (items : ℕ → R) (next : ℕ) (moments : List Moment) → RisesFrom next moments →
+        IsOverSafeSlots opening noise items (trace opening noise items moments) }
 {}
 
 /// The opening is sound, and each event leads from a sound state to a sound one.

@@ -1,4 +1,4 @@
-//! `fsr`: checks a history, plays a schedule, or runs a race, that comes as a document on standard input.
+//! `fsr`: checks an order of a history, finds one of a log, plays a schedule, or runs a race, that comes as a document on standard input.
 #![tactic(auto)]
 
 use fsr_answers::run;

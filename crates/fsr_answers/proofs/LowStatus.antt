@@ -5,7 +5,7 @@ use Rattle.document_runs.specs.declared.fault.Answer.{Answer}
 use Rattle.document_runs.specs.declared.fault.Fault.{Fault}
 use Rattle.fsr_words.specs.declared.command.Want.{Want}
 use Rattle.fsr_words.specs.declared.command.Want.TheVariants as want
-use Rattle.history_answers.proofs.AnswerLemmas.{low_check}
+use Rattle.history_answers.proofs.AnswerLemmas.{low_check, low_order}
 use Rattle.history_text.specs.declared.document.DocError.{DocError}
 use Rattle.report_text.specs.declared.report.Report.{Report}
 use Rattle.report_text.specs.declared.report.Report.TheVariants as report
@@ -39,6 +39,7 @@ race_answer_is_low (Err refusal) a answered = absurd (cc)
 
 pub low_answer : (command : Want) (bytes : List ℕ) (r : Result Answer Fault) → Gives (IsAnswer command bytes) r → HasLowStatus r
 low_answer want.Check bytes (Ok a) answered = low_check bytes (Ok a) answered
+low_answer want.Order bytes (Ok a) answered = low_order bytes (Ok a) answered
 low_answer want.Play bytes (Ok a) answered = schedule_is_low (schedule_of bytes) a answered
 low_answer want.Race bytes (Ok a) answered = race_answer_is_low (race_of bytes) a answered
 low_answer command bytes (Err e) refused = search rules

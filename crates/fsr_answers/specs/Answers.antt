@@ -11,6 +11,7 @@ use Rattle.fourslot_core.specs.declared.schedule.CellSchedule.{CellSchedule}
 use Rattle.fsr_words.specs.declared.command.Want.{Want}
 use Rattle.fsr_words.specs.declared.command.Want.TheVariants as want
 use Rattle.history_answers.specs.Check.{IsCheckAnswer}
+use Rattle.history_answers.specs.Order.{IsOrderAnswer}
 use Rattle.history_core.specs.Schedules.{HasOperations, IsFirstOverrun, Span}
 use Rattle.history_core.specs.declared.band.Band.{Band}
 use Rattle.board_play.specs.BoardReports.{IsBoardReport}
@@ -46,6 +47,7 @@ abbrev pub AnswersCell : CellSchedule Band → Result Answer Fault → Type 0
 AnswersCell schedule (Ok answer) =
     (r : CellReport Band) × IsCellReport schedule r × (answer ≡ printed (report.Cell r) 0)
 AnswersCell schedule (Err (fault.Document refusal)) = ⊥
+AnswersCell schedule (Err (fault.History why)) = ⊥
 AnswersCell schedule (Err (fault.Schedule position)) = IsFirstOverrun (cell_span schedule ∷ []) position
 AnswersCell schedule (Err fault.NoMemory) = ⊥
 
@@ -53,6 +55,7 @@ AnswersCell schedule (Err fault.NoMemory) = ⊥
 abbrev pub AnswersTerms : {Made : Type 0} → List (Span Band) → (Made → Type 0) → (Made → Report) → Result Answer Fault → Type 0
 AnswersTerms {Made} spans IsMade told (Ok answer) = (r : Made) × HasOperations spans × IsMade r × (answer ≡ printed (told r) 0)
 AnswersTerms spans IsMade told (Err (fault.Document refusal)) = ⊥
+AnswersTerms spans IsMade told (Err (fault.History why)) = ⊥
 AnswersTerms spans IsMade told (Err (fault.Schedule position)) = IsFirstOverrun spans position
 AnswersTerms spans IsMade told (Err fault.NoMemory) = ⊥
 
@@ -87,5 +90,6 @@ IsRaceAnswer bytes reply = AnswersReading AnswersRace (race_of bytes) reply
 -- the answer of a command to the bytes of a document
 abbrev pub IsAnswer : Want → List ℕ → Result Answer Fault → Type 0
 IsAnswer want.Check bytes reply = IsCheckAnswer bytes reply
+IsAnswer want.Order bytes reply = IsOrderAnswer bytes reply
 IsAnswer want.Play bytes reply = IsPlayAnswer bytes reply
 IsAnswer want.Race bytes reply = IsRaceAnswer bytes reply

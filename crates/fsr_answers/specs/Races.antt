@@ -5,13 +5,13 @@ use Rattle.history_core.specs.declared.wish.Wish.{Wish}
 use Rattle.history_core.specs.declared.wish.Wish.TheVariants.{Write, Read}
 use Rattle.history_core.specs.contracts.band.BandPartialEq.TheImpl as band_eq
 use Rattle.stamps.specs.Stamps.{first_stamp}
-use Rattle.cell_live.specs.declared.four_slot.FourSlotCell.{FourSlotCell}
+use Rattle.cell_four_slot.specs.declared.cell.FourSlotCell.{FourSlotCell}
 use Rattle.cell_live.specs.declared.cell.Calls.{Ghosts as CellWords}
-use Rattle.cell_live.specs.declared.four_slot.FourSlotPut.{FourSlotPut}
-use Rattle.cell_live.specs.declared.four_slot.FourSlotGet.{FourSlotGet}
-use Rattle.cell_live.specs.declared.four_slot.FourSlotTold.{FourSlotTold}
-use Rattle.cell_live.specs.four_slot.Words.{opening_of, is_put_of, is_get_of, is_told_of, written_by, answers_of, at_hand_of, told_to}
-use Rattle.cell_live.specs.four_slot.Words.{named_by, writer_accesses, reader_accesses, put_times, get_times, numbers_of, known_to, time_of}
+use Rattle.cell_four_slot.specs.declared.cell.FourSlotPut.{FourSlotPut}
+use Rattle.cell_four_slot.specs.declared.cell.FourSlotGet.{FourSlotGet}
+use Rattle.cell_four_slot.specs.declared.cell.FourSlotTold.{FourSlotTold}
+use Rattle.cell_four_slot.specs.Words.{opening_of, is_put_of, is_get_of, is_told_of, written_by, answers_of, at_hand_of, told_to}
+use Rattle.cell_four_slot.specs.Words.{named_by, writer_accesses, reader_accesses, put_times, get_times, numbers_of, known_to, time_of}
 use Rattle.board_live.specs.contracts.posted.BandRecordLaw.TheImpl as band_law
 use Rattle.board_live.specs.declared.board.Board.{Board}
 use Rattle.board_live.specs.declared.board.Pass.{Pass}
@@ -91,37 +91,40 @@ words = record {
   time_of = time_of;
 }
 
-abbrev pub RaceBoard : Type 0
-RaceBoard = Board Band (FourSlotCell (Clocked Band)) (FourSlotPut (Clocked Band)) (FourSlotGet (Clocked Band))
-    (FourSlotTold (Clocked Band)) band_law.ghosts band_eq.ghosts words
+-- over any cell: the board, its passes and its lanes
+module _ {C P G T : Type 0} (cells : CellWords C (Clocked Band) P G T) where
+  abbrev pub RaceBoard : Type 0
+  RaceBoard = Board Band C P G T band_law.ghosts band_eq.ghosts cells
 
-abbrev pub RacePass : Type 0
-RacePass = Pass Band (FourSlotCell (Clocked Band)) (FourSlotPut (Clocked Band)) (FourSlotGet (Clocked Band))
-    (FourSlotTold (Clocked Band)) band_law.ghosts band_eq.ghosts words
+  abbrev pub RacePass : Type 0
+  RacePass = Pass Band C P G T band_law.ghosts band_eq.ghosts cells
 
-abbrev pub RaceLane : Type 0
-RaceLane = Lane Band (FourSlotCell (Clocked Band)) (FourSlotPut (Clocked Band)) (FourSlotGet (Clocked Band))
-    (FourSlotTold (Clocked Band)) band_law.ghosts band_eq.ghosts words
+  abbrev pub RaceLane : Type 0
+  RaceLane = Lane Band C P G T band_law.ghosts band_eq.ghosts cells
 
-abbrev pub counts_in : List RaceLane → List Counts
-counts_in lanes = map (λ lane. counts_of lane.log.items) lanes
+  abbrev pub counts_in : List RaceLane → List Counts
+  counts_in lanes = map (λ lane. counts_of lane.log.items) lanes
 
--- *Race*: a new board has a lane for each script. Each lane ran: the board calls that were made stand in its log, and the log is
--- whole, or the task may stop before the next call. The logs have one order, after which one register holds the last record, and each
--- of their entries is sound. What is told are the counts of the logs, and that no entry is without its origin.
-pub record IsRace (may_call may_stop : ℕ → ℕ → Type 0) (opening : Band) (limit : ℕ) (scripts : List (List (Wish Band)))
-    (report : Report) : Type 0 where
-  pub board : RaceBoard
-  pub passes : List RacePass
-  pub lanes : List RaceLane
-  pub ended : List RaceLane
-  pub last : Posted Band
-  pub new : IsNew (length scripts) limit (record { stamp = first_stamp; item = opening; clock = 0 }) board passes
-  pub begins : AreLanes passes scripts lanes
-  pub ran : EachStep (Ran may_call may_stop board) 0 lanes ended
-  pub ordered : LogsInOrder opening limit (logs_of ended) last
-  pub checked : IsOrigin same_band opening (logs_of ended) Sound
-  pub told : report ≡ Race (counts_in ended) None
+  -- *Race*: a new board has a lane for each script. Each lane ran: the board calls that were made stand in its log, and the log is
+  -- whole, or the task may stop before the next call. The logs have one order, after which one register holds the last record, and each
+  -- of their entries is sound. What is told are the counts of the logs, and that no entry is without its origin.
+  pub record IsRaceOver (may_call may_stop : ℕ → ℕ → Type 0) (opening : Band) (limit : ℕ) (scripts : List (List (Wish Band)))
+      (report : Report) : Type 0 where
+    pub board : RaceBoard
+    pub passes : List RacePass
+    pub lanes : List RaceLane
+    pub ended : List RaceLane
+    pub last : Posted Band
+    pub new : IsNew (length scripts) limit (record { stamp = first_stamp; item = opening; clock = 0 }) board passes
+    pub begins : AreLanes passes scripts lanes
+    pub ran : EachStep (Ran may_call may_stop board) 0 lanes ended
+    pub ordered : LogsInOrder opening limit (logs_of ended) last
+    pub checked : IsOrigin same_band opening (logs_of ended) Sound
+    pub told : report ≡ Race (counts_in ended) None
+
+-- and over four-slot cells
+abbrev pub IsRace : (ℕ → ℕ → Type 0) → (ℕ → ℕ → Type 0) → Band → ℕ → List (List (Wish Band)) → Report → Type 0
+IsRace = IsRaceOver words
 
 -- ---- scripts that were run whole
 

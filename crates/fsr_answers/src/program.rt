@@ -9,7 +9,7 @@ ghost use Rattle.streams.specs.Stream.{HasRoom};
 use crate::{play, run_race};
 use document_runs::{Answer, Fault, give_answer, take_document};
 use fsr_words::{Want, command_of, tell_refusal};
-use history_answers::{FSR, check};
+use history_answers::{FSR, check, order};
 use std::alloc::Global;
 use std::convert::AsStr;
 use std::thread::Threads;
@@ -26,6 +26,7 @@ pub fn answer<R: Threads + Sync>(
 {
     match want {
         Want::Check => check(alloc, bytes),
+        Want::Order => order(alloc, bytes),
         Want::Play => play(alloc, bytes),
         Want::Race => run_race(rt, alloc, bytes),
     }

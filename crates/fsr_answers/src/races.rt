@@ -14,7 +14,7 @@ use board_live::{
     Board, BoardError, Clocked, Entry, Gate, OpenGate, Origin, Reply, check_origin, finish_lanes,
     make_lanes, run_tasks,
 };
-use cell_live::FourSlotCell;
+use cell_four_slot::FourSlotCell;
 use document_runs::{Answer, Fault};
 use history_core::{Band, Items, Wish};
 use history_text::{DocError, read_value};

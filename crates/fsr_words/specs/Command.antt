@@ -7,21 +7,22 @@ use Rattle.clap.specs.Simple.{on_top}
 use Rattle.fsr_words.specs.declared.command.NoCommand.{NoCommand}
 use Rattle.fsr_words.specs.declared.command.NoCommand.TheVariants.{Refused, Unknown, NoMemory}
 use Rattle.fsr_words.specs.declared.command.Want.{Want}
-use Rattle.fsr_words.specs.declared.command.Want.TheVariants.{Check, Play, Race}
+use Rattle.fsr_words.specs.declared.command.Want.TheVariants.{Check, Order, Play, Race}
 
 -- the command line of `fsr`: one of the subcommands is required, and none has an argument
-abbrev pub without_race : App
-without_race = with_subcommand (with_subcommand (on_top (λ s. record s { subcommand_required = true }) (new_app (codes "fsr")))
-    (new_app (codes "check")).top) (new_app (codes "play")).top
+abbrev pub over_histories : App
+over_histories = with_subcommand (with_subcommand (on_top (λ s. record s { subcommand_required = true }) (new_app (codes "fsr")))
+    (new_app (codes "check")).top) (new_app (codes "order")).top
 
 abbrev pub fsr : App
-fsr = with_subcommand without_race (new_app (codes "race")).top
+fsr = with_subcommand (with_subcommand over_histories (new_app (codes "play")).top) (new_app (codes "race")).top
 
 abbrev pub want_named : Text → Option Want
 want_named name = if bytes_eq name (codes "check") then Some Check
+    else (if bytes_eq name (codes "order") then Some Order
     else (if bytes_eq name (codes "play") then Some Play
     else (if bytes_eq name (codes "race") then Some Race
-    else None))
+    else None)))
 
 -- nothing where clap refuses the words
 abbrev pub command_of : List Text → Option Want

@@ -1,6 +1,6 @@
 ghost use Rattle.std.specs.Prelude.{◌≡◌, ◌≢◌, None, Some, map, IfOk, IfErr};
 ghost use Rattle.clap.specs.Words.{app_of};
-ghost use Rattle.fsr_words.specs.Command.{fsr, command_of, want_named, without_race, Refuses};
+ghost use Rattle.fsr_words.specs.Command.{fsr, command_of, over_histories, want_named, Refuses};
 
 use clap::error::ErrorKind;
 use clap::{Command, Error};
@@ -11,6 +11,7 @@ use std::convert::AsStr;
 #[derive(Clone, Copy, Debug, PartialEq, Eq)]
 pub enum Want {
     Check,
+    Order,
     Play,
     Race,
 }
@@ -25,25 +26,31 @@ pub enum NoCommand {
     NoMemory,
 }
 
-/// The command line of `fsr`, but for the command `race`.
-fn line_without_race<'a>(alloc: Global) -> Result<Command<'a>, AllocError>
-    ensures { IfOk result (λ c. app_of c ≡ without_race) }
+/// The command line of `fsr` with its commands over histories alone.
+fn line_over_histories<'a>(alloc: Global) -> Result<Command<'a>, AllocError>
+    ensures { IfOk result (λ c. app_of c ≡ over_histories) }
 {
     let check = Command::new(alloc, "check").about("Checks that an order of a history is atomic");
-    let play = Command::new(alloc, "play").about("Plays a schedule and reports its history");
+    let order = Command::new(alloc, "order").about(
+        "Finds a lawful order of a log, or tells why there is none",
+    );
     Command::new(alloc, "fsr")
         .about("Reads a document on standard input")
         .subcommand_required(true)
         .subcommand(check)?
-        .subcommand(play)
+        .subcommand(order)
 }
 
 /// The command line of `fsr`, which has this name in what clap tells, whatever the file is called.
 fn command_line<'a>(alloc: Global) -> Result<Command<'a>, AllocError>
     ensures { IfOk result (λ c. app_of c ≡ fsr) }
 {
+    let play = Command::new(alloc, "play").about("Plays a schedule and reports its history");
     let race = Command::new(alloc, "race").about("Runs tasks over a board and checks their logs");
-    line_without_race(alloc)?.subcommand(race)?.bin_name("fsr")
+    line_over_histories(alloc)?
+        .subcommand(play)?
+        .subcommand(race)?
+        .bin_name("fsr")
 }
 
 fn want_named(name: &str) -> Option<Want>
@@ -51,6 +58,7 @@ fn want_named(name: &str) -> Option<Want>
 {
     match name {
         "check" => Some(Want::Check),
+        "order" => Some(Want::Order),
         "play" => Some(Want::Play),
         "race" => Some(Want::Race),
         _ => None,

@@ -1,6 +1,8 @@
 use crate::documents::Stopped;
 use crate::print;
-use cell_live::{Calls, FourSlotCell, Lawful, TripleCell};
+use cell_four_slot::FourSlotCell;
+use cell_live::{Calls, Lawful};
+use cell_triple::TripleCell;
 use std::alloc::{AllocError, Global};
 use std::io;
 

@@ -10,7 +10,9 @@ use crate::print;
 use board_live::{
     Board, Clocked, Lane, OpenGate, Origin, Pass, check_origin, make_lanes, run_tasks,
 };
-use cell_live::{Calls, Cell, FourSlotCell, TripleCell};
+use cell_four_slot::FourSlotCell;
+use cell_live::{Calls, Cell};
+use cell_triple::TripleCell;
 use history_core::{Band, Items, Wish};
 use stamps::Stamp;
 use std::alloc::{AllocError, Global};

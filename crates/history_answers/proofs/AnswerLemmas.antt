@@ -1,4 +1,4 @@
--- The answer to a document of a history, from what the calls of its command gave.
+-- The answer to a document of a history, from what the calls of its command gave, and that its status is 0 or 1.
 use Rattle.std.proofs.Common.{rules, arith, ◌≡◌, ◌≤◌, ℕ, List, Result, Ok, Err, ap, sym, subst}
 use Rattle.history_core.specs.Orders.{IsVerdict}
 use Rattle.history_core.specs.declared.history.Verdict.{Verdict}
@@ -9,8 +9,17 @@ use Rattle.history_text.specs.declared.document.DocError.{DocError}
 use Rattle.document_runs.specs.Answers.{AnswersReading, Gives, HasLowStatus}
 use Rattle.document_runs.specs.declared.fault.Answer.{Answer}
 use Rattle.document_runs.specs.declared.fault.Fault.{Fault}
+use Rattle.history_core.proofs.Bands.{HaveSameFields, fields_are_equality}
+use Rattle.history_core.specs.declared.band.Band.{Band}
+use Rattle.history_core.specs.declared.history.History.{History}
+use Rattle.history_text.specs.Log.{log_of}
+use Rattle.order_search.specs.declared.reason.Search.{Search}
+use Rattle.order_search.specs.declared.reason.Search.TheVariants.{Order, Unlawful}
 use Rattle.history_answers.specs.Check.{AnswersCheck, IsCheckAnswer, printed, status_of}
-use Rattle.history_answers.proofs.VerdictLemmas.{HaveSameFields, verdict_by_fields}
+use Rattle.history_answers.specs.Order.{AnswersOrder, IsOrderAnswer, printed as printed_search, status_of as search_status}
+use Rattle.history_answers.specs.Run.{IsHistoryAnswer}
+use Rattle.history_answers.specs.declared.program.HistoryCommand.{HistoryCommand}
+use Rattle.history_answers.specs.declared.program.HistoryCommand.TheVariants as history
 
 -- the verdict was told
 pub answers_check : (document : CheckDocument) (given : List ℕ) (v : Verdict) (a : Answer) → given ≡ document.order
@@ -19,7 +28,8 @@ pub answers_check : (document : CheckDocument) (given : List ℕ) (v : Verdict) 
 answers_check document given v a same is_verdict is_printed =
     let ops = document.history.ops in
     let on_order = subst (λ o. IsVerdict HaveSameFields document.history.opening document.history.terms ops o v) same is_verdict in
-    (v, verdict_by_fields document.history.opening document.history.terms ops document.order v on_order, is_printed)
+    let by_value = subst (λ Same. IsVerdict Same document.history.opening document.history.terms ops document.order v) fields_are_equality on_order in
+    (v, by_value, is_printed)
 
 verdict_is_low : (v : Verdict) → status_of v ≤ 1
 verdict_is_low Lawful = omega arith
@@ -35,7 +45,25 @@ low_reading : (d : Result CheckDocument DocError) (a : Answer) → AnswersReadin
 low_reading (Ok document) a answered = low_verdict answered.0 a answered.2
 low_reading (Err refusal) a answered = absurd (cc)
 
--- an answer of the command has status 0 or 1
 pub low_check : (bytes : List ℕ) (r : Result Answer Fault) → Gives (IsCheckAnswer bytes) r → HasLowStatus r
 low_check bytes (Ok a) answered = low_reading (check_of bytes) a answered
 low_check bytes (Err e) refused = search rules
+
+search_is_low : (search : Search) → search_status search ≤ 1
+search_is_low (Order order) = omega arith
+search_is_low (Unlawful reason) = omega arith
+
+low_search : (search : Search) (a : Answer) → a ≡ printed_search search → a.status ≤ 1
+low_search search a is_printed = subst (λ (s : ℕ). s ≤ 1) (sym (ap (λ (b : Answer). b.status) is_printed)) (search_is_low search)
+
+low_log : (d : Result (History Band) DocError) (a : Answer) → AnswersReading AnswersOrder d (Ok a) → a.status ≤ 1
+low_log (Ok log) a answered = low_search answered.0 a answered.2
+low_log (Err refusal) a answered = absurd (cc)
+
+pub low_order : (bytes : List ℕ) (r : Result Answer Fault) → Gives (IsOrderAnswer bytes) r → HasLowStatus r
+low_order bytes (Ok a) answered = low_log (log_of bytes) a answered
+low_order bytes (Err e) refused = search rules
+
+pub low_answer : (command : HistoryCommand) (bytes : List ℕ) (r : Result Answer Fault) → Gives (IsHistoryAnswer command bytes) r → HasLowStatus r
+low_answer history.Check bytes r answered = low_check bytes r answered
+low_answer history.Order bytes r answered = low_order bytes r answered

@@ -2,7 +2,9 @@
 #![tactic(auto)]
 
 mod program;
+mod search;
 mod verdict;
 
 pub use program::{FSR, run};
+pub use search::order;
 pub use verdict::check;

@@ -1,12 +1,13 @@
 ghost use Rattle.std.specs.Prelude.{◌≡◌, ◌≤◌, ◌+◌, Some, map};
+ghost use Rattle.document_runs.specs.Answers.{Gives};
 ghost use Rattle.document_runs.specs.Run.{Fails, IsToldBy, Runs};
 ghost use Rattle.fsr_words.specs.Command.{command_of};
-ghost use Rattle.history_answers.specs.Check.{IsCheckAnswer};
-ghost use Rattle.history_answers.specs.Run.{IsOutcome};
+ghost use Rattle.history_answers.specs.Run.{IsHistoryAnswer, IsOutcome};
 ghost use Rattle.streams.specs.Stream.{HasRoom};
 
+use crate::search::order;
 use crate::verdict::check;
-use document_runs::{Program, give_answer, take_document};
+use document_runs::{Answer, Fault, Program, give_answer, take_document};
 use fsr_words::{NO_MEMORY, Want, command_of, tell_refusal};
 use std::alloc::Global;
 use std::convert::AsStr;
@@ -21,7 +22,14 @@ pub const FSR: Program = Program {
 };
 
 /// The line of a run that was asked for a command of the whole program.
-const NOT_HERE: &str = "fsr: this program has the command check alone\n";
+const NOT_HERE: &str = "fsr: this program has the commands check and order alone\n";
+
+/// A command over histories.
+#[derive(Clone, Copy, Debug, PartialEq, Eq)]
+enum HistoryCommand {
+    Check,
+    Order,
+}
 
 /// Runs `fsr`, as far as it stands on histories alone, over its words, of which the first is its name, and its streams, and gives
 /// the status that it ends with. The text goes to `out`, and what is to be told besides goes to `faults`, whose failures change no
@@ -65,7 +73,8 @@ fn run_command<I: Source, O: Sink, E: Sink>(
     ensures faults { E.failed faults.new ≤ E.failed faults.old + 1 }
 {
     match want {
-        Want::Check => run_check(alloc, input, out, faults),
+        Want::Check => run_over(alloc, HistoryCommand::Check, input, out, faults),
+        Want::Order => run_over(alloc, HistoryCommand::Order, input, out, faults),
         Want::Play | Want::Race => {
             tell(faults, NOT_HERE);
             2
@@ -73,9 +82,10 @@ fn run_command<I: Source, O: Sink, E: Sink>(
     }
 }
 
-/// The run of the command `check`.
-fn run_check<I: Source, O: Sink, E: Sink>(
+/// The run of a command over histories.
+fn run_over<I: Source, O: Sink, E: Sink>(
     alloc: Global,
+    command: HistoryCommand,
     input: &mut I,
     out: &mut O,
     faults: &mut E,
@@ -83,7 +93,7 @@ fn run_check<I: Source, O: Sink, E: Sink>(
     requires input { HasRoom (I.failed input.old) }
     requires out { HasRoom (O.failed out.old) }
     requires faults { HasRoom (E.failed faults.old) }
-    ensures runs { Runs (IsToldBy IsCheckAnswer) (I.remaining input.old) (I.remaining input.new)
+    ensures runs { Runs (IsToldBy (IsHistoryAnswer command)) (I.remaining input.old) (I.remaining input.new)
         (O.contents out.old) (O.contents out.new) result }
     ensures fails { Fails (I.failed input.old) (I.failed input.new) (O.failed out.old)
         (O.failed out.new) result }
@@ -91,9 +101,19 @@ fn run_check<I: Source, O: Sink, E: Sink>(
 {
     match take_document(alloc, &FSR, input, faults) {
         Ok(bytes) => {
-            let reply = check(alloc, bytes.as_slice());
+            let reply = answer(alloc, command, bytes.as_slice());
             give_answer(alloc, &FSR, reply, out, faults)
         }
         Err(status) => status,
+    }
+}
+
+/// The answer of a command over histories to the bytes of a document.
+fn answer(alloc: Global, command: HistoryCommand, bytes: &[u8]) -> Result<Answer, Fault>
+    ensures { Gives (IsHistoryAnswer command bytes.now) result }
+{
+    match command {
+        HistoryCommand::Check => check(alloc, bytes),
+        HistoryCommand::Order => order(alloc, bytes),
     }
 }

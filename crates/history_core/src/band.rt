@@ -1,5 +1,5 @@
 /// A reading with the limits between which it is to lie.
-#[derive(Clone, Copy, Debug, PartialEq, Eq)]
+#[derive(Clone, Copy, Debug, PartialEq, Eq, PartialOrd, Ord)]
 pub struct Band {
     pub lo: u64,
     pub now: u64,

@@ -1,23 +1,20 @@
 //! Documents of kind `check`.
-ghost use Rattle.std.specs.Prelude.{◌≡◌, IfOk};
+ghost use Rattle.std.specs.Prelude.{◌≡◌};
 ghost use Rattle.std.specs.List.{list_all};
-ghost use Rattle.history_core.specs.Band.{fits};
-ghost use Rattle.serde_json.specs.View.{view};
-ghost use Rattle.history_text.specs.Check.{check_document, check_in, check_of, has_item, is_actor, is_lawful, is_place, one_term};
-ghost use Rattle.history_text.specs.Check.{ops_in_range, order_in_range};
+ghost use Rattle.history_text.specs.Check.{check_document, check_in, check_of, is_place, order_in_range};
 ghost use Rattle.history_text.specs.Refusals.{Gives};
+ghost use Rattle.serde_json.specs.View.{view};
 
 use crate::fields::{field, list_field, must, required};
+use crate::history::{are_lawful, one_term, ops_in_range};
 use crate::ranges::{count_in_range, limit_in_range};
 use crate::read::{is_kind, read_value};
 use crate::{CheckDocument, DocError, Key};
-use history_core::{Band, History, Items, Kind, Op, Term};
+use history_core::{Band, History, Items, Op};
 use serde_json::Value;
-use std::alloc::{AllocError, Global};
+use std::alloc::Global;
 
 const LAST_PLACE: usize = 9_999;
-
-const LAST_ACTOR: usize = 15;
 
 /// The document that the bytes stand for, or the first refusal with its first key. It is `read_value` and then `check_document`;
 /// the value in between is freed.
@@ -69,27 +66,6 @@ fn check_in(alloc: Global, value: &Value) -> Result<CheckDocument, DocError>
     })
 }
 
-/// The terms of a history under one limit.
-fn one_term(alloc: Global, limit: u64) -> Result<Items<Term>, AllocError>
-    ensures { IfOk result (λ terms. terms ≡ one_term limit) }
-{
-    let mut terms = Vec::new(alloc);
-    terms.push(Term { first: 0, limit })?;
-    Ok(Items::new(terms))
-}
-
-fn ops_in_range(ops: &[Op<Band>]) -> bool
-    ensures { result ≡ ops_in_range ops.now }
-{
-    count_in_range(ops.len()) && are_actors(ops)
-}
-
-fn are_actors(ops: &[Op<Band>]) -> bool
-    ensures { result ≡ list_all is_actor ops.now }
-{
-    ops.iter().all(|op| op.who <= LAST_ACTOR)
-}
-
 fn order_in_range(order: &[usize]) -> bool
     ensures { result ≡ order_in_range order.now }
 {
@@ -100,31 +76,4 @@ fn are_places(order: &[usize]) -> bool
     ensures { result ≡ list_all is_place order.now }
 {
     order.iter().all(|&place| place <= LAST_PLACE)
-}
-
-fn are_lawful(ops: &[Op<Band>]) -> bool
-    ensures { result ≡ list_all is_lawful ops.now }
-{
-    ops.iter().all(|op| is_lawful(op))
-}
-
-fn is_lawful(op: &Op<Band>) -> bool
-    ensures { result ≡ is_lawful op.now }
-{
-    let in_order = match op.ends {
-        Some(ends) => op.starts <= ends,
-        None => true,
-    };
-    in_order && has_item(op)
-}
-
-fn has_item(op: &Op<Band>) -> bool
-    ensures { result ≡ has_item op.now }
-{
-    match (op.kind, op.item) {
-        (Kind::Write, Some(item)) => item.fits(),
-        (Kind::Write, None) => false,
-        (_, Some(_)) => true,
-        (_, None) => op.ends.is_none(),
-    }
 }

@@ -4,7 +4,9 @@
 mod check;
 mod document;
 mod fields;
+mod history;
 mod key;
+mod log;
 mod operation;
 mod ranges;
 mod read;
@@ -16,6 +18,7 @@ pub use check::{check_document, read_check};
 pub use document::{CheckDocument, DocError};
 pub use fields::{field, list_field, must, required, shaped};
 pub use key::Key;
+pub use log::{log_document, read_log};
 pub use ranges::{MAX_OPERATIONS, count_in_range, limit_in_range};
 pub use read::{is_kind, read_value};
 pub use shape::{Shape, items_in, list_of};

@@ -3,7 +3,9 @@ ghost use Rattle.std.specs.Prelude.{◌≡◌, ◌≤◌, ◌<◌, ◌+◌, ◌^
 ghost use Rattle.std.proofs.Common.{le_refl, le_trans};
 ghost use Rattle.cell_live.specs.Running.{last_or};
 
-use cell_live::{Calls, Cell, FourSlotCell, Kept, Lawful, TripleCell};
+use cell_four_slot::FourSlotCell;
+use cell_live::{Calls, Cell, Kept, Lawful};
+use cell_triple::TripleCell;
 use std::alloc::{AllocError, Global};
 use std::test::Fail;
 use std::thread::{Threads, join_mut};

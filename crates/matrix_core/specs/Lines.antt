@@ -2,16 +2,13 @@
 -- rising, chooses at the last one, and then writes cell (i, j) for each other j, rising. The idea of a matrix with tags is credited to
 -- P. Vitányi and B. Awerbuch, FOCS 1986; the rules are this project's own.
 use Rattle.std.specs.Prelude.{ℕ, ◌+◌, ◌*◌, Option, None, Some, nat_lt, nat_eq, if◌then◌else◌}
+pub use Rattle.history_core.specs.Others.{other}
 use Rattle.history_core.specs.declared.wish.Wish.{Wish}
 use Rattle.history_core.specs.declared.wish.Wish.TheVariants.{Write, Read}
 use Rattle.stamps.specs.declared.stamp.Stamped.{Stamped}
 use Rattle.stamps.specs.Stamps.{first_stamp, greater}
 use Rattle.matrix_core.specs.declared.progress.Progress.{Progress}
 use Rattle.matrix_core.specs.declared.progress.Outcome.TheVariants.{Written, Seen, Ended}
-
--- process i's other process number k, counted from 0 and rising
-abbrev pub other : ℕ → ℕ → ℕ
-other i k = if nat_lt k i then k else k + 1
 
 -- the place of cell (i, j) in a table of n columns, row after row
 abbrev pub cell_place : ℕ → ℕ → ℕ → ℕ

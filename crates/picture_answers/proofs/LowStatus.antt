@@ -1,25 +1,28 @@
 -- The answer with a picture has status 0 or 1.
-use Rattle.std.proofs.Common.{rules, ◌≡◌, ◌≤◌, List, ℕ, Option, Some, None, Result, Ok, Err, ap, arith}
+use Rattle.std.proofs.Common.{rules, ◌≡◌, ◌≤◌, List, ℕ, Result, Ok, Err, ap, arith}
 use Rattle.document_runs.specs.Answers.{AnswersReading, Gives, HasLowStatus}
 use Rattle.document_runs.specs.declared.fault.Answer.{Answer}
 use Rattle.document_runs.specs.declared.fault.Fault.{Fault}
-use Rattle.order_witnesses.specs.declared.breaks.Break.{Break}
 use Rattle.history_text.specs.declared.document.DocError.{DocError}
+use Rattle.picture_text.specs.declared.scene.Finding.{Finding}
+use Rattle.picture_text.specs.declared.scene.Finding.TheVariants.{Lawful, Broken, NoOrder}
 use Rattle.picture_text.specs.declared.scene.Scene.{Scene}
 use Rattle.schedule_text.specs.declared.document.ScheduleDocument.TheVariants.{Cell, Matrix, Board}
 use Rattle.picture_answers.specs.Answers.{Answers, IsAnswer, document_of, drawn, status_of}
 use Rattle.picture_answers.specs.declared.drawings.Shown.{Shown}
 use Rattle.picture_answers.specs.declared.drawings.Shown.TheVariants as shown
 
-low_break : (broken : Option Break) → status_of broken ≤ 1
-low_break None = omega arith
-low_break (Some broken) = omega arith
+low_finding : (finding : Finding) → status_of finding ≤ 1
+low_finding Lawful = omega arith
+low_finding (Broken broken) = omega arith
+low_finding (NoOrder reason) = omega arith
 
 low_drawn : (scene : Scene) (a : Answer) → a ≡ drawn scene → a.status ≤ 1
-low_drawn scene a is_drawn = let same : a.status ≡ status_of scene.broken = ap (λ b. b.status) is_drawn in rw same (low_break scene.broken)
+low_drawn scene a is_drawn = let same : a.status ≡ status_of scene.finding = ap (λ b. b.status) is_drawn in rw same (low_finding scene.finding)
 
 low_reading : (d : Result Shown DocError) (a : Answer) → AnswersReading Answers d (Ok a) → a.status ≤ 1
-low_reading (Ok (shown.History document)) a answered = low_drawn answered.0 a answered.2
+low_reading (Ok (shown.Check document)) a answered = low_drawn answered.0 a answered.2
+low_reading (Ok (shown.Log log)) a answered = low_drawn answered.2 a answered.4
 low_reading (Ok (shown.Schedule (Cell schedule))) a answered = low_drawn answered.2 a answered.4
 low_reading (Ok (shown.Schedule (Matrix schedule titled))) a answered = low_drawn answered.3 a answered.5
 low_reading (Ok (shown.Schedule (Board schedule titled))) a answered = low_drawn answered.3 a answered.5

@@ -10,9 +10,10 @@ use Rattle.fourslot_core.specs.declared.schedule.CellReport.{CellReport}
 use Rattle.fourslot_core.specs.declared.schedule.CellSchedule.{CellSchedule}
 use Rattle.history_core.specs.Schedules.{HasOperations, IsFirstOverrun}
 use Rattle.history_core.specs.declared.band.Band.{Band}
-use Rattle.order_witnesses.specs.declared.breaks.Break.{Break}
+use Rattle.history_core.specs.declared.history.History.{History}
 use Rattle.history_text.specs.Check.{check_document}
 use Rattle.history_text.specs.Document.{value_of}
+use Rattle.history_text.specs.Log.{CanBeSearched, log_document}
 use Rattle.history_text.specs.Refusals.{◌>>=◌}
 use Rattle.history_text.specs.declared.document.CheckDocument.{CheckDocument}
 use Rattle.history_text.specs.declared.document.DocError.{DocError}
@@ -25,59 +26,81 @@ use Rattle.matrix_core.specs.declared.schedule.BoardReport.{BoardReport}
 use Rattle.matrix_core.specs.declared.schedule.BoardSchedule.{BoardSchedule}
 use Rattle.matrix_core.specs.declared.schedule.MatrixReport.{MatrixReport}
 use Rattle.matrix_core.specs.declared.schedule.MatrixSchedule.{MatrixSchedule}
+use Rattle.log_search.specs.Logs.{IsLogFault, IsLogSearch}
+use Rattle.order_search.specs.declared.reason.Search.{Search}
 use Rattle.picture_text.specs.Picture.{picture_of}
+use Rattle.picture_text.specs.declared.scene.Finding.{Finding}
+use Rattle.picture_text.specs.declared.scene.Finding.TheVariants.{Lawful, Broken, NoOrder}
 use Rattle.picture_text.specs.declared.scene.Scene.{Scene}
 use Rattle.schedule_text.specs.Document.{schedule_document}
 use Rattle.schedule_text.specs.Players.{CanBePlayed}
 use Rattle.schedule_text.specs.declared.document.ScheduleDocument.{ScheduleDocument}
 use Rattle.schedule_text.specs.declared.document.ScheduleDocument.TheVariants.{Cell, Matrix, Board}
 use Rattle.serde_json.specs.Data.{Data}
-use Rattle.picture_answers.specs.Scenes.{ShowsBoard, ShowsCell, ShowsCheck, ShowsMatrix}
+use Rattle.picture_answers.specs.Scenes.{ShowsBoard, ShowsCell, ShowsCheck, ShowsLog, ShowsMatrix}
 use Rattle.picture_answers.specs.declared.drawings.Shown.{Shown}
 use Rattle.picture_answers.specs.declared.drawings.Shown.TheVariants as shown
 
--- a history with its order, or where the document is refused for its kind, a schedule
 abbrev pub of_schedule : Result ScheduleDocument DocError → Result Shown DocError
 of_schedule (Ok schedule) = Ok (shown.Schedule schedule)
 of_schedule (Err refusal) = Err refusal
 
-abbrev pub or_schedule : Result CheckDocument DocError → Result ScheduleDocument DocError → Result Shown DocError
-or_schedule (Ok history) other = Ok (shown.History history)
+-- a log, or where the document is refused for its kind, a schedule
+abbrev pub or_schedule : Result (History Band) DocError → Result ScheduleDocument DocError → Result Shown DocError
+or_schedule (Ok log) other = Ok (shown.Log log)
 or_schedule (Err doc.Kind) other = of_schedule other
 or_schedule (Err refusal) other = Err refusal
 
--- a document of a kind that one of the commands `check` and `play` takes
+-- a history with its order, or where the document is refused for its kind, what another kind stands for
+abbrev pub or_other : Result CheckDocument DocError → Result Shown DocError → Result Shown DocError
+or_other (Ok document) other = Ok (shown.Check document)
+or_other (Err doc.Kind) other = other
+or_other (Err refusal) other = Err refusal
+
+abbrev pub other_in : Data → Result Shown DocError
+other_in d = or_schedule (log_document d) (schedule_document d)
+
+-- a document of a kind that one of the commands `check`, `order` and `play` takes
 abbrev pub shown_in : Data → Result Shown DocError
-shown_in d = or_schedule (check_document d) (schedule_document d)
+shown_in d = or_other (check_document d) (other_in d)
 
 unfoldable pub document_of : List ℕ → Result Shown DocError
 document_of bytes = do
   d ← value_of bytes
   shown_in d
 
--- its schedule can be played
+-- its log can be searched, or its schedule played
 abbrev pub CanBeShown : Shown → Type 0
-CanBeShown (shown.History document) = Unit {0}
+CanBeShown (shown.Check document) = Unit {0}
+CanBeShown (shown.Log log) = CanBeSearched log
 CanBeShown (shown.Schedule document) = CanBePlayed document
 
 -- the status: 0 where the order is lawful, else 1
-abbrev pub status_of : Option Break → ℕ
-status_of None = 0
-status_of (Some broken) = 1
+abbrev pub status_of : Finding → ℕ
+status_of Lawful = 0
+status_of (Broken broken) = 1
+status_of (NoOrder reason) = 1
 
 abbrev pub drawn : Scene → Answer
-drawn scene = record { text = picture_of scene; status = status_of scene.broken }
+drawn scene = record { text = picture_of scene; status = status_of scene.finding }
 
 -- the answer to a history and an order of it
 abbrev pub AnswersCheck : CheckDocument → Result Answer Fault → Type 0
 AnswersCheck document (Ok answer) = (scene : Scene) × ShowsCheck document.history document.order scene × (answer ≡ drawn scene)
 AnswersCheck document (Err fault) = ⊥
 
+-- the answer to a log: the picture of the order that was found, or of the reason why there is none; or why no order was looked for
+abbrev pub AnswersLog : History Band → Result Answer Fault → Type 0
+AnswersLog log (Ok answer) =
+    (search : Search) × IsLogSearch log search × (scene : Scene) × ShowsLog log search scene × (answer ≡ drawn scene)
+AnswersLog log (Err fault) = IsLogFault log fault
+
 -- the answer to the schedule of a cell: the picture of the report of its run, or the first step that has no operation
 abbrev pub AnswersCell : CellSchedule Band → Result Answer Fault → Type 0
 AnswersCell schedule (Ok answer) =
     (r : CellReport Band) × IsCellReport schedule r × (scene : Scene) × ShowsCell schedule r scene × (answer ≡ drawn scene)
 AnswersCell schedule (Err (fault.Document refusal)) = ⊥
+AnswersCell schedule (Err (fault.History why)) = ⊥
 AnswersCell schedule (Err (fault.Schedule position)) = IsFirstOverrun (cell_span schedule ∷ []) position
 AnswersCell schedule (Err fault.NoMemory) = ⊥
 
@@ -87,6 +110,7 @@ AnswersMatrix schedule (Ok answer) =
     (r : MatrixReport Band) × HasOperations (spans_of schedule.terms) × IsMatrixReport schedule r
     × (scene : Scene) × ShowsMatrix r scene × (answer ≡ drawn scene)
 AnswersMatrix schedule (Err (fault.Document refusal)) = ⊥
+AnswersMatrix schedule (Err (fault.History why)) = ⊥
 AnswersMatrix schedule (Err (fault.Schedule position)) = IsFirstOverrun (spans_of schedule.terms) position
 AnswersMatrix schedule (Err fault.NoMemory) = ⊥
 
@@ -96,6 +120,7 @@ AnswersBoard schedule (Ok answer) =
     (r : BoardReport Band) × HasOperations (board_spans schedule.terms) × IsBoardReport schedule r
     × (scene : Scene) × ShowsBoard schedule r scene × (answer ≡ drawn scene)
 AnswersBoard schedule (Err (fault.Document refusal)) = ⊥
+AnswersBoard schedule (Err (fault.History why)) = ⊥
 AnswersBoard schedule (Err (fault.Schedule position)) = IsFirstOverrun (board_spans schedule.terms) position
 AnswersBoard schedule (Err fault.NoMemory) = ⊥
 
@@ -107,7 +132,8 @@ AnswersSchedule (Board schedule titled) reply = AnswersBoard schedule reply
 
 -- the answer to what a document stands for
 abbrev pub Answers : Shown → Result Answer Fault → Type 0
-Answers (shown.History document) reply = AnswersCheck document reply
+Answers (shown.Check document) reply = AnswersCheck document reply
+Answers (shown.Log log) reply = AnswersLog log reply
 Answers (shown.Schedule document) reply = AnswersSchedule document reply
 
 -- the answer to the bytes of a document

@@ -1,8 +1,10 @@
--- What the picture of a document shows (this project's own): its history and order, or those that its player made of it, with their
--- points and with what breaks the order.
-use Rattle.std.specs.Prelude.{◌≡◌, ◌==◌, ◌&&◌, ◌⊎◌, IsTrue, List, ℕ, [], IfSome, Option, None}
+-- What the picture of a document shows (this project's own): its history and order, or those that its player made of it, or of a log the
+-- order that was found; with its points and with what breaks it, or why there is none.
+use Rattle.std.specs.Prelude.{◌≡◌, ◌==◌, ◌&&◌, ◌⊎◌, IsTrue, List, ℕ, [], IfSome, Option, None, Some}
 use Rattle.fourslot_core.specs.declared.schedule.CellReport.{CellReport}
 use Rattle.fourslot_core.specs.declared.schedule.CellSchedule.{CellSchedule}
+use Rattle.order_search.specs.declared.reason.Search.{Search}
+use Rattle.order_search.specs.declared.reason.Search.TheVariants.{Order, Unlawful}
 use Rattle.order_witnesses.specs.Breaks.{IsFirstBreak, verdict_of}
 use Rattle.history_core.specs.Orders.{IsVerdict}
 use Rattle.order_witnesses.specs.Points.{AreEarliest, HasPoints}
@@ -15,6 +17,8 @@ use Rattle.matrix_core.specs.declared.schedule.BoardReport.{BoardReport}
 use Rattle.matrix_core.specs.declared.schedule.BoardSchedule.{BoardSchedule}
 use Rattle.stamps.specs.declared.stamp.Stamp.{Stamp}
 use Rattle.picture_text.specs.Visits.{board_lanes, board_visits, cell_visits}
+use Rattle.picture_text.specs.declared.scene.Finding.{Finding}
+use Rattle.picture_text.specs.declared.scene.Finding.TheVariants.{Lawful, Broken, NoOrder}
 use Rattle.picture_text.specs.declared.scene.Lanes.{Lanes}
 use Rattle.picture_text.specs.declared.scene.Lanes.TheVariants.{Actors, Cell}
 use Rattle.picture_text.specs.declared.scene.Scene.{Scene}
@@ -28,33 +32,42 @@ AreSame x y = IsTrue ((x.lo == y.lo) && ((x.now == y.now) && (x.hi == y.hi)))
 abbrev pub ArePointsOf : List (Op Band) → List ℕ → List ℕ → Type 0
 ArePointsOf ops order points = AreEarliest ops order points ⊎ ((¬ HasPoints ops order) × (points ≡ []))
 
--- a history with an order of it and its points, and what breaks it; these stamps, lanes and slot accesses
-pub record Shows (history : History Band) (order : List ℕ) (broken : Option Break) (stamps : List (Option Stamp)) (lanes : Lanes)
+-- a history with an order of it and its points, and what is said of it; these stamps, lanes and slot accesses
+pub record Shows (history : History Band) (order : List ℕ) (finding : Finding) (stamps : List (Option Stamp)) (lanes : Lanes)
     (visits : List Visit) (scene : Scene) : Type 0 where
   pub history_is : scene.history ≡ history
   pub order_is : scene.order ≡ order
   pub points_are : ArePointsOf history.ops order scene.points
-  pub broken_is : scene.broken ≡ broken
+  pub finding_is : scene.finding ≡ finding
   pub stamps_are : scene.stamps ≡ stamps
   pub lanes_are : scene.lanes ≡ lanes
   pub visits_are : scene.visits ≡ visits
 
+abbrev pub finding_of : Option Break → Finding
+finding_of None = Lawful
+finding_of (Some broken) = Broken broken
+
 -- of a check what breaks the order, if something does
 pub record ShowsCheck (history : History Band) (order : List ℕ) (scene : Scene) : Type 0 where
   pub broken : Option Break
-  pub shown : Shows history order broken [] Actors [] scene
+  pub shown : Shows history order (finding_of broken) [] Actors [] scene
   pub rule : IsVerdict AreSame history.opening history.terms history.ops order (verdict_of broken)
   pub first : IfSome broken (IsFirstBreak AreSame history.opening history.terms history.ops order)
 
+-- of a log the order that was found, or no order and the reason
+abbrev pub ShowsLog : History Band → Search → Scene → Type 0
+ShowsLog log (Order order) scene = Shows log order Lawful [] Actors [] scene
+ShowsLog log (Unlawful reason) scene = Shows log [] (NoOrder reason) [] Actors [] scene
+
 abbrev pub ShowsCell : CellSchedule Band → CellReport Band → Scene → Type 0
 ShowsCell schedule report scene =
-    Shows report.history report.order None [] Cell (cell_visits schedule report.history.ops report.slots) scene
+    Shows report.history report.order Lawful [] Cell (cell_visits schedule report.history.ops report.slots) scene
 
 abbrev pub ShowsMatrix : MatrixReport Band → Scene → Type 0
-ShowsMatrix report scene = Shows report.history report.order None report.stamps Actors [] scene
+ShowsMatrix report scene = Shows report.history report.order Lawful report.stamps Actors [] scene
 
 -- of a board also its cells, where they fit
 abbrev pub ShowsBoard : BoardSchedule Band → BoardReport Band → Scene → Type 0
 ShowsBoard schedule report scene =
-    Shows report.history report.order None report.stamps (board_lanes schedule.terms)
+    Shows report.history report.order Lawful report.stamps (board_lanes schedule.terms)
     (board_visits schedule.terms report.history.terms report.history.ops report.slots) scene

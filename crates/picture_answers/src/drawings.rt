@@ -1,23 +1,24 @@
 ghost use Rattle.std.specs.Prelude.{◌≡◌, IfOk};
 ghost use Rattle.document_runs.specs.Answers.{Gives};
+ghost use Rattle.history_text.specs.Log.{CanBeSearched};
 ghost use Rattle.history_text.specs.Refusals.{Gives as Reads};
 ghost use Rattle.matrix_core.specs.Runs.{CanPlay};
-ghost use Rattle.picture_answers.specs.Answers.{AnswersBoard, AnswersCell, AnswersCheck, AnswersMatrix, CanBeShown, document_of, drawn};
-ghost use Rattle.picture_answers.specs.Answers.{AnswersSchedule, IsAnswer, shown_in, status_of};
+ghost use Rattle.picture_answers.specs.Answers.{AnswersBoard, AnswersCell, AnswersCheck, AnswersLog, AnswersMatrix, AnswersSchedule};
+ghost use Rattle.picture_answers.specs.Answers.{CanBeShown, document_of, drawn, IsAnswer, other_in, shown_in, status_of};
 ghost use Rattle.schedule_text.specs.Players.{CanBePlayed};
 ghost use Rattle.serde_json.specs.View.{view};
 
-use crate::scenes::{board_scene, cell_scene, check_scene, matrix_scene};
+use crate::scenes::{board_scene, cell_scene, check_scene, log_scene, matrix_scene};
 use board_play::play_board;
 use document_runs::{Answer, Fault};
 use fourslot_core::CellSchedule;
 use fourslot_play::play_cell;
-use history_core::{Band, Items};
-use history_text::{CheckDocument, DocError, check_document, read_value};
+use history_core::{Band, History, Items};
+use history_text::{CheckDocument, DocError, check_document, log_document, read_value};
+use log_search::search_log;
 use matrix_core::{BoardSchedule, MatrixSchedule};
 use matrix_play::play_matrix;
-use order_witnesses::Break;
-use picture_text::{Scene, picture_text};
+use picture_text::{Finding, Scene, picture_text};
 use schedule_text::{ScheduleDocument, schedule_document};
 use serde_json::Value;
 use std::alloc::{AllocError, Global};
@@ -26,7 +27,8 @@ use std::mem::forget;
 /// What a picture is drawn of.
 #[derive(Drop)]
 pub enum Shown {
-    History(CheckDocument),
+    Check(CheckDocument),
+    Log(History<Band>),
     Schedule(ScheduleDocument),
 }
 
@@ -35,7 +37,8 @@ pub fn answer(alloc: Global, bytes: &[u8]) -> Result<Answer, Fault>
     ensures { Gives (IsAnswer bytes.now) result }
 {
     match read(alloc, bytes)? {
-        Shown::History(document) => check(alloc, document),
+        Shown::Check(document) => check(alloc, document),
+        Shown::Log(history) => log(alloc, history),
         Shown::Schedule(document) => play(alloc, &document),
     }
 }
@@ -58,7 +61,19 @@ fn shown_in(alloc: Global, value: &Value) -> Result<Shown, DocError>
     ensures playable { IfOk result CanBeShown }
 {
     match check_document(alloc, value) {
-        Ok(document) => Ok(Shown::History(document)),
+        Ok(document) => Ok(Shown::Check(document)),
+        Err(DocError::Kind) => other_in(alloc, value),
+        Err(refusal) => Err(refusal),
+    }
+}
+
+/// A log or a schedule.
+fn other_in(alloc: Global, value: &Value) -> Result<Shown, DocError>
+    ensures document { Reads (λ d. d) result (other_in (view value.now)) }
+    ensures playable { IfOk result CanBeShown }
+{
+    match log_document(alloc, value) {
+        Ok(history) => Ok(Shown::Log(history)),
         Err(DocError::Kind) => match schedule_document(alloc, value) {
             Ok(document) => Ok(Shown::Schedule(document)),
             Err(refusal) => Err(refusal),
@@ -82,6 +97,16 @@ fn check(alloc: Global, document: CheckDocument) -> Result<Answer, Fault>
     ensures { Gives (AnswersCheck document) result }
 {
     let scene = check_scene(alloc, document.history, document.order)?;
+    let answer = draw(alloc, &scene)?;
+    Ok(answer)
+}
+
+fn log(alloc: Global, history: History<Band>) -> Result<Answer, Fault>
+    requires { CanBeSearched history }
+    ensures { Gives (AnswersLog history) result }
+{
+    let search = search_log(alloc, &history)?;
+    let scene = log_scene(alloc, history, search)?;
     let answer = draw(alloc, &scene)?;
     Ok(answer)
 }
@@ -119,16 +144,16 @@ fn board(alloc: Global, schedule: &BoardSchedule<Band>) -> Result<Answer, Fault>
 fn draw(alloc: Global, scene: &Scene) -> Result<Answer, AllocError>
     ensures { IfOk result (λ answer. answer ≡ drawn scene.now) }
 {
-    let status = status_of(scene.broken);
+    let status = status_of(scene.finding);
     let text = Items::new(picture_text(alloc, scene)?);
     Ok(Answer { text, status })
 }
 
-fn status_of(broken: Option<Break>) -> u8
-    ensures { result ≡ status_of broken }
+fn status_of(finding: Finding) -> u8
+    ensures { result ≡ status_of finding }
 {
-    match broken {
-        Some(_) => 1,
-        None => 0,
+    match finding {
+        Finding::Lawful => 0,
+        Finding::Broken(_) | Finding::NoOrder(_) => 1,
     }
 }

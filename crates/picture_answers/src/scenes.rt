@@ -2,13 +2,15 @@
 
 ghost use Rattle.std.specs.Prelude.{◌≡◌, [], IfOk};
 ghost use Rattle.matrix_core.specs.Runs.{CanPlay};
-ghost use Rattle.picture_answers.specs.Scenes.{ArePointsOf, Shows, ShowsBoard, ShowsCell, ShowsCheck, ShowsMatrix};
+ghost use Rattle.picture_text.specs.declared.scene.Lanes.TheVariants.{Actors};
+ghost use Rattle.picture_answers.specs.Scenes.{ArePointsOf, finding_of, Shows, ShowsBoard, ShowsCell, ShowsCheck, ShowsLog, ShowsMatrix};
 
 use fourslot_core::{CellReport, CellSchedule};
 use history_core::{Band, History, Items};
 use matrix_core::{BoardReport, BoardSchedule, MatrixReport};
+use order_search::Search;
 use order_witnesses::{Break, first_break, points};
-use picture_text::{Lanes, Scene, Visit, board_lanes, board_visits, cell_visits};
+use picture_text::{Finding, Lanes, Scene, Visit, board_lanes, board_visits, cell_visits};
 use stamps::Stamp;
 use std::alloc::{AllocError, Global};
 
@@ -20,9 +22,50 @@ pub fn check_scene(
     ensures { IfOk result (ShowsCheck history order) }
 {
     let broken = first_break(&history, order.as_slice());
+    plain_scene(alloc, history, order, finding_of(broken))
+}
+
+fn finding_of(broken: Option<Break>) -> Finding
+    ensures { result ≡ finding_of broken }
+{
+    match broken {
+        None => Finding::Lawful,
+        Some(broken) => Finding::Broken(broken),
+    }
+}
+
+pub fn log_scene(alloc: Global, log: History<Band>, search: Search) -> Result<Scene, AllocError>
+    ensures { IfOk result (ShowsLog log search) }
+{
+    match search {
+        Search::Order(order) => plain_scene(alloc, log, order, Finding::Lawful),
+        Search::Unlawful(reason) => {
+            let order = Items::new(Vec::new(alloc));
+            plain_scene(alloc, log, order, Finding::NoOrder(reason))
+        }
+    }
+}
+
+/// The scene of operations without stamps and slots.
+fn plain_scene(
+    alloc: Global,
+    history: History<Band>,
+    order: Items<usize>,
+    finding: Finding,
+) -> Result<Scene, AllocError>
+    ensures { IfOk result (Shows history order finding [] Actors []) }
+{
     let stamps = Items::new(Vec::new(alloc));
     let visits = Items::new(Vec::new(alloc));
-    scene_of(alloc, history, order, broken, stamps, Lanes::Actors, visits)
+    scene_of(
+        alloc,
+        history,
+        order,
+        finding,
+        stamps,
+        Lanes::Actors,
+        visits,
+    )
 }
 
 pub fn cell_scene(
@@ -40,7 +83,15 @@ pub fn cell_scene(
     let visits = cell_visits(alloc, schedule, history.ops.as_slice(), slots.as_slice())?;
     let stamps = Items::new(Vec::new(alloc));
     let visits = Items::new(visits);
-    scene_of(alloc, history, order, None, stamps, Lanes::Cell, visits)
+    scene_of(
+        alloc,
+        history,
+        order,
+        Finding::Lawful,
+        stamps,
+        Lanes::Cell,
+        visits,
+    )
 }
 
 pub fn matrix_scene(alloc: Global, report: MatrixReport<Band>) -> Result<Scene, AllocError>
@@ -51,8 +102,16 @@ pub fn matrix_scene(alloc: Global, report: MatrixReport<Band>) -> Result<Scene, 
         stamps,
         order,
     } = report;
-    let visits = Items::new(Vec::new(alloc));
-    scene_of(alloc, history, order, None, stamps, Lanes::Actors, visits)
+    let no_visits = Items::new(Vec::new(alloc));
+    scene_of(
+        alloc,
+        history,
+        order,
+        Finding::Lawful,
+        stamps,
+        Lanes::Actors,
+        no_visits,
+    )
 }
 
 pub fn board_scene(
@@ -83,7 +142,7 @@ pub fn board_scene(
         alloc,
         history,
         order,
-        None,
+        Finding::Lawful,
         stamps,
         board_lanes(terms),
         visits,
@@ -95,19 +154,19 @@ fn scene_of(
     alloc: Global,
     history: History<Band>,
     order: Items<usize>,
-    broken: Option<Break>,
+    finding: Finding,
     stamps: Items<Option<Stamp>>,
     lanes: Lanes,
     visits: Items<Visit>,
 ) -> Result<Scene, AllocError>
-    ensures { IfOk result (Shows history order broken stamps lanes visits) }
+    ensures { IfOk result (Shows history order finding stamps lanes visits) }
 {
     let points = points_of(alloc, &history, &order)?;
     Ok(Scene {
         history,
         order,
         points,
-        broken,
+        finding,
         stamps,
         lanes,
         visits,

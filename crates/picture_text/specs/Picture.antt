@@ -1,5 +1,5 @@
 -- The text of a picture (this project's own): lanes, axis and terms, then the operations, the slot accesses, the marks of what breaks
--- the order, and its joins and points.
+-- the order or of why there is none, and the order's joins and points.
 use Rattle.std.specs.Prelude.{ℕ, ◌+◌, ◌-◌, ◌*◌, ◌/◌, ◌^◌, ◌++◌, min, List, [], ◌∷◌, codes, Bool, true, false, Option, None, Some, slice_get}
 use Rattle.std.specs.Prelude.{zero, suc, if◌then◌else◌}
 use Rattle.std.specs.Fmt.{decimal}
@@ -7,6 +7,8 @@ use Rattle.std.specs.List.{flat_map}
 use Rattle.std.specs.Option.{unwrap_or}
 use Rattle.history_core.specs.Orders.{is_write, listed_at}
 use Rattle.history_core.specs.declared.band.Band.{Band}
+use Rattle.order_search.specs.declared.reason.Reason.{Reason}
+use Rattle.order_search.specs.declared.reason.Reason.TheVariants as reason
 use Rattle.order_witnesses.specs.declared.breaks.Break.{Break}
 use Rattle.order_witnesses.specs.declared.breaks.Break.TheVariants.{NoPlace, Times, Precedence, NoItem, Reading, Limit}
 use Rattle.history_core.specs.declared.history.Op.{Op}
@@ -15,15 +17,18 @@ use Rattle.stamps.specs.declared.stamp.Stamp.{Stamp}
 use Rattle.report_text.specs.Text.{entry_at}
 use Rattle.picture_text.specs.Looks.{looks}
 use Rattle.picture_text.specs.Scales.{actors_of, far_of, scale_of, unit_in, x_of, y_of}
-use Rattle.picture_text.specs.Shapes.{bar_of, bar_text, class_of, join_text, lane_text, op_shapes, row_y, point_text, term_text, tick_text}
-use Rattle.picture_text.specs.Shapes.{words_end}
+use Rattle.picture_text.specs.Shapes.{bar_of, bar_text, class_of, end_of, join_text, lane_text, lawful_words, op_shapes, place_text}
+use Rattle.picture_text.specs.Shapes.{row_y, point_text, term_text, tick_text, unlawful_head, words_end}
 use Rattle.picture_text.specs.declared.scale.Scale.{Scale}
+use Rattle.picture_text.specs.declared.scene.Finding.{Finding}
+use Rattle.picture_text.specs.declared.scene.Finding.TheVariants.{Lawful, Broken, NoOrder}
 use Rattle.picture_text.specs.declared.scene.Lanes.{Lanes}
 use Rattle.picture_text.specs.declared.scene.Lanes.TheVariants.{Actors, Cell, Board}
 use Rattle.picture_text.specs.declared.scene.Scene.{Scene}
 use Rattle.picture_text.specs.declared.scene.Visit.{Visit}
 use Rattle.picture_text.specs.declared.shape.Bar.{Bar}
 use Rattle.picture_text.specs.declared.shape.Class.TheVariants as class
+use Rattle.picture_text.specs.declared.shape.Join.TheVariants.{Answers, Breaks, Precedes}
 use Rattle.picture_text.specs.declared.shape.Spot.{Spot}
 
 -- ---- the frame
@@ -100,7 +105,7 @@ points_text s ops points n (p ∷ order) = point_at s points n (slice_get ops p)
 abbrev pub join_at : Scale → List ℕ → ℕ → Option Spot → Option (Op Band) → List ℕ
 join_at s points n write None = []
 join_at s points n None (Some op) = []
-join_at s points n (Some write) (Some op) = if is_write op.kind then [] else join_text false write (spot_of s points n op)
+join_at s points n (Some write) (Some op) = if is_write op.kind then [] else join_text Answers write (spot_of s points n op)
 
 abbrev pub write_after : Scale → List ℕ → ℕ → Option Spot → Option (Op Band) → Option Spot
 write_after s points n write None = write
@@ -113,26 +118,22 @@ joins_text s ops points n write (p ∷ order) =
 
 -- ---- what breaks the order
 
-abbrev pub broken_head : List ℕ
-broken_head = codes "<text class=\"z\" x=\"8\" y=\"24\">unlawful "
-
-unfoldable pub break_words : Option Break → List ℕ
-break_words None = codes "<text x=\"8\" y=\"24\">lawful</text>\n"
-break_words (Some (NoPlace entry)) =
-    broken_head ++ codes "listing: entry " ++ decimal entry ++ codes " of the order is no operation" ++ words_end
-break_words (Some (Times place times)) =
-    broken_head ++ codes "listing: operation " ++ decimal place ++ codes " stands " ++ decimal times ++ codes " times" ++ words_end
-break_words (Some (Precedence earlier entry)) =
-    broken_head ++ codes "precedence: entry " ++ decimal entry ++ codes " stands after entry " ++ decimal earlier
+unfoldable pub break_words : Break → List ℕ
+break_words (NoPlace entry) =
+    unlawful_head ++ codes "listing: entry " ++ decimal entry ++ codes " of the order is no operation" ++ words_end
+break_words (Times place times) =
+    unlawful_head ++ codes "listing: operation " ++ decimal place ++ codes " stands " ++ decimal times ++ codes " times" ++ words_end
+break_words (Precedence earlier entry) =
+    unlawful_head ++ codes "precedence: entry " ++ decimal entry ++ codes " stands after entry " ++ decimal earlier
     ++ codes ", and ended before it began" ++ words_end
-break_words (Some (NoItem entry)) = broken_head ++ codes "reading: entry " ++ decimal entry ++ codes " has no record" ++ words_end
-break_words (Some (Reading entry None)) =
-    broken_head ++ codes "reading: entry " ++ decimal entry ++ codes " has another record than the opening" ++ words_end
-break_words (Some (Reading entry (Some write))) =
-    broken_head ++ codes "reading: entry " ++ decimal entry ++ codes " has another record than entry " ++ decimal write
+break_words (NoItem entry) = unlawful_head ++ codes "reading: entry " ++ decimal entry ++ codes " has no record" ++ words_end
+break_words (Reading entry None) =
+    unlawful_head ++ codes "reading: entry " ++ decimal entry ++ codes " has another record than the opening" ++ words_end
+break_words (Reading entry (Some write)) =
+    unlawful_head ++ codes "reading: entry " ++ decimal entry ++ codes " has another record than entry " ++ decimal write
     ++ codes ", the last write before it" ++ words_end
-break_words (Some (Limit entry writes)) =
-    broken_head ++ codes "limit: entry " ++ decimal entry ++ codes " was refused after " ++ decimal writes
+break_words (Limit entry writes) =
+    unlawful_head ++ codes "limit: entry " ++ decimal entry ++ codes " was refused after " ++ decimal writes
     ++ codes " writes of its term" ++ words_end
 
 abbrev pub mark_text : Scale → Option (Op Band) → List ℕ
@@ -142,7 +143,7 @@ mark_text s (Some op) = bar_text (bar_of class.Broken s op.who op.starts op.ends
 abbrev pub broken_join : Scale → List ℕ → ℕ → ℕ → Option (Op Band) → Option (Op Band) → List ℕ
 broken_join s points m n None b = []
 broken_join s points m n (Some a) None = []
-broken_join s points m n (Some a) (Some b) = join_text true (spot_of s points m a) (spot_of s points n b)
+broken_join s points m n (Some a) (Some b) = join_text Breaks (spot_of s points m a) (spot_of s points n b)
 
 -- the marks of two entries, with a join between them
 abbrev pub pair_text : Scale → List (Op Band) → List ℕ → List ℕ → ℕ → ℕ → List ℕ
@@ -150,15 +151,87 @@ pair_text s ops order points m n =
     mark_text s (listed_at ops order m) ++ mark_text s (listed_at ops order n)
     ++ broken_join s points m n (listed_at ops order m) (listed_at ops order n)
 
-unfoldable pub break_text : Scale → List (Op Band) → List ℕ → List ℕ → Option Break → List ℕ
-break_text s ops order points None = []
-break_text s ops order points (Some (NoPlace entry)) = []
-break_text s ops order points (Some (Times place times)) = mark_text s (slice_get ops place)
-break_text s ops order points (Some (Precedence earlier entry)) = pair_text s ops order points earlier entry
-break_text s ops order points (Some (NoItem entry)) = mark_text s (listed_at ops order entry)
-break_text s ops order points (Some (Reading entry None)) = mark_text s (listed_at ops order entry)
-break_text s ops order points (Some (Reading entry (Some write))) = pair_text s ops order points write entry
-break_text s ops order points (Some (Limit entry writes)) = mark_text s (listed_at ops order entry)
+unfoldable pub break_text : Scale → List (Op Band) → List ℕ → List ℕ → Break → List ℕ
+break_text s ops order points (NoPlace entry) = []
+break_text s ops order points (Times place times) = mark_text s (slice_get ops place)
+break_text s ops order points (Precedence earlier entry) = pair_text s ops order points earlier entry
+break_text s ops order points (NoItem entry) = mark_text s (listed_at ops order entry)
+break_text s ops order points (Reading entry None) = mark_text s (listed_at ops order entry)
+break_text s ops order points (Reading entry (Some write)) = pair_text s ops order points write entry
+break_text s ops order points (Limit entry writes) = mark_text s (listed_at ops order entry)
+
+-- ---- why no order is lawful
+
+unfoldable pub precedes_words : ℕ → ℕ → List ℕ
+precedes_words m n = decimal m ++ codes " precedes " ++ decimal n
+
+unfoldable pub both_words : ℕ → ℕ → ℕ → ℕ → List ℕ
+both_words a b c d = precedes_words a b ++ codes " and " ++ precedes_words c d
+
+unfoldable pub crossed_words : ℕ → ℕ → ℕ → ℕ → List ℕ
+crossed_words a b c d =
+    unlawful_head ++ codes "crossed: operation " ++ both_words a b c d
+    ++ codes ": each of two records has to stand before the other" ++ words_end
+
+unfoldable pub reason_words : Reason → List ℕ
+reason_words (reason.Unwritten read) =
+    unlawful_head ++ codes "unwritten: operation " ++ decimal read ++ codes " has a record that is neither the opening nor written"
+    ++ words_end
+reason_words (reason.Early read write) =
+    unlawful_head ++ codes "early: operation " ++ decimal read ++ codes " precedes operation " ++ decimal write
+    ++ codes ", which writes its record" ++ words_end
+reason_words (reason.Stale before read) =
+    unlawful_head ++ codes "stale: operation " ++ decimal before ++ codes ", of another record, precedes operation " ++ decimal read
+    ++ codes ", which gave the opening" ++ words_end
+reason_words (reason.Crossed a b c d) = crossed_words a b c d
+reason_words (reason.Limit refused) =
+    unlawful_head ++ codes "limit: in each order operation " ++ decimal refused
+    ++ codes ", or a refused one before it, has too few writes before it" ++ words_end
+
+-- where an operation has its place written, begins, and ends
+abbrev pub place_spot : Scale → Op Band → Spot
+place_spot s op = record { x = x_of s op.starts + 6; y = y_of op.who + 48 }
+
+abbrev pub begin_spot : Scale → Op Band → Spot
+begin_spot s op = record { x = x_of s op.starts; y = y_of op.who + 44 }
+
+abbrev pub end_spot : Scale → Op Band → Spot
+end_spot s op = record { x = end_of s op.ends; y = y_of op.who + 44 }
+
+-- the mark of the operation at this place, and the place
+abbrev pub named_text : Scale → ℕ → Option (Op Band) → List ℕ
+named_text s place None = []
+named_text s place (Some op) =
+    bar_text (bar_of class.Broken s op.who op.starts op.ends) ++ place_text place (place_spot s op)
+
+abbrev pub arrow_text : Scale → Option (Op Band) → Option (Op Band) → List ℕ
+arrow_text s None b = []
+arrow_text s (Some a) None = []
+arrow_text s (Some a) (Some b) = join_text Precedes (end_spot s a) (begin_spot s b)
+
+-- an operation that precedes another: both with their places, and an arrow from the end of the one to the beginning of the other
+unfoldable pub precedence_text : Scale → List (Op Band) → ℕ → ℕ → List ℕ
+precedence_text s ops m n =
+    named_text s m (slice_get ops m) ++ named_text s n (slice_get ops n) ++ arrow_text s (slice_get ops m) (slice_get ops n)
+
+unfoldable pub reason_text : Scale → List (Op Band) → Reason → List ℕ
+reason_text s ops (reason.Unwritten read) = named_text s read (slice_get ops read)
+reason_text s ops (reason.Early read write) = precedence_text s ops read write
+reason_text s ops (reason.Stale before read) = precedence_text s ops before read
+reason_text s ops (reason.Crossed a b c d) = precedence_text s ops a b ++ precedence_text s ops c d
+reason_text s ops (reason.Limit refused) = named_text s refused (slice_get ops refused)
+
+-- ---- what is said of the history
+
+abbrev pub finding_words : Finding → List ℕ
+finding_words Lawful = lawful_words
+finding_words (Broken broken) = break_words broken
+finding_words (NoOrder why) = reason_words why
+
+abbrev pub finding_text : Scale → List (Op Band) → List ℕ → List ℕ → Finding → List ℕ
+finding_text s ops order points Lawful = []
+finding_text s ops order points (Broken broken) = break_text s ops order points broken
+finding_text s ops order points (NoOrder why) = reason_text s ops why
 
 -- ---- the whole
 
@@ -180,8 +253,8 @@ frame_text lanes s count high ops terms =
 unfoldable pub order_shapes : Scale → List (Op Band) → List ℕ → List ℕ → List ℕ
 order_shapes s ops order points = joins_text s ops points 0 None order ++ points_text s ops points 0 order
 
-unfoldable pub end_text : Option Break → List ℕ
-end_text broken = break_words broken ++ codes "</svg>\n"
+unfoldable pub end_text : Finding → List ℕ
+end_text finding = finding_words finding ++ codes "</svg>\n"
 
 abbrev pub high_of : ℕ → ℕ
 high_of lanes = y_of lanes + 24
@@ -192,4 +265,4 @@ picture_of c =
     let count = lanes_of c.lanes c.history.ops in
     frame_text c.lanes s count (high_of count) c.history.ops (shown_terms c.lanes c.history.terms)
     ++ ops_text s c.stamps 0 c.history.ops ++ flat_map (visit_text c.lanes s) c.visits
-    ++ break_text s c.history.ops c.order c.points c.broken ++ order_shapes s c.history.ops c.order c.points ++ end_text c.broken
+    ++ finding_text s c.history.ops c.order c.points c.finding ++ order_shapes s c.history.ops c.order c.points ++ end_text c.finding

@@ -16,6 +16,8 @@ use Rattle.picture_text.specs.declared.scene.Lanes.TheVariants.{Actors, Cell, Bo
 use Rattle.picture_text.specs.declared.shape.Bar.{Bar}
 use Rattle.picture_text.specs.declared.shape.Class.{Class}
 use Rattle.picture_text.specs.declared.shape.Class.TheVariants as class
+use Rattle.picture_text.specs.declared.shape.Join.{Join}
+use Rattle.picture_text.specs.declared.shape.Join.TheVariants.{Answers, Breaks, Precedes}
 use Rattle.picture_text.specs.declared.shape.Spot.{Spot}
 
 -- ---- bars
@@ -86,15 +88,31 @@ circle_text at = codes "<circle cx=\"" ++ decimal at.x ++ codes "\" cy=\"" ++ de
 unfoldable pub point_text : ℕ → Spot → List ℕ
 point_text n at = circle_text at ++ codes "<text class=\"n\" x=\"" ++ point_number n at
 
-abbrev pub join_head : Bool → List ℕ
-join_head false = codes "<path class=\"j\" d=\"M"
-join_head true = codes "<path class=\"b\" d=\"M"
+abbrev pub join_head : Join → List ℕ
+join_head Answers = codes "<path class=\"j\" d=\"M"
+join_head Breaks = codes "<path class=\"b\" d=\"M"
+join_head Precedes = codes "<path class=\"p\" d=\"M"
 
 unfoldable pub spot_text : Spot → List ℕ
 spot_text at = decimal at.x ++ codes " " ++ decimal at.y
 
-unfoldable pub join_text : Bool → Spot → Spot → List ℕ
-join_text broken a b = join_head broken ++ spot_text a ++ codes "L" ++ spot_text b ++ codes "\"/>\n"
+unfoldable pub join_text : Join → Spot → Spot → List ℕ
+join_text join a b = join_head join ++ spot_text a ++ codes "L" ++ spot_text b ++ codes "\"/>\n"
+
+-- the place of an operation
+unfoldable pub place_head : Spot → List ℕ
+place_head at = codes "<text class=\"z\" x=\"" ++ decimal at.x ++ codes "\" y=\"" ++ decimal at.y ++ codes "\">"
+
+unfoldable pub place_text : ℕ → Spot → List ℕ
+place_text place at = place_head at ++ decimal place ++ words_end
+
+-- ---- the line at the top
+
+abbrev pub lawful_words : List ℕ
+lawful_words = codes "<text x=\"8\" y=\"24\">lawful</text>\n"
+
+abbrev pub unlawful_head : List ℕ
+unlawful_head = codes "<text class=\"z\" x=\"8\" y=\"24\">unlawful "
 
 -- ---- the frame
 

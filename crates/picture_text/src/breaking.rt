@@ -1,28 +1,18 @@
 //! What breaks an order: marks round it, and a line of text.
 
-ghost use Rattle.std.specs.Prelude.{◌≡◌, ◌+◌, ◌≤◌, ◌++◌, OnOk, codes, decimal, length, slice_get};
+ghost use Rattle.std.specs.Prelude.{◌≡◌, ◌+◌, ◌≤◌, ◌++◌, OnOk, length, slice_get};
 ghost use Rattle.history_core.specs.Orders.{listed_at};
-ghost use Rattle.picture_text.specs.Picture.{break_text, break_words, broken_head, broken_join, end_text, mark_text, pair_text};
+ghost use Rattle.picture_text.specs.Picture.{break_text, break_words, broken_join, mark_text, pair_text};
 
 use crate::marks::{op_at, spot_of};
 use crate::scale::Scale;
+use crate::shape::headline::{put_long_words, put_words};
 use crate::shape::points::put_join;
-use crate::shape::{Class, bar_of, put_bar};
+use crate::shape::{Class, Join, bar_of, put_bar};
 use history_core::{Band, Op};
 use order_witnesses::Break;
 use report_text::Line;
 use std::alloc::AllocError;
-
-/// The line that says what breaks the order, and the end of the picture.
-#[tactic(auto, unfolding(crate::specs::Picture::end_text), using(std::proofs::Common::append_assoc))]
-pub fn push_end(text: &mut Vec<u8>, broken: Option<Break>) -> Result<(), AllocError>
-    ensures { OnOk result (text.new.items ≡ text.old.items ++ end_text broken) }
-{
-    let mut line = Line::new();
-    put_break_words(&mut line, broken);
-    text.extend_from_slice(line.as_bytes())?;
-    text.extend_from_slice(b"</svg>\n")
-}
 
 #[tactic(auto, unfolding(crate::specs::Picture::break_text))]
 pub fn push_break(
@@ -31,29 +21,27 @@ pub fn push_break(
     ops: &[Op<Band>],
     order: &[usize],
     points: &[u64],
-    broken: Option<Break>,
+    broken: Break,
 ) -> Result<(), AllocError>
     ensures { OnOk result (text.new.items ≡ text.old.items ++ break_text scale.now ops.now order.now points.now broken) }
 {
     match broken {
-        None | Some(Break::NoPlace { .. }) => Ok(()),
-        Some(Break::Times { place, .. }) => push_mark(text, scale, op_at(ops, place)),
-        Some(Break::Precedence { earlier, entry }) => push_pair(
+        Break::NoPlace { .. } => Ok(()),
+        Break::Times { place, .. } => push_mark(text, scale, op_at(ops, place)),
+        Break::Precedence { earlier, entry } => push_pair(
             text, scale, ops, order, points, earlier, entry,
         ),
-        Some(Break::NoItem { entry }) => push_mark(text, scale, listed_at(ops, order, entry)),
-        Some(Break::Reading { entry, write: None }) => push_mark(
+        Break::NoItem { entry } => push_mark(text, scale, listed_at(ops, order, entry)),
+        Break::Reading { entry, write: None } => push_mark(
             text,
             scale,
             listed_at(ops, order, entry),
         ),
-        Some(
-            Break::Reading {
-                entry,
-                write: Some(write),
-            },
-        ) => push_pair(text, scale, ops, order, points, write, entry),
-        Some(Break::Limit { entry, .. }) => push_mark(text, scale, listed_at(ops, order, entry)),
+        Break::Reading {
+            entry,
+            write: Some(write),
+        } => push_pair(text, scale, ops, order, points, write, entry),
+        Break::Limit { entry, .. } => push_mark(text, scale, listed_at(ops, order, entry)),
     }
 }
 
@@ -117,7 +105,7 @@ fn push_broken_join(
     let mut line = Line::new();
     put_join(
         &mut line,
-        true,
+        Join::Breaks,
         spot_of(scale, points, m, &a),
         spot_of(scale, points, n, &b),
     );
@@ -125,19 +113,18 @@ fn push_broken_join(
 }
 
 #[tactic(auto, unfolding(crate::specs::Picture::break_words), using(std::proofs::Common::append_assoc))]
-fn put_break_words(line: &mut Line, broken: Option<Break>)
+pub fn put_break_words(line: &mut Line, broken: Break)
     requires { length line.old ≡ 0 }
     ensures { line.new ≡ break_words broken ++ line.old }
 {
     match broken {
-        None => line.put(b"<text x=\"8\" y=\"24\">lawful</text>\n"),
-        Some(Break::NoPlace { entry }) => put_words(
+        Break::NoPlace { entry } => put_words(
             line,
             b"listing: entry ",
             entry as u64,
             b" of the order is no operation",
         ),
-        Some(Break::Times { place, times }) => {
+        Break::Times { place, times } => {
             put_long_words(
                 line,
                 b"listing: operation ",
@@ -147,7 +134,7 @@ fn put_break_words(line: &mut Line, broken: Option<Break>)
                 b" times",
             )
         }
-        Some(Break::Precedence { earlier, entry }) => {
+        Break::Precedence { earlier, entry } => {
             put_long_words(
                 line,
                 b"precedence: entry ",
@@ -157,13 +144,13 @@ fn put_break_words(line: &mut Line, broken: Option<Break>)
                 b", and ended before it began",
             )
         }
-        Some(Break::NoItem { entry }) => put_words(
+        Break::NoItem { entry } => put_words(
             line,
             b"reading: entry ",
             entry as u64,
             b" has no record",
         ),
-        Some(Break::Reading { entry, write: None }) => {
+        Break::Reading { entry, write: None } => {
             put_words(
                 line,
                 b"reading: entry ",
@@ -171,12 +158,10 @@ fn put_break_words(line: &mut Line, broken: Option<Break>)
                 b" has another record than the opening",
             )
         }
-        Some(
-            Break::Reading {
-                entry,
-                write: Some(write),
-            },
-        ) => {
+        Break::Reading {
+            entry,
+            write: Some(write),
+        } => {
             put_long_words(
                 line,
                 b"reading: entry ",
@@ -186,7 +171,7 @@ fn put_break_words(line: &mut Line, broken: Option<Break>)
                 b", the last write before it",
             )
         }
-        Some(Break::Limit { entry, writes }) => {
+        Break::Limit { entry, writes } => {
             put_long_words(
                 line,
                 b"limit: entry ",
@@ -197,40 +182,4 @@ fn put_break_words(line: &mut Line, broken: Option<Break>)
             )
         }
     }
-}
-
-#[tactic(auto, using(std::proofs::Common::append_assoc))]
-fn put_words(line: &mut Line, before: &[u8], number: u64, after: &[u8])
-    requires empty { length line.old ≡ 0 }
-    requires short { length before.now + length after.now ≤ 100 }
-    ensures { line.new ≡ broken_head ++ before.now ++ decimal number ++ after.now ++ codes "</text>\n" ++ line.old }
-{
-    line.put(b"</text>\n");
-    line.put(after);
-    line.put_number(number);
-    line.put(before);
-    line.put(b"<text class=\"z\" x=\"8\" y=\"24\">unlawful ");
-}
-
-#[tactic(auto, using(std::proofs::Common::append_assoc))]
-fn put_long_words(
-    line: &mut Line,
-    before: &[u8],
-    first: u64,
-    between: &[u8],
-    second: u64,
-    after: &[u8],
-)
-    requires empty { length line.old ≡ 0 }
-    requires short { length before.now + length between.now + length after.now ≤ 100 }
-    ensures { line.new ≡ broken_head ++ before.now ++ decimal first ++ between.now ++ decimal second ++ after.now
-        ++ codes "</text>\n" ++ line.old }
-{
-    line.put(b"</text>\n");
-    line.put(after);
-    line.put_number(second);
-    line.put(between);
-    line.put_number(first);
-    line.put(before);
-    line.put(b"<text class=\"z\" x=\"8\" y=\"24\">unlawful ");
 }

@@ -1,12 +1,14 @@
-//! Pictures of histories and of orders of them, as SVG text.
+//! Pictures of histories, with an order of them or with the reason why none is lawful, as SVG text.
 #![tactic(auto)]
 
 mod breaking;
+mod finding;
 mod frame;
 mod looks;
 mod marks;
 mod picture;
 mod places;
+mod reasons;
 mod scale;
 mod scene;
 mod shape;
@@ -14,6 +16,6 @@ mod visits;
 
 pub use picture::picture_text;
 pub use scale::Scale;
-pub use scene::{Lanes, Scene, Visit};
-pub use shape::{Bar, Class, Spot};
+pub use scene::{Finding, Lanes, Scene, Visit};
+pub use shape::{Bar, Class, Join, Spot};
 pub use visits::{board_lanes, board_visits, cell_visits};

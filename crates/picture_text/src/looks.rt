@@ -24,6 +24,12 @@ pub fn push_looks(text: &mut Vec<u8>) -> Result<(), AllocError>
         b".x{fill:none;stroke:#c00;stroke-width:5}.b{fill:none;stroke:#c00;stroke-width:3;stroke-dasharray:8 4}",
     )?;
     text.extend_from_slice(
-        b".z{fill:#c00;font-weight:bold}</style>\n<rect class=\"g\" width=\"100%\" height=\"100%\"/>\n",
+        b".z{fill:#c00;font-weight:bold}.p{fill:none;stroke:#c00;stroke-width:2;marker-end:url(#p)}</style>\n",
+    )?;
+    text.extend_from_slice(
+        b"<marker id=\"p\" viewBox=\"0 0 8 8\" refX=\"8\" refY=\"4\" markerWidth=\"5\" markerHeight=\"5\" orient=\"auto\">",
+    )?;
+    text.extend_from_slice(
+        b"<path fill=\"#c00\" d=\"M0 0L8 4L0 8z\"/></marker>\n<rect class=\"g\" width=\"100%\" height=\"100%\"/>\n",
     )
 }

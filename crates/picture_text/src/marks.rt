@@ -13,7 +13,7 @@ use crate::scene::{Lanes, Visit};
 use crate::shape::labels::{put_item_words, put_kind_words};
 use crate::shape::lanes::{ROW_BAR, row_y};
 use crate::shape::points::{put_join, put_point};
-use crate::shape::{Bar, Spot, bar_of, class_of, put_bar};
+use crate::shape::{Bar, Join, Spot, bar_of, class_of, put_bar};
 use history_core::{Band, Kind, Op};
 use report_text::Line;
 use stamps::Stamp;
@@ -176,7 +176,7 @@ fn push_join(
         return Ok(());
     }
     line.clear();
-    put_join(line, false, write, spot_of(scale, points, n, &op));
+    put_join(line, Join::Answers, write, spot_of(scale, points, n, &op));
     text.extend_from_slice(line.as_bytes())
 }
 

@@ -3,7 +3,7 @@
 ghost use Rattle.std.specs.Prelude.{◌≡◌, [], IfOk};
 ghost use Rattle.picture_text.specs.Picture.{high_of, lanes_of, picture_of, shown_terms};
 
-use crate::breaking::{push_break, push_end};
+use crate::finding::{push_end, push_finding};
 use crate::frame::push_frame;
 use crate::marks::{push_ops, push_order, push_visits};
 use crate::places::{actors_of, y_of};
@@ -39,9 +39,9 @@ pub fn picture_text(alloc: Global, scene: &Scene) -> Result<Vec<u8>, AllocError>
     )?;
     push_ops(&mut text, &scale, scene.stamps.as_slice(), ops)?;
     push_visits(&mut text, scene.lanes, &scale, scene.visits.as_slice())?;
-    push_break(&mut text, &scale, ops, order, points, scene.broken)?;
+    push_finding(&mut text, &scale, ops, order, points, scene.finding)?;
     push_order(&mut text, &scale, ops, order, points)?;
-    push_end(&mut text, scene.broken)?;
+    push_end(&mut text, scene.finding)?;
     Ok(text)
 }
 

@@ -1,4 +1,5 @@
 use history_core::{Band, History, Items, Kind};
+use order_search::Reason;
 use order_witnesses::Break;
 use stamps::Stamp;
 
@@ -25,6 +26,17 @@ pub struct Visit {
     pub ends: Option<u64>,
 }
 
+/// What a picture says of its history.
+#[derive(Clone, Copy, Debug, PartialEq, Eq)]
+pub enum Finding {
+    /// The order is lawful.
+    Lawful,
+    /// The order isn't lawful, as this breaks it.
+    Broken(Break),
+    /// No order is lawful, for this reason.
+    NoOrder(Reason),
+}
+
 /// What a picture shows.
 #[derive(Drop)]
 pub struct Scene {
@@ -33,8 +45,7 @@ pub struct Scene {
     pub order: Items<usize>,
     /// The point of each entry of the order; without them an operation's beginning stands in its point's place.
     pub points: Items<u64>,
-    /// What the order breaks.
-    pub broken: Option<Break>,
+    pub finding: Finding,
     /// The stamps of the operations, where they have some.
     pub stamps: Items<Option<Stamp>>,
     pub lanes: Lanes,

@@ -10,6 +10,7 @@ use history_core::Kind;
 use report_text::Line;
 
 pub mod axis;
+pub mod headline;
 pub mod labels;
 pub mod lanes;
 pub mod points;
@@ -33,6 +34,17 @@ pub struct Bar {
     pub from: u64,
     pub to: u64,
     pub closed: bool,
+}
+
+/// What a line between two operations says.
+#[derive(Clone, Copy, Debug, PartialEq, Eq)]
+pub enum Join {
+    /// The second answers the first.
+    Answers,
+    /// The two break a rule.
+    Breaks,
+    /// The first precedes the second.
+    Precedes,
 }
 
 /// A place of the picture.
@@ -65,7 +77,7 @@ pub fn bar_of(class: Class, scale: &Scale, lane: usize, starts: u64, ends: Optio
     }
 }
 
-fn end_of(scale: &Scale, ends: Option<u64>) -> u64
+pub fn end_of(scale: &Scale, ends: Option<u64>) -> u64
     ensures { result ≡ end_of scale.now ends }
 {
     match ends {

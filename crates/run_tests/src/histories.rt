@@ -24,11 +24,15 @@ fn sees<R: Abort>(
     assert_eq!(rt; input.stream().taken(), taken);
 }
 
-const NOT_HERE: &str = "fsr: this program has the command check alone\n";
+const NOT_HERE: &str = "fsr: this program has the commands check and order alone\n";
 
 /// A read of a record that nobody wrote.
 const FOREIGN: &str =
     r#"{"kind":"check","opening":[0,0,0],"limit":9,"ops":[{"who":0,"kind":"read","begin":0,"end":1,"record":[1,1,1]}],"order":[0]}"#;
+
+/// A write and a read of its record.
+const LOG: &str =
+    r#"{"kind":"log","opening":[0,0,0],"limit":9,"ops":[{"who":0,"kind":"write","begin":0,"end":4,"record":[1,1,1]},{"who":1,"kind":"read","begin":5,"end":9,"record":[1,1,1]}]}"#;
 
 const CELL: &str = r#"{"kind":"cell"}"#;
 
@@ -55,6 +59,20 @@ fn histories_alone(rt: HostRuntime) {
         &["fsr", "check"],
         CELL,
         (3, "", "fsr: document: kind\n", CELL.len()),
+    );
+    sees(
+        &rt,
+        alloc,
+        &["fsr", "order"],
+        LOG,
+        (0, "lawful\norder: 0 1\n", "", LOG.len()),
+    );
+    sees(
+        &rt,
+        alloc,
+        &["fsr", "order"],
+        ROW,
+        (3, "", "fsr: document: kind\n", ROW.len()),
     );
     sees(&rt, alloc, &["fsr", "play"], ROW, (2, "", NOT_HERE, 0));
     sees(&rt, alloc, &["fsr", "race"], ROW, (2, "", NOT_HERE, 0));

@@ -14,6 +14,8 @@ mod long;
 #[cfg(test)]
 mod matrices;
 #[cfg(test)]
+mod orders;
+#[cfg(test)]
 mod races;
 #[cfg(test)]
 mod refusals;

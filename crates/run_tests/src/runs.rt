@@ -20,6 +20,18 @@ pub fn check<R: Abort + Threads + Sync>(
     sees(rt, alloc, "check", document, status, text, fault);
 }
 
+/// The same of `fsr order`.
+pub fn order<R: Abort + Threads + Sync>(
+    rt: &R,
+    alloc: Global,
+    document: &[u8],
+    status: u8,
+    text: &str,
+    fault: &str,
+) {
+    sees(rt, alloc, "order", document, status, text, fault);
+}
+
 /// The same of `fsr play`.
 pub fn play<R: Abort + Threads + Sync>(
     rt: &R,

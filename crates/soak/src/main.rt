@@ -3,7 +3,9 @@
 #![tactic(auto)]
 
 use board_live::Clocked;
-use cell_live::{Cell, FourSlotCell, TripleCell};
+use cell_four_slot::FourSlotCell;
+use cell_live::Cell;
+use cell_triple::TripleCell;
 use soak_rounds::finding::{Finding, Tally, status};
 use soak_rounds::record::{Record, Shared};
 use soak_rounds::{boards, pair, planted};

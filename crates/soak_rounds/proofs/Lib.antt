@@ -1,3 +1,4 @@
+pub mod LaneRounds
 pub mod Lists
 pub mod Origins
 pub mod Wholes

@@ -1,5 +1,5 @@
 -- The scripts of a soak's tasks, and how their logs are counted (this project's own).
-use Rattle.std.specs.Prelude.{◌≡◌, ◌↔◌, ℕ, ◌+◌, Bool, true, false, List, [], ◌∷◌, ◌++◌, count_by, None}
+use Rattle.std.specs.Prelude.{◌≡◌, ◌↔◌, ℕ, ◌+◌, Bool, true, false, List, [], ◌∷◌, ◌++◌, count_by, length, map, None, slice_get, Some}
 use Rattle.history_core.specs.declared.wish.Wish.{Wish}
 use Rattle.history_core.specs.declared.wish.Wish.TheVariants.{Write, Read}
 use Rattle.board_live.specs.declared.lane.Entry.{Entry}
@@ -46,3 +46,12 @@ pub record IsTally {X : Type 0} (equal : X → X → Bool) (opening : X) (logs :
   pub writes : tally.writes ≡ counted_in writes_of 0 logs
   pub reads : tally.reads ≡ counted_in reads_of 0 logs
   pub found : (tally.found ≡ None) ↔ IsOrigin equal opening logs Sound
+
+-- a round of so many tasks on a board that opened with this record: each made so many writes and reads, and these logs are counted
+pub record IsRound {X : Type 0} (words : X → List ℕ) (equal : X → X → Bool) (opening : X) (tasks from calls : ℕ) (tally : Tally) :
+    Type 0 where
+  pub logs : List (List (Entry X))
+  pub all : length logs ≡ tasks
+  pub each : (k : ℕ) (log : List (Entry X)) → slice_get logs k ≡ Some log
+      → (next : ℕ) × Scripted words (counted (counted from k) 1) tasks calls next (map (λ e. e.wish) log)
+  pub seen : IsTally equal opening logs tally

@@ -3,7 +3,7 @@ ghost use Rattle.std.specs.Prelude.{◌≡◌, ℕ, All, IfOk, length, map, slic
 ghost use Rattle.board_live.specs.Logs.{Obeys};
 ghost use Rattle.history_core.specs.declared.wish.Wish.TheVariants.{Write};
 ghost use Rattle.soak_rounds.specs.Findings.{IsWhole, counted};
-ghost use Rattle.soak_rounds.specs.Scripts.{is_seen, is_written, IsTally, reads_of, Scripted, writes_of};
+ghost use Rattle.soak_rounds.specs.Scripts.{is_seen, is_written, IsRound, IsTally, reads_of, Scripted, writes_of};
 
 use crate::finding::{Finding, Tally};
 use crate::record::{Record, Shared, Words};
@@ -155,6 +155,7 @@ where
     C::Put: Send,
     C::Get: Send,
     C::Told: Send,
+    ensures { IfOk result (λ r. IsRound (λ x. W.listed x.words) ⟦<Record<W> as PartialEq>⟧.eq opening tasks from calls r.0) }
 {
     let Ok((board, passes)) = Board::<Record<W>, C>::new(alloc, tasks, MAX_LIMIT, opening) else {
         return Err(AllocError);

@@ -2,4 +2,5 @@ pub mod CallChoices
 pub mod CallInstance
 pub mod Calls
 pub mod Choices
+pub mod ChoicesFollow
 pub mod Stamps

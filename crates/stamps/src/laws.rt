@@ -5,7 +5,8 @@ ghost use Rattle.history_core.specs.declared.history.Op.{Op};
 ghost use Rattle.stamps.specs.CallChoices.{choices_of, HasHappenedBefore};
 ghost use Rattle.stamps.specs.CallInstance.{is_refused, opening, reads, reads_again, two_runs, writes};
 ghost use Rattle.stamps.specs.Calls.{AreOfOne, Call, Dated, HappenedBefore, IsOneOrder, IsRunning};
-ghost use Rattle.stamps.specs.Choices.{AllChoose, Choice, HasOneWriteEach, HaveWrites, IsEarlier, StampsRise, TagsRiseByOne};
+ghost use Rattle.stamps.specs.Choices.{AllChoose, Choice, IsEarlier};
+ghost use Rattle.stamps.specs.ChoicesFollow.{HasOneWriteEach, HaveWrites, StampsRise, TagsRiseByOne};
 
 /// What follows from the law of choices: stamps rise along precedence, and strictly towards a write; of one stamp there is one
 /// write; each choice has the record of its stamp's write, or the opening; and tags rise one by one.

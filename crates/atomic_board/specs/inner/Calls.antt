@@ -1,16 +1,23 @@
 -- A call, access by access. Only private functions cite this, which is this project's own; what a call promises stands in Passes.
-use Rattle.std.specs.Prelude.{◌≡◌, ◌≢◌, Bool, IsTrue, ℕ, ◌+◌, ◌*◌, ◌<◌, ◌≤◌, List, [], ◌∷◌, ◌++◌, length, slice_get, Some}
+use Rattle.std.specs.Prelude.{◌≡◌, ◌⊎◌, Bool, IsTrue, ℕ, ◌-◌, ◌*◌, ◌<◌, ◌≤◌, List, [], ◌++◌, length, slice_get, Some}
 use Rattle.cell_live.specs.declared.times.Times.{Times}
 use Rattle.cell_live.specs.Running.{last_or}
 use Rattle.family_live.specs.declared.family.Family.{Ghosts as FamilyWords}
-use Rattle.family_live.specs.Accesses.{IsAccess, Keeps, KeepsOthers, Reads, Writes}
-use Rattle.stamps.specs.declared.stamp.Stamped.{Stamped}
-use Rattle.matrix_core.specs.CellAnswers.{greatest}
+use Rattle.family_live.specs.Accesses.{IsAccess, IsWrite, Keeps, KeepsOthers}
 use Rattle.matrix_core.specs.Lines.{other}
-use Rattle.board_history.specs.Accesses.{ReadsOnce, WritesOnce}
+use Rattle.board_history.specs.Accesses.{IsInterval}
 use Rattle.atomic_board.specs.declared.record.Posted.{Posted}
-use Rattle.atomic_board.specs.Passes.{answered_of, written_of}
-use Rattle.atomic_board.specs.Records.{greater, Rises, stamped}
+use Rattle.atomic_board.specs.Passes.{IsAnswered}
+use Rattle.atomic_board.specs.Records.{greater, greatest, Rises}
+
+-- these steps are later than the first time, and the last of them is at the second; or there are none
+abbrev pub IsSpan : ℕ → ℕ → List ℕ → Type 0
+IsSpan clock clock' steps = ((steps ≡ []) × (clock' ≡ clock)) ⊎ ((begin : ℕ) × (slice_get steps 0 ≡ Some begin) × (clock < begin)
+    × (begin ≤ clock') × (slice_get steps (length steps - 1) ≡ Some clock'))
+
+-- access number `access` of these steps is the last of the times
+abbrev pub IsIntervalOf : ℕ → List ℕ → ℕ → Times → Times → Type 0
+IsIntervalOf width steps access old new = IsInterval width steps access old.begins old.ends new.begins new.ends
 
 module _ {V F S T : Type 0} (words : FamilyWords F (Posted V) S T) where
   -- the seat is that of this process of a family of so many
@@ -27,8 +34,7 @@ module _ {V F S T : Type 0} (words : FamilyWords F (Posted V) S T) where
     pub access : IsAccess words.width (words.clock seat) (words.clock seat') (words.times seat) (words.times seat')
         (words.reads seat from).times (words.reads seat' from).times
     pub answer : Posted V
-    pub more : (words.reads seat' from).answers ≡ (words.reads seat from).answers ++ answer ∷ []
-    pub lawful : IsTrue (obeys answer.item)
+    pub answered : IsAnswered obeys (words.opening family) (words.reads seat from) (words.reads seat' from) answer
     pub others : KeepsOthers from (words.reads seat) (words.reads seat')
     pub writes : Keeps (words.writes seat) (words.writes seat')
     pub raised : seen' ≡ greater seen answer
@@ -39,13 +45,15 @@ module _ {V F S T : Type 0} (words : FamilyWords F (Posted V) S T) where
     pub steps : List ℕ
     pub long : length steps ≡ count * words.width
     pub times : words.times seat' ≡ words.times seat ++ steps
-    pub answers : List (Stamped V)
+    pub span : IsSpan (words.clock seat) (words.clock seat') steps
+    pub answers : List (Posted V)
     pub each : length answers ≡ count
-    pub reads : (e : ℕ) (answer : Stamped V) → slice_get answers e ≡ Some answer →
-        ReadsOnce words.width steps e (answered_of (words.reads seat (other process e))) (answered_of (words.reads seat' (other process e))) answer
+    pub reads : (e : ℕ) (answer : Posted V) → slice_get answers e ≡ Some answer →
+        IsIntervalOf words.width steps e (words.reads seat (other process e)).times (words.reads seat' (other process e)).times
+        × IsAnswered obeys (words.opening family) (words.reads seat (other process e)) (words.reads seat' (other process e)) answer
     pub unread : (e : ℕ) → count ≤ e → words.reads seat' (other process e) ≡ words.reads seat (other process e)
     pub writes : Keeps (words.writes seat) (words.writes seat')
-    pub sees : stamped seen' ≡ greatest (stamped seen) answers
+    pub sees : seen' ≡ greatest seen answers
     pub lawful : IsTrue (obeys seen'.item)
     pub rises : Rises seen seen'
 
@@ -55,9 +63,10 @@ module _ {V F S T : Type 0} (words : FamilyWords F (Posted V) S T) where
     pub steps : List ℕ
     pub long : length steps ≡ count * words.width
     pub times : words.times seat' ≡ words.times seat ++ steps
+    pub span : IsSpan (words.clock seat) (words.clock seat') steps
     pub writes : (e : ℕ) → e < count →
-        WritesOnce words.width steps e (written_of (words.writes seat (other process e))) (written_of (words.writes seat' (other process e)))
-        (stamped item)
+        IsIntervalOf words.width steps e (words.writes seat (other process e)).times (words.writes seat' (other process e)).times
+        × IsWrite (words.writes seat (other process e)) (words.writes seat' (other process e)) item
     pub unwritten : (e : ℕ) → count ≤ e → words.writes seat' (other process e) ≡ words.writes seat (other process e)
     pub last : (e : ℕ) (first : Posted V) → e < count → last_or first (words.writes seat' (other process e)).items ≡ item
     pub reads : Keeps (words.reads seat) (words.reads seat')

@@ -16,6 +16,9 @@ use Rattle.matrix_core.specs.declared.schedule.MatrixTerm.{MatrixTerm}
 use Rattle.matrix_core.specs.declared.schedule.BoardSchedule.{BoardSchedule}
 use Rattle.matrix_core.specs.declared.schedule.BoardReport.{BoardReport}
 use Rattle.matrix_core.specs.Lines.{first_record}
+use Rattle.board_play.specs.Boards.{cell_moments, noise_record}
+use Rattle.board_play.proofs.boards.Cells.{rises_in}
+use Rattle.fourslot_core.proofs.slots.Cells.{traces_over_safe_slots}
 use Rattle.matrix_core.specs.Listings.{IsInOrder}
 use Rattle.matrix_core.specs.inner.Operations.{greatest_own, one_term}
 use Rattle.matrix_core.specs.Runs.{IsTerm, step_count}
@@ -77,6 +80,8 @@ module _ {R : Type 0} where
               board_clear at (board_span term) opening noise play.ops play.stamps slot chosen cut run i j write read ow lw or lr;
           fresh = λ i j write read ow lw or lr m done.
               board_fresh at (board_span term) opening noise play.ops play.stamps slot chosen cut run i j write read ow lw or lr m done;
+          safe = λ i j. traces_over_safe_slots (first_record opening) (noise_record noise) (chosen i)
+              (cell_moments at (board_span term) i j) (rises_in at (board_span term) opening noise chosen cut.accesses i j);
           choices = full.0;
           chose = full.1;
           order = sorted;

@@ -139,6 +139,7 @@ module _ {R : Type 0} (at : ℕ) (span : Span R) (opening noise : R) (ops : List
 
     pub board_fresh : (m : ℕ) → IsSome ((column_accesses at span slot j read).at m 4) →
         (n : ℕ) × IsFreshRead (row_accesses at span slot i write) (column_accesses at span slot j read) m n
+        × (slice_get (cell_trace at span opening noise chosen i j).answers m ≡ Some (source_record (first_record opening) (chosen i) n))
     board_fresh m done =
         let rises = rises_in at span opening noise chosen cut.accesses i j in
         let there = traces_answered (first_record opening) (noise_record noise) (chosen i) (cell_moments at span i j) rises m
@@ -148,4 +149,5 @@ module _ {R : Type 0} (at : ℕ) (span : Span R) (opening noise : R) (ops : List
           f.0,
           fresh_as (writes_of t) (row_accesses at span slot i write) (reads_of t) (column_accesses at span slot j read)
               writes_agree reads_agree m f.0 f.1,
+          x.1 ∙ ap Some f.2,
         )

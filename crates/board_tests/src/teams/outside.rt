@@ -3,7 +3,7 @@ ghost use Rattle.std.specs.Prelude.{◌≡◌};
 
 use super::{B, OPENING, Team, at};
 use board_live::{Clocked, OpenGate, Origin, Reply, check_origin, make_lanes, run_tasks};
-use cell_live::FourSlotCell;
+use cell_four_slot::FourSlotCell;
 use history_core::{Band, Items, Wish};
 use std::alloc::{AllocError, Global};
 use std::test::Fail;

@@ -1,7 +1,9 @@
 //! Boards in one thread.
 use super::{A, B, C, Given, OPENING, Team, UNLAWFUL, at};
 use board_live::{BoardError, Clocked, TagsEnded};
-use cell_live::{Calls, FourSlotCell, TripleCell};
+use cell_four_slot::FourSlotCell;
+use cell_live::Calls;
+use cell_triple::TripleCell;
 use history_core::Band;
 use stamps::Stamp;
 use std::alloc::Global;

@@ -7,4 +7,4 @@ pub returns-clause-heeds : goal.returns-clause-heeds
 returns-clause-heeds c =
     heeds_told c.args.board.now c.args.pass.now c.learn.new.pass c.steer.new.pass c.args.receipt
     (seen_by c.learn.new.pass c.steer.new.pass) c.requires.pass c.learn.ensures.pass c.requires.receipt
-    c.requires.to c.learn.ensures.learnt c.steer.ensures.call
+    c.requires.to c.learn.ensures.learnt c.steer.ensures.call.call

@@ -3,7 +3,8 @@ use Rattle.std.proofs.Common.{◌≡◌}
 use Rattle.cell_live.specs.Running.{last_or}
 use Rattle.cell_uses.proofs.publish.Given as goal
 
-abbrev pub invariant-loop-i : goal.invariant-loop-i
-invariant-loop-i g l =
+abbrev pub invariant-loop-turn : goal.invariant-loop-turn
+invariant-loop-turn g l =
     g.C.Calls.is_put l.cell l.task.put
-    × ((last_or (g.C.Calls.opening l.cell) (g.C.Calls.written l.task.put)).number ≡ l.i)
+    × ((last_or (g.C.Calls.opening l.cell) (g.C.Calls.written l.task.put)).number ≡ l.task.number)
+    × (l.task.number ≡ l.turn)

@@ -5,7 +5,8 @@ ghost use Rattle.cells_sides.specs.FourSlotCalls.{IsMade, HasWritten, HasRead};
 use super::{FourSlotReader, FourSlotWriter};
 use crate::record::{Numbered, Numbering};
 use crate::roles::{Opens, Reading, Writing};
-use cell_live::{Calls, FourSlotCell};
+use cell_four_slot::FourSlotCell;
+use cell_live::Calls;
 use std::alloc::{AllocError, Global};
 use std::sync::Arc;
 

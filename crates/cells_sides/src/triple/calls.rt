@@ -5,7 +5,8 @@ ghost use Rattle.cells_sides.specs.TripleCalls.{IsMade, HasWritten, HasRead};
 use super::{TripleReader, TripleWriter};
 use crate::record::{Numbered, Numbering};
 use crate::roles::{Opens, Reading, Writing};
-use cell_live::{Calls, TripleCell};
+use cell_live::Calls;
+use cell_triple::TripleCell;
 use std::alloc::{AllocError, Global};
 use std::sync::Arc;
 

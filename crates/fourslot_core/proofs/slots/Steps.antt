@@ -50,8 +50,8 @@ pub record IsSafeRead {R : Type 0} (first : Slot → R) (noise : R) (writes : Li
 pub record IsSafeAt {R : Type 0} (w : Stage) (r : ReaderStage) (s : State R) (ended : List (SlotWrite R)) (since : ℕ)
     (reads : List (SlotRead R)) (entered next : ℕ) (first : Slot → R) (noise : R) : Type 0 where
   pub all_ended : AllEnded ended next
-  pub since_below : since < next
-  pub entered_below : entered < next
+  pub since_below : since ≤ next
+  pub entered_below : entered ≤ next
   pub same_noise : s.noise ≡ noise
   pub contents : (q : Slot) → IsLastRecord first ended q next (record_in s.records q)
   pub met : IsReading r → s.met ≡ true →
@@ -458,7 +458,7 @@ safe_read {R} R4 s ended since reads entered next at first noise le h =
 abbrev pub IsSafeTrace : {R : Type 0} → SlotTrace R → ℕ → (Slot → R) → R → Type 0
 IsSafeTrace t next first noise = IsSafeAt t.cell.writer t.cell.reader t.cell t.ended t.since t.reads t.entered next first noise
 
-safe_step : {R : Type 0} (items : ℕ → R) (t : SlotTrace R) (turn : Turn) (next at : ℕ) (first : Slot → R) (noise : R) → next ≤ at →
+pub safe_step : {R : Type 0} (items : ℕ → R) (t : SlotTrace R) (turn : Turn) (next at : ℕ) (first : Slot → R) (noise : R) → next ≤ at →
     IsSafeTrace t next first noise → IsSafeTrace (slots_step items t turn at) (at + 1) first noise
 safe_step {R} items t Writer next at first noise le h =
     let s : State R = t.cell in

@@ -24,7 +24,8 @@ use Rattle.stamps.specs.declared.stamp.Stamp.{Stamp}
 use Rattle.stamps.specs.declared.stamp.Stamped.{Stamped}
 use Rattle.matrix_core.specs.Lines.{first_record, other}
 use Rattle.stamps.specs.Choices.{Choice, HasChoices, IsChoiceOf, IsEarlier, IsIn}
-use Rattle.matrix_core.specs.CellAnswers.{AllGather, choices_of, Gathers, IsAnswer, IsReadOf, numbered, record_of}
+use Rattle.matrix_core.specs.CellAnswers.{IsReadOf}
+use Rattle.matrix_core.specs.Gathering.{AllGather, choices_of, Gathers, IsCellAnswer, numbered, record_of}
 use Rattle.matrix_core.specs.ByAccesses.{choice_at, chooses_at, ChoosesBy, column, IsChosenBy, IsCut, row}
 use Rattle.matrix_core.proofs.lines.Others.{other_differs, other_inside, other_reached}
 use Rattle.matrix_core.proofs.choices.Gathered.{all_choose, in_mine, mine_in, mine_more, mine_same}
@@ -337,7 +338,7 @@ module _ {R : Type 0} (at width : ℕ) (span : Span R) (opening : R) (ops : List
           omega arith))
 
       is_answer : answer ≡ source_record (first_record opening) (chosen from) n →
-          IsAnswer (λ d. IsEarlier ops d new) opening (choices_of from choices) answer
+          IsCellAnswer (λ d. IsEarlier ops d new) opening (choices_of from choices) answer
       is_answer e = record { number = n; source = source n refl ∙ ap Some (sym e); late = late }
 
     acting : op.who < length span.plans

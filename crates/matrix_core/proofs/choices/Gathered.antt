@@ -11,7 +11,8 @@ use Rattle.stamps.specs.declared.stamp.Stamped.{Stamped}
 use Rattle.stamps.specs.Stamps.{greater}
 use Rattle.matrix_core.specs.Lines.{first_record, other}
 use Rattle.stamps.specs.Choices.{AllChoose, Choice, Chooses, IsAtMost, IsFrom, IsIn}
-use Rattle.matrix_core.specs.CellAnswers.{AllGather, choices_of, Gathers, greatest, IsAnswer, numbered, record_of}
+use Rattle.matrix_core.specs.CellAnswers.{greatest}
+use Rattle.matrix_core.specs.Gathering.{AllGather, choices_of, Gathers, IsCellAnswer, numbered, record_of}
 use Rattle.matrix_core.proofs.lines.Others.{other_reached}
 use Rattle.stamps.proofs.choices.Rise.{chosen_at_least}
 use Rattle.stamps.proofs.choices.Stamps.{at_most_refl, at_most_trans, greater_first, greater_is, greater_second}
@@ -169,7 +170,7 @@ module _ {R : Type 0} (Earlier : Choice R → Choice R → Type 0) (opening : R)
               let o = other_reached n c.who d.who g.inside (inside d m) nw in
               let le : length g.answers + 1 ≡ n = g.each in
               let x = get_exists g.answers o.0 (let l : o.0 + 1 < n = o.1 in omega arith) in
-              let a : IsAnswer (λ d. Earlier d c) opening (choices_of (other c.who o.0) past) x.0 = g.answered o.0 x.0 x.1 in
+              let a : IsCellAnswer (λ d. Earlier d c) opening (choices_of (other c.who o.0) past) x.0 = g.answered o.0 x.0 x.1 in
               let at = in_mine past d m in
               let at' : slice_get (choices_of (other c.who o.0) past) at.0 ≡ Some d =
               ap (λ i. slice_get (choices_of i past) at.0) o.2 ∙ at.1 in

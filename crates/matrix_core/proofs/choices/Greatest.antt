@@ -10,7 +10,7 @@ use Rattle.fourslot_core.specs.Traces.{source_record}
 use Rattle.stamps.specs.declared.stamp.Stamp.{Stamp}
 use Rattle.stamps.specs.declared.stamp.Stamped.{Stamped}
 use Rattle.matrix_core.specs.declared.progress.Progress.{Progress}
-use Rattle.matrix_core.specs.CellAnswers.{record_of}
+use Rattle.matrix_core.specs.Gathering.{record_of}
 use Rattle.stamps.specs.Choices.{Choice, HasChoices, IsAtMost, IsEarlier, IsFrom, IsGreatestChoice, IsIn}
 use Rattle.matrix_core.specs.Lines.{first_record}
 use Rattle.matrix_core.specs.inner.Operations.{greatest_own}

@@ -3,8 +3,8 @@ use Rattle.std.proofs.Common.{◌≡◌, ◌≢◌, ℕ, ◌+◌, ◌<◌, ◌�
 use Rattle.history_core.specs.declared.history.Kind.{Kind}
 use Rattle.history_core.specs.declared.history.Kind.TheVariants.{Write, Read, Refused}
 use Rattle.stamps.specs.declared.stamp.Stamp.{Stamp}
-use Rattle.stamps.specs.Choices.{AllChoose, Choice, Chooses, HasOneWriteEach, HaveWrites, IsAtMost, ChoosesByKind, IsFrom, IsIn}
-use Rattle.stamps.specs.Choices.{StampsRise, TagsRiseByOne}
+use Rattle.stamps.specs.Choices.{AllChoose, Choice, Chooses, IsAtMost, ChoosesByKind, IsFrom, IsIn}
+use Rattle.stamps.specs.ChoicesFollow.{HasOneWriteEach, HaveWrites, StampsRise, TagsRiseByOne}
 use Rattle.stamps.specs.Stamps.{IsBelow, first_stamp}
 use Rattle.stamps.proofs.choices.Stamps.{at_most_below, at_most_trans, below_itself, Fits}
 

@@ -10,8 +10,7 @@ returns g c =
       of = c.read_with-newer.ensures.own;
       access = c.read_with-newer.ensures.access;
       answer = x.0;
-      more = x.1.answers;
-      lawful = x.2.0;
+      answered = record { read = x.1; running = x.2 };
       others = c.read_with-newer.ensures.others.0;
       writes = c.read_with-newer.ensures.others.1;
       raised = c.take.ensures x.0 (x.3.1 ∙ ap (λ z. above c.args.seen.now.stamp z) x.3.2);

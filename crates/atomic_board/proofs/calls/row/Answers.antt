@@ -1,6 +1,6 @@
 -- Each turn writes to one more.
-use Rattle.std.proofs.Common.{◌≡◌, ◌++◌, ◌∷◌, [], subst}
-use Rattle.family_live.specs.Accesses.{IsAccess, Keeps, KeepsOthers}
+use Rattle.std.proofs.Common.{subst}
+use Rattle.family_live.specs.Accesses.{IsAccess, IsWrite, Keeps, KeepsOthers}
 use Rattle.atomic_board.proofs.Accessing.{nothing_written, write_more}
 use Rattle.atomic_board.proofs.calls.row.Goals as goal
 
@@ -15,5 +15,5 @@ loop-k-preserved g c =
     write_more w c.args.family.now c.args.process c.loop-k.k c.args.seat.now now next c.args.item.now c.loop-k.invariant c.write_from.ensures.own
     (subst (λ z. IsAccess w.width (w.clock now) (w.clock next) (w.times now) (w.times next) (w.writes now z).times (w.writes next z).times)
     c.other.ensures c.write_from.ensures.access)
-    (subst (λ z. (w.writes next z).items ≡ (w.writes now z).items ++ c.args.item.now ∷ []) c.other.ensures c.write_from.ensures.written.items)
+    (subst (λ z. IsWrite (w.writes now z) (w.writes next z) c.args.item.now) c.other.ensures c.write_from.ensures.written)
     (subst (λ z. KeepsOthers z (w.writes now) (w.writes next) × Keeps (w.reads now) (w.reads next)) c.other.ensures c.write_from.ensures.others)

@@ -1,6 +1,5 @@
 -- Each seat has become a pass, in their order.
-use Rattle.std.proofs.Common.{arith, refl, ◌∙◌, ◌≡◌, ◌≤◌, length}
-use Rattle.std.specs.Prelude.{vec_capacity}
+use Rattle.std.proofs.Common.{arith, refl, ◌∙◌, ◌≡◌, length}
 use Rattle.atomic_board.proofs.Dealing.{all_dealt, is_new}
 use Rattle.atomic_board.proofs.deals.deal.Goals as goal
 

@@ -1,5 +1,5 @@
 -- One more record counts, and of equal ones the earlier stays.
-use Rattle.std.proofs.Common.{◌<◌, length, arith, refl, rules}
+use Rattle.std.proofs.Common.{arith, refl, rules}
 use Rattle.std.proofs.lemmas.Option.{slice_get_read, slice_get_within}
 use Rattle.atomic_board.proofs.Ending.{first_is, greatest_more}
 use Rattle.atomic_board.proofs.ends.greatest_own.Goals as goal
@@ -22,4 +22,5 @@ returns g c =
       there = h.there;
       own = h.own;
       greatest = λ i p at. h.greatest i p (let l = slice_get_within c.args.passes.now.items i p at in search rules) at;
+      earliest = h.earliest;
     }

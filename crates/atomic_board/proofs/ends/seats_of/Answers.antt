@@ -1,6 +1,6 @@
 -- The seat of the last pass stands before those that were taken out.
-use Rattle.std.proofs.Common.{arith, ap, refl, sym, ◌∙◌, ◌≡◌, ◌+◌, ◌∷◌, [], length, length-append, rules}
-use Rattle.atomic_board.proofs.Ending.{mapped_all, mapped_more, mapped_none, MappedFrom}
+use Rattle.std.proofs.Common.{arith, ap, refl, ◌∙◌, ◌≡◌, ◌+◌, ◌∷◌, [], length, length-append}
+use Rattle.atomic_board.proofs.Ending.{mapped_all, mapped_more, mapped_none}
 use Rattle.atomic_board.proofs.ends.seats_of.Goals as goal
 
 pub loop-init : goal.loop-init

@@ -1,5 +1,6 @@
 -- Nothing was read or written; what was told is in no history.
-use Rattle.std.proofs.Common.{refl, sym, ◌∙◌, ◌≡◌, ◌≤◌, arith}
+use Rattle.std.proofs.Common.{refl, sym, ◌∙◌, ap, subst, ◌≡◌}
+use Rattle.family_live.specs.Accesses.{IsHeardRead, KeepsOthers}
 use Rattle.atomic_board.proofs.Same.{after_learn}
 use Rattle.atomic_board.proofs.board.Board.learn.Goals as goal
 
@@ -8,6 +9,7 @@ returns-clause-same g c = record {
   process = refl;
   own = refl;
   later = c.learn.ensures.later.0;
+  writes = c.learn.ensures.others.0;
   made = λ calls h. record {
     made = after_learn g.F.Family c.args.self.now.processes c.args.self.now.limit c.args.pass.now.process c.args.self.now.first calls
         c.args.pass.now.seat c.learn.new.seat (g.F.Family.sender c.args.receipt.told)
@@ -16,3 +18,21 @@ returns-clause-same g c = record {
     own = h.own;
   };
 }
+
+pub returns-clause-learnt : goal.returns-clause-learnt
+returns-clause-learnt g c =
+    let w = g.F.Family in
+    let p = c.requires.pass in
+    let old = c.args.pass.now.seat in
+    let new = c.learn.new.seat in
+    let from : w.sender c.args.receipt.told ≡ c.args.receipt.from = c.requires.receipt.sender in
+    record {
+      time = c.learn.ensures.later.1;
+      heard = λ ne.
+          let named : w.named c.args.receipt.told (w.who old) ≡ c.args.receipt.item = ap (w.named c.args.receipt.told) p.who
+          ∙ c.requires.receipt.names c.args.pass.now.process p.inside (λ e. ne (sym e)) in
+          subst (λ z. IsHeardRead (w.reads old z) (w.reads new z) c.args.receipt.item) from
+          (subst (λ z. IsHeardRead (w.reads old (w.sender c.args.receipt.told)) (w.reads new (w.sender c.args.receipt.told)) z) named
+          (c.learn.ensures.heard (λ e. ne (sym from ∙ e ∙ p.who))));
+      others = subst (λ z. KeepsOthers z (w.reads old) (w.reads new)) from c.learn.ensures.others.1;
+    }

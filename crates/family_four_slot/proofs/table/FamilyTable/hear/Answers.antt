@@ -2,8 +2,8 @@
 use Rattle.std.proofs.Common.{◌≡◌, arith, ◌∷◌, subst, sym, ◌<◌, refl, ap}
 use Rattle.atomic_table.specs.Table.{Joins}
 use Rattle.cell_live.specs.declared.sight.Sight.TheVariants.{Spent}
-use Rattle.cell_live.specs.four_slot.Steps.{receipt_for, hears_of}
-use Rattle.cell_live.specs.four_slot.Steps.{FourSlotSight}
+use Rattle.cell_four_slot.specs.Steps.{receipt_for, hears_of}
+use Rattle.cell_four_slot.specs.Steps.{FourSlotSight}
 use Rattle.family_four_slot.specs.declared.notes.View.{View}
 use Rattle.family_four_slot.specs.Places.{four_slots}
 use Rattle.family_four_slot.specs.FourSlots.{CellRule, FourSlotFamily, Idle}

@@ -2,7 +2,7 @@
 use Rattle.std.proofs.Common.{refl, arith, ◌≡◌, ◌+◌, ◌*◌, ◌<◌, subst, sym, ap, ◌∙◌}
 use mathlib.Core.Option.{none}
 use Rattle.atomic_table.specs.Table.{step}
-use Rattle.cell_live.proofs.four_slots.Slots.{bit_low}
+use Rattle.cell_four_slot.proofs.Slots.{bit_low}
 use Rattle.family_four_slot.specs.Steps.{takes}
 use Rattle.family_four_slot.proofs.Places.{bit_word}
 use Rattle.family_four_slot.proofs.Told.{takes_ok}

@@ -2,7 +2,7 @@
 use Rattle.std.proofs.Common.{◌≡◌, arith, ◌∷◌, subst, sym, ◌<◌, refl}
 use Rattle.atomic_table.specs.Table.{Splits}
 use Rattle.cell_live.specs.declared.sight.Sight.TheVariants.{Spent}
-use Rattle.cell_live.specs.four_slot.Steps.{receipt_for, hears_of}
+use Rattle.cell_four_slot.specs.Steps.{receipt_for, hears_of}
 use Rattle.family_four_slot.specs.Places.{four_slots}
 use Rattle.family_four_slot.specs.FourSlots.{CellRule, FourSlotFamily, Idle}
 use Rattle.family_four_slot.specs.Seats.{told_by}

@@ -2,9 +2,9 @@
 use Rattle.std.proofs.Common.{◌≡◌, List, ◌∙◌, ap, subst}
 use Rattle.std.specs.Arc.{arc_value}
 use Rattle.cell_live.specs.Running.{last_or}
-use Rattle.cell_live.specs.four_slot.Words.{opening_of, is_put_of, written_by}
+use Rattle.cell_four_slot.specs.Words.{opening_of, is_put_of, written_by}
 use Rattle.cell_live.proofs.ListLaws.{last_snoc}
-use Rattle.cell_live.specs.declared.four_slot.FourSlotCell.{FourSlotCell}
+use Rattle.cell_four_slot.specs.declared.cell.FourSlotCell.{FourSlotCell}
 use Rattle.cells_sides.specs.Numbers.{numbered}
 use Rattle.cells_sides.specs.declared.record.Numbered.{Numbered}
 use Rattle.cells_sides.proofs.four_slot.calls.FourSlotWriterWriting.write.Goals as goal

@@ -2,9 +2,9 @@
 use Rattle.std.proofs.Common.{◌≡◌, List, ◌∙◌, ap, subst}
 use Rattle.std.specs.Arc.{arc_value}
 use Rattle.cell_live.specs.Running.{last_or}
-use Rattle.cell_live.specs.triple.Words.{opening_of, is_put_of, written_by}
+use Rattle.cell_triple.specs.Words.{opening_of, is_put_of, written_by}
 use Rattle.cell_live.proofs.ListLaws.{last_snoc}
-use Rattle.cell_live.specs.declared.triple.TripleCell.{TripleCell}
+use Rattle.cell_triple.specs.declared.cell.TripleCell.{TripleCell}
 use Rattle.cells_sides.specs.Numbers.{numbered}
 use Rattle.cells_sides.specs.declared.record.Numbered.{Numbered}
 use Rattle.cells_sides.proofs.triple.calls.TripleWriterWriting.write.Goals as goal

@@ -1,0 +1,21 @@
+-- The read began after the write had ended, so by the run of all calls its record is no older.
+use Rattle.std.proofs.Common.{◌≡◌, [], ◌∷◌, ◌++◌, ◌∙◌, ap, subst}
+use Rattle.stamps.specs.Choices.{IsAtMost}
+use Rattle.atomic_board.specs.Ends.{HaveAtomicOrder}
+use Rattle.board_receipts.proofs.Lists.{three_end}
+use Rattle.board_receipts.proofs.ends.ends_no_older.Goals as goal
+
+pub returns : goal.returns
+returns g c =
+    let board = c.args.board in
+    let q = c.pass_on.new.q in
+    let p = c.pass_on.new.p in
+    let r = c.pass_on.new.r in
+    let passes : c.push-3.new.self.items ≡ q ∷ p ∷ r ∷ [] = c.in_ok-push-3.ensures.items ∙ ap (λ z. z ++ r ∷ [])
+    (c.in_ok-push-2.ensures.items ∙ ap (λ z. z ++ p ∷ []) (c.in_ok-push.ensures.items ∙ ap (λ z. z ++ q ∷ []) c.in_ok-passes.ensures.items)) in
+    let atomic = subst (λ ps. HaveAtomicOrder g.F.Family board ps c.finish.result) passes c.finish.ensures.atomic in
+    let h = c.in-Some.ensures.heard [] [] c.requires.q.none c.requires.r.none in
+    subst (λ a. IsAtMost a c.in-Some.answer.stamp) (ap (λ z. z.stamp) h.records.0)
+    (subst (λ a. IsAtMost h.write.chosen.stamp a) (ap (λ z. z.stamp) h.records.1)
+    (three_end g.F.Family board q p r c.finish.result h.write h.read c.requires.three atomic h.wrote
+    (c.in-Some.ensures.silent [] c.requires.p.none) h.looked h.later))

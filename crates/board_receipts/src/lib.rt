@@ -1,0 +1,9 @@
+//! What the one time of a board's calls buys its callers: a receipt passes on all that its sender knew, also through a process that has
+//! read nothing, and a read that begins after it gives no older record.
+#![tactic(auto)]
+
+mod ends;
+mod passing;
+
+pub use ends::{ends_no_older, gives_back};
+pub use passing::pass_on;

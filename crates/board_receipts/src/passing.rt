@@ -1,0 +1,38 @@
+//! A board whose tasks don't end: what three processes know of each other's calls at once.
+ghost use Rattle.std.specs.Prelude.{◌≡◌, IfSome, IsTrue};
+ghost use Rattle.atomic_board.specs.Passes.{IsPass};
+ghost use Rattle.board_receipts.specs.Passing.{HasHeard, HasMadeNone};
+
+use atomic_board::{Board, Pass, Posted, RecordLaw};
+use family_live::Family;
+use stamps::Stamp;
+
+/// q writes and tells p, p tells r, and r reads: r's read begins after q's write had ended, though p has read nothing. Gives the write's
+/// stamp and r's answer, or none where the tags have ended.
+pub fn pass_on<V: RecordLaw, F: Family<Posted<V>>>(
+    board: &Board<V, F>,
+    q: &mut Pass<V, F>,
+    p: &mut Pass<V, F>,
+    r: &mut Pass<V, F>,
+    item: V,
+) -> Option<(Stamp, Posted<V>)>
+    requires q { IsPass ⟦<F as Family<Posted<V>>>⟧ V.obeys board.now q.old }
+    requires p { IsPass ⟦<F as Family<Posted<V>>>⟧ V.obeys board.now p.old }
+    requires r { IsPass ⟦<F as Family<Posted<V>>>⟧ V.obeys board.now r.old }
+    requires item { IsTrue (V.obeys item) }
+    ensures q { IsPass ⟦<F as Family<Posted<V>>>⟧ V.obeys board.now q.new × (q.new.process ≡ q.old.process) }
+    ensures p { IsPass ⟦<F as Family<Posted<V>>>⟧ V.obeys board.now p.new × (p.new.process ≡ p.old.process) }
+    ensures r { IsPass ⟦<F as Family<Posted<V>>>⟧ V.obeys board.now r.new × (r.new.process ≡ r.old.process) }
+    ensures silent { HasMadeNone ⟦<F as Family<Posted<V>>>⟧ board.now p.old p.new }
+    ensures heard { IfSome result (λ x. HasHeard ⟦<F as Family<Posted<V>>>⟧ board.now q.old q.new r.old r.new item x.0 x.1) }
+{
+    let Ok(stamp) = board.write(q, item) else {
+        return None;
+    };
+    let first = board.tell(q);
+    board.learn(p, first);
+    let second = board.tell(p);
+    board.learn(r, second);
+    let answer = board.read(r);
+    Some((stamp, answer))
+}

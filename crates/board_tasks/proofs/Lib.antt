@@ -1,0 +1,6 @@
+pub mod Halves
+pub mod LaneLists
+pub mod LogLaws
+pub mod Logged
+pub mod Runs
+pub mod Works

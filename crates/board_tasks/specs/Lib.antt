@@ -1,0 +1,5 @@
+pub mod Jobs
+pub mod Lanes
+pub mod Logs
+pub mod Tasks
+pub mod Worked

@@ -1,0 +1,88 @@
+//! Lanes for all passes of a board, and the passes of lanes.
+ghost use Rattle.std.specs.Prelude.{◌≡◌, All, IfOk, length, map};
+ghost use Rattle.atomic_board.specs.Ends.{IsGreatest};
+ghost use Rattle.board_tasks.specs.Lanes.{AreLanes};
+ghost use Rattle.board_tasks.specs.Logs.{Obeys};
+ghost use Rattle.board_tasks.specs.Worked.{AreAtomic, HaveWorked, logs_of};
+
+use crate::lane::{Entry, Lane};
+use atomic_board::{Board, Pass, Posted, RecordLaw};
+use family_live::Family;
+use history_core::{Items, Wish};
+use std::alloc::{AllocError, Global};
+
+/// A lane for each pass, with the script at its place. A refusal drops the passes.
+pub fn make_lanes<V: RecordLaw + Drop, F: Family<Posted<V>>>(
+    alloc: Global,
+    passes: Vec<Pass<V, F>>,
+    scripts: Items<Items<Wish<V>>>,
+) -> Result<Vec<Lane<V, F>>, AllocError>
+    requires counts { length scripts ≡ length passes.items }
+    requires lawful { All (λ s. All (Obeys V.obeys) s) scripts }
+    ensures { IfOk result (λ lanes. AreLanes V.obeys passes.items scripts lanes.items) }
+{
+    let mut passes = passes;
+    let mut scripts = scripts.into_vec();
+    let mut lanes = Vec::with_capacity(alloc, passes.len())?;
+    for _ in 0..passes.len() {
+        let Some(pass) = passes.pop() else {
+            unreachable!();
+        };
+        let Some(script) = scripts.pop() else {
+            unreachable!();
+        };
+        match Lane::new(alloc, pass, script.into_vec()) {
+            Ok(lane) => lanes.push(lane)?,
+            Err((_, refused)) => return Err(refused),
+        }
+    }
+    lanes.reverse();
+    Ok(lanes)
+}
+
+/// The passes of the lanes.
+pub fn into_passes<V: RecordLaw + Drop, F: Family<Posted<V>>>(
+    alloc: Global,
+    lanes: Vec<Lane<V, F>>,
+) -> Result<Vec<Pass<V, F>>, AllocError>
+    ensures { IfOk result (λ passes. passes.items ≡ map (λ l. l.pass) lanes.items) }
+{
+    let mut lanes = lanes;
+    let mut passes = Vec::with_capacity(alloc, lanes.len())?;
+    for _ in 0..lanes.len() {
+        let Some(lane) = lanes.pop() else {
+            unreachable!();
+        };
+        passes.push(lane.into_pass())?;
+    }
+    passes.reverse();
+    Ok(passes)
+}
+
+/// Ends the board of these lanes. Gives the log of each task, and the last record. The entries of the logs tell of calls that are atomic
+/// by their intervals. A refusal drops the board and the lanes.
+pub fn finish_lanes<V: RecordLaw + Drop, F: Family<Posted<V>>>(
+    alloc: Global,
+    board: Board<V, F>,
+    lanes: Vec<Lane<V, F>>,
+) -> Result<(Vec<Vec<Entry<V>>>, Posted<V>), AllocError>
+    requires { HaveWorked ⟦<F as Family<Posted<V>>>⟧ V.obeys board lanes.items }
+    ensures logs { IfOk result (λ r. map (λ v. v.items) r.0.items ≡ logs_of lanes.items) }
+    ensures last { IfOk result (λ r. IsGreatest (map (λ l. l.pass) lanes.items) r.1) }
+    ensures atomic { IfOk result (λ r. AreAtomic ⟦<F as Family<Posted<V>>>⟧ board lanes.items r.1) }
+{
+    let mut lanes = lanes;
+    let mut passes = Vec::with_capacity(alloc, lanes.len())?;
+    let mut logs = Vec::with_capacity(alloc, lanes.len())?;
+    for _ in 0..lanes.len() {
+        let Some(lane) = lanes.pop() else {
+            unreachable!();
+        };
+        let (pass, log) = lane.into_parts();
+        passes.push(pass)?;
+        logs.push(log)?;
+    }
+    passes.reverse();
+    logs.reverse();
+    Ok((logs, board.finish(passes)))
+}

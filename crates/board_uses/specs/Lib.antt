@@ -1,0 +1,2 @@
+pub mod Motors
+pub mod Turns

@@ -1,0 +1,70 @@
+//! The four-slot cell: four words of one bit and four slots.
+//!
+//! Word 0 is `latest`, word 1 `reading`, words 2 and 3 are the bits of the pairs, and a slot's number is `2 * pair + index`. Its
+//! rule says that words, slots and views show a state of the four-slot register which keeps that register's invariant, and to
+//! which some interleaving of the two passes' events leads from the opening.
+ghost use Rattle.std.specs.Prelude.{◌≡◌, [], ◌∷◌};
+ghost use Rattle.fourslot_core.specs.declared.state.Stage.TheVariants.{W5};
+ghost use Rattle.fourslot_core.specs.declared.state.ReaderStage.TheVariants.{R5};
+ghost use Rattle.cell_live.specs.declared.sight.Sight.TheVariants.{Writer, Reader, Told};
+ghost use Rattle.cell_live.specs.Running.{last_or, snap};
+ghost use Rattle.cell_live.specs.Sights.{writer_or, reader_or, receipt_or};
+ghost use Rattle.cell_four_slot.specs.Steps.{first_writer, first_reader, slot_of_choice, bit_words};
+ghost use Rattle.cell_live.specs.Intervals.{dated};
+
+use crate::notes::FourSlotSight;
+use crate::table::{FourSlotSeat, FourSlotTable};
+use atomic_table::TableRule;
+use cell_live::Lawful;
+
+/// The rule of the table of a four-slot cell.
+pub struct FourSlot;
+
+impl<T: Lawful> TableRule<T, FourSlotSight<T>, T> for FourSlot {
+    ghost use Rattle.cell_four_slot.specs.Rule.{FourSlotRule};
+    ghost use Rattle.cell_four_slot.specs.Steps.{first_sight};
+
+    ghost holds = { FourSlotRule T.fits T.rises };
+
+    ghost first = { first_sight };
+}
+
+/// A cell of four slots. Each `write` and each `read` makes three control accesses, plain loads and stores.
+#[derive(Drop)]
+pub struct FourSlotCell<T: Lawful> {
+    pub(crate) table: FourSlotTable<T>,
+}
+
+/// The right to write into a four-slot cell.
+#[derive(Drop)]
+pub struct FourSlotPut<T: Copy> {
+    pub(crate) seat: FourSlotSeat<T>,
+    /// The pairs' bits, as this pass stored them last: their words.
+    pub(crate) remembered: [u64; 2],
+    /// The opening: the notes' default in proofs.
+    pub(crate) spare: T,
+    ghost known: { seat.inner.me ≡ (Writer (writer_or (first_writer spare) seat.inner.me.0), []) },
+    ghost idle: { (writer_or (first_writer spare) seat.inner.me.0).stage ≡ W5 },
+    ghost bits: { bit_words (writer_or (first_writer spare) seat.inner.me.0).remembered ≡ remembered },
+    ghost newest: { let p = writer_or (first_writer spare) seat.inner.me.0 in p.finished.value ≡ last_or p.opening.value p.written },
+}
+
+/// The right to read a four-slot cell. From its first read on it holds the slot of its last answer.
+#[derive(Drop)]
+pub struct FourSlotGet<T: Copy> {
+    pub(crate) seat: FourSlotSeat<T>,
+    /// The opening: the notes' default in proofs.
+    pub(crate) spare: T,
+    ghost known: { seat.inner.me.0 ≡ Reader (reader_or (first_reader spare) seat.inner.me.0) },
+    ghost idle: { (reader_or (first_reader spare) seat.inner.me.0).stage ≡ R5 },
+    ghost holds: { let g = reader_or (first_reader spare) seat.inner.me.0 in seat.inner.me.1 ≡ slot_of_choice g.chosen g.at_hand.value },
+}
+
+/// A receipt of a four-slot cell.
+#[derive(Drop)]
+pub struct FourSlotTold<T: Copy> {
+    pub(crate) seat: FourSlotSeat<T>,
+    /// The opening: the record's default in proofs.
+    pub(crate) spare: T,
+    ghost known: { seat.inner.me ≡ (Told (snap (receipt_or (dated spare) seat.inner.me.0)), []) },
+}

@@ -1,6 +1,0 @@
--- The first load is told the record of the write.
-use Rattle.std.proofs.Common.{[], ◌∷◌}
-use Rattle.cell_live.proofs.four_slot.FourSlotCell.write_laid.Given as goal
-
-abbrev pub ghosts-begin : goal.ghosts-begin
-ghosts-begin g a = record { item = a.item.value ∷ [] }

@@ -1,9 +1,0 @@
--- The store of the pair finishes the write.
-use Rattle.std.proofs.Common.{arith}
-use Rattle.cell_live.proofs.four_slots.Keeps.{finishes_ok}
-use Rattle.cell_live.proofs.four_slot.table.FourSlotTable.finish.Goals as goal
-
-pub store-requires : goal.store-requires
-store-requires g c =
-    let t = c.requires.stored in
-    (c.requires.own, (let s = c.args.self.now.sized in omega arith), finishes_ok g.T.Lawful.fits g.T.Lawful.rises _ _ _ _ t.0 _ t.1 t.2 t.3)

@@ -1,6 +1,0 @@
--- A read that has its number has its interval.
-use Rattle.cell_live.proofs.triple_buffer.Timing.{timed_read_of}
-use Rattle.cell_live.proofs.laws.triple_rule_shows.Goals as goal
-
-pub returns-clause-timed : goal.returns-clause-timed
-returns-clause-timed g c o s r m n at = timed_read_of o r.put r.get r.now r.timed m n at

@@ -1,0 +1,12 @@
+-- The opening table keeps the rule.
+use Rattle.std.proofs.Common.{rules, ◌≡◌, sym, subst, List, [], ◌∷◌}
+use Rattle.atomic_table.specs.Table.{opening}
+use Rattle.cell_triple.specs.Rule.{TripleRule}
+use Rattle.cell_triple.specs.Steps.{first_sight}
+use Rattle.cell_triple.proofs.Keeps.{starts}
+use Rattle.cell_triple.proofs.table.TripleTable.new.Goals as goal
+
+pub new-requires : goal.new-requires
+new-requires g c = let e : c.push-3.new.self.items ≡ c.args.first ∷ c.args.first ∷ c.args.first ∷ [] = search rules in
+    subst (λ (xs : List g.row.T.Denot). TripleRule g.T.Lawful.fits g.T.Lawful.rises c.args.first
+    (opening (1 ∷ []) xs (first_sight c.args.first))) (sym e) (starts g.T.Lawful.fits g.T.Lawful.rises c.args.first c.requires)

@@ -1,0 +1,15 @@
+//! The triple buffer: one word and three slots of one table, that two threads share without waiting. It meets the contract of
+//! `cell_live`.
+//!
+//! The rule that its word and slots keep between any two steps stands in `specs/Rule.antt`, and `laws` says what it means.
+#![tactic(auto)]
+
+mod calls;
+mod cell;
+pub mod laws;
+mod notes;
+mod plays;
+mod table;
+
+pub use cell::{TripleCell, TripleGet, TriplePut, TripleTold};
+pub use notes::TripleSight;

@@ -1,0 +1,297 @@
+-- The seats of a new family, one for each process, and the one that has all of them at the end.
+use Rattle.std.proofs.Common.{◌≡◌, ◌≢◌, ◌⊎◌, ℕ, zero, suc, ◌+◌, ◌-◌, ◌*◌, ◌<◌, ◌≤◌, Bool, true, false, nat_eq, cond, List, [], ◌∷◌, ◌++◌, length, map, slice_get, Some, get_or, replicate, refl, sym, ap, ◌∙◌, subst, arith, ⊎_elim, inl, inr, append_assoc, append-nil, length-append}
+use Rattle.std.proofs.lemmas.Bool.{cases_eq, cases_lt}
+use Rattle.std.proofs.lemmas.List.{length_push}
+use Rattle.std.proofs.lemmas.Option.{none-some, same_Some, slice_get_within}
+use mathlib.Core.Option.{some, none}
+use lib.ListN.{get_elem?}
+use Rattle.atomic_table.specs.Seated.{TableId}
+use Rattle.atomic_table.proofs.Lists.{at_longer}
+use Rattle.history_core.specs.Schedules.{positions}
+use Rattle.fourslot_core.specs.declared.state.Stage.TheVariants as writer
+use Rattle.fourslot_core.specs.declared.state.ReaderStage.TheVariants as reader
+use Rattle.cell_live.specs.Sights.{writer_or, reader_or}
+use Rattle.cell_four_slot.specs.declared.notes.WriterNotes.{WriterNotes}
+use Rattle.cell_four_slot.specs.declared.notes.ReaderNotes.{ReaderNotes}
+use Rattle.cell_live.specs.declared.sight.Sight.TheVariants.{Spent, Writer, Reader}
+use Rattle.cell_four_slot.specs.Steps.{FourSlotSight, first_writer, first_reader, receipt_for}
+use Rattle.family_live.specs.Accesses.{Writes, Reads, IsUnused, no_writes, no_reads}
+use Rattle.family_live.specs.Ends.{Each, EachTwo, IsSchedule, IsAtomicCell}
+use Rattle.family_four_slot.specs.declared.family.FourSlotFamily.{FourSlotFamily}
+use Rattle.family_four_slot.specs.declared.family.FourSlotSeat.{FourSlotSeat}
+use Rattle.family_four_slot.specs.declared.table.FamilySeat.{FamilySeat}
+use Rattle.family_four_slot.specs.declared.notes.Process.{Process}
+use Rattle.family_four_slot.specs.declared.notes.View.TheVariants.{Has}
+use Rattle.family_four_slot.specs.Family.{of_cell}
+use Rattle.family_four_slot.specs.FourSlots.{upto, first_part, first_process, Idle}
+use Rattle.family_four_slot.specs.Places.{place, writer_of, reader_of}
+use Rattle.family_four_slot.specs.Seats.{all_but_first, first_of}
+use Rattle.family_four_slot.specs.Seated.{known_by, opening_of, processes_of, number_of, clock_of, times_of, writes_of, reads_of, IsSeat, IsFirst, HasAll}
+use Rattle.family_four_slot.specs.Tables.{IsEnded}
+use Rattle.family_four_slot.specs.Words.{process_of, writes_to, reads_from, IsAtRest, IsRow, IsColumn}
+use Rattle.family_four_slot.proofs.Calls.{sees_writes, sees_reads}
+use Rattle.family_four_slot.proofs.Frames.{same_number}
+use Rattle.family_four_slot.proofs.Places.{place_in, writer_there, reader_there}
+use Rattle.family_four_slot.proofs.Seats.{differ}
+use Rattle.family_four_slot.proofs.Starts.{upto_long, upto_get}
+
+-- as many as there are of these in turn, the first one in front
+pub upto_next : {A : Type 0} (f : ℕ → A) (i n : ℕ) → i < n → upto f i (n - i) ≡ f i ∷ upto f (i + 1) (n - (i + 1))
+upto_next f i n l = ap (upto f i) (let e : n - i ≡ suc (n - (i + 1)) = omega arith in e)
+
+bits_at : (m j : ℕ) (x : List ℕ) → j < m → get_or (replicate m x) j [] ≡ x
+bits_at zero j x l = absurd (omega arith)
+bits_at (suc m) zero x l = refl
+bits_at (suc m) (suc j) x l = bits_at m j x (omega arith)
+
+module _ {T : Type 0} where
+  -- the seats of the first processes were parted off
+  pub record DealtTo (id : TableId) (n : ℕ) (o : T) (who : ℕ) (rest : FamilySeat T) (seats : List (FourSlotSeat T)) : Type 0 where
+    pub table : rest.inner.table_id ≡ id
+    pub me : rest.inner.me ≡ (Has (upto (first_process o n) who (n - who)), [])
+    pub long : length seats ≡ who
+    pub each : Each (IsFirst id n o) seats
+
+  pub each_more : (P : ℕ → FourSlotSeat T → Type 0) (xs : List (FourSlotSeat T)) (x : FourSlotSeat T) → Each P xs → P (length xs) x → Each P (xs ++ x ∷ [])
+  each_more P xs x each here i y e = at P xs x i y (λ j z h. each j z h) here e where
+    at : (P : ℕ → FourSlotSeat T → Type 0) (xs : List (FourSlotSeat T)) (x : FourSlotSeat T) (i : ℕ) (y : FourSlotSeat T) →
+        ((j : ℕ) (z : FourSlotSeat T) → slice_get xs j ≡ Some z → P j z) → P (length xs) x → slice_get (xs ++ x ∷ []) i ≡ Some y → P i y
+    at P [] x zero y each here e = subst (P 0) (same_Some x y e) here
+    at P [] x (suc i) y each here e = absurd (none-some y e)
+    at P (z ∷ zs) x zero y each here e = each 0 y e
+    at P (z ∷ zs) x (suc i) y each here e = at (λ j. P (suc j)) zs x i y (λ j w h. each (suc j) w h) here e
+
+  -- one seat more is parted off
+  pub dealt_more : (id : TableId) (n : ℕ) (o : T) (who : ℕ) (rest rest' : FamilySeat T) (seats : List (FourSlotSeat T)) (s : FourSlotSeat T) → who < n →
+      DealtTo id n o who rest seats → rest'.inner.table_id ≡ rest.inner.table_id →
+      rest'.inner.me ≡ (all_but_first rest.inner.me.0, rest.inner.me.1) → s.seat.inner.table_id ≡ rest.inner.table_id →
+      s.seat.inner.me ≡ (first_of rest.inner.me.0, []) → s.spare ≡ o → s.processes ≡ n → s.who ≡ who → s.remembered ≡ replicate 16 (0 ∷ 0 ∷ []) →
+      DealtTo id n o (who + 1) rest' (seats ++ s ∷ [])
+  dealt_more id n o who rest rest' seats s l h table me mine my opens many number bits =
+      let now : rest.inner.me ≡ (Has (first_process o n who ∷ upto (first_process o n) (who + 1) (n - (who + 1))), []) =
+      h.me ∙ ap (λ ps. (Has ps, [])) (upto_next (first_process o n) who n l) in record {
+        table = table ∙ h.table;
+        me = me ∙ ap (λ z. (all_but_first z.0, z.1)) now;
+        long = length_push seats s ∙ (let e : length seats ≡ who = h.long in let z : length seats + 1 ≡ who + 1 = omega arith in z);
+        each = each_more (IsFirst id n o) seats s h.each (subst (λ z. IsFirst id n o z s) (sym h.long) (record {
+          table = mine ∙ h.table;
+          opening = opens;
+          processes = many;
+          who = number;
+          me = my ∙ ap (λ z. (first_of z.0, [])) now;
+          remembered = λ j lj. ap (λ xs. get_or xs j []) bits ∙ bits_at 16 j (0 ∷ 0 ∷ []) lj;
+        }));
+      }
+
+  -- what is first known of a cell
+  part_of : (o : T) (n i k : ℕ) → (get_or (upto (first_part o n i) 0 (n * (n - 1))) k Spent ≡ first_part o n i k)
+      ⊎ (get_or (upto (first_part o n i) 0 (n * (n - 1))) k Spent ≡ Spent)
+  part_of o n i k = ⊎_elim
+      (λ (l : k < n * (n - 1)). inl (upto_get (first_part o n i) 0 (n * (n - 1)) k Spent l ∙ ap (first_part o n i) (let z : 0 + k ≡ k = omega arith in z)))
+      (λ (l : n * (n - 1) ≤ k). inr (beyond (upto (first_part o n i) 0 (n * (n - 1))) k
+      (let z : length (upto (first_part o n i) 0 (n * (n - 1))) ≡ n * (n - 1) = upto_long (first_part o n i) 0 (n * (n - 1)) in omega arith)))
+      (cases_lt k (n * (n - 1))) where
+        beyond : (xs : List (FourSlotSight T)) (i : ℕ) → length xs ≤ i → get_or xs i Spent ≡ Spent
+        beyond [] i l = refl
+        beyond (x ∷ xs) zero l = absurd (omega arith)
+        beyond (x ∷ xs) (suc i) l = beyond xs i (omega arith)
+
+  -- a fact of all that may be first known
+  first_any : (P : FourSlotSight T → Type 0) (o : T) (n i k : ℕ) → P (Writer (first_writer o)) → P (Reader (first_reader o)) → P Spent →
+      P (of_cell Spent k (first_process o n i).parts)
+  first_any P o n i k w r s = ⊎_elim
+      (λ (e : get_or (upto (first_part o n i) 0 (n * (n - 1))) k Spent ≡ first_part o n i k). subst P (sym e)
+      (either (nat_eq i (writer_of n k)) (nat_eq i (reader_of n k))))
+      (λ (e : get_or (upto (first_part o n i) 0 (n * (n - 1))) k Spent ≡ Spent). subst P (sym e) s)
+      (part_of o n i k) where
+        either : (a b : Bool) → P (cond a (Writer (first_writer o)) (cond b (Reader (first_reader o)) Spent))
+        either true b = w
+        either false true = r
+        either false false = s
+
+  first_there : (o : T) (n i k : ℕ) → k < n * (n - 1) → of_cell Spent k (first_process o n i).parts ≡ first_part o n i k
+  first_there o n i k l = upto_get (first_part o n i) 0 (n * (n - 1)) k Spent l ∙ ap (first_part o n i) (let z : 0 + k ≡ k = omega arith in z)
+
+  module _ (o : T) (n i : ℕ) where
+    abbrev v : Process (FourSlotSight T)
+    v = first_process o n i
+
+    pub first_rest : (kept : List (List ℕ)) → i < n → n ≤ 16 → ((j : ℕ) → j < 16 → get_or kept j [] ≡ 0 ∷ 0 ∷ []) → IsAtRest o n v kept []
+    first_rest kept li most bits = record {
+      inside = li;
+      parts = upto_long (first_part o n i) 0 (n * (n - 1));
+      held = refl;
+      idle = λ k. first_any Idle o n i k refl refl tt;
+      quiet = λ k nw. ⊎_elim
+          (λ (e : get_or (upto (first_part o n i) 0 (n * (n - 1))) k Spent ≡ first_part o n i k). ap receipt_for e
+          ∙ (ap (λ b. receipt_for (cond b (Writer (first_writer o)) (cond (nat_eq i (reader_of n k)) (Reader (first_reader o)) Spent)))
+          (differ i (writer_of n k) (λ q. nw (sym q))) ∙ silent (nat_eq i (reader_of n k))))
+          (λ (e : get_or (upto (first_part o n i) 0 (n * (n - 1))) k Spent ≡ Spent). ap receipt_for e)
+          (part_of o n i k);
+      row = λ j lj ne.
+          let k : ℕ = place n i j in
+          let there = first_there o n i k (place_in n i j li lj ne) in
+          record {
+            notes = first_writer o;
+            is = there ∙ ap (λ b. cond {A = FourSlotSight T} b (Writer (first_writer o)) (cond (nat_eq i (reader_of n k)) (Reader (first_reader o)) Spent))
+                (same_number i (writer_of n k) (sym (writer_there n i j li lj ne)));
+            idle = refl;
+            opened = refl;
+            newest = refl;
+            bits = sym (bits j (omega arith));
+          };
+      column = λ j lj ne.
+          let k : ℕ = place n j i in
+          let other : i ≢ j = λ q. ne (sym q) in
+          let there = first_there o n i k (place_in n j i lj li other) in
+          record {
+            notes = first_reader o;
+            is = there
+                ∙ (ap (λ b. cond {A = FourSlotSight T} b (Writer (first_writer o)) (cond (nat_eq i (reader_of n k)) (Reader (first_reader o)) Spent))
+                (differ i (writer_of n k) (λ q. other (q ∙ writer_there n j i lj li other)))
+                ∙ ap (λ b. cond {A = FourSlotSight T} b (Reader (first_reader o)) Spent) (same_number i (reader_of n k) (sym (reader_there n j i lj li other))));
+            idle = refl;
+            opened = refl;
+            slots = ([], [], refl);
+          };
+    } where
+      silent : (b : Bool) → receipt_for (cond b (Reader (first_reader o)) Spent) ≡ Spent
+      silent true = refl
+      silent false = refl
+
+    blank : (b : Bool) (x : FourSlotSight T) (P : FourSlotSight T → Type 0) → P Spent → P x → P (cond b Spent x)
+    blank true x P s h = s
+    blank false x P s h = h
+
+    pub first_writes : (j : ℕ) → writes_to o n v j ≡ no_writes
+    first_writes j = ap (λ (p : WriterNotes T). record { items = p.written; times = p.times })
+        (blank (nat_eq j i) (of_cell Spent (place n i j) v.parts) (λ x. writer_or (first_writer o) x ≡ first_writer o) refl
+        (first_any (λ x. writer_or (first_writer o) x ≡ first_writer o) o n i (place n i j) refl refl refl))
+
+    pub first_reads : (j : ℕ) → reads_from o n v j ≡ no_reads
+    first_reads j = ap (λ (g : ReaderNotes T). record { answers = g.answers; numbers = g.numbers; known = g.known; told = g.told; times = g.times })
+        (blank (nat_eq j i) (of_cell Spent (place n j i) v.parts) (λ x. reader_or (first_reader o) x ≡ first_reader o) refl
+        (first_any (λ x. reader_or (first_reader o) x ≡ first_reader o) o n i (place n j i) refl refl refl))
+
+  -- such a seat is one of the family's, and unused
+  pub first_seat : (f : FourSlotFamily T) (n : ℕ) (o : T) (i : ℕ) (s : FourSlotSeat T) → opening_of f ≡ o → processes_of f ≡ n → i < n → n ≤ 16 →
+      IsFirst f.table.inner.shared.table_id n o i s →
+      (IsSeat f s × (number_of s ≡ i)) × IsUnused (clock_of s) (times_of s) (writes_of s) (reads_of s)
+  first_seat f n o i s opens many li most h =
+      let is : known_by s ≡ first_process o n i = ap (λ z. process_of z.0) h.me in
+      let rest = first_rest o n i s.remembered li most h.remembered in (
+        (
+          record {
+            table = h.table;
+            opening = h.opening ∙ sym opens;
+            processes = h.processes ∙ sym many;
+            one = ap (λ z. z.0) h.me ∙ ap (λ z. Has (z ∷ [])) (sym is);
+            who = ap (λ z. z.who) is ∙ sym h.who;
+            rest = subst (λ (z : T × ℕ × Process (FourSlotSight T) × List (ℕ × T)). IsAtRest z.0 z.1 z.2 s.remembered z.3)
+                (λ k. (sym h.opening k, sym h.processes k, sym is k, (sym h.me k).1)) rest;
+          },
+          h.who,
+        ),
+        (
+          ap (λ z. z.clock) is,
+          ap (λ z. z.times) is,
+          λ j. (λ k. writes_to (h.opening k) (h.processes k) (is k) j) ∙ first_writes o n i j,
+          λ j. (λ k. reads_from (h.opening k) (h.processes k) (is k) j) ∙ first_reads o n i j,
+        ),
+      )
+
+  -- the last seats were joined into one
+  pub record GatheredFrom (id : TableId) (seats left : List (FourSlotSeat T)) (all : FamilySeat T) : Type 0 where
+    pub table : all.inner.table_id ≡ id
+    pub ps : List (Process (FourSlotSight T))
+    pub me : all.inner.me.0 ≡ Has ps
+    pub done : List (FourSlotSeat T)
+    pub of : seats ≡ left ++ done
+    pub there : (s : FourSlotSeat T) (i : ℕ) → slice_get done i ≡ Some s → (a : ℕ) × (get_elem? ps a ≡ some (known_by s))
+
+  pub gathered_one : (id : TableId) (seats left : List (FourSlotSeat T)) (s : FourSlotSeat T) → s.seat.inner.table_id ≡ id →
+      s.seat.inner.me.0 ≡ Has (known_by s ∷ []) → seats ≡ left ++ s ∷ [] → GatheredFrom id seats left s.seat
+  gathered_one id seats left s table me of = record {
+    table = table;
+    ps = known_by s ∷ [];
+    me = me;
+    done = s ∷ [];
+    of = of;
+    there = λ z i e. one s z i e;
+  } where
+    one : (s z : FourSlotSeat T) (i : ℕ) → slice_get (s ∷ []) i ≡ Some z → (a : ℕ) × (get_elem? (known_by s ∷ []) a ≡ some (known_by z))
+    one s z zero e = (zero, ap (λ y. some (known_by y)) (same_Some s z e))
+    one s z (suc i) e = absurd (none-some z e)
+
+  -- the last seat stands there
+  pub stood : (seats before left done : List (FourSlotSeat T)) (s : FourSlotSeat T) → seats ≡ before ++ done → before ≡ left ++ s ∷ [] →
+      slice_get seats (length left) ≡ Some s
+  stood seats before left done s of e = ap (λ z. slice_get z (length left)) (of ∙ ap (λ z. z ++ done) e) ∙ mid left done s where
+    mid : (left done : List (FourSlotSeat T)) (s : FourSlotSeat T) → slice_get ((left ++ s ∷ []) ++ done) (length left) ≡ Some s
+    mid [] done s = refl
+    mid (x ∷ xs) done s = mid xs done s
+
+  at_last : (xs ys : List (Process (FourSlotSight T))) (a : ℕ) → get_elem? (xs ++ ys) (length xs + a) ≡ get_elem? ys a
+  at_last [] ys a = ap (get_elem? ys) (let z : 0 + a ≡ a = omega arith in z)
+  at_last (x ∷ xs) ys a = ap (get_elem? (x ∷ (xs ++ ys))) (let e : suc (length xs) + a ≡ suc (length xs + a) = omega arith in e) ∙ at_last xs ys a
+
+  pub gathered_more : (id : TableId) (seats before left : List (FourSlotSeat T)) (all all' : FamilySeat T) (s : FourSlotSeat T) →
+      (h : GatheredFrom id seats before all) → before ≡ left ++ s ∷ [] → all'.inner.table_id ≡ all.inner.table_id →
+      all'.inner.me.0 ≡ Has (h.ps ++ known_by s ∷ []) → GatheredFrom id seats left all'
+  gathered_more id seats before left all all' s h e table me = record {
+    table = table ∙ h.table;
+    ps = h.ps ++ known_by s ∷ [];
+    me = me;
+    done = s ∷ h.done;
+    of = h.of ∙ (ap (λ z. z ++ h.done) e ∙ append_assoc left (s ∷ []) h.done);
+    there = λ z i at. next h.ps h.done s z i (λ y j q. h.there y j q) at;
+  } where
+    next : (ps : List (Process (FourSlotSight T))) (done : List (FourSlotSeat T)) (s z : FourSlotSeat T) (i : ℕ) →
+        ((y : FourSlotSeat T) (j : ℕ) → slice_get done j ≡ Some y → (a : ℕ) × (get_elem? ps a ≡ some (known_by y))) →
+        slice_get (s ∷ done) i ≡ Some z → (a : ℕ) × (get_elem? (ps ++ known_by s ∷ []) a ≡ some (known_by z))
+    next ps done s z zero there e = (length ps + 0, at_last ps (known_by s ∷ []) 0 ∙ ap (λ y. some (known_by y)) (same_Some s z e))
+    next ps done s z (suc i) there e = let t = there z i e in (t.0, at_longer ps (known_by s ∷ []) t.0 (known_by z) t.1)
+
+  pub gathered_all : (id : TableId) (seats left : List (FourSlotSeat T)) (all : FamilySeat T) → GatheredFrom id seats left all → length left ≡ 0 →
+      HasAll all seats
+  gathered_all id seats [] all h e = (h.ps, h.me, λ i s at. h.there s i (ap (λ z. slice_get z i) (sym h.of) ∙ at))
+  gathered_all id seats (x ∷ xs) all h e = absurd (omega (arith, e))
+
+  -- what the table shows at the end, by the seats
+  module _ (f : FourSlotFamily T) (seats : List (FourSlotSeat T)) (each : Each (λ i s. IsSeat f s × (number_of s ≡ i)) seats)
+      (ps : List (Process (FourSlotSight T)))
+      (there : (i : ℕ) (s : FourSlotSeat T) → slice_get seats i ≡ Some s → (a : ℕ) × (get_elem? ps a ≡ some (known_by s)))
+      (ended : IsEnded (processes_of f) (opening_of f) ps) where
+    pub all_scheduled : (steps : List ℕ) × IsSchedule (processes_of f) steps × Each (λ i s. times_of s ≡ positions 1 i steps) seats
+    all_scheduled = (
+      ended.steps,
+      ended.within,
+      λ i s e. let t = there i s e in let own = each i s e in
+          ended.made t.0 (known_by s) t.1 ∙ ap (λ z. positions 1 z ended.steps) (own.0.who ∙ own.1),
+    )
+
+    pub all_atomic : EachTwo (λ i j s t. IsAtomicCell (opening_of f) (writes_of s j) (reads_of t i)) seats
+    all_atomic i j s t at_s at_t ne =
+        let a = there i s at_s in
+        let b = there j t at_t in
+        let mine = each i s at_s in
+        let theirs = each j t at_t in
+        let n : ℕ = processes_of f in
+        let v : Process (FourSlotSight T) = known_by s in
+        let u : Process (FourSlotSight T) = known_by t in
+        let who_s : v.who ≡ i = mine.0.who ∙ mine.1 in
+        let who_t : u.who ≡ j = theirs.0.who ∙ theirs.1 in
+        let li : i < s.processes = subst (λ z. z < s.processes) who_s mine.0.rest.inside in
+        let lj : j < t.processes = subst (λ z. z < t.processes) who_t theirs.0.rest.inside in
+        let same : t.processes ≡ s.processes = theirs.0.processes ∙ sym mine.0.processes in
+        let row = mine.0.rest.row j (subst (λ z. j < z) same lj) (λ e. ne (sym (e ∙ who_s))) in
+        let column = theirs.0.rest.column i (subst (λ z. i < z) (sym same) li) (λ e. ne (e ∙ who_t)) in
+        let k : ℕ = place n i j in
+        let inside : k < n * (n - 1) = place_in n i j (subst (λ z. i < z) mine.0.processes li) (subst (λ z. j < z) theirs.0.processes lj) (λ e. ne (sym e)) in
+        let writes : of_cell Spent k v.parts ≡ Writer row.notes = (λ x. of_cell Spent (place (sym mine.0.processes x) (sym who_s x) j) v.parts) ∙ row.is in
+        let reads : of_cell Spent k u.parts ≡ Reader column.notes = (λ x. of_cell Spent (place (sym theirs.0.processes x) i (sym who_t x)) u.parts) ∙ column.is in
+        let done = ended.cells a.0 b.0 v u a.1 b.1 k inside row.notes column.notes writes reads row.idle column.idle in
+        let w = sees_writes s.spare s.processes v v.who j row.notes (λ e. ne (sym (e ∙ who_s))) refl row.is in
+        let r = sees_reads t.spare t.processes u u.who i column.notes (λ e. ne (e ∙ who_t)) refl column.is in
+        subst (λ (z : Writes T × Reads T). IsAtomicCell (opening_of f) z.0 z.1) (λ x. (sym w x, sym r x))
+        (record { atomic = done.atomic; ended = done.ended; known = done.known })

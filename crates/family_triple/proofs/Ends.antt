@@ -1,0 +1,58 @@
+-- What the last state of a family shows of the processes that a seat has: one schedule, and each cell's calls.
+use Rattle.std.proofs.Common.{◌≡◌, ℕ, ◌<◌, List, [], ◌∷◌, map, refl, sym, ap, ◌∙◌, subst}
+use mathlib.Core.Option.{some}
+use lib.ListN.{get_elem?}
+use Rattle.atomic_table.specs.Table.{State, Final, Seen}
+use Rattle.atomic_table.proofs.Lists.{at_map, at_longer}
+use Rattle.cell_triple.specs.declared.notes.WriterNotes.{WriterNotes}
+use Rattle.cell_triple.specs.declared.notes.ReaderNotes.{ReaderNotes}
+use Rattle.cell_live.specs.declared.sight.Sight.TheVariants.{Spent, Writer, Reader}
+use Rattle.cell_triple.specs.Rule.{TripleRule}
+use Rattle.cell_triple.specs.Steps.{TripleSight}
+use Rattle.cell_triple.proofs.Timing.{timed_atomic}
+use Rattle.family_four_slot.specs.declared.notes.Process.{Process}
+use Rattle.family_four_slot.specs.declared.notes.Receipt.{Receipt}
+use Rattle.family_four_slot.specs.declared.notes.View.{View}
+use Rattle.family_four_slot.specs.declared.notes.View.TheVariants.{Has}
+use Rattle.family_four_slot.specs.Family.{of_cell, cell, Shows}
+use Rattle.family_four_slot.proofs.Seats.{each_at}
+use Rattle.family_triple.specs.Places.{triples}
+use Rattle.family_triple.specs.Triples.{TripleFamily}
+use Rattle.family_triple.specs.Tables.{IsEnded, IsDone}
+
+module _ {T : Type 0} (fits : T → Type 0) (rises : T → T → Type 0) (o : T) where
+  abbrev V : Type 0
+  V = TripleSight T
+
+  -- one cell, with its writer's notes and its reader's
+  cell_done : (s : State T V) (r : TripleRule fits rises o s) (i j : ℕ) (p : WriterNotes T) (g : ReaderNotes T) →
+      get_elem? s.views i ≡ some (Writer p) → get_elem? s.views j ≡ some (Reader g) → IsDone o p g
+  cell_done s r i j p g there here =
+      let put_is : p ≡ r.put = (r.each_seat i (Writer p) there).0 in
+      let get_is : g ≡ r.get = (r.each_seat j (Reader g) here).0 in
+      subst (λ (z : WriterNotes T × ReaderNotes T). IsDone o z.0 z.1) (λ k. (sym put_is k, sym get_is k)) (record {
+        atomic = timed_atomic o r.put r.get r.now r.timed;
+        ended = r.timed.ended_writes ∙ sym r.timed.begun_writes;
+        known = r.known;
+      })
+
+  pub family_ends : (n id : ℕ) (x : View V) (ps : List (Process V)) (ws : List ℕ) (xs : List T) → x ≡ Has ps →
+      Final (Seen (TripleFamily fits rises o n) id x) ws xs → IsEnded n o ps
+  family_ends n id x ps ws xs is f =
+      let s : State T (View V) = f.0 in
+      let r = f.1.0 in
+      let known = subst (Shows r.processes r.receipts) is (r.shows id x f.1.1) in
+      let at : (a : ℕ) (p : Process V) → get_elem? ps a ≡ some p → get_elem? r.processes p.who ≡ some p =
+      λ a p e. each_at (λ (q : Process V). get_elem? r.processes q.who ≡ some q) ps a p known e in
+      record {
+        steps = r.steps;
+        within = r.within;
+        made = λ a p e. r.made p.who p (at a p e);
+        cells = λ a b p q d e k lk w g is_writer is_reader.
+            let c : State T V = cell Spent (triples n) k s.words s.homes r.processes r.receipts in
+            let told : List V = map (λ (z : Receipt V). of_cell Spent k z.parts) r.receipts in
+            let G : Process V → V = λ (z : Process V). of_cell Spent k z.parts in
+            let view : (a' : ℕ) (z : Process V) → get_elem? ps a' ≡ some z → get_elem? c.views z.who ≡ some (G z) =
+            λ a' z h. at_longer (map G r.processes) told z.who (G z) (at_map G r.processes z.who z (at a' z h)) in
+            cell_done c (r.cells k lk).0 p.who q.who w g (view a p d ∙ ap some is_writer) (view b q e ∙ ap some is_reader);
+      }

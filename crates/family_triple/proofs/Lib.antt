@@ -1,0 +1,10 @@
+pub mod Acts
+pub mod Calls
+pub mod Cells
+pub mod Ends
+pub mod Places
+pub mod Rests
+pub mod Starts
+pub mod Steps
+pub mod Told
+pub mod Turns

@@ -1,0 +1,54 @@
+-- Words without a mark and copies of the record are a family at the start.
+use Rattle.std.proofs.Common.{◌≡◌, ℕ, zero, suc, ◌+◌, ◌-◌, ◌*◌, ◌<◌, List, [], ◌∷◌, ◌++◌, map, length, replicate}
+use Rattle.std.proofs.Common.{refl, sym, ap, ◌∙◌, subst, arith, append-nil}
+use mathlib.Core.Option.{none, some}
+use lib.ListN.{get_elem?}
+use Rattle.atomic_table.specs.Table.{State, opening}
+use Rattle.cell_live.specs.declared.sight.Sight.TheVariants.{Spent}
+use Rattle.cell_triple.specs.Steps.{TripleSight}
+use Rattle.family_four_slot.specs.declared.notes.Process.{Process}
+use Rattle.family_four_slot.specs.Layouts.{gather}
+use Rattle.family_four_slot.specs.Family.{of_cell, cell}
+use Rattle.family_four_slot.specs.FourSlots.{upto}
+use Rattle.family_four_slot.proofs.Slices.{gather_replicate}
+use Rattle.family_four_slot.proofs.Seats.{family_starts}
+use Rattle.family_four_slot.proofs.Starts.{upto_long, upto_at, upto_get, map_at, map_replicate}
+use Rattle.family_triple.specs.Places.{triples}
+use Rattle.family_triple.specs.Triples.{first_part, first_process, first_view, CellRule, TripleFamily}
+use Rattle.family_triple.proofs.Places.{is_layout}
+use Rattle.family_triple.proofs.Cells.{cell_starts}
+
+replicate_long : {A : Type 0} (n : ℕ) (x : A) → length (replicate n x) ≡ n
+replicate_long zero x = refl
+replicate_long (suc n) x = ap suc (replicate_long n x)
+
+module _ {T : Type 0} (fits : T → Type 0) (rises : T → T → Type 0) (o : T) (n : ℕ) where
+  abbrev V : Type 0
+  V = TripleSight T
+
+  pub triples_start : fits o →
+      TripleFamily fits rises o n (opening (replicate (8 * (n * (n - 1)) + 8) 1) (replicate (3 * (n * (n - 1))) o) (first_view o n))
+  triples_start f =
+      let cells : ℕ = n * (n - 1) in
+      let ps : List (Process V) = upto (first_process o n) 0 n in
+      let ws : List ℕ = replicate (8 * cells + 8) 1 in
+      let hs : List T = replicate (3 * cells) o in
+      family_starts Spent (triples n) (CellRule fits rises o) n ws hs ps (replicate_long (8 * cells + 8) 1) (replicate_long (3 * cells) o)
+      (upto_long (first_process o n) 0 n)
+      (λ i p e.
+      let is : p ≡ first_process o n i = upto_at (first_process o n) 0 n i p e ∙ ap (first_process o n) (let z : 0 + i ≡ i = omega arith in z) in
+      subst (λ (q : Process V). (q.who ≡ i) × (q.clock ≡ 0) × (q.times ≡ []) × (q.held ≡ [])) (sym is) (refl, refl, refl, refl))
+      (λ k lk.
+      let G : Process V → V = λ (p : Process V). of_cell Spent k p.parts in
+      let homes : gather ((triples n).slot k) 3 none (map some hs) ≡ some o ∷ some o ∷ some o ∷ [] =
+      ap (gather ((triples n).slot k) 3 none) (map_replicate some (3 * cells) o)
+      ∙ gather_replicate ((triples n).slot k) 3 none (3 * cells) (some o) (λ i li. (is_layout n).slot_in k i lk li) in
+      let words : gather ((triples n).word k) 1 0 ws ≡ 1 ∷ [] =
+      gather_replicate ((triples n).word k) 1 0 (8 * cells + 8) 1 (λ i li. (is_layout n).word_in k i lk li) in
+      let views : map G ps ++ [] ≡ map G ps = append-nil (map G ps) in
+      subst (CellRule fits rises o 0) (λ z. record { words = sym words z; homes = sym homes z; views = sym views z })
+      (cell_starts fits rises o n k (map G ps) f
+      (λ j v e.
+      let x = map_at G ps j v e in
+      let is : x.0 ≡ first_process o n j = upto_at (first_process o n) 0 n j x.0 x.1 ∙ ap (first_process o n) (let z : 0 + j ≡ j = omega arith in z) in
+      x.2 ∙ (ap G is ∙ (upto_get (first_part o n j) 0 cells k Spent lk ∙ ap (first_part o n j) (let z : 0 + k ≡ k = omega arith in z))))))

@@ -1,0 +1,31 @@
+-- A process learns a receipt.
+use Rattle.std.proofs.Common.{◌≡◌, arith, ◌∷◌, subst, sym, ◌<◌, refl, ap}
+use Rattle.atomic_table.specs.Table.{Joins}
+use Rattle.cell_live.specs.declared.sight.Sight.TheVariants.{Spent}
+use Rattle.cell_triple.specs.Steps.{receipt_for, hears_of}
+use Rattle.cell_triple.specs.Steps.{TripleSight}
+use Rattle.family_four_slot.specs.declared.notes.View.{View}
+use Rattle.family_triple.specs.Places.{triples}
+use Rattle.family_triple.specs.Triples.{CellRule, TripleFamily, Any}
+use Rattle.family_four_slot.specs.Seats.{learnt_by, no_one}
+use Rattle.family_triple.proofs.Cells.{cell_hears, deaf, mute}
+use Rattle.family_four_slot.proofs.Receipts.{family_learns}
+use Rattle.family_triple.proofs.table.FamilyTable.hear.Goals as goal
+
+pub join_seat-requires : goal.join_seat-requires
+join_seat-requires g c =
+    let t = c.requires.one in
+    let u = c.requires.receipt in
+    let s = c.args.self.now.sized in
+    let n = c.args.self.now.inner.shared.key.processes in
+    let o = c.args.self.now.inner.shared.key.first in
+    let R = CellRule g.T.Lawful.fits g.T.Lawful.rises o in (
+      c.requires.own.0,
+      c.requires.own.1,
+      ap (λ m. m.1) u.1,
+      omega arith,
+      subst (λ (z : View (TripleSight g.row.T.Denot) × View (TripleSight g.row.T.Denot)). Joins (TripleFamily g.T.Lawful.fits g.T.Lawful.rises o n) c.args.seat.now.inner.id z.0 c.args.receipt.inner.id z.1
+          (learnt_by hears_of z.0 z.1) no_one) (λ i. (sym t.1 i, sym (ap (λ m. m.0) u.1) i))
+          (family_learns Spent receipt_for hears_of refl deaf mute (triples n) R Any n (cell_hears g.T.Lawful.fits g.T.Lawful.rises o)
+          c.args.seat.now.inner.id c.args.receipt.inner.id t.0 u.0 (λ k. tt)),
+    )

@@ -1,0 +1,5 @@
+pub mod Places
+pub mod Steps
+pub mod Tables
+pub mod Triples
+pub mod Words

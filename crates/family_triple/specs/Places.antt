@@ -1,0 +1,22 @@
+-- Where the cells of a family of triple buffers lie: the word of each on a line of eight words, and its three slots side by side (this
+-- project's own).
+use Rattle.std.specs.Prelude.{ℕ, ◌+◌, ◌*◌, ◌-◌}
+use Rattle.family_four_slot.specs.Layouts.{Layout}
+
+abbrev pub word_at : ℕ → ℕ → ℕ
+word_at k i = 8 * k + 8 + i
+
+abbrev pub slot_at : ℕ → ℕ → ℕ
+slot_at k i = 3 * k + i
+
+-- a spare line comes first, which nobody stores to
+abbrev pub triples : ℕ → Layout
+triples n = record {
+  cells = n * (n - 1);
+  cell_words = 1;
+  cell_slots = 3;
+  words = 8 * (n * (n - 1)) + 8;
+  slots = 3 * (n * (n - 1));
+  word = word_at;
+  slot = slot_at;
+}

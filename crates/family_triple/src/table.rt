@@ -1,0 +1,257 @@
+//! The table of a family of triple buffers and every step on it. No other module can reach the table: what stands here is all that can be
+//! done with it.
+ghost use Rattle.std.specs.Prelude.{◌≡◌, ℕ, ◌+◌, ◌*◌, ◌-◌, ◌<◌, ◌≤◌, List, [], ◌∷◌, IfOk};
+ghost use Rattle.std.specs.Fn.{FnOnceTakesAt, FnOnceReturnsAt};
+ghost use mathlib.Core.Option.{none};
+ghost use Rattle.atomic_table.specs.Table.{step, turned};
+ghost use Rattle.cell_live.specs.Running.{last_or};
+ghost use Rattle.cell_triple.specs.declared.notes.WriterNotes.{WriterNotes};
+ghost use Rattle.cell_triple.specs.declared.notes.ReaderNotes.{ReaderNotes};
+ghost use Rattle.cell_triple.specs.Steps.{TripleSight, hears_of, receipt_for};
+ghost use Rattle.family_four_slot.specs.declared.notes.Process.{Process};
+ghost use Rattle.family_four_slot.specs.declared.notes.Receipt.{Receipt};
+ghost use Rattle.family_four_slot.specs.declared.notes.View.TheVariants.{Told, Has};
+ghost use Rattle.family_four_slot.specs.Seats.{all_but_first, first_of, told_by, learnt_by, joined};
+ghost use Rattle.family_triple.specs.Places.{triples, slot_at};
+ghost use Rattle.family_triple.specs.Triples.{first_view};
+ghost use Rattle.family_triple.specs.Steps.{put_takes, get_takes, publishes, looks, fetches};
+ghost use Rattle.family_triple.specs.Tables.{HasWriter, HasReader, IsEnded};
+
+use crate::FamilyLaw;
+use crate::notes::FamilySight;
+use crate::plays::{
+    All, Fetches, First, Gathers, GetTakes, Learns, Looks, Publishes, PutTakes, Tells,
+};
+use atomic_table::{Seat, Table};
+use cell_live::{Lawful, empty};
+use family_four_slot::notes::Opened;
+use std::alloc::{AllocError, Global};
+
+/// The words and slots of all cells. Eight words that nobody stores to come first.
+#[derive(Drop)]
+pub struct FamilyTable<T: Lawful> {
+    inner: Table<T, FamilySight<T>, Opened<T>, FamilyLaw, Global>,
+    ghost sized: { inner.shared.table_id.words ≡ (triples inner.shared.key.processes).words },
+    ghost some: { (2 ≤ inner.shared.key.processes) × (inner.shared.key.processes ≤ 16) },
+}
+
+/// A seat at the table.
+#[derive(Drop)]
+pub struct FamilySeat<T: Copy> {
+    inner: Seat<T, FamilySight<T>>,
+}
+
+/// The word of a cell.
+#[inline]
+fn word_of(cell: usize) -> usize
+    requires { cell < 240 }
+    ensures { result ≡ 8 * cell + 8 }
+{
+    8 * cell + 8
+}
+
+impl<T: Lawful> FamilyTable<T> {
+    /// A table of the cells of so many processes, which all hold this record, and a seat that has all processes.
+    pub fn new(
+        alloc: Global,
+        processes: usize,
+        first: T,
+    ) -> Result<(Self, FamilySeat<T>), AllocError>
+        requires lawful { T.fits first }
+        requires some { (2 ≤ processes) × (processes ≤ 16) }
+        ensures key { IfOk result (λ r. r.0.inner.shared.key ≡ record { first = first; processes = processes }) }
+        ensures seat { IfOk result (λ r. (r.1.inner.table_id ≡ r.0.inner.shared.table_id) × (r.1.inner.me ≡ (first_view first processes, []))) }
+    {
+        let cells = processes * (processes - 1);
+        let mut words = Vec::new(alloc);
+        words.resize(8 * cells + 8, 1).map_err(|_| AllocError)?;
+        let mut slots = Vec::new(alloc);
+        slots.resize(3 * cells, first).map_err(|_| AllocError)?;
+        let (table, seat) = Table::new(
+            alloc,
+            words.as_slice(),
+            slots,
+            &Opened { first, processes },
+        ).map_err(|_| AllocError)?;
+        Ok((FamilyTable { inner: table }, FamilySeat { inner: seat }))
+    }
+
+    /// A load of a cell's word, with which its writer takes its first slot.
+    pub(super) fn take_put(&self, seat: &mut FamilySeat<T>, cell: usize) -> u64
+        requires own { seat.old.inner.table_id ≡ self.now.inner.shared.table_id }
+        requires place { cell < (triples self.now.inner.shared.key.processes).cells }
+        requires bare { (v : Process (TripleSight T)) × (p : WriterNotes T) × HasWriter seat.old.inner.me cell v p × (p.has ≡ 0) }
+        ensures own { seat.new.inner.table_id ≡ seat.old.inner.table_id }
+        ensures took { put_takes (step self.now.inner.shared.table_id.slots (8 * cell + 8) 0 0 none) seat.old.inner.me result
+            seat.new.inner.me }
+    {
+        self.inner
+            .shared
+            .load::<PutTakes>(&mut seat.inner, word_of(cell))
+    }
+
+    /// A load of a cell's word, with which its reader takes its first slot.
+    pub(super) fn take_get(&self, seat: &mut FamilySeat<T>, cell: usize) -> u64
+        requires own { seat.old.inner.table_id ≡ self.now.inner.shared.table_id }
+        requires place { cell < (triples self.now.inner.shared.key.processes).cells }
+        requires bare { (v : Process (TripleSight T)) × (g : ReaderNotes T) × HasReader seat.old.inner.me cell v g × (g.has ≡ 0) }
+        ensures own { seat.new.inner.table_id ≡ seat.old.inner.table_id }
+        ensures took { get_takes (step self.now.inner.shared.table_id.slots (8 * cell + 8) 0 0 none) seat.old.inner.me result
+            seat.new.inner.me }
+    {
+        self.inner
+            .shared
+            .load::<GetTakes>(&mut seat.inner, word_of(cell))
+    }
+
+    /// The writer's swap, the whole write: its slot goes into the middle, with the mark, and it takes the slot that was there.
+    #[inline]
+    pub(super) fn publish(&self, seat: &mut FamilySeat<T>, cell: usize, new: u64) -> u64
+        requires own { seat.old.inner.table_id ≡ self.now.inner.shared.table_id }
+        requires place { cell < (triples self.now.inner.shared.key.processes).cells }
+        requires filled { (v : Process (TripleSight T)) × (p : WriterNotes T) × (x : T) × (cs : List (ℕ × T)) × HasWriter seat.old.inner.me cell v p
+            × (seat.old.inner.me.1 ≡ (slot_at cell p.slot, x) ∷ cs) × (p.has ≡ 1) × T.fits x
+            × T.rises (last_or p.opening.value p.written) x × (new ≡ p.slot + 4) }
+        ensures own { seat.new.inner.table_id ≡ seat.old.inner.table_id }
+        ensures swapped { publishes (step self.now.inner.shared.table_id.slots (8 * cell + 8) new 0 none) seat.old.inner.me result
+            seat.new.inner.me }
+    {
+        self.inner
+            .shared
+            .swap::<Publishes>(&mut seat.inner, word_of(cell), new)
+    }
+
+    /// The reader's load: the whole read, where it finds no mark.
+    #[inline]
+    pub(super) fn look(&self, seat: &mut FamilySeat<T>, cell: usize) -> u64
+        requires own { seat.old.inner.table_id ≡ self.now.inner.shared.table_id }
+        requires place { cell < (triples self.now.inner.shared.key.processes).cells }
+        requires idle { (v : Process (TripleSight T)) × (g : ReaderNotes T) × HasReader seat.old.inner.me cell v g × (g.asked ≡ 0) }
+        ensures own { seat.new.inner.table_id ≡ seat.old.inner.table_id }
+        ensures looked { looks T.fits T.rises (step self.now.inner.shared.table_id.slots (8 * cell + 8) 0 0 none) seat.old.inner.me result
+            seat.new.inner.me }
+    {
+        self.inner
+            .shared
+            .load::<Looks>(&mut seat.inner, word_of(cell))
+    }
+
+    /// The reader's swap, where its load found the mark: its slot goes into the middle, and it takes the slot that was there.
+    #[inline]
+    pub(super) fn fetch(&self, seat: &mut FamilySeat<T>, cell: usize, new: u64) -> u64
+        requires own { seat.old.inner.table_id ≡ self.now.inner.shared.table_id }
+        requires place { cell < (triples self.now.inner.shared.key.processes).cells }
+        requires marked { (v : Process (TripleSight T)) × (g : ReaderNotes T) × (cs : List (ℕ × T)) × HasReader seat.old.inner.me cell v g
+            × (seat.old.inner.me.1 ≡ (slot_at cell g.slot, g.at_hand.value) ∷ cs) × (g.has ≡ 1) × (g.asked ≡ 1) × (new ≡ g.slot) }
+        ensures own { seat.new.inner.table_id ≡ seat.old.inner.table_id }
+        ensures swapped { fetches T.fits T.rises (step self.now.inner.shared.table_id.slots (8 * cell + 8) new 0 none) seat.old.inner.me result
+            seat.new.inner.me }
+    {
+        self.inner
+            .shared
+            .swap::<Fetches>(&mut seat.inner, word_of(cell), new)
+    }
+
+    /// The first slot of a seat goes behind its others. Nothing is done at run time.
+    #[inline]
+    pub(super) fn turn(&self, seat: &mut FamilySeat<T>)
+        ensures own { seat.new.inner.table_id ≡ seat.old.inner.table_id }
+        ensures turned { seat.new.inner.me ≡ (seat.old.inner.me.0, turned seat.old.inner.me.1) }
+    {
+        seat.inner.turn();
+    }
+
+    /// Parts the first process of a seat off.
+    pub(super) fn part(&self, seat: &mut FamilySeat<T>) -> FamilySeat<T>
+        requires own { seat.old.inner.table_id ≡ self.now.inner.shared.table_id }
+        requires some { (p : Process (TripleSight T)) × (ps : List (Process (TripleSight T))) × (seat.old.inner.me.0 ≡ Has (p ∷ ps)) }
+        ensures own { (seat.new.inner.table_id ≡ seat.old.inner.table_id) × (result.inner.table_id ≡ seat.old.inner.table_id) }
+        ensures parted { (seat.new.inner.me ≡ (all_but_first seat.old.inner.me.0, seat.old.inner.me.1))
+            × (result.inner.me ≡ (first_of seat.old.inner.me.0, [])) }
+    {
+        let parted = self.inner.shared.split_seat::<First>(&mut seat.inner);
+        FamilySeat { inner: parted }
+    }
+
+    /// Parts a receipt of a process off.
+    pub(super) fn tell(&self, seat: &mut FamilySeat<T>) -> FamilySeat<T>
+        requires own { seat.old.inner.table_id ≡ self.now.inner.shared.table_id }
+        requires one { (v : Process (TripleSight T)) × (seat.old.inner.me.0 ≡ Has (v ∷ [])) }
+        ensures own { (seat.new.inner.table_id ≡ seat.old.inner.table_id) × (result.inner.table_id ≡ seat.old.inner.table_id) }
+        ensures parted { (seat.new.inner.me ≡ seat.old.inner.me) × (result.inner.me ≡ (told_by receipt_for seat.old.inner.me.0, [])) }
+    {
+        let parted = self.inner.shared.split_seat::<Tells>(&mut seat.inner);
+        FamilySeat { inner: parted }
+    }
+
+    /// Joins a receipt into the seat of a process.
+    pub(super) fn hear(&self, seat: &mut FamilySeat<T>, receipt: FamilySeat<T>)
+        requires own { (seat.old.inner.table_id ≡ self.now.inner.shared.table_id)
+            × (receipt.inner.table_id ≡ self.now.inner.shared.table_id) }
+        requires one { (v : Process (TripleSight T)) × (seat.old.inner.me.0 ≡ Has (v ∷ [])) }
+        requires receipt { (r : Receipt (TripleSight T)) × (receipt.inner.me ≡ (Told r, [])) }
+        ensures own { seat.new.inner.table_id ≡ seat.old.inner.table_id }
+        ensures joined { seat.new.inner.me ≡ (learnt_by hears_of seat.old.inner.me.0 receipt.inner.me.0, seat.old.inner.me.1) }
+    {
+        let FamilySeat { inner: receipt } = receipt;
+        self.inner
+            .shared
+            .join_seat::<Learns>(&mut seat.inner, receipt);
+    }
+
+    /// Joins what another seat knows of processes into this one. The other's slots stay out.
+    pub(super) fn gather(&self, seat: &mut FamilySeat<T>, other: FamilySeat<T>)
+        requires own { (seat.old.inner.table_id ≡ self.now.inner.shared.table_id)
+            × (other.inner.table_id ≡ self.now.inner.shared.table_id) }
+        requires some { (ps : List (Process (TripleSight T))) × (seat.old.inner.me.0 ≡ Has ps) }
+        requires other { (ps : List (Process (TripleSight T))) × (other.inner.me.0 ≡ Has ps) }
+        ensures own { seat.new.inner.table_id ≡ seat.old.inner.table_id }
+        ensures joined { seat.new.inner.me ≡ (joined seat.old.inner.me.0 other.inner.me.0, seat.old.inner.me.1) }
+    {
+        let FamilySeat { inner: mut other } = other;
+        let bare = self.inner.shared.split_seat::<All>(&mut other);
+        self.inner
+            .shared
+            .join_seat::<Gathers>(&mut seat.inner, bare);
+    }
+
+    /// Frees the table.
+    pub(super) fn close(self, seat: FamilySeat<T>)
+        requires { seat.inner.table_id ≡ self.inner.shared.table_id }
+        ensures { (ps : List (Process (TripleSight T))) → seat.inner.me.0 ≡ Has ps →
+            IsEnded self.inner.shared.key.processes self.inner.shared.key.first ps }
+    {
+        let FamilyTable { inner: table } = self;
+        let FamilySeat { inner: seat } = seat;
+        empty(table.close_with(seat));
+    }
+
+    /// Copies the record into the slot.
+    #[inline]
+    pub(super) fn fill(&self, seat: &mut FamilySeat<T>, slot: usize, item: &T)
+        requires own { seat.old.inner.table_id ≡ self.now.inner.shared.table_id }
+        requires held { (x : T) × (cs : List (ℕ × T)) × (seat.old.inner.me.1 ≡ (slot, x) ∷ cs) }
+        ensures own { seat.new.inner.table_id ≡ seat.old.inner.table_id }
+        ensures filled { (x : T) (cs : List (ℕ × T)) → seat.old.inner.me.1 ≡ (slot, x) ∷ cs →
+            seat.new.inner.me ≡ (seat.old.inner.me.0, (slot, item.now) ∷ cs) }
+    {
+        *seat.inner.slot_mut(&self.inner.shared, slot) = *item;
+    }
+
+    /// Lends the record where it lies.
+    #[inline]
+    pub(super) fn lend<R, F: FnOnce(&T) -> R>(
+        &self,
+        seat: &mut FamilySeat<T>,
+        slot: usize,
+        look: F,
+    ) -> R
+        requires own { seat.old.inner.table_id ≡ self.now.inner.shared.table_id }
+        requires held { (x : T) × (cs : List (ℕ × T)) × (seat.old.inner.me.1 ≡ (slot, x) ∷ cs) × FnOnceTakesAt F.FnOnce look x }
+        ensures own { seat.new.inner.table_id ≡ seat.old.inner.table_id }
+        ensures same { seat.new.inner.me ≡ seat.old.inner.me }
+        ensures seen { (item : T) (cs : List (ℕ × T)) → seat.old.inner.me.1 ≡ (slot, item) ∷ cs → FnOnceReturnsAt F.FnOnce look item result }
+    {
+        look(&*seat.inner.slot_mut(&self.inner.shared, slot))
+    }
+}
