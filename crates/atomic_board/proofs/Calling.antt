@@ -82,7 +82,7 @@ module _ {V F S T : Type 0} (words : FamilyWords F (Posted V) S T) (obeys : V â†
   i = old.process
 
   abbrev new : Pass V F S T
-  new = record { process = old.process; own = chosen; seat = next }
+  new = record { process = old.process; own = chosen; seat = next; room = old.room }
 
   two : 2 â‰¤ n
   two = of.size.0

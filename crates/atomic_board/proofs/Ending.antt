@@ -1,14 +1,17 @@
 -- What the end of a board rests on: the greatest of the own records, and the seats in their order.
-use Rattle.std.proofs.Common.{◌≡◌, ℕ, ◌+◌, ◌<◌, List, [], ◌∷◌, ◌++◌, length, map, reverse, slice_get, Some}
-use Rattle.std.proofs.Common.{refl, sym, ◌∙◌, ap, subst, arith, append_assoc, append-nil, inl, inr}
+use Rattle.std.proofs.Common.{◌≡◌, ℕ, ◌+◌, ◌<◌, ◌≤◌, List, [], ◌∷◌, ◌++◌, length, map, reverse, slice_get, Some}
+use Rattle.std.proofs.Common.{refl, sym, ◌∙◌, ap, subst, arith, append_assoc, append-nil, length-append, inl, inr}
+use Rattle.std.specs.Prelude.{vec_capacity}
 use Rattle.std.proofs.lemmas.Bool.{cases_lt}
 use Rattle.std.proofs.lemmas.List.{reverse-append}
 use Rattle.std.proofs.lemmas.Option.{same_Some}
+use Rattle.history_core.proofs.Places.{get_last}
 use Rattle.stamps.specs.Choices.{IsAtMost}
 use Rattle.stamps.specs.Stamps.{IsBelow}
 use Rattle.stamps.proofs.choices.Stamps.{at_most_below, at_most_trans, greater_first, greater_second}
 use Rattle.atomic_board.specs.declared.board.Pass.{Pass}
 use Rattle.atomic_board.specs.declared.record.Posted.{Posted}
+use Rattle.atomic_board.specs.inner.Room.{HaveRoom}
 use Rattle.atomic_board.specs.Records.{greater, stamped}
 use Rattle.atomic_board.proofs.Records.{either_greater, stamped_greater}
 
@@ -35,6 +38,14 @@ mapped_all f whole [] made h e = h.are ∙ ap (map f) (sym h.of)
 mapped_all f whole (x ∷ xs) made h e = absurd (omega (arith, e))
 
 module _ {V F S T : Type 0} where
+  -- the last pass has the room
+  pub room_of_last : (passes left : List (Pass V F S T)) (last : Pass V F S T) → passes ≡ left ++ last ∷ [] → HaveRoom passes →
+      (length passes ≡ length left + 1) × (length passes ≤ vec_capacity last.room) × (last.room.items ≡ [])
+  room_of_last passes left last e room =
+      let n : length passes ≡ length left + 1 = ap length e ∙ length-append left (last ∷ []) in
+      let r = room (length left) last (ap (λ ps. slice_get ps (length left)) e ∙ get_last left last (length left) refl) (sym n) in
+      (n, r.0, r.1)
+
   -- the greatest of the first passes
   pub record IsGreatestSoFar (passes : List (Pass V F S T)) (count : ℕ) (last : Posted V) : Type 0 where
     pub process : ℕ

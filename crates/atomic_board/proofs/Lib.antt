@@ -5,3 +5,4 @@ mod Ending
 mod Whole
 mod Dealing
 mod Same
+mod Passing

@@ -1,7 +1,6 @@
 -- All passes of a board that ends: their calls and the family's registers are a board's run.
-use Rattle.std.proofs.Common.{◌≡◌, ◌≢◌, Bool, ℕ, ◌<◌, ◌≤◌, List, [], ◌∷◌, length, map, slice_get, Some}
+use Rattle.std.proofs.Common.{◌≡◌, ◌≢◌, Bool, ℕ, ◌+◌, ◌<◌, List, ◌∷◌, length, map, slice_get, Some}
 use Rattle.std.proofs.Common.{sym, ◌∙◌, ap, subst, arith}
-use Rattle.std.specs.Prelude.{vec_capacity}
 use Rattle.std.specs.Option.{option_map}
 use Rattle.std.proofs.lemmas.List.{length-map}
 use Rattle.std.proofs.lemmas.Option.{same_Some, slice_get-map, slice_get_within}
@@ -22,6 +21,7 @@ use Rattle.atomic_board.specs.declared.board.Board.{Board}
 use Rattle.atomic_board.specs.declared.board.Pass.{Pass}
 use Rattle.atomic_board.specs.declared.record.Posted.{Posted}
 use Rattle.atomic_board.specs.Ends.{AllAtomic, AllPasses, did_at, did_by, HaveAtomicOrder, IsGreatest}
+use Rattle.atomic_board.specs.inner.Room.{HaveRoom}
 use Rattle.atomic_board.specs.Passes.{answered_of, did_of, IsPass, written_of}
 use Rattle.atomic_board.specs.Records.{stamped}
 
@@ -49,8 +49,11 @@ module _ {V F S T : Type 0} (words : FamilyWords F (Posted V) S T) (obeys : V �
   first_pass : (p : Pass V F S T) × IsPass words obeys board p
   first_pass = let x = get_exists passes 0 all.some in (x.0, (all.each 0 x.0 x.1).0)
 
-  pub room_for_all : (length passes ≤ vec_capacity board.room) × (board.room.items ≡ [])
-  room_for_all = let r = first_pass.1.room in let n = all.all in (subst (λ m. m ≤ vec_capacity board.room) (sym n) r.0, r.1)
+  pub room_for_all : HaveRoom passes
+  room_for_all k p there last =
+      let x = all.each k p there in
+      let n = all.all in
+      (let r = x.0.room.0 (ap (λ m. m + 1) x.1 ∙ last ∙ n) in omega arith, x.0.room.1)
 
   module _ (seats : List S) (of : seats ≡ map (λ p. p.seat) passes) where
     -- the seat at a place is that of the pass there

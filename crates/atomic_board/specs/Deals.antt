@@ -13,6 +13,7 @@ use Rattle.atomic_board.specs.Passes.{HasMade, IsPass}
 module _ {V F S T : Type 0} (words : FamilyWords F (Posted V) S T) where
   -- a board of n processes with this limit, which opened with this record, and the passes of all, with which no call was made yet
   pub record IsNew (obeys : V → Bool) (n limit : ℕ) (first : Posted V) (board : Board V F S T) (passes : List (Pass V F S T)) : Type 0 where
+    pub size : (2 ≤ n) × (n ≤ 16)
     pub count : (board.processes ≡ n) × (length passes ≡ n)
     pub limited : board.limit ≡ limit
     pub within : (1 ≤ limit) × (limit < 18446744073709551615)

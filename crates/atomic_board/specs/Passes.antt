@@ -48,7 +48,7 @@ module _ {V F S T : Type 0} (family : FamilyWords F (Posted V) S T) where
     pub opens : family.opening board.family ≡ board.first
     pub first : board.first.stamp ≡ first_stamp
     pub inside : pass.process < board.processes
-    pub room : (board.processes ≤ vec_capacity board.room) × (board.room.items ≡ [])
+    pub room : (pass.process + 1 ≡ board.processes → board.processes ≤ vec_capacity pass.room) × (pass.room.items ≡ [])
     pub seat : family.is_seat board.family pass.seat
     pub who : family.who pass.seat ≡ pass.process
     pub lawful : IsTrue (obeys pass.own.item)

@@ -10,8 +10,6 @@ pub struct Board<V: RecordLaw, F: Family<Posted<V>>> {
     pub(crate) processes: usize,
     pub(crate) limit: u64,
     pub(crate) first: Posted<V>,
-    /// Room for the seats of all passes, so that the board's end takes no memory.
-    pub(crate) room: Vec<F::Seat>,
 }
 
 /// The right to call as one of the processes.
@@ -20,6 +18,9 @@ pub struct Pass<V: RecordLaw, F: Family<Posted<V>>> {
     pub(crate) process: usize,
     pub(crate) own: Posted<V>,
     pub(crate) seat: F::Seat,
+    /// Room for the seats of all passes, which the last process's pass has, so that the board's end takes no memory. It isn't the
+    /// board's: threads share that one, and a seat need not be `Sync`.
+    pub(crate) room: Vec<F::Seat>,
 }
 
 /// The tags have ended. What was seen is handed on, as by a read.

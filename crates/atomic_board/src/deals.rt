@@ -8,6 +8,7 @@ use crate::record::{Posted, RecordLaw};
 use family_live::Family;
 use stamps::Stamp;
 use std::alloc::{AllocError, Global};
+use std::mem;
 
 /// Why no board was made. They are tested in this order.
 #[derive(Clone, Copy, Debug, PartialEq, Eq)]
@@ -38,6 +39,7 @@ fn deal<V: RecordLaw, F: Family<Posted<V>>>(
     let mut passes = Vec::with_capacity(alloc, n)?;
     let (family, seats) = F::make(alloc, n, first)?;
     let mut seats = seats;
+    let mut room = room;
     for _ in 0..n {
         let Some(seat) = seats.pop() else {
             unreachable!();
@@ -47,6 +49,7 @@ fn deal<V: RecordLaw, F: Family<Posted<V>>>(
             process,
             own: first,
             seat,
+            room: mem::replace(&mut room, Vec::new(alloc)),
         });
     }
     passes.reverse();
@@ -55,7 +58,6 @@ fn deal<V: RecordLaw, F: Family<Posted<V>>>(
         processes: n,
         limit,
         first,
-        room,
     };
     Ok((board, passes))
 }

@@ -1,6 +1,7 @@
 //! Ending a board.
-ghost use Rattle.std.specs.Prelude.{◌≡◌, ◌<◌, ◌≤◌, vec_len, vec_capacity, map, []};
+ghost use Rattle.std.specs.Prelude.{◌≡◌, ◌<◌, vec_len, map};
 ghost use Rattle.atomic_board.specs.Ends.{AllAtomic, AllPasses, HaveAtomicOrder, IsGreatest};
+ghost use Rattle.atomic_board.specs.inner.Room.{HaveRoom};
 
 use crate::board::{Board, Pass};
 use crate::record::{Posted, RecordLaw};
@@ -19,16 +20,23 @@ fn greatest_own<V: RecordLaw, F: Family<Posted<V>>>(passes: &Vec<Pass<V, F>>) ->
 }
 
 /// The seats of the passes, in their order.
-fn seats_of<V: RecordLaw, F: Family<Posted<V>>>(
-    passes: Vec<Pass<V, F>>,
-    room: Vec<F::Seat>,
-) -> Vec<F::Seat>
-    requires room { vec_len passes ≤ vec_capacity room }
-    requires empty { room.items ≡ [] }
+fn seats_of<V: RecordLaw, F: Family<Posted<V>>>(passes: Vec<Pass<V, F>>) -> Vec<F::Seat>
+    requires some { 0 < vec_len passes }
+    requires room { HaveRoom passes.items }
     ensures { result.items ≡ map (λ p. p.seat) passes.items }
 {
     let mut passes = passes;
+    let Some(last) = passes.pop() else {
+        unreachable!();
+    };
+    let Pass {
+        process: _,
+        own: _,
+        seat,
+        room,
+    } = last;
     let mut seats = room;
+    seats.push_reserved(seat);
     for _ in 0..passes.len() {
         let Some(pass) = passes.pop() else {
             unreachable!();
@@ -37,6 +45,7 @@ fn seats_of<V: RecordLaw, F: Family<Posted<V>>>(
             process: _,
             own: _,
             seat,
+            room: _,
         } = pass;
         seats.push_reserved(seat);
     }
@@ -59,9 +68,8 @@ impl<V: RecordLaw, F: Family<Posted<V>>> Board<V, F> {
             processes: _,
             limit: _,
             first: _,
-            room,
         } = self;
-        family.finish(seats_of(passes, room));
+        family.finish(seats_of(passes));
         last
     }
 }

@@ -21,7 +21,7 @@ struct Runner<'a, V: RecordLaw, F: Family<Posted<V>>, G> {
 impl<'a, V: RecordLaw + Send + Sync, F: SharedFamily<Posted<V>>, G: Gate + Sync> Job<Lane<V, F>>
     for Runner<'a, V, F, G>
 where
-    F::Seat: Send + Sync,
+    F::Seat: Send,
 {
     ghost ready = { λ s l. IsPass ⟦<F as Family<Posted<V>>>⟧ V.obeys s.board.now l.pass × IsLane V.obeys l };
 
@@ -40,7 +40,7 @@ pub fn run_tasks<
     G: Gate + Sync,
 >(rt: &R, board: &Board<V, F>, lanes: &mut [Lane<V, F>], gate: &G)
 where
-    F::Seat: Send + Sync,
+    F::Seat: Send,
     F::Told: Send,
     requires { AllReady (λ l. IsPass ⟦<F as Family<Posted<V>>>⟧ V.obeys board.now l.pass × IsLane V.obeys l) 0 lanes.old }
     ensures { EachStep (Ran ⟦<F as Family<Posted<V>>>⟧ V.obeys (Permitted G.is_for gate.now) (G.may_stop gate.now) board.now) 0 lanes.old lanes.new }

@@ -1,5 +1,5 @@
 -- The seats of the last passes were taken out.
-use Rattle.std.proofs.Common.{◌≡◌, ◌+◌, length}
+use Rattle.std.proofs.Common.{◌≡◌, ◌+◌, ◌≤◌, length}
 use Rattle.std.specs.Prelude.{vec_capacity}
 use Rattle.atomic_board.proofs.Ending.{MappedFrom}
 use Rattle.atomic_board.proofs.ends.seats_of.Given as goal
@@ -7,5 +7,5 @@ use Rattle.atomic_board.proofs.ends.seats_of.Given as goal
 abbrev pub invariant-loop : goal.invariant-loop
 invariant-loop g l =
     MappedFrom (λ p. p.seat) l.fn.passes.items l.passes.items l.seats.items
-    × (length l.passes.items + l.counter ≡ length l.fn.passes.items) × (length l.seats.items ≡ l.counter)
-    × (vec_capacity l.seats ≡ vec_capacity l.fn.room)
+    × (length l.passes.items + l.counter + 1 ≡ length l.fn.passes.items) × (length l.seats.items ≡ l.counter + 1)
+    × (length l.fn.passes.items ≤ vec_capacity l.seats)

@@ -1,9 +1,21 @@
 -- The read began after the write had ended, so by the run of all calls its record is no older.
-use Rattle.std.proofs.Common.{◌≡◌, [], ◌∷◌, ◌++◌, ◌∙◌, ap, subst}
+use Rattle.std.proofs.Common.{◌≡◌, [], ◌∷◌, ◌++◌, sym, ◌∙◌, ap, subst}
 use Rattle.stamps.specs.Choices.{IsAtMost}
-use Rattle.atomic_board.specs.Ends.{HaveAtomicOrder}
-use Rattle.board_receipts.proofs.Lists.{three_end}
+use Rattle.atomic_board.specs.Ends.{AllPasses, HaveAtomicOrder}
+use Rattle.board_receipts.proofs.Lists.{three_end, three_passes}
 use Rattle.board_receipts.proofs.ends.ends_no_older.Goals as goal
+
+pub finish-requires : goal.finish-requires
+finish-requires g c =
+    let q = c.pass_on.new.q in
+    let p = c.pass_on.new.p in
+    let r = c.pass_on.new.r in
+    let passes : c.push-3.new.self.items ≡ q ∷ p ∷ r ∷ [] = c.in_ok-push-3.ensures.items ∙ ap (λ z. z ++ r ∷ [])
+    (c.in_ok-push-2.ensures.items ∙ ap (λ z. z ++ p ∷ []) (c.in_ok-push.ensures.items ∙ ap (λ z. z ++ q ∷ []) c.in_ok-passes.ensures.items)) in
+    let e = c.in-Some.ensures in
+    subst (λ ps. AllPasses g.F.Family g.V.RecordLaw.obeys c.args.board ps) (sym passes)
+    (three_passes g.F.Family c.args.board g.V.RecordLaw.obeys q p r c.requires.three e.q.0 (e.q.1 ∙ c.requires.q.who) e.p.0
+    (e.p.1 ∙ c.requires.p.who) e.r.0 (e.r.1 ∙ c.requires.r.who))
 
 pub returns : goal.returns
 returns g c =

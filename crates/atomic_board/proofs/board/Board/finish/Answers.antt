@@ -1,17 +1,10 @@
 -- The family gives one schedule of all steps and atomic registers: with the calls of the passes that is a run.
-use Rattle.std.proofs.Common.{arith, ◌≡◌, ◌≤◌, length}
-use Rattle.std.specs.Prelude.{vec_capacity}
+use Rattle.std.proofs.Common.{arith, ◌≡◌, length}
 use Rattle.atomic_board.proofs.Whole.{all_atomic, all_registers, all_seats, room_for_all}
 use Rattle.atomic_board.proofs.board.Board.finish.Goals as goal
 
 pub seats_of-requires-clause-room : goal.seats_of-requires-clause-room
-seats_of-requires-clause-room g c =
-    let r : length c.args.passes.items ≤ vec_capacity c.args.self.room =
-    (room_for_all g.F.Family g.V.RecordLaw.obeys c.args.self c.args.passes.items c.requires).0 in
-    omega arith
-
-pub seats_of-requires-clause-empty : goal.seats_of-requires-clause-empty
-seats_of-requires-clause-empty g c = (room_for_all g.F.Family g.V.RecordLaw.obeys c.args.self c.args.passes.items c.requires).1
+seats_of-requires-clause-room g c = room_for_all g.F.Family g.V.RecordLaw.obeys c.args.self c.args.passes.items c.requires
 
 pub finish-requires : goal.finish-requires
 finish-requires g c =
