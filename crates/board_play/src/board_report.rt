@@ -10,7 +10,7 @@ ghost use Rattle.board_play.specs.BoardReports.{IsBoardRefused, IsBoardReport};
 
 use crate::board_term::{BoardPlay, play_board_term};
 use history_core::{History, Items, Op, PlayError, Term};
-use matrix_core::{BoardReport, BoardSchedule, Cells, first_overrun, list_term};
+use matrix_core::{BoardReport, BoardSchedule, Cells, first_overrun, list_last_term};
 use stamps::Stamp;
 use std::alloc::{AllocError, Global};
 
@@ -96,6 +96,5 @@ fn add_term<R: Copy>(
     let first = told.ops.len();
     told.terms.push(Term { first, limit })?;
     play.give(&mut told.ops, &mut told.stamps, &mut told.slots)?;
-    let stamps = &told.stamps[first..];
-    list_term(alloc, &told.ops[first..], stamps, first, &mut told.order)
+    list_last_term(alloc, &told.ops, &told.stamps, first, &mut told.order)
 }

@@ -10,7 +10,7 @@ ghost use Rattle.board_play.specs.inner.BoardPlays.{next_seat, noted, board_play
 
 use crate::board::BoardCore;
 use history_core::{Items, Op, Wish};
-use matrix_core::{MatrixTerm, Progress, begun_op, chose, ended, filled};
+use matrix_core::{MatrixTerm, Progress, begun_op, chose, ended, filled, planned};
 use stamps::Stamp;
 use std::alloc::{AllocError, Global};
 use std::marker::Model;
@@ -160,7 +160,7 @@ impl<R: Copy> BoardPlay<R> {
         requires plan { IsSome (wish_now plans.now self.now who) }
         ensures { wish_now plans.now self.entry.now who ≡ Some result }
     {
-        plans[who].as_slice()[self.seats[who].operation]
+        planned(plans, who, self.seats[who].operation)
     }
 
     /// Where the step is the first one of an operation, the operation begins.

@@ -1,2 +1,3 @@
 -- What both players alone cite.
 pub mod Operations
+pub mod Plans

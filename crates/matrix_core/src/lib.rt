@@ -10,8 +10,8 @@ mod overruns;
 mod progress;
 mod schedule;
 
-pub use operations::{begun_op, chose, ended};
-pub use order::list_term;
+pub use operations::{begun_op, chose, ended, planned};
+pub use order::{list_last_term, list_term};
 pub use overruns::{Cells, first_overrun};
 pub use progress::{
     Outcome, Progress, cell_index, choose, done_at, filled, greatest_of, other, write_line,

@@ -1,10 +1,19 @@
 //! What the steps of an operation make of it: it begins, chooses and ends.
 
-ghost use Rattle.std.specs.Prelude.{◌≡◌};
+ghost use Rattle.std.specs.Prelude.{◌≡◌, IsSome, Some};
 ghost use Rattle.matrix_core.specs.inner.Operations.{begun_op, chose, ended};
+ghost use Rattle.matrix_core.specs.inner.Plans.{planned};
 
 use crate::progress::Outcome;
-use history_core::{Kind, Op, Wish};
+use history_core::{Items, Kind, Op, Wish};
+
+/// What the plans say of a process's operation with this number.
+pub fn planned<R: Copy>(plans: &[Items<Wish<R>>], who: usize, operation: usize) -> Wish<R>
+    requires { IsSome (planned plans.now who operation) }
+    ensures { planned plans.now who operation ≡ Some result }
+{
+    plans[who].as_slice()[operation]
+}
 
 /// An operation that begins at the position `now`.
 pub fn begun_op<R: Copy>(who: usize, now: u64, wish: Wish<R>) -> Op<R>

@@ -10,7 +10,7 @@ ghost use Rattle.matrix_play.specs.inner.PlayedReports.{IsReport};
 
 use crate::matrix_term::{Play, play_term};
 use history_core::{History, Items, Op, PlayError, Term};
-use matrix_core::{Cells, MatrixReport, MatrixSchedule, first_overrun, list_term};
+use matrix_core::{Cells, MatrixReport, MatrixSchedule, first_overrun, list_last_term};
 use stamps::Stamp;
 use std::alloc::{AllocError, Global};
 
@@ -91,6 +91,5 @@ fn add_term<R: Copy>(
     let first = told.ops.len();
     told.terms.push(Term { first, limit })?;
     play.give(&mut told.ops, &mut told.stamps)?;
-    let stamps = &told.stamps[first..];
-    list_term(alloc, &told.ops[first..], stamps, first, &mut told.order)
+    list_last_term(alloc, &told.ops, &told.stamps, first, &mut told.order)
 }

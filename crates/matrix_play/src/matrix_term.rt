@@ -12,7 +12,7 @@ ghost use Rattle.matrix_core.specs.Runs.{IsTerm, span_of};
 
 use crate::matrix::MatrixCore;
 use history_core::{Items, Op, Wish};
-use matrix_core::{MatrixTerm, begun_op, chose, ended, filled};
+use matrix_core::{MatrixTerm, begun_op, chose, ended, filled, planned};
 use stamps::Stamp;
 use std::alloc::{AllocError, Global};
 use std::marker::Model;
@@ -105,7 +105,7 @@ impl<R: Copy> Play<R> {
         ensures { IfOk result (λ wish. (next_wish plans.now self.old who ≡ Some wish) × (self.new ≡ began self.old who wish)) }
     {
         let seat = self.seats[who];
-        let wish = plans[who].as_slice()[seat.begun];
+        let wish = planned(plans, who, seat.begun);
         let place = self.ops.len();
         self.ops.push(begun_op(who, self.now, wish))?;
         self.stamps.push(None)?;

@@ -1,10 +1,10 @@
 -- Elements of a list after a write, and of a list that has one element more: each is the new one, or one of before. Tests of numbers.
 use Rattle.std.proofs.Common.{◌≡◌, ◌≢◌, ℕ, zero, suc, ◌+◌, ◌<◌, List, [], ◌∷◌, ◌++◌, length, map, take, drop, replicate, set, refl, sym}
 use Rattle.std.proofs.Common.{◌∙◌, ap, add-one, arith, ◌⊎◌, inl, inr, ⊎_elim, true, false}
-use Rattle.std.specs.Prelude.{slice_get, Some, nat_eq, ◌-◌}
+use Rattle.std.specs.Prelude.{slice_get, Some, nat_eq}
 use Rattle.std.proofs.lemmas.Option.{slice_get_within, slice_get-get_or, get_or_from_slice_get, none-some, same_Some}
 use Rattle.std.specs.List.{fold}
-use Rattle.std.proofs.lemmas.List.{get_or-set_same, get_or-set_other, length-set, length-replicate, get_or-replicate, take_rest}
+use Rattle.std.proofs.lemmas.List.{get_or-set_same, get_or-set_other, length-set, length-replicate, get_or-replicate}
 use Rattle.std.proofs.lemmas.Bool.Decides.{nat_tests}
 
 pub same_or_not : (k i : ℕ) → (k ≡ i) ⊎ (k ≢ i)
@@ -103,8 +103,8 @@ drop_append (x ∷ xs) ys = drop_append xs ys
 
 -- what stands behind the first elements of a joined list
 pub rest_is : {X : Type 0} (xs ys zs : List X) (first : ℕ) → zs ≡ xs ++ ys → first ≡ length xs →
-    take (length zs - first) (drop first zs) ≡ ys
-rest_is xs ys zs first e f = take_rest zs first ∙ (ap (λ n. drop n zs) f ∙ (ap (drop (length xs)) e ∙ drop_append xs ys))
+    drop first zs ≡ ys
+rest_is xs ys zs first e f = ap (λ n. drop n zs) f ∙ (ap (drop (length xs)) e ∙ drop_append xs ys)
 
 pub same : (a b : ℕ) → a ≡ b → nat_eq a b ≡ true
 same a b h = grind (arith, nat_tests)
