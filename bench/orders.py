@@ -2,7 +2,7 @@
 
     orders.py PROGRAM [FOLDER]
 
-PROGRAM is `fsr` or `fsr_check`. The documents are of a register that five actors used at once, with a record of its own for each write: half
+PROGRAM is the built `fsr`. The documents are of a register that five actors used at once, with a record of its own for each write: half
 the operations are writes, and each twentieth operation is a refused write, under a limit of two. The largest has 10,000 operations
 and its `check` document nearly 1 MiB. The documents are kept where a folder is named.
 """

@@ -1,5 +1,5 @@
 # Each document of examples/ and tests/schedules/ against the text that it prints, NAME.txt (of a refused one the line on
-# standard error), and the status that is wanted, NAME.status (none: 0).
+# standard error), and the status that is wanted, NAME.status (none: 0). The programs that have `check` or `order` alone print the same.
 
 # The command that takes a document of examples/, by the table there; tests/schedules/ has schedules alone.
 command_for() {
@@ -10,5 +10,9 @@ command_for() {
 }
 
 for document in examples/*.json tests/schedules/*.json; do
-    sees "$document" fsr "$document" "${document%.json}.txt" "$(command_for "$document")"
+    command=$(command_for "$document")
+    sees "$document" fsr "$document" "${document%.json}.txt" "$command"
+    case $command in
+    check | order) sees "$document, by fsr_$command" "fsr_$command" "$document" "${document%.json}.txt" ;;
+    esac
 done

@@ -32,31 +32,29 @@ if [ -c /dev/full ]; then
     refuses_words /dev/full "$title" checks && pass "$title"
 fi
 
-# Sees that `fsr` tells this first line of a command, and how it is used, whatever program answers it.
-#   helps PROGRAM COMMAND LINE
+# Sees that `fsr` tells this first line of a command, and how it is used.
+#   helps COMMAND LINE
 helps() {
-    title="$1 $2 --help"
-    if ! has_program "$1"; then
-        fail "$title" "$1 wasn't built"
+    title="fsr $1 --help"
+    if ! has_program fsr; then
+        fail "$title" "fsr wasn't built"
         return
     fi
-    "crates/$1/out/$1" "$2" --help </dev/null >"$room/out" 2>"$room/err"
+    crates/fsr/out/fsr "$1" --help </dev/null >"$room/out" 2>"$room/err"
     status=$?
     if [ "$status" != 2 ] || [ -s "$room/out" ]; then
         fail "$title" "it ended with status $status and not 2, or something stands on standard output"
-    elif [ "$(head -n 1 "$room/err")" != "$3" ] || ! grep -qx "Usage: fsr $2" "$room/err"; then
+    elif [ "$(head -n 1 "$room/err")" != "$2" ] || ! grep -qx "Usage: fsr $1" "$room/err"; then
         fail "$title" "$(head -c 200 "$room/err")"
     else
         pass "$title"
     fi
 }
 
-for program in fsr fsr_check; do
-    helps "$program" check "Checks that an order of a history is atomic"
-    helps "$program" order "Finds a lawful order of a log, or tells why there is none"
-    helps "$program" play "Plays a schedule and reports its history"
-    helps "$program" race "Runs tasks over a board and checks their logs"
-done
+helps check "Checks that an order of a history is atomic"
+helps order "Finds a lawful order of a log, or tells why there is none"
+helps play "Plays a schedule and reports its history"
+helps race "Runs tasks over a board and checks their logs"
 
 # Sees how `picture` ends with these words: the status, and the line on standard error.
 #   ends_picture TITLE INPUT OUTPUT STATUS LINE WORDS..

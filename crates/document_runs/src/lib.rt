@@ -1,8 +1,10 @@
 //! A run over one document: the input is read whole, the answer to it written, or the fault told, and the status says how it ended.
 #![tactic(auto)]
 
+mod command;
 mod fault;
 mod run;
 
+pub use command::{Command, run_command};
 pub use fault::{Answer, Fault, HistoryFault};
-pub use run::{Program, give_answer, take_document};
+pub use run::{FSR, Program, give_answer, take_document};

@@ -15,6 +15,14 @@ pub struct Program {
     pub no_memory: &'static str,
 }
 
+/// `fsr`.
+pub const FSR: Program = Program {
+    name: "fsr",
+    read_failed: "fsr: read failed\n",
+    write_failed: "fsr: write failed\n",
+    no_memory: "fsr: out of memory\n",
+};
+
 /// Reads the input whole, or tells why it was not read and gives the status that the run ends with.
 pub fn take_document<I: Source, E: Sink>(
     alloc: Global,

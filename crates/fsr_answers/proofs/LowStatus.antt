@@ -5,7 +5,8 @@ use Rattle.document_runs.specs.declared.fault.Answer.{Answer}
 use Rattle.document_runs.specs.declared.fault.Fault.{Fault}
 use Rattle.fsr_words.specs.declared.command.Want.{Want}
 use Rattle.fsr_words.specs.declared.command.Want.TheVariants as want
-use Rattle.history_answers.proofs.AnswerLemmas.{low_check, low_order}
+use Rattle.check_answers.proofs.AnswerLemmas.{low_check}
+use Rattle.order_answers.proofs.AnswerLemmas.{low_order}
 use Rattle.history_text.specs.declared.document.DocError.{DocError}
 use Rattle.report_text.specs.declared.report.Report.{Report}
 use Rattle.report_text.specs.declared.report.Report.TheVariants as report

@@ -10,8 +10,8 @@ use Rattle.fourslot_core.specs.declared.schedule.CellReport.{CellReport}
 use Rattle.fourslot_core.specs.declared.schedule.CellSchedule.{CellSchedule}
 use Rattle.fsr_words.specs.declared.command.Want.{Want}
 use Rattle.fsr_words.specs.declared.command.Want.TheVariants as want
-use Rattle.history_answers.specs.Check.{IsCheckAnswer}
-use Rattle.history_answers.specs.Order.{IsOrderAnswer}
+use Rattle.check_answers.specs.Check.{IsCheckAnswer}
+use Rattle.order_answers.specs.Order.{IsOrderAnswer}
 use Rattle.history_core.specs.Schedules.{HasOperations, IsFirstOverrun, Span}
 use Rattle.history_core.specs.declared.band.Band.{Band}
 use Rattle.board_play.specs.BoardReports.{IsBoardReport}

@@ -7,9 +7,10 @@ ghost use Rattle.fsr_words.specs.Command.{command_of};
 ghost use Rattle.streams.specs.Stream.{HasRoom};
 
 use crate::{play, run_race};
-use document_runs::{Answer, Fault, give_answer, take_document};
+use check_answers::check;
+use document_runs::{Answer, FSR, Fault, give_answer, take_document};
 use fsr_words::{Want, command_of, tell_refusal};
-use history_answers::{FSR, check, order};
+use order_answers::order;
 use std::alloc::Global;
 use std::convert::AsStr;
 use std::thread::Threads;
@@ -53,7 +54,7 @@ pub fn run<'a, R: Threads + Sync, S: AsStr, I: Source, O: Sink, E: Sink>(
 {
     match command_of(alloc, words) {
         Ok(want) => run_command(rt, alloc, want, input, out, faults),
-        Err(refusal) => tell_refusal(alloc, refusal, faults),
+        Err(refusal) => tell_refusal(alloc, FSR.no_memory, refusal, faults),
     }
 }
 

@@ -6,5 +6,5 @@ mod refusal;
 mod words;
 
 pub use command::{NoCommand, Want, command_of};
-pub use refusal::{NO_MEMORY, tell_refusal};
+pub use refusal::tell_refusal;
 pub use words::words_of;

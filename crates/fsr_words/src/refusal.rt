@@ -6,18 +6,21 @@ use crate::NoCommand;
 use std::alloc::Global;
 use streams::{Sink, tell};
 
-/// The line of a run that found no memory.
-pub const NO_MEMORY: &str = "fsr: out of memory\n";
-
-/// Tells what clap says of words that are no command, and gives the status that the run ends with.
-pub fn tell_refusal<E: Sink>(alloc: Global, refusal: NoCommand, faults: &mut E) -> u8
+/// Tells what clap says of words that are no command, or the line of a run that found no memory, and gives the status that the run
+/// ends with.
+pub fn tell_refusal<E: Sink>(
+    alloc: Global,
+    no_memory: &str,
+    refusal: NoCommand,
+    faults: &mut E,
+) -> u8
     requires { HasRoom (E.failed faults.old) }
     ensures status { TellsRefusal refusal result }
     ensures faults { E.failed faults.new ≤ E.failed faults.old + 1 }
 {
     match refusal {
         NoCommand::NoMemory => {
-            tell(faults, NO_MEMORY);
+            tell(faults, no_memory);
             4
         }
         NoCommand::Unknown => 2,
@@ -27,7 +30,7 @@ pub fn tell_refusal<E: Sink>(alloc: Global, refusal: NoCommand, faults: &mut E) 
                 2
             }
             Err(_) => {
-                tell(faults, NO_MEMORY);
+                tell(faults, no_memory);
                 4
             }
         },

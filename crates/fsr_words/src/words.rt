@@ -1,7 +1,6 @@
 ghost use Rattle.std.specs.Prelude.{◌≡◌, ◌≤◌, ◌+◌, ◌⊎◌, IfErr};
 ghost use Rattle.streams.specs.Stream.{HasRoom};
 
-use crate::NO_MEMORY;
 use std::alloc::AllocGlobal;
 use std::env::{Env, args};
 use std::io::ErrorKind;
@@ -9,7 +8,11 @@ use streams::{Sink, tell};
 
 /// The words that the program was run with, of which the first is its name. Where they aren't UTF-8, or memory runs out, it tells
 /// so and gives the status that the run ends with.
-pub fn words_of<R: Env + AllocGlobal, E: Sink>(rt: &R, faults: &mut E) -> Result<Vec<String>, u8>
+pub fn words_of<R: Env + AllocGlobal, E: Sink>(
+    rt: &R,
+    no_memory: &str,
+    faults: &mut E,
+) -> Result<Vec<String>, u8>
     requires { HasRoom (E.failed faults.old) }
     ensures status { IfErr result (λ status. (status ≡ 2) ⊎ (status ≡ 4)) }
     ensures faults { E.failed faults.new ≤ E.failed faults.old + 1 }
@@ -18,12 +21,12 @@ pub fn words_of<R: Env + AllocGlobal, E: Sink>(rt: &R, faults: &mut E) -> Result
         Ok(all) => match all.collect(rt.alloc()) {
             Ok(words) => Ok(words),
             Err(_) => {
-                tell(faults, NO_MEMORY);
+                tell(faults, no_memory);
                 Err(4)
             }
         },
         Err(e) if e.kind() == ErrorKind::OutOfMemory => {
-            tell(faults, NO_MEMORY);
+            tell(faults, no_memory);
             Err(4)
         }
         Err(_) => {

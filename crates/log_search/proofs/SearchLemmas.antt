@@ -1,6 +1,6 @@
 -- A log has one term and operations that run forwards, so only its writes stand in the way of a search. What holds of records that are
 -- the same by their fields holds of equal ones.
-use Rattle.std.proofs.Common.{rules, tests, ◌≡◌, ◌<◌, ◌≤◌, ◌&&◌, nat_le, ℕ, List, [], ◌∷◌, Option, Some, None, true, Bool, refl, arith, slice_get, IsSomeAnd, subst, sym, suc, zero}
+use Rattle.std.proofs.Common.{rules, tests, ◌≡◌, ◌<◌, ◌≤◌, ◌&&◌, nat_le, ℕ, List, [], ◌∷◌, Option, Some, None, true, Bool, arith, IsSomeAnd, subst, sym, suc, zero}
 use Rattle.std.specs.List.{list_all}
 use Rattle.std.specs.Option.{option_map_or}
 use Rattle.document_runs.specs.declared.fault.Fault.{Fault}

@@ -1,15 +1,21 @@
 use crate::fakes::{Full, Kept, Pieces};
 use crate::runs::{AMPLE, ROW};
-use history_answers::run;
 use std::alloc::Global;
 use std::process::Abort;
 use streams::Over;
 
-/// Sees how the program over histories alone ends, what it prints and tells, and how much of the input it takes.
+/// The programs that have one command over histories.
+#[derive(Clone, Copy)]
+enum Program {
+    Check,
+    Order,
+}
+
+/// Sees how a program with one command ends, what it prints and tells, and how much of the input it takes.
 fn sees<R: Abort>(
     rt: &R,
     alloc: Global,
-    words: &[&str],
+    program: Program,
     document: &str,
     ends: (u8, &str, &str, usize),
 ) {
@@ -17,14 +23,15 @@ fn sees<R: Abort>(
     let mut input = Over::new(Pieces::new(document.as_bytes(), 4096, AMPLE));
     let mut out = Over::new(Kept::new(alloc, AMPLE, Full::Fails));
     let mut faults = Over::new(Kept::new(alloc, AMPLE, Full::Fails));
-    let ended = run(alloc, words, &mut input, &mut out, &mut faults);
+    let ended = match program {
+        Program::Check => check_answers::run(alloc, &mut input, &mut out, &mut faults),
+        Program::Order => order_answers::run(alloc, &mut input, &mut out, &mut faults),
+    };
     assert_eq!(rt; ended, status);
     assert!(rt; out.stream().as_slice() == text.as_bytes());
     assert!(rt; faults.stream().as_slice() == fault.as_bytes());
     assert_eq!(rt; input.stream().taken(), taken);
 }
-
-const NOT_HERE: &str = "fsr: this program has the commands check and order alone\n";
 
 /// A read of a record that nobody wrote.
 const FOREIGN: &str =
@@ -36,44 +43,40 @@ const LOG: &str =
 
 const CELL: &str = r#"{"kind":"cell"}"#;
 
+const OF_ANOTHER_KIND: &str = "fsr: document: kind\n";
+
 #[test]
-fn histories_alone(rt: HostRuntime) {
+fn check_alone(rt: HostRuntime) {
     let alloc = rt.alloc();
-    sees(
-        &rt,
-        alloc,
-        &["fsr", "check"],
-        ROW,
-        (0, "lawful\n", "", ROW.len()),
-    );
-    sees(
-        &rt,
-        alloc,
-        &["fsr", "check"],
-        FOREIGN,
-        (1, "unlawful reading\n", "", FOREIGN.len()),
-    );
-    sees(
-        &rt,
-        alloc,
-        &["fsr", "check"],
-        CELL,
-        (3, "", "fsr: document: kind\n", CELL.len()),
-    );
-    sees(
-        &rt,
-        alloc,
-        &["fsr", "order"],
-        LOG,
-        (0, "lawful\norder: 0 1\n", "", LOG.len()),
-    );
-    sees(
-        &rt,
-        alloc,
-        &["fsr", "order"],
-        ROW,
-        (3, "", "fsr: document: kind\n", ROW.len()),
-    );
-    sees(&rt, alloc, &["fsr", "play"], ROW, (2, "", NOT_HERE, 0));
-    sees(&rt, alloc, &["fsr", "race"], ROW, (2, "", NOT_HERE, 0));
+    for (document, status, text, fault) in [
+        (ROW, 0, "lawful\n", ""),
+        (FOREIGN, 1, "unlawful reading\n", ""),
+        (CELL, 3, "", OF_ANOTHER_KIND),
+        (LOG, 3, "", OF_ANOTHER_KIND),
+    ] {
+        sees(
+            &rt,
+            alloc,
+            Program::Check,
+            document,
+            (status, text, fault, document.len()),
+        );
+    }
+}
+
+#[test]
+fn order_alone(rt: HostRuntime) {
+    let alloc = rt.alloc();
+    for (document, status, text, fault) in [
+        (LOG, 0, "lawful\norder: 0 1\n", ""),
+        (ROW, 3, "", OF_ANOTHER_KIND),
+    ] {
+        sees(
+            &rt,
+            alloc,
+            Program::Order,
+            document,
+            (status, text, fault, document.len()),
+        );
+    }
 }

@@ -1,4 +1,4 @@
--- The answer to a document of a history, from what the calls of its command gave, and that its status is 0 or 1.
+-- The answer to a history with an order of it, from what the calls of `check` gave, and that its status is 0 or 1.
 use Rattle.std.proofs.Common.{rules, arith, ◌≡◌, ◌≤◌, ℕ, List, Result, Ok, Err, ap, sym, subst}
 use Rattle.history_core.specs.Orders.{IsVerdict}
 use Rattle.history_core.specs.declared.history.Verdict.{Verdict}
@@ -10,16 +10,7 @@ use Rattle.document_runs.specs.Answers.{AnswersReading, Gives, HasLowStatus}
 use Rattle.document_runs.specs.declared.fault.Answer.{Answer}
 use Rattle.document_runs.specs.declared.fault.Fault.{Fault}
 use Rattle.history_core.proofs.Bands.{HaveSameFields, fields_are_equality}
-use Rattle.history_core.specs.declared.band.Band.{Band}
-use Rattle.history_core.specs.declared.history.History.{History}
-use Rattle.history_text.specs.Log.{log_of}
-use Rattle.order_search.specs.declared.reason.Search.{Search}
-use Rattle.order_search.specs.declared.reason.Search.TheVariants.{Order, Unlawful}
-use Rattle.history_answers.specs.Check.{AnswersCheck, IsCheckAnswer, printed, status_of}
-use Rattle.history_answers.specs.Order.{AnswersOrder, IsOrderAnswer, printed as printed_search, status_of as search_status}
-use Rattle.history_answers.specs.Run.{IsHistoryAnswer}
-use Rattle.history_answers.specs.declared.program.HistoryCommand.{HistoryCommand}
-use Rattle.history_answers.specs.declared.program.HistoryCommand.TheVariants as history
+use Rattle.check_answers.specs.Check.{AnswersCheck, IsCheckAnswer, printed, status_of}
 
 -- the verdict was told
 pub answers_check : (document : CheckDocument) (given : List ℕ) (v : Verdict) (a : Answer) → given ≡ document.order
@@ -48,22 +39,3 @@ low_reading (Err refusal) a answered = absurd (cc)
 pub low_check : (bytes : List ℕ) (r : Result Answer Fault) → Gives (IsCheckAnswer bytes) r → HasLowStatus r
 low_check bytes (Ok a) answered = low_reading (check_of bytes) a answered
 low_check bytes (Err e) refused = search rules
-
-search_is_low : (search : Search) → search_status search ≤ 1
-search_is_low (Order order) = omega arith
-search_is_low (Unlawful reason) = omega arith
-
-low_search : (search : Search) (a : Answer) → a ≡ printed_search search → a.status ≤ 1
-low_search search a is_printed = subst (λ (s : ℕ). s ≤ 1) (sym (ap (λ (b : Answer). b.status) is_printed)) (search_is_low search)
-
-low_log : (d : Result (History Band) DocError) (a : Answer) → AnswersReading AnswersOrder d (Ok a) → a.status ≤ 1
-low_log (Ok log) a answered = low_search answered.0 a answered.2
-low_log (Err refusal) a answered = absurd (cc)
-
-pub low_order : (bytes : List ℕ) (r : Result Answer Fault) → Gives (IsOrderAnswer bytes) r → HasLowStatus r
-low_order bytes (Ok a) answered = low_log (log_of bytes) a answered
-low_order bytes (Err e) refused = search rules
-
-pub low_answer : (command : HistoryCommand) (bytes : List ℕ) (r : Result Answer Fault) → Gives (IsHistoryAnswer command bytes) r → HasLowStatus r
-low_answer history.Check bytes r answered = low_check bytes r answered
-low_answer history.Order bytes r answered = low_order bytes r answered

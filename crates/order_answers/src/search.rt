@@ -1,6 +1,6 @@
 ghost use Rattle.std.specs.Prelude.{◌≡◌, IfOk};
 ghost use Rattle.document_runs.specs.Answers.{Gives};
-ghost use Rattle.history_answers.specs.Order.{AnswersOrder, IsOrderAnswer, printed, status_of};
+ghost use Rattle.order_answers.specs.Order.{AnswersOrder, IsOrderAnswer, printed, status_of};
 ghost use Rattle.history_text.specs.Log.{CanBeSearched, log_of};
 ghost use Rattle.history_text.specs.Refusals.{Gives as Reads};
 

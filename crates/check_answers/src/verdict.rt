@@ -1,6 +1,6 @@
 ghost use Rattle.std.specs.Prelude.{◌≡◌, IfOk};
 ghost use Rattle.document_runs.specs.Answers.{Gives};
-ghost use Rattle.history_answers.specs.Check.{AnswersCheck, IsCheckAnswer, printed, status_of};
+ghost use Rattle.check_answers.specs.Check.{AnswersCheck, IsCheckAnswer, printed, status_of};
 ghost use Rattle.history_text.specs.Check.{check_of};
 ghost use Rattle.history_text.specs.Refusals.{Gives as Reads};
 

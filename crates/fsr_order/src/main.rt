@@ -1,0 +1,14 @@
+//! `fsr_order`: `fsr order` alone, a program without words, which is built without what the other commands need.
+#![tactic(auto)]
+
+use order_answers::run;
+use std::process::ExitCode;
+use streams::Over;
+
+fn main(rt: HostRuntime) -> ExitCode {
+    let mut input = Over::new(rt.stdin());
+    let mut out = Over::new(rt.stdout());
+    let mut faults = Over::new(rt.stderr());
+    let status = run(rt.alloc(), &mut input, &mut out, &mut faults);
+    ExitCode::from(status)
+}

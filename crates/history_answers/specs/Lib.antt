@@ -1,3 +1,0 @@
-pub mod Check
-pub mod Order
-pub mod Run
