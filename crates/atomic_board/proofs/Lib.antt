@@ -5,4 +5,4 @@ mod Ending
 mod Whole
 mod Dealing
 mod Same
-mod Passing
+pub mod Passing

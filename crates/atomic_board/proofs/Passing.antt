@@ -1,8 +1,10 @@
 -- The passes of a board, of which one is used: they are the passes of the board still.
-use Rattle.std.proofs.Common.{◌≡◌, Bool, ℕ, ◌<◌, List, length, set, get_or, sym, ◌∙◌, subst, arith, inl, inr}
+use Rattle.std.proofs.Common.{◌≡◌, Bool, ℕ, ◌+◌, ◌<◌, List, [], ◌∷◌, ◌++◌, length, length-append, set, get_or, refl, sym, ◌∙◌, ap, subst, arith, inl, inr}
+use Rattle.std.specs.Prelude.{slice_get, Some}
 use Rattle.std.proofs.lemmas.List.{length-set}
 use Rattle.std.proofs.lemmas.Option.{slice_get_read}
 use Rattle.family_live.specs.declared.family.Family.{Ghosts as FamilyWords}
+use Rattle.history_core.proofs.Places.{get_before, get_last}
 use Rattle.matrix_core.proofs.lists.Elements.{get_set}
 use Rattle.atomic_board.specs.declared.board.Board.{Board}
 use Rattle.atomic_board.specs.declared.board.Pass.{Pass}
@@ -43,3 +45,13 @@ module _ {V F S T : Type 0} (words : FamilyWords F (Posted V) S T) (obeys : V �
     },
     count ∙ sym (length-set passes i q),
   )
+
+  -- the last two, taken out
+  pub last_two : (passes left rest : List (Pass V F S T)) (p q : Pass V F S T) → passes ≡ left ++ q ∷ [] → left ≡ rest ++ p ∷ [] →
+      AllPasses words obeys board passes → IsPass words obeys board p × IsPass words obeys board q
+  last_two passes left rest p q e f all =
+      let n : length left ≡ length rest + 1 = ap length f ∙ length-append rest (p ∷ []) in
+      let at_p : slice_get passes (length rest) ≡ Some p = ap (λ ps. slice_get ps (length rest)) e
+      ∙ get_before left (q ∷ []) (length rest) (omega arith) ∙ ap (λ ps. slice_get ps (length rest)) f ∙ get_last rest p (length rest) refl in
+      let at_q : slice_get passes (length left) ≡ Some q = ap (λ ps. slice_get ps (length left)) e ∙ get_last left q (length left) refl in
+      ((all.each (length rest) p at_p).0, (all.each (length left) q at_q).0)

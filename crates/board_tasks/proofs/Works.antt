@@ -1,6 +1,7 @@
 -- Lanes that were made of a new board's passes, and then run, have worked with fresh passes.
-use Rattle.std.proofs.Common.{◌≡◌, Bool, ℕ, ◌+◌, ◌<◌, ◌++◌, List, [], ◌∷◌, length, get_or, sym, ◌∙◌, ap, subst, arith}
-use Rattle.std.specs.Prelude.{slice_get, Some}
+use Rattle.std.proofs.Common.{◌≡◌, Bool, ℕ, ◌+◌, ◌<◌, ◌≤◌, ◌++◌, List, [], ◌∷◌, length, get_or, refl, sym, ◌∙◌, ap, subst, arith, zero, suc}
+use Rattle.std.specs.Prelude.{drop, slice_get, Some, take}
+use Rattle.std.proofs.lemmas.List.{append-nil, take_all}
 use Rattle.std.proofs.lemmas.Option.{slice_get_within, slice_get-get_or}
 use Rattle.history_core.specs.declared.wish.Wish.{Wish}
 use Rattle.family_live.specs.declared.family.Family.{Ghosts as FamilyWords}
@@ -50,3 +51,17 @@ module _ {V F S T : Type 0} (family : FamilyWords F (Posted V) S T) (obeys : V �
           calls = calls;
         };
   }
+
+drop_past : {X : Type 0} (xs : List X) (n : ℕ) → length xs ≤ n → drop n xs ≡ []
+drop_past [] zero h = refl
+drop_past [] (suc n) h = refl
+drop_past (x ∷ xs) zero h = absurd (omega arith)
+drop_past (x ∷ xs) (suc n) h = drop_past xs n (omega arith)
+
+-- what a vector holds whose slice was changed as a whole
+pub changed_whole : {X : Type 0} (n : ℕ) (old before new now : List X) → n ≡ length old → before ≡ old → length new ≡ length before
+    → now ≡ take n (new ++ drop (length new) old) → now ≡ new
+changed_whole n old before new now count same lengths changed =
+    let long : length new ≡ length old = lengths ∙ ap length same in
+    let rest : new ++ drop (length new) old ≡ new = ap (λ z. new ++ z) (drop_past old (length new) (omega arith)) ∙ append-nil new in
+    changed ∙ ap (take n) rest ∙ take_all n new (omega (arith, count, long))

@@ -1,0 +1,96 @@
+//! The gates that come with the crate, and what a gate is asked and told.
+ghost use Rattle.std.specs.Prelude.{◌≡◌};
+
+use crate::plans::run_plans;
+use atomic_board::Posted;
+use board_tasks::{CountingGate, Gate, Lane, TimedGate};
+use family_four_slot::FourSlotFamily;
+use family_live::Family;
+use history_core::Band;
+use std::sync::atomic::{AtomicU64, Ordering};
+use std::test::Fail;
+
+type FourSlot = FourSlotFamily<Posted<Band>>;
+
+/// How many calls all lanes have made.
+fn made<F: Family<Posted<Band>>>(lanes: &[Lane<Band, F>]) -> u64 {
+    let mut made = 0u64;
+    for lane in lanes {
+        made = made.saturating_add(lane.log().len() as u64);
+    }
+    made
+}
+
+#[test]
+fn calls_are_counted(rt: HostRuntime) -> Result<(), Fail> {
+    let gate = CountingGate::new();
+    let plans: &[&[u64]] = &[&[1, 0, 2], &[0, 0], &[]];
+    let crew = run_plans::<_, FourSlot, _>(&rt, rt.alloc(), 9, plans, &gate)?;
+    assert_eq!(rt; made(crew.lanes.as_slice()), 5);
+    assert_eq!(rt; gate.made(), 5);
+    Ok(())
+}
+
+#[test]
+fn time_is_up_for_all_tasks(rt: HostRuntime) -> Result<(), Fail> {
+    let plans: &[&[u64]] = &[&[0; 40], &[0; 40]];
+    for turns in [0, 1, 50, 80, 90] {
+        let gate = TimedGate::new(turns);
+        let crew = run_plans::<_, FourSlot, _>(&rt, rt.alloc(), 9, plans, &gate)?;
+        assert_eq!(rt; made(crew.lanes.as_slice()), turns.min(80));
+    }
+    Ok(())
+}
+
+/// The call of a task, as its gate was asked about it.
+struct Asked {
+    task: usize,
+    call: usize,
+}
+
+/// Adds up the numbers that it is asked about and told of: 100 for each task, counted from 0, and the number of the call.
+#[derive(Drop)]
+struct Numbers {
+    asked: AtomicU64,
+    told: AtomicU64,
+}
+
+fn number(task: usize, call: usize) -> u64 {
+    (task as u64).wrapping_mul(100).wrapping_add(call as u64)
+}
+
+impl Gate for Numbers {
+    type Permit = Asked;
+
+    ghost is_for = { λ _ task call asked. (asked.task ≡ task) × (asked.call ≡ call) };
+
+    ghost may_stop = { λ _ _ _. ⊥ };
+
+    fn before(&self, task: usize, call: usize) -> Option<Asked> {
+        self.asked.fetch_add(number(task, call), Ordering::SeqCst);
+        Some(Asked { task, call })
+    }
+
+    fn after(&self, task: usize, call: usize, asked: Asked) {
+        let Asked {
+            task: asked_task,
+            call: asked_call,
+        } = asked;
+        prove!(asked_task == task && asked_call == call);
+        self.told.fetch_add(number(task, call), Ordering::SeqCst);
+    }
+}
+
+#[test]
+fn tasks_count_from_0_and_calls_from_1(rt: HostRuntime) -> Result<(), Fail> {
+    let gate = Numbers {
+        asked: AtomicU64::new(0),
+        told: AtomicU64::new(0),
+    };
+    let plans: &[&[u64]] = &[&[1, 0, 2], &[0, 0], &[], &[0]];
+    run_plans::<_, FourSlot, _>(&rt, rt.alloc(), 9, plans, &gate)?;
+    let all = 1 + 2 + 3 + 101 + 102 + 301;
+    assert_eq!(rt; gate.asked.load(Ordering::SeqCst), all);
+    assert_eq!(rt; gate.told.load(Ordering::SeqCst), all);
+    Ok(())
+}

@@ -1,0 +1,104 @@
+//! Boards whose tasks have scripts, for the tests. A script is a list of numbers: 0 is a read, and any other number is a write of the
+//! record that is this number alone.
+ghost use Rattle.std.specs.Prelude.{◌≡◌, All, IfOk, IsTrue, length};
+ghost use Rattle.history_core.specs.Band.{fits};
+ghost use Rattle.stamps.specs.Stamps.{first_stamp};
+ghost use Rattle.atomic_board.specs.Deals.{IsNew};
+ghost use Rattle.board_tasks.specs.Lanes.{AreLanes};
+ghost use Rattle.board_tasks.specs.Logs.{Obeys};
+ghost use Rattle.board_tasks.specs.Worked.{HaveWorked};
+
+use atomic_board::{Board, Posted};
+use board_tasks::{Entry, Gate, Lane, Reply, make_lanes, run_tasks};
+use family_live::{Family, SharedFamily};
+use history_core::{Band, Items, Wish};
+use std::alloc::{AllocError, Global};
+use std::thread::Threads;
+
+/// The record that is this number alone.
+pub fn point(number: u64) -> Band
+    ensures { IsTrue (fits result) }
+{
+    Band {
+        lo: number,
+        now: number,
+        hi: number,
+    }
+}
+
+fn wish(number: u64) -> Wish<Band>
+    ensures { Obeys fits result }
+{
+    if number == 0 {
+        Wish::Read
+    } else {
+        Wish::Write(point(number))
+    }
+}
+
+fn script(alloc: Global, numbers: &[u64]) -> Result<Items<Wish<Band>>, AllocError>
+    ensures lawful { IfOk result (λ s. All (Obeys fits) s) }
+{
+    let mut wishes = Vec::new(alloc);
+    for number in numbers {
+        wishes.push(wish(*number))?;
+    }
+    Ok(Items::new(wishes))
+}
+
+fn scripts(alloc: Global, plans: &[&[u64]]) -> Result<Items<Items<Wish<Band>>>, AllocError>
+    ensures lawful { IfOk result (λ s. All (λ t. All (Obeys fits) t) s) }
+    ensures count { IfOk result (λ s. length s ≡ length plans.now) }
+{
+    let mut all = Vec::new(alloc);
+    for plan in plans {
+        all.push(script(alloc, plan)?)?;
+    }
+    Ok(Items::new(all))
+}
+
+/// A board with the lanes of all its processes, which have worked with fresh passes.
+#[derive(Drop)]
+pub struct Crew<F: Family<Posted<Band>>> {
+    pub board: Board<Band, F>,
+    pub lanes: Vec<Lane<Band, F>>,
+}
+
+/// Runs the plans on a board of their own, of as many processes as plans, whose opening is 0.
+pub fn run_plans<R: Threads + Sync, F: SharedFamily<Posted<Band>>, G: Gate + Sync>(
+    rt: &R,
+    alloc: Global,
+    limit: u64,
+    plans: &[&[u64]],
+    gate: &G,
+) -> Result<Crew<F>, AllocError>
+where
+    F::Seat: Send,
+    F::Told: Send,
+    ensures { IfOk result (λ r. HaveWorked ⟦<F as Family<Posted<Band>>>⟧ fits r.board r.lanes.items) }
+{
+    let Ok((board, passes)) = Board::<Band, F>::new(alloc, plans.len(), limit, point(0)) else {
+        return Err(AllocError);
+    };
+    let all = scripts(alloc, plans)?;
+    let mut lanes = make_lanes(alloc, passes, all)?;
+    run_tasks(rt, &board, lanes.as_mut_slice(), gate);
+    Ok(Crew { board, lanes })
+}
+
+/// What an entry says in numbers: its kind, its stamp, and the reading of the record seen.
+fn said(entry: &Entry<Band>) -> (char, u64, usize, u64) {
+    match entry.reply {
+        Reply::Written(stamp) => ('w', stamp.tag, stamp.writer, 0),
+        Reply::Seen(posted) => ('r', posted.stamp.tag, posted.stamp.writer, posted.item.now),
+        Reply::Ended(posted) => ('e', posted.stamp.tag, posted.stamp.writer, posted.item.now),
+    }
+}
+
+/// What the entry at this place of a log says, or 'none'.
+pub fn said_at(log: &[Entry<Band>], place: usize) -> (char, u64, usize, u64) {
+    match log.get(place) {
+        Some(entry) => said(entry),
+        None => ('n', 0, 0, 0),
+    }
+}
