@@ -1,6 +1,6 @@
 -- The logs of a round are those of its scripts: each lane has its script from the beginning, and does the whole of it where no gate stops
 -- it.
-use Rattle.std.proofs.Common.{◌≡◌, ◌⊎◌, ℕ, zero, suc, ◌+◌, ◌<◌, ◌≤◌, Bool, List, [], ◌∷◌, length, map, take, slice_get, Some, refl, sym, ◌∙◌}
+use Rattle.std.proofs.Common.{◌≡◌, ℕ, zero, suc, ◌+◌, ◌<◌, Bool, List, [], ◌∷◌, length, map, slice_get, Some, refl, sym, ◌∙◌}
 use Rattle.std.proofs.Common.{ap, arith, subst, inl, inr}
 use Rattle.std.specs.declared.cmp.PartialEq.{Ghosts as EqWords}
 use Rattle.std.proofs.lemmas.List.{length-map, take_all}
@@ -10,7 +10,6 @@ use Rattle.cell_live.specs.declared.cell.Calls.{Ghosts as CellWords}
 use Rattle.board_live.specs.declared.board.Board.{Board}
 use Rattle.board_live.specs.declared.board.Pass.{Pass}
 use Rattle.board_live.specs.declared.clocked.Clocked.{Clocked}
-use Rattle.board_live.specs.declared.lane.Entry.{Entry}
 use Rattle.board_live.specs.declared.lane.Lane.{Lane}
 use Rattle.board_live.specs.declared.posted.RecordLaw.{Ghosts as LawWords}
 use Rattle.board_live.specs.Jobs.{EachStep}

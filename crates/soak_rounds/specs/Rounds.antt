@@ -1,6 +1,7 @@
 -- What the sides of a cell do in rounds, by the lists of their passes (this project's own).
 use Rattle.std.specs.Prelude.{◌≡◌, ℕ, ◌+◌, List, [], ◌∷◌, ◌++◌, length, Option}
 use Rattle.cell_live.specs.declared.cell.Calls.{Ghosts as CellWords}
+use Rattle.cell_live.specs.Running.{last_or}
 use Rattle.soak_rounds.specs.declared.finding.Tally.{Tally}
 use Rattle.soak_rounds.specs.Findings.{AreOf, IsWhole, counted, last_read, no_tally, with_end, with_read, with_tally, with_write}
 
@@ -26,14 +27,20 @@ pub record Adds {X : Type 0} (Of : List X → Tally → ℕ → Type 0) (count :
   pub of : Of added tally last
 
 module _ {X C P G T : Type 0} (words : X → List ℕ) (cells : CellWords C X P G T) (calls : ℕ) where
-  -- rounds with two passes: in each the one wrote so many records and the other read so many. What was counted in them, and the last
-  -- numbers that were written and read
-  pub data Rounds (put : P) (get : G) : ℕ → P → G → ℕ → ℕ → Tally → Type 0 where
-    no_round : Rounds put get 0 put get 0 0 no_tally
-    one_round : (n : ℕ) (p q : P) (g h : G) (w x r s : ℕ) (t a b : Tally) → Rounds put get n p g w r t
+  -- the reader was told of the record that the writer wrote last; nothing was written or read
+  pub record Tells (cell : C) (p q : P) (g h : G) : Type 0 where
+    pub wrote : cells.written q ≡ cells.written p
+    pub read : cells.answers h ≡ cells.answers g
+    pub told : cells.told h ≡ cells.told g ++ last_or (cells.opening cell) (cells.written p) ∷ []
+
+  -- rounds with two passes of a cell: in each the reader was told of the last write, and then the one wrote so many records and the other
+  -- read so many after that write. What was counted in them, and the last numbers that were written and read
+  pub data Rounds (cell : C) (put : P) (get : G) : ℕ → P → G → ℕ → ℕ → Tally → Type 0 where
+    no_round : Rounds cell put get 0 put get 0 0 no_tally
+    one_round : (n : ℕ) (o p q : P) (f g h : G) (w x r s : ℕ) (t a b : Tally) → Rounds cell put get n o f w r t → Tells cell o p f g
         → Adds (Wrote words w) calls (cells.written p) (cells.written q) a x
-        → Adds (Noted words r) calls (cells.answers g) (cells.answers h) b s
-        → Rounds put get (n + 1) q h x s (with_tally t (with_end (with_tally b a) x s))
+        → Adds (Noted words w) calls (cells.answers g) (cells.answers h) b s
+        → Rounds cell put get (n + 1) q h x s (with_tally t (with_end (with_tally b a) x s))
 
   -- so many rounds with the passes of one cell, since they were new
   pub record HasRun (count : ℕ) (tally : Tally) : Type 0 where
@@ -43,4 +50,4 @@ module _ {X C P G T : Type 0} (words : X → List ℕ) (cells : CellWords C X P 
     pub last : ℕ × ℕ
     pub of : cells.is_put cell puts.1 × cells.is_get cell gets.1
     pub new : (cells.written puts.0 ≡ []) × (cells.answers gets.0 ≡ [])
-    pub rounds : Rounds puts.0 gets.0 count puts.1 gets.1 last.0 last.1 tally
+    pub rounds : Rounds cell puts.0 gets.0 count puts.1 gets.1 last.0 last.1 tally

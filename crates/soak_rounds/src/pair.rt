@@ -1,17 +1,17 @@
 //! One writer and one reader, each in a thread of its own.
-ghost use Rattle.std.specs.Prelude.{◌≡◌, ℕ, IfOk};
+ghost use Rattle.std.specs.Prelude.{◌≡◌, ℕ, List, [], ◌∷◌, ◌++◌, IfOk};
 ghost use Rattle.soak_rounds.specs.declared.finding.Tally.{Tally};
-ghost use Rattle.soak_rounds.specs.Findings.{with_end, with_tally};
+ghost use Rattle.soak_rounds.specs.Findings.{AreOf, with_end, with_tally};
 ghost use Rattle.soak_rounds.specs.Rounds.{Adds, HasRun, Noted, Wrote};
 
 use crate::finding::{Tally, last_read};
-use crate::record::{Record, Shared};
+use crate::record::{Record, Shared, Words};
 use cell_live::{Calls, Cell};
 use std::alloc::{AllocError, Global};
 use std::thread::{Threads, join_mut};
 
 /// The calls of each side in one round.
-pub const CALLS: u64 = 20_000;
+pub const CALLS: u64 = 200_000;
 
 /// One side of a register.
 pub trait Side {
@@ -71,6 +71,21 @@ impl<'a, W: Shared, C: Cell<Record<W>>> Side for Writer<'a, W, C> {
     }
 }
 
+/// Reads, and gives the write that the record is of. The record is looked at where it lies.
+fn look<W: Words, C: Calls<Record<W>>>(cell: &C, get: &mut C::Get) -> Option<u64>
+    requires { C.is_get cell.now get.old }
+    ensures own { C.is_get cell.now get.new }
+    ensures answers { C.answers get.new ≡ C.answers get.old ++ C.at_hand get.new ∷ [] }
+    ensures number { AreOf (W.listed (C.at_hand get.new).words) result }
+{
+    cell.read_with(
+        get,
+        |record|
+            ensures { AreOf (W.listed record.now.words) result }
+        { record.number() },
+    )
+}
+
 #[derive(Drop)]
 struct Reader<'a, W: Shared, C: Cell<Record<W>>> {
     cell: &'a C,
@@ -93,7 +108,7 @@ impl<'a, W: Shared, C: Cell<Record<W>>> Side for Reader<'a, W, C> {
     fn run(&mut self) {
         self.tally = Tally::none();
         for _ in 0..CALLS {
-            let number = self.cell.read(&mut self.get).number();
+            let number = look(self.cell, &mut self.get);
             self.tally.note(self.last, number);
             self.last = last_read(self.last, number);
         }
@@ -133,7 +148,7 @@ pub fn at_once<R: Threads + Sync, A: Side + Send, B: Side + Send>(
     tally
 }
 
-/// Some rounds over a cell of its own.
+/// Some rounds over a cell of its own. Before each the reader is told of the last write, so that an answer from before it is older.
 pub fn rounds<R: Threads + Sync, W: Shared, C: Cell<Record<W>>>(
     rt: &R,
     alloc: Global,
@@ -160,6 +175,9 @@ where
     };
     let mut tally = Tally::none();
     for _ in 0..count {
+        let receipt = cell.tell(&mut writer.put);
+        cell.learn(&mut reader.get, receipt);
+        reader.last = writer.last;
         tally.add(at_once(rt, &mut writer, &mut reader));
     }
     Ok(tally)

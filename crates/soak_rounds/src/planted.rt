@@ -1,10 +1,13 @@
 //! A register with a planted bug, which a soak has to find: four slots of words that are written one by one, whose reader skips
 //! its store of `reading`.
 use crate::finding::{Tally, last_read};
-use crate::pair::{CALLS, Side, at_once};
+use crate::pair::{Side, at_once};
 use std::alloc::{AllocError, Global};
 use std::sync::atomic::{AtomicU64, Ordering};
 use std::thread::Threads;
+
+/// The calls of each side in one round.
+const CALLS: u64 = 20_000;
 
 /// The words of a slot: those of a record of 4,096 bytes.
 const WORDS: usize = 512;
