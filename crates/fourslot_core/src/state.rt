@@ -71,7 +71,7 @@ pub struct InSlot {
 }
 
 /// A state of a cell.
-#[derive(Clone, Copy, Debug)]
+#[derive(Drop)]
 pub struct State<R> {
     /// The answer of a slot read that has met a write.
     pub noise: R,

@@ -1,7 +1,7 @@
 -- A step in the column is the first kind of event and one in the row the second: the cell makes its event, and the rules count where
 -- the access ends.
-use Rattle.std.proofs.Common.{rules, ℕ, refl, arith, sym, ◌∙◌, ap, subst, ◌<◌, ◌≤◌, ◌+◌, ◌-◌, ◌*◌, length, ◌≡◌}
-use Rattle.std.specs.Prelude.{slice_get, Some, slice_set}
+use Rattle.std.proofs.Common.{ℕ, refl, arith, sym, ◌∙◌, ap, subst, ◌<◌, ◌≤◌, ◌+◌, ◌-◌, ◌*◌, length, ◌≡◌}
+use Rattle.std.specs.Prelude.{slice_get, Some, slice_set, vec_len}
 use Rattle.std.proofs.lemmas.List.{length-set}
 use Rattle.std.proofs.lemmas.Option.{same_Some, slice_get_read, slice_get_within}
 use Rattle.fourslot_core.specs.declared.state.State.{State}
@@ -19,7 +19,7 @@ done_at-done-requires-clause-inside g c = rw c.deref.ensures.value c.self.invari
 
 pub cell_index-place-requires-clause-writer : goal.cell_index-place-requires-clause-writer
 cell_index-place-requires-clause-writer g c =
-    let n : c.len-n.result ≡ length c.self.inside.lines.items = search rules in
+    let n : c.len-n.result ≡ length c.self.inside.lines.items = c.len-n.ensures ∙ c.self.inside.lines.ok.0 in
     let b : Board g.row.R.Denot = record {
       limit = c.self.inside.limit;
       cells = c.self.inside.cells.items;
@@ -35,7 +35,7 @@ cell_index-place-requires-clause-writer g c =
 
 pub hear-requires-clause-inside : goal.hear-requires-clause-inside
 hear-requires-clause-inside g c =
-    let n : c.len-n.result ≡ length c.self.inside.lines.items = search rules in
+    let n : c.len-n.result ≡ length c.self.inside.lines.items = c.len-n.ensures ∙ c.self.inside.lines.ok.0 in
     let b : Board g.row.R.Denot = record {
       limit = c.self.inside.limit;
       cells = c.self.inside.cells.items;
@@ -53,7 +53,7 @@ hear-requires-clause-inside g c =
 
 pub invariant_of-self : goal.invariant_of-self
 invariant_of-self g c =
-    let n : c.len-n.result ≡ length c.self.inside.lines.items = search rules in
+    let n : c.len-n.result ≡ length c.self.inside.lines.items = c.len-n.ensures ∙ c.self.inside.lines.ok.0 in
     let b : Board g.row.R.Denot = record {
       limit = c.self.inside.limit;
       cells = c.self.inside.cells.items;
@@ -92,7 +92,7 @@ invariant_of-self g c =
 
 pub cell_index-place-requires-else-done-n-clause-reader : goal.cell_index-place-requires-else-done-n-clause-reader
 cell_index-place-requires-else-done-n-clause-reader g c =
-    let n : c.len-n.result ≡ length c.self.inside.lines.items = search rules in
+    let n : c.len-n.result ≡ length c.self.inside.lines.items = c.len-n.ensures ∙ c.self.inside.lines.ok.0 in
     let b : Board g.row.R.Denot = record {
       limit = c.self.inside.limit;
       cells = c.self.inside.cells.items;
@@ -111,7 +111,7 @@ cell_index-place-requires-else-done-n-clause-reader g c =
 
 pub post-requires-clause-inside : goal.post-requires-clause-inside
 post-requires-clause-inside g c =
-    let n : c.len-n.result ≡ length c.self.inside.lines.items = search rules in
+    let n : c.len-n.result ≡ length c.self.inside.lines.items = c.len-n.ensures ∙ c.self.inside.lines.ok.0 in
     let b : Board g.row.R.Denot = record {
       limit = c.self.inside.limit;
       cells = c.self.inside.cells.items;
@@ -129,7 +129,7 @@ post-requires-clause-inside g c =
 
 pub invariant_of-self-else-done-n : goal.invariant_of-self-else-done-n
 invariant_of-self-else-done-n g c =
-    let n : c.len-n.result ≡ length c.self.inside.lines.items = search rules in
+    let n : c.len-n.result ≡ length c.self.inside.lines.items = c.len-n.ensures ∙ c.self.inside.lines.ok.0 in
     let b : Board g.row.R.Denot = record {
       limit = c.self.inside.limit;
       cells = c.self.inside.cells.items;
@@ -172,7 +172,7 @@ invariant_of-self-else-done-n g c =
 
 pub returns-then-done-n-clause-board : goal.returns-then-done-n-clause-board
 returns-then-done-n-clause-board g c =
-    let n : c.len-n.result ≡ length c.self.inside.lines.items = search rules in
+    let n : c.len-n.result ≡ length c.self.inside.lines.items = c.len-n.ensures ∙ c.self.inside.lines.ok.0 in
     let b : Board g.row.R.Denot = record {
       limit = c.self.inside.limit;
       cells = c.self.inside.cells.items;
@@ -213,7 +213,7 @@ returns-then-done-n-clause-board g c =
 
 pub returns-else-done-n-clause-board : goal.returns-else-done-n-clause-board
 returns-else-done-n-clause-board g c =
-    let n : c.len-n.result ≡ length c.self.inside.lines.items = search rules in
+    let n : c.len-n.result ≡ length c.self.inside.lines.items = c.len-n.ensures ∙ c.self.inside.lines.ok.0 in
     let b : Board g.row.R.Denot = record {
       limit = c.self.inside.limit;
       cells = c.self.inside.cells.items;
@@ -258,7 +258,7 @@ returns-else-done-n-clause-board g c =
 
 pub returns-then-done-n-clause-slot : goal.returns-then-done-n-clause-slot
 returns-then-done-n-clause-slot g c =
-    let n : c.len-n.result ≡ length c.self.inside.lines.items = search rules in
+    let n : c.len-n.result ≡ length c.self.inside.lines.items = c.len-n.ensures ∙ c.self.inside.lines.ok.0 in
     let b : Board g.row.R.Denot = record {
       limit = c.self.inside.limit;
       cells = c.self.inside.cells.items;
@@ -288,7 +288,7 @@ returns-then-done-n-clause-slot g c =
 
 pub returns-else-done-n-clause-slot : goal.returns-else-done-n-clause-slot
 returns-else-done-n-clause-slot g c =
-    let n : c.len-n.result ≡ length c.self.inside.lines.items = search rules in
+    let n : c.len-n.result ≡ length c.self.inside.lines.items = c.len-n.ensures ∙ c.self.inside.lines.ok.0 in
     let b : Board g.row.R.Denot = record {
       limit = c.self.inside.limit;
       cells = c.self.inside.cells.items;
@@ -334,7 +334,7 @@ done_at-done-requires-clause-small g c =
 
 pub overflow_add-done : goal.overflow_add-done
 overflow_add-done g c =
-    let n : c.len-n.result ≡ length c.self.inside.lines.items = search rules in
+    let n : c.len-n.result ≡ length c.self.inside.lines.items = c.len-n.ensures ∙ c.self.inside.lines.ok.0 in
     let u : length c.self.inside.lines.items ≤ 16 = c.self.invariant.at_most in
     let two : 2 ≤ length c.self.inside.lines.items = c.self.invariant.at_least in
     let lines : length c.deref.result.now ≡ length c.self.inside.lines.items = ap length c.deref.ensures.value in
@@ -343,7 +343,7 @@ overflow_add-done g c =
 
 pub other-requires : goal.other-requires
 other-requires g c =
-    let n : c.len-n.result ≡ length c.self.inside.lines.items = search rules in
+    let n : c.len-n.result ≡ length c.self.inside.lines.items = c.len-n.ensures ∙ c.self.inside.lines.ok.0 in
     let u : length c.self.inside.lines.items ≤ 16 = c.self.invariant.at_most in
     let two : 2 ≤ length c.self.inside.lines.items = c.self.invariant.at_least in
     let lines : length c.deref.result.now ≡ length c.self.inside.lines.items = ap length c.deref.ensures.value in
@@ -353,7 +353,7 @@ other-requires g c =
 
 pub cell_index-place-requires-clause-small : goal.cell_index-place-requires-clause-small
 cell_index-place-requires-clause-small g c =
-    let n : c.len-n.result ≡ length c.self.inside.lines.items = search rules in
+    let n : c.len-n.result ≡ length c.self.inside.lines.items = c.len-n.ensures ∙ c.self.inside.lines.ok.0 in
     let u : length c.self.inside.lines.items ≤ 16 = c.self.invariant.at_most in
     let two : 2 ≤ length c.self.inside.lines.items = c.self.invariant.at_least in
     let lines : length c.deref.result.now ≡ length c.self.inside.lines.items = ap length c.deref.ensures.value in
@@ -362,7 +362,7 @@ cell_index-place-requires-clause-small g c =
 
 pub cell_index-place-requires-clause-reader : goal.cell_index-place-requires-clause-reader
 cell_index-place-requires-clause-reader g c =
-    let n : c.len-n.result ≡ length c.self.inside.lines.items = search rules in
+    let n : c.len-n.result ≡ length c.self.inside.lines.items = c.len-n.ensures ∙ c.self.inside.lines.ok.0 in
     let u : length c.self.inside.lines.items ≤ 16 = c.self.invariant.at_most in
     let two : 2 ≤ length c.self.inside.lines.items = c.self.invariant.at_least in
     let lines : length c.deref.result.now ≡ length c.self.inside.lines.items = ap length c.deref.ensures.value in
@@ -373,7 +373,7 @@ cell_index-place-requires-clause-reader g c =
 
 pub hear-requires-clause-small : goal.hear-requires-clause-small
 hear-requires-clause-small g c =
-    let n : c.len-n.result ≡ length c.self.inside.lines.items = search rules in
+    let n : c.len-n.result ≡ length c.self.inside.lines.items = c.len-n.ensures ∙ c.self.inside.lines.ok.0 in
     let u : length c.self.inside.lines.items ≤ 16 = c.self.invariant.at_most in
     let two : 2 ≤ length c.self.inside.lines.items = c.self.invariant.at_least in
     let lines : length c.deref.result.now ≡ length c.self.inside.lines.items = ap length c.deref.ensures.value in
@@ -382,7 +382,7 @@ hear-requires-clause-small g c =
 
 pub other-requires-else-done-n : goal.other-requires-else-done-n
 other-requires-else-done-n g c =
-    let n : c.len-n.result ≡ length c.self.inside.lines.items = search rules in
+    let n : c.len-n.result ≡ length c.self.inside.lines.items = c.len-n.ensures ∙ c.self.inside.lines.ok.0 in
     let u : length c.self.inside.lines.items ≤ 16 = c.self.invariant.at_most in
     let two : 2 ≤ length c.self.inside.lines.items = c.self.invariant.at_least in
     let lines : length c.deref.result.now ≡ length c.self.inside.lines.items = ap length c.deref.ensures.value in
@@ -392,7 +392,7 @@ other-requires-else-done-n g c =
 
 pub cell_index-place-requires-else-done-n-clause-small : goal.cell_index-place-requires-else-done-n-clause-small
 cell_index-place-requires-else-done-n-clause-small g c =
-    let n : c.len-n.result ≡ length c.self.inside.lines.items = search rules in
+    let n : c.len-n.result ≡ length c.self.inside.lines.items = c.len-n.ensures ∙ c.self.inside.lines.ok.0 in
     let u : length c.self.inside.lines.items ≤ 16 = c.self.invariant.at_most in
     let two : 2 ≤ length c.self.inside.lines.items = c.self.invariant.at_least in
     let lines : length c.deref.result.now ≡ length c.self.inside.lines.items = ap length c.deref.ensures.value in
@@ -401,7 +401,7 @@ cell_index-place-requires-else-done-n-clause-small g c =
 
 pub cell_index-place-requires-else-done-n-clause-writer : goal.cell_index-place-requires-else-done-n-clause-writer
 cell_index-place-requires-else-done-n-clause-writer g c =
-    let n : c.len-n.result ≡ length c.self.inside.lines.items = search rules in
+    let n : c.len-n.result ≡ length c.self.inside.lines.items = c.len-n.ensures ∙ c.self.inside.lines.ok.0 in
     let u : length c.self.inside.lines.items ≤ 16 = c.self.invariant.at_most in
     let two : 2 ≤ length c.self.inside.lines.items = c.self.invariant.at_least in
     let lines : length c.deref.result.now ≡ length c.self.inside.lines.items = ap length c.deref.ensures.value in
@@ -412,7 +412,7 @@ cell_index-place-requires-else-done-n-clause-writer g c =
 
 pub post-requires-clause-small : goal.post-requires-clause-small
 post-requires-clause-small g c =
-    let n : c.len-n.result ≡ length c.self.inside.lines.items = search rules in
+    let n : c.len-n.result ≡ length c.self.inside.lines.items = c.len-n.ensures ∙ c.self.inside.lines.ok.0 in
     let u : length c.self.inside.lines.items ≤ 16 = c.self.invariant.at_most in
     let two : 2 ≤ length c.self.inside.lines.items = c.self.invariant.at_least in
     let lines : length c.deref.result.now ≡ length c.self.inside.lines.items = ap length c.deref.ensures.value in
@@ -425,9 +425,53 @@ overflow_sub-done g c =
 
 pub overflow_add-done-else-done-n : goal.overflow_add-done-else-done-n
 overflow_add-done-else-done-n g c =
-    let n : c.len-n.result ≡ length c.self.inside.lines.items = search rules in
+    let n : c.len-n.result ≡ length c.self.inside.lines.items = c.len-n.ensures ∙ c.self.inside.lines.ok.0 in
     let u : length c.self.inside.lines.items ≤ 16 = c.self.invariant.at_most in
     let two : 2 ≤ length c.self.inside.lines.items = c.self.invariant.at_least in
     let lines : length c.deref.result.now ≡ length c.self.inside.lines.items = ap length c.deref.ensures.value in
     let i : c.done_at-done.result + 3 ≤ 2 * length c.deref.result.now = c.done_at-done.ensures.inside in
     omega arith
+
+pub read_cell-stage-requires : goal.read_cell-stage-requires
+read_cell-stage-requires g c =
+    let n : c.len-n.result ≡ length c.self.inside.lines.items = c.len-n.ensures ∙ c.self.inside.lines.ok.0 in
+    let all : length c.self.inside.cells.items ≡ length c.self.inside.lines.items * length c.self.inside.lines.items =
+    c.self.invariant.cells in
+    let cells : c.len-n.result * c.len-n.result ≡ vec_len c.self.inside.cells =
+    ap (λ k. k * k) n ∙ sym all ∙ sym c.self.inside.cells.ok.0 in
+    subst (λ k. c.cell_index-place.result < k) cells c.cell_index-place.ensures.inside
+
+pub write_cell-stage-requires : goal.write_cell-stage-requires
+write_cell-stage-requires g c =
+    let n : c.len-n.result ≡ length c.self.inside.lines.items = c.len-n.ensures ∙ c.self.inside.lines.ok.0 in
+    let all : length c.self.inside.cells.items ≡ length c.self.inside.lines.items * length c.self.inside.lines.items =
+    c.self.invariant.cells in
+    let cells : c.len-n.result * c.len-n.result ≡ vec_len c.self.inside.cells =
+    ap (λ k. k * k) n ∙ sym all ∙ sym c.self.inside.cells.ok.0 in
+    subst (λ k. c.cell_index-place-else-done-n.result < k) cells c.cell_index-place-else-done-n.ensures.inside
+
+pub index_mut-requires : goal.index_mut-requires
+index_mut-requires g c =
+    let lt : c.args.process < length c.self.inside.lines.items =
+    subst (λ (z : Board g.row.R.Denot). c.args.process < length z.lines) (sym c.self.view_is) c.requires in
+    subst (λ k. c.args.process < k) (sym c.self.inside.lines.ok.0) lt
+
+pub index-requires : goal.index-requires
+index-requires g c =
+    let lt : c.args.process < length c.self.inside.lines.items =
+    subst (λ (z : Board g.row.R.Denot). c.args.process < length z.lines) (sym c.self.view_is) c.requires in
+    subst (λ k. c.args.process < k) (sym c.self.inside.lines.ok.0) lt
+
+pub index_mut-requires-else-done-n : goal.index_mut-requires-else-done-n
+index_mut-requires-else-done-n g c =
+    let lt : c.args.process < length c.self.inside.lines.items =
+    subst (λ (z : Board g.row.R.Denot). c.args.process < length z.lines) (sym c.self.view_is) c.requires in
+    subst (λ k. c.args.process < k) (sym c.self.inside.lines.ok.0) lt
+
+pub returns-then-done-n-clause-size : goal.returns-then-done-n-clause-size
+returns-then-done-n-clause-size g c = length-set c.self.inside.lines.items c.args.process c.hear.new.line
+    ∙ ap (λ (z : Board g.row.R.Denot). length z.lines) c.self.view_is
+
+pub returns-else-done-n-clause-size : goal.returns-else-done-n-clause-size
+returns-else-done-n-clause-size g c = length-set c.self.inside.lines.items c.args.process c.post.new.line
+    ∙ ap (λ (z : Board g.row.R.Denot). length z.lines) c.self.view_is
