@@ -124,16 +124,25 @@ pub fn calls<C: Calls<Clocked<Item>>>(
     Ok(team.batch(op, calls))
 }
 
-/// The nanoseconds of one call, where the processes of one board call in turn in one thread.
+/// The picoseconds of a write and of a read, where the processes of one board call in turn in one thread.
+fn times<C: Calls<Clocked<Item>>>(
+    rt: &impl Clock,
+    alloc: Global,
+    n: usize,
+) -> io::Result<(u64, u64)> {
+    let mut team = Team::<C>::new(alloc, n)?;
+    let write = per_call(rt, alloc, &mut team, Op::Write)?;
+    let read = per_call(rt, alloc, &mut team, Op::Read)?;
+    Ok((write, read))
+}
+
 fn alone<R: Clock + Print, C: Calls<Clocked<Item>>>(
     rt: &R,
     alloc: Global,
     name: &str,
     n: usize,
 ) -> io::Result<()> {
-    let mut team = Team::<C>::new(alloc, n)?;
-    let write = per_call(rt, alloc, &mut team, Op::Write)?;
-    let read = per_call(rt, alloc, &mut team, Op::Read)?;
+    let (write, read) = times::<C>(rt, alloc, n)?;
     let mode = format!(in alloc; "n{n}_solo")?;
     say(rt, name, 24, mode.as_str(), "write_ns", write)?;
     say(rt, name, 24, mode.as_str(), "read_ns", read)

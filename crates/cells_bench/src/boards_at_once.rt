@@ -118,9 +118,10 @@ impl Counted {
     }
 }
 
-/// What all tasks counted.
+/// What all tasks counted, and what one reading of the clock costs.
 #[derive(Drop)]
 struct Total {
+    cost: u64,
     speed: u64,
     torn: u64,
     times: Vec<u64>,
@@ -188,8 +189,10 @@ where
 fn add_up<C: Calls<Clocked<Item>>>(
     alloc: Global,
     tasks: Vec<CachePadded<Task<C>>>,
+    cost: u64,
 ) -> Result<Total, AllocError> {
     let mut total = Total {
+        cost,
         speed: 0,
         torn: 0,
         times: Vec::new(alloc),
@@ -205,25 +208,51 @@ fn add_up<C: Calls<Clocked<Item>>>(
 }
 
 /// Prints the percentiles of the times of reads, without the clock's own cost.
-fn say_times(rt: &impl Print, name: &str, mode: &str, cost: u64, times: &[u64]) -> io::Result<()> {
+fn say_times(rt: &impl Print, name: &str, mode: &str, total: &Total) -> io::Result<()> {
+    let times = total.times.as_slice();
     for (metric, part) in [
         ("read_p50_ns", 5_000),
         ("read_p99_ns", 9_900),
         ("read_p99.9_ns", 9_990),
         ("read_p99.99_ns", 9_999),
     ] {
-        let time = quantile(times, part).saturating_sub(cost);
+        let time = quantile(times, part).saturating_sub(total.cost);
         say(rt, name, 24, mode, metric, time.saturating_mul(1_000))?;
     }
-    let most = times.last().copied().unwrap_or(0).saturating_sub(cost);
-    say(
-        rt,
-        name,
-        24,
-        mode,
-        "read_max_ns",
-        most.saturating_mul(1_000),
-    )
+    let most = times.last().copied().unwrap_or(0);
+    let most = most.saturating_sub(total.cost).saturating_mul(1_000);
+    say(rt, name, 24, mode, "read_max_ns", most)
+}
+
+fn say_total(rt: &impl Print, name: &str, mode: &str, total: &Total) -> io::Result<()> {
+    say(rt, name, 24, mode, "total_mops", total.speed)?;
+    say_times(rt, name, mode, total)?;
+    if total.torn == 0 {
+        return Ok(());
+    }
+    let torn = total.torn.saturating_mul(1_000);
+    say(rt, name, 24, mode, "torn_or_backward", torn)
+}
+
+fn measure<R: Clock + Threads + Sync, C: Cell<Clocked<Item>>>(
+    rt: &R,
+    alloc: Global,
+    n: usize,
+    count: usize,
+) -> io::Result<Total>
+where
+    C::Put: Send,
+    C::Get: Send,
+    C::Told: Send,
+{
+    let start = Instant::now(rt)?;
+    let cost = clock_cost(rt, start);
+    let Team { board, passes } = Team::<C>::new(alloc, n)?;
+    let board = CachePadded::new(board);
+    let mut tasks = make_tasks(alloc, start, &board, passes, count)?;
+    run_each(rt, tasks.as_mut_slice());
+    let total = add_up(alloc, tasks, cost)?;
+    Ok(total)
 }
 
 /// Measures so many tasks on a board of n processes.
@@ -239,20 +268,7 @@ where
     C::Get: Send,
     C::Told: Send,
 {
-    let Team { board, passes } = Team::<C>::new(alloc, n)?;
-    let board = CachePadded::new(board);
-    let start = Instant::now(rt)?;
-    let cost = clock_cost(rt, start);
-    let mut tasks = make_tasks(alloc, start, &board, passes, count)?;
-    run_each(rt, tasks.as_mut_slice());
-    let total = add_up(alloc, tasks)?;
+    let total = measure::<R, C>(rt, alloc, n, count)?;
     let mode = format!(in alloc; "n{n}_t{count}")?;
-    let mode = mode.as_str();
-    say(rt, name, 24, mode, "total_mops", total.speed)?;
-    say_times(rt, name, mode, cost, total.times.as_slice())?;
-    if total.torn == 0 {
-        return Ok(());
-    }
-    let torn = total.torn.saturating_mul(1_000);
-    say(rt, name, 24, mode, "torn_or_backward", torn)
+    say_total(rt, name, mode.as_str(), &total)
 }

@@ -204,9 +204,10 @@ where
     C::Get: Send,
     C::Told: Send,
 {
+    let start = Instant::now(rt)?;
+    let times = Vec::with_capacity(alloc, if timed { KEPT } else { 0 })?;
     let (cell, put, get) = C::make(alloc, Record::zero())?;
     let cell = CachePadded::new(cell);
-    let start = Instant::now(rt)?;
     let mut writer: CachePadded<Writer<W, C>> = CachePadded::new(Writer {
         start,
         cell: &cell,
@@ -223,7 +224,7 @@ where
         timed,
         seen: Seen::none(),
         nanos: 0,
-        times: Vec::with_capacity(alloc, if timed { KEPT } else { 0 })?,
+        times,
     });
     let cost = clock_cost(rt, start);
     at_once(rt, &Beats::new(), &mut *writer, &mut *reader);
@@ -246,6 +247,37 @@ fn say_wrong(rt: &impl Print, name: &str, bytes: u64, seen: Seen) -> io::Result<
     say(rt, name, bytes, "duo", "torn_or_backward", wrong)
 }
 
+fn say_speed(rt: &impl Print, name: &str, bytes: u64, measured: &Measured) -> io::Result<()> {
+    let seen = measured.seen;
+    let fresh = seen
+        .fresh
+        .saturating_mul(1_000)
+        .checked_div(seen.reads)
+        .unwrap_or(0);
+    say(rt, name, bytes, "duo", "write_mops", measured.writes)?;
+    say(rt, name, bytes, "duo", "read_mops", measured.reads)?;
+    say(rt, name, bytes, "duo", "read_fresh_share", fresh)?;
+    say_wrong(rt, name, bytes, seen)
+}
+
+fn say_times(rt: &impl Print, name: &str, bytes: u64, measured: &mut Measured) -> io::Result<()> {
+    measured.times.sort()?;
+    let times = measured.times.as_slice();
+    for (metric, part) in [
+        ("read_p50_ns", 5_000),
+        ("read_p99_ns", 9_900),
+        ("read_p99.9_ns", 9_990),
+        ("read_p99.99_ns", 9_999),
+    ] {
+        let time = quantile(times, part).saturating_sub(measured.cost);
+        say(rt, name, bytes, "duo", metric, time.saturating_mul(1_000))?;
+    }
+    let most = times.last().copied().unwrap_or(0);
+    let most = most.saturating_sub(measured.cost).saturating_mul(1_000);
+    say(rt, name, bytes, "duo", "read_max_ns", most)?;
+    say_wrong(rt, name, bytes, measured.seen)
+}
+
 pub fn run<R: Clock + Print + Threads + Sync, W: Shared, C: Cell<Record<W>>>(
     rt: &R,
     alloc: Global,
@@ -258,29 +290,7 @@ where
     C::Told: Send,
 {
     let untimed = measure::<R, W, C>(rt, alloc, false)?;
-    let fresh = untimed
-        .seen
-        .fresh
-        .saturating_mul(1_000)
-        .checked_div(untimed.seen.reads)
-        .unwrap_or(0);
-    say(rt, name, bytes, "duo", "write_mops", untimed.writes)?;
-    say(rt, name, bytes, "duo", "read_mops", untimed.reads)?;
-    say(rt, name, bytes, "duo", "read_fresh_share", fresh)?;
-    say_wrong(rt, name, bytes, untimed.seen)?;
+    say_speed(rt, name, bytes, &untimed)?;
     let mut timed = measure::<R, W, C>(rt, alloc, true)?;
-    timed.times.sort()?;
-    for (metric, part) in [
-        ("read_p50_ns", 5_000),
-        ("read_p99_ns", 9_900),
-        ("read_p99.9_ns", 9_990),
-        ("read_p99.99_ns", 9_999),
-    ] {
-        let time = quantile(timed.times.as_slice(), part).saturating_sub(timed.cost);
-        say(rt, name, bytes, "duo", metric, time.saturating_mul(1_000))?;
-    }
-    let most = timed.times.last().copied().unwrap_or(0);
-    let most = most.saturating_sub(timed.cost).saturating_mul(1_000);
-    say(rt, name, bytes, "duo", "read_max_ns", most)?;
-    say_wrong(rt, name, bytes, timed.seen)
+    say_times(rt, name, bytes, &mut timed)
 }

@@ -16,9 +16,9 @@ use boards::{Item, PROCESSES};
 use cell_four_slot::FourSlotCell;
 use cell_live::Cell;
 use cell_triple::TripleCell;
-use measure::Op;
+use measure::{Asked, Op};
 use record::{Record, Shared};
-use std::alloc::{AllocError, Global};
+use std::alloc::Global;
 use std::io;
 use std::rt::Clock;
 use std::thread::Threads;
@@ -43,7 +43,13 @@ fn main(rt: HostRuntime) -> io::Result<()> {
                 _ => Op::Both,
             };
             let calls = calls.as_str().parse::<u64>().unwrap_or(0);
-            count(&rt, rt.alloc(), name.as_str(), bytes.as_str(), op, calls)
+            count(
+                &rt,
+                rt.alloc(),
+                name.as_str(),
+                bytes.as_str(),
+                Asked::Calls(op, calls),
+            )
         }
         _ => println!(rt; "# list | run | count IMPL BYTES OP N"),
     }
@@ -51,112 +57,153 @@ fn main(rt: HostRuntime) -> io::Result<()> {
 
 fn all<R: Clock + Print + Threads + Sync>(rt: &R, alloc: Global, command: &str) -> io::Result<()> {
     match command {
-        "list" => {
-            for name in [FOUR_SLOT, TRIPLE] {
-                for bytes in [24, 256, 4096] {
-                    println!(rt; "{name},{bytes}")?;
-                }
-            }
-            for name in [BOARD_FOUR_SLOT, BOARD_TRIPLE] {
-                for n in PROCESSES {
-                    println!(rt; "{name}:{n},24")?;
-                }
-            }
-            Ok(())
-        }
-        "run" => {
-            one::<_, [u64; 3], FourSlotCell<Record<[u64; 3]>>>(rt, alloc, FOUR_SLOT, 24)?;
-            one::<_, [u64; 32], FourSlotCell<Record<[u64; 32]>>>(rt, alloc, FOUR_SLOT, 256)?;
-            one::<_, [u64; 512], FourSlotCell<Record<[u64; 512]>>>(rt, alloc, FOUR_SLOT, 4096)?;
-            one::<_, [u64; 3], TripleCell<Record<[u64; 3]>>>(rt, alloc, TRIPLE, 24)?;
-            one::<_, [u64; 32], TripleCell<Record<[u64; 32]>>>(rt, alloc, TRIPLE, 256)?;
-            one::<_, [u64; 512], TripleCell<Record<[u64; 512]>>>(rt, alloc, TRIPLE, 4096)?;
-            boards::run::<R, FourSlotCell<Clocked<Item>>>(rt, alloc, BOARD_FOUR_SLOT)?;
-            boards::run::<R, TripleCell<Clocked<Item>>>(rt, alloc, BOARD_TRIPLE)
-        }
+        "list" => list(rt),
+        "run" => run(rt, alloc),
         _ => println!(rt; "# list | run | count IMPL BYTES OP N"),
     }
 }
 
-/// Measures one cell at one size.
-fn one<R: Clock + Print + Threads + Sync, W: Shared, C: Cell<Record<W>>>(
+fn list(rt: &impl Print) -> io::Result<()> {
+    for name in [FOUR_SLOT, TRIPLE] {
+        for bytes in [24, 256, 4096] {
+            println!(rt; "{name},{bytes}")?;
+        }
+    }
+    for name in [BOARD_FOUR_SLOT, BOARD_TRIPLE] {
+        for n in PROCESSES {
+            println!(rt; "{name}:{n},24")?;
+        }
+    }
+    Ok(())
+}
+
+fn run<R: Clock + Print + Threads + Sync>(rt: &R, alloc: Global) -> io::Result<()> {
+    for name in [FOUR_SLOT, TRIPLE] {
+        for bytes in [24, 256, 4096] {
+            cell(rt, alloc, name, bytes, Asked::Measures)?;
+        }
+    }
+    board(rt, alloc, BOARD_FOUR_SLOT, 0, Asked::Measures)?;
+    board(rt, alloc, BOARD_TRIPLE, 0, Asked::Measures)
+}
+
+fn count<R: Clock + Print + Threads + Sync>(
+    rt: &R,
+    alloc: Global,
+    name: &str,
+    bytes: &str,
+    asked: Asked,
+) -> io::Result<()> {
+    match bytes {
+        "24" => match name.split_once(':') {
+            Some((kind, n)) => {
+                let n = n.parse::<usize>().unwrap_or(0);
+                if !PROCESSES.contains(&n) {
+                    return println!(rt; "# no such board");
+                }
+                board(rt, alloc, kind, n, asked)
+            }
+            None => cell(rt, alloc, name, 24, asked),
+        },
+        "256" => cell(rt, alloc, name, 256, asked),
+        "4096" => cell(rt, alloc, name, 4096, asked),
+        _ => println!(rt; "# no such cell"),
+    }
+}
+
+/// A cell over records of so many bytes.
+fn cell<R: Clock + Print + Threads + Sync>(
     rt: &R,
     alloc: Global,
     name: &str,
     bytes: u64,
+    asked: Asked,
+) -> io::Result<()> {
+    match bytes {
+        24 => of_words::<R, [u64; 3]>(rt, alloc, name, bytes, asked),
+        256 => of_words::<R, [u64; 32]>(rt, alloc, name, bytes, asked),
+        _ => of_words::<R, [u64; 512]>(rt, alloc, name, bytes, asked),
+    }
+}
+
+/// (Each call that names a cell's type is dear to prove: so one stands here for all sizes, and for measures as for calls.)
+fn of_words<R: Clock + Print + Threads + Sync, W: Shared>(
+    rt: &R,
+    alloc: Global,
+    name: &str,
+    bytes: u64,
+    asked: Asked,
+) -> io::Result<()> {
+    match name {
+        "proved_four_slot" => on_cell::<R, W, FourSlotCell<Record<W>>>(
+            rt, alloc, name, bytes, asked,
+        ),
+        "proved_triple" => on_cell::<R, W, TripleCell<Record<W>>>(rt, alloc, name, bytes, asked),
+        _ => println!(rt; "# no such cell"),
+    }
+}
+
+fn on_cell<R: Clock + Print + Threads + Sync, W: Shared, C: Cell<Record<W>>>(
+    rt: &R,
+    alloc: Global,
+    name: &str,
+    bytes: u64,
+    asked: Asked,
 ) -> io::Result<()>
 where
     C::Put: Send,
     C::Get: Send,
     C::Told: Send,
 {
-    solo::run::<R, W, C>(rt, alloc, name, bytes)?;
-    duo::run::<R, W, C>(rt, alloc, name, bytes)?;
-    paced::run::<R, W, C>(rt, alloc, name, bytes)
+    match asked {
+        Asked::Measures => {
+            solo::run::<R, W, C>(rt, alloc, name, bytes)?;
+            duo::run::<R, W, C>(rt, alloc, name, bytes)?;
+            paced::run::<R, W, C>(rt, alloc, name, bytes)
+        }
+        Asked::Calls(op, calls) => {
+            let sum = solo::calls::<W, C>(alloc, op, calls)?;
+            println!(rt; "# {sum}")
+        }
+    }
 }
 
-fn count(
-    rt: &impl Print,
-    alloc: Global,
-    name: &str,
-    bytes: &str,
-    op: Op,
-    calls: u64,
-) -> io::Result<()> {
-    let sum = match (name, bytes) {
-        ("proved_four_slot", "24") => solo::calls::<[u64; 3], FourSlotCell<Record<[u64; 3]>>>(
-            alloc, op, calls,
-        )?,
-        ("proved_four_slot", "256") => solo::calls::<[u64; 32], FourSlotCell<Record<[u64; 32]>>>(
-            alloc, op, calls,
-        )?,
-        ("proved_four_slot", "4096") => solo::calls::<[u64; 512], FourSlotCell<Record<[u64; 512]>>>(
-            alloc, op, calls,
-        )?,
-        ("proved_triple", "24") => solo::calls::<[u64; 3], TripleCell<Record<[u64; 3]>>>(
-            alloc, op, calls,
-        )?,
-        ("proved_triple", "256") => solo::calls::<[u64; 32], TripleCell<Record<[u64; 32]>>>(
-            alloc, op, calls,
-        )?,
-        ("proved_triple", "4096") => solo::calls::<[u64; 512], TripleCell<Record<[u64; 512]>>>(
-            alloc, op, calls,
-        )?,
-        (board, "24") => match board.split_once(':') {
-            Some((kind, n)) => {
-                let n = n.parse::<usize>().unwrap_or(0);
-                match of_board(alloc, kind, n, op, calls)? {
-                    Some(sum) => sum,
-                    None => return println!(rt; "# no such board"),
-                }
-            }
-            None => return println!(rt; "# no such cell"),
-        },
-        _ => return println!(rt; "# no such cell"),
-    };
-    println!(rt; "# {sum}")
-}
-
-/// One board and the calls.
-fn of_board(
+/// Boards over one cell, of n processes where calls are asked for.
+fn board<R: Clock + Print + Threads + Sync>(
+    rt: &R,
     alloc: Global,
     kind: &str,
     n: usize,
-    op: Op,
-    calls: u64,
-) -> Result<Option<u64>, AllocError> {
-    if !PROCESSES.contains(&n) {
-        return Ok(None);
-    }
+    asked: Asked,
+) -> io::Result<()> {
     match kind {
         "proved_board_four_slot" => {
-            let sum = boards::calls::<FourSlotCell<Clocked<Item>>>(alloc, n, op, calls)?;
-            Ok(Some(sum))
+            on_board::<R, FourSlotCell<Clocked<Item>>>(rt, alloc, kind, n, asked)
         }
         "proved_board_triple" => {
-            let sum = boards::calls::<TripleCell<Clocked<Item>>>(alloc, n, op, calls)?;
-            Ok(Some(sum))
+            on_board::<R, TripleCell<Clocked<Item>>>(rt, alloc, kind, n, asked)
         }
-        _ => Ok(None),
+        _ => println!(rt; "# no such board"),
+    }
+}
+
+fn on_board<R: Clock + Print + Threads + Sync, C: Cell<Clocked<Item>>>(
+    rt: &R,
+    alloc: Global,
+    name: &str,
+    n: usize,
+    asked: Asked,
+) -> io::Result<()>
+where
+    C::Put: Send,
+    C::Get: Send,
+    C::Told: Send,
+{
+    match asked {
+        Asked::Measures => boards::run::<R, C>(rt, alloc, name),
+        Asked::Calls(op, calls) => {
+            let sum = boards::calls::<C>(alloc, n, op, calls)?;
+            println!(rt; "# {sum}")
+        }
     }
 }

@@ -12,6 +12,13 @@ pub enum Op {
     Both,
 }
 
+/// What is asked of a cell or a board: all its measures, or so many calls.
+#[derive(Clone, Copy)]
+pub enum Asked {
+    Measures,
+    Calls(Op, u64),
+}
+
 /// What is called again and again in one thread.
 pub trait Batch {
     ghost ready: { Self → Type 0 };
@@ -53,8 +60,8 @@ pub fn quantile(sorted: &[u64], part: usize) -> u64 {
     }
 }
 
-/// The picoseconds of one call, as the median of batches of at least 100 microseconds.
-pub fn per_call<B: Batch>(rt: &impl Clock, alloc: Global, called: &mut B, op: Op) -> io::Result<u64>
+/// A number of calls that take at least 100 microseconds.
+fn batch_size<B: Batch>(rt: &impl Clock, called: &mut B, op: Op) -> io::Result<u64>
     requires { B.ready called.old }
     ensures { B.ready called.new }
 {
@@ -67,12 +74,29 @@ pub fn per_call<B: Batch>(rt: &impl Clock, alloc: Global, called: &mut B, op: Op
         }
         size = size.saturating_mul(2);
     }
+    Ok(size)
+}
+
+/// The picoseconds of one call, where so many are made at once.
+fn time_batch<B: Batch>(rt: &impl Clock, called: &mut B, op: Op, size: u64) -> io::Result<u64>
+    requires { B.ready called.old }
+    ensures { B.ready called.new }
+{
+    let start = Instant::now(rt)?;
+    called.batch(op, size);
+    let time = since(rt, start).saturating_mul(1_000);
+    Ok(time.checked_div(size).unwrap_or(0))
+}
+
+/// The picoseconds of one call, as the median of batches of at least 100 microseconds.
+pub fn per_call<B: Batch>(rt: &impl Clock, alloc: Global, called: &mut B, op: Op) -> io::Result<u64>
+    requires { B.ready called.old }
+    ensures { B.ready called.new }
+{
+    let size = batch_size(rt, called, op)?;
     let mut times = Vec::new(alloc);
     for _ in 0..61 {
-        let start = Instant::now(rt)?;
-        called.batch(op, size);
-        let time = since(rt, start).saturating_mul(1_000);
-        times.push(time.checked_div(size).unwrap_or(0))?;
+        times.push(time_batch(rt, called, op, size)?)?;
     }
     times.sort()?;
     Ok(quantile(times.as_slice(), 5_000))

@@ -105,24 +105,79 @@ impl<'a, W: Shared, C: Cell<Record<W>>> Side for Reader<'a, W, C> {
     }
 }
 
+/// Prints the percentiles of the times, without the clock's own cost.
 fn say_times(
     rt: &impl Print,
     name: &str,
     bytes: u64,
     op: [&str; 3],
     cost: u64,
-    times: Times,
+    times: &mut Times,
 ) -> io::Result<()> {
-    let Times {
-        mut nanos,
-        other: _,
-    } = times;
-    nanos.sort()?;
+    times.nanos.sort()?;
     for (metric, part) in [(op[0], 5_000), (op[1], 9_900), (op[2], 9_990)] {
-        let time = quantile(nanos.as_slice(), part).saturating_sub(cost);
+        let time = quantile(times.nanos.as_slice(), part).saturating_sub(cost);
         say(rt, name, bytes, "paced", metric, time.saturating_mul(1_000))?;
     }
     Ok(())
+}
+
+/// What one run measured.
+#[derive(Drop)]
+struct Measured {
+    cost: u64,
+    writes: Times,
+    reads: Times,
+}
+
+fn measure<R: Clock + Threads + Sync, W: Shared, C: Cell<Record<W>>>(
+    rt: &R,
+    alloc: Global,
+) -> io::Result<Measured>
+where
+    C::Put: Send,
+    C::Get: Send,
+    C::Told: Send,
+{
+    let start = Instant::now(rt)?;
+    let writes = Times::new(alloc)?;
+    let reads = Times::new(alloc)?;
+    let (cell, put, get) = C::make(alloc, Record::zero())?;
+    let cell = CachePadded::new(cell);
+    let mut writer: CachePadded<Writer<W, C>> = CachePadded::new(Writer {
+        start,
+        cell: &cell,
+        put,
+        item: Record::zero(),
+        times: writes,
+    });
+    let mut reader: CachePadded<Reader<W, C>> = CachePadded::new(Reader {
+        start,
+        cell: &cell,
+        get,
+        answer: Record::zero(),
+        times: reads,
+    });
+    let cost = clock_cost(rt, start);
+    at_once(rt, &Beats::new(), &mut *writer, &mut *reader);
+    Ok(Measured {
+        cost,
+        writes: writer.into_inner().times,
+        reads: reader.into_inner().times,
+    })
+}
+
+fn say_measured(
+    rt: &impl Print,
+    name: &str,
+    bytes: u64,
+    measured: &mut Measured,
+) -> io::Result<()> {
+    let cost = measured.cost;
+    let of_writes = ["write_p50_ns", "write_p99_ns", "write_p99.9_ns"];
+    say_times(rt, name, bytes, of_writes, cost, &mut measured.writes)?;
+    let of_reads = ["read_p50_ns", "read_p99_ns", "read_p99.9_ns"];
+    say_times(rt, name, bytes, of_reads, cost, &mut measured.reads)
 }
 
 pub fn run<R: Clock + Print + Threads + Sync, W: Shared, C: Cell<Record<W>>>(
@@ -136,41 +191,6 @@ where
     C::Get: Send,
     C::Told: Send,
 {
-    let (cell, put, get) = C::make(alloc, Record::zero())?;
-    let cell = CachePadded::new(cell);
-    let start = Instant::now(rt)?;
-    let mut writer: CachePadded<Writer<W, C>> = CachePadded::new(Writer {
-        start,
-        cell: &cell,
-        put,
-        item: Record::zero(),
-        times: Times::new(alloc)?,
-    });
-    let mut reader: CachePadded<Reader<W, C>> = CachePadded::new(Reader {
-        start,
-        cell: &cell,
-        get,
-        answer: Record::zero(),
-        times: Times::new(alloc)?,
-    });
-    let cost = clock_cost(rt, start);
-    at_once(rt, &Beats::new(), &mut *writer, &mut *reader);
-    let writes = writer.into_inner().times;
-    let reads = reader.into_inner().times;
-    say_times(
-        rt,
-        name,
-        bytes,
-        ["write_p50_ns", "write_p99_ns", "write_p99.9_ns"],
-        cost,
-        writes,
-    )?;
-    say_times(
-        rt,
-        name,
-        bytes,
-        ["read_p50_ns", "read_p99_ns", "read_p99.9_ns"],
-        cost,
-        reads,
-    )
+    let mut measured = measure::<R, W, C>(rt, alloc)?;
+    say_measured(rt, name, bytes, &mut measured)
 }

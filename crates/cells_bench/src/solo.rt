@@ -1,16 +1,16 @@
 //! Calls on one thread.
 ghost use Rattle.std.specs.Prelude.{◌≡◌, ◌≤◌};
 
-use crate::measure::{Op, quantile, say, since};
-use crate::record::{Record, Shared};
+use crate::measure::{Batch, Op, per_call, say};
+use crate::record::{Record, Shared, Words};
 use cell_live::{Calls, Cell};
 use std::alloc::{AllocError, Global};
 use std::io;
+use std::marker::PhantomData;
 use std::rt::Clock;
-use std::time::Instant;
 
 /// Makes the calls, and gives a sum of what was read.
-fn batch<W: Shared, C: Cell<Record<W>>>(
+fn batch<W: Words, C: Calls<Record<W>>>(
     cell: &C,
     put: &mut C::Put,
     get: &mut C::Get,
@@ -28,7 +28,7 @@ fn batch<W: Shared, C: Cell<Record<W>>>(
     }
 }
 
-fn write<W: Shared, C: Cell<Record<W>>>(cell: &C, put: &mut C::Put, calls: u64) -> u64
+fn write<W: Words, C: Calls<Record<W>>>(cell: &C, put: &mut C::Put, calls: u64) -> u64
     requires { C.is_put cell.now put.old }
     ensures { C.is_put cell.now put.new }
 {
@@ -40,7 +40,7 @@ fn write<W: Shared, C: Cell<Record<W>>>(cell: &C, put: &mut C::Put, calls: u64) 
     0
 }
 
-fn read<W: Shared, C: Cell<Record<W>>>(cell: &C, get: &mut C::Get, calls: u64) -> u64
+fn read<W: Words, C: Calls<Record<W>>>(cell: &C, get: &mut C::Get, calls: u64) -> u64
     requires { C.is_get cell.now get.old }
     ensures { C.is_get cell.now get.new }
 {
@@ -52,7 +52,7 @@ fn read<W: Shared, C: Cell<Record<W>>>(cell: &C, get: &mut C::Get, calls: u64) -
 }
 
 /// Reads in place: a word of each record.
-fn look<W: Shared, C: Cell<Record<W>>>(cell: &C, get: &mut C::Get, calls: u64) -> u64
+fn look<W: Words, C: Calls<Record<W>>>(cell: &C, get: &mut C::Get, calls: u64) -> u64
     requires { C.is_get cell.now get.old }
     ensures { C.is_get cell.now get.new }
 {
@@ -63,7 +63,7 @@ fn look<W: Shared, C: Cell<Record<W>>>(cell: &C, get: &mut C::Get, calls: u64) -
     sum
 }
 
-fn both<W: Shared, C: Cell<Record<W>>>(
+fn both<W: Words, C: Calls<Record<W>>>(
     cell: &C,
     put: &mut C::Put,
     get: &mut C::Get,
@@ -92,31 +92,33 @@ pub fn calls<W: Shared, C: Cell<Record<W>>>(
     Ok(batch(&cell, &mut put, &mut get, op, calls))
 }
 
-/// The picoseconds of one call, as the median of batches of at least 100 microseconds.
-fn per_call<W: Shared, C: Cell<Record<W>>>(
-    rt: &impl Clock,
-    alloc: Global,
-    op: Op,
-) -> io::Result<u64> {
-    let (cell, mut put, mut get) = C::make(alloc, Record::zero())?;
-    let mut size = 16u64;
-    for _ in 0..16 {
-        let start = Instant::now(rt)?;
-        batch(&cell, &mut put, &mut get, op, size);
-        if since(rt, start) > 100_000 {
-            break;
-        }
-        size = size.saturating_mul(2);
+/// A cell with its two passes.
+#[derive(Drop)]
+struct Alone<W: Words, C: Calls<Record<W>>> {
+    cell: C,
+    put: C::Put,
+    get: C::Get,
+    of: PhantomData<W>,
+}
+
+impl<W: Words, C: Calls<Record<W>>> Batch for Alone<W, C> {
+    ghost ready = { λ s. C.is_put s.cell s.put × C.is_get s.cell s.get };
+
+    fn batch(&mut self, op: Op, calls: u64) -> u64 {
+        batch(&self.cell, &mut self.put, &mut self.get, op, calls)
     }
-    let mut times = Vec::new(alloc);
-    for _ in 0..61 {
-        let start = Instant::now(rt)?;
-        batch(&cell, &mut put, &mut get, op, size);
-        let time = since(rt, start).saturating_mul(1_000);
-        times.push(time.checked_div(size).unwrap_or(0))?;
-    }
-    times.sort()?;
-    Ok(quantile(times.as_slice(), 5_000))
+}
+
+/// The picoseconds of one call of a new cell.
+fn time<W: Shared, C: Cell<Record<W>>>(rt: &impl Clock, alloc: Global, op: Op) -> io::Result<u64> {
+    let (cell, put, get) = C::make(alloc, Record::zero())?;
+    let mut alone: Alone<W, C> = Alone {
+        cell,
+        put,
+        get,
+        of: PhantomData,
+    };
+    per_call(rt, alloc, &mut alone, op)
 }
 
 pub fn run<R: Clock + Print, W: Shared, C: Cell<Record<W>>>(
@@ -125,9 +127,9 @@ pub fn run<R: Clock + Print, W: Shared, C: Cell<Record<W>>>(
     name: &str,
     bytes: u64,
 ) -> io::Result<()> {
-    let write = per_call::<W, C>(rt, alloc, Op::Write)?;
-    let read = per_call::<W, C>(rt, alloc, Op::Read)?;
-    let both = per_call::<W, C>(rt, alloc, Op::Both)?;
+    let write = time::<W, C>(rt, alloc, Op::Write)?;
+    let read = time::<W, C>(rt, alloc, Op::Read)?;
+    let both = time::<W, C>(rt, alloc, Op::Both)?;
     say(rt, name, bytes, "solo", "write_ns", write)?;
     say(rt, name, bytes, "solo", "read_ns", read)?;
     say(rt, name, bytes, "solo", "write_read_ns", both)

@@ -3,6 +3,3 @@ use Rattle.cells_bench.proofs.measure.per_call.Given as goal
 
 abbrev pub invariant-loop : goal.invariant-loop
 invariant-loop g l = g.B.Batch.ready l.called
-
-abbrev pub invariant-loop-2 : goal.invariant-loop-2
-invariant-loop-2 g l = g.B.Batch.ready l.called

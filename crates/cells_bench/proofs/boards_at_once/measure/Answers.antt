@@ -1,6 +1,6 @@
 -- Tasks are made of a new board's passes.
 use Rattle.std.proofs.lemmas.Option.{slice_get-get_or}
-use Rattle.cells_bench.proofs.boards_at_once.run.Goals as goal
+use Rattle.cells_bench.proofs.boards_at_once.measure.Goals as goal
 
 pub make_tasks-requires : goal.make_tasks-requires
 make_tasks-requires g c = λ k d l. rw (c.deref.ensures, c.new-board.ensures)
