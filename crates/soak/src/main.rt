@@ -9,14 +9,16 @@ use cell_triple::TripleCell;
 use soak_rounds::finding::{Finding, Tally, status};
 use soak_rounds::record::{Record, Shared};
 use soak_rounds::{boards, pair, planted};
-use std::alloc::Global;
+use std::alloc::{AllocError, Global};
 use std::io;
 use std::process::ExitCode;
 use std::rt::Clock;
 use std::thread::Threads;
 use std::time::Instant;
 
-const TASKS: [usize; 3] = [2, 4, 16];
+const FOUR_SLOT: &str = "four_slot";
+
+const TRIPLE: &str = "triple";
 
 /// The planted register is given a minute, about.
 const PLANTED_ROUNDS: u64 = 500;
@@ -49,7 +51,7 @@ fn command<R: Clock + Print + Threads + Sync>(
             Ok(tally.found)
         }
         _ => {
-            for name in ["four_slot", "triple"] {
+            for name in [FOUR_SLOT, TRIPLE] {
                 for bytes in [24, 256, 4096] {
                     println!(rt;
                         "{name}, records of {bytes} bytes: one writer and one reader; boards of 2, 4 and 16 tasks"
@@ -67,47 +69,111 @@ fn all<R: Clock + Print + Threads + Sync>(
     alloc: Global,
     nanos: u64,
 ) -> io::Result<Option<Finding>> {
-    let found = soak::<R, [u64; 3], FourSlotCell<_>, FourSlotCell<_>>(
-        rt,
-        alloc,
-        "four_slot",
-        24,
-        nanos,
-    )?;
-    if found.is_some() {
-        return Ok(found);
+    for name in [FOUR_SLOT, TRIPLE] {
+        for bytes in [24, 256, 4096] {
+            let found = cell(rt, alloc, name, bytes, nanos)?;
+            if found.is_some() {
+                return Ok(found);
+            }
+        }
     }
-    let found = soak::<R, [u64; 32], FourSlotCell<_>, FourSlotCell<_>>(
-        rt,
-        alloc,
-        "four_slot",
-        256,
-        nanos,
-    )?;
-    if found.is_some() {
-        return Ok(found);
+    Ok(None)
+}
+
+/// Runs the cell of this name over records of so many bytes.
+fn cell<R: Clock + Print + Threads + Sync>(
+    rt: &R,
+    alloc: Global,
+    name: &str,
+    bytes: u64,
+    nanos: u64,
+) -> io::Result<Option<Finding>> {
+    match bytes {
+        24 => of_words::<R, [u64; 3]>(rt, alloc, name, bytes, nanos),
+        256 => of_words::<R, [u64; 32]>(rt, alloc, name, bytes, nanos),
+        _ => of_words::<R, [u64; 512]>(rt, alloc, name, bytes, nanos),
     }
-    let found = soak::<R, [u64; 512], FourSlotCell<_>, FourSlotCell<_>>(
-        rt,
-        alloc,
-        "four_slot",
-        4096,
-        nanos,
-    )?;
-    if found.is_some() {
-        return Ok(found);
+}
+
+/// (A call that names a cell's type is dear to prove, so that one stands here for all sizes.)
+fn of_words<R: Clock + Print + Threads + Sync, W: Shared + Drop>(
+    rt: &R,
+    alloc: Global,
+    name: &str,
+    bytes: u64,
+    nanos: u64,
+) -> io::Result<Option<Finding>> {
+    match name {
+        "four_slot" => {
+            soak::<R, W, FourSlotCell<_>, FourSlotCell<_>>(rt, alloc, name, bytes, nanos)
+        }
+        _ => soak::<R, W, TripleCell<_>, TripleCell<_>>(rt, alloc, name, bytes, nanos),
     }
-    let found = soak::<R, [u64; 3], TripleCell<_>, TripleCell<_>>(rt, alloc, "triple", 24, nanos)?;
-    if found.is_some() {
-        return Ok(found);
+}
+
+/// Boards of so many tasks, and what their rounds gave.
+#[derive(Clone, Copy)]
+struct Boards {
+    tasks: usize,
+    tally: Tally,
+}
+
+impl Boards {
+    fn of(tasks: usize) -> Boards {
+        Boards {
+            tasks,
+            tally: Tally::none(),
+        }
     }
-    let found = soak::<R, [u64; 32], TripleCell<_>, TripleCell<_>>(
-        rt, alloc, "triple", 256, nanos,
-    )?;
-    if found.is_some() {
-        return Ok(found);
+
+    /// The calls of each task in a round: fewer where tasks are many or records long.
+    fn calls(&self, bytes: u64) -> u64 {
+        let of_all = 16_000_000u64.checked_div(bytes).unwrap_or(0);
+        of_all
+            .checked_div(self.tasks as u64)
+            .unwrap_or(0)
+            .min(1_000)
     }
-    soak::<R, [u64; 512], TripleCell<_>, TripleCell<_>>(rt, alloc, "triple", 4096, nanos)
+}
+
+/// What the next board opens with, and the number above which its records are.
+#[derive(Clone, Copy)]
+struct Next<W> {
+    opening: Record<W>,
+    from: u64,
+}
+
+/// A round on a board of each number of tasks. Gives what was found first.
+fn rounds<R: Threads + Sync, W: Shared + Drop, C: Cell<Clocked<Record<W>>>>(
+    rt: &R,
+    alloc: Global,
+    bytes: u64,
+    boards: &mut [Boards],
+    next: &mut Next<W>,
+) -> Result<Option<Finding>, AllocError>
+where
+    C::Put: Send,
+    C::Get: Send,
+    C::Told: Send,
+{
+    let mut found = None;
+    for board in boards {
+        let tasks = board.tasks;
+        let calls = board.calls(bytes);
+        let (tally, last) = boards::round::<R, W, C>(
+            rt,
+            alloc,
+            tasks,
+            next.opening,
+            next.from,
+            calls,
+        )?;
+        board.tally.add(tally);
+        found = found.or(tally.found);
+        next.opening = last;
+        next.from = next.from.saturating_add(calls.saturating_mul(tasks as u64));
+    }
+    Ok(found)
 }
 
 /// Runs one cell at one size until the time is over or something is found: pairs of a writer and a reader, and boards.
@@ -127,29 +193,34 @@ where
 {
     let start = Instant::now(rt)?;
     let mut pairs = Tally::none();
-    let mut boards = [Tally::none(); 3];
-    let (mut opening, mut from) = (Record::of(0), 0u64);
+    let mut boards = [Boards::of(2), Boards::of(4), Boards::of(16)];
+    let mut next = Next {
+        opening: Record::of(0),
+        from: 0,
+    };
     for _ in 0..u64::MAX {
         pairs.add(pair::rounds::<R, W, C>(rt, alloc, 5)?);
-        let mut found = pairs.found;
-        for k in 0..3 {
-            let tasks = TASKS[k];
-            let calls = (16_000_000 / bytes.max(1) / tasks as u64).min(1_000);
-            let (tally, last) = boards::round::<R, W, D>(rt, alloc, tasks, opening, from, calls)?;
-            boards[k].add(tally);
-            found = found.or(tally.found);
-            opening = last;
-            from = from.saturating_add(calls.saturating_mul(tasks as u64));
-        }
-        if found.is_some() || since(rt, start) >= nanos {
+        let found = rounds::<R, W, D>(rt, alloc, bytes, &mut boards, &mut next)?;
+        if pairs.found.is_some() || found.is_some() || since(rt, start) >= nanos {
             break;
         }
     }
+    say_all(rt, name, bytes, pairs, &boards)
+}
+
+/// Prints the counts of one soak. Gives what was found first.
+fn say_all(
+    rt: &impl Print,
+    name: &str,
+    bytes: u64,
+    pairs: Tally,
+    boards: &[Boards],
+) -> io::Result<Option<Finding>> {
     say(rt, name, bytes, 1, pairs)?;
     let mut found = pairs.found;
-    for k in 0..3 {
-        say(rt, name, bytes, TASKS[k], boards[k])?;
-        found = found.or(boards[k].found);
+    for board in boards {
+        say(rt, name, bytes, board.tasks, board.tally)?;
+        found = found.or(board.tally.found);
     }
     Ok(found)
 }
