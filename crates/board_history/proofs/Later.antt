@@ -1,5 +1,6 @@
--- What calls of a board's run know of each other: by the law of choices stamps rise along precedence, and each record has its write.
-use Rattle.std.proofs.Common.{◌≡◌, ℕ, ◌<◌, List, slice_get, Option, Some, refl, sym, ◌∙◌, ap, subst, inl, inr}
+-- What calls of a board's run know of each other: by the law of choices stamps rise along precedence, each record has its write, and of one
+-- stamp there is one write, so one record.
+use Rattle.std.proofs.Common.{◌≡◌, ℕ, ◌<◌, List, slice_get, Option, Some, refl, sym, ◌∙◌, ap, arith, subst, inl, inr}
 use Rattle.std.specs.Prelude.{IsSomeAnd}
 use Rattle.std.proofs.lemmas.Option.{same_Some}
 use Rattle.history_core.specs.declared.history.Op.{Op}
@@ -8,8 +9,8 @@ use Rattle.history_core.specs.Orders.{Precedes}
 use Rattle.stamps.specs.declared.stamp.Stamp.{Stamp}
 use Rattle.stamps.specs.declared.stamp.Stamped.{Stamped}
 use Rattle.stamps.specs.Choices.{Choice, HasChoices, IsAtMost, IsChoiceOf, IsEarlier, IsIn}
-use Rattle.stamps.specs.Stamps.{IsBelow}
-use Rattle.stamps.proofs.choices.Rise.{have_writes, stamps_rise}
+use Rattle.stamps.specs.Stamps.{IsBelow, first_stamp}
+use Rattle.stamps.proofs.choices.Rise.{have_writes, HasWrite, one_write_each, stamps_rise, tags_rise}
 use Rattle.matrix_core.specs.Lines.{first_record}
 use Rattle.board_history.specs.BoardRuns.{Called, Did, IsBoardRun}
 use Rattle.board_history.specs.Histories.{ChoseFrom, IsCall, IsHistory}
@@ -92,6 +93,34 @@ module _ {V : Type 0} (width n limit : ℕ) (opening : V) (steps : List ℕ) (di
         λ w. subst (λ (z : Stamp × Stamp). IsBelow z.0 z.1) (λ k. (p.stamp k, q.stamp k)) (r.1 (q.kind ∙ w)),
       )
 
+  -- no write has the opening's stamp
+  no_first : (w : Choice V) → IsIn w choices → w.kind ≡ Write → w.stamp ≡ first_stamp → ⊥
+  no_first w m k e =
+      let tag : w.stamp.tag ≡ 0 = ap (λ (z : Stamp). z.tag) e in
+      elim ((tags_rise (IsEarlier ops) opening limit choices x.law w m).1 k) [
+        | inl one ↦ omega (arith, one, tag)
+        | inr below ↦ let more = below.3 in omega (arith, more, tag)
+      ]
+
+  one_item : (s t : Stamp) (a b : V) → s ≡ t → HasWrite opening choices s a → HasWrite opening choices t b → a ≡ b
+  one_item s t a b e (inl f) (inl g) = f.1 ∙ sym g.1
+  one_item s t a b e (inl f) (inr w) = absurd (no_first w.0 w.1 w.2 (w.3 ∙ sym e ∙ f.0))
+  one_item s t a b e (inr v) (inl g) = absurd (no_first v.0 v.1 v.2 (v.3 ∙ e ∙ g.0))
+  one_item s t a b e (inr v) (inr w) =
+      let same = one_write_each (IsEarlier ops) opening limit choices x.law v.0 w.0 v.1 w.1 v.2 w.2 (v.3 ∙ e ∙ sym w.3) in
+      sym v.4 ∙ ap (λ (z : Choice V). z.item) same ∙ w.4
+
+  agree_by : (i j k m : ℕ) (c d : Called V) → i < n → j < n → slice_get (did i).calls k ≡ Some c → slice_get (did j).calls m ≡ Some d →
+      c.chosen.stamp ≡ d.chosen.stamp → c.chosen ≡ d.chosen
+  agree_by i j k m c d li lj ec ed e =
+      let a = choice_of i k c li ec in
+      let b = choice_of j m d lj ed in
+      let p : Matches ops a.0 c = a.2 in
+      let q : Matches ops b.0 d = b.2 in
+      let has = have_writes (IsEarlier ops) opening limit choices x.law in
+      same_record c.chosen d.chosen e
+      (sym p.item ∙ one_item a.0.stamp b.0.stamp a.0.item b.0.item (p.stamp ∙ e ∙ sym q.stamp) (has a.0 a.1) (has b.0 b.1) ∙ q.item)
+
   written_by : (i k : ℕ) (c : Called V) → i < n → slice_get (did i).calls k ≡ Some c → ChoseFrom n (first_record opening) did c
   written_by i k c l e =
       let a = choice_of i k c l e in
@@ -126,3 +155,11 @@ module _ {V : Type 0} (width n limit : ℕ) (opening : V) (steps : List ℕ) (di
       let t = all_there width n limit opening steps did run in
       let x = choices_there width n limit opening steps did run t.0 t.1 t.3 in
       written_by width n limit opening steps did run t.0 t.1 t.3 x.0 x.1
+
+  -- of one stamp there is one record
+  pub calls_agree : (i j k m : ℕ) (c d : Called V) → i < n → j < n → slice_get (did i).calls k ≡ Some c → slice_get (did j).calls m ≡ Some d →
+      c.chosen.stamp ≡ d.chosen.stamp → c.chosen ≡ d.chosen
+  calls_agree =
+      let t = all_there width n limit opening steps did run in
+      let x = choices_there width n limit opening steps did run t.0 t.1 t.3 in
+      agree_by width n limit opening steps did run t.0 t.1 t.3 x.0 x.1

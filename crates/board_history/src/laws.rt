@@ -33,7 +33,7 @@ pub fn runs_are_atomic<V>()
 {}
 
 /// What calls of a run know of each other. A call that begins after another one had ended chooses no smaller stamp, and a greater one
-/// where it is a write. And what a call chose is the opening, or the record of a write.
+/// where it is a write. What a call chose is the opening, or the record of a write. And calls that chose one stamp chose one record.
 pub fn calls_heed<V>()
     ensures rises { (width n limit : ℕ) (opening : V) (steps : List ℕ) (did : ℕ → Did V) (i j k m : ℕ) (c d : Called V) →
         IsBoardRun width n limit (first_record opening) steps did → i < n → j < n → slice_get (did i).calls k ≡ Some c →
@@ -42,6 +42,9 @@ pub fn calls_heed<V>()
     ensures written { (width n limit : ℕ) (opening : V) (steps : List ℕ) (did : ℕ → Did V) (i k : ℕ) (c : Called V) →
         IsBoardRun width n limit (first_record opening) steps did → i < n → slice_get (did i).calls k ≡ Some c →
         ChoseFrom n (first_record opening) did c }
+    ensures agree { (width n limit : ℕ) (opening : V) (steps : List ℕ) (did : ℕ → Did V) (i j k m : ℕ) (c d : Called V) →
+        IsBoardRun width n limit (first_record opening) steps did → i < n → j < n → slice_get (did i).calls k ≡ Some c →
+        slice_get (did j).calls m ≡ Some d → c.chosen.stamp ≡ d.chosen.stamp → c.chosen ≡ d.chosen }
 {}
 
 /// What the definitions say of two processes: an answer that was written is a run's, and an answer that is older than a write that had

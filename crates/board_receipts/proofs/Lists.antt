@@ -1,16 +1,16 @@
 -- The passes of a board of two or three processes, and the calls that were made with each.
-use Rattle.std.proofs.Common.{◌≡◌, Bool, ℕ, zero, suc, ◌<◌, List, [], ◌∷◌, slice_get, Some, refl, sym, subst, arith}
+use Rattle.std.proofs.Common.{◌≡◌, Bool, ℕ, zero, suc, ◌<◌, List, [], ◌∷◌, slice_get, Some, refl, sym, subst, ◌⊎◌, arith}
 use Rattle.std.proofs.lemmas.Option.{none-some, same_Some}
 use Rattle.history_core.specs.declared.history.Kind.TheVariants.{Read}
 use Rattle.family_live.specs.declared.family.Family.{Ghosts as FamilyWords}
-use Rattle.stamps.specs.Choices.{IsAtMost}
+use Rattle.stamps.specs.Stamps.{IsBelow}
 use Rattle.board_history.specs.BoardRuns.{Called}
 use Rattle.atomic_board.specs.declared.board.Board.{Board}
 use Rattle.atomic_board.specs.declared.board.Pass.{Pass}
 use Rattle.atomic_board.specs.declared.record.Posted.{Posted}
 use Rattle.atomic_board.specs.Ends.{AllPasses, did_by, HaveAtomicOrder}
 use Rattle.atomic_board.specs.Passes.{HasMade, IsPass}
-use Rattle.board_receipts.proofs.Orders.{no_older, the_item}
+use Rattle.board_receipts.proofs.Orders.{heeds, the_item}
 
 module _ {V F S T : Type 0} (words : FamilyWords F (Posted V) S T) (board : Board V F S T) where
   pub two_passes : (obeys : V → Bool) (w r : Pass V F S T) → board.processes ≡ 2 → IsPass words obeys board w → w.process ≡ 0 →
@@ -53,10 +53,10 @@ module _ {V F S T : Type 0} (words : FamilyWords F (Posted V) S T) (board : Boar
 
   pub three_end : (q p r : Pass V F S T) (last : Posted V) (c d : Called V) → board.processes ≡ 3 →
       HaveAtomicOrder words board (q ∷ p ∷ r ∷ []) last → HasMade words board q (c ∷ []) → HasMade words board p [] →
-      HasMade words board r (d ∷ []) → c.end < d.begin → IsAtMost c.chosen.stamp d.chosen.stamp
+      HasMade words board r (d ∷ []) → c.end < d.begin → IsBelow c.chosen.stamp d.chosen.stamp ⊎ (c.chosen ≡ d.chosen)
   three_end q p r last c d n atomic of_q of_p of_r l =
       let a = atomic (of_three c d) (λ i x at. made i x at) in
-      no_older words.width board.processes board.limit board.first.item a.steps (did_by words (q ∷ p ∷ r ∷ []) (of_three c d)) a.run c d 0 2
+      heeds words.width board.processes board.limit board.first.item a.steps (did_by words (q ∷ p ∷ r ∷ []) (of_three c d)) a.run c d 0 2
       (omega (arith, n)) (omega (arith, n)) refl refl l
     where
       made : (i : ℕ) (x : Pass V F S T) → slice_get (q ∷ p ∷ r ∷ []) i ≡ Some x → HasMade words board x (of_three c d i)

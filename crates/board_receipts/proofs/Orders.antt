@@ -1,13 +1,13 @@
 -- What a run says of a write and of a read that began after it had ended.
-use Rattle.std.proofs.Common.{◌≡◌, ℕ, zero, suc, ◌<◌, List, [], ◌∷◌, slice_get, Some, sym, ◌∙◌, ap, subst, inl, inr, arith}
+use Rattle.std.proofs.Common.{◌≡◌, ℕ, zero, suc, ◌<◌, List, [], ◌∷◌, slice_get, Some, sym, ◌∙◌, ap, subst, ◌⊎◌, inl, inr, arith}
 use Rattle.std.proofs.lemmas.Option.{none-some, same_Some}
 use Rattle.history_core.specs.declared.history.Kind.TheVariants.{Read, Write}
 use Rattle.stamps.specs.declared.stamp.Stamp.{Stamp}
 use Rattle.stamps.specs.Choices.{IsAtMost}
-use Rattle.stamps.specs.Stamps.{first_stamp}
+use Rattle.stamps.specs.Stamps.{first_stamp, IsBelow}
 use Rattle.matrix_core.specs.Lines.{first_record}
 use Rattle.board_history.specs.BoardRuns.{Called, Did, IsBoardRun}
-use Rattle.board_history.proofs.Later.{calls_rise, calls_written}
+use Rattle.board_history.proofs.Later.{calls_agree, calls_rise, calls_written}
 
 only : {V : Type 0} (calls : List (Called V)) (c : Called V) → calls ≡ c ∷ [] → slice_get calls 0 ≡ Some c
 only calls c e = ap (λ cs. slice_get cs 0) e
@@ -22,10 +22,18 @@ differ e = cc
 
 module _ {V : Type 0} (width n limit : ℕ) (opening : V) (steps : List ℕ) (did : ℕ → Did V)
     (run : IsBoardRun width n limit (first_record opening) steps did) (c d : Called V) where
-  pub no_older : (i j : ℕ) → i < n → j < n → (did i).calls ≡ c ∷ [] → (did j).calls ≡ d ∷ [] → c.end < d.begin →
+  no_older : (i j : ℕ) → i < n → j < n → (did i).calls ≡ c ∷ [] → (did j).calls ≡ d ∷ [] → c.end < d.begin →
       IsAtMost c.chosen.stamp d.chosen.stamp
   no_older i j li lj a b l =
       (calls_rise width n limit opening steps did run i j 0 0 c d li lj (only (did i).calls c a) (only (did j).calls d b) l).0
+
+  -- the later call has a greater stamp, or the very record
+  pub heeds : (i j : ℕ) → i < n → j < n → (did i).calls ≡ c ∷ [] → (did j).calls ≡ d ∷ [] → c.end < d.begin →
+      IsBelow c.chosen.stamp d.chosen.stamp ⊎ (c.chosen ≡ d.chosen)
+  heeds i j li lj a b l = elim (no_older i j li lj a b l) [
+    | inl same ↦ inr (calls_agree width n limit opening steps did run i j 0 0 c d li lj (only (did i).calls c a) (only (did j).calls d b) same)
+    | inr below ↦ inl below
+  ]
 
   one_of : (calls : List (Called V)) (m : ℕ) (w x : Called V) → calls ≡ x ∷ [] → slice_get calls m ≡ Some w → x ≡ w
   one_of calls zero w x e at = same_Some x w (ap (λ cs. slice_get cs 0) (sym e) ∙ at)

@@ -1,6 +1,6 @@
 //! A board whose tasks end: what their answers are worth.
 ghost use Rattle.std.specs.Prelude.{◌≡◌, [], IfOk, IfSome, IsTrue};
-ghost use Rattle.stamps.specs.Choices.{IsAtMost};
+ghost use Rattle.atomic_board.specs.Records.{Rises};
 ghost use Rattle.board_receipts.specs.Ends.{IsFresh};
 
 use crate::passing::pass_on;
@@ -9,8 +9,8 @@ use family_live::Family;
 use stamps::Stamp;
 use std::alloc::{AllocError, Global};
 
-/// With the fresh passes of a board of three processes q writes and tells p, p tells r, r reads, and the board ends: r's answer is no older than
-/// q's write. None where the tags have ended.
+/// With the fresh passes of a board of three processes q writes and tells p, p tells r, r reads, and the board ends: r's answer is q's record,
+/// or has a greater stamp. None where the tags have ended.
 pub fn ends_no_older<V: RecordLaw, F: Family<Posted<V>>>(
     alloc: Global,
     board: Board<V, F>,
@@ -24,7 +24,7 @@ pub fn ends_no_older<V: RecordLaw, F: Family<Posted<V>>>(
     requires p { IsFresh ⟦<F as Family<Posted<V>>>⟧ V.obeys board 1 p }
     requires r { IsFresh ⟦<F as Family<Posted<V>>>⟧ V.obeys board 2 r }
     requires item { IsTrue (V.obeys item) }
-    ensures { IfOk result (λ o. IfSome o (λ x. IsAtMost x.0 x.1.stamp)) }
+    ensures { IfOk result (λ o. IfSome o (λ x. Rises (record { stamp = x.0; item = item }) x.1)) }
 {
     let mut q = q;
     let mut p = p;

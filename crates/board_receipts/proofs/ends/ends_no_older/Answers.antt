@@ -1,6 +1,6 @@
--- The read began after the write had ended, so by the run of all calls its record is no older.
-use Rattle.std.proofs.Common.{◌≡◌, [], ◌∷◌, ◌++◌, sym, ◌∙◌, ap, subst}
-use Rattle.stamps.specs.Choices.{IsAtMost}
+-- The read began after the write had ended, so by the run of all calls its stamp is greater, or its record the very one.
+use Rattle.std.proofs.Common.{◌≡◌, [], ◌∷◌, ◌++◌, sym, ◌∙◌, ap, subst, inl, inr}
+use Rattle.stamps.specs.Stamps.{IsBelow}
 use Rattle.atomic_board.specs.Ends.{AllPasses, HaveAtomicOrder}
 use Rattle.board_receipts.proofs.Lists.{three_end, three_passes}
 use Rattle.board_receipts.proofs.ends.ends_no_older.Goals as goal
@@ -27,7 +27,13 @@ returns g c =
     (c.in_ok-push-2.ensures.items ∙ ap (λ z. z ++ p ∷ []) (c.in_ok-push.ensures.items ∙ ap (λ z. z ++ q ∷ []) c.in_ok-passes.ensures.items)) in
     let atomic = subst (λ ps. HaveAtomicOrder g.F.Family board ps c.finish.result) passes c.finish.ensures.atomic in
     let h = c.in-Some.ensures.heard [] [] c.requires.q.none c.requires.r.none in
-    subst (λ a. IsAtMost a c.in-Some.answer.stamp) (ap (λ z. z.stamp) h.records.0)
-    (subst (λ a. IsAtMost h.write.chosen.stamp a) (ap (λ z. z.stamp) h.records.1)
-    (three_end g.F.Family board q p r c.finish.result h.write h.read c.requires.three atomic h.wrote
-    (c.in-Some.ensures.silent [] c.requires.p.none) h.looked h.later))
+    let wrote = h.records.0 in
+    let answer = h.records.1 in
+    elim (three_end g.F.Family board q p r c.finish.result h.write h.read c.requires.three atomic h.wrote
+    (c.in-Some.ensures.silent [] c.requires.p.none) h.looked h.later) [
+      | inl below ↦ inl (subst (λ a. IsBelow a c.in-Some.answer.stamp) (ap (λ z. z.stamp) wrote)
+          (subst (λ a. IsBelow h.write.chosen.stamp a) (ap (λ z. z.stamp) answer) below))
+      | inr same ↦
+          let one = sym wrote ∙ same ∙ answer in
+          inr (ap (λ z. z.stamp) one, ap (λ z. z.item) one)
+    ]

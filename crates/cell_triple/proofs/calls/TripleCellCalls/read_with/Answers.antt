@@ -8,9 +8,9 @@ use Rattle.cell_triple.proofs.calls.TripleCellCalls.read_with.Goals as goal
 
 pub lend-requires-clause-callable : goal.lend-requires-clause-callable
 lend-requires-clause-callable g c = λ x is.
-    let get = c.refresh.new.get in
+    let held = c.refresh.new.get.held in
     subst (λ (y : g.row.T.Denot). FnOnceTakesAt g.F.FnOnce c.args.look y)
-    (ap (λ (cs : List (ℕ × g.row.T.Denot)). (get_or cs 0 (get.slot, x)).1) (sym get.held ∙ is))
+    (ap (λ (cs : List (ℕ × g.row.T.Denot)). (get_or cs 0 (c.refresh.new.get.slot, x)).1) (sym held ∙ is))
     (c.requires.callable _ c.refresh.ensures.running)
 
 pub returns-clause-looked : goal.returns-clause-looked
