@@ -3,7 +3,7 @@ ghost use Rattle.std.specs.Prelude.{◌≡◌, ℕ, IfErr, IfOk, map};
 ghost use Rattle.schedule_text.specs.Players.{CanRace};
 ghost use Rattle.document_runs.specs.Answers.{Gives};
 ghost use Rattle.fsr_answers.specs.Answers.{AnswersRace, IsRaceAnswer, race_status};
-ghost use Rattle.fsr_answers.specs.Races.{CountsAll, IsRace, broken_at, counts_of, is_refused, is_seen, is_written, replies};
+ghost use Rattle.fsr_answers.specs.Races.{CountsAll, IsRace, IsRaceOver, broken_at, counts_of, is_refused, is_seen, is_written, replies};
 ghost use Rattle.board_live.specs.Tasks.{Permitted};
 ghost use Rattle.history_text.specs.Refusals.{Gives as Reads};
 ghost use Rattle.schedule_text.specs.Document.{race_of};
@@ -15,6 +15,7 @@ use board_live::{
     make_lanes, run_tasks,
 };
 use cell_four_slot::FourSlotCell;
+use cell_live::{Calls, Cell};
 use document_runs::{Answer, Fault};
 use history_core::{Band, Items, Wish};
 use history_text::{DocError, read_value};
@@ -91,10 +92,30 @@ pub fn race<R: Threads + Sync, G: Gate + Sync>(
     ensures counted { ((task call : ℕ) → G.may_stop gate.now task call → ⊥) → IfOk result (CountsAll scripts) }
     ensures refused { IfErr result (λ e. e ≡ NoMemory) }
 {
+    race_over::<R, G, FourSlotCell<Clocked<Band>>>(rt, alloc, opening, limit, scripts, gate)
+}
+
+/// The same over any cell.
+fn race_over<R: Threads + Sync, G: Gate + Sync, C: Cell<Clocked<Band>>>(
+    rt: &R,
+    alloc: Global,
+    opening: Band,
+    limit: u64,
+    scripts: Items<Items<Wish<Band>>>,
+    gate: &G,
+) -> Result<Report, Fault>
+where
+    C::Put: Send,
+    C::Get: Send,
+    C::Told: Send,
+    requires { CanRace opening limit scripts }
+    ensures report { IfOk result (IsRaceOver ⟦<C as Calls<Clocked<Band>>>⟧ (Permitted G.is_for gate.now) (G.may_stop gate.now)
+        opening limit scripts) }
+    ensures counted { ((task call : ℕ) → G.may_stop gate.now task call → ⊥) → IfOk result (CountsAll scripts) }
+    ensures refused { IfErr result (λ e. e ≡ NoMemory) }
+{
     let processes = scripts.as_slice().len();
-    let (board, passes) = match Board::<Band, FourSlotCell<Clocked<Band>>>::new(
-        alloc, processes, limit, opening,
-    ) {
+    let (board, passes) = match Board::<Band, C>::new(alloc, processes, limit, opening) {
         Ok(made) => made,
         Err(BoardError::NoMemory) => return Err(Fault::NoMemory),
         Err(BoardError::Processes | BoardError::Limit | BoardError::Opening) => unreachable!(),
