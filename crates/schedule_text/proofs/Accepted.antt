@@ -1,16 +1,19 @@
 -- An accepted schedule meets the condition of its player, since each part of that condition is a range that is tested.
 use Rattle.std.proofs.Common.{◌≡◌, ℕ, ◌+◌, List, [], ◌∷◌, length, refl, ap, sym, ◌∙◌, arith, Bool, true, false}
-use Rattle.std.proofs.Common.{◌&&◌, Some, Ok, sum_by, subst, suc, zero, nat_lt, slice_get}
+use Rattle.std.proofs.Common.{rules, get_or, ◌&&◌, Some, Ok, sum_by, subst, suc, zero, nat_lt, slice_get}
 use Rattle.std.proofs.lemmas.Bool.{leb-true, ltb-true}
 use Rattle.std.proofs.lemmas.List.Sums.{sum_by-cons}
 use Rattle.std.specs.List.{list_all}
-use Rattle.std.specs.Prelude.{⊤}
+use Rattle.std.specs.Prelude.{⊤, IsTrue}
+use Rattle.std.proofs.lemmas.Option.{slice_get-get_or}
+use Rattle.history_core.specs.Band.{fits}
 use Rattle.history_core.specs.declared.band.Band.{Band}
 use Rattle.history_core.specs.declared.wish.Wish.{Wish}
 use Rattle.matrix_core.specs.Runs.{CanPlay, IsTerm, step_count}
 use Rattle.matrix_core.specs.declared.schedule.MatrixTerm.{MatrixTerm}
+use Rattle.schedule_text.specs.Players.{CanRace}
 use Rattle.schedule_text.specs.Terms.{single}
-use Rattle.schedule_text.specs.Plans.{are_of, plans_in_range, term_in_range, terms_in_range}
+use Rattle.schedule_text.specs.Plans.{are_of, members, plan_fits, plans_fit, plans_in_range, wish_fits, term_in_range, terms_in_range}
 use Rattle.history_text.specs.Ranges.{limit_in_range}
 use Rattle.history_text.specs.Refusals.{must}
 use Rattle.history_text.specs.declared.document.DocError.{DocError}
@@ -76,6 +79,27 @@ single_can_play limit plans steps limit_ok plans_ok steps_ok = record {
       single_is_term (record { limit = limit; plans = plans; steps = steps }) term k
       (is_term limit plans steps limit_ok plans_ok steps_ok) there;
   steps = omega (arith, leb-true (length steps) 100000 (left_holds _ _ steps_ok));
+}
+
+-- ---- races
+
+is_true : (test : Bool) → test ≡ true → IsTrue test
+is_true test h = search rules
+
+pub can_race : (opening : Band) (limit : ℕ) (scripts : List (List (Wish Band)))
+    → limit_in_range limit ≡ true → plans_in_range scripts ≡ true → fits opening ≡ true → plans_fit scripts ≡ true
+    → CanRace opening limit scripts
+can_race opening limit scripts limit_ok plans_ok opening_ok writes_ok = record {
+  opens = is_true _ opening_ok;
+  limit_least = leb-true 1 limit (left_holds _ _ limit_ok);
+  limit_most = leb-true limit 18446744073709551614 (right_holds _ _ limit_ok);
+  at_least = leb-true 2 (length scripts) (left_holds _ _ (left_holds _ _ plans_ok));
+  at_most = leb-true (length scripts) 16 (right_holds _ _ (left_holds _ _ plans_ok));
+  few = leb-true (members scripts) 10000 (right_holds _ _ plans_ok);
+  writes = λ k d l m w lw.
+      let script : List (Wish Band) = get_or scripts k d in
+      is_true _ (each_holds wish_fits script m (get_or script m w)
+      (each_holds plan_fits scripts k script writes_ok (slice_get-get_or scripts k d l)) (slice_get-get_or script m w lw));
 }
 
 -- ---- what passed a test

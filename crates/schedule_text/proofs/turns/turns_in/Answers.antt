@@ -1,0 +1,33 @@
+-- Each letter passed named a side.
+use Rattle.std.proofs.Common.{◌≡◌, ◌∙◌, ℕ, ap, sym, get_or}
+use Rattle.std.specs.Prelude.{slice_get, Some}
+use Rattle.std.proofs.lemmas.Option.{slice_get-get_or}
+use Rattle.schedule_text.specs.Shapes.{turn_named}
+use Rattle.schedule_text.proofs.Reading.{all_read, one_more, one_refused, with_nothing}
+use Rattle.schedule_text.proofs.turns.turns_in.Goals as goal
+
+pub loop-letter-init : goal.loop-letter-init
+loop-letter-init c = with_nothing c.in_ok-turns.turns.items _ c.in_ok-turns.ensures.items
+
+pub loop-letter-preserved : goal.loop-letter-preserved
+loop-letter-preserved c =
+    let i : ℕ = c.loop-letter.letter-index in
+    let letter : ℕ = get_or c.args.letters.now i 0 in
+    let at : slice_get c.args.letters.now i ≡ Some letter = slice_get-get_or c.args.letters.now i 0 c.loop-letter-test.true in
+    one_more turn_named c.loop-letter.turns.items c.push.new.self.items c.args.letters.now i letter c.in-Some.turn c.in_ok-push.ensures.items at
+    (sym c.turn_named.ensures ∙ c.in-Some.is)
+    ∙ c.loop-letter.invariant
+
+pub returns : goal.returns
+returns c =
+    ap Some c.new.ensures
+    ∙ sym (all_read turn_named c.loop-letter.turns.items c.args.letters.now c.loop-letter.letter-index c.loop-letter-test.false)
+    ∙ c.loop-letter.invariant
+
+pub returns-in_default : goal.returns-in_default
+returns-in_default c =
+    let i : ℕ = c.loop-letter.letter-index in
+    let letter : ℕ = get_or c.args.letters.now i 0 in
+    let at : slice_get c.args.letters.now i ≡ Some letter = slice_get-get_or c.args.letters.now i 0 c.loop-letter-test.true in
+    sym (one_refused turn_named c.loop-letter.turns.items c.args.letters.now i letter at (sym c.turn_named.ensures ∙ c.in_default.is))
+    ∙ c.loop-letter.invariant
