@@ -53,3 +53,15 @@ returns g c = (
   },
   c.refuses_lawfully.ensures.0 c.if-not-refuses_lawfully.false,
 )
+
+pub stands-requires : goal.stands-requires
+stands-requires g c = c.lists_places.ensures.0 c.if-not-lists_places.false
+
+pub keeps_precedence-requires : goal.keeps_precedence-requires
+keeps_precedence-requires g c = c.lists_places.ensures.0 c.if-not-lists_places.false
+
+pub reads_latest-requires : goal.reads_latest-requires
+reads_latest-requires g c = c.lists_places.ensures.0 c.if-not-lists_places.false
+
+pub refuses_lawfully-requires : goal.refuses_lawfully-requires
+refuses_lawfully-requires g c = c.lists_places.ensures.0 c.if-not-lists_places.false

@@ -7,6 +7,7 @@ use Rattle.history_core.specs.declared.history.Op.{Op}
 use Rattle.history_core.specs.Orders.{times_of, EachStands, MayStand}
 use Rattle.history_core.specs.inner.Marks.{times_marked}
 use Rattle.history_core.proofs.Counting.{marked_twice, block_step, block_all}
+use Rattle.history_core.proofs.Entries.{marks_step}
 use Rattle.history_core.proofs.check.listing.block_stands.Goals as goal
 
 -- the counts over the whole order
@@ -54,3 +55,38 @@ returns g c = (
   ]) c.loop-at.invariant,
   λ each. refl,
 )
+
+pub fill-requires : goal.fill-requires
+fill-requires g c = tt
+
+pub bounds-order-place-index : goal.bounds-order-place-index
+bounds-order-place-index g c = c.loop-place-test.true
+
+pub mark-requires : goal.mark-requires
+mark-requires g c = tt
+
+pub loop-place-preserved : goal.loop-place-preserved
+loop-place-preserved g c = record {
+  long = c.mark.ensures.len ∙ c.loop-place.invariant.long;
+  counted =
+      marks_step c.args.order.now c.loop-place.seen c.mark.new.seen c.args.base c.loop-place.place-index c.loop-place-test.true
+      c.mark.ensures.len (c.mark.ensures.first c.if-not-mark.false) c.loop-place.invariant.counted;
+}
+
+pub overflow_sub-ops : goal.overflow_sub-ops
+overflow_sub-ops g c = c.requires.base_in
+
+pub min-at-end-requires : goal.min-at-end-requires
+min-at-end-requires g c = tt
+
+pub loop-at-init : goal.loop-at-init
+loop-at-init g c = λ p o bp pe at. absurd (omega (arith, bp, pe))
+
+pub offset_bounds-ops-base : goal.offset_bounds-ops-base
+offset_bounds-ops-base g c = omega (arith, c.loop-at-test.true, c.min-at-end.ensures, c.requires.base_in)
+
+pub bounds-ops-base : goal.bounds-ops-base
+bounds-ops-base g c = omega (arith, c.loop-at-test.true, c.min-at-end.ensures, c.requires.base_in)
+
+pub bounds-seen-at : goal.bounds-seen-at
+bounds-seen-at g c = omega (arith, c.loop-at-test.true, c.min-at-end.ensures)

@@ -1,6 +1,7 @@
 -- One more entry keeps or breaks the rule by its own kind and item alone.
 use Rattle.std.proofs.Common.{arith, refl, ap, ◌∙◌}
 use Rattle.history_core.specs.Orders.{left_by}
+use Rattle.history_core.proofs.Entries.{entry_in}
 use Rattle.history_core.proofs.Listed.{listed_read}
 use Rattle.history_core.proofs.Forwards.{latest_step, reads_step, reads_broken, reads_all}
 use Rattle.history_core.proofs.check.reading.reads_latest.Goals as goal
@@ -25,3 +26,17 @@ loop-place-preserved g c =
 
 pub returns : goal.returns
 returns g c = (λ t. reads_all _ _ _ _ c.loop-place.place-index (omega arith) c.loop-place.invariant.reads, λ all. refl)
+
+pub loop-place-init : goal.loop-place-init
+loop-place-init g c = record { reads = λ i o l at. absurd (omega (arith, l)); held = refl }
+
+pub bounds-order-place-index : goal.bounds-order-place-index
+bounds-order-place-index g c = c.loop-place-test.true
+
+pub offset_bounds-ops-place : goal.offset_bounds-ops-place
+offset_bounds-ops-place g c =
+    let inside = entry_in c.args.ops.now c.args.order.now c.loop-place.place-index c.requires c.loop-place-test.true in
+    omega (arith, inside)
+
+pub bounds-ops-place : goal.bounds-ops-place
+bounds-ops-place g c = entry_in c.args.ops.now c.args.order.now c.loop-place.place-index c.requires c.loop-place-test.true

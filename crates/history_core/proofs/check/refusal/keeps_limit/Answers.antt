@@ -4,6 +4,7 @@ use Rattle.std.proofs.lemmas.Option.{slice_get-get_or, slice_get_read}
 use Rattle.history_core.specs.declared.history.Op.{Op}
 use Rattle.history_core.specs.Orders.{ListsPlaces}
 use Rattle.history_core.specs.Ranges.{writes_after}
+use Rattle.history_core.proofs.Entries.{entry_in}
 use Rattle.history_core.proofs.Limits.{counts_start, counts_step, counts_all, counts_broken}
 use Rattle.history_core.proofs.check.refusal.keeps_limit.Goals as goal
 
@@ -35,3 +36,17 @@ loop-place-preserved g c =
 
 pub returns : goal.returns
 returns g c = (λ t. counts_all _ _ _ _ _ c.loop-place.place-index _ (omega arith) c.loop-place.invariant, λ all. refl)
+
+pub bounds-order-place-index : goal.bounds-order-place-index
+bounds-order-place-index g c = c.loop-place-test.true
+
+pub is_within-requires : goal.is_within-requires
+is_within-requires g c = tt
+
+pub offset_bounds-ops-place : goal.offset_bounds-ops-place
+offset_bounds-ops-place g c =
+    let inside = entry_in c.args.ops.now c.args.order.now c.loop-place.place-index c.requires c.loop-place-test.true in
+    omega (arith, inside)
+
+pub bounds-ops-place : goal.bounds-ops-place
+bounds-ops-place g c = entry_in c.args.ops.now c.args.order.now c.loop-place.place-index c.requires c.loop-place-test.true
