@@ -15,7 +15,7 @@ use Rattle.board_live.specs.declared.clocked.Clocked.{Clocked}
 use Rattle.board_live.specs.declared.posted.RecordLaw.{Ghosts as LawWords}
 use Rattle.board_live.specs.declared.posted.Posted.{Posted}
 use Rattle.board_live.specs.Boards.{Chooses, HandsOn, IsBoardCall, IsPass, seen_by}
-use Rattle.board_live.proofs.Made.{by_read, by_write}
+use Rattle.board_live.proofs.Made.{by_write}
 use Rattle.board_live.specs.Deals.{AllPasses}
 use Rattle.board_live.specs.Ran.{call_of, called, dated, HasRecords, HaveOneOrder, HaveRun, IsFresh, learns, MakesCall, nothing, Ran, tells}
 use Rattle.board_live.specs.Rising.{posted}

@@ -129,6 +129,7 @@ fn publish_and_tell(
     ensures pass { IsPass board.now pass.new }
     ensures process { pass.new.process ≡ pass.old.process }
     ensures receipt { IfOk result (λ r. IsReceipt board.now r × (r.to ≡ 2)) }
+    ensures names { IfOk result (λ r. r.item ≡ pass.new.own) }
 {
     publish(board, pass, reading)?;
     Ok(board.tell(pass, STEERING))

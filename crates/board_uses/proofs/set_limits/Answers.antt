@@ -1,5 +1,5 @@
 -- A read, and a write of what was made of it.
-use Rattle.board_live.proofs.Made.{by_read, by_write}
+use Rattle.board_live.proofs.Made.{by_read}
 use Rattle.board_uses.specs.Turns.{with_limits}
 use Rattle.board_uses.proofs.Runs.{turn}
 use Rattle.board_uses.proofs.set_limits.Goals as goal

@@ -1,4 +1,4 @@
-use Rattle.std.proofs.Common.{◌≡◌, ◌∙◌, ap, sym, subst, refl, [], ◌∷◌, ◌++◌}
+use Rattle.std.proofs.Common.{◌∙◌, ap, sym, refl, [], ◌∷◌}
 use Rattle.board_live.specs.Ran.{HaveRun}
 use Rattle.board_uses.proofs.Two.{two_passes, two_runs, have_two}
 use Rattle.board_uses.proofs.receipts.ends_in_order.Goals as goal

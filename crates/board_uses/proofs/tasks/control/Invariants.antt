@@ -1,5 +1,4 @@
 -- The commands so far, each of one read.
-use Rattle.std.proofs.Common.{◌≡◌}
 use Rattle.board_live.specs.Boards.{IsPass}
 use Rattle.board_uses.specs.Turns.{HasSteered}
 use Rattle.board_uses.proofs.tasks.control.Given as goal

@@ -1,5 +1,4 @@
 -- The turns so far, each a read and a write.
-use Rattle.std.proofs.Common.{◌≡◌}
 use Rattle.board_live.specs.Boards.{IsPass}
 use Rattle.board_uses.specs.Turns.{HasRun}
 use Rattle.board_uses.proofs.tasks.keep_limits.Given as goal
