@@ -1,6 +1,6 @@
 -- Lanes that have run, whose passes may be used on.
 use Rattle.std.proofs.lemmas.Option.{same_Some, none-some}
-use Rattle.std.proofs.Common.{arith, refl, sym, subst, zero, suc, ◌≡◌, ◌+◌, length, take, drop}
+use Rattle.std.proofs.Common.{arith, refl, sym, subst, zero, suc, ◌≡◌, length, take, drop}
 use Rattle.std.specs.Prelude.{ℕ, List, [], ◌∷◌, ◌++◌, All, slice_get, Some}
 use Rattle.std.proofs.lemmas.List.Elements.{All-nil, All-cons}
 use Rattle.std.specs.declared.cmp.PartialEq.{Ghosts as EqWords}

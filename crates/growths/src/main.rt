@@ -6,6 +6,7 @@ mod boards;
 mod calls;
 mod cells;
 mod documents;
+mod families;
 mod lanes;
 mod print;
 mod steps;
@@ -48,6 +49,8 @@ fn make<R: Print + Threads + Sync>(rt: &R, alloc: Global, call: &str, on: &str) 
         "renew_board_again" => boards::renew(rt, alloc, on, true),
         "new_lane" => lanes::new_lane(rt, alloc, on),
         "run_tasks" => lanes::tasks(rt, alloc, on),
+        "family_board" => families::board(rt, alloc, on),
+        "finish_lanes" => families::lanes(rt, alloc, on),
         "tell_and_learn" => boards::tell_and_learn(rt, alloc, on),
         _ => print::stopped(rt, Stopped::NoSuchCall),
     }

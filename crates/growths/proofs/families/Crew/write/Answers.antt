@@ -1,0 +1,16 @@
+-- The pass of the process is of the board, before the call and after it.
+use Rattle.std.proofs.Common.{arith}
+use Rattle.history_core.specs.Band.{fits}
+use Rattle.atomic_board.proofs.Passing.{stood, used}
+use Rattle.growths.proofs.families.Crew.write.Goals as goal
+
+pub write-requires-clause-pass : goal.write-requires-clause-pass
+write-requires-clause-pass g c =
+    (stood g.F.Family fits c.args.self.now.board c.args.self.now.passes.items _ c.args.who c.index_mut.result.now
+    c.args.self.now.passes.ok.0 (omega (arith, c.if-who-len.false, c.len.ensures)) c.index_mut.ensures.value c.requires).0
+
+pub returns : goal.returns
+returns g c =
+    (used g.F.Family fits c.args.self.now.board c.args.self.now.passes.items _ c.args.who c.index_mut.result.now c.write.new.pass
+    c.args.self.now.passes.ok.0 (omega (arith, c.if-who-len.false, c.len.ensures)) c.index_mut.ensures.value c.requires c.write.ensures.pass
+    c.write.ensures.call.1.process).0
