@@ -1,0 +1,4 @@
+pub mod FoundWrites
+pub mod SoundLogs
+pub mod SoundOrders
+pub mod SoundRuns

@@ -1,0 +1,4 @@
+pub mod LogOrders
+pub mod Origins
+pub mod Told
+pub mod inner
