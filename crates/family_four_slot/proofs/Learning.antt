@@ -24,12 +24,12 @@ use Rattle.family_four_slot.proofs.Places.{place_in, writer_there}
 use Rattle.family_four_slot.proofs.Receipts.{heard_cell}
 use Rattle.family_four_slot.proofs.Seats.{differ}
 
-past : {A : Type 0} (xs : List A) (i : ℕ) (d : A) → length xs ≤ i → get_or xs i d ≡ d
+pub past : {A : Type 0} (xs : List A) (i : ℕ) (d : A) → length xs ≤ i → get_or xs i d ≡ d
 past [] i d l = refl
 past (x ∷ xs) zero d l = absurd (omega arith)
 past (x ∷ xs) (suc i) d l = past xs i d (omega arith)
 
-heard_long : {V : Type 0} (hears : V → V → V) (vs ws : List V) → length (heard_parts hears vs ws) ≡ length vs
+pub heard_long : {V : Type 0} (hears : V → V → V) (vs ws : List V) → length (heard_parts hears vs ws) ≡ length vs
 heard_long hears [] ws = refl
 heard_long hears (v ∷ vs) [] = refl
 heard_long hears (v ∷ vs) (w ∷ ws) = ap suc (heard_long hears vs ws)

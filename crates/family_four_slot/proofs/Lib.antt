@@ -5,6 +5,7 @@ pub mod Done
 pub mod Ends
 pub mod FourSlots
 pub mod Frames
+pub mod Gathering
 pub mod Going
 pub mod Held
 pub mod Learning

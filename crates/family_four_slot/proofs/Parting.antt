@@ -1,12 +1,10 @@
 -- The seats of a new family, one for each process, and the one that has all of them at the end.
-use Rattle.std.proofs.Common.{◌≡◌, ◌≢◌, ◌⊎◌, ℕ, zero, suc, ◌+◌, ◌-◌, ◌*◌, ◌<◌, ◌≤◌, Bool, true, false, nat_eq, cond, List, [], ◌∷◌, ◌++◌, length, map, slice_get, Some, get_or, replicate, refl, sym, ap, ◌∙◌, subst, arith, ⊎_elim, inl, inr, append_assoc, append-nil, length-append}
+use Rattle.std.proofs.Common.{◌≡◌, ◌≢◌, ◌⊎◌, ℕ, zero, suc, ◌+◌, ◌-◌, ◌*◌, ◌<◌, ◌≤◌, Bool, true, false, nat_eq, cond, List, [], ◌∷◌, ◌++◌, length, map, slice_get, Some, get_or, replicate, refl, sym, ap, ◌∙◌, subst, arith, ⊎_elim, inl, inr}
 use Rattle.std.proofs.lemmas.Bool.{cases_eq, cases_lt}
 use Rattle.std.proofs.lemmas.List.{length_push}
-use Rattle.std.proofs.lemmas.Option.{none-some, same_Some, slice_get_within}
 use mathlib.Core.Option.{some, none}
 use lib.ListN.{get_elem?}
 use Rattle.atomic_table.specs.Seated.{TableId}
-use Rattle.atomic_table.proofs.Lists.{at_longer}
 use Rattle.history_core.specs.Schedules.{positions}
 use Rattle.fourslot_core.specs.declared.state.Stage.TheVariants as writer
 use Rattle.fourslot_core.specs.declared.state.ReaderStage.TheVariants as reader
@@ -26,11 +24,12 @@ use Rattle.family_four_slot.specs.Family.{of_cell}
 use Rattle.family_four_slot.specs.FourSlots.{upto, first_part, first_process, Idle}
 use Rattle.family_four_slot.specs.Places.{place, writer_of, reader_of}
 use Rattle.family_four_slot.specs.Seats.{all_but_first, first_of}
-use Rattle.family_four_slot.specs.Seated.{known_by, opening_of, processes_of, number_of, clock_of, times_of, writes_of, reads_of, IsSeat, IsFirst, HasAll}
+use Rattle.family_four_slot.specs.Seated.{known_by, opening_of, processes_of, number_of, clock_of, times_of, writes_of, reads_of, IsSeat, IsFirst}
 use Rattle.family_four_slot.specs.Tables.{IsEnded}
 use Rattle.family_four_slot.specs.Words.{process_of, writes_to, reads_from, IsAtRest, IsRow, IsColumn}
 use Rattle.family_four_slot.proofs.Calls.{sees_writes, sees_reads}
 use Rattle.family_four_slot.proofs.Frames.{same_number}
+use Rattle.family_four_slot.proofs.Gathering.{each_more}
 use Rattle.family_four_slot.proofs.Places.{place_in, writer_there, reader_there}
 use Rattle.family_four_slot.proofs.Seats.{differ}
 use Rattle.family_four_slot.proofs.Starts.{upto_long, upto_get}
@@ -51,15 +50,6 @@ module _ {T : Type 0} where
     pub me : rest.inner.me ≡ (Has (upto (first_process o n) who (n - who)), [])
     pub long : length seats ≡ who
     pub each : Each (IsFirst id n o) seats
-
-  pub each_more : (P : ℕ → FourSlotSeat T → Type 0) (xs : List (FourSlotSeat T)) (x : FourSlotSeat T) → Each P xs → P (length xs) x → Each P (xs ++ x ∷ [])
-  each_more P xs x each here i y e = at P xs x i y (λ j z h. each j z h) here e where
-    at : (P : ℕ → FourSlotSeat T → Type 0) (xs : List (FourSlotSeat T)) (x : FourSlotSeat T) (i : ℕ) (y : FourSlotSeat T) →
-        ((j : ℕ) (z : FourSlotSeat T) → slice_get xs j ≡ Some z → P j z) → P (length xs) x → slice_get (xs ++ x ∷ []) i ≡ Some y → P i y
-    at P [] x zero y each here e = subst (P 0) (same_Some x y e) here
-    at P [] x (suc i) y each here e = absurd (none-some y e)
-    at P (z ∷ zs) x zero y each here e = each 0 y e
-    at P (z ∷ zs) x (suc i) y each here e = at (λ j. P (suc j)) zs x i y (λ j w h. each (suc j) w h) here e
 
   -- one seat more is parted off
   pub dealt_more : (id : TableId) (n : ℕ) (o : T) (who : ℕ) (rest rest' : FamilySeat T) (seats : List (FourSlotSeat T)) (s : FourSlotSeat T) → who < n →
@@ -199,63 +189,6 @@ module _ {T : Type 0} where
           λ j. (λ k. reads_from (h.opening k) (h.processes k) (is k) j) ∙ first_reads o n i j,
         ),
       )
-
-  -- the last seats were joined into one
-  pub record GatheredFrom (id : TableId) (seats left : List (FourSlotSeat T)) (all : FamilySeat T) : Type 0 where
-    pub table : all.inner.table_id ≡ id
-    pub ps : List (Process (FourSlotSight T))
-    pub me : all.inner.me.0 ≡ Has ps
-    pub done : List (FourSlotSeat T)
-    pub of : seats ≡ left ++ done
-    pub there : (s : FourSlotSeat T) (i : ℕ) → slice_get done i ≡ Some s → (a : ℕ) × (get_elem? ps a ≡ some (known_by s))
-
-  pub gathered_one : (id : TableId) (seats left : List (FourSlotSeat T)) (s : FourSlotSeat T) → s.seat.inner.table_id ≡ id →
-      s.seat.inner.me.0 ≡ Has (known_by s ∷ []) → seats ≡ left ++ s ∷ [] → GatheredFrom id seats left s.seat
-  gathered_one id seats left s table me of = record {
-    table = table;
-    ps = known_by s ∷ [];
-    me = me;
-    done = s ∷ [];
-    of = of;
-    there = λ z i e. one s z i e;
-  } where
-    one : (s z : FourSlotSeat T) (i : ℕ) → slice_get (s ∷ []) i ≡ Some z → (a : ℕ) × (get_elem? (known_by s ∷ []) a ≡ some (known_by z))
-    one s z zero e = (zero, ap (λ y. some (known_by y)) (same_Some s z e))
-    one s z (suc i) e = absurd (none-some z e)
-
-  -- the last seat stands there
-  pub stood : (seats before left done : List (FourSlotSeat T)) (s : FourSlotSeat T) → seats ≡ before ++ done → before ≡ left ++ s ∷ [] →
-      slice_get seats (length left) ≡ Some s
-  stood seats before left done s of e = ap (λ z. slice_get z (length left)) (of ∙ ap (λ z. z ++ done) e) ∙ mid left done s where
-    mid : (left done : List (FourSlotSeat T)) (s : FourSlotSeat T) → slice_get ((left ++ s ∷ []) ++ done) (length left) ≡ Some s
-    mid [] done s = refl
-    mid (x ∷ xs) done s = mid xs done s
-
-  at_last : (xs ys : List (Process (FourSlotSight T))) (a : ℕ) → get_elem? (xs ++ ys) (length xs + a) ≡ get_elem? ys a
-  at_last [] ys a = ap (get_elem? ys) (let z : 0 + a ≡ a = omega arith in z)
-  at_last (x ∷ xs) ys a = ap (get_elem? (x ∷ (xs ++ ys))) (let e : suc (length xs) + a ≡ suc (length xs + a) = omega arith in e) ∙ at_last xs ys a
-
-  pub gathered_more : (id : TableId) (seats before left : List (FourSlotSeat T)) (all all' : FamilySeat T) (s : FourSlotSeat T) →
-      (h : GatheredFrom id seats before all) → before ≡ left ++ s ∷ [] → all'.inner.table_id ≡ all.inner.table_id →
-      all'.inner.me.0 ≡ Has (h.ps ++ known_by s ∷ []) → GatheredFrom id seats left all'
-  gathered_more id seats before left all all' s h e table me = record {
-    table = table ∙ h.table;
-    ps = h.ps ++ known_by s ∷ [];
-    me = me;
-    done = s ∷ h.done;
-    of = h.of ∙ (ap (λ z. z ++ h.done) e ∙ append_assoc left (s ∷ []) h.done);
-    there = λ z i at. next h.ps h.done s z i (λ y j q. h.there y j q) at;
-  } where
-    next : (ps : List (Process (FourSlotSight T))) (done : List (FourSlotSeat T)) (s z : FourSlotSeat T) (i : ℕ) →
-        ((y : FourSlotSeat T) (j : ℕ) → slice_get done j ≡ Some y → (a : ℕ) × (get_elem? ps a ≡ some (known_by y))) →
-        slice_get (s ∷ done) i ≡ Some z → (a : ℕ) × (get_elem? (ps ++ known_by s ∷ []) a ≡ some (known_by z))
-    next ps done s z zero there e = (length ps + 0, at_last ps (known_by s ∷ []) 0 ∙ ap (λ y. some (known_by y)) (same_Some s z e))
-    next ps done s z (suc i) there e = let t = there z i e in (t.0, at_longer ps (known_by s ∷ []) t.0 (known_by z) t.1)
-
-  pub gathered_all : (id : TableId) (seats left : List (FourSlotSeat T)) (all : FamilySeat T) → GatheredFrom id seats left all → length left ≡ 0 →
-      HasAll all seats
-  gathered_all id seats [] all h e = (h.ps, h.me, λ i s at. h.there s i (ap (λ z. slice_get z i) (sym h.of) ∙ at))
-  gathered_all id seats (x ∷ xs) all h e = absurd (omega (arith, e))
 
   -- what the table shows at the end, by the seats
   module _ (f : FourSlotFamily T) (seats : List (FourSlotSeat T)) (each : Each (λ i s. IsSeat f s × (number_of s ≡ i)) seats)

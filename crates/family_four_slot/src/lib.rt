@@ -10,13 +10,13 @@ use atomic_table::TableRule;
 use cell_live::Lawful;
 use notes::{FamilySight, Opened};
 
-mod closed;
 mod family;
 pub mod notes;
 mod plays;
 mod table;
 
 pub use family::{FourSlotFamily, FourSlotSeat, FourSlotTold};
+pub use table::place;
 
 /// The rule of the table.
 pub struct FamilyLaw;

@@ -26,13 +26,12 @@ ghost use Rattle.family_four_slot.specs.Seats.{all_but_first, first_of, told_by,
 ghost use Rattle.cell_four_slot.specs.Steps.{hears_of, receipt_for};
 
 use crate::FamilyLaw;
-use crate::closed::empty;
 use crate::notes::{FamilySight, Opened};
 use crate::plays::{
     All, Asks, Begins, Finishes, First, Gathers, Item, Learns, Says, Stores, Takes, Tells,
 };
 use atomic_table::{Seat, Table};
-use cell_live::Lawful;
+use cell_live::{Lawful, empty};
 use std::alloc::{AllocError, Global};
 use std::snapshot::Snapshot;
 
@@ -70,7 +69,7 @@ fn slot_place(cell: usize, slot: usize) -> usize
 
 /// The cell that process `i` writes and process `j` reads.
 #[inline]
-pub(super) fn place(processes: usize, i: usize, j: usize) -> usize
+pub fn place(processes: usize, i: usize, j: usize) -> usize
     requires { (processes ≤ 16) × (i < processes) × (j < processes) × (j ≢ i) }
     ensures { result ≡ place processes i j }
 {

@@ -1,5 +1,5 @@
 -- What its deciding step makes of a call: one access more of one step, with a record or an answer; and no other cell's calls change.
-use Rattle.std.proofs.Common.{◌≡◌, ◌≢◌, ◌⊎◌, ℕ, suc, ◌+◌, ◌*◌, ◌-◌, ◌<◌, ◌≤◌, Bool, true, false, nat_eq, cond, List, [], ◌∷◌, ◌++◌, length, set, get_or}
+use Rattle.std.proofs.Common.{◌≡◌, ◌≢◌, ◌⊎◌, ℕ, ◌+◌, ◌*◌, ◌-◌, ◌<◌, ◌≤◌, true, false, nat_eq, cond, List, [], ◌∷◌, ◌++◌, length, set}
 use Rattle.std.proofs.Common.{refl, sym, ap, ◌∙◌, subst, arith, ⊎_elim, inl, inr, mul-le-mul_right}
 use Rattle.std.proofs.lemmas.Bool.{cases_eq, cases_lt}
 use Rattle.std.proofs.lemmas.Bool.Decides.{nat_tests}
@@ -16,10 +16,10 @@ use Rattle.family_four_slot.specs.declared.notes.Process.{Process}
 use Rattle.family_four_slot.specs.Family.{of_cell, knows}
 use Rattle.family_four_slot.specs.Places.{among, other, place}
 use Rattle.family_four_slot.proofs.Places.{place_in, place_apart}
-use Rattle.family_four_slot.proofs.Slices.{get_set_here, get_set_else, set_long}
+use Rattle.family_four_slot.proofs.Slices.{get_set_here, get_set_else}
 use Rattle.family_triple.specs.Steps.{alters}
 use Rattle.family_triple.proofs.Places.{other_among}
-use Rattle.family_triple.specs.Words.{writes_by, reads_by, part_to, part_from, writes_to, reads_from}
+use Rattle.family_triple.specs.Words.{writes_by, reads_by, writes_to, reads_from}
 
 -- one time, as an access of one step
 access_of : (times : List ℕ) (clock a : ℕ) (old new : Times) → clock < a → new.begins ≡ old.begins ++ a ∷ [] →
@@ -36,10 +36,10 @@ access_of times clock a old new la begins ends = record {
   ends = ends;
 }
 
-yes_same : (m n : ℕ) → m ≡ n → nat_eq m n ≡ true
+pub yes_same : (m n : ℕ) → m ≡ n → nat_eq m n ≡ true
 yes_same m n e = grind (arith, nat_tests)
 
-not_same : (m n : ℕ) → m ≢ n → nat_eq m n ≡ false
+pub not_same : (m n : ℕ) → m ≢ n → nat_eq m n ≡ false
 not_same m n ne = grind (arith, nat_tests)
 
 -- what is seen of a cell that didn't change, or that is seen as before, where the notes of one cell changed

@@ -2,9 +2,15 @@ pub mod Acts
 pub mod Calls
 pub mod Cells
 pub mod Ends
+pub mod Going
+pub mod Learning
+pub mod Looking
+pub mod Parting
 pub mod Places
 pub mod Rests
+pub mod Rounds
 pub mod Starts
 pub mod Steps
+pub mod Taking
 pub mod Told
 pub mod Turns

@@ -1,5 +1,5 @@
 -- Each triple buffer has places of its own.
-use Rattle.std.proofs.Common.{◌≡◌, ◌≢◌, ◌⊎◌, ℕ, ◌+◌, ◌-◌, ◌*◌, ◌<◌, ◌≤◌, nat_lt, cond, Bool, true, false, ap, ◌∙◌, ⊎_elim, arith}
+use Rattle.std.proofs.Common.{◌≡◌, ◌≢◌, ℕ, ◌+◌, ◌-◌, ◌*◌, ◌<◌, ◌≤◌, nat_lt, cond, true, false, ap, ◌∙◌, ⊎_elim, arith}
 use Rattle.std.proofs.lemmas.Bool.Decides.{nat_tests}
 use Rattle.std.proofs.lemmas.Bool.{cases_lt}
 use Rattle.family_four_slot.specs.Layouts.{IsLayout}
@@ -41,3 +41,23 @@ other_among i j ne = ⊎_elim
     ap (other i) (among_more i j l) ∙ (ap (λ b. cond {A = ℕ} b (j - 1) ((j - 1) + 1)) (not_below (j - 1) i (omega arith))
     ∙ (let e : (j - 1) + 1 ≡ j = omega arith in e)))
     (cases_lt j i)
+
+other_less : (i k : ℕ) → k < i → other i k ≡ k
+other_less i k l = ap (λ b. cond {A = ℕ} b k (k + 1)) (below k i l)
+
+other_more : (i k : ℕ) → i ≤ k → other i k ≡ k + 1
+other_more i k l = ap (λ b. cond {A = ℕ} b k (k + 1)) (not_below k i l)
+
+pub other_low : (n i k : ℕ) → k < n - 1 → i < n → other i k < n
+other_low n i k lk li = ⊎_elim (λ (l : k < i). let e = other_less i k l in let z : other i k < n = omega arith in z)
+    (λ (l : i ≤ k). let e = other_more i k l in let z : other i k < n = omega arith in z) (cases_lt k i)
+
+pub other_else : (i k : ℕ) → other i k ≢ i
+other_else i k same = ⊎_elim (λ (l : k < i). let e = other_less i k l in absurd (omega arith))
+    (λ (l : i ≤ k). let e = other_more i k l in absurd (omega arith)) (cases_lt k i)
+
+pub among_other : (i k : ℕ) → among i (other i k) ≡ k
+among_other i k = ⊎_elim (λ (l : k < i). ap (among i) (other_less i k l) ∙ among_less i k l)
+    (λ (l : i ≤ k). ap (among i) (other_more i k l) ∙ (among_more i (k + 1) (let z : i ≤ k + 1 = omega arith in z)
+    ∙ (let z : (k + 1) - 1 ≡ k = omega arith in z)))
+    (cases_lt k i)

@@ -1,14 +1,13 @@
 -- Words without a mark and copies of the record are a family at the start.
-use Rattle.std.proofs.Common.{◌≡◌, ℕ, zero, suc, ◌+◌, ◌-◌, ◌*◌, ◌<◌, List, [], ◌∷◌, ◌++◌, map, length, replicate}
+use Rattle.std.proofs.Common.{◌≡◌, ℕ, zero, suc, ◌+◌, ◌-◌, ◌*◌, List, [], ◌∷◌, ◌++◌, map, length, replicate}
 use Rattle.std.proofs.Common.{refl, sym, ap, ◌∙◌, subst, arith, append-nil}
 use mathlib.Core.Option.{none, some}
-use lib.ListN.{get_elem?}
-use Rattle.atomic_table.specs.Table.{State, opening}
+use Rattle.atomic_table.specs.Table.{opening}
 use Rattle.cell_live.specs.declared.sight.Sight.TheVariants.{Spent}
 use Rattle.cell_triple.specs.Steps.{TripleSight}
 use Rattle.family_four_slot.specs.declared.notes.Process.{Process}
 use Rattle.family_four_slot.specs.Layouts.{gather}
-use Rattle.family_four_slot.specs.Family.{of_cell, cell}
+use Rattle.family_four_slot.specs.Family.{of_cell}
 use Rattle.family_four_slot.specs.FourSlots.{upto}
 use Rattle.family_four_slot.proofs.Slices.{gather_replicate}
 use Rattle.family_four_slot.proofs.Seats.{family_starts}

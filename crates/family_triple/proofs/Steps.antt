@@ -1,21 +1,21 @@
 -- A step on one cell of a family keeps the family's rule, with acts in turn on the slots of its seat: at a time of its own in the schedule,
 -- or outside the schedule.
-use Rattle.std.proofs.Common.{◌≡◌, ◌≢◌, ◌⊎◌, ℕ, ◌+◌, ◌*◌, ◌<◌, ◌≤◌, List, [], ◌∷◌, ◌++◌, map, length, get_or, set, refl, sym, ap, ◌∙◌, subst}
-use Rattle.std.proofs.Common.{⊎_elim, inl, inr, arith, le_refl, le_trans, length-append, slice_get, Some}
+use Rattle.std.proofs.Common.{◌≡◌, ◌≢◌, ℕ, ◌+◌, ◌<◌, ◌≤◌, List, [], ◌∷◌, ◌++◌, map, length, set, refl, sym, ap, ◌∙◌, subst}
+use Rattle.std.proofs.Common.{⊎_elim, arith, le_refl, le_trans, length-append, slice_get, Some}
 use Rattle.std.proofs.lemmas.Bool.{cases_eq}
-use mathlib.Core.Option.{some, none, Option, some-injective, some-ne-none}
+use mathlib.Core.Option.{some, none, Option}
 use lib.ListN.{get_elem?}
 use Rattle.history_core.specs.Schedules.{positions}
 use Rattle.history_core.proofs.Positions.{positions_mine, positions_other}
 use Rattle.history_core.proofs.Places.{get_pushed_cases}
 use Rattle.atomic_table.specs.Table.{State, Me, Act, carried_after, homes_after, Valid, stepped}
-use Rattle.atomic_table.proofs.Lists.{at_set, at_map, at_longer, set_here}
+use Rattle.atomic_table.proofs.Lists.{at_set, set_here}
 use Rattle.cell_live.specs.Acts.{ProperAll}
 use Rattle.cell_live.specs.Running.{held_slots}
 use Rattle.family_four_slot.specs.declared.notes.Process.{Process}
 use Rattle.family_four_slot.specs.declared.notes.Receipt.{Receipt}
 use Rattle.family_four_slot.specs.declared.notes.View.{View}
-use Rattle.family_four_slot.specs.declared.notes.View.TheVariants.{Told, Has}
+use Rattle.family_four_slot.specs.declared.notes.View.TheVariants.{Has}
 use Rattle.family_four_slot.specs.Layouts.{Layout, IsLayout, gather, shift, shift_act, Inside, Distinct, Disjoint, Out}
 use Rattle.family_four_slot.specs.Family.{total, of_cell, knows, cell, holders, Shows, FamilyRule, Tells}
 use Rattle.family_four_slot.proofs.Slices.{gather_set, gather_apart, get_set_here, get_set_else, set_long, map_set, map_same, set_front, within}

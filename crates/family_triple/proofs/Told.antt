@@ -1,10 +1,10 @@
 -- What each step of a family tells: the cell's own step, at the family's time or outside the schedule, and what the seat then knows.
-use Rattle.std.proofs.Common.{◌≡◌, ◌≢◌, ◌⊎◌, ℕ, ◌+◌, ◌*◌, ◌%◌, ◌<◌, ◌≤◌, List, [], ◌∷◌, ◌++◌, map, length, get_or, refl, sym, ap, ◌∙◌, subst, arith}
+use Rattle.std.proofs.Common.{◌≡◌, ℕ, ◌+◌, ◌*◌, ◌%◌, ◌<◌, ◌≤◌, List, [], ◌∷◌, ◌++◌, map, length, get_or, refl, sym, ap, ◌∙◌, subst, arith}
 use Rattle.std.proofs.Common.{⊎_elim, le_trans}
 use Rattle.std.proofs.lemmas.Bool.{cases_lt}
-use mathlib.Core.Option.{none, some, some-ne-none}
+use mathlib.Core.Option.{none, some}
 use lib.ListN.{get_elem?}
-use Rattle.atomic_table.specs.Table.{State, Me, Step, step, Allows, carried_after}
+use Rattle.atomic_table.specs.Table.{State, Me, step, Allows, carried_after}
 use Rattle.atomic_table.proofs.Lists.{at_map, at_longer}
 use Rattle.cell_live.specs.Running.{last_or, held_slots}
 use Rattle.cell_live.specs.Sights.{writer_or, reader_or}

@@ -1,4 +1,6 @@
+pub mod Access
 pub mod Places
+pub mod Seated
 pub mod Steps
 pub mod Tables
 pub mod Triples

@@ -1,6 +1,6 @@
 -- What each step tells a process of a family of triple buffers: what the step of one cell tells, and the one time of the step that makes a
 -- write or decides a read. The cell is the one whose word the step is on (this project's own).
-use Rattle.std.specs.Prelude.{◌≡◌, ℕ, ◌+◌, ◌%◌, ◌<◌, ◌≤◌, List, [], ◌∷◌, ◌++◌, slice_set}
+use Rattle.std.specs.Prelude.{◌≡◌, ℕ, ◌%◌, ◌<◌, ◌≤◌, List, [], ◌∷◌, slice_set}
 use Rattle.atomic_table.specs.Table.{Me, Step}
 use Rattle.cell_live.specs.Running.{held_slots}
 use Rattle.cell_live.specs.declared.times.Known.{Known}

@@ -1,5 +1,5 @@
 -- What contracts see of a family of triple buffers (this project's own).
-use Rattle.std.specs.Prelude.{◌≡◌, ◌≢◌, ℕ, ◌+◌, ◌*◌, ◌-◌, ◌<◌, nat_eq, cond, List, [], ◌∷◌, ◌++◌, length}
+use Rattle.std.specs.Prelude.{◌≡◌, ◌≢◌, ℕ, ◌+◌, ◌*◌, ◌-◌, ◌<◌, nat_eq, cond, List, length, slice_index_or}
 use mathlib.Core.Option.{some}
 use lib.ListN.{get_elem?}
 use Rattle.cell_live.specs.Running.{held_slots}
@@ -7,11 +7,11 @@ use Rattle.cell_live.specs.Sights.{writer_or, reader_or}
 use Rattle.cell_triple.specs.declared.notes.WriterNotes.{WriterNotes}
 use Rattle.cell_triple.specs.declared.notes.ReaderNotes.{ReaderNotes}
 use Rattle.cell_live.specs.declared.sight.Sight.TheVariants.{Spent, Writer, Reader}
-use Rattle.cell_triple.specs.Steps.{TripleSight, first_writer, first_reader}
+use Rattle.cell_triple.specs.Steps.{TripleSight, first_writer, first_reader, receipt_for}
 use Rattle.family_live.specs.Accesses.{Writes, Reads}
 use Rattle.family_four_slot.specs.declared.notes.Process.{Process}
 use Rattle.family_four_slot.specs.Family.{of_cell}
-use Rattle.family_four_slot.specs.Places.{among, place}
+use Rattle.family_four_slot.specs.Places.{among, place, writer_of}
 use Rattle.family_triple.specs.Places.{slot_at}
 use Rattle.family_triple.specs.Tables.{IsTurned}
 
@@ -37,32 +37,38 @@ module _ {T : Type 0} (o : T) (n : ℕ) where
   reads_from v j = reads_by (reader_or (first_reader o) (part_from v j))
 
 module _ {T : Type 0} (o : T) where
-  -- a cell that a process writes, between two calls: its slot is one of the seat's
-  pub record IsRow (k : ℕ) (part : TripleSight T) (slots : List (ℕ × T)) (at : ℕ) : Type 0 where
+  -- a cell that a process writes, between two calls: its slot, of this number, is one of the seat's
+  pub record IsRow (k : ℕ) (part : TripleSight T) (slots : List (ℕ × T)) (at number : ℕ) : Type 0 where
     pub notes : WriterNotes T
     pub is : part ≡ Writer notes
     pub took : notes.has ≡ 1
     pub opened : notes.opening.value ≡ o
     pub low : notes.slot < 3
+    pub numbered : notes.slot ≡ number
     pub record_there : T
     pub slot : get_elem? slots at ≡ some (slot_at k notes.slot, record_there)
 
   -- and one that it reads: the slot has the record at hand
-  pub record IsColumn (k : ℕ) (part : TripleSight T) (slots : List (ℕ × T)) (at : ℕ) : Type 0 where
+  pub record IsColumn (k : ℕ) (part : TripleSight T) (slots : List (ℕ × T)) (at number : ℕ) : Type 0 where
     pub notes : ReaderNotes T
     pub is : part ≡ Reader notes
     pub took : notes.has ≡ 1
     pub free : notes.asked ≡ 0
     pub opened : notes.opening.value ≡ o
     pub low : notes.slot < 3
+    pub numbered : notes.slot ≡ number
     pub slot : get_elem? slots at ≡ some (slot_at k notes.slot, notes.at_hand.value)
 
-  -- a process of n between two calls: its seat has the slots of its row, in turn, and then those of its column
-  pub record IsAtRest (n : ℕ) (v : Process (TripleSight T)) (slots : List (ℕ × T)) : Type 0 where
+  -- a process of n between two calls: its seat has the slots of its row, in turn, and then those of its column, and keeps their numbers.
+  -- Of cells that it doesn't write it tells nothing
+  pub record IsAtRest (n : ℕ) (v : Process (TripleSight T)) (fills reads : List ℕ) (slots : List (ℕ × T)) : Type 0 where
     pub inside : v.who < n
     pub parts : length v.parts ≡ n * (n - 1)
     pub held : IsTurned v.held (held_slots slots)
     pub many : length slots ≡ 2 * (n - 1)
-    pub row : (j : ℕ) → j < n → j ≢ v.who → IsRow (place n v.who j) (of_cell Spent (place n v.who j) v.parts) slots (among v.who j)
+    pub sized : (length fills ≡ 16) × (length reads ≡ 16)
+    pub quiet : (k : ℕ) → writer_of n k ≢ v.who → receipt_for (of_cell Spent k v.parts) ≡ Spent
+    pub row : (j : ℕ) → j < n → j ≢ v.who →
+        IsRow (place n v.who j) (of_cell Spent (place n v.who j) v.parts) slots (among v.who j) (slice_index_or fills j 0)
     pub column : (j : ℕ) → j < n → j ≢ v.who →
-        IsColumn (place n j v.who) (of_cell Spent (place n j v.who) v.parts) slots ((n - 1) + among v.who j)
+        IsColumn (place n j v.who) (of_cell Spent (place n j v.who) v.parts) slots ((n - 1) + among v.who j) (slice_index_or reads j 0)

@@ -1,8 +1,9 @@
-//! The table of a family of triple buffers: its rule, and each kind of step that keeps it. The calls over it, by which a type would be a
-//! `Family`, aren't written yet.
+//! A family of triple buffers: registers of one writer and one reader each, from each of 2 to 16 processes to each other one, in one table
+//! and so in one time. `TripleFamily` meets the contract of `family_live`: each write and each read makes one step of the schedule that all
+//! processes share, and copies the record once or not at all.
 //!
-//! A write is one step of the schedule, its swap. A read is one too: its load, or its swap where the load found the mark. A load that finds
-//! the mark decides nothing, and isn't in the schedule.
+//! A write is its swap. A read is its load, or its swap where the load found the mark: such a load decides nothing, and isn't in the
+//! schedule.
 #![tactic(auto)]
 
 use atomic_table::TableRule;
@@ -10,9 +11,13 @@ use cell_live::Lawful;
 use family_four_slot::notes::Opened;
 use notes::FamilySight;
 
+mod family;
 pub mod notes;
 mod plays;
+mod slots;
 mod table;
+
+pub use family::{TripleFamily, TripleSeat, TripleTold};
 
 /// The rule of the table.
 pub struct FamilyLaw;

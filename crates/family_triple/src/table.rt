@@ -50,6 +50,15 @@ fn word_of(cell: usize) -> usize
     8 * cell + 8
 }
 
+/// The place of a cell's slot.
+#[inline]
+pub(super) fn slot_place(cell: usize, slot: u64) -> usize
+    requires { (cell < 240) × (slot < 3) }
+    ensures { result ≡ slot_at cell slot }
+{
+    3 * cell + slot as usize
+}
+
 impl<T: Lawful> FamilyTable<T> {
     /// A table of the cells of so many processes, which all hold this record, and a seat that has all processes.
     pub fn new(

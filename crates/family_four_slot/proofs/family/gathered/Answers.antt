@@ -2,7 +2,7 @@
 use Rattle.std.proofs.Common.{◌≡◌, ◌+◌, ◌∷◌, [], ◌++◌, append-nil, length, length-append, ap, ◌∙◌, refl, sym, arith}
 use Rattle.family_four_slot.specs.Seats.{joined}
 use Rattle.family_four_slot.specs.Seated.{known_by}
-use Rattle.family_four_slot.proofs.Parting.{stood, gathered_one, gathered_more, gathered_all}
+use Rattle.family_four_slot.proofs.Gathering.{stood, gathered_one, gathered_more, gathered_all}
 use Rattle.family_four_slot.proofs.family.gathered.Goals as goal
 
 pub loop-init : goal.loop-init
@@ -11,22 +11,22 @@ loop-init g c =
     let last = c.in-Some.last in
     let seats = c.args.seats.items in
     let at = stood seats seats left [] last (sym (append-nil seats)) c.in-Some.ensures.items in (
-      gathered_one c.args.table.now.inner.shared.table_id seats left last (c.requires.own (length left) last at) (c.requires.one (length left) last at)
-          c.in-Some.ensures.items,
+      c.requires.own (length left) last at,
+      gathered_one known_by seats left last last.seat.inner.me.0 (c.requires.one (length left) last at) c.in-Some.ensures.items,
       omega arith,
     )
 
 pub gather-requires-clause-own : goal.gather-requires-clause-own
 gather-requires-clause-own g c =
-    let h = c.loop.invariant.0 in
+    let h = c.loop.invariant.1 in
     let left = c.pop-in-loop.new.self.items in
     let next = c.in-Some-pop.next in
     let at = stood c.args.seats.items c.loop.seats.items left h.done next h.of c.in-Some-pop.ensures.items in
-    (h.table, c.requires.own (length left) next at)
+    (c.loop.invariant.0, c.requires.own (length left) next at)
 
 pub gather-requires-clause-other : goal.gather-requires-clause-other
 gather-requires-clause-other g c =
-    let h = c.loop.invariant.0 in
+    let h = c.loop.invariant.1 in
     let left = c.pop-in-loop.new.self.items in
     let next = c.in-Some-pop.next in
     let at = stood c.args.seats.items c.loop.seats.items left h.done next h.of c.in-Some-pop.ensures.items in
@@ -34,20 +34,20 @@ gather-requires-clause-other g c =
 
 pub loop-preserved : goal.loop-preserved
 loop-preserved g c =
-    let h = c.loop.invariant.0 in
+    let h = c.loop.invariant.1 in
     let left = c.pop-in-loop.new.self.items in
     let next = c.in-Some-pop.next in
     let at = stood c.args.seats.items c.loop.seats.items left h.done next h.of c.in-Some-pop.ensures.items in
     let one = c.requires.one (length left) next at in
     let n : length c.loop.seats.items ≡ length left + 1 = ap length c.in-Some-pop.ensures.items ∙ length-append left (next ∷ []) in (
-      gathered_more c.args.table.now.inner.shared.table_id c.args.seats.items c.loop.seats.items left c.loop.all c.gather.new.seat next h
-          c.in-Some-pop.ensures.items c.gather.ensures.own
-          (ap (λ z. z.0) c.gather.ensures.joined ∙ (λ i. joined (h.me i) (one i))),
-      omega (arith, n, c.loop.invariant.1),
+      c.gather.ensures.own ∙ c.loop.invariant.0,
+      gathered_more known_by c.args.seats.items c.loop.seats.items left c.loop.all.inner.me.0 c.gather.new.seat.inner.me.0 next h
+          c.in-Some-pop.ensures.items (ap (λ z. z.0) c.gather.ensures.joined ∙ (λ i. joined (h.me i) (one i))),
+      omega (arith, n, c.loop.invariant.2),
     )
 
 pub returns-clause-all : goal.returns-clause-all
 returns-clause-all g c =
     let h = c.loop.invariant in
-    let none : length c.loop.seats.items ≡ 0 = omega (arith, h.1, c.loop-test.false, c.loop.auto.counter-end) in
-    gathered_all c.args.table.now.inner.shared.table_id c.args.seats.items c.loop.seats.items c.loop.all h.0 none
+    let none : length c.loop.seats.items ≡ 0 = omega (arith, h.2, c.loop-test.false, c.loop.auto.counter-end) in
+    gathered_all known_by c.args.seats.items c.loop.seats.items c.loop.all.inner.me.0 h.1 none

@@ -1,5 +1,5 @@
 -- The slot in the middle has the record written last.
-use Rattle.std.proofs.Common.{refl, arith, ◌≡◌, ◌+◌, ◌*◌, ◌<◌, subst}
+use Rattle.std.proofs.Common.{arith, subst}
 use mathlib.Core.Option.{none}
 use Rattle.atomic_table.specs.Table.{step}
 use Rattle.family_triple.specs.Steps.{fetches}

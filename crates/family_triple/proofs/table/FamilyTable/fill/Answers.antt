@@ -1,5 +1,5 @@
 -- The slot comes first, and what lies behind it stays.
-use Rattle.std.proofs.Common.{[], ◌∷◌, ap, ◌∙◌, ◌≡◌, List, ℕ, sym}
+use Rattle.std.proofs.Common.{◌∷◌, ap, ◌∙◌, sym}
 use Rattle.atomic_table.specs.Table.{rest}
 use Rattle.family_triple.proofs.table.FamilyTable.fill.Goals as goal
 

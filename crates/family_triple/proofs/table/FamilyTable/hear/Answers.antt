@@ -1,5 +1,5 @@
 -- A process learns a receipt.
-use Rattle.std.proofs.Common.{◌≡◌, arith, ◌∷◌, subst, sym, ◌<◌, refl, ap}
+use Rattle.std.proofs.Common.{arith, subst, sym, refl, ap}
 use Rattle.atomic_table.specs.Table.{Joins}
 use Rattle.cell_live.specs.declared.sight.Sight.TheVariants.{Spent}
 use Rattle.cell_triple.specs.Steps.{receipt_for, hears_of}

@@ -1,5 +1,5 @@
 -- What the closure sees there is what the seat has.
-use Rattle.std.proofs.Common.{◌∷◌, [], ap, ◌∙◌, refl, ◌≡◌, List, ℕ, sym, subst}
+use Rattle.std.proofs.Common.{◌∷◌, ap, ◌∙◌, refl, sym, subst}
 use Rattle.atomic_table.specs.Table.{rest}
 use Rattle.std.specs.Fn.{FnOnceTakesAt, FnOnceReturnsAt}
 use Rattle.family_four_slot.proofs.Slices.{same_first}

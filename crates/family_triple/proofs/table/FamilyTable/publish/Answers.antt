@@ -1,5 +1,5 @@
 -- The filled slot goes into the middle.
-use Rattle.std.proofs.Common.{refl, arith, ◌≡◌, ◌+◌, ◌*◌, ◌<◌}
+use Rattle.std.proofs.Common.{arith}
 use Rattle.family_triple.proofs.Told.{publishes_ok}
 use Rattle.family_triple.proofs.table.FamilyTable.publish.Goals as goal
 

@@ -1,5 +1,5 @@
 -- A process tells what it has done.
-use Rattle.std.proofs.Common.{◌≡◌, arith, ◌∷◌, subst, sym, ◌<◌, refl}
+use Rattle.std.proofs.Common.{arith, subst, sym, refl}
 use Rattle.atomic_table.specs.Table.{Splits}
 use Rattle.cell_live.specs.declared.sight.Sight.TheVariants.{Spent}
 use Rattle.cell_triple.specs.Steps.{receipt_for, hears_of}

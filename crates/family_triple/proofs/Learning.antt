@@ -1,0 +1,163 @@
+-- A process learns a receipt: it knows of a later time, and was told one record more by the sender. All else stays.
+use Rattle.std.proofs.Common.{◌≡◌, ◌≢◌, ℕ, ◌+◌, ◌-◌, ◌*◌, ◌<◌, ◌≤◌, cond, List, length, get_or, refl, sym, ap, ◌∙◌, subst, arith, ⊎_elim, mul-le-mul_right}
+use Rattle.std.proofs.lemmas.Bool.{cases_eq, cases_lt}
+use Rattle.cell_live.specs.Running.{snap}
+use Rattle.cell_live.specs.Sights.{writer_or, reader_or}
+use Rattle.cell_live.specs.declared.times.Dated.{Dated}
+use Rattle.cell_live.specs.declared.sight.Sight.TheVariants.{Spent, Told, Writer, Reader, Both}
+use Rattle.cell_triple.specs.declared.notes.WriterNotes.{WriterNotes}
+use Rattle.cell_triple.specs.declared.notes.ReaderNotes.{ReaderNotes}
+use Rattle.cell_triple.specs.Steps.{TripleSight, first_writer, first_reader, receipt_for, hears_of, heard_by}
+use Rattle.family_live.specs.Accesses.{IsHeardRead, Keeps, KeepsOthers, Reads}
+use Rattle.family_four_slot.specs.declared.notes.Process.{Process}
+use Rattle.family_four_slot.specs.declared.notes.Receipt.{Receipt}
+use Rattle.family_four_slot.specs.Family.{of_cell, heard_by as family_heard}
+use Rattle.family_four_slot.specs.Places.{among, place, writer_of}
+use Rattle.family_four_slot.proofs.Learning.{past, heard_long}
+use Rattle.family_four_slot.proofs.Places.{writer_there}
+use Rattle.family_four_slot.proofs.Receipts.{heard_cell}
+use Rattle.family_triple.specs.Words.{writes_by, reads_by, writes_to, reads_from, IsAtRest, IsColumn}
+use Rattle.family_triple.proofs.Calls.{sees_reads, yes_same, not_same}
+use Rattle.family_triple.proofs.Cells.{deaf, mute}
+
+module _ {T : Type 0} where
+  quiet_heard : (x y : TripleSight T) → receipt_for x ≡ Spent → receipt_for (hears_of x y) ≡ Spent
+  quiet_heard (Reader g) (Told y) h = refl
+  quiet_heard (Reader g) Spent h = h
+  quiet_heard (Reader g) (Writer p) h = h
+  quiet_heard (Reader g) (Reader k) h = h
+  quiet_heard (Reader g) (Both p k) h = h
+  quiet_heard Spent y h = h
+  quiet_heard (Told x) y h = h
+  quiet_heard (Writer p) y h = h
+  quiet_heard (Both p g) y h = h
+
+  writes_heard : (d : WriterNotes T) (x y : TripleSight T) → writer_or d (hears_of x y) ≡ writer_or d x
+  writes_heard d (Reader g) (Told y) = refl
+  writes_heard d (Reader g) Spent = refl
+  writes_heard d (Reader g) (Writer p) = refl
+  writes_heard d (Reader g) (Reader k) = refl
+  writes_heard d (Reader g) (Both p k) = refl
+  writes_heard d Spent y = refl
+  writes_heard d (Told x) y = refl
+  writes_heard d (Writer p) y = refl
+  writes_heard d (Both p g) y = refl
+
+  column_heard : (o : T) (k at number : ℕ) (part y : TripleSight T) (cs : List (ℕ × T)) → IsColumn o k part cs at number →
+      IsColumn o k (hears_of part y) cs at number
+  column_heard o k at number part y cs h = subst (λ z. IsColumn o k (hears_of z y) cs at number) (sym h.is) (of_notes h.notes y h) where
+    again : (h : IsColumn o k part cs at number) → IsColumn o k (Reader h.notes) cs at number
+    again h = subst (λ z. IsColumn o k z cs at number) h.is h
+
+    of_notes : (g : ReaderNotes T) (y : TripleSight T) → (h : IsColumn o k part cs at number) → IsColumn o k (hears_of (Reader h.notes) y) cs at number
+    of_notes g (Told x) h = record {
+      notes = heard_by h.notes x.value;
+      is = refl;
+      took = h.took;
+      free = h.free;
+      opened = h.opened;
+      low = h.low;
+      numbered = h.numbered;
+      slot = h.slot;
+    }
+    of_notes g Spent h = again h
+    of_notes g (Writer q) h = again h
+    of_notes g (Reader q) h = again h
+    of_notes g (Both q r) h = again h
+
+  module _ (o : T) (n : ℕ) (v : Process (TripleSight T)) (r : Receipt (TripleSight T)) (fills reads : List ℕ) (cs : List (ℕ × T))
+      (rest : IsAtRest o n v fills reads cs) where
+    abbrev u : Process (TripleSight T)
+    u = family_heard hears_of v r
+
+    part : (k : ℕ) → of_cell Spent k u.parts ≡ hears_of (of_cell Spent k v.parts) (of_cell Spent k r.parts)
+    part k = heard_cell Spent receipt_for hears_of refl deaf mute k v.parts r.parts
+
+    pub rest_heard : IsAtRest o n u fills reads cs
+    rest_heard = record {
+      inside = rest.inside;
+      parts = heard_long hears_of v.parts r.parts ∙ rest.parts;
+      held = rest.held;
+      many = rest.many;
+      sized = rest.sized;
+      quiet = λ k nw. ap receipt_for (part k) ∙ quiet_heard (of_cell Spent k v.parts) (of_cell Spent k r.parts) (rest.quiet k nw);
+      row = λ j lj ne.
+          let k : ℕ = place n v.who j in
+          let w = rest.row j lj ne in record {
+            notes = w.notes;
+            is = part k ∙ ap (λ z. hears_of z (of_cell Spent k r.parts)) w.is;
+            took = w.took;
+            opened = w.opened;
+            low = w.low;
+            numbered = w.numbered;
+            record_there = w.record_there;
+            slot = w.slot;
+          };
+      column = λ j lj ne.
+          let k : ℕ = place n j v.who in
+          subst (λ z. IsColumn o k z cs ((n - 1) + among v.who j) (get_or reads j 0)) (sym (part k))
+          (column_heard o k ((n - 1) + among v.who j) (get_or reads j 0) (of_cell Spent k v.parts) (of_cell Spent k r.parts) cs (rest.column j lj ne));
+    }
+
+    pub writes_stay : Keeps (writes_to o n v) (writes_to o n u)
+    writes_stay j =
+        let at : ℕ = place n v.who j in
+        let d : WriterNotes T = first_writer o in
+        ap (λ (p : WriterNotes T). writes_by p)
+        (⊎_elim
+        (λ (e : j ≡ v.who). let t = yes_same j v.who e in
+        ap (λ b. writer_or d (cond b Spent (of_cell Spent at u.parts))) t ∙ sym (ap (λ b. writer_or d (cond b Spent (of_cell Spent at v.parts))) t))
+        (λ (ne : j ≢ v.who). let t = not_same j v.who ne in
+        ap (λ b. writer_or d (cond b Spent (of_cell Spent at u.parts))) t
+        ∙ ((ap (writer_or d) (part at) ∙ writes_heard d (of_cell Spent at v.parts) (of_cell Spent at r.parts))
+        ∙ sym (ap (λ b. writer_or d (cond b Spent (of_cell Spent at v.parts))) t)))
+        (cases_eq j v.who))
+
+    module _ (from : ℕ) (lf : from < n) where
+      module _ (elsewhere : (k : ℕ) → writer_of n k ≢ from → of_cell Spent k r.parts ≡ Spent) where
+        stays : (j : ℕ) → j ≢ from → j ≢ v.who → of_cell Spent (place n j v.who) u.parts ≡ of_cell Spent (place n j v.who) v.parts
+        stays j nf ne =
+            let k : ℕ = place n j v.who in
+            part k ∙ ⊎_elim
+            (λ (l : j < n).
+            let none_there = elsewhere k (λ e. nf (sym (writer_there n j v.who l rest.inside (λ q. ne (sym q))) ∙ e)) in
+            ap (hears_of (of_cell Spent k v.parts)) none_there ∙ deaf (of_cell Spent k v.parts))
+            (λ (l : n ≤ j).
+            let high : n * (n - 1) ≤ j * (n - 1) = mul-le-mul_right (n - 1) l in
+            let parts : length v.parts ≡ n * (n - 1) = rest.parts in
+            let above : length v.parts ≤ j * (n - 1) + among j v.who = omega arith in
+            let blank = past v.parts k Spent above in
+            ap (λ z. hears_of z (of_cell Spent k r.parts)) blank ∙ sym blank)
+            (cases_lt j n)
+
+        pub others_stay : KeepsOthers from (reads_from o n v) (reads_from o n u)
+        others_stay j nf =
+            let at : ℕ = place n j v.who in
+            let d : ReaderNotes T = first_reader o in
+            ap (λ (g : ReaderNotes T). reads_by g)
+            (⊎_elim
+            (λ (e : j ≡ v.who). let t = yes_same j v.who e in
+            ap (λ b. reader_or d (cond b Spent (of_cell Spent at u.parts))) t ∙ sym (ap (λ b. reader_or d (cond b Spent (of_cell Spent at v.parts))) t))
+            (λ (ne : j ≢ v.who). let t = not_same j v.who ne in
+            ap (λ b. reader_or d (cond b Spent (of_cell Spent at u.parts))) t
+            ∙ (ap (reader_or d) (stays j nf ne) ∙ sym (ap (λ b. reader_or d (cond b Spent (of_cell Spent at v.parts))) t)))
+            (cases_eq j v.who))
+
+      pub is_heard : (x : Dated T) → from ≢ v.who → of_cell Spent (place n from v.who) r.parts ≡ Told (snap x) →
+          IsHeardRead (reads_from o n v from) (reads_from o n u from) x.item
+      is_heard x ne told =
+          let k : ℕ = place n from v.who in
+          let column = rest.column from lf ne in
+          let g : ReaderNotes T = column.notes in
+          let h : ReaderNotes T = heard_by g x in
+          let now : of_cell Spent k u.parts ≡ Reader h = part k ∙ (λ i. hears_of (column.is i) (told i)) in
+          let before = sees_reads o n v from g ne column.is in
+          let after = sees_reads o n u from h ne now in
+          subst (λ (z : Reads T × Reads T). IsHeardRead z.0 z.1 x.item) (λ i. (sym before i, sym after i)) (record {
+            told = refl;
+            answers = refl;
+            numbers = refl;
+            known = refl;
+            begins = refl;
+            ends = refl;
+          })

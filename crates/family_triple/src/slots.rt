@@ -1,0 +1,94 @@
+//! The slots that a seat has between two calls: those of the registers that its process writes, in turn, and then those of the registers that
+//! it reads. The slot of a call comes first for as long as the call lasts.
+ghost use Rattle.std.specs.Prelude.{◌≡◌, ◌≢◌, ℕ, ◌+◌, ◌*◌, ◌-◌, ◌<◌, ◌≤◌, List, [], ◌∷◌, ◌++◌, length};
+ghost use Rattle.cell_triple.specs.declared.notes.ReaderNotes.{ReaderNotes};
+ghost use Rattle.cell_triple.specs.Steps.{TripleSight};
+ghost use Rattle.family_four_slot.specs.declared.notes.Process.{Process};
+ghost use Rattle.family_four_slot.specs.declared.notes.View.TheVariants.{Has};
+ghost use Rattle.family_four_slot.specs.Places.{among, other};
+ghost use Rattle.family_triple.specs.Access.{HasLooked, IsReady};
+ghost use Rattle.family_triple.specs.Places.{triples, slot_at};
+ghost use Rattle.family_triple.specs.Tables.{HasReader};
+ghost use Rattle.family_triple.specs.Triples.{first_process};
+
+use crate::table::{FamilySeat, FamilyTable};
+use cell_live::Lawful;
+use family_four_slot::place;
+
+/// The number of process `j` among the others of process `i`.
+#[inline]
+pub(crate) fn among(i: usize, j: usize) -> usize
+    requires { j ≢ i }
+    ensures { result ≡ among i j }
+{
+    if j < i { j } else { j - 1 }
+}
+
+/// The other one of process `i` with this number.
+fn other(i: usize, k: usize) -> usize
+    requires { k < 16 }
+    ensures { result ≡ other i k }
+{
+    if k < i { k } else { k + 1 }
+}
+
+/// So many of the first slots of a seat go behind its others. Nothing is done at run time.
+#[inline]
+pub(crate) fn turn_by<T: Lawful>(table: &FamilyTable<T>, seat: &mut FamilySeat<T>, count: usize)
+    ensures own { seat.new.inner.table_id ≡ seat.old.inner.table_id }
+    ensures turned { (front back : List (ℕ × T)) → seat.old.inner.me.1 ≡ front ++ back → length front ≡ count →
+        seat.new.inner.me ≡ (seat.old.inner.me.0, back ++ front) }
+{
+    for _ in 0..count {
+        table.turn(seat);
+    }
+}
+
+/// Takes the first slots of a process: those that it writes, in turn, and then those that it reads.
+pub(crate) fn take_slots<T: Lawful>(
+    table: &FamilyTable<T>,
+    seat: &mut FamilySeat<T>,
+    n: usize,
+    who: usize,
+)
+    requires own { seat.old.inner.table_id ≡ table.now.inner.shared.table_id }
+    requires key { table.now.inner.shared.key.processes ≡ n }
+    requires inside { who < n }
+    requires first { seat.old.inner.me ≡ (Has (first_process table.now.inner.shared.key.first n who ∷ []), []) }
+    ensures own { seat.new.inner.table_id ≡ seat.old.inner.table_id }
+    ensures ready { IsReady table.now.inner.shared.key.first n who seat.new.inner.me }
+{
+    for at in 0..n - 1 {
+        table.take_put(seat, who * (n - 1) + at);
+        table.turn(seat);
+    }
+    for at in 0..n - 1 {
+        table.take_get(seat, place(n, other(who, at), who));
+        table.turn(seat);
+    }
+}
+
+/// Takes the slot in the middle in place of the seat's first, where the cell's word has the mark. Then the first slot has the answer.
+#[inline]
+pub(crate) fn newest<T: Lawful>(
+    table: &FamilyTable<T>,
+    seat: &mut FamilySeat<T>,
+    cell: usize,
+    slot: u64,
+) -> u64
+    requires own { seat.old.inner.table_id ≡ table.now.inner.shared.table_id }
+    requires place { cell < (triples table.now.inner.shared.key.processes).cells }
+    requires idle { (v : Process (TripleSight T)) × (g : ReaderNotes T) × (cs : List (ℕ × T)) × HasReader seat.old.inner.me cell v g
+        × (seat.old.inner.me.1 ≡ (slot_at cell g.slot, g.at_hand.value) ∷ cs) × (g.has ≡ 1) × (g.asked ≡ 0) × (g.slot < 3) × (slot ≡ g.slot) }
+    ensures own { seat.new.inner.table_id ≡ seat.old.inner.table_id }
+    ensures looked { (v : Process (TripleSight T)) (g : ReaderNotes T) (cs : List (ℕ × T)) → HasReader seat.old.inner.me cell v g →
+        seat.old.inner.me.1 ≡ (slot_at cell g.slot, g.at_hand.value) ∷ cs → g.slot < 3 → slot ≡ g.slot →
+        HasLooked T.fits T.rises cell v g cs seat.new.inner.me result }
+{
+    let found = table.look(seat, cell);
+    if found < 4 {
+        return slot;
+    }
+    let middle = table.fetch(seat, cell, slot);
+    middle % 4
+}
