@@ -13,7 +13,7 @@ use std::test::Fail;
 use std::thread::Threads;
 
 /// One task writes up to the limit and beyond, the other reads.
-fn write_to_limit<R: Threads + Sync, F: SharedFamily<Posted<Band>>>(
+pub(crate) fn write_to_limit<R: Threads + Sync, F: SharedFamily<Posted<Band>>>(
     rt: &R,
     alloc: Global,
 ) -> Result<bool, AllocError>

@@ -13,3 +13,5 @@ mod orders;
 mod plans;
 #[cfg(test)]
 mod teams;
+#[cfg(test)]
+mod triples;

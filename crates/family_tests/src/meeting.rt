@@ -61,7 +61,7 @@ impl Gate for Meeting {
 const PLAN: &[u64] = &[1, 0];
 
 /// How many of so many tasks, 16 at most, made both their calls.
-fn met<R: Threads + Sync, F: SharedFamily<Posted<Band>>>(
+pub(crate) fn met<R: Threads + Sync, F: SharedFamily<Posted<Band>>>(
     rt: &R,
     alloc: Global,
     tasks: usize,

@@ -42,7 +42,7 @@ fn plan(alloc: Global) -> Result<Vec<u64>, AllocError> {
 
 /// Runs three tasks, which write and read in turn, until long after the tags have ended. Gives the tags of the last entries, and of the
 /// last record.
-fn worn_out<R: Threads + Sync, F: SharedFamily<Posted<Band>>>(
+pub(crate) fn worn_out<R: Threads + Sync, F: SharedFamily<Posted<Band>>>(
     rt: &R,
     alloc: Global,
 ) -> Result<Option<(u64, u64)>, AllocError>
