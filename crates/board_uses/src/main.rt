@@ -1,18 +1,17 @@
 //! Three tasks share a reading and its limits on a board: one sets limits, one publishes, one steers.
 #![tactic(auto)]
 
-ghost use Rattle.std.specs.Prelude.{◌≡◌, ◌≤◌, IfOk, length};
-ghost use Rattle.history_core.specs.declared.history.Kind.TheVariants.{Read};
-ghost use Rattle.board_live.specs.Boards.{IsPass};
-ghost use Rattle.board_live.specs.Deals.{AllPasses};
-ghost use Rattle.board_live.specs.Ran.{MakesCall};
-ghost use Rattle.board_live.specs.Receipts.{IsReceipt};
-ghost use Rattle.board_uses.specs.Turns.{TakesTurn, command_of, with_limits, with_reading};
+ghost use Rattle.std.specs.Prelude.{◌≡◌, ◌≢◌, ◌≤◌, IfOk, length};
+ghost use Rattle.atomic_board.specs.Ends.{AllPasses};
+ghost use Rattle.atomic_board.specs.Passes.{IsPass};
+ghost use Rattle.atomic_board.specs.Receipts.{IsReceipt};
+ghost use Rattle.board_uses.specs.Turns.{Reads, TakesTurn, command_of, in_order, with_limits, with_reading};
 ghost use Rattle.board_uses.specs.Motors.{WasCounted};
 ghost use Rattle.stamps.specs.Choices.{IsAtMost};
 
-use board_live::{Board, BoardError, Clocked, Pass, Posted, Receipt, RecordLaw, TagsEnded};
-use cell_four_slot::FourSlotCell;
+use atomic_board::{Board, BoardError, Pass, Posted, Receipt, RecordLaw, TagsEnded};
+use family_four_slot::FourSlotFamily;
+use family_live::Family;
 use stamps::Stamp;
 use std::alloc::{AllocError, Global};
 use std::io;
@@ -20,6 +19,7 @@ use std::io;
 mod program;
 mod receipts;
 mod tasks;
+mod threads;
 
 use program::run;
 use receipts::ends_in_order;
@@ -27,7 +27,7 @@ use tasks::Motor;
 
 /// What the tasks share.
 #[derive(Clone, Copy, Debug, PartialEq, Eq)]
-struct Control {
+pub struct Control {
     low: u64,
     reading: u64,
     high: u64,
@@ -51,17 +51,15 @@ impl Control {
 }
 
 impl RecordLaw for Control {
-    ghost use Rattle.std.specs.Prelude.{nat_le};
-
-    ghost obeys = { λ c. nat_le c.low c.high };
+    ghost obeys = { in_order };
 
     fn fits(&self) -> bool {
         self.low <= self.high
     }
 }
 
-/// The cells of the board.
-type Cells = FourSlotCell<Clocked<Control>>;
+/// The registers on which the boards stand. All else is over any family of them.
+type Registers = FourSlotFamily<Posted<Control>>;
 
 const LIMITS: usize = 0;
 
@@ -70,32 +68,32 @@ const READING: usize = 1;
 const STEERING: usize = 2;
 
 /// The limits' task puts new limits beside the reading that it sees.
-fn set_limits(
-    board: &Board<Control, Cells>,
-    pass: &mut Pass<Control, Cells>,
+fn set_limits<F: Family<Posted<Control>>>(
+    board: &Board<Control, F>,
+    pass: &mut Pass<Control, F>,
     low: u64,
     high: u64,
 ) -> Result<Stamp, TagsEnded<Control>>
-    requires pass { IsPass board.now pass.old }
+    requires pass { IsPass ⟦<F as Family<Posted<Control>>>⟧ in_order board.now pass.old }
     requires limits { low ≤ high }
-    ensures pass { IsPass board.now pass.new }
+    ensures pass { IsPass ⟦<F as Family<Posted<Control>>>⟧ in_order board.now pass.new }
     ensures process { pass.new.process ≡ pass.old.process }
-    ensures turn { TakesTurn board.now (with_limits low high) pass.old pass.new result }
+    ensures turn { TakesTurn ⟦<F as Family<Posted<Control>>>⟧ board.now (with_limits low high) pass.old pass.new result }
 {
     let reading = board.read(pass).item.reading;
     board.write(pass, Control { low, reading, high })
 }
 
 /// The reading's task puts a new reading within the limits that it sees.
-fn publish(
-    board: &Board<Control, Cells>,
-    pass: &mut Pass<Control, Cells>,
+fn publish<F: Family<Posted<Control>>>(
+    board: &Board<Control, F>,
+    pass: &mut Pass<Control, F>,
     reading: u64,
 ) -> Result<Stamp, TagsEnded<Control>>
-    requires { IsPass board.now pass.old }
-    ensures pass { IsPass board.now pass.new }
+    requires { IsPass ⟦<F as Family<Posted<Control>>>⟧ in_order board.now pass.old }
+    ensures pass { IsPass ⟦<F as Family<Posted<Control>>>⟧ in_order board.now pass.new }
     ensures process { pass.new.process ≡ pass.old.process }
-    ensures turn { TakesTurn board.now (with_reading reading) pass.old pass.new result }
+    ensures turn { TakesTurn ⟦<F as Family<Posted<Control>>>⟧ board.now (with_reading reading) pass.old pass.new result }
 {
     let Control {
         low,
@@ -106,10 +104,10 @@ fn publish(
 }
 
 /// The steering task only reads, and gives the command that follows from its record.
-fn steer(board: &Board<Control, Cells>, pass: &mut Pass<Control, Cells>) -> u64
-    requires { IsPass board.now pass.old }
-    ensures pass { IsPass board.now pass.new }
-    ensures call { MakesCall board.now Read pass.old pass.new }
+fn steer<F: Family<Posted<Control>>>(board: &Board<Control, F>, pass: &mut Pass<Control, F>) -> u64
+    requires { IsPass ⟦<F as Family<Posted<Control>>>⟧ in_order board.now pass.old }
+    ensures pass { IsPass ⟦<F as Family<Posted<Control>>>⟧ in_order board.now pass.new }
+    ensures call { Reads ⟦<F as Family<Posted<Control>>>⟧ board.now pass.old pass.new }
     ensures command { result ≡ command_of pass.new.own.item }
     ensures within { (pass.new.own.item.low ≤ result) × (result ≤ pass.new.own.item.high) }
 {
@@ -118,33 +116,31 @@ fn steer(board: &Board<Control, Cells>, pass: &mut Pass<Control, Cells>) -> u64
 }
 
 /// The reading's task publishes, and gives a receipt for the steering task.
-fn publish_and_tell(
-    board: &Board<Control, Cells>,
-    pass: &mut Pass<Control, Cells>,
+fn publish_and_tell<F: Family<Posted<Control>>>(
+    board: &Board<Control, F>,
+    pass: &mut Pass<Control, F>,
     reading: u64,
-) -> Result<Receipt<Control, Cells>, TagsEnded<Control>>
-    requires pass { IsPass board.now pass.old }
-    requires process { pass.old.process ≡ 1 }
-    requires three { length board.now.rows.items ≡ 3 }
-    ensures pass { IsPass board.now pass.new }
+) -> Result<Receipt<Control, F>, TagsEnded<Control>>
+    requires { IsPass ⟦<F as Family<Posted<Control>>>⟧ in_order board.now pass.old }
+    ensures pass { IsPass ⟦<F as Family<Posted<Control>>>⟧ in_order board.now pass.new }
     ensures process { pass.new.process ≡ pass.old.process }
-    ensures receipt { IfOk result (λ r. IsReceipt board.now r × (r.to ≡ 2)) }
+    ensures receipt { IfOk result (λ r. IsReceipt ⟦<F as Family<Posted<Control>>>⟧ board.now r × (r.from ≡ pass.old.process)) }
     ensures names { IfOk result (λ r. r.item ≡ pass.new.own) }
 {
     publish(board, pass, reading)?;
-    Ok(board.tell(pass, STEERING))
+    Ok(board.tell(pass))
 }
 
 /// The steering task takes the receipt in, so that it steers by a record that is no older.
-fn steer_when_told(
-    board: &Board<Control, Cells>,
-    pass: &mut Pass<Control, Cells>,
-    receipt: Receipt<Control, Cells>,
+fn steer_when_told<F: Family<Posted<Control>>>(
+    board: &Board<Control, F>,
+    pass: &mut Pass<Control, F>,
+    receipt: Receipt<Control, F>,
 ) -> u64
-    requires pass { IsPass board.now pass.old }
-    requires receipt { IsReceipt board.now receipt }
-    requires to { receipt.to ≡ pass.old.process }
-    ensures pass { IsPass board.now pass.new }
+    requires pass { IsPass ⟦<F as Family<Posted<Control>>>⟧ in_order board.now pass.old }
+    requires receipt { IsReceipt ⟦<F as Family<Posted<Control>>>⟧ board.now receipt }
+    requires other { receipt.from ≢ pass.old.process }
+    ensures pass { IsPass ⟦<F as Family<Posted<Control>>>⟧ in_order board.now pass.new }
     ensures process { pass.new.process ≡ pass.old.process }
     ensures heeds { IsAtMost receipt.item.stamp pass.new.own.stamp }
 {
@@ -153,52 +149,53 @@ fn steer_when_told(
 }
 
 /// The limits' task has its turn.
-fn set_limits_by(
-    board: &Board<Control, Cells>,
-    passes: &mut Vec<Pass<Control, Cells>>,
+fn set_limits_by<F: Family<Posted<Control>>>(
+    board: &Board<Control, F>,
+    passes: &mut Vec<Pass<Control, F>>,
 ) -> Result<Stamp, TagsEnded<Control>>
-    requires all { AllPasses board.now passes.old.items }
+    requires all { AllPasses ⟦<F as Family<Posted<Control>>>⟧ in_order board.now passes.old.items }
     requires three { length passes.old.items ≡ 3 }
-    ensures { AllPasses board.now passes.new.items × (length passes.new.items ≡ 3) }
+    ensures { AllPasses ⟦<F as Family<Posted<Control>>>⟧ in_order board.now passes.new.items × (length passes.new.items ≡ 3) }
 {
     set_limits(board, &mut passes[LIMITS], 10, 20)
 }
 
 /// The reading's task has its turn.
-fn publish_by(
-    board: &Board<Control, Cells>,
-    passes: &mut Vec<Pass<Control, Cells>>,
-) -> Result<Receipt<Control, Cells>, TagsEnded<Control>>
-    requires all { AllPasses board.now passes.old.items }
+fn publish_by<F: Family<Posted<Control>>>(
+    board: &Board<Control, F>,
+    passes: &mut Vec<Pass<Control, F>>,
+) -> Result<Receipt<Control, F>, TagsEnded<Control>>
+    requires all { AllPasses ⟦<F as Family<Posted<Control>>>⟧ in_order board.now passes.old.items }
     requires three { length passes.old.items ≡ 3 }
-    ensures all { AllPasses board.now passes.new.items × (length passes.new.items ≡ 3) }
-    ensures receipt { IfOk result (λ r. IsReceipt board.now r × (r.to ≡ 2)) }
+    ensures all { AllPasses ⟦<F as Family<Posted<Control>>>⟧ in_order board.now passes.new.items × (length passes.new.items ≡ 3) }
+    ensures receipt { IfOk result (λ r. IsReceipt ⟦<F as Family<Posted<Control>>>⟧ board.now r × (r.from ≡ 1)) }
 {
     publish_and_tell(board, &mut passes[READING], 25)
 }
 
 /// The steering task has its turn.
-fn steer_by(
-    board: &Board<Control, Cells>,
-    passes: &mut Vec<Pass<Control, Cells>>,
-    receipt: Receipt<Control, Cells>,
+fn steer_by<F: Family<Posted<Control>>>(
+    board: &Board<Control, F>,
+    passes: &mut Vec<Pass<Control, F>>,
+    receipt: Receipt<Control, F>,
 ) -> u64
-    requires all { AllPasses board.now passes.old.items }
+    requires all { AllPasses ⟦<F as Family<Posted<Control>>>⟧ in_order board.now passes.old.items }
     requires three { length passes.old.items ≡ 3 }
-    requires receipt { IsReceipt board.now receipt × (receipt.to ≡ 2) }
-    ensures { AllPasses board.now passes.new.items × (length passes.new.items ≡ 3) }
+    requires receipt { IsReceipt ⟦<F as Family<Posted<Control>>>⟧ board.now receipt × (receipt.from ≡ 1) }
+    ensures { AllPasses ⟦<F as Family<Posted<Control>>>⟧ in_order board.now passes.new.items × (length passes.new.items ≡ 3) }
 {
     steer_when_told(board, &mut passes[STEERING], receipt)
 }
 
 /// Each task calls in turn.
-fn share(
-    board: &Board<Control, Cells>,
-    passes: &mut Vec<Pass<Control, Cells>>,
+fn share<F: Family<Posted<Control>>>(
+    board: &Board<Control, F>,
+    passes: &mut Vec<Pass<Control, F>>,
 ) -> Result<u64, TagsEnded<Control>>
-    requires all { AllPasses board.now passes.old.items }
+    requires all { AllPasses ⟦<F as Family<Posted<Control>>>⟧ in_order board.now passes.old.items }
     requires three { length passes.old.items ≡ 3 }
-    ensures { IfOk result (λ _. AllPasses board.now passes.new.items × (length passes.new.items ≡ 3)) }
+    ensures { IfOk result (λ _. AllPasses ⟦<F as Family<Posted<Control>>>⟧ in_order board.now passes.new.items
+        × (length passes.new.items ≡ 3)) }
 {
     set_limits_by(board, passes)?;
     let receipt = publish_by(board, passes)?;
@@ -206,22 +203,25 @@ fn share(
 }
 
 /// One reading more, which is refused where the tags have ended.
-fn is_refused(board: &Board<Control, Cells>, passes: &mut Vec<Pass<Control, Cells>>) -> bool
-    requires all { AllPasses board.now passes.old.items }
+fn is_refused<F: Family<Posted<Control>>>(
+    board: &Board<Control, F>,
+    passes: &mut Vec<Pass<Control, F>>,
+) -> bool
+    requires all { AllPasses ⟦<F as Family<Posted<Control>>>⟧ in_order board.now passes.old.items }
     requires three { length passes.old.items ≡ 3 }
-    ensures { AllPasses board.now passes.new.items }
+    ensures { AllPasses ⟦<F as Family<Posted<Control>>>⟧ in_order board.now passes.new.items }
 {
     publish(board, &mut passes[READING], 15).is_err()
 }
 
 /// What the steering task gave on a first board and on the one after it, where the first ended as it should.
-fn two_boards(alloc: Global) -> Result<Option<[u64; 2]>, BoardError> {
+fn two_boards<F: Family<Posted<Control>>>(alloc: Global) -> Result<Option<[u64; 2]>, BoardError> {
     let opening = Control {
         low: 0,
         reading: 0,
         high: 0,
     };
-    let (board, mut passes) = Board::<Control, Cells>::new(alloc, 3, 2, opening)?;
+    let (board, mut passes) = Board::<Control, F>::new(alloc, 3, 2, opening)?;
     let Ok(first) = share(&board, &mut passes) else {
         return Ok(None);
     };
@@ -229,19 +229,21 @@ fn two_boards(alloc: Global) -> Result<Option<[u64; 2]>, BoardError> {
         return Ok(None);
     }
     let last = board.finish(passes);
-    let (next, mut others) = Board::<Control, Cells>::renew(alloc, 3, 2, last)?;
+    let (next, mut others) = Board::<Control, F>::renew(alloc, 3, 2, last)?;
     let second = steer(&next, &mut others[STEERING]);
     Ok(Some([first, second]))
 }
 
 /// The last record of a board of two processes, of which one has written, told and ended; none where its tags have ended.
-fn last_of_two(alloc: Global) -> Result<Option<Posted<Control>>, AllocError> {
+fn last_of_two<F: Family<Posted<Control>>>(
+    alloc: Global,
+) -> Result<Option<Posted<Control>>, AllocError> {
     let opening = Control {
         low: 0,
         reading: 0,
         high: 0,
     };
-    let Ok((board, mut passes)) = Board::<Control, Cells>::new(alloc, 2, 9, opening) else {
+    let Ok((board, mut passes)) = Board::<Control, F>::new(alloc, 2, 9, opening) else {
         return Err(AllocError);
     };
     let Some(reader) = passes.pop() else {
@@ -286,7 +288,8 @@ fn main(rt: HostRuntime) -> io::Result<()> {
         commands: 0,
         outside: 0,
     };
-    let Ok(Some((_last, motor))) = run(rt, rt.alloc(), opening, 1_000, motor) else {
+    let Ok(Some((_last, motor))) = run::<_, Registers, _>(rt, rt.alloc(), opening, 1_000, motor)
+    else {
         return println!(rt; "the control program didn't end as it should, or there was no memory");
     };
     println!(rt;
@@ -294,12 +297,12 @@ fn main(rt: HostRuntime) -> io::Result<()> {
         1_000 <= motor.commands,
         motor.outside
     )?;
-    let Ok(Some(steered)) = two_boards(rt.alloc()) else {
+    let Ok(Some(steered)) = two_boards::<Registers>(rt.alloc()) else {
         return println!(rt; "the first board didn't end as it should, or there was no memory");
     };
     let [first, second] = steered;
     println!(rt; "steering by {first}, and by {second} on the next board")?;
-    let Ok(Some(last)) = last_of_two(rt.alloc()) else {
+    let Ok(Some(last)) = last_of_two::<Registers>(rt.alloc()) else {
         return println!(rt; "the board of two didn't end as it should, or there was no memory");
     };
     println!(rt; "a board of two ends with {}", last.item.reading)

@@ -1,28 +1,25 @@
-//! A receipt crosses, and the board ends: the calls have one order, with their records.
-ghost use Rattle.std.specs.Prelude.{◌≡◌, IsTrue, IfOk, IfSome, List, length};
-ghost use Rattle.board_live.specs.Ran.{dated, HasRecords, IsFresh};
-ghost use Rattle.board_live.specs.Rising.{posted};
-ghost use Rattle.stamps.specs.Calls.{Call, IsOneOrder, calls_in};
+//! A receipt crosses, and the board ends: its calls are atomic by their intervals.
+ghost use Rattle.std.specs.Prelude.{◌≡◌, IsTrue, IfOk, IfSome};
+ghost use Rattle.board_uses.specs.Turns.{HasCrossed, IsFresh};
 
-use board_live::{Board, Clocked, Pass, Posted, RecordLaw};
-use cell_live::Calls;
+use atomic_board::{Board, Pass, Posted, RecordLaw};
+use family_live::Family;
 use std::alloc::{AllocError, Global};
 
-/// With the fresh passes of a board of two processes one writes and tells, the other learns and reads, and the board ends: the two calls
-/// have one order, by which one register holds what is given. None where the tags have ended.
-pub fn ends_in_order<V: RecordLaw, C: Calls<Clocked<V>>>(
+/// With the fresh passes of a board of two processes one writes and tells, the other learns and reads, and the board ends: the read began
+/// after the write had ended, and the two calls are atomic by their intervals. None where the tags have ended.
+pub fn ends_in_order<V: RecordLaw, F: Family<Posted<V>>>(
     alloc: Global,
-    board: Board<V, C>,
-    writer: Pass<V, C>,
-    reader: Pass<V, C>,
+    board: Board<V, F>,
+    writer: Pass<V, F>,
+    reader: Pass<V, F>,
     item: V,
 ) -> Result<Option<Posted<V>>, AllocError>
-    requires two { length board.rows.items ≡ 2 }
-    requires writer { IsFresh board 0 writer }
-    requires reader { IsFresh board 1 reader }
+    requires two { board.processes ≡ 2 }
+    requires writer { IsFresh ⟦<F as Family<Posted<V>>>⟧ V.obeys board 0 writer }
+    requires reader { IsFresh ⟦<F as Family<Posted<V>>>⟧ V.obeys board 1 reader }
     requires item { IsTrue (V.obeys item) }
-    ensures { IfOk result (λ r. IfSome r (λ last. (runs : List (List (Call V))) × (order : List (Call V)) × (calls_in runs ≡ 2)
-        × IsOneOrder (dated board.first) board.limit runs order × HasRecords (posted board.first) last order)) }
+    ensures { IfOk result (λ r. IfSome r (λ last. HasCrossed ⟦<F as Family<Posted<V>>>⟧ board item last)) }
 {
     let mut writer = writer;
     let mut reader = reader;
@@ -30,7 +27,7 @@ pub fn ends_in_order<V: RecordLaw, C: Calls<Clocked<V>>>(
     let Ok(_) = board.write(&mut writer, item) else {
         return Ok(None);
     };
-    let receipt = board.tell(&mut writer, 1);
+    let receipt = board.tell(&mut writer);
     board.learn(&mut reader, receipt);
     let _seen = board.read(&mut reader);
     passes.push(writer)?;

@@ -1,12 +1,10 @@
 -- A read, and a write of what was made of it.
-use Rattle.board_live.proofs.Made.{by_read}
 use Rattle.board_uses.specs.Turns.{with_reading}
 use Rattle.board_uses.proofs.Runs.{turn}
 use Rattle.board_uses.proofs.publish.Goals as goal
 
 pub returns-clause-turn : goal.returns-clause-turn
-returns-clause-turn c =
-    turn c.args.board.now (with_reading c.args.reading) c.args.pass.now c.read-low.new.pass c.write.new.pass c.write.result c.read-low.result
-    (by_read c.args.board.now c.args.pass.now c.read-low.new.pass c.read-low.result c.read-low.ensures.pass c.read-low.ensures.call
-    c.read-low.ensures.chosen)
-    c.read-low.ensures.chosen c.write.ensures.pass c.write.ensures.call c.write.ensures.chosen
+returns-clause-turn g c =
+    turn g.F.Family c.args.board.now (with_reading c.args.reading) c.args.pass.now c.read-low.new.pass c.write.new.pass
+    c.read-low.result c.write.result c.read-low.ensures.pass c.read-low.ensures.call c.read-low.ensures.chosen
+    c.write.ensures.pass c.write.ensures.call

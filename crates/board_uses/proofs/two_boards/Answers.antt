@@ -1,9 +1,14 @@
 -- The pass is one of the new board's.
-use Rattle.std.proofs.Common.{arith, refl}
-use Rattle.std.proofs.lemmas.Option.{slice_get_read}
+use Rattle.std.proofs.Common.{arith, sym}
+use Rattle.atomic_board.proofs.Passing.{all_new, stood}
+use Rattle.board_uses.specs.Turns.{in_order}
 use Rattle.board_uses.proofs.two_boards.Goals as goal
 
 pub steer-second-requires : goal.steer-second-requires
-steer-second-requires c =
-    c.in_ok-next.ensures.passes_of.of 2 c.index_mut.result.now
-    (slice_get_read c.in_ok-next.others.items _ 2 _ refl (omega (arith, c.in_ok-next.ensures.count)) c.index_mut.ensures.value)
+steer-second-requires g c =
+    (stood g.F.Family in_order c.in_ok-next.next c.in_ok-next.others.items _ 2 c.index_mut.result.now (sym c.in_ok-next.ensures.count.1)
+    (omega arith) c.index_mut.ensures.value
+    (all_new g.F.Family in_order c.in_ok-next.next _ _ _ c.in_ok-next.others.items c.in_ok-next.ensures)).0
+
+pub share-requires-clause-all : goal.share-requires-clause-all
+share-requires-clause-all g c = all_new g.F.Family in_order c.in_ok-board.board _ _ _ c.in_ok-board.passes.items c.in_ok-board.ensures

@@ -1,38 +1,40 @@
-use Rattle.std.proofs.Common.{◌∙◌, ap, sym, refl, [], ◌∷◌}
-use Rattle.board_live.specs.Ran.{HaveRun}
-use Rattle.board_uses.proofs.Two.{two_passes, two_runs, have_two}
+-- The receipt has the time of the write's end, and the read begins after the times that its process was told.
+use Rattle.std.proofs.Common.{◌≡◌, [], ◌∷◌, ◌++◌, refl, sym, ◌∙◌, ap, subst, arith}
+use Rattle.history_core.specs.declared.history.Kind.TheVariants.{Read, Write}
+use Rattle.atomic_board.specs.Ends.{AllPasses, HaveAtomicOrder}
+use Rattle.atomic_board.specs.Records.{stamped}
+use Rattle.board_uses.proofs.Three.{crossed, two_passes}
 use Rattle.board_uses.proofs.receipts.ends_in_order.Goals as goal
 
 pub finish-last-requires : goal.finish-last-requires
 finish-last-requires g c =
-    rw (c.in_ok-push-2.ensures.items, c.in_ok-push.ensures.items, c.in_ok-passes.ensures.items)
-    (two_passes c.args.board c.tell-receipt.new.pass c.read-seen.new.pass c.requires.two
-    c.tell-receipt.ensures.pass
-    (c.tell-receipt.ensures.told.process ∙ (c.write.ensures.call.process ∙ c.requires.writer.process))
-    c.read-seen.ensures.pass
-    (c.read-seen.ensures.call.process ∙ (c.learn.ensures.learnt.process ∙ c.requires.reader.process)))
+    let w = c.tell-receipt.new.pass in
+    let r = c.read-seen.new.pass in
+    let passes : c.push-2.new.self.items ≡ w ∷ r ∷ [] = c.in_ok-push-2.ensures.items ∙ ap (λ z. z ++ r ∷ [])
+    (c.in_ok-push.ensures.items ∙ ap (λ z. z ++ w ∷ []) c.in_ok-passes.ensures.items) in
+    subst (λ ps. AllPasses g.F.Family g.V.RecordLaw.obeys c.args.board ps) (sym passes)
+    (two_passes g.F.Family c.args.board g.V.RecordLaw.obeys w r c.requires.two c.tell-receipt.ensures.pass
+    (c.tell-receipt.ensures.same.process ∙ c.in-Ok.ensures.call.1.process ∙ c.requires.writer.who) c.read-seen.ensures.pass
+    (c.read-seen.ensures.call.process ∙ c.learn.ensures.same.process ∙ c.requires.reader.who))
 
 pub returns : goal.returns
 returns g c =
-    let w1 = c.write.new.pass in
-    let r1 = c.learn.new.pass in
-    let r2 = c.read-seen.new.pass in
-    let runs = two_runs c.args.writer w1 r1 r2 in
-    let have : HaveRun c.args.board (c.tell-receipt.new.pass ∷ r2 ∷ []) runs =
-    have_two c.args.board c.args.writer w1 c.tell-receipt.new.pass c.args.reader r1 r2 c.tell-receipt.result
-    c.requires.writer
-    (record {
-      of = c.write.ensures.pass;
-      call = c.write.ensures.call;
-      chosen = (c.in-Ok.ensures.chosen.0, ap (λ z. z.stamp) c.in-Ok.ensures.chosen.2 ∙ c.in-Ok.ensures.chosen.1);
-    })
-    c.tell-receipt.ensures.pass c.tell-receipt.ensures.told c.requires.reader c.learn.ensures.pass c.tell-receipt.ensures.receipt
-    (c.tell-receipt.ensures.told.to_one ∙ sym c.requires.reader.process) c.learn.ensures.learnt
-    (record {
-      of = c.read-seen.ensures.pass;
-      call = c.read-seen.ensures.call;
-      chosen = (ap (λ z. z.stamp) c.read-seen.ensures.chosen.chooses, ap (λ z. z.item) c.read-seen.ensures.chosen.chooses);
-    }) in
-    let o = c.finish-last.ensures.ordered runs
-    (rw (c.in_ok-push-2.ensures.items, c.in_ok-push.ensures.items, c.in_ok-passes.ensures.items) have) in
-    (runs, o.0, refl, o.1, o.3)
+    let clock = g.F.Family.clock in
+    let w = c.tell-receipt.new.pass in
+    let r = c.read-seen.new.pass in
+    let passes : c.push-2.new.self.items ≡ w ∷ r ∷ [] = c.in_ok-push-2.ensures.items ∙ ap (λ z. z ++ r ∷ [])
+    (c.in_ok-push.ensures.items ∙ ap (λ z. z ++ w ∷ []) c.in_ok-passes.ensures.items) in
+    let atomic = subst (λ ps. HaveAtomicOrder g.F.Family c.args.board ps c.finish-last.result) passes c.finish-last.ensures.atomic in
+    let write = c.in-Ok.ensures.call.1 in
+    let chose = c.in-Ok.ensures.call.2 in
+    let read = c.read-seen.ensures.call in
+    let wrote : clock c.write.new.pass.seat ≡ write.end = write.interval.2 in
+    let told = c.tell-receipt.ensures.told.time in
+    let heard = c.learn.ensures.learnt.time in
+    let begins = read.interval.0 in
+    crossed g.F.Family c.args.board w r c.args.item c.finish-last.result
+    (record { begin = write.begin; end = write.end; kind = Write; seen = stamped c.in-Ok.ensures.call.0; chosen = stamped c.write.new.pass.own })
+    (record { begin = read.begin; end = read.end; kind = Read; seen = stamped c.read-seen.result; chosen = stamped r.own }) atomic
+    (c.tell-receipt.ensures.same.made _ (write.made [] c.requires.writer.none))
+    (read.made [] (c.learn.ensures.same.made [] c.requires.reader.none)) refl refl (ap (λ z. z.item) chose.2)
+    (omega (arith, wrote, told, heard, begins))

@@ -1,25 +1,19 @@
--- One turn more; the loop is left by a turn that was refused, or before one.
-use Rattle.std.proofs.Common.{subst, sym}
-use Rattle.board_uses.specs.Turns.{HasRun}
-use Rattle.board_uses.proofs.Runs.{no_turn, one_turn}
-use Rattle.board_uses.proofs.tasks.keep_limits.Goals.{in-None, in-Some+then-is_told, in-Some+else-is_told+then-is_err}
+-- One turn more.
+use Rattle.std.proofs.Common.{[], refl}
+use Rattle.board_uses.specs.Turns.{SetsLimits, no_turn}
+use Rattle.board_uses.proofs.Runs.{has_run}
 use Rattle.board_uses.proofs.tasks.keep_limits.Goals as goal
 
 pub loop-init : goal.loop-init
-loop-init g c = record { of = c.requires; run = no_turn c.args.shared.now.board c.args.pass.now }
+loop-init g c = record { of = c.requires; calls = []; turns = no_turn }
 
 pub loop-preserved : goal.loop-preserved
-loop-preserved g c = record {
-  of = c.set_limits.ensures.pass;
-  run = one_turn c.args.shared.now.board _ c.args.pass.now c.loop.pass c.set_limits.new.pass c.set_limits.result c.loop.invariant.run
-      c.set_limits.ensures.turn;
-}
+loop-preserved g c =
+    let run = has_run g.F.Family c.args.shared.now.board SetsLimits c.args.pass.now c.loop.invariant.calls _ c.loop.pass c.set_limits-set.new.pass
+    c.set_limits-set.result c.loop.invariant.turns (_, _, refl) c.set_limits-set.ensures.turn in
+    record { of = c.set_limits-set.ensures.pass; calls = run.calls; turns = run.turns }
 
-pub returns : goal.returns
-returns g c = elim c.match-next.branch [
-  | in-None w ↦ subst (λ z. HasRun c.args.shared.now.board c.args.pass.now z) (sym w.pass-is) c.loop.invariant.run
-  | in-Some+then-is_told w ↦ subst (λ z. HasRun c.args.shared.now.board c.args.pass.now z) (sym w.pass-is) c.loop.invariant.run
-  | in-Some+else-is_told+then-is_err w ↦ subst (λ z. HasRun c.args.shared.now.board c.args.pass.now z) (sym w.pass-is)
-      (one_turn c.args.shared.now.board _ c.args.pass.now c.loop.pass w.set_limits.new.pass w.set_limits.result c.loop.invariant.run
-      w.set_limits.ensures.turn)
-]
+pub returns-then-is_err : goal.returns-then-is_err
+returns-then-is_err g c =
+    has_run g.F.Family c.args.shared.now.board SetsLimits c.args.pass.now c.loop.invariant.calls _ c.loop.pass c.set_limits-set.new.pass
+    c.set_limits-set.result c.loop.invariant.turns (_, _, refl) c.set_limits-set.ensures.turn

@@ -1,10 +1,14 @@
--- The turns so far, each a read and a write.
-use Rattle.board_live.specs.Boards.{IsPass}
-use Rattle.board_uses.specs.Turns.{HasRun}
+-- The turns so far.
+use Rattle.std.specs.Prelude.{List}
+use Rattle.atomic_board.specs.Passes.{IsPass}
+use Rattle.board_history.specs.BoardRuns.{Called}
+use Rattle.board_uses.specs.Turns.{in_order, SetsLimits, Turns}
+use Rattle.board_uses.specs.declared.Control.{Control}
 use Rattle.board_uses.proofs.tasks.keep_limits.Given as goal
 
 abbrev pub invariant-loop : goal.invariant-loop
 invariant-loop g l = record {
-  of : IsPass l.shared.board l.pass;
-  run : HasRun l.shared.board l.initial.pass l.pass;
+  of : IsPass g.F.Family in_order l.shared.board l.pass;
+  calls : List (Called Control);
+  turns : Turns g.F.Family l.shared.board SetsLimits l.initial.pass calls l.pass;
 }

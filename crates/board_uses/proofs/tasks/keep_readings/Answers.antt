@@ -1,25 +1,19 @@
--- One turn more; the loop is left by a turn that was refused, or before one.
-use Rattle.std.proofs.Common.{subst, sym}
-use Rattle.board_uses.specs.Turns.{HasRun}
-use Rattle.board_uses.proofs.Runs.{no_turn, one_turn}
-use Rattle.board_uses.proofs.tasks.keep_readings.Goals.{in-None, in-Some+then-is_told, in-Some+else-is_told+then-is_err}
+-- One turn more.
+use Rattle.std.proofs.Common.{[], refl}
+use Rattle.board_uses.specs.Turns.{Publishes, no_turn}
+use Rattle.board_uses.proofs.Runs.{has_run}
 use Rattle.board_uses.proofs.tasks.keep_readings.Goals as goal
 
 pub loop-init : goal.loop-init
-loop-init g c = record { of = c.requires; run = no_turn c.args.shared.now.board c.args.pass.now }
+loop-init g c = record { of = c.requires; calls = []; turns = no_turn }
 
 pub loop-preserved : goal.loop-preserved
-loop-preserved g c = record {
-  of = c.publish.ensures.pass;
-  run = one_turn c.args.shared.now.board _ c.args.pass.now c.loop.pass c.publish.new.pass c.publish.result c.loop.invariant.run
-      c.publish.ensures.turn;
-}
+loop-preserved g c =
+    let run = has_run g.F.Family c.args.shared.now.board Publishes c.args.pass.now c.loop.invariant.calls _ c.loop.pass c.publish-published.new.pass
+    c.publish-published.result c.loop.invariant.turns (_, refl) c.publish-published.ensures.turn in
+    record { of = c.publish-published.ensures.pass; calls = run.calls; turns = run.turns }
 
-pub returns : goal.returns
-returns g c = elim c.match-next.branch [
-  | in-None w ↦ subst (λ z. HasRun c.args.shared.now.board c.args.pass.now z) (sym w.pass-is) c.loop.invariant.run
-  | in-Some+then-is_told w ↦ subst (λ z. HasRun c.args.shared.now.board c.args.pass.now z) (sym w.pass-is) c.loop.invariant.run
-  | in-Some+else-is_told+then-is_err w ↦ subst (λ z. HasRun c.args.shared.now.board c.args.pass.now z) (sym w.pass-is)
-      (one_turn c.args.shared.now.board _ c.args.pass.now c.loop.pass w.publish.new.pass w.publish.result c.loop.invariant.run
-      w.publish.ensures.turn)
-]
+pub returns-then-is_err : goal.returns-then-is_err
+returns-then-is_err g c =
+    has_run g.F.Family c.args.shared.now.board Publishes c.args.pass.now c.loop.invariant.calls _ c.loop.pass c.publish-published.new.pass
+    c.publish-published.result c.loop.invariant.turns (_, refl) c.publish-published.ensures.turn
