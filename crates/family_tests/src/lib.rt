@@ -10,6 +10,8 @@ mod meeting;
 #[cfg(test)]
 mod orders;
 #[cfg(test)]
+mod origins;
+#[cfg(test)]
 mod plans;
 #[cfg(test)]
 mod teams;

@@ -1,16 +1,17 @@
 //! Tasks over a board that is ended.
-use crate::plans::run_plans;
+use crate::plans::{point, run_plans};
 use atomic_board::Posted;
 use board_tasks::{Entry, OpenGate, Reply, finish_lanes};
 use family_four_slot::FourSlotFamily;
 use family_live::SharedFamily;
 use history_core::Band;
+use log_origins::{Origin, check_origin};
 use stamps::Stamp;
 use std::alloc::{AllocError, Global};
 use std::test::Fail;
 use std::thread::Threads;
 
-const ROUNDS: usize = 20_000;
+const ROUNDS: usize = 50_000;
 
 const LIMIT: u64 = 50;
 
@@ -56,6 +57,7 @@ where
     let (logs, last) = finish_lanes(alloc, crew.board, crew.lanes)?;
     let mut greatest = 0;
     let mut lawful = logs.len() == 3;
+    lawful = lawful & (check_origin(point(0), logs.as_slice()) == Origin::Sound);
     for log in logs.as_slice() {
         lawful = lawful & is_worn(log.as_slice());
         if let Some(entry) = log.last() {
@@ -73,5 +75,60 @@ where
 fn worn_out_tags_on_four_slots(rt: HostRuntime) -> Result<(), Fail> {
     let tags = worn_out::<_, FourSlotFamily<Posted<Band>>>(&rt, rt.alloc())?;
     assert_eq!(rt; tags, Some((50, 50)));
+    Ok(())
+}
+
+/// What two tasks left behind: how long their logs are, whether each record in them has its origin, and the last record.
+fn left_by_two<R: Threads + Sync, F: SharedFamily<Posted<Band>>>(
+    rt: &R,
+    alloc: Global,
+    limit: u64,
+    plans: &[&[u64]],
+) -> Result<([usize; 2], Origin, Posted<Band>), AllocError>
+where
+    F::Seat: Send,
+    F::Told: Send,
+{
+    let crew = run_plans::<R, F, OpenGate>(rt, alloc, limit, plans, &OpenGate)?;
+    let (logs, last) = finish_lanes(alloc, crew.board, crew.lanes)?;
+    let origin = check_origin(point(0), logs.as_slice());
+    let lengths = match logs.as_slice() {
+        [first, second] => [first.len(), second.len()],
+        _ => [0, 0],
+    };
+    Ok((lengths, origin, last))
+}
+
+#[test]
+fn two_tasks_write_and_read(rt: HostRuntime) -> Result<(), Fail> {
+    let plans: &[&[u64]] = &[&[1, 0, 2], &[3, 0]];
+    let (lengths, origin, last) = left_by_two::<_, FourSlotFamily<Posted<Band>>>(
+        &rt,
+        rt.alloc(),
+        9,
+        plans,
+    )?;
+    assert_eq!(rt; lengths, [3, 2]);
+    assert_eq!(rt; origin, Origin::Sound);
+    assert!(rt; last.stamp.tag >= 2);
+    assert!(rt;
+        last.item.now == 2 || last.item.now == 3,
+        "a write that no other followed"
+    );
+    Ok(())
+}
+
+#[test]
+fn two_tasks_meet_the_limit(rt: HostRuntime) -> Result<(), Fail> {
+    let plans: &[&[u64]] = &[&[1, 2], &[0, 0]];
+    let (lengths, origin, last) = left_by_two::<_, FourSlotFamily<Posted<Band>>>(
+        &rt,
+        rt.alloc(),
+        1,
+        plans,
+    )?;
+    assert_eq!(rt; lengths, [2, 2]);
+    assert_eq!(rt; origin, Origin::Sound);
+    assert_eq!(rt; (last.stamp.tag, last.item.now), (1, 1));
     Ok(())
 }

@@ -9,6 +9,7 @@ use history_core::Band;
 use stamps::Stamp;
 use std::alloc::Global;
 
+mod outside;
 mod rows;
 
 const OPENING: Band = Band {

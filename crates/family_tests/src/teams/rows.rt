@@ -3,12 +3,15 @@ use super::{A, B, C, Given, OPENING, Team, UNLAWFUL, at};
 use atomic_board::{BoardError, Posted, TagsEnded};
 use family_four_slot::FourSlotFamily;
 use family_live::Family;
+use family_triple::TripleFamily;
 use history_core::Band;
 use stamps::Stamp;
 use std::alloc::Global;
 use std::test::Fail;
 
 type FourSlot = FourSlotFamily<Posted<Band>>;
+
+type Triple = TripleFamily<Posted<Band>>;
 
 fn stamp(tag: u64, writer: usize) -> Given {
     Given::Stamp(Stamp { tag, writer })
@@ -108,6 +111,19 @@ fn receipts_that_are_learnt(rt: HostRuntime) -> Result<(), Fail> {
     Ok(())
 }
 
+/// The tags end with a record that was told.
+fn told_at_limit<F: Family<Posted<Band>>>(alloc: Global) -> Result<[Given; 3], BoardError> {
+    let mut team = Team::<F>::new(alloc, 2, 1, OPENING)?;
+    Ok([team.write(0, A), team.pass_on(0, 1), team.write(1, B)])
+}
+
+#[test]
+fn tags_end_at_a_receipt(rt: HostRuntime) -> Result<(), Fail> {
+    let expected = [stamp(1, 0), posted(1, 0, A), Given::Ended(at(1, 0, A))];
+    assert_eq!(rt; told_at_limit::<FourSlot>(rt.alloc())?, expected);
+    Ok(())
+}
+
 /// A receipt that is dropped changes nothing, and no receipt is needed in one thread.
 fn untold<F: Family<Posted<Band>>>(alloc: Global) -> Result<[Given; 3], BoardError> {
     let mut team = Team::<F>::new(alloc, 2, 9, OPENING)?;
@@ -159,6 +175,33 @@ fn late_receipt_of_a_lost_pass(rt: HostRuntime) -> Result<(), Fail> {
         stamp(3, 1),
     ]);
     assert_eq!(rt; late::<FourSlot>(rt.alloc())?, expected);
+    Ok(())
+}
+
+/// Process 1 writes, and its pass is lost.
+fn dropped<F: Family<Posted<Band>>>(alloc: Global) -> Result<Option<[Given; 3]>, BoardError> {
+    let Team { board, mut passes } = Team::<F>::new(alloc, 2, 9, OPENING)?;
+    let Some(mut lost) = passes.pop() else {
+        return Ok(None);
+    };
+    let Some(mut kept) = passes.pop() else {
+        return Ok(None);
+    };
+    let _ = board.write(&mut lost, B);
+    drop(lost);
+    let first = board.read(&mut kept);
+    let second = given(board.write(&mut kept, C));
+    Ok(Some([
+        Given::Posted(first),
+        second,
+        Given::Posted(board.read(&mut kept)),
+    ]))
+}
+
+#[test]
+fn record_of_a_lost_pass(rt: HostRuntime) -> Result<(), Fail> {
+    let expected = Some([posted(1, 1, B), stamp(2, 0), posted(2, 0, C)]);
+    assert_eq!(rt; dropped::<FourSlot>(rt.alloc())?, expected);
     Ok(())
 }
 
@@ -234,5 +277,43 @@ fn refused_boards(rt: HostRuntime) -> Result<(), Fail> {
         None,
     ];
     assert_eq!(rt; refusals::<FourSlot>(rt.alloc()), expected);
+    Ok(())
+}
+
+/// What all rows give.
+#[derive(Clone, Copy, Debug, PartialEq, Eq)]
+struct Rows {
+    three: [Given; 6],
+    ends: [Given; 6],
+    told: [Given; 7],
+    told_at_limit: [Given; 3],
+    untold: [Given; 3],
+    late: Option<[Given; 6]>,
+    dropped: Option<[Given; 3]>,
+    terms: [Given; 7],
+    refusals: [Option<BoardError>; 9],
+}
+
+fn make_rows<F: Family<Posted<Band>>>(alloc: Global) -> Result<Rows, BoardError> {
+    Ok(Rows {
+        three: three::<F>(alloc)?,
+        ends: ends::<F>(alloc)?,
+        told: told::<F>(alloc)?,
+        told_at_limit: told_at_limit::<F>(alloc)?,
+        untold: untold::<F>(alloc)?,
+        late: late::<F>(alloc)?,
+        dropped: dropped::<F>(alloc)?,
+        terms: terms::<F>(alloc)?,
+        refusals: refusals::<F>(alloc),
+    })
+}
+
+/// Boards over triple buffers answer as those over four slots, whose answers are the rows above.
+#[test]
+fn rows_on_triple_buffers(rt: HostRuntime) -> Result<(), Fail> {
+    assert_eq!(rt;
+        make_rows::<Triple>(rt.alloc())?,
+        make_rows::<FourSlot>(rt.alloc())?
+    );
     Ok(())
 }
