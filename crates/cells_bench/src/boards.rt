@@ -1,11 +1,12 @@
 //! Boards of 2 to 16 processes over records of 24 bytes, whose processes call in turn in one thread.
-ghost use Rattle.std.specs.Prelude.{Bool, IfOk, true};
-ghost use Rattle.board_live.specs.Deals.{AllPasses};
+ghost use Rattle.std.specs.Prelude.{IfOk};
+ghost use Rattle.atomic_board.specs.Ends.{AllPasses};
+ghost use Rattle.cells_bench.specs.Items.{no_law};
 
 use crate::boards_at_once;
 use crate::measure::{Batch, Op, per_call, say};
-use board_live::{Board, Clocked, Pass, RecordLaw};
-use cell_live::{Calls, Cell};
+use atomic_board::{Board, Pass, Posted, RecordLaw};
+use family_live::{Family, SharedFamily};
 use std::alloc::{AllocError, Global};
 use std::io;
 use std::rt::Clock;
@@ -36,7 +37,7 @@ impl Item {
 }
 
 impl RecordLaw for Item {
-    ghost obeys = { λ _. true };
+    ghost obeys = { no_law };
 
     fn fits(&self) -> bool {
         true
@@ -51,14 +52,14 @@ const LIMIT: u64 = u64::MAX - 1;
 
 /// A board with the passes of its processes.
 #[derive(Drop)]
-pub struct Team<C: Calls<Clocked<Item>>> {
-    pub board: Board<Item, C>,
-    pub passes: Vec<Pass<Item, C>>,
+pub struct Team<F: Family<Posted<Item>>> {
+    pub board: Board<Item, F>,
+    pub passes: Vec<Pass<Item, F>>,
 }
 
-impl<C: Calls<Clocked<Item>>> Team<C> {
-    pub fn new(alloc: Global, n: usize) -> Result<Team<C>, AllocError>
-        ensures { IfOk result (λ t. AllPasses t.board t.passes.items) }
+impl<F: Family<Posted<Item>>> Team<F> {
+    pub fn new(alloc: Global, n: usize) -> Result<Team<F>, AllocError>
+        ensures { IfOk result (λ t. AllPasses ⟦<F as Family<Posted<Item>>>⟧ no_law t.board t.passes.items) }
     {
         let Ok((board, passes)) = Board::new(alloc, n, LIMIT, Item::of(0)) else {
             return Err(AllocError);
@@ -68,8 +69,8 @@ impl<C: Calls<Clocked<Item>>> Team<C> {
 
     /// Each write is of the process after the one before.
     fn write(&mut self, calls: u64)
-        requires { AllPasses self.old.board self.old.passes.items }
-        ensures { AllPasses self.new.board self.new.passes.items }
+        requires { AllPasses ⟦<F as Family<Posted<Item>>>⟧ no_law self.old.board self.old.passes.items }
+        ensures { AllPasses ⟦<F as Family<Posted<Item>>>⟧ no_law self.new.board self.new.passes.items }
     {
         let n = self.passes.len();
         if n == 0 {
@@ -83,8 +84,8 @@ impl<C: Calls<Clocked<Item>>> Team<C> {
 
     /// Each read is of the process after the one before. Gives a sum of what was read.
     fn read(&mut self, calls: u64) -> u64
-        requires { AllPasses self.old.board self.old.passes.items }
-        ensures { AllPasses self.new.board self.new.passes.items }
+        requires { AllPasses ⟦<F as Family<Posted<Item>>>⟧ no_law self.old.board self.old.passes.items }
+        ensures { AllPasses ⟦<F as Family<Posted<Item>>>⟧ no_law self.new.board self.new.passes.items }
     {
         let n = self.passes.len();
         if n == 0 {
@@ -99,8 +100,8 @@ impl<C: Calls<Clocked<Item>>> Team<C> {
     }
 }
 
-impl<C: Calls<Clocked<Item>>> Batch for Team<C> {
-    ghost ready = { λ t. AllPasses t.board t.passes.items };
+impl<F: Family<Posted<Item>>> Batch for Team<F> {
+    ghost ready = { λ t. AllPasses ⟦<F as Family<Posted<Item>>>⟧ no_law t.board t.passes.items };
 
     fn batch(&mut self, op: Op, calls: u64) -> u64 {
         match op {
@@ -114,56 +115,55 @@ impl<C: Calls<Clocked<Item>>> Batch for Team<C> {
 }
 
 /// One board of so many processes and the calls, nothing else.
-pub fn calls<C: Calls<Clocked<Item>>>(
+pub fn calls<F: Family<Posted<Item>>>(
     alloc: Global,
     n: usize,
     op: Op,
     calls: u64,
 ) -> Result<u64, AllocError> {
-    let mut team = Team::<C>::new(alloc, n)?;
+    let mut team = Team::<F>::new(alloc, n)?;
     Ok(team.batch(op, calls))
 }
 
 /// The picoseconds of a write and of a read, where the processes of one board call in turn in one thread.
-fn times<C: Calls<Clocked<Item>>>(
+fn times<F: Family<Posted<Item>>>(
     rt: &impl Clock,
     alloc: Global,
     n: usize,
 ) -> io::Result<(u64, u64)> {
-    let mut team = Team::<C>::new(alloc, n)?;
+    let mut team = Team::<F>::new(alloc, n)?;
     let write = per_call(rt, alloc, &mut team, Op::Write)?;
     let read = per_call(rt, alloc, &mut team, Op::Read)?;
     Ok((write, read))
 }
 
-fn alone<R: Clock + Print, C: Calls<Clocked<Item>>>(
+fn alone<R: Clock + Print, F: Family<Posted<Item>>>(
     rt: &R,
     alloc: Global,
     name: &str,
     n: usize,
 ) -> io::Result<()> {
-    let (write, read) = times::<C>(rt, alloc, n)?;
+    let (write, read) = times::<F>(rt, alloc, n)?;
     let mode = format!(in alloc; "n{n}_solo")?;
     say(rt, name, 24, mode.as_str(), "write_ns", write)?;
     say(rt, name, 24, mode.as_str(), "read_ns", read)
 }
 
-/// Measures boards over one cell.
-pub fn run<R: Clock + Print + Threads + Sync, C: Cell<Clocked<Item>>>(
+/// Measures boards over one family.
+pub fn run<R: Clock + Print + Threads + Sync, F: SharedFamily<Posted<Item>>>(
     rt: &R,
     alloc: Global,
     name: &str,
 ) -> io::Result<()>
 where
-    C::Put: Send,
-    C::Get: Send,
-    C::Told: Send,
+    F::Seat: Send,
+    F::Told: Send,
 {
     for n in PROCESSES {
-        alone::<R, C>(rt, alloc, name, n)?;
+        alone::<R, F>(rt, alloc, name, n)?;
         for tasks in [2, 4] {
             if tasks <= n {
-                boards_at_once::run::<R, C>(rt, alloc, name, n, tasks)?;
+                boards_at_once::run::<R, F>(rt, alloc, name, n, tasks)?;
             }
         }
     }

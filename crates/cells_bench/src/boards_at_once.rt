@@ -1,12 +1,13 @@
 //! Tasks over a board at full speed, each in a thread of its own: a write and a read in turn.
 ghost use Rattle.std.specs.Prelude.{All, IfOk};
-ghost use Rattle.board_live.specs.Boards.{IsPass};
+ghost use Rattle.atomic_board.specs.Passes.{IsPass};
+ghost use Rattle.cells_bench.specs.Items.{no_law};
 
 use crate::boards::{Item, Team};
 use crate::measure::{clock_cost, quantile, say, since};
-use board_live::{Board, Clocked, Pass};
-use cell_live::{Calls, Cell};
+use atomic_board::{Board, Pass, Posted};
 use crossbeam_utils::CachePadded;
+use family_live::{Family, SharedFamily};
 use std::alloc::{AllocError, Global};
 use std::rt::Clock;
 use std::sync::atomic::{AtomicU64, Ordering};
@@ -59,18 +60,26 @@ struct Counted {
 
 /// One task with its pass.
 #[derive(Drop)]
-struct Task<'a, C: Calls<Clocked<Item>>> {
+struct Task<'a, F: Family<Posted<Item>>> {
     start: Instant,
-    board: &'a Board<Item, C>,
-    pass: Pass<Item, C>,
+    board: &'a Board<Item, F>,
+    pass: Pass<Item, F>,
     counted: Counted,
 }
 
-impl<'a, C: Calls<Clocked<Item>>> Task<'a, C> {
-    /// Writes and reads by turns until the time is over.
+/// What runs until the time is over.
+trait Runs {
+    ghost ready: { Self → Type 0 };
+
     fn run<R: Clock>(&mut self, rt: &R, signals: &Signals)
-        requires { IsPass self.old.board.now self.old.pass }
-    {
+        requires { ready self.old };
+}
+
+impl<'a, F: Family<Posted<Item>>> Runs for Task<'a, F> {
+    ghost ready = { λ t. IsPass ⟦<F as Family<Posted<Item>>>⟧ no_law t.board.now t.pass };
+
+    /// Writes and reads by turns until the time is over.
+    fn run<R: Clock>(&mut self, rt: &R, signals: &Signals) {
         signals.meet();
         let begun = since(rt, self.start);
         let end = begun.saturating_add(BUDGET);
@@ -128,15 +137,15 @@ struct Total {
 }
 
 /// A task for each of the last so many passes.
-fn make_tasks<'a, C: Calls<Clocked<Item>>>(
+fn make_tasks<'a, F: Family<Posted<Item>>>(
     alloc: Global,
     start: Instant,
-    board: &'a Board<Item, C>,
-    mut passes: Vec<Pass<Item, C>>,
+    board: &'a Board<Item, F>,
+    mut passes: Vec<Pass<Item, F>>,
     count: usize,
-) -> Result<Vec<CachePadded<Task<'a, C>>>, AllocError>
-    requires { All (IsPass board.now) passes.items }
-    ensures { IfOk result (λ tasks. All (λ t. IsPass t.value.board.now t.value.pass) tasks.items) }
+) -> Result<Vec<CachePadded<Task<'a, F>>>, AllocError>
+    requires { All (IsPass ⟦<F as Family<Posted<Item>>>⟧ no_law board.now) passes.items }
+    ensures { IfOk result (λ tasks. All (λ t. IsPass ⟦<F as Family<Posted<Item>>>⟧ no_law t.value.board.now t.value.pass) tasks.items) }
 {
     let mut tasks = Vec::with_capacity(alloc, count)?;
     for _ in 0..count {
@@ -160,15 +169,8 @@ fn make_tasks<'a, C: Calls<Clocked<Item>>>(
 }
 
 /// Runs each task in a thread of its own.
-fn run_each<R: Clock + Threads + Sync, C: Cell<Clocked<Item>>>(
-    rt: &R,
-    tasks: &mut [CachePadded<Task<C>>],
-)
-where
-    C::Put: Send,
-    C::Get: Send,
-    C::Told: Send,
-    requires { All (λ t. IsPass t.value.board.now t.value.pass) tasks.old }
+fn run_each<R: Clock + Threads + Sync, X: Runs + Send>(rt: &R, tasks: &mut [CachePadded<X>])
+    requires { All (λ t. X.ready t.value) tasks.old }
 {
     let count = tasks.len();
     if count == 0 {
@@ -179,16 +181,16 @@ where
         rt,
         tasks,
         count,
-        &|_, task: &mut CachePadded<Task<C>>|
-            requires { IsPass task.now.value.board.now task.now.value.pass }
+        &|_, task: &mut CachePadded<X>|
+            requires { X.ready task.now.value }
         { task.run(rt, &signals) },
     );
 }
 
 /// Adds up what the tasks counted.
-fn add_up<C: Calls<Clocked<Item>>>(
+fn add_up<F: Family<Posted<Item>>>(
     alloc: Global,
-    tasks: Vec<CachePadded<Task<C>>>,
+    tasks: Vec<CachePadded<Task<F>>>,
     cost: u64,
 ) -> Result<Total, AllocError> {
     let mut total = Total {
@@ -234,29 +236,28 @@ fn say_total(rt: &impl Print, name: &str, mode: &str, total: &Total) -> io::Resu
     say(rt, name, 24, mode, "torn_or_backward", torn)
 }
 
-fn measure<R: Clock + Threads + Sync, C: Cell<Clocked<Item>>>(
+fn measure<R: Clock + Threads + Sync, F: SharedFamily<Posted<Item>>>(
     rt: &R,
     alloc: Global,
     n: usize,
     count: usize,
 ) -> io::Result<Total>
 where
-    C::Put: Send,
-    C::Get: Send,
-    C::Told: Send,
+    F::Seat: Send,
+    F::Told: Send,
 {
     let start = Instant::now(rt)?;
     let cost = clock_cost(rt, start);
-    let Team { board, passes } = Team::<C>::new(alloc, n)?;
+    let Team { board, passes } = Team::<F>::new(alloc, n)?;
     let board = CachePadded::new(board);
     let mut tasks = make_tasks(alloc, start, &board, passes, count)?;
-    run_each(rt, tasks.as_mut_slice());
+    run_each::<R, Task<F>>(rt, tasks.as_mut_slice());
     let total = add_up(alloc, tasks, cost)?;
     Ok(total)
 }
 
 /// Measures so many tasks on a board of n processes.
-pub fn run<R: Clock + Print + Threads + Sync, C: Cell<Clocked<Item>>>(
+pub fn run<R: Clock + Print + Threads + Sync, F: SharedFamily<Posted<Item>>>(
     rt: &R,
     alloc: Global,
     name: &str,
@@ -264,11 +265,10 @@ pub fn run<R: Clock + Print + Threads + Sync, C: Cell<Clocked<Item>>>(
     count: usize,
 ) -> io::Result<()>
 where
-    C::Put: Send,
-    C::Get: Send,
-    C::Told: Send,
+    F::Seat: Send,
+    F::Told: Send,
 {
-    let total = measure::<R, C>(rt, alloc, n, count)?;
+    let total = measure::<R, F>(rt, alloc, n, count)?;
     let mode = format!(in alloc; "n{n}_t{count}")?;
     say_total(rt, name, mode.as_str(), &total)
 }

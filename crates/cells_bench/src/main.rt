@@ -11,11 +11,14 @@ mod record;
 mod sides;
 mod solo;
 
-use board_live::Clocked;
+use atomic_board::Posted;
 use boards::{Item, PROCESSES};
 use cell_four_slot::FourSlotCell;
 use cell_live::Cell;
 use cell_triple::TripleCell;
+use family_four_slot::FourSlotFamily;
+use family_live::SharedFamily;
+use family_triple::TripleFamily;
 use measure::{Asked, Op};
 use record::{Record, Shared};
 use std::alloc::Global;
@@ -168,7 +171,7 @@ where
     }
 }
 
-/// Boards over one cell, of n processes where calls are asked for.
+/// Boards over one family, of n processes where calls are asked for.
 fn board<R: Clock + Print + Threads + Sync>(
     rt: &R,
     alloc: Global,
@@ -178,16 +181,16 @@ fn board<R: Clock + Print + Threads + Sync>(
 ) -> io::Result<()> {
     match kind {
         "proved_board_four_slot" => {
-            on_board::<R, FourSlotCell<Clocked<Item>>>(rt, alloc, kind, n, asked)
+            on_board::<R, FourSlotFamily<Posted<Item>>>(rt, alloc, kind, n, asked)
         }
         "proved_board_triple" => {
-            on_board::<R, TripleCell<Clocked<Item>>>(rt, alloc, kind, n, asked)
+            on_board::<R, TripleFamily<Posted<Item>>>(rt, alloc, kind, n, asked)
         }
         _ => println!(rt; "# no such board"),
     }
 }
 
-fn on_board<R: Clock + Print + Threads + Sync, C: Cell<Clocked<Item>>>(
+fn on_board<R: Clock + Print + Threads + Sync, F: SharedFamily<Posted<Item>>>(
     rt: &R,
     alloc: Global,
     name: &str,
@@ -195,14 +198,13 @@ fn on_board<R: Clock + Print + Threads + Sync, C: Cell<Clocked<Item>>>(
     asked: Asked,
 ) -> io::Result<()>
 where
-    C::Put: Send,
-    C::Get: Send,
-    C::Told: Send,
+    F::Seat: Send,
+    F::Told: Send,
 {
     match asked {
-        Asked::Measures => boards::run::<R, C>(rt, alloc, name),
+        Asked::Measures => boards::run::<R, F>(rt, alloc, name),
         Asked::Calls(op, calls) => {
-            let sum = boards::calls::<C>(alloc, n, op, calls)?;
+            let sum = boards::calls::<F>(alloc, n, op, calls)?;
             println!(rt; "# {sum}")
         }
     }

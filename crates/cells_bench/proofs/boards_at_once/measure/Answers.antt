@@ -4,4 +4,4 @@ use Rattle.cells_bench.proofs.boards_at_once.measure.Goals as goal
 
 pub make_tasks-requires : goal.make_tasks-requires
 make_tasks-requires g c = λ k d l. rw (c.deref.ensures, c.new-board.ensures)
-    (c.in_ok-board.ensures.of k _ (slice_get-get_or c.in_ok-board.field-0.passes.items k d l))
+    ((c.in_ok-board.ensures.each k _ (slice_get-get_or c.in_ok-board.field-0.passes.items k d l)).0)

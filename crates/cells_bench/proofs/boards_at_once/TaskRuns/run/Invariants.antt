@@ -1,0 +1,7 @@
+-- Each call leaves the pass one of this board.
+use Rattle.atomic_board.specs.Passes.{IsPass}
+use Rattle.cells_bench.specs.Items.{no_law}
+use Rattle.cells_bench.proofs.boards_at_once.TaskRuns.run.Given as goal
+
+abbrev pub invariant-loop-number : goal.invariant-loop-number
+invariant-loop-number g l = IsPass g.F.Family no_law l.self.board.now l.self.pass
