@@ -1,20 +1,19 @@
 -- Lanes that have run, whose passes may be used on.
 use Rattle.std.proofs.lemmas.Option.{same_Some, none-some}
 use Rattle.std.proofs.Common.{arith, refl, sym, subst, zero, suc, ◌≡◌, length, take, drop}
-use Rattle.std.specs.Prelude.{ℕ, List, [], ◌∷◌, ◌++◌, All, slice_get, Some}
+use Rattle.std.specs.Prelude.{ℕ, Bool, List, [], ◌∷◌, ◌++◌, All, slice_get, Some}
 use Rattle.std.proofs.lemmas.List.Elements.{All-nil, All-cons}
-use Rattle.std.specs.declared.cmp.PartialEq.{Ghosts as EqWords}
-use Rattle.cell_live.specs.declared.cell.Calls.{Ghosts as CellWords}
-use Rattle.board_live.specs.declared.board.Board.{Board}
-use Rattle.board_live.specs.declared.board.Pass.{Pass}
-use Rattle.board_live.specs.declared.clocked.Clocked.{Clocked}
-use Rattle.board_live.specs.declared.lane.Lane.{Lane}
-use Rattle.board_live.specs.declared.posted.RecordLaw.{Ghosts as LawWords}
-use Rattle.board_live.specs.Boards.{IsPass}
-use Rattle.board_live.specs.Deals.{AllPasses}
-use Rattle.board_live.specs.Jobs.{AllReady, EachStep}
-use Rattle.board_live.specs.Tasks.{Ran}
-use Rattle.board_live.proofs.Works.{changed_whole}
+use Rattle.family_live.specs.declared.family.Family.{Ghosts as FamilyWords}
+use Rattle.atomic_board.specs.declared.board.Board.{Board}
+use Rattle.atomic_board.specs.declared.board.Pass.{Pass}
+use Rattle.atomic_board.specs.declared.record.Posted.{Posted}
+use Rattle.atomic_board.specs.Passes.{IsPass}
+use Rattle.atomic_board.specs.Ends.{AllPasses}
+use Rattle.board_tasks.specs.declared.lane.Lane.{Lane}
+use Rattle.board_tasks.specs.Jobs.{AllReady, EachStep}
+use Rattle.board_tasks.specs.Lanes.{IsLane}
+use Rattle.board_tasks.specs.Tasks.{Ran}
+use Rattle.board_tasks.proofs.Works.{changed_whole}
 
 -- what holds of each element of a list after a change
 pub all_after : {X : Type 0} (P : X → Type 0) (old new : List X) → length new ≡ length old
@@ -42,33 +41,31 @@ last_and_others P (y ∷ ys) x all =
     let rest = last_and_others P ys x (λ k d l. all (suc k) d (omega (arith, l))) in
     (rest.0, All-cons P y ys (all 0 y (omega arith)) rest.1)
 
-module _ {V C P G T : Type 0} {law : LawWords V} {eq : EqWords V} {cells : CellWords C (Clocked V) P G T} where
+module _ {V F S T : Type 0} (family : FamilyWords F (Posted V) S T) (obeys : V → Bool) (board : Board V F S T) where
   -- lanes that have run on a board still have its passes
-  pub used_on : (may_call may_stop : ℕ → ℕ → Type 0) (board : Board V C P G T law eq cells) (n : ℕ)
-      (old before new now : List (Lane V C P G T law eq cells))
-      → n ≡ length old → before ≡ old → EachStep (Ran may_call may_stop board) 0 before new → now ≡ take n (new ++ drop (length new) old)
-      → All (λ (l : Lane V C P G T law eq cells). IsPass board l.pass) now
-  used_on may_call may_stop board n old before new now count same ran changed =
-      let Q : Lane V C P G T law eq cells → Type 0 = λ l. IsPass board l.pass in
+  pub used_on : (may_call may_stop : ℕ → ℕ → Type 0) (n : ℕ) (old before new now : List (Lane V F S T))
+      → n ≡ length old → before ≡ old → EachStep (Ran family obeys may_call may_stop board) 0 before new
+      → now ≡ take n (new ++ drop (length new) old)
+      → All (λ (l : Lane V F S T). IsPass family obeys board l.pass) now
+  used_on may_call may_stop n old before new now count same ran changed =
+      let Q : Lane V F S T → Type 0 = λ l. IsPass family obeys board l.pass in
       subst (All Q) (sym (changed_whole n old before new now count same ran.lengths changed))
       (all_after Q before new ran.lengths (λ k x y a b. (ran.each k x y a b).of))
 
   -- a lane that is taken out, and those that are left, have passes of the board
-  pub taken_apart : (board : Board V C P G T law eq cells) (whole left : List (Lane V C P G T law eq cells))
-      (lane : Lane V C P G T law eq cells)
-      → whole ≡ left ++ lane ∷ [] → All (λ (l : Lane V C P G T law eq cells). IsPass board l.pass) whole
-      → IsPass board lane.pass × All (λ (l : Lane V C P G T law eq cells). IsPass board l.pass) left
-  taken_apart board whole left lane e all =
-      let Q : Lane V C P G T law eq cells → Type 0 = λ l. IsPass board l.pass in
+  pub taken_apart : (whole left : List (Lane V F S T)) (lane : Lane V F S T)
+      → whole ≡ left ++ lane ∷ [] → All (λ (l : Lane V F S T). IsPass family obeys board l.pass) whole
+      → IsPass family obeys board lane.pass × All (λ (l : Lane V F S T). IsPass family obeys board l.pass) left
+  taken_apart whole left lane e all =
+      let Q : Lane V F S T → Type 0 = λ l. IsPass family obeys board l.pass in
       last_and_others Q left lane (subst (All Q) e all)
 
   -- a lane of the last pass of a board may run alone
-  pub one_ready : (board : Board V C P G T law eq cells) (passes rest : List (Pass V C P G T law eq cells))
-      (pass : Pass V C P G T law eq cells)
-      (lane : Lane V C P G T law eq cells) → AllPasses board passes → passes ≡ rest ++ pass ∷ [] → lane.pass ≡ pass
-      → AllReady (λ (l : Lane V C P G T law eq cells). IsPass board l.pass) 0 (lane ∷ [])
-  one_ready board passes rest pass lane all e is =
-      let Q : Lane V C P G T law eq cells → Type 0 = λ l. IsPass board l.pass in
+  pub one_ready : (passes rest : List (Pass V F S T)) (pass : Pass V F S T) (lane : Lane V F S T)
+      → AllPasses family obeys board passes → passes ≡ rest ++ pass ∷ [] → (lane.pass ≡ pass) × IsLane obeys lane
+      → AllReady (λ (l : Lane V F S T). IsPass family obeys board l.pass × IsLane obeys l) 0 (lane ∷ [])
+  one_ready passes rest pass lane all e is =
+      let Q : Lane V F S T → Type 0 = λ l. IsPass family obeys board l.pass × IsLane obeys l in
       let at : slice_get passes (length rest) ≡ Some pass = subst (λ z. slice_get z (length rest) ≡ Some pass) (sym e) (at_end rest pass) in
-      let of : IsPass board lane.pass = subst (IsPass board) (sym is) (all.of (length rest) pass at) in
-      record { fits = omega arith; each = λ k x h. only Q lane k x h of }
+      let of : IsPass family obeys board lane.pass = subst (IsPass family obeys board) (sym is.0) (all.each (length rest) pass at).0 in
+      record { fits = omega arith; each = λ k x h. only Q lane k x h (of, is.1) }

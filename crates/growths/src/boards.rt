@@ -1,35 +1,33 @@
 //! Calls of boards. Those that take memory answer, or say that there is none.
 ghost use Rattle.std.specs.Prelude.{IfOk};
-ghost use Rattle.board_live.specs.Deals.{AllPasses};
+ghost use Rattle.history_core.specs.Band.{fits};
+ghost use Rattle.atomic_board.specs.Ends.{AllPasses};
 
 use crate::documents::Stopped;
 use crate::print;
-use crate::team::{Given, Team};
-use board_live::{BoardError, Clocked, Posted};
-use cell_four_slot::FourSlotCell;
-use cell_live::Calls;
-use cell_triple::TripleCell;
+use crate::team::{A, B, Given, OPENING, Team};
+use atomic_board::{BoardError, Posted};
+use family_four_slot::FourSlotFamily;
+use family_live::Family;
+use family_triple::TripleFamily;
 use history_core::Band;
 use std::alloc::Global;
 use std::io;
 
-const OPENING: Band = Band {
-    lo: 0,
-    now: 0,
-    hi: 0,
-};
-
-const A: Band = Band {
-    lo: 1,
-    now: 1,
-    hi: 1,
-};
-
-const B: Band = Band {
-    lo: 2,
-    now: 2,
-    hi: 2,
-};
+/// What is done on a board.
+#[derive(Clone, Copy)]
+pub enum Call {
+    /// It is made, for so many processes.
+    New(usize),
+    /// It is made for so many processes, of which the first writes and tells, and the last learns and reads.
+    Share(usize),
+    /// One process writes and tells another, which learns and reads.
+    Tell,
+    /// One more board is made or isn't.
+    Beside,
+    /// A board of more processes is made after it: where that is refused, a second time if this is said.
+    Renew { twice: bool },
+}
 
 impl From<BoardError> for Stopped {
     fn from(error: BoardError) -> Stopped {
@@ -41,14 +39,14 @@ impl From<BoardError> for Stopped {
 }
 
 /// The number of passes of a board of so many processes.
-fn made<K: Calls<Clocked<Band>>>(alloc: Global, n: usize) -> Result<usize, BoardError> {
-    let team = Team::<K>::new(alloc, n, 9, OPENING)?;
+fn made<F: Family<Posted<Band>>>(alloc: Global, n: usize) -> Result<usize, BoardError> {
+    let team = Team::<F>::new(alloc, n, 9, OPENING)?;
     Ok(team.len())
 }
 
 /// Process 0 writes and tells process 1, which learns and reads, and the board is finished.
-fn told<K: Calls<Clocked<Band>>>(alloc: Global) -> Result<[Given; 4], BoardError> {
-    let mut team = Team::<K>::new(alloc, 2, 9, OPENING)?;
+fn told<F: Family<Posted<Band>>>(alloc: Global) -> Result<[Given; 4], BoardError> {
+    let mut team = Team::<F>::new(alloc, 2, 9, OPENING)?;
     Ok([
         team.write(0, A),
         team.pass_on(0, 1),
@@ -58,26 +56,26 @@ fn told<K: Calls<Clocked<Band>>>(alloc: Global) -> Result<[Given; 4], BoardError
 }
 
 /// A board of 16 processes that opens with this record. Where the first request for it is refused it is tried twice, if that is said.
-fn next_board<K: Calls<Clocked<Band>>>(
+fn next_board<F: Family<Posted<Band>>>(
     alloc: Global,
     last: Posted<Band>,
     twice: bool,
-) -> Result<Team<K>, BoardError>
-    ensures { IfOk result (λ t. AllPasses t.board t.passes.items) }
+) -> Result<Team<F>, BoardError>
+    ensures { IfOk result (λ t. AllPasses ⟦<F as Family<Posted<Band>>>⟧ fits t.board t.passes.items) }
 {
-    let made = Team::<K>::renew(alloc, 16, 5, last);
+    let made = Team::<F>::renew(alloc, 16, 5, last);
     if twice && made.is_err() {
-        return Team::<K>::renew(alloc, 16, 5, last);
+        return Team::<F>::renew(alloc, 16, 5, last);
     }
     made
 }
 
 /// A board whose tags end, and then one of more processes, which opens with its last record.
-fn renewed<K: Calls<Clocked<Band>>>(alloc: Global, twice: bool) -> Result<[Given; 5], BoardError> {
-    let mut team = Team::<K>::new(alloc, 2, 1, OPENING)?;
+fn renewed<F: Family<Posted<Band>>>(alloc: Global, twice: bool) -> Result<[Given; 5], BoardError> {
+    let mut team = Team::<F>::new(alloc, 2, 1, OPENING)?;
     let first = team.write(0, A);
     let second = team.write(1, B);
-    let mut next = next_board::<K>(alloc, team.finish(), twice)?;
+    let mut next = next_board::<F>(alloc, team.finish(), twice)?;
     Ok([
         first,
         second,
@@ -88,60 +86,80 @@ fn renewed<K: Calls<Clocked<Band>>>(alloc: Global, twice: bool) -> Result<[Given
 }
 
 /// A board on which a process wrote, one more board that is made or isn't, and then what another process reads of the first.
-fn beside<K: Calls<Clocked<Band>>>(alloc: Global) -> Result<[Given; 2], BoardError> {
-    let mut team = Team::<K>::new(alloc, 2, 9, OPENING)?;
+fn beside<F: Family<Posted<Band>>>(alloc: Global) -> Result<[Given; 2], BoardError> {
+    let mut team = Team::<F>::new(alloc, 2, 9, OPENING)?;
     let first = team.write(0, A);
-    let other = Team::<K>::new(alloc, 16, 9, B);
+    let other = Team::<F>::new(alloc, 16, 9, B);
     drop(other);
     Ok([first, team.read(1)])
 }
 
-pub fn new(rt: &impl Print, alloc: Global, on: &str) -> io::Result<()> {
-    let made = match on {
-        "2_four_slots" => made::<FourSlotCell<Clocked<Band>>>(alloc, 2),
-        "16_four_slots" => made::<FourSlotCell<Clocked<Band>>>(alloc, 16),
-        "2_triple" => made::<TripleCell<Clocked<Band>>>(alloc, 2),
-        "16_triple" => made::<TripleCell<Clocked<Band>>>(alloc, 16),
-        _ => return print::stopped(rt, Stopped::NoSuchCall),
-    };
-    match made {
-        Ok(passes) => println!(rt; "{passes} passes"),
-        Err(why) => print::stopped(rt, Stopped::from(why)),
-    }
+/// On a board of so many processes the first one writes and tells, the last one learns and reads, and the board ends: whether it was
+/// written, what was read, and the last record.
+fn shared<F: Family<Posted<Band>>>(
+    alloc: Global,
+    n: usize,
+) -> Result<(bool, Option<Posted<Band>>, Posted<Band>), BoardError> {
+    let mut team = Team::<F>::new(alloc, n, 9, OPENING)?;
+    let last = n.saturating_sub(1);
+    let written = team.write(0, A).is_stamp();
+    team.pass_on(0, last);
+    let seen = team.read(last).posted();
+    Ok((written, seen, team.finish()))
 }
 
-pub fn new_beside(rt: &impl Print, alloc: Global, on: &str) -> io::Result<()> {
-    let given = match on {
-        "four_slots" => beside::<FourSlotCell<Clocked<Band>>>(alloc),
-        "triple" => beside::<TripleCell<Clocked<Band>>>(alloc),
-        _ => return print::stopped(rt, Stopped::NoSuchCall),
-    };
+fn print_given<const N: usize>(
+    rt: &impl Print,
+    given: Result<[Given; N], BoardError>,
+) -> io::Result<()> {
     match given {
         Ok(given) => println!(rt; "{given:?}"),
         Err(why) => print::stopped(rt, Stopped::from(why)),
     }
 }
 
-pub fn tell_and_learn(rt: &impl Print, alloc: Global, on: &str) -> io::Result<()> {
-    let given = match on {
-        "four_slots" => told::<FourSlotCell<Clocked<Band>>>(alloc),
-        "triple" => told::<TripleCell<Clocked<Band>>>(alloc),
-        _ => return print::stopped(rt, Stopped::NoSuchCall),
-    };
-    match given {
-        Ok(given) => println!(rt; "{given:?}"),
-        Err(why) => print::stopped(rt, Stopped::from(why)),
+/// Makes the call on a board over this family, and prints its answer.
+fn over<F: Family<Posted<Band>>>(rt: &impl Print, alloc: Global, call: Call) -> io::Result<()> {
+    match call {
+        Call::New(n) => match made::<F>(alloc, n) {
+            Ok(passes) => println!(rt; "{passes} passes"),
+            Err(why) => print::stopped(rt, Stopped::from(why)),
+        },
+        Call::Share(n) => match shared::<F>(alloc, n) {
+            Ok((written, seen, last)) => println!(rt; "{written} {seen:?} {last:?}"),
+            Err(why) => print::stopped(rt, Stopped::from(why)),
+        },
+        Call::Tell => print_given(rt, told::<F>(alloc)),
+        Call::Beside => print_given(rt, beside::<F>(alloc)),
+        Call::Renew { twice } => print_given(rt, renewed::<F>(alloc, twice)),
     }
 }
 
-pub fn renew(rt: &impl Print, alloc: Global, on: &str, twice: bool) -> io::Result<()> {
-    let given = match on {
-        "four_slots" => renewed::<FourSlotCell<Clocked<Band>>>(alloc, twice),
-        "triple" => renewed::<TripleCell<Clocked<Band>>>(alloc, twice),
-        _ => return print::stopped(rt, Stopped::NoSuchCall),
-    };
-    match given {
-        Ok(given) => println!(rt; "{given:?}"),
-        Err(why) => print::stopped(rt, Stopped::from(why)),
+/// Makes the call on a board over the family of this name, and prints its answer.
+pub fn on(rt: &impl Print, alloc: Global, call: Call, family: &str) -> io::Result<()> {
+    match family {
+        "four_slots" => over::<FourSlotFamily<Posted<Band>>>(rt, alloc, call),
+        "triple" => over::<TripleFamily<Posted<Band>>>(rt, alloc, call),
+        _ => print::stopped(rt, Stopped::NoSuchCall),
+    }
+}
+
+/// Makes a board, and prints how many passes it has.
+pub fn new(rt: &impl Print, alloc: Global, on_what: &str) -> io::Result<()> {
+    match on_what {
+        "2_four_slots" => on(rt, alloc, Call::New(2), "four_slots"),
+        "16_four_slots" => on(rt, alloc, Call::New(16), "four_slots"),
+        "2_triple" => on(rt, alloc, Call::New(2), "triple"),
+        "16_triple" => on(rt, alloc, Call::New(16), "triple"),
+        _ => print::stopped(rt, Stopped::NoSuchCall),
+    }
+}
+
+/// Makes a board whose last process hears of the first, and prints what its calls and its end give.
+pub fn share(rt: &impl Print, alloc: Global, on_what: &str) -> io::Result<()> {
+    match on_what {
+        "2_four_slots" => on(rt, alloc, Call::Share(2), "four_slots"),
+        "16_four_slots" => on(rt, alloc, Call::Share(16), "four_slots"),
+        _ => print::stopped(rt, Stopped::NoSuchCall),
     }
 }

@@ -2,34 +2,24 @@
 //! other: every log is whole, and every pass may be used on.
 ghost use Rattle.std.specs.Prelude.{◌≡◌, All, IfOk, length};
 ghost use Rattle.history_core.specs.Band.{fits};
-ghost use Rattle.board_live.specs.Boards.{IsPass};
-ghost use Rattle.board_live.specs.Logs.{Obeys};
+ghost use Rattle.atomic_board.specs.Passes.{IsPass};
+ghost use Rattle.board_tasks.specs.Lanes.{IsLane};
+ghost use Rattle.board_tasks.specs.Logs.{Obeys};
 
 use crate::documents::Stopped;
 use crate::print;
-use board_live::{
-    Board, Clocked, Lane, OpenGate, Origin, Pass, check_origin, make_lanes, run_tasks,
-};
-use cell_four_slot::FourSlotCell;
-use cell_live::{Calls, Cell};
-use cell_triple::TripleCell;
+use crate::team::{A, OPENING};
+use atomic_board::{Board, Pass, Posted};
+use board_tasks::{Entry, Lane, OpenGate, finish_lanes, make_lanes, run_tasks};
+use family_four_slot::FourSlotFamily;
+use family_live::{Family, SharedFamily};
+use family_triple::TripleFamily;
 use history_core::{Band, Items, Wish};
+use log_origins::{Origin, check_origin};
 use stamps::Stamp;
 use std::alloc::{AllocError, Global};
 use std::io;
 use std::thread::Threads;
-
-const OPENING: Band = Band {
-    lo: 0,
-    now: 0,
-    hi: 0,
-};
-
-const A: Band = Band {
-    lo: 1,
-    now: 1,
-    hi: 1,
-};
 
 /// The tasks of the run, and how often each writes and reads.
 const TASKS: usize = 4;
@@ -49,14 +39,14 @@ fn script(alloc: Global, rounds: usize) -> Result<Vec<Wish<Band>>, AllocError>
 }
 
 /// A lane of the pass. Where it is refused, the pass that it gave back makes another with the second script.
-fn lane_of<C: Calls<Clocked<Band>>>(
+fn lane_of<F: Family<Posted<Band>>>(
     alloc: Global,
-    pass: Pass<Band, C>,
+    pass: Pass<Band, F>,
     first: Vec<Wish<Band>>,
     second: Vec<Wish<Band>>,
-) -> Result<Lane<Band, C>, AllocError>
+) -> Result<Lane<Band, F>, AllocError>
     requires { All (Obeys fits) first.items × All (Obeys fits) second.items }
-    ensures { IfOk result (λ l. l.pass ≡ pass) }
+    ensures { IfOk result (λ l. (l.pass ≡ pass) × IsLane fits l) }
 {
     match Lane::new(alloc, pass, first) {
         Ok(lane) => Ok(lane),
@@ -68,16 +58,15 @@ fn lane_of<C: Calls<Clocked<Band>>>(
 }
 
 /// Runs a lane with the pass of process 1, of two.
-fn one_lane<R: Threads + Sync, C: Cell<Clocked<Band>>>(
+fn one_lane<R: Threads + Sync, F: SharedFamily<Posted<Band>>>(
     rt: &R,
     alloc: Global,
-) -> Result<Vec<Lane<Band, C>>, AllocError>
+) -> Result<Vec<Lane<Band, F>>, AllocError>
 where
-    C::Put: Send,
-    C::Get: Send,
-    C::Told: Send,
+    F::Seat: Send,
+    F::Told: Send,
 {
-    let Ok((board, mut passes)) = Board::<Band, C>::new(alloc, 2, 9, OPENING) else {
+    let Ok((board, mut passes)) = Board::<Band, F>::new(alloc, 2, 9, OPENING) else {
         return Err(AllocError);
     };
     let first = script(alloc, 1)?;
@@ -90,18 +79,9 @@ where
     Ok(lanes)
 }
 
-/// Makes a lane and prints its log.
-pub fn new_lane<R: Print + Threads + Sync>(rt: &R, alloc: Global, on: &str) -> io::Result<()> {
-    match on {
-        "four_slots" => print_log(rt, one_lane::<R, FourSlotCell<Clocked<Band>>>(rt, alloc)),
-        "triple" => print_log(rt, one_lane::<R, TripleCell<Clocked<Band>>>(rt, alloc)),
-        _ => print::stopped(rt, Stopped::NoSuchCall),
-    }
-}
-
-fn print_log<C: Calls<Clocked<Band>>>(
+fn print_log<F: Family<Posted<Band>>>(
     rt: &impl Print,
-    lanes: Result<Vec<Lane<Band, C>>, AllocError>,
+    lanes: Result<Vec<Lane<Band, F>>, AllocError>,
 ) -> io::Result<()> {
     match lanes {
         Ok(lanes) => {
@@ -127,7 +107,7 @@ fn scripts(alloc: Global) -> Result<Items<Items<Wish<Band>>>, AllocError>
 }
 
 /// How many logs have all calls of their scripts.
-fn whole_logs<C: Calls<Clocked<Band>>>(lanes: &[Lane<Band, C>]) -> usize {
+fn whole_logs<F: Family<Posted<Band>>>(lanes: &[Lane<Band, F>]) -> usize {
     let mut count = 0usize;
     for lane in lanes {
         if lane.log().len() == 2 * ROUNDS {
@@ -138,8 +118,8 @@ fn whole_logs<C: Calls<Clocked<Band>>>(lanes: &[Lane<Band, C>]) -> usize {
 }
 
 /// Whether the pass of a lane may be used on: its next read isn't older than the log, and its next write is above that.
-fn is_usable<C: Calls<Clocked<Band>>>(board: &Board<Band, C>, lane: Lane<Band, C>) -> bool
-    requires { IsPass board.now lane.pass }
+fn is_usable<F: Family<Posted<Band>>>(board: &Board<Band, F>, lane: Lane<Band, F>) -> bool
+    requires { IsPass ⟦<F as Family<Posted<Band>>>⟧ fits board.now lane.pass }
 {
     let last = match lane.log().last() {
         Some(entry) => entry.reply.stamp(),
@@ -154,11 +134,11 @@ fn is_usable<C: Calls<Clocked<Band>>>(board: &Board<Band, C>, lane: Lane<Band, C
 }
 
 /// How many of the lanes' passes may be used on.
-fn usable_passes<C: Calls<Clocked<Band>>>(
-    board: &Board<Band, C>,
-    lanes: Vec<Lane<Band, C>>,
+fn usable_passes<F: Family<Posted<Band>>>(
+    board: &Board<Band, F>,
+    lanes: Vec<Lane<Band, F>>,
 ) -> usize
-    requires { All (λ l. IsPass board.now l.pass) lanes.items }
+    requires { All (λ l. IsPass ⟦<F as Family<Posted<Band>>>⟧ fits board.now l.pass) lanes.items }
 {
     let mut lanes = lanes;
     let mut count = 0usize;
@@ -182,16 +162,15 @@ struct Outcome {
 }
 
 /// Runs the tasks on a board of their own, with a gate that never stops them.
-fn all_tasks<R: Threads + Sync, C: Cell<Clocked<Band>>>(
+fn all_tasks<R: Threads + Sync, F: SharedFamily<Posted<Band>>>(
     rt: &R,
     alloc: Global,
 ) -> Result<Outcome, AllocError>
 where
-    C::Put: Send,
-    C::Get: Send,
-    C::Told: Send,
+    F::Seat: Send,
+    F::Told: Send,
 {
-    let Ok((board, passes)) = Board::<Band, C>::new(alloc, TASKS, 9_999, OPENING) else {
+    let Ok((board, passes)) = Board::<Band, F>::new(alloc, TASKS, 9_999, OPENING) else {
         return Err(AllocError);
     };
     let mut lanes = make_lanes(alloc, passes, scripts(alloc)?)?;
@@ -206,13 +185,54 @@ where
     })
 }
 
-/// Runs the tasks and prints what they left behind.
-pub fn tasks<R: Print + Threads + Sync>(rt: &R, alloc: Global, on: &str) -> io::Result<()> {
-    let outcome = match on {
-        "four_slots" => all_tasks::<R, FourSlotCell<Clocked<Band>>>(rt, alloc),
-        "triple" => all_tasks::<R, TripleCell<Clocked<Band>>>(rt, alloc),
-        _ => return print::stopped(rt, Stopped::NoSuchCall),
+/// Runs the tasks on a board of their own, and ends it. Gives their logs.
+fn logs_of<R: Threads + Sync, F: SharedFamily<Posted<Band>>>(
+    rt: &R,
+    alloc: Global,
+) -> Result<Vec<Vec<Entry<Band>>>, AllocError>
+where
+    F::Seat: Send,
+    F::Told: Send,
+{
+    let Ok((board, passes)) = Board::<Band, F>::new(alloc, TASKS, 9_999, OPENING) else {
+        return Err(AllocError);
     };
+    let all = scripts(alloc)?;
+    let mut lanes = make_lanes(alloc, passes, all)?;
+    run_tasks(rt, &board, lanes.as_mut_slice(), &OpenGate);
+    let (logs, _last) = finish_lanes(alloc, board, lanes)?;
+    Ok(logs)
+}
+
+/// What is done with lanes.
+#[derive(Clone, Copy)]
+pub enum Call {
+    /// One lane is made, whose log is printed.
+    New,
+    /// Tasks are run, and it is printed what they left behind.
+    Run,
+    /// Tasks are run to the end of their board, and it is printed how many logs are whole.
+    Finish,
+}
+
+/// Makes the call on a board over this family, and prints its answer.
+fn over<R: Print + Threads + Sync, F: SharedFamily<Posted<Band>>>(
+    rt: &R,
+    alloc: Global,
+    call: Call,
+) -> io::Result<()>
+where
+    F::Seat: Send,
+    F::Told: Send,
+{
+    match call {
+        Call::New => print_log(rt, one_lane::<R, F>(rt, alloc)),
+        Call::Run => print_outcome(rt, all_tasks::<R, F>(rt, alloc)),
+        Call::Finish => print_logs(rt, logs_of::<R, F>(rt, alloc)),
+    }
+}
+
+fn print_outcome(rt: &impl Print, outcome: Result<Outcome, AllocError>) -> io::Result<()> {
     match outcome {
         Ok(
             Outcome {
@@ -222,5 +242,29 @@ pub fn tasks<R: Print + Threads + Sync>(rt: &R, alloc: Global, on: &str) -> io::
             },
         ) => println!(rt; "{whole} whole logs, {origin:?}, {usable} passes used on"),
         Err(_) => print::stopped(rt, Stopped::NoMemory),
+    }
+}
+
+fn print_logs(rt: &impl Print, logs: Result<Vec<Vec<Entry<Band>>>, AllocError>) -> io::Result<()> {
+    match logs {
+        Ok(logs) => {
+            let whole = logs.iter().filter(|log| log.len() == 2 * ROUNDS).count();
+            println!(rt; "{whole} whole logs of {}", logs.len())
+        }
+        Err(_) => print::stopped(rt, Stopped::NoMemory),
+    }
+}
+
+/// Makes the call on a board over the family of this name, and prints its answer.
+pub fn on<R: Print + Threads + Sync>(
+    rt: &R,
+    alloc: Global,
+    call: Call,
+    family: &str,
+) -> io::Result<()> {
+    match family {
+        "four_slots" => over::<R, FourSlotFamily<Posted<Band>>>(rt, alloc, call),
+        "triple" => over::<R, TripleFamily<Posted<Band>>>(rt, alloc, call),
+        _ => print::stopped(rt, Stopped::NoSuchCall),
     }
 }

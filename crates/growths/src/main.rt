@@ -6,7 +6,6 @@ mod boards;
 mod calls;
 mod cells;
 mod documents;
-mod families;
 mod lanes;
 mod print;
 mod steps;
@@ -44,14 +43,14 @@ fn make<R: Print + Threads + Sync>(rt: &R, alloc: Global, call: &str, on: &str) 
         "new_matrix" => calls::new_matrix(rt, alloc, on),
         "make_cell" => cells::make(rt, alloc, on),
         "new_board" => boards::new(rt, alloc, on),
-        "new_board_beside" => boards::new_beside(rt, alloc, on),
-        "renew_board" => boards::renew(rt, alloc, on, false),
-        "renew_board_again" => boards::renew(rt, alloc, on, true),
-        "new_lane" => lanes::new_lane(rt, alloc, on),
-        "run_tasks" => lanes::tasks(rt, alloc, on),
-        "family_board" => families::board(rt, alloc, on),
-        "finish_lanes" => families::lanes(rt, alloc, on),
-        "tell_and_learn" => boards::tell_and_learn(rt, alloc, on),
+        "family_board" => boards::share(rt, alloc, on),
+        "new_board_beside" => boards::on(rt, alloc, boards::Call::Beside, on),
+        "renew_board" => boards::on(rt, alloc, boards::Call::Renew { twice: false }, on),
+        "renew_board_again" => boards::on(rt, alloc, boards::Call::Renew { twice: true }, on),
+        "tell_and_learn" => boards::on(rt, alloc, boards::Call::Tell, on),
+        "new_lane" => lanes::on(rt, alloc, lanes::Call::New, on),
+        "run_tasks" => lanes::on(rt, alloc, lanes::Call::Run, on),
+        "finish_lanes" => lanes::on(rt, alloc, lanes::Call::Finish, on),
         _ => print::stopped(rt, Stopped::NoSuchCall),
     }
 }

@@ -3,7 +3,7 @@ use Rattle.std.proofs.Common.{◌≡◌, All, List, length}
 use Rattle.history_core.specs.Band.{fits}
 use Rattle.history_core.specs.declared.band.Band.{Band}
 use Rattle.history_core.specs.declared.wish.Wish.{Wish}
-use Rattle.board_live.specs.Logs.{Obeys}
+use Rattle.board_tasks.specs.Logs.{Obeys}
 use Rattle.growths.proofs.lanes.scripts.Given as goal
 
 abbrev pub invariant-loop : goal.invariant-loop
