@@ -1,35 +1,32 @@
--- What a race tells: its scripts are run as tasks over a running board of four-slot cells (this project's own).
+-- What a race tells: its scripts are run as tasks over a running board of a family of four-slot cells (this project's own).
 use Rattle.std.specs.Prelude.{◌≡◌, Bool, true, false, ◌&&◌, nat_eq, ℕ, ◌+◌, List, length, map, count_by, slice_get, Option, Some, None}
 use Rattle.history_core.specs.declared.band.Band.{Band}
 use Rattle.history_core.specs.declared.wish.Wish.{Wish}
 use Rattle.history_core.specs.declared.wish.Wish.TheVariants.{Write, Read}
-use Rattle.history_core.specs.contracts.band.BandPartialEq.TheImpl as band_eq
 use Rattle.stamps.specs.Stamps.{first_stamp}
-use Rattle.cell_four_slot.specs.declared.cell.FourSlotCell.{FourSlotCell}
-use Rattle.cell_live.specs.declared.cell.Calls.{Ghosts as CellWords}
-use Rattle.cell_four_slot.specs.declared.cell.FourSlotPut.{FourSlotPut}
-use Rattle.cell_four_slot.specs.declared.cell.FourSlotGet.{FourSlotGet}
-use Rattle.cell_four_slot.specs.declared.cell.FourSlotTold.{FourSlotTold}
-use Rattle.cell_four_slot.specs.Words.{opening_of, is_put_of, is_get_of, is_told_of, written_by, answers_of, at_hand_of, told_to}
-use Rattle.cell_four_slot.specs.Words.{named_by, writer_accesses, reader_accesses, put_times, get_times, numbers_of, known_to, time_of}
-use Rattle.board_live.specs.contracts.posted.BandRecordLaw.TheImpl as band_law
-use Rattle.board_live.specs.declared.board.Board.{Board}
-use Rattle.board_live.specs.declared.board.Pass.{Pass}
-use Rattle.board_live.specs.declared.clocked.Clocked.{Clocked}
-use Rattle.board_live.specs.declared.lane.Entry.{Entry}
-use Rattle.board_live.specs.declared.lane.Lane.{Lane}
-use Rattle.board_live.specs.declared.lane.Reply.{Reply}
-use Rattle.board_live.specs.declared.posted.Posted.{Posted}
-use Rattle.board_live.specs.declared.lane.Reply.TheVariants.{Written, Seen, Ended}
-use Rattle.board_live.specs.declared.origin.Origin.{Origin}
-use Rattle.board_live.specs.declared.origin.Origin.TheVariants.{Sound, Broken}
-use Rattle.board_live.specs.Deals.{IsNew}
-use Rattle.board_live.specs.Jobs.{EachStep}
-use Rattle.board_live.specs.Lanes.{AreLanes}
-use Rattle.board_live.specs.LogOrders.{LogsInOrder}
-use Rattle.board_live.specs.Origins.{IsOrigin}
-use Rattle.board_live.specs.Tasks.{Ran}
-use Rattle.board_live.specs.Worked.{logs_of}
+use Rattle.history_core.specs.Band.{fits}
+use Rattle.family_live.specs.declared.family.Family.{Ghosts as FamilyWords}
+use Rattle.family_four_slot.specs.declared.family.FourSlotFamily.{FourSlotFamily}
+use Rattle.family_four_slot.specs.declared.family.FourSlotSeat.{FourSlotSeat}
+use Rattle.family_four_slot.specs.declared.family.FourSlotTold.{FourSlotTold}
+use Rattle.family_four_slot.specs.Seated.{opening_of, processes_of, number_of, clock_of, times_of, writes_of, reads_of, IsSeat}
+use Rattle.family_four_slot.specs.Seated.{sender_of, time_of, named_by, IsTold, three_steps}
+use Rattle.atomic_board.specs.declared.board.Board.{Board}
+use Rattle.atomic_board.specs.declared.board.Pass.{Pass}
+use Rattle.atomic_board.specs.declared.record.Posted.{Posted}
+use Rattle.atomic_board.specs.Deals.{IsNew}
+use Rattle.atomic_board.specs.Ends.{IsGreatest}
+use Rattle.board_tasks.specs.declared.lane.Entry.{Entry}
+use Rattle.board_tasks.specs.declared.lane.Lane.{Lane}
+use Rattle.board_tasks.specs.declared.lane.Reply.{Reply}
+use Rattle.board_tasks.specs.declared.lane.Reply.TheVariants.{Written, Seen, Ended}
+use Rattle.board_tasks.specs.Jobs.{EachStep}
+use Rattle.board_tasks.specs.Lanes.{AreLanes}
+use Rattle.board_tasks.specs.Tasks.{Ran}
+use Rattle.board_tasks.specs.Worked.{AreAtomic, logs_of}
+use Rattle.log_origins.specs.declared.origin.Origin.{Origin}
+use Rattle.log_origins.specs.declared.origin.Origin.TheVariants.{Sound, Broken}
+use Rattle.log_origins.specs.Origins.{IsOrigin}
 use Rattle.report_text.specs.declared.report.Counts.{Counts}
 use Rattle.report_text.specs.declared.report.Report.{Report}
 use Rattle.report_text.specs.declared.report.Report.TheVariants.{Race}
@@ -69,60 +66,50 @@ broken_at (Broken task call) = Some (task, call)
 
 -- ---- the race
 
--- the words of the contract of a four-slot cell of bands
-abbrev pub words : CellWords (FourSlotCell (Clocked Band)) (Clocked Band) (FourSlotPut (Clocked Band)) (FourSlotGet (Clocked Band))
-    (FourSlotTold (Clocked Band))
+-- the words of the contract of a family of four-slot cells of bands
+abbrev pub words : FamilyWords (FourSlotFamily (Posted Band)) (Posted Band) (FourSlotSeat (Posted Band)) (FourSlotTold (Posted Band))
 words = record {
   opening = opening_of;
-  is_put = is_put_of;
-  is_get = is_get_of;
-  is_told = is_told_of;
-  written = written_by;
-  answers = answers_of;
-  at_hand = at_hand_of;
-  told = told_to;
-  named = named_by;
-  put_accesses = writer_accesses;
-  get_accesses = reader_accesses;
-  put_times = put_times;
-  get_times = get_times;
-  numbers = numbers_of;
-  known = known_to;
+  processes = processes_of;
+  width = 3;
+  some_steps = three_steps;
+  is_seat = IsSeat;
+  is_told = IsTold;
+  who = number_of;
+  clock = clock_of;
+  times = times_of;
+  writes = writes_of;
+  reads = reads_of;
+  sender = sender_of;
   time_of = time_of;
+  named = named_by;
 }
 
--- over any cell: the board, its passes and its lanes
-module _ {C P G T : Type 0} (cells : CellWords C (Clocked Band) P G T) where
-  abbrev pub RaceBoard : Type 0
-  RaceBoard = Board Band C P G T band_law.ghosts band_eq.ghosts cells
-
-  abbrev pub RacePass : Type 0
-  RacePass = Pass Band C P G T band_law.ghosts band_eq.ghosts cells
-
-  abbrev pub RaceLane : Type 0
-  RaceLane = Lane Band C P G T band_law.ghosts band_eq.ghosts cells
-
-  abbrev pub counts_in : List RaceLane → List Counts
+-- over any family
+module _ {F S T : Type 0} (family : FamilyWords F (Posted Band) S T) where
+  abbrev pub counts_in : List (Lane Band F S T) → List Counts
   counts_in lanes = map (λ lane. counts_of lane.log.items) lanes
 
   -- *Race*: a new board has a lane for each script. Each lane ran: the board calls that were made stand in its log, and the log is
-  -- whole, or the task may stop before the next call. The logs have one order, after which one register holds the last record, and each
-  -- of their entries is sound. What is told are the counts of the logs, and that no entry is without its origin.
+  -- whole, or the task may stop before the next call. The entries tell of calls that are atomic by their intervals, after which the
+  -- register holds the last record, the greatest of all, and each entry is sound. What is told are the counts of the logs, and that no
+  -- entry is without its origin.
   pub record IsRaceOver (may_call may_stop : ℕ → ℕ → Type 0) (opening : Band) (limit : ℕ) (scripts : List (List (Wish Band)))
       (report : Report) : Type 0 where
-    pub board : RaceBoard
-    pub passes : List RacePass
-    pub lanes : List RaceLane
-    pub ended : List RaceLane
+    pub board : Board Band F S T
+    pub passes : List (Pass Band F S T)
+    pub lanes : List (Lane Band F S T)
+    pub ended : List (Lane Band F S T)
     pub last : Posted Band
-    pub new : IsNew (length scripts) limit (record { stamp = first_stamp; item = opening; clock = 0 }) board passes
-    pub begins : AreLanes passes scripts lanes
-    pub ran : EachStep (Ran may_call may_stop board) 0 lanes ended
-    pub ordered : LogsInOrder opening limit (logs_of ended) last
+    pub new : IsNew family fits (length scripts) limit (record { stamp = first_stamp; item = opening }) board passes
+    pub begins : AreLanes fits passes scripts lanes
+    pub ran : EachStep (Ran family fits may_call may_stop board) 0 lanes ended
+    pub greatest : IsGreatest (map (λ l. l.pass) ended) last
+    pub atomic : AreAtomic family board ended last
     pub checked : IsOrigin same_band opening (logs_of ended) Sound
     pub told : report ≡ Race (counts_in ended) None
 
--- and over four-slot cells
+-- and over a family of four-slot cells
 abbrev pub IsRace : (ℕ → ℕ → Type 0) → (ℕ → ℕ → Type 0) → Band → ℕ → List (List (Wish Band)) → Report → Type 0
 IsRace = IsRaceOver words
 

@@ -4,21 +4,20 @@ ghost use Rattle.schedule_text.specs.Players.{CanRace};
 ghost use Rattle.document_runs.specs.Answers.{Gives};
 ghost use Rattle.fsr_answers.specs.Answers.{AnswersRace, IsRaceAnswer, race_status};
 ghost use Rattle.fsr_answers.specs.Races.{CountsAll, IsRace, IsRaceOver, broken_at, counts_of, is_refused, is_seen, is_written, replies};
-ghost use Rattle.board_live.specs.Tasks.{Permitted};
+ghost use Rattle.board_tasks.specs.Tasks.{Permitted};
 ghost use Rattle.history_text.specs.Refusals.{Gives as Reads};
 ghost use Rattle.schedule_text.specs.Document.{race_of};
 ghost use Rattle.document_runs.specs.declared.fault.Fault.TheVariants.{NoMemory};
 
 use crate::plays::print;
-use board_live::{
-    Board, BoardError, Clocked, Entry, Gate, OpenGate, Origin, Reply, check_origin, finish_lanes,
-    make_lanes, run_tasks,
-};
-use cell_four_slot::FourSlotCell;
-use cell_live::{Calls, Cell};
+use atomic_board::{Board, BoardError, Posted};
+use board_tasks::{Entry, Gate, OpenGate, Reply, finish_lanes, make_lanes, run_tasks};
 use document_runs::{Answer, Fault};
+use family_four_slot::FourSlotFamily;
+use family_live::{Family, SharedFamily};
 use history_core::{Band, Items, Wish};
 use history_text::{DocError, read_value};
+use log_origins::{Origin, check_origin};
 use report_text::{Counts, Report};
 use schedule_text::{RaceDocument, race_document};
 use std::alloc::{AllocError, Global};
@@ -77,8 +76,8 @@ fn race_status(report: &Report) -> u8
     }
 }
 
-/// Runs each script as a task of its own, in threads, over a board of four-slot cells, ends the board, and tells what the logs say:
-/// they have one order, so that no origin is broken.
+/// Runs each script as a task of its own, in threads, over a board of four-slot registers, ends the board, and tells what the
+/// logs say: they tell of calls that are atomic by their intervals, so that no origin is broken.
 pub fn race<R: Threads + Sync, G: Gate + Sync>(
     rt: &R,
     alloc: Global,
@@ -92,11 +91,11 @@ pub fn race<R: Threads + Sync, G: Gate + Sync>(
     ensures counted { ((task call : ℕ) → G.may_stop gate.now task call → ⊥) → IfOk result (CountsAll scripts) }
     ensures refused { IfErr result (λ e. e ≡ NoMemory) }
 {
-    race_over::<R, G, FourSlotCell<Clocked<Band>>>(rt, alloc, opening, limit, scripts, gate)
+    race_over::<R, G, FourSlotFamily<Posted<Band>>>(rt, alloc, opening, limit, scripts, gate)
 }
 
-/// The same over any cell.
-fn race_over<R: Threads + Sync, G: Gate + Sync, C: Cell<Clocked<Band>>>(
+/// The same over any family.
+fn race_over<R: Threads + Sync, G: Gate + Sync, F: SharedFamily<Posted<Band>>>(
     rt: &R,
     alloc: Global,
     opening: Band,
@@ -105,17 +104,16 @@ fn race_over<R: Threads + Sync, G: Gate + Sync, C: Cell<Clocked<Band>>>(
     gate: &G,
 ) -> Result<Report, Fault>
 where
-    C::Put: Send,
-    C::Get: Send,
-    C::Told: Send,
+    F::Seat: Send,
+    F::Told: Send,
     requires { CanRace opening limit scripts }
-    ensures report { IfOk result (IsRaceOver ⟦<C as Calls<Clocked<Band>>>⟧ (Permitted G.is_for gate.now) (G.may_stop gate.now)
+    ensures report { IfOk result (IsRaceOver ⟦<F as Family<Posted<Band>>>⟧ (Permitted G.is_for gate.now) (G.may_stop gate.now)
         opening limit scripts) }
     ensures counted { ((task call : ℕ) → G.may_stop gate.now task call → ⊥) → IfOk result (CountsAll scripts) }
     ensures refused { IfErr result (λ e. e ≡ NoMemory) }
 {
     let processes = scripts.as_slice().len();
-    let (board, passes) = match Board::<Band, C>::new(alloc, processes, limit, opening) {
+    let (board, passes) = match Board::<Band, F>::new(alloc, processes, limit, opening) {
         Ok(made) => made,
         Err(BoardError::NoMemory) => return Err(Fault::NoMemory),
         Err(BoardError::Processes | BoardError::Limit | BoardError::Opening) => unreachable!(),

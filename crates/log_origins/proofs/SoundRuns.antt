@@ -47,7 +47,8 @@ at_most_is : (a b : Stamp) → IsAtMost a b → is_at_most a b ≡ true
 at_most_is a b (inl e) = ap (is_at_most a) (sym e) ∙ at_most_self a
 at_most_is a b (inr h) = at_most_below a b h
 
-below_next : (before seen : Stamp) (writer : ℕ) → is_at_most before seen ≡ true → is_below before (record { tag = seen.tag + 1; writer = writer }) ≡ true
+below_next : (before seen : Stamp) (writer : ℕ) → is_at_most before seen ≡ true →
+    is_below before (record { tag = seen.tag + 1; writer = writer }) ≡ true
 below_next before seen writer h = grind (arith, nat_tests)
 
 number_itself : (n : ℕ) → nat_eq n n ≡ true
@@ -144,7 +145,8 @@ module _ {V : Type 0} where
   seen_known equal opening logs Read (Ended p) chosen h known = absurd h
 
   chosen_writer : (limit task : ℕ) (c : Called V) → c.kind ≡ WriteKind →
-      ChoosesByKind limit (record { place = 0; who = task; kind = c.kind; stamp = c.chosen.stamp; item = c.chosen.item }) c.kind c.seen.stamp c.seen.item
+      ChoosesByKind limit (record { place = 0; who = task; kind = c.kind; stamp = c.chosen.stamp; item = c.chosen.item }) c.kind
+      c.seen.stamp c.seen.item
       → c.chosen.stamp.writer ≡ task
   chosen_writer limit task c e h =
       ap (λ (z : Stamp). z.writer)

@@ -1,5 +1,5 @@
 use crate::runs;
-use board_live::{CountingGate, Gate, OpenGate, TimedGate};
+use board_tasks::{CountingGate, Gate, OpenGate, TimedGate};
 use document_runs::Fault;
 use fsr_answers::{answer, race};
 use fsr_words::Want;

@@ -1,5 +1,5 @@
 -- The input was answered and the answer given, or it wasn't taken whole.
-use Rattle.document_runs.proofs.RunLemmas.{ends_answered, ends_untaken, fails_answered, fails_untaken}
+use Rattle.document_runs.proofs.RunLemmas.{ends_answered, ends_untaken, fails_answered}
 use Rattle.fsr_answers.proofs.LowStatus.{low_answer}
 use Rattle.fsr_answers.specs.Answers.{IsAnswer}
 use Rattle.fsr_answers.proofs.program.run_command.Goals as goal

@@ -2,7 +2,7 @@
 use Rattle.std.proofs.Common.{◌≡◌, map, take, Global}
 use Rattle.std.specs.Prelude.{Vec}
 use Rattle.history_core.specs.declared.band.Band.{Band}
-use Rattle.board_live.specs.declared.lane.Entry.{Entry}
+use Rattle.board_tasks.specs.declared.lane.Entry.{Entry}
 use Rattle.fsr_answers.specs.Races.{counts_of}
 use Rattle.fsr_answers.proofs.races.counts.Given as goal
 
