@@ -2,10 +2,13 @@
 //! it, and `planted` looks for a planted bug. A run ends with status 1 at the first torn, older or foreign record.
 #![tactic(auto)]
 
-use board_live::Clocked;
+use atomic_board::Posted;
 use cell_four_slot::FourSlotCell;
 use cell_live::Cell;
 use cell_triple::TripleCell;
+use family_four_slot::FourSlotFamily;
+use family_live::SharedFamily;
+use family_triple::TripleFamily;
 use soak_rounds::finding::{Finding, Tally, status};
 use soak_rounds::record::{Record, Shared};
 use soak_rounds::{boards, pair, planted};
@@ -105,9 +108,9 @@ fn of_words<R: Clock + Print + Threads + Sync, W: Shared + Drop>(
 ) -> io::Result<Option<Finding>> {
     match name {
         "four_slot" => {
-            soak::<R, W, FourSlotCell<_>, FourSlotCell<_>>(rt, alloc, name, bytes, nanos)
+            soak::<R, W, FourSlotCell<_>, FourSlotFamily<_>>(rt, alloc, name, bytes, nanos)
         }
-        _ => soak::<R, W, TripleCell<_>, TripleCell<_>>(rt, alloc, name, bytes, nanos),
+        _ => soak::<R, W, TripleCell<_>, TripleFamily<_>>(rt, alloc, name, bytes, nanos),
     }
 }
 
@@ -144,7 +147,7 @@ struct Next<W> {
 }
 
 /// A round on a board of each number of tasks. Gives what was found first.
-fn rounds<R: Threads + Sync, W: Shared + Drop, C: Cell<Clocked<Record<W>>>>(
+fn rounds<R: Threads + Sync, W: Shared + Drop, F: SharedFamily<Posted<Record<W>>>>(
     rt: &R,
     alloc: Global,
     bytes: u64,
@@ -152,15 +155,14 @@ fn rounds<R: Threads + Sync, W: Shared + Drop, C: Cell<Clocked<Record<W>>>>(
     next: &mut Next<W>,
 ) -> Result<Option<Finding>, AllocError>
 where
-    C::Put: Send,
-    C::Get: Send,
-    C::Told: Send,
+    F::Seat: Send,
+    F::Told: Send,
 {
     let mut found = None;
     for board in boards {
         let tasks = board.tasks;
         let calls = board.calls(bytes);
-        let (tally, last) = boards::round::<R, W, C>(
+        let (tally, last) = boards::round::<R, W, F>(
             rt,
             alloc,
             tasks,
@@ -181,15 +183,14 @@ fn soak<
     R: Clock + Print + Threads + Sync,
     W: Shared + Drop,
     C: Cell<Record<W>>,
-    D: Cell<Clocked<Record<W>>>,
+    F: SharedFamily<Posted<Record<W>>>,
 >(rt: &R, alloc: Global, name: &str, bytes: u64, nanos: u64) -> io::Result<Option<Finding>>
 where
     C::Put: Send,
     C::Get: Send,
     C::Told: Send,
-    D::Put: Send,
-    D::Get: Send,
-    D::Told: Send,
+    F::Seat: Send,
+    F::Told: Send,
 {
     let start = Instant::now(rt)?;
     let mut pairs = Tally::none();
@@ -200,7 +201,7 @@ where
     };
     for _ in 0..u64::MAX {
         pairs.add(pair::rounds::<R, W, C>(rt, alloc, 5)?);
-        let found = rounds::<R, W, D>(rt, alloc, bytes, &mut boards, &mut next)?;
+        let found = rounds::<R, W, F>(rt, alloc, bytes, &mut boards, &mut next)?;
         if pairs.found.is_some() || found.is_some() || since(rt, start) >= nanos {
             break;
         }

@@ -6,8 +6,8 @@ use Rattle.std.proofs.lemmas.List.{map-append, take_more}
 use Rattle.std.proofs.lemmas.List.Elements.{All-push}
 use Rattle.history_core.specs.declared.wish.Wish.{Wish}
 use Rattle.history_core.specs.declared.wish.Wish.TheVariants.{Read}
-use Rattle.board_live.specs.declared.lane.Entry.{Entry}
-use Rattle.board_live.specs.Logs.{Obeys}
+use Rattle.board_tasks.specs.declared.lane.Entry.{Entry}
+use Rattle.board_tasks.specs.Logs.{Obeys}
 use Rattle.soak_rounds.specs.Scripts.{counted_in, Scripted}
 use Rattle.soak_rounds.specs.declared.finding.Tally.{Tally}
 use Rattle.soak_rounds.specs.Findings.{AreOf, IsWhole, counted, last_read, no_tally, with_read, with_write}

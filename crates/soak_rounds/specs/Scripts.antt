@@ -2,13 +2,17 @@
 use Rattle.std.specs.Prelude.{◌≡◌, ◌↔◌, ℕ, ◌+◌, Bool, true, false, List, [], ◌∷◌, ◌++◌, count_by, length, map, None, slice_get, Some}
 use Rattle.history_core.specs.declared.wish.Wish.{Wish}
 use Rattle.history_core.specs.declared.wish.Wish.TheVariants.{Write, Read}
-use Rattle.board_live.specs.declared.lane.Entry.{Entry}
-use Rattle.board_live.specs.declared.lane.Reply.{Reply}
-use Rattle.board_live.specs.declared.lane.Reply.TheVariants.{Written, Seen, Ended}
-use Rattle.board_live.specs.declared.origin.Origin.TheVariants.{Sound}
-use Rattle.board_live.specs.Origins.{IsOrigin}
+use Rattle.board_tasks.specs.declared.lane.Entry.{Entry}
+use Rattle.board_tasks.specs.declared.lane.Reply.{Reply}
+use Rattle.board_tasks.specs.declared.lane.Reply.TheVariants.{Written, Seen, Ended}
+use Rattle.log_origins.specs.declared.origin.Origin.TheVariants.{Sound}
+use Rattle.log_origins.specs.Origins.{IsOrigin}
 use Rattle.soak_rounds.specs.declared.finding.Tally.{Tally}
 use Rattle.soak_rounds.specs.Findings.{IsWhole, counted}
+
+-- any item may stand
+abbrev pub no_law : {X : Type 0} → X → Bool
+no_law item = true
 
 -- `words` are those of a record
 module _ {X : Type 0} (words : X → List ℕ) where

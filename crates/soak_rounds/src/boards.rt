@@ -1,25 +1,24 @@
 //! Tasks over a board, each in a thread of its own.
-ghost use Rattle.std.specs.Prelude.{◌≡◌, ℕ, All, IfOk, length, map, slice_get, true};
-ghost use Rattle.board_live.specs.Logs.{Obeys};
+ghost use Rattle.std.specs.Prelude.{◌≡◌, ℕ, All, IfOk, length, map, slice_get};
+ghost use Rattle.board_tasks.specs.Logs.{Obeys};
 ghost use Rattle.history_core.specs.declared.wish.Wish.TheVariants.{Write};
 ghost use Rattle.soak_rounds.specs.Findings.{IsWhole, counted};
-ghost use Rattle.soak_rounds.specs.Scripts.{is_seen, is_written, IsRound, IsTally, reads_of, Scripted, writes_of};
+ghost use Rattle.soak_rounds.specs.Scripts.{is_seen, is_written, IsRound, IsTally, no_law, reads_of, Scripted, writes_of};
 
 use crate::finding::{Finding, Tally};
 use crate::record::{Record, Shared, Words};
-use board_live::{
-    Board, Clocked, Entry, Lane, OpenGate, Origin, Posted, Reply, check_origin, make_lanes,
-    run_tasks,
-};
-use cell_live::{Calls, Cell};
+use atomic_board::{Board, Posted};
+use board_tasks::{Entry, Lane, OpenGate, Reply, make_lanes, run_tasks};
+use family_live::{Family, SharedFamily};
 use history_core::{Items, MAX_LIMIT, Wish};
+use log_origins::{Origin, check_origin};
 use stamps::Stamp;
 use std::alloc::{AllocError, Global};
 use std::thread::Threads;
 
 /// The write with this number.
 fn write<W: Words>(number: u64) -> Wish<Record<W>>
-    ensures lawful { Obeys (λ _. true) result }
+    ensures lawful { Obeys no_law result }
     ensures write { (x : _) × (result ≡ Write x) × IsWhole (W.listed x.words) number }
 {
     Wish::Write(Record::of(number))
@@ -32,7 +31,7 @@ fn script<W: Words + Drop>(
     step: u64,
     calls: u64,
 ) -> Result<Items<Wish<Record<W>>>, AllocError>
-    ensures lawful { IfOk result (λ s. All (Obeys (λ _. true)) s) }
+    ensures lawful { IfOk result (λ s. All (Obeys no_law) s) }
     ensures scripted { IfOk result (λ s. (next : ℕ) × Scripted (λ x. W.listed x.words) first step calls next s) }
 {
     let mut wishes = Vec::new(alloc);
@@ -52,7 +51,7 @@ fn scripts<W: Words + Drop>(
     from: u64,
     calls: u64,
 ) -> Result<Items<Items<Wish<Record<W>>>>, AllocError>
-    ensures lawful { IfOk result (λ s. All (λ t. All (Obeys (λ _. true)) t) s) }
+    ensures lawful { IfOk result (λ s. All (λ t. All (Obeys no_law) t) s) }
     ensures count { IfOk result (λ s. length s ≡ tasks) }
     ensures scripted { IfOk result (λ s. (k : ℕ) (t : _) → slice_get s k ≡ Some t
         → (next : ℕ) × Scripted (λ x. W.listed x.words) (counted (counted from k) 1) tasks calls next t) }
@@ -83,8 +82,8 @@ fn finding<W: Words>(log: &[Entry<Record<W>>], call: usize) -> Finding {
 }
 
 /// What is wrong with an entry of one of the lanes, which has no origin.
-fn finding_at<W: Words, C: Calls<Clocked<Record<W>>>>(
-    lanes: &[Lane<Record<W>, C>],
+fn finding_at<W: Words, F: Family<Posted<Record<W>>>>(
+    lanes: &[Lane<Record<W>, F>],
     task: usize,
     call: usize,
 ) -> Finding {
@@ -119,9 +118,9 @@ fn reads_of<W: Words>(log: &[Entry<Record<W>>]) -> u64
 }
 
 /// The writes and reads of the lanes, and the first wrong record. Nothing is found exactly where every record in the logs has its origin.
-fn look<W: Shared, C: Calls<Clocked<Record<W>>>>(
+fn look<W: Shared, F: Family<Posted<Record<W>>>>(
     opening: Record<W>,
-    lanes: &[Lane<Record<W>, C>],
+    lanes: &[Lane<Record<W>, F>],
 ) -> Tally
     ensures { IsTally ⟦<Record<W> as PartialEq>⟧.eq opening (map (λ l. l.log.items) lanes.now) result }
 {
@@ -143,7 +142,7 @@ fn look<W: Shared, C: Calls<Clocked<Record<W>>>>(
 }
 
 /// One round on a board that opens with this record: what was found, and the greatest record at its end.
-pub fn round<R: Threads + Sync, W: Shared + Drop, C: Cell<Clocked<Record<W>>>>(
+pub fn round<R: Threads + Sync, W: Shared + Drop, F: SharedFamily<Posted<Record<W>>>>(
     rt: &R,
     alloc: Global,
     tasks: usize,
@@ -152,12 +151,11 @@ pub fn round<R: Threads + Sync, W: Shared + Drop, C: Cell<Clocked<Record<W>>>>(
     calls: u64,
 ) -> Result<(Tally, Record<W>), AllocError>
 where
-    C::Put: Send,
-    C::Get: Send,
-    C::Told: Send,
+    F::Seat: Send,
+    F::Told: Send,
     ensures { IfOk result (λ r. IsRound (λ x. W.listed x.words) ⟦<Record<W> as PartialEq>⟧.eq opening tasks from calls r.0) }
 {
-    let Ok((board, passes)) = Board::<Record<W>, C>::new(alloc, tasks, MAX_LIMIT, opening) else {
+    let Ok((board, passes)) = Board::<Record<W>, F>::new(alloc, tasks, MAX_LIMIT, opening) else {
         return Err(AllocError);
     };
     let scripts = scripts(alloc, tasks, from, calls)?;

@@ -1,8 +1,9 @@
 //! Records whose every word tells which write they are of.
-ghost use Rattle.std.specs.Prelude.{◌≡◌, Bool, true, ℕ, ◌<◌, List, length};
+ghost use Rattle.std.specs.Prelude.{◌≡◌, ℕ, ◌<◌, List, length};
 ghost use Rattle.soak_rounds.specs.Findings.{AreOf, IsWhole};
+ghost use Rattle.soak_rounds.specs.Scripts.{no_law};
 
-use board_live::RecordLaw;
+use atomic_board::RecordLaw;
 use cell_live::{Kept, Lawful};
 
 /// The words of a record.
@@ -107,7 +108,7 @@ impl<W: Copy> Lawful for Record<W> {
 impl<W: Shared> Kept for Record<W> {}
 
 impl<W: Words> RecordLaw for Record<W> {
-    ghost obeys = { λ _. true };
+    ghost obeys = { no_law };
 
     fn fits(&self) -> bool {
         true

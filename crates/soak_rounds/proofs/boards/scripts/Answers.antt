@@ -1,13 +1,13 @@
 -- One more script stands at its task's place.
-use Rattle.std.proofs.Common.{◌≡◌, All, true, List, length, length-append, [], ◌∷◌, ⊎_elim, arith, ap, sym, subst, ◌∙◌}
+use Rattle.std.proofs.Common.{◌≡◌, All, List, length, length-append, [], ◌∷◌, ⊎_elim, arith, ap, sym, subst, ◌∙◌}
 use Rattle.std.specs.Prelude.{slice_get, Some}
 use Rattle.std.proofs.lemmas.List.Elements.{All-push}
 use Rattle.history_core.specs.declared.wish.Wish.{Wish}
-use Rattle.board_live.specs.Logs.{Obeys}
-use Rattle.board_live.proofs.LogLaws.{get_last}
+use Rattle.board_tasks.specs.Logs.{Obeys}
+use Rattle.board_tasks.proofs.LogLaws.{get_last}
 use Rattle.soak_rounds.specs.declared.record.Record.{Record}
 use Rattle.soak_rounds.specs.Findings.{counted}
-use Rattle.soak_rounds.specs.Scripts.{Scripted}
+use Rattle.soak_rounds.specs.Scripts.{no_law, Scripted}
 use Rattle.soak_rounds.proofs.Lists.{scripted_from}
 use Rattle.soak_rounds.proofs.boards.scripts.Goals as goal
 
@@ -18,7 +18,7 @@ loop-task-preserved g c =
     let count : length all ≡ c.loop-task.task = c.loop-task.invariant.count in
     record {
       lawful = rw c.in_ok-push.ensures.items
-          (All-push (λ (t : List (Wish (Record g.row.W.Denot))). All (Obeys (λ _. true)) t) all script c.loop-task.invariant.lawful
+          (All-push (λ (t : List (Wish (Record g.row.W.Denot))). All (Obeys no_law) t) all script c.loop-task.invariant.lawful
           c.in_ok-script.ensures.lawful);
       count = rw c.in_ok-push.ensures.items (omega (arith, count, length-append all (script ∷ [])));
       scripted = λ k t at. ⊎_elim (λ (old : slice_get all k ≡ Some t). c.loop-task.invariant.scripted k t old)

@@ -1,8 +1,0 @@
--- The passes of the last lanes were taken out.
-use Rattle.std.proofs.Common.{◌≡◌, ◌+◌, length}
-use Rattle.board_live.proofs.LaneLists.{MappedFrom}
-use Rattle.board_live.proofs.lanes.into_passes.Given as goal
-
-abbrev pub invariant-loop : goal.invariant-loop
-invariant-loop g l =
-    MappedFrom (λ l. l.pass) l.fn.lanes.items l.lanes.items l.passes.items × (length l.lanes.items + l.counter ≡ length l.fn.lanes.items)

@@ -1,9 +1,0 @@
--- The lanes have the passes of the team's board, so they may run.
-use Rattle.std.proofs.Common.{◌≡◌}
-use Rattle.board_live.proofs.LaneLists.{all_ready}
-use Rattle.board_tests.proofs.teams.outside.told_from_outside.Goals as goal
-
-pub run_tasks-requires-after_bounds : goal.run_tasks-requires-after_bounds
-run_tasks-requires-after_bounds g c κs within =
-    rw c.as_mut_slice.ensures.value
-    (all_ready c.pass_on.new.self.board c.pass_on.new.self.passes.items _ c.in_ok-lanes.lanes.items c.pass_on.ensures c.in_ok-lanes.ensures)
