@@ -13,3 +13,17 @@ elif python3 tests/headlines.py >"$room/out" 2>&1; then
 else
     fail "the headlines" "$(tail -n 1 "$room/out")"
 fi
+if ! command -v python3 >/dev/null 2>&1; then
+    fail "links" "there is no python3"
+elif python3 tests/links.py README.md CHANGELOG.md docs/*.md examples/README.md bench/README.md >"$room/out" 2>&1; then
+    pass "links: $(cat "$room/out")"
+else
+    fail "links" "$(cat "$room/out")"
+fi
+# The front page stays short: its words beside its tables.
+words=$(grep -v '^|' README.md | wc -w)
+if [ "$words" -le 900 ]; then
+    pass "README.md has $words words"
+else
+    fail "README.md" "it has $words words, more than 900"
+fi
