@@ -31,6 +31,21 @@ fn calls_are_counted(rt: HostRuntime) -> Result<(), Fail> {
     Ok(())
 }
 
+/// A call that is let through isn't counted: one that was made is.
+#[test]
+fn a_call_is_counted_when_it_was_made(rt: HostRuntime) -> Result<(), Fail> {
+    let gate = CountingGate::new();
+    assert_eq!(rt; gate.before(0, 1), Some(()));
+    assert_eq!(rt; gate.made(), 0);
+    gate.after(0, 1, ());
+    assert_eq!(rt; gate.made(), 1);
+    assert_eq!(rt; gate.before(1, 1), Some(()));
+    assert_eq!(rt; gate.made(), 1);
+    gate.after(1, 1, ());
+    assert_eq!(rt; gate.made(), 2);
+    Ok(())
+}
+
 #[test]
 fn time_is_up_for_all_tasks(rt: HostRuntime) -> Result<(), Fail> {
     let plans: &[&[u64]] = &[&[0; 40], &[0; 40]];
