@@ -85,3 +85,16 @@ ends_picture "picture < a byte that isn't UTF-8" "$room/not_utf8" "$room/out" 3 
 if [ -c /dev/full ]; then
     ends_picture "picture into a full output" examples/lawful.json /dev/full 5 "picture: write failed"
 fi
+
+# Where a program can't be built the script ends with a status of its own, and says so on standard error alone.
+mkdir -p "$room/bare/docs" "$room/bare/crates" && cp -r fsr picture soak crates.txt tests "$room/bare/" && cp docs/TESTING.md "$room/bare/docs/"
+for program in fsr picture soak; do
+    title="./$program where it can't be built"
+    PATH=/usr/bin:/bin "$room/bare/$program" check >"$room/out" 2>"$room/err" </dev/null
+    status=$?
+    if [ "$status" = 70 ] && [ ! -s "$room/out" ] && grep -q "can't be built" "$room/err"; then
+        pass "$title"
+    else
+        fail "$title" "it ended with status $status: $(head -c 200 "$room/out" "$room/err")"
+    fi
+done
