@@ -90,7 +90,7 @@ where
 
 #[test]
 fn all_tasks_meet_on_four_slots(rt: HostRuntime) -> Result<(), Fail> {
-    for tasks in [2, 3, 16] {
+    for tasks in 2..=16 {
         assert_eq!(rt;
             met::<_, FourSlotFamily<Posted<Band>>>(&rt, rt.alloc(), tasks)?,
             tasks

@@ -17,7 +17,7 @@ fn write_to_limit_on_triple_buffers(rt: HostRuntime) -> Result<(), Fail> {
 
 #[test]
 fn all_tasks_meet_on_triple_buffers(rt: HostRuntime) -> Result<(), Fail> {
-    for tasks in [2, 16] {
+    for tasks in 2..=16 {
         assert_eq!(rt; met::<_, Triples>(&rt, rt.alloc(), tasks)?, tasks);
     }
     Ok(())
