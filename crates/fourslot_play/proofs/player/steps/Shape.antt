@@ -1,6 +1,6 @@
 -- The operations that the player makes of its parts are those of the schedule: each stands where its beginning is played, ends
 -- where its last step is, and does what was planned, since no step of the schedule is without an operation.
-use Rattle.std.proofs.Common.{◌≡◌, ℕ, ◌+◌, ◌*◌, List, [], ◌∷◌, map, replicate, slice_get, Option, Some, inl, zero, suc, refl, sym, subst}
+use Rattle.std.proofs.Common.{◌≡◌, ℕ, ◌<◌, ◌+◌, ◌*◌, List, [], ◌∷◌, map, replicate, slice_get, Option, Some, inl, zero, suc, refl, sym, subst}
 use Rattle.std.proofs.Common.{◌∙◌, ap, arith}
 use Rattle.std.specs.Option.{option_map}
 use Rattle.std.proofs.lemmas.Option.{same_Some, slice_get-map}
@@ -39,6 +39,9 @@ replicated (suc n) (suc k) x y h = replicated n k x y h
 pub side_of : (steps : List Turn) (n who : ℕ) → slice_get (map actor steps) n ≡ Some who → (t : Turn) × (actor t ≡ who)
 side_of steps n who h = let w = mapped_from actor steps n who h in (w.0, w.2)
 
+first_of_five : 0 < 5
+first_of_five = omega arith
+
 module _ {R : Type 0} where
   -- what the operation of a part is to do
   planned_part : (steps : List Turn) (writes : List R) (reads who k begin : ℕ) → HasOperations (span_of steps writes reads ∷ []) →
@@ -46,7 +49,7 @@ module _ {R : Type 0} where
       (wish : Wish R) × (planned (span_of steps writes reads) who k ≡ Some wish)
   planned_part steps writes reads who k begin has at =
       let w = position_step 0 who (map actor steps) (k * 5 + 0) begin at in
-      planned_here (span_of steps writes reads) w.place who k 0 w.actor (λ o. has w.place (inl o)) w.before (omega arith)
+      planned_here (span_of steps writes reads) w.place who k 0 w.actor (λ o. has w.place (inl o)) w.before first_of_five
 
   follows_write : (writes : List R) (k starts : ℕ) (writer_ends reader_ends : List ℕ) (answers : List (Numbered R)) (wish : Wish R) →
       slice_get (map Write writes) k ≡ Some wish →
@@ -122,7 +125,7 @@ module _ {R : Type 0} where
         sym (starts_of u.0.turn u.0.number u.0.starts writes writer_ends reader_ends answers) ∙ ap (λ (o : Op R). o.starts) u.2 in
         let eb : v.0.starts ≡ b.starts =
         sym (starts_of v.0.turn v.0.number v.0.starts writes writer_ends reader_ends answers) ∙ ap (λ (o : Op R). o.starts) v.2 in
-        omega arith;
+        subst (λ (z : ℕ). z < b.starts) ea (subst (λ (z : ℕ). u.0.starts < z) eb rise);
   }
     where
       make : Started → Op R
