@@ -81,8 +81,8 @@ module _ {T : Type 0} (o : T) (n : ℕ) where
       let v1 : Process V = knows Spent v k (Writer p1) a h1 in
       let v2 : Process V = knows Spent v1 k (Writer p2) c h2 in
       let u : Process V = knows Spent v2 k (Writer q) d (held_slots cs) in
-      let has : k < length v.parts = let e : length v.parts ≡ n * (n - 1) = r.parts in
-      let l : place n v.who j < n * (n - 1) = place_in n v.who j r.inside lj ne in
+      let has : k < length v.parts = let e : length v.parts ≡ n * n = r.parts in
+      let l : place n v.who j < n * n = place_in n v.who j r.inside lj ne in
       omega arith in
       let one = changed Spent v k a (Writer p1) h1 has in
       let two = changed_again Spent v v1 k c (Writer p1) (Writer p2) h2 has one in
@@ -119,8 +119,8 @@ module _ {T : Type 0} (o : T) (n : ℕ) where
       let v1 : Process V = knows Spent v k (Reader g1) a h1 in
       let v2 : Process V = knows Spent v1 k (Reader g2) c h2 in
       let u : Process V = knows Spent v2 k (Reader h) d (held_slots (slot ∷ (before ++ behind))) in
-      let has : k < length v.parts = let e : length v.parts ≡ n * (n - 1) = r.parts in
-      let l : place n j v.who < n * (n - 1) = place_in n j v.who lj r.inside (λ q. ne (sym q)) in
+      let has : k < length v.parts = let e : length v.parts ≡ n * n = r.parts in
+      let l : place n j v.who < n * n = place_in n j v.who lj r.inside (λ q. ne (sym q)) in
       omega arith in
       let one = changed Spent v k a (Reader g1) h1 has in
       let two = changed_again Spent v v1 k c (Reader g1) (Reader g2) h2 has one in

@@ -10,26 +10,24 @@ use Rattle.cell_four_slot.specs.Steps.{FourSlotSight, first_writer, first_reader
 use Rattle.family_live.specs.Accesses.{Writes, Reads}
 use Rattle.family_four_slot.specs.declared.notes.Process.{Process}
 use Rattle.family_four_slot.specs.Family.{of_cell}
-use Rattle.family_four_slot.specs.Places.{among, other, place}
+use Rattle.family_four_slot.specs.Places.{place}
 use Rattle.family_four_slot.specs.Words.{writes_to, reads_from}
-use Rattle.family_four_slot.proofs.Places.{other_among, place_in, place_apart}
+use Rattle.family_four_slot.proofs.Places.{place_in, place_apart}
 use Rattle.family_four_slot.proofs.Rests.{IsChanged}
 use Rattle.family_four_slot.proofs.Seats.{differ}
 
 -- in a row each reader has its place, and in a column each writer
 pub row_apart : (n i j h : ℕ) → j ≢ i → h ≢ i → place n i j ≡ place n i h → j ≡ h
 row_apart n i j h nj nh e =
-    let same : i * (n - 1) + among i j ≡ i * (n - 1) + among i h = e in
-    let places : among i j ≡ among i h = omega arith in
-    sym (other_among i j nj) ∙ (ap (other i) places ∙ other_among i h nh)
+    let same : i * n + j ≡ i * n + h = e in omega arith
 
 pub column_apart : (n j h i : ℕ) → h < n → i < n → h ≢ i → j ≢ i → place n j i ≡ place n h i → j ≡ h
 column_apart n j h i lh li nh nj e = ⊎_elim
     (λ (l : j < n). (place_apart n j i h i l li (λ q. nj (sym q)) lh li (λ q. nh (sym q)) e).0)
     (λ (l : n ≤ j).
     let low = place_in n h i lh li (λ q. nh (sym q)) in
-    let high : n * (n - 1) ≤ j * (n - 1) = mul-le-mul_right (n - 1) l in
-    let same : j * (n - 1) + among j i ≡ place n h i = e in
+    let high : n * n ≤ j * n = mul-le-mul_right n l in
+    let same : j * n + i ≡ place n h i = e in
     absurd (omega arith))
     (cases_lt j n)
 

@@ -86,11 +86,11 @@ module _ {T : Type 0} where
       pub row_place : cell ≡ place s.processes (known_by s).who j
       row_place = at ∙ ap (λ z. place s.processes z j) (sym own.who)
 
-      row_low : cell < s.processes * (s.processes - 1)
-      row_low = subst (λ z. z < s.processes * (s.processes - 1)) (sym row_place) (place_in s.processes (known_by s).who j own.rest.inside within apart)
+      row_low : cell < s.processes * s.processes
+      row_low = subst (λ z. z < s.processes * s.processes) (sym row_place) (place_in s.processes (known_by s).who j own.rest.inside within apart)
 
       pub row_inside : cell < (four_slots (processes_of f)).cells
-      row_inside = subst (λ z. cell < z * (z - 1)) own.processes row_low
+      row_inside = subst (λ z. cell < z * z) own.processes row_low
 
       pub row_long : cell < length (known_by s).parts
       row_long = subst (λ z. cell < z) (sym own.rest.parts) row_low
@@ -109,12 +109,12 @@ module _ {T : Type 0} where
       pub column_place : cell ≡ place s.processes j (known_by s).who
       column_place = at ∙ ap (λ z. place s.processes j z) (sym own.who)
 
-      column_low : cell < s.processes * (s.processes - 1)
-      column_low = subst (λ z. z < s.processes * (s.processes - 1)) (sym column_place)
+      column_low : cell < s.processes * s.processes
+      column_low = subst (λ z. z < s.processes * s.processes) (sym column_place)
           (place_in s.processes j (known_by s).who within own.rest.inside (λ e. apart (sym e)))
 
       pub column_inside : cell < (four_slots (processes_of f)).cells
-      column_inside = subst (λ z. cell < z * (z - 1)) own.processes column_low
+      column_inside = subst (λ z. cell < z * z) own.processes column_low
 
       pub column_long : cell < length (known_by s).parts
       column_long = subst (λ z. cell < z) (sym own.rest.parts) column_low

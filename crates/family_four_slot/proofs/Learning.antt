@@ -15,7 +15,7 @@ use Rattle.family_four_slot.specs.declared.notes.Process.{Process}
 use Rattle.family_four_slot.specs.declared.notes.Receipt.{Receipt}
 use Rattle.family_four_slot.specs.Family.{of_cell, heard_parts, heard_by}
 use Rattle.family_four_slot.specs.FourSlots.{Idle}
-use Rattle.family_four_slot.specs.Places.{among, place, writer_of}
+use Rattle.family_four_slot.specs.Places.{place, writer_of}
 use Rattle.family_four_slot.specs.Words.{writes_to, reads_from, HasSlots, IsAtRest, IsRow, IsColumn}
 use Rattle.family_four_slot.proofs.Calls.{sees_reads}
 use Rattle.family_four_slot.proofs.Cells.{deaf, mute}
@@ -137,9 +137,9 @@ module _ {T : Type 0} where
             let none_there = elsewhere k (λ e. nf (sym (writer_there n j v.who l rest.inside (λ q. ne (sym q))) ∙ e)) in
             ap (hears_of (of_cell Spent k v.parts)) none_there ∙ deaf (of_cell Spent k v.parts))
             (λ (l : n ≤ j).
-            let high : n * (n - 1) ≤ j * (n - 1) = mul-le-mul_right (n - 1) l in
-            let parts : length v.parts ≡ n * (n - 1) = rest.parts in
-            let above : length v.parts ≤ j * (n - 1) + among j v.who = omega arith in
+            let high : n * n ≤ j * n = mul-le-mul_right n l in
+            let parts : length v.parts ≡ n * n = rest.parts in
+            let above : length v.parts ≤ j * n + v.who = omega arith in
             let blank = past v.parts k Spent above in
             ap (λ z. hears_of z (of_cell Spent k r.parts)) blank ∙ sym blank)
             (cases_lt j n)

@@ -17,5 +17,6 @@ pub mod Seats
 pub mod Slices
 pub mod Starts
 pub mod Steps
+pub mod Telling
 pub mod Told
 pub mod Totals

@@ -74,13 +74,13 @@ module _ {T : Type 0} where
       }
 
   -- what is first known of a cell
-  part_of : (o : T) (n i k : ℕ) → (get_or (upto (first_part o n i) 0 (n * (n - 1))) k Spent ≡ first_part o n i k)
-      ⊎ (get_or (upto (first_part o n i) 0 (n * (n - 1))) k Spent ≡ Spent)
+  part_of : (o : T) (n i k : ℕ) → (get_or (upto (first_part o n i) 0 (n * n)) k Spent ≡ first_part o n i k)
+      ⊎ (get_or (upto (first_part o n i) 0 (n * n)) k Spent ≡ Spent)
   part_of o n i k = ⊎_elim
-      (λ (l : k < n * (n - 1)). inl (upto_get (first_part o n i) 0 (n * (n - 1)) k Spent l ∙ ap (first_part o n i) (let z : 0 + k ≡ k = omega arith in z)))
-      (λ (l : n * (n - 1) ≤ k). inr (beyond (upto (first_part o n i) 0 (n * (n - 1))) k
-      (let z : length (upto (first_part o n i) 0 (n * (n - 1))) ≡ n * (n - 1) = upto_long (first_part o n i) 0 (n * (n - 1)) in omega arith)))
-      (cases_lt k (n * (n - 1))) where
+      (λ (l : k < n * n). inl (upto_get (first_part o n i) 0 (n * n) k Spent l ∙ ap (first_part o n i) (let z : 0 + k ≡ k = omega arith in z)))
+      (λ (l : n * n ≤ k). inr (beyond (upto (first_part o n i) 0 (n * n)) k
+      (let z : length (upto (first_part o n i) 0 (n * n)) ≡ n * n = upto_long (first_part o n i) 0 (n * n) in omega arith)))
+      (cases_lt k (n * n)) where
         beyond : (xs : List (FourSlotSight T)) (i : ℕ) → length xs ≤ i → get_or xs i Spent ≡ Spent
         beyond [] i l = refl
         beyond (x ∷ xs) zero l = absurd (omega arith)
@@ -90,17 +90,17 @@ module _ {T : Type 0} where
   first_any : (P : FourSlotSight T → Type 0) (o : T) (n i k : ℕ) → P (Writer (first_writer o)) → P (Reader (first_reader o)) → P Spent →
       P (of_cell Spent k (first_process o n i).parts)
   first_any P o n i k w r s = ⊎_elim
-      (λ (e : get_or (upto (first_part o n i) 0 (n * (n - 1))) k Spent ≡ first_part o n i k). subst P (sym e)
+      (λ (e : get_or (upto (first_part o n i) 0 (n * n)) k Spent ≡ first_part o n i k). subst P (sym e)
       (either (nat_eq i (writer_of n k)) (nat_eq i (reader_of n k))))
-      (λ (e : get_or (upto (first_part o n i) 0 (n * (n - 1))) k Spent ≡ Spent). subst P (sym e) s)
+      (λ (e : get_or (upto (first_part o n i) 0 (n * n)) k Spent ≡ Spent). subst P (sym e) s)
       (part_of o n i k) where
         either : (a b : Bool) → P (cond a (Writer (first_writer o)) (cond b (Reader (first_reader o)) Spent))
         either true b = w
         either false true = r
         either false false = s
 
-  first_there : (o : T) (n i k : ℕ) → k < n * (n - 1) → of_cell Spent k (first_process o n i).parts ≡ first_part o n i k
-  first_there o n i k l = upto_get (first_part o n i) 0 (n * (n - 1)) k Spent l ∙ ap (first_part o n i) (let z : 0 + k ≡ k = omega arith in z)
+  first_there : (o : T) (n i k : ℕ) → k < n * n → of_cell Spent k (first_process o n i).parts ≡ first_part o n i k
+  first_there o n i k l = upto_get (first_part o n i) 0 (n * n) k Spent l ∙ ap (first_part o n i) (let z : 0 + k ≡ k = omega arith in z)
 
   module _ (o : T) (n i : ℕ) where
     abbrev v : Process (FourSlotSight T)
@@ -109,14 +109,14 @@ module _ {T : Type 0} where
     pub first_rest : (kept : List (List ℕ)) → i < n → n ≤ 16 → ((j : ℕ) → j < 16 → get_or kept j [] ≡ 0 ∷ 0 ∷ []) → IsAtRest o n v kept []
     first_rest kept li most bits = record {
       inside = li;
-      parts = upto_long (first_part o n i) 0 (n * (n - 1));
+      parts = upto_long (first_part o n i) 0 (n * n);
       held = refl;
       idle = λ k. first_any Idle o n i k refl refl tt;
       quiet = λ k nw. ⊎_elim
-          (λ (e : get_or (upto (first_part o n i) 0 (n * (n - 1))) k Spent ≡ first_part o n i k). ap receipt_for e
+          (λ (e : get_or (upto (first_part o n i) 0 (n * n)) k Spent ≡ first_part o n i k). ap receipt_for e
           ∙ (ap (λ b. receipt_for (cond b (Writer (first_writer o)) (cond (nat_eq i (reader_of n k)) (Reader (first_reader o)) Spent)))
           (differ i (writer_of n k) (λ q. nw (sym q))) ∙ silent (nat_eq i (reader_of n k))))
-          (λ (e : get_or (upto (first_part o n i) 0 (n * (n - 1))) k Spent ≡ Spent). ap receipt_for e)
+          (λ (e : get_or (upto (first_part o n i) 0 (n * n)) k Spent ≡ Spent). ap receipt_for e)
           (part_of o n i k);
       row = λ j lj ne.
           let k : ℕ = place n i j in
@@ -220,7 +220,7 @@ module _ {T : Type 0} where
         let row = mine.0.rest.row j (subst (λ z. j < z) same lj) (λ e. ne (sym (e ∙ who_s))) in
         let column = theirs.0.rest.column i (subst (λ z. i < z) (sym same) li) (λ e. ne (e ∙ who_t)) in
         let k : ℕ = place n i j in
-        let inside : k < n * (n - 1) = place_in n i j (subst (λ z. i < z) mine.0.processes li) (subst (λ z. j < z) theirs.0.processes lj) (λ e. ne (sym e)) in
+        let inside : k < n * n = place_in n i j (subst (λ z. i < z) mine.0.processes li) (subst (λ z. j < z) theirs.0.processes lj) (λ e. ne (sym e)) in
         let writes : of_cell Spent k v.parts ≡ Writer row.notes = (λ x. of_cell Spent (place (sym mine.0.processes x) (sym who_s x) j) v.parts) ∙ row.is in
         let reads : of_cell Spent k u.parts ≡ Reader column.notes = (λ x. of_cell Spent (place (sym theirs.0.processes x) i (sym who_t x)) u.parts) ∙ column.is in
         let done = ended.cells a.0 b.0 v u a.1 b.1 k inside row.notes column.notes writes reads row.idle column.idle in

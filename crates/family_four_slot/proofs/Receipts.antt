@@ -47,7 +47,7 @@ module _ {A : Type 0} where
 
 module _ {V : Type 0} (blank : V) (receipt : V → V) (hears : V → V → V) (plain : receipt blank ≡ blank) (deaf : (v : V) → hears v blank ≡ v)
     (mute : (w : V) → hears blank w ≡ blank) where
-  receipt_cell : (k : ℕ) (vs : List V) → of_cell blank k (map receipt vs) ≡ receipt (of_cell blank k vs)
+  pub receipt_cell : (k : ℕ) (vs : List V) → of_cell blank k (map receipt vs) ≡ receipt (of_cell blank k vs)
   receipt_cell k [] = sym plain
   receipt_cell zero (v ∷ vs) = refl
   receipt_cell (suc k) (v ∷ vs) = receipt_cell k vs

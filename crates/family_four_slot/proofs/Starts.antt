@@ -61,9 +61,9 @@ module _ {T : Type 0} (fits : T → Type 0) (rises : T → T → Type 0) (o : T)
   V = FourSlotSight T
 
   pub four_slots_start : fits o →
-      FourSlotFamily fits rises o n (opening (replicate (16 * (n * (n - 1)) + 8) 0) (replicate (4 * (n * (n - 1))) o) (first_view o n))
+      FourSlotFamily fits rises o n (opening (replicate (16 * (n * n) + 8) 0) (replicate (4 * (n * n)) o) (first_view o n))
   four_slots_start f =
-      let cells : ℕ = n * (n - 1) in
+      let cells : ℕ = n * n in
       let ps : List (Process V) = upto (first_process o n) 0 n in
       let ws : List ℕ = replicate (16 * cells + 8) 0 in
       let hs : List T = replicate (4 * cells) o in

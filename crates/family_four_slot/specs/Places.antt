@@ -1,24 +1,17 @@
--- The cells of a family of processes, and where they lie (this project's own): process i has a row of cells, one for each other process,
+-- The cells of a family of processes, and where they lie (this project's own): process i has a row of cells, one for each process,
 -- and process j reads the cells of its column. The writer's words of a cell lie on a line of eight words, and the reader's word on the next
-use Rattle.std.specs.Prelude.{◌≡◌, ℕ, zero, suc, ◌+◌, ◌-◌, ◌*◌, ◌/◌, ◌%◌, ◌<◌, nat_lt, cond}
+use Rattle.std.specs.Prelude.{ℕ, zero, suc, ◌+◌, ◌*◌, ◌/◌, ◌%◌}
 use Rattle.family_four_slot.specs.Layouts.{Layout}
 
--- the number of a process among the others of this one, and the other way
-abbrev pub among : ℕ → ℕ → ℕ
-among i j = cond (nat_lt j i) j (j - 1)
-
-abbrev pub other : ℕ → ℕ → ℕ
-other i k = cond (nat_lt k i) k (k + 1)
-
--- the cell that process i writes and process j reads
+-- the cell that process i writes and process j reads. A process has a cell that would be its own, and that nobody uses
 abbrev pub place : ℕ → ℕ → ℕ → ℕ
-place n i j = i * (n - 1) + among i j
+place n i j = i * n + j
 
 abbrev pub writer_of : ℕ → ℕ → ℕ
-writer_of n k = k / (n - 1)
+writer_of n k = k / n
 
 abbrev pub reader_of : ℕ → ℕ → ℕ
-reader_of n k = other (k / (n - 1)) (k % (n - 1))
+reader_of n k = k % n
 
 -- the words of a cell: `latest`, `reading`, and the bits of the pairs
 abbrev pub offset : ℕ → ℕ
@@ -35,11 +28,11 @@ slot_at k i = 4 * k + i
 -- a spare line comes first, which nobody stores to
 abbrev pub four_slots : ℕ → Layout
 four_slots n = record {
-  cells = n * (n - 1);
+  cells = n * n;
   cell_words = 4;
   cell_slots = 4;
-  words = 16 * (n * (n - 1)) + 8;
-  slots = 4 * (n * (n - 1));
+  words = 16 * (n * n) + 8;
+  slots = 4 * (n * n);
   word = word_at;
   slot = slot_at;
 }

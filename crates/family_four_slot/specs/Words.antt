@@ -81,7 +81,7 @@ module _ {T : Type 0} (o : T) where
   -- a process of n between two calls. Of cells that it doesn't write it tells nothing
   pub record IsAtRest (n : ℕ) (v : Process (FourSlotSight T)) (remembered : List (List ℕ)) (cs : List (ℕ × T)) : Type 0 where
     pub inside : v.who < n
-    pub parts : length v.parts ≡ n * (n - 1)
+    pub parts : length v.parts ≡ n * n
     pub held : v.held ≡ held_slots cs
     pub idle : (k : ℕ) → Idle (of_cell Spent k v.parts)
     pub quiet : (k : ℕ) → writer_of n k ≢ v.who → receipt_for (of_cell Spent k v.parts) ≡ Spent

@@ -153,15 +153,13 @@ impl<T: Lawful> Family<T> for FourSlotFamily<T> {
         let named = Snapshot::of(item);
         let reading = table.begin::<Brand>(&mut seat.seat, cell, named);
         let pair = other_bit(reading);
-        let mut bits = seat.remembered[to];
-        let stored = bit_of(&bits, pair);
+        let stored = bit_of(&seat.remembered[to], pair);
         let index = other_bit(stored);
         let slot = slot_of(pair, index);
         table.fill(&mut seat.seat, cell, slot, item);
         table.store(&mut seat.seat, cell, pair, index);
         table.finish(&mut seat.seat, cell, pair);
-        set_bit(&mut bits, pair, index);
-        seat.remembered[to] = bits;
+        set_bit(&mut seat.remembered[to], pair, index);
     }
 
     #[inline]

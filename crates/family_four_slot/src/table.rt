@@ -52,7 +52,7 @@ pub struct FamilySeat<T: Copy> {
 /// The first of a cell's words.
 #[inline]
 fn base(cell: usize) -> usize
-    requires { cell < 240 }
+    requires { cell < 256 }
     ensures { result ≡ 16 * cell + 8 }
 {
     16 * cell + 8
@@ -61,7 +61,7 @@ fn base(cell: usize) -> usize
 /// The place of a cell's slot.
 #[inline]
 fn slot_place(cell: usize, slot: usize) -> usize
-    requires { (cell < 240) × (slot < 4) }
+    requires { (cell < 256) × (slot < 4) }
     ensures { result ≡ slot_at cell slot }
 {
     4 * cell + slot
@@ -70,11 +70,10 @@ fn slot_place(cell: usize, slot: usize) -> usize
 /// The cell that process `i` writes and process `j` reads.
 #[inline]
 pub fn place(processes: usize, i: usize, j: usize) -> usize
-    requires { (processes ≤ 16) × (i < processes) × (j < processes) × (j ≢ i) }
+    requires { (processes ≤ 16) × (i < processes) × (j < processes) }
     ensures { result ≡ place processes i j }
 {
-    let among = if j < i { j } else { j - 1 };
-    i * (processes - 1) + among
+    i * processes + j
 }
 
 impl<T: Lawful> FamilyTable<T> {
@@ -89,7 +88,7 @@ impl<T: Lawful> FamilyTable<T> {
         ensures key { IfOk result (λ r. r.0.inner.shared.key ≡ record { first = first; processes = processes }) }
         ensures seat { IfOk result (λ r. (r.1.inner.table_id ≡ r.0.inner.shared.table_id) × (r.1.inner.me ≡ (first_view first processes, []))) }
     {
-        let cells = processes * (processes - 1);
+        let cells = processes * processes;
         let mut words = Vec::new(alloc);
         words.resize(16 * cells + 8, 0).map_err(|_| AllocError)?;
         let mut slots = Vec::new(alloc);

@@ -14,11 +14,10 @@ use Rattle.cell_triple.specs.Steps.{TripleSight, first_writer, first_reader, pub
 use Rattle.family_live.specs.Accesses.{IsAccess, IsRead, IsWrite, Keeps, KeepsOthers, Reads, Writes}
 use Rattle.family_four_slot.specs.declared.notes.Process.{Process}
 use Rattle.family_four_slot.specs.Family.{of_cell, knows}
-use Rattle.family_four_slot.specs.Places.{among, other, place}
+use Rattle.family_four_slot.specs.Places.{place}
 use Rattle.family_four_slot.proofs.Places.{place_in, place_apart}
 use Rattle.family_four_slot.proofs.Slices.{get_set_here, get_set_else}
 use Rattle.family_triple.specs.Steps.{alters}
-use Rattle.family_triple.proofs.Places.{other_among}
 use Rattle.family_triple.specs.Words.{writes_by, reads_by, writes_to, reads_from}
 
 -- one time, as an access of one step
@@ -67,17 +66,15 @@ module _ {V A : Type 0} (blank : V) (seen : V → A) (who k : ℕ) (parts : List
 -- the cells of a row and of a column are different; a process number that is too large has none of these
 pub row_apart : (n i j h : ℕ) → j ≢ i → h ≢ i → j ≢ h → place n i j ≢ place n i h
 row_apart n i j h nj nh d e =
-    let same : i * (n - 1) + among i j ≡ i * (n - 1) + among i h = e in
-    let places : among i j ≡ among i h = omega arith in
-    d (sym (other_among i j nj) ∙ (ap (other i) places ∙ other_among i h nh))
+    let same : i * n + j ≡ i * n + h = e in d (omega arith)
 
 pub column_apart : (n j h i : ℕ) → h < n → i < n → h ≢ i → j ≢ i → j ≢ h → place n j i ≢ place n h i
 column_apart n j h i lh li nh nj d e = ⊎_elim
     (λ (l : j < n). d (place_apart n j i h i l li (λ q. nj (sym q)) lh li (λ q. nh (sym q)) e).0)
     (λ (l : n ≤ j).
     let low = place_in n h i lh li (λ q. nh (sym q)) in
-    let high : n * (n - 1) ≤ j * (n - 1) = mul-le-mul_right (n - 1) l in
-    let same : j * (n - 1) + among j i ≡ place n h i = e in
+    let high : n * n ≤ j * n = mul-le-mul_right n l in
+    let same : j * n + i ≡ place n h i = e in
     absurd (omega arith))
     (cases_lt j n)
 
@@ -97,7 +94,7 @@ module _ {T : Type 0} (o : T) (n : ℕ) where
       (ap (λ b. cond {A = V} b Spent (of_cell Spent (place n j u.who) u.parts)) (not_same j u.who ne) ∙ is)
 
   -- a write: the swap of the cell to process j
-  pub a_write : (v : Process V) (j : ℕ) (p : WriterNotes T) (x : T) (slot t : ℕ) (held : List ℕ) → v.who < n → length v.parts ≡ n * (n - 1) →
+  pub a_write : (v : Process V) (j : ℕ) (p : WriterNotes T) (x : T) (slot t : ℕ) (held : List ℕ) → v.who < n → length v.parts ≡ n * n →
       j < n → j ≢ v.who → of_cell Spent (place n v.who j) v.parts ≡ Writer p → v.clock < t →
       let u = knows Spent v (place n v.who j) (Writer (published p slot x t)) t held in
       IsAccess 1 v.clock u.clock v.times u.times (writes_to o n v j).times (writes_to o n u j).times
@@ -107,7 +104,7 @@ module _ {T : Type 0} (o : T) (n : ℕ) where
       let k : ℕ = place n v.who j in
       let q : WriterNotes T = published p slot x t in
       let u : Process V = knows Spent v k (Writer q) t held in
-      let l : place n v.who j < n * (n - 1) = place_in n v.who j lw lj ne in
+      let l : place n v.who j < n * n = place_in n v.who j lw lj ne in
       let has : k < length v.parts = omega arith in
       let before = sees_writes v j p ne is in
       let after = sees_writes u j q ne (get_set_here v.parts k (Writer q) Spent has) in (
@@ -122,7 +119,7 @@ module _ {T : Type 0} (o : T) (n : ℕ) where
 
   -- the step that decides a read of the cell from process j
   pub a_read : (v : Process V) (j : ℕ) (g h : ReaderNotes T) (x : T) (t number : ℕ) (writes : Known T) (held : List ℕ) →
-      v.who < n → length v.parts ≡ n * (n - 1) → j < n → j ≢ v.who → of_cell Spent (place n j v.who) v.parts ≡ Reader g →
+      v.who < n → length v.parts ≡ n * n → j < n → j ≢ v.who → of_cell Spent (place n j v.who) v.parts ≡ Reader g →
       h.answers ≡ g.answers → h.told ≡ g.told → h.times ≡ g.times → g.opening.value ≡ o → v.clock < t →
       let q = answered h x t number writes in
       let u = knows Spent v (place n j v.who) (Reader q) t held in
@@ -134,7 +131,7 @@ module _ {T : Type 0} (o : T) (n : ℕ) where
       let k : ℕ = place n j v.who in
       let q : ReaderNotes T = answered h x t number writes in
       let u : Process V = knows Spent v k (Reader q) t held in
-      let l : place n j v.who < n * (n - 1) = place_in n j v.who lj lw (λ e. ne (sym e)) in
+      let l : place n j v.who < n * n = place_in n j v.who lj lw (λ e. ne (sym e)) in
       let has : k < length v.parts = omega arith in
       let before = sees_reads v j g ne is in
       let after = sees_reads u j q ne (get_set_here v.parts k (Reader q) Spent has) in (
@@ -153,13 +150,13 @@ module _ {T : Type 0} (o : T) (n : ℕ) where
       )
 
   -- a load that finds the mark, before the step that decides the read: no call's lists change
-  pub a_look : (v : Process V) (j : ℕ) (g h : ReaderNotes T) (held : List ℕ) → v.who < n → length v.parts ≡ n * (n - 1) →
+  pub a_look : (v : Process V) (j : ℕ) (g h : ReaderNotes T) (held : List ℕ) → v.who < n → length v.parts ≡ n * n →
       j < n → j ≢ v.who → of_cell Spent (place n j v.who) v.parts ≡ Reader g → reads_by h ≡ reads_by g →
       let u = alters v (place n j v.who) (Reader h) held in
       (u.clock ≡ v.clock) × (u.times ≡ v.times) × Keeps (reads_from o n v) (reads_from o n u) × Keeps (writes_to o n v) (writes_to o n u)
   a_look v j g h held lw parts lj ne is same =
       let k : ℕ = place n j v.who in
-      let l : place n j v.who < n * (n - 1) = place_in n j v.who lj lw (λ e. ne (sym e)) in
+      let l : place n j v.who < n * n = place_in n j v.who lj lw (λ e. ne (sym e)) in
       let has : k < length v.parts = omega arith in (
         refl,
         refl,

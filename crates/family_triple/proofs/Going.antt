@@ -13,14 +13,14 @@ use Rattle.family_four_slot.specs.declared.notes.Process.{Process}
 use Rattle.family_four_slot.specs.declared.notes.View.{View}
 use Rattle.family_four_slot.specs.declared.notes.View.TheVariants.{Has}
 use Rattle.family_four_slot.specs.Family.{of_cell, knows}
-use Rattle.family_four_slot.specs.Places.{among, place}
+use Rattle.family_four_slot.specs.Places.{place}
 use Rattle.family_four_slot.specs.Words.{process_of}
 use Rattle.family_four_slot.proofs.Places.{place_in}
 use Rattle.family_four_slot.proofs.Slices.{get_set_here, get_set_else, set_long}
 use Rattle.family_triple.specs.declared.family.TripleFamily.{TripleFamily}
 use Rattle.family_triple.specs.declared.family.TripleSeat.{TripleSeat}
 use Rattle.family_triple.specs.Access.{HasLooked}
-use Rattle.family_triple.specs.Places.{triples, slot_at}
+use Rattle.family_triple.specs.Places.{among, triples, slot_at}
 use Rattle.family_triple.specs.Seated.{known_by, opening_of, processes_of, number_of, clock_of, times_of, writes_of, reads_of, IsSeat}
 use Rattle.family_triple.specs.Tables.{IsTurned}
 use Rattle.family_triple.specs.Words.{writes_to, reads_from, IsAtRest, IsRow, IsColumn}
@@ -78,11 +78,11 @@ module _ {T : Type 0} where
       pub row_place : cell ≡ place s.processes (known_by s).who j
       row_place = at ∙ ap (λ z. place s.processes z j) (sym own.who)
 
-      row_low : cell < s.processes * (s.processes - 1)
-      row_low = subst (λ z. z < s.processes * (s.processes - 1)) (sym row_place) (place_in s.processes (known_by s).who j own.rest.inside within apart)
+      row_low : cell < s.processes * s.processes
+      row_low = subst (λ z. z < s.processes * s.processes) (sym row_place) (place_in s.processes (known_by s).who j own.rest.inside within apart)
 
       pub row_inside : cell < (triples (processes_of f)).cells
-      row_inside = subst (λ z. cell < z * (z - 1)) own.processes row_low
+      row_inside = subst (λ z. cell < z * z) own.processes row_low
 
       pub row_long : cell < length (known_by s).parts
       row_long = subst (λ z. cell < z) (sym own.rest.parts) row_low
@@ -103,12 +103,12 @@ module _ {T : Type 0} where
       pub column_place : cell ≡ place s.processes j (known_by s).who
       column_place = at ∙ ap (λ z. place s.processes j z) (sym own.who)
 
-      column_low : cell < s.processes * (s.processes - 1)
-      column_low = subst (λ z. z < s.processes * (s.processes - 1)) (sym column_place)
+      column_low : cell < s.processes * s.processes
+      column_low = subst (λ z. z < s.processes * s.processes) (sym column_place)
           (place_in s.processes j (known_by s).who within own.rest.inside (λ e. apart (sym e)))
 
       pub column_inside : cell < (triples (processes_of f)).cells
-      column_inside = subst (λ z. cell < z * (z - 1)) own.processes column_low
+      column_inside = subst (λ z. cell < z * z) own.processes column_low
 
       pub column_long : cell < length (known_by s).parts
       column_long = subst (λ z. cell < z) (sym own.rest.parts) column_low

@@ -12,5 +12,6 @@ pub mod Rounds
 pub mod Starts
 pub mod Steps
 pub mod Taking
+pub mod Telling
 pub mod Told
 pub mod Turns

@@ -127,7 +127,7 @@ module _ {T : Type 0} where
         let row = mine.0.rest.row j (subst (λ z. j < z) same lj) (λ e. ne (sym (e ∙ who_s))) in
         let column = theirs.0.rest.column i (subst (λ z. i < z) (sym same) li) (λ e. ne (e ∙ who_t)) in
         let k : ℕ = place n i j in
-        let inside : k < n * (n - 1) = place_in n i j (subst (λ z. i < z) mine.0.processes li) (subst (λ z. j < z) theirs.0.processes lj) (λ e. ne (sym e)) in
+        let inside : k < n * n = place_in n i j (subst (λ z. i < z) mine.0.processes li) (subst (λ z. j < z) theirs.0.processes lj) (λ e. ne (sym e)) in
         let writes : of_cell Spent k v.parts ≡ Writer row.notes = (λ x. of_cell Spent (place (sym mine.0.processes x) (sym who_s x) j) v.parts) ∙ row.is in
         let reads : of_cell Spent k u.parts ≡ Reader column.notes = (λ x. of_cell Spent (place (sym theirs.0.processes x) i (sym who_t x)) u.parts) ∙ column.is in
         let done = ended.cells a.0 b.0 v u a.1 b.1 k inside row.notes column.notes writes reads in

@@ -3,13 +3,12 @@ use Rattle.std.proofs.Common.{◌≡◌, ◌≢◌, ℕ, ◌+◌, ◌-◌, ◌*�
 use Rattle.std.proofs.lemmas.Bool.Decides.{nat_tests}
 use Rattle.std.proofs.lemmas.Bool.{cases_lt}
 use Rattle.family_four_slot.specs.Layouts.{IsLayout}
-use Rattle.family_four_slot.specs.Places.{among, other}
-use Rattle.family_triple.specs.Places.{triples, word_at, slot_at}
+use Rattle.family_triple.specs.Places.{among, other, triples, word_at, slot_at}
 
 pub is_layout : (n : ℕ) → IsLayout (triples n)
 is_layout n = record {
-  word_in = λ k i lk li. let z : word_at k i < 8 * (n * (n - 1)) + 8 = omega arith in z;
-  slot_in = λ k i lk li. let z : slot_at k i < 3 * (n * (n - 1)) = omega arith in z;
+  word_in = λ k i lk li. let z : word_at k i < 8 * (n * n) + 8 = omega arith in z;
+  slot_in = λ k i lk li. let z : slot_at k i < 3 * (n * n) = omega arith in z;
   word_apart = λ k i j h li lh e. let f : 8 * k + 8 + i ≡ 8 * j + 8 + h = e in (omega arith, omega arith);
   slot_apart = λ k i j h li lh e. let f : 3 * k + i ≡ 3 * j + h = e in (omega arith, omega arith);
 }

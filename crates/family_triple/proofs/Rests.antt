@@ -10,10 +10,10 @@ use Rattle.cell_triple.specs.declared.notes.ReaderNotes.{ReaderNotes}
 use Rattle.cell_triple.specs.Steps.{TripleSight, receipt_for}
 use Rattle.family_four_slot.specs.declared.notes.Process.{Process}
 use Rattle.family_four_slot.specs.Family.{of_cell}
-use Rattle.family_four_slot.specs.Places.{among, other, place, writer_of}
+use Rattle.family_four_slot.specs.Places.{place, writer_of}
 use Rattle.family_four_slot.proofs.Places.{place_in, place_apart, writer_there}
 use Rattle.family_four_slot.proofs.Slices.{get_set_here, get_set_else, set_long}
-use Rattle.family_triple.specs.Places.{slot_at}
+use Rattle.family_triple.specs.Places.{among, other, slot_at}
 use Rattle.family_triple.specs.Steps.{goes_on}
 use Rattle.family_triple.specs.Tables.{IsTurned}
 use Rattle.family_triple.specs.Words.{IsRow, IsColumn, IsAtRest}
@@ -41,8 +41,8 @@ module _ {T : Type 0} (o : T) (n : ℕ) where
       IsAtRest o n (goes_on v (place n v.who j) (Writer p) clock times held) fills' reads cs'
   rest_write v fills fills' reads cs cs' j p y clock times held lj ne r took opened low size number same new turned =
       let k : ℕ = place n v.who j in
-      let l : place n v.who j < n * (n - 1) = place_in n v.who j r.inside lj ne in
-      let parts : length v.parts ≡ n * (n - 1) = r.parts in
+      let l : place n v.who j < n * n = place_in n v.who j r.inside lj ne in
+      let parts : length v.parts ≡ n * n = r.parts in
       let has : k < length v.parts = omega arith in
       let m : among v.who j < n - 1 = among_small n v.who j r.inside lj ne in
       record {
@@ -103,8 +103,8 @@ module _ {T : Type 0} (o : T) (n : ℕ) where
       IsAtRest o n (goes_on v (place n j v.who) (Reader g) clock times held) fills reads' cs'
   rest_read v fills reads reads' cs cs' j g clock times held lj ne r took free opened low size number same new turned =
       let k : ℕ = place n j v.who in
-      let l : place n j v.who < n * (n - 1) = place_in n j v.who lj r.inside (λ e. ne (sym e)) in
-      let parts : length v.parts ≡ n * (n - 1) = r.parts in
+      let l : place n j v.who < n * n = place_in n j v.who lj r.inside (λ e. ne (sym e)) in
+      let parts : length v.parts ≡ n * n = r.parts in
       let has : k < length v.parts = omega arith in
       record {
         inside = r.inside;

@@ -8,8 +8,8 @@ use Rattle.family_triple.proofs.Looking.{unturned}
 use Rattle.family_triple.proofs.Rests.{Replaced}
 use Rattle.family_triple.proofs.Turns.{turned_round}
 
-pub few_cells : (n k : ℕ) → n ≤ 16 → k < n * (n - 1) → k < 240
-few_cells n k few l = let m : n * (n - 1) ≤ 16 * (n - 1) = mul-le-mul_right (n - 1) few in omega arith
+pub few_cells : (n k : ℕ) → n ≤ 16 → k < n * n → k < 256
+few_cells n k few l = let m : n * n ≤ 16 * n = mul-le-mul_right n few in omega arith
 
 replaced_at : {A : Type 0} (front back : List A) (x y : A) → Replaced (front ++ x ∷ back) (front ++ y ∷ back) (length front) y
 replaced_at front back x y = record {

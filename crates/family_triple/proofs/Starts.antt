@@ -26,9 +26,9 @@ module _ {T : Type 0} (fits : T → Type 0) (rises : T → T → Type 0) (o : T)
   V = TripleSight T
 
   pub triples_start : fits o →
-      TripleFamily fits rises o n (opening (replicate (8 * (n * (n - 1)) + 8) 1) (replicate (3 * (n * (n - 1))) o) (first_view o n))
+      TripleFamily fits rises o n (opening (replicate (8 * (n * n) + 8) 1) (replicate (3 * (n * n)) o) (first_view o n))
   triples_start f =
-      let cells : ℕ = n * (n - 1) in
+      let cells : ℕ = n * n in
       let ps : List (Process V) = upto (first_process o n) 0 n in
       let ws : List ℕ = replicate (8 * cells + 8) 1 in
       let hs : List T = replicate (3 * cells) o in

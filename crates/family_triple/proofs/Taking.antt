@@ -3,7 +3,6 @@ use Rattle.std.proofs.Common.{◌≡◌, ◌≢◌, ◌⊎◌, ℕ, zero, suc, �
 use Rattle.std.proofs.Common.{refl, sym, ap, ◌∙◌, subst, arith, ⊎_elim, inl, inr, length-append}
 use Rattle.std.proofs.lemmas.Bool.{cases_eq, cases_lt}
 use Rattle.std.proofs.lemmas.List.{map-append}
-use Rattle.std.proofs.lemmas.Nat.{div-mul-add}
 use mathlib.Core.Option.{some}
 use lib.ListN.{get_elem?}
 use Rattle.atomic_table.specs.Table.{Me, turned}
@@ -18,12 +17,12 @@ use Rattle.family_four_slot.specs.declared.notes.View.{View}
 use Rattle.family_four_slot.specs.declared.notes.View.TheVariants.{Has}
 use Rattle.family_four_slot.specs.Family.{of_cell}
 use Rattle.family_four_slot.specs.FourSlots.{upto}
-use Rattle.family_four_slot.specs.Places.{among, other, place, writer_of, reader_of}
+use Rattle.family_four_slot.specs.Places.{place, writer_of, reader_of}
 use Rattle.family_four_slot.proofs.Places.{place_in, place_apart, writer_there, reader_there}
 use Rattle.family_four_slot.proofs.Slices.{get_set_here, get_set_else, set_long}
 use Rattle.family_four_slot.proofs.Starts.{upto_long, upto_get}
 use Rattle.family_triple.specs.Access.{IsReady}
-use Rattle.family_triple.specs.Places.{slot_at}
+use Rattle.family_triple.specs.Places.{among, other, slot_at}
 use Rattle.family_triple.specs.Steps.{Beside, alters}
 use Rattle.family_triple.specs.Tables.{IsTurned}
 use Rattle.family_triple.specs.Triples.{first_part, first_process}
@@ -33,23 +32,25 @@ use Rattle.family_triple.proofs.Places.{among_small, among_other, other_among, o
 
 -- the cells of a process's row, and of its column
 abbrev pub row_cell : ℕ → ℕ → ℕ → ℕ
-row_cell n who at = who * (n - 1) + at
+row_cell n who at = place n who (other who at)
 
 abbrev pub column_cell : ℕ → ℕ → ℕ → ℕ
 column_cell n who at = place n (other who at) who
 
-row_place : (n who at : ℕ) → row_cell n who at ≡ place n who (other who at)
-row_place n who at = ap (λ z. who * (n - 1) + z) (sym (among_other who at))
+pub row_in : (n who at : ℕ) → who < n → at < n - 1 → row_cell n who at < n * n
+row_in n who at lw la = place_in n who (other who at) lw (other_low n who at la lw) (other_else who at)
 
-pub row_in : (n who at : ℕ) → who < n → at < n - 1 → row_cell n who at < n * (n - 1)
-row_in n who at lw la = subst (λ z. z < n * (n - 1)) (sym (row_place n who at))
-    (place_in n who (other who at) lw (other_low n who at la lw) (other_else who at))
-
-pub column_in : (n who at : ℕ) → who < n → at < n - 1 → column_cell n who at < n * (n - 1)
+pub column_in : (n who at : ℕ) → who < n → at < n - 1 → column_cell n who at < n * n
 column_in n who at lw la = place_in n (other who at) who (other_low n who at la lw) lw (λ e. other_else who at (sym e))
 
+row_writer : (n who at : ℕ) → who < n → at < n - 1 → writer_of n (row_cell n who at) ≡ who
+row_writer n who at lw la = writer_there n who (other who at) lw (other_low n who at la lw) (other_else who at)
+
 row_once : (n who i j : ℕ) → row_cell n who i ≡ row_cell n who j → i ≡ j
-row_once n who i j e = let same : who * (n - 1) + i ≡ who * (n - 1) + j = e in omega arith
+row_once n who i j e =
+    let same : who * n + other who i ≡ who * n + other who j = e in
+    let others : other who i ≡ other who j = omega arith in
+    sym (among_other who i) ∙ (ap (among who) others ∙ among_other who j)
 
 column_once : (n who i j : ℕ) → who < n → i < n - 1 → j < n - 1 → column_cell n who i ≡ column_cell n who j → i ≡ j
 column_once n who i j lw li lj e = ⊎_elim
@@ -60,7 +61,7 @@ column_once n who i j lw li lj e = ⊎_elim
 
 row_column : (n who i j : ℕ) → who < n → i < n - 1 → j < n - 1 → row_cell n who i ≢ column_cell n who j
 row_column n who i j lw li lj e = other_else who j (sym (place_apart n who (other who i) (other who j) who lw (other_low n who i li lw)
-    (other_else who i) (other_low n who j lj lw) lw (λ q. other_else who j (sym q)) (sym (row_place n who i) ∙ e)).0)
+    (other_else who i) (other_low n who j lj lw) lw (λ q. other_else who j (sym q)) e).0)
 
 new_last : {A : Type 0} (xs : List A) (x : A) → get_elem? (xs ++ x ∷ []) (length xs) ≡ some x
 new_last [] x = refl
@@ -135,7 +136,7 @@ module _ {T : Type 0} (o : T) (n who : ℕ) where
     pub one : me.0 ≡ Has (v ∷ [])
     pub number : v.who ≡ who
     pub fresh : (v.clock ≡ 0) × (v.times ≡ [])
-    pub long : length v.parts ≡ n * (n - 1)
+    pub long : length v.parts ≡ n * n
     pub held : IsTurned v.held (held_slots me.1)
     pub many : length me.1 ≡ rows + columns
     pub plain : (k : ℕ) → IsPlain o n who k (of_cell Spent k v.parts)
@@ -156,10 +157,10 @@ upto_part f m k d = ⊎_elim
 module _ {T : Type 0} (o : T) (n who : ℕ) where
   plain_first : (k : ℕ) → IsPlain o n who k (of_cell Spent k (first_process o n who).parts)
   plain_first k = ⊎_elim
-      (λ (e : get_or (upto (first_part o n who) 0 (n * (n - 1))) k Spent ≡ first_part o n who k). subst (IsPlain o n who k) (sym e)
+      (λ (e : get_or (upto (first_part o n who) 0 (n * n)) k Spent ≡ first_part o n who k). subst (IsPlain o n who k) (sym e)
       (first (nat_eq who (writer_of n k)) (nat_eq who (reader_of n k)) (λ nw. not_same who (writer_of n k) (λ q. nw (sym q)))))
-      (λ (e : get_or (upto (first_part o n who) 0 (n * (n - 1))) k Spent ≡ Spent). subst (IsPlain o n who k) (sym e) (refl, refl, λ nw. refl))
-      (upto_part (first_part o n who) (n * (n - 1)) k Spent) where
+      (λ (e : get_or (upto (first_part o n who) 0 (n * n)) k Spent ≡ Spent). subst (IsPlain o n who k) (sym e) (refl, refl, λ nw. refl))
+      (upto_part (first_part o n who) (n * n) k Spent) where
         reads : (b : Bool) → IsPlain o n who k (cond b (bare_reader o) Spent)
         reads true = (refl, refl, λ nw. refl)
         reads false = (refl, refl, λ nw. refl)
@@ -177,7 +178,7 @@ module _ {T : Type 0} (o : T) (n who : ℕ) where
     one = refl;
     number = refl;
     fresh = (refl, refl);
-    long = upto_long (first_part o n who) 0 (n * (n - 1));
+    long = upto_long (first_part o n who) 0 (n * n);
     held = ([], [], refl, refl);
     many = refl;
     plain = plain_first;
@@ -187,7 +188,7 @@ module _ {T : Type 0} (o : T) (n who : ℕ) where
           let k : ℕ = row_cell n who at in
           there k (row_in n who at lw la)
           ∙ ap (λ b. cond {A = TripleSight T} b (bare_writer o) (cond (nat_eq who (reader_of n k)) (bare_reader o) Spent))
-          (yes_same who (writer_of n k) (sym (div-mul-add who (n - 1) at la)));
+          (yes_same who (writer_of n k) (sym (row_writer n who at lw la)));
     };
     column = record {
       done = λ at l. absurd (omega arith);
@@ -202,8 +203,8 @@ module _ {T : Type 0} (o : T) (n who : ℕ) where
           ∙ ap (λ b. cond {A = TripleSight T} b (bare_reader o) Spent) (yes_same who (reader_of n k) (sym (reader_there n j who lj lw apart))));
     };
   } where
-    there : (k : ℕ) → k < n * (n - 1) → of_cell Spent k (first_process o n who).parts ≡ first_part o n who k
-    there k l = upto_get (first_part o n who) 0 (n * (n - 1)) k Spent l ∙ ap (first_part o n who) (let z : 0 + k ≡ k = omega arith in z)
+    there : (k : ℕ) → k < n * n → of_cell Spent k (first_process o n who).parts ≡ first_part o n who k
+    there k l = upto_get (first_part o n who) 0 (n * n) k Spent l ∙ ap (first_part o n who) (let z : 0 + k ≡ k = omega arith in z)
 
   plain_more : (parts : List (TripleSight T)) (k : ℕ) (w : TripleSight T) → k < length parts → IsPlain o n who k w →
       ((i : ℕ) → IsPlain o n who i (of_cell Spent i parts)) → (i : ℕ) → IsPlain o n who i (of_cell Spent i (set parts k w))
@@ -220,8 +221,8 @@ module _ {T : Type 0} (o : T) (n who : ℕ) where
       let k : ℕ = row_cell n who a in
       let y : ℕ × T = (slot_at k 0, o) in
       let u : Process (TripleSight T) = alters h.v k (ready_writer o) (held_slots (y ∷ me.1)) in
-      let low : row_cell n who a < n * (n - 1) = row_in n who a lw la in
-      let parts : length h.v.parts ≡ n * (n - 1) = h.long in
+      let low : row_cell n who a < n * n = row_in n who a lw la in
+      let parts : length h.v.parts ≡ n * n = h.long in
       let has : k < length h.v.parts = omega arith in
       let many : length me.1 ≡ a + 0 = h.many in
       subst (Taking o n who (a + 1) 0) (sym (turn ∙ (λ i. (took.0 i, turned (took.1 i))))) (record {
@@ -232,7 +233,7 @@ module _ {T : Type 0} (o : T) (n who : ℕ) where
         long = set_long h.v.parts k (ready_writer o) ∙ h.long;
         held = (y.0 ∷ [], held_slots me.1, refl, map-append (λ (x : ℕ × T). x.0) me.1 (y ∷ []));
         many = length-append me.1 (y ∷ []) ∙ (let z : length me.1 + 1 ≡ (a + 1) + 0 = omega arith in z);
-        plain = plain_more h.v.parts k (ready_writer o) has (refl, refl, λ nw. absurd (nw (div-mul-add who (n - 1) a la))) h.plain;
+        plain = plain_more h.v.parts k (ready_writer o) has (refl, refl, λ nw. absurd (nw (row_writer n who a lw la))) h.plain;
         row = taken_more (row_cell n who) (bare_writer o) (ready_writer o) 0 o (n - 1) a 0 h.v.parts me.1 (λ i j li lj e. row_once n who i j e) la
             (omega arith) has h.row;
         column = rebased (a + 1) (taken_else (column_cell n who) (bare_reader o) (ready_reader o) (ready_writer o) 2 o (n - 1) 0 a k h.v.parts me.1 y
@@ -250,8 +251,8 @@ module _ {T : Type 0} (o : T) (n who : ℕ) where
       let k : ℕ = column_cell n who a in
       let y : ℕ × T = (slot_at k 2, o) in
       let u : Process (TripleSight T) = alters h.v k (ready_reader o) (held_slots (y ∷ me.1)) in
-      let low : column_cell n who a < n * (n - 1) = column_in n who a lw la in
-      let parts : length h.v.parts ≡ n * (n - 1) = h.long in
+      let low : column_cell n who a < n * n = column_in n who a lw la in
+      let parts : length h.v.parts ≡ n * n = h.long in
       let has : k < length h.v.parts = omega arith in
       let many : length me.1 ≡ (n - 1) + a = h.many in
       subst (Taking o n who (n - 1) (a + 1)) (sym (turn ∙ (λ i. (took.0 i, turned (took.1 i))))) (record {
@@ -285,15 +286,17 @@ module _ {T : Type 0} (o : T) (n who : ℕ) where
       row = λ j lj ne. subst (λ z. IsRow o (place n z j) (of_cell Spent (place n z j) h.v.parts) me.1 (among z j) (get_or fills j 0)) (sym h.number)
           (let other : j ≢ who = λ e. ne (e ∙ sym h.number) in
           let d = h.row.done (among who j) (among_small n who j lw lj other) in
+          let same : row_cell n who (among who j) ≡ place n who j = ap (place n who) (other_among who j other) in
           record {
             notes = record (first_writer o) { has = 1 };
-            is = d.0;
+            is = ap (λ z. of_cell Spent z h.v.parts) (sym same) ∙ d.0;
             took = refl;
             opened = refl;
             low = omega arith;
             numbered = sym (puts j lj);
             record_there = o;
-            slot = ap (get_elem? me.1) (let z : among who j ≡ 0 + among who j = omega arith in z) ∙ d.1;
+            slot = ap (get_elem? me.1) (let z : among who j ≡ 0 + among who j = omega arith in z)
+                ∙ (d.1 ∙ ap (λ z. some (slot_at z 0, o)) same);
           });
       column = λ j lj ne. subst (λ z. IsColumn o (place n j z) (of_cell Spent (place n j z) h.v.parts) me.1 ((n - 1) + among z j) (get_or reads j 0))
           (sym h.number)

@@ -11,8 +11,8 @@ use Rattle.cell_triple.specs.Steps.{TripleSight, first_writer, first_reader, rec
 use Rattle.family_live.specs.Accesses.{Writes, Reads}
 use Rattle.family_four_slot.specs.declared.notes.Process.{Process}
 use Rattle.family_four_slot.specs.Family.{of_cell}
-use Rattle.family_four_slot.specs.Places.{among, place, writer_of}
-use Rattle.family_triple.specs.Places.{slot_at}
+use Rattle.family_four_slot.specs.Places.{place, writer_of}
+use Rattle.family_triple.specs.Places.{among, slot_at}
 use Rattle.family_triple.specs.Tables.{IsTurned}
 
 module _ {T : Type 0} where
@@ -63,7 +63,7 @@ module _ {T : Type 0} (o : T) where
   -- Of cells that it doesn't write it tells nothing
   pub record IsAtRest (n : ℕ) (v : Process (TripleSight T)) (fills reads : List ℕ) (slots : List (ℕ × T)) : Type 0 where
     pub inside : v.who < n
-    pub parts : length v.parts ≡ n * (n - 1)
+    pub parts : length v.parts ≡ n * n
     pub held : IsTurned v.held (held_slots slots)
     pub many : length slots ≡ 2 * (n - 1)
     pub sized : (length fills ≡ 16) × (length reads ≡ 16)

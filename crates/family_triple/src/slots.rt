@@ -5,9 +5,8 @@ ghost use Rattle.cell_triple.specs.declared.notes.ReaderNotes.{ReaderNotes};
 ghost use Rattle.cell_triple.specs.Steps.{TripleSight};
 ghost use Rattle.family_four_slot.specs.declared.notes.Process.{Process};
 ghost use Rattle.family_four_slot.specs.declared.notes.View.TheVariants.{Has};
-ghost use Rattle.family_four_slot.specs.Places.{among, other};
 ghost use Rattle.family_triple.specs.Access.{HasLooked, IsReady};
-ghost use Rattle.family_triple.specs.Places.{triples, slot_at};
+ghost use Rattle.family_triple.specs.Places.{among, other, triples, slot_at};
 ghost use Rattle.family_triple.specs.Tables.{HasReader};
 ghost use Rattle.family_triple.specs.Triples.{first_process};
 
@@ -59,7 +58,7 @@ pub(crate) fn take_slots<T: Lawful>(
     ensures ready { IsReady table.now.inner.shared.key.first n who seat.new.inner.me }
 {
     for at in 0..n - 1 {
-        table.take_put(seat, who * (n - 1) + at);
+        table.take_put(seat, place(n, who, other(who, at)));
         table.turn(seat);
     }
     for at in 0..n - 1 {

@@ -44,7 +44,7 @@ pub struct FamilySeat<T: Copy> {
 /// The word of a cell.
 #[inline]
 fn word_of(cell: usize) -> usize
-    requires { cell < 240 }
+    requires { cell < 256 }
     ensures { result ≡ 8 * cell + 8 }
 {
     8 * cell + 8
@@ -53,7 +53,7 @@ fn word_of(cell: usize) -> usize
 /// The place of a cell's slot.
 #[inline]
 pub(super) fn slot_place(cell: usize, slot: u64) -> usize
-    requires { (cell < 240) × (slot < 3) }
+    requires { (cell < 256) × (slot < 3) }
     ensures { result ≡ slot_at cell slot }
 {
     3 * cell + slot as usize
@@ -71,7 +71,7 @@ impl<T: Lawful> FamilyTable<T> {
         ensures key { IfOk result (λ r. r.0.inner.shared.key ≡ record { first = first; processes = processes }) }
         ensures seat { IfOk result (λ r. (r.1.inner.table_id ≡ r.0.inner.shared.table_id) × (r.1.inner.me ≡ (first_view first processes, []))) }
     {
-        let cells = processes * (processes - 1);
+        let cells = processes * processes;
         let mut words = Vec::new(alloc);
         words.resize(8 * cells + 8, 1).map_err(|_| AllocError)?;
         let mut slots = Vec::new(alloc);

@@ -21,12 +21,13 @@ take_put-requires-clause-bare g c =
     let who = c.args.who in
     let at = c.loop-at.at in
     let la : at < n - 1 = omega (arith, c.loop-at-test.true, c.loop-at.auto.at-end) in
-    let low : row_cell n who at < n * (n - 1) = row_in n who at c.requires.inside la in (
+    let low : row_cell n who at < n * n = row_in n who at c.requires.inside la in
+    let is : c.place.result ≡ row_cell n who at = c.place.ensures ∙ ap (place n who) c.other.ensures in (
       h.v,
       first_writer c.args.table.now.inner.shared.key.first,
       record {
-        process = record { one = h.one; has = subst (λ z. row_cell n who at < z) (sym h.long) low; held = h.held };
-        notes = h.row.still at (omega arith) la;
+        process = record { one = h.one; has = subst (λ (z : ℕ × ℕ). z.0 < z.1) (λ i. (sym is i, sym h.long i)) low; held = h.held };
+        notes = ap (λ z. of_cell Spent z h.v.parts) is ∙ h.row.still at (omega arith) la;
       },
       refl,
     )
@@ -39,7 +40,10 @@ loop-at-preserved g c =
     let who = c.args.who in
     let at = c.loop-at.at in
     let la : at < n - 1 = omega (arith, c.loop-at-test.true, c.loop-at.auto.at-end) in
-    let took = c.take_put.ensures.took (row_cell n who at) h.v (first_writer o) (word_is (row_cell n who at)) h.one (h.row.still at (omega arith) la) in (
+    let k : ℕ = row_cell n who at in
+    let is : c.place.result ≡ k = c.place.ensures ∙ ap (place n who) c.other.ensures in
+    let word : 8 * c.place.result + 8 ≡ word_at k 0 = ap (λ z. 8 * z + 8) is ∙ word_is k in
+    let took = c.take_put.ensures.took k h.v (first_writer o) word h.one (h.row.still at (omega arith) la) in (
       c.turn.ensures.own ∙ (c.take_put.ensures.own ∙ c.loop-at.invariant.0),
       took_row o n who at c.loop-at.seat.inner.me c.take_put.new.seat.inner.me c.turn.new.seat.inner.me c.requires.inside la h took
           c.turn.ensures.turned,
@@ -52,8 +56,8 @@ take_get-requires-clause-bare g c =
     let at = c.loop-at-2.at in
     let h = c.loop-at-2.invariant.1 in
     let la : at < n - 1 = omega (arith, c.loop-at-2-test.true, c.loop-at-2.auto.at-end) in
-    let low : column_cell n who at < n * (n - 1) = column_in n who at c.requires.inside la in
-    let is : c.place.result ≡ column_cell n who at = c.place.ensures ∙ ap (λ z. place n z who) c.other.ensures in (
+    let low : column_cell n who at < n * n = column_in n who at c.requires.inside la in
+    let is : c.place-in-loop-at-2.result ≡ column_cell n who at = c.place-in-loop-at-2.ensures ∙ ap (λ z. place n z who) c.other-in-loop-at-2.ensures in (
       h.v,
       first_reader c.args.table.now.inner.shared.key.first,
       record {
@@ -72,8 +76,8 @@ loop-at-2-preserved g c =
     let at = c.loop-at-2.at in
     let la : at < n - 1 = omega (arith, c.loop-at-2-test.true, c.loop-at-2.auto.at-end) in
     let k : ℕ = column_cell n who at in
-    let is : c.place.result ≡ k = c.place.ensures ∙ ap (λ z. place n z who) c.other.ensures in
-    let word : 8 * c.place.result + 8 ≡ word_at k 0 = ap (λ z. 8 * z + 8) is ∙ word_is k in
+    let is : c.place-in-loop-at-2.result ≡ k = c.place-in-loop-at-2.ensures ∙ ap (λ z. place n z who) c.other-in-loop-at-2.ensures in
+    let word : 8 * c.place-in-loop-at-2.result + 8 ≡ word_at k 0 = ap (λ z. 8 * z + 8) is ∙ word_is k in
     let took = c.take_get.ensures.took k h.v (first_reader o) word h.one (h.column.still at (omega arith) la) in (
       c.turn-in-loop-at-2.ensures.own ∙ (c.take_get.ensures.own ∙ c.loop-at-2.invariant.0),
       took_column o n who at c.loop-at-2.seat.inner.me c.take_get.new.seat.inner.me c.turn-in-loop-at-2.new.seat.inner.me c.requires.inside la h took

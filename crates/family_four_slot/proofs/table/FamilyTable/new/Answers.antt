@@ -11,11 +11,11 @@ new-requires g c =
     let o : g.row.T.Denot = c.args.first in
     let one : is_ok c.resize.result ≡ true = search rules in
     let two : is_ok c.resize-2.result ≡ true = search rules in
-    let words : c.as_slice.result.now ≡ replicate (16 * (n * (n - 1)) + 8) 0 =
-    c.as_slice.ensures.value ∙ filled _ (16 * (n * (n - 1)) + 8) (vec_len c.new-words.result) c.new-words.result.items c.resize.new.self.items 0 one (search rules)
+    let words : c.as_slice.result.now ≡ replicate (16 * (n * n) + 8) 0 =
+    c.as_slice.ensures.value ∙ filled _ (16 * (n * n) + 8) (vec_len c.new-words.result) c.new-words.result.items c.resize.new.self.items 0 one (search rules)
     (search rules) c.resize.ensures.items in
-    let slots : c.resize-2.new.self.items ≡ replicate (4 * (n * (n - 1))) o =
-    filled _ (4 * (n * (n - 1))) (vec_len c.new-slots.result) c.new-slots.result.items c.resize-2.new.self.items o two (search rules) (search rules)
+    let slots : c.resize-2.new.self.items ≡ replicate (4 * (n * n)) o =
+    filled _ (4 * (n * n)) (vec_len c.new-slots.result) c.new-slots.result.items c.resize-2.new.self.items o two (search rules) (search rules)
     c.resize-2.ensures.items in
     subst (λ (z : List ℕ × List g.row.T.Denot). FourSlotFamily g.T.Lawful.fits g.T.Lawful.rises o n
     (opening z.0 z.1 (first_view o n))) (λ i. (sym words i, sym slots i))

@@ -1,8 +1,7 @@
 -- The step that decides the read leaves the answer in the seat's first slot: one answer more, and each other cell as before.
 use Rattle.std.proofs.Common.{◌≡◌, ◌+◌, ◌*◌, ◌-◌, ◌<◌, ℕ, List, ◌∷◌, ◌++◌, set, length, sym, ap, ◌∙◌, refl, arith}
 use Rattle.cell_triple.specs.declared.notes.ReaderNotes.{ReaderNotes}
-use Rattle.family_four_slot.specs.Places.{among}
-use Rattle.family_triple.specs.Places.{slot_at}
+use Rattle.family_triple.specs.Places.{among, slot_at}
 use Rattle.family_triple.specs.Seated.{known_by}
 use Rattle.family_triple.specs.Tables.{HasReader}
 use Rattle.family_triple.proofs.Going.{column_at, column_inside, column_long, column_notes, column_slot, is_answer, has_read}
