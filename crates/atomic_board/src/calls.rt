@@ -99,15 +99,13 @@ impl<V: RecordLaw, F: Family<Posted<V>>> Board<V, F> {
         ensures lawful { IsTrue (V.obeys result.item) }
     {
         let own = pass.own;
-        let mut seen = own;
         column(
             &self.family,
             self.processes,
             pass.process,
             &mut pass.seat,
-            &mut seen,
+            &mut pass.own,
         );
-        pass.own = seen;
         row(
             &self.family,
             self.processes,
@@ -115,9 +113,9 @@ impl<V: RecordLaw, F: Family<Posted<V>>> Board<V, F> {
             &mut pass.seat,
             &self.first,
             &own,
-            &seen,
+            &pass.own,
         );
-        seen
+        pass.own
     }
 
     /// Gives the item the next stamp above what the own record and the others show, and hands it on. Where the greatest tag seen isn't
@@ -133,17 +131,15 @@ impl<V: RecordLaw, F: Family<Posted<V>>> Board<V, F> {
         ensures lawful { IfErr result (λ e. IsTrue (V.obeys e.seen.item)) }
     {
         let own = pass.own;
-        let mut chosen = own;
         column(
             &self.family,
             self.processes,
             pass.process,
             &mut pass.seat,
-            &mut chosen,
+            &mut pass.own,
         );
-        let next = chosen.stamp.next(self.limit, pass.process);
-        chosen.renew(next, item);
-        pass.own = chosen;
+        let next = pass.own.stamp.next(self.limit, pass.process);
+        pass.own.renew(next, item);
         row(
             &self.family,
             self.processes,
@@ -151,11 +147,11 @@ impl<V: RecordLaw, F: Family<Posted<V>>> Board<V, F> {
             &mut pass.seat,
             &self.first,
             &own,
-            &chosen,
+            &pass.own,
         );
         match next {
             Some(stamp) => Ok(stamp),
-            None => Err(TagsEnded { seen: chosen }),
+            None => Err(TagsEnded { seen: pass.own }),
         }
     }
 }

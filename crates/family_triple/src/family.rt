@@ -180,9 +180,9 @@ impl<T: Lawful> Family<T> for TripleFamily<T> {
         let before = others + among(seat.who, from);
         turn_by(table, &mut seat.seat, before);
         let slot = newest(table, &mut seat.seat, cell, seat.reads[from]);
+        seat.reads[from] = slot;
         let answer = table.lend(&mut seat.seat, slot_place(cell, slot), look);
         turn_by(table, &mut seat.seat, 2 * others - before);
-        seat.reads[from] = slot;
         answer
     }
 

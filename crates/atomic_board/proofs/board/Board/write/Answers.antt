@@ -14,7 +14,7 @@ chose_some : (g : _) (c : goal.In-Some g) →
     c.renew.new.self ≡ record { stamp = c.in-Some.stamp; item = c.args.item }
 chose_some g c = c.renew.ensures ∙ ap (λ n. or_item c.column.new.seen n c.args.item) c.in-Some.is
 
-chose_none : (g : _) (c : goal.In-None g) → c.renew.new.self ≡ c.column.new.seen
+chose_none : (g : _) (c : goal.After-result-1 g) → c.renew.new.self ≡ c.column.new.seen
 chose_none g c = c.renew.ensures ∙ ap (λ n. or_item c.column.new.seen n c.args.item) c.in-None.is
 
 below_next : (g : _) (c : goal.In-Some g) → IsBelow c.column.new.seen.stamp c.in-Some.stamp
