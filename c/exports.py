@@ -21,8 +21,9 @@ HEAD = """//! The exports: for each cell and size a make, a write, a read, a loo
 """
 
 TEXT = """//! {words} with records of {bytes} bytes.
-ghost use Rattle.cells_sides.specs.{specs}.{{IsMade, HasWritten, HasRead}};
-ghost use Rattle.cells_sides.specs.Handles.{{IsMake, IsWrite, IsRead, IsLook, IsEnd}};
+ghost use Rattle.sides.specs.{specs}.{{IsMade, HasWritten, HasRead}};
+ghost use Rattle.sides.specs.Handles.{{IsMake, IsWrite, IsRead, IsLook, IsEnd}};
+ghost use Rattle.cells_sides.specs.Held.{{held}};
 ghost use Rattle.cells_sides.specs.declared.side.Side.TheVariants.{{Of{size}}};
 ghost use Rattle.cells_sides.specs.declared.side.Party.TheVariants.{{{party}Writes, {party}Reads}};
 
@@ -37,14 +38,14 @@ pub extern "C" fn nidzaru_{prefix}{size}_make(
     reader: &mut Handle,
 ) -> u32
     ensures {{ IsMake (λ p. Of{size} ({party}Writes p)) (λ g. Of{size} ({party}Reads g)) IsMade
-        writer.old reader.old writer.new reader.new first.now result }}
+        (held writer.old) (held reader.old) (held writer.new) (held reader.new) first.now result }}
 {{
     {name}_make::<Record{size}>(alloc, first, writer, reader)
 }}
 
 #[unsafe(no_mangle)]
 pub extern "C" fn nidzaru_{prefix}{size}_write(alloc: Global, writer: &mut Handle, item: &Record{size}) -> u32
-    ensures {{ IsWrite (λ p. Of{size} ({party}Writes p)) (λ p. p.number) HasWritten writer.old writer.new item.now result }}
+    ensures {{ IsWrite (λ p. Of{size} ({party}Writes p)) (λ p. p.number) HasWritten (held writer.old) (held writer.new) item.now result }}
 {{
     {name}_write::<Record{size}>(alloc, writer, item)
 }}
@@ -56,7 +57,7 @@ pub extern "C" fn nidzaru_{prefix}{size}_read(
     item: &mut Record{size},
     number: &mut u64,
 ) -> u32
-    ensures {{ IsRead (λ g. Of{size} ({party}Reads g)) HasRead reader.old reader.new
+    ensures {{ IsRead (λ g. Of{size} ({party}Reads g)) HasRead (held reader.old) (held reader.new)
         item.old item.new number.old number.new result }}
 {{
     {name}_read::<Record{size}>(alloc, reader, item, number)
@@ -64,21 +65,21 @@ pub extern "C" fn nidzaru_{prefix}{size}_read(
 
 #[unsafe(no_mangle)]
 pub extern "C" fn nidzaru_{prefix}{size}_look(alloc: Global, reader: &mut Handle, number: &mut u64) -> u32
-    ensures {{ IsLook (λ g. Of{size} ({party}Reads g)) HasRead reader.old reader.new number.old number.new result }}
+    ensures {{ IsLook (λ g. Of{size} ({party}Reads g)) HasRead (held reader.old) (held reader.new) number.old number.new result }}
 {{
     {name}_look::<Record{size}>(alloc, reader, number)
 }}
 
 #[unsafe(no_mangle)]
 pub extern "C" fn nidzaru_{prefix}{size}_end_writer(alloc: Global, writer: &mut Handle) -> u32
-    ensures {{ IsEnd (λ p. Of{size} ({party}Writes p)) writer.old writer.new result }}
+    ensures {{ IsEnd (λ p. Of{size} ({party}Writes p)) (held writer.old) (held writer.new) result }}
 {{
     {name}_end_writer::<Record{size}>(alloc, writer)
 }}
 
 #[unsafe(no_mangle)]
 pub extern "C" fn nidzaru_{prefix}{size}_end_reader(alloc: Global, reader: &mut Handle) -> u32
-    ensures {{ IsEnd (λ g. Of{size} ({party}Reads g)) reader.old reader.new result }}
+    ensures {{ IsEnd (λ g. Of{size} ({party}Reads g)) (held reader.old) (held reader.new) result }}
 {{
     {name}_end_reader::<Record{size}>(alloc, reader)
 }}

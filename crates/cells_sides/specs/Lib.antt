@@ -1,5 +1,2 @@
-pub mod Numbers
 pub mod Loosely
-pub mod FourSlotCalls
-pub mod TripleCalls
-pub mod Handles
+pub mod Held

@@ -1,37 +1,70 @@
-//! The two sides of a four-slot cell, each with a share of the cell and its pass.
-ghost use Rattle.std.specs.Prelude.{◌≡◌};
-ghost use Rattle.std.specs.Arc.{arc_value};
-ghost use Rattle.cell_live.specs.Running.{last_or};
-ghost use Rattle.cell_four_slot.specs.Words.{opening_of, is_put_of, is_get_of, written_by};
+//! The calls of C on a four-slot cell, over any size.
+ghost use Rattle.sides.specs.FourSlotCalls.{IsMade, HasWritten, HasRead};
+ghost use Rattle.sides.specs.Handles.{IsMake, IsWrite, IsRead, IsLook, IsEnd};
+ghost use Rattle.cells_sides.specs.Held.{held};
+ghost use Rattle.cells_sides.specs.declared.side.Party.TheVariants.{Writes, Reads};
 
-use crate::record::Numbered;
-use cell_four_slot::{FourSlotCell, FourSlotGet, FourSlotPut};
+use crate::handle::Handle;
+use crate::loose::Loose;
+use crate::pick::Record;
+use crate::side::Side;
+use sides::{FourSlotReader, FourSlotWriter, end, look, make, read, write};
 use std::alloc::Global;
-use std::sync::Arc;
 
-mod calls;
-mod exported;
-
-pub use exported::{
-    four_slot_end_reader, four_slot_end_writer, four_slot_look, four_slot_make, four_slot_read,
-    four_slot_write,
-};
-
-/// The writing side.
-#[derive(Drop)]
-pub struct FourSlotWriter<W: Copy> {
-    pub cell: Arc<FourSlotCell<Numbered<W>>, Global>,
-    pub put: FourSlotPut<Numbered<W>>,
-    /// The number of the last record.
-    pub number: u64,
-    ghost own: { is_put_of (arc_value cell) put },
-    ghost last: { (last_or (opening_of (arc_value cell)) (written_by put)).number ≡ number },
+/// Puts both sides of a new cell into the handles.
+#[inline]
+pub fn four_slot_make<W: Record>(
+    alloc: Global,
+    first: &W,
+    writer: &mut Handle,
+    reader: &mut Handle,
+) -> u32
+    ensures { IsMake (λ p. W.side (Writes p)) (λ g. W.side (Reads g)) IsMade
+        (held writer.old) (held reader.old) (held writer.new) (held reader.new) first.now result }
+{
+    make::<Side, Handle, W, FourSlotWriter<W>, FourSlotReader<W>>(alloc, first, writer, reader)
 }
 
-/// The reading side.
-#[derive(Drop)]
-pub struct FourSlotReader<W: Copy> {
-    pub cell: Arc<FourSlotCell<Numbered<W>>, Global>,
-    pub get: FourSlotGet<Numbered<W>>,
-    ghost own: { is_get_of (arc_value cell) get },
+/// Writes the record.
+#[inline]
+pub fn four_slot_write<W: Record>(alloc: Global, writer: &mut Handle, item: &W) -> u32
+    ensures { IsWrite (λ p. W.side (Writes p)) (λ p. p.number) HasWritten (held writer.old) (held writer.new) item.now result }
+{
+    write::<Side, Loose, W, FourSlotWriter<W>>(alloc, writer.live, &mut writer.loose, item)
+}
+
+/// Reads a record and its number.
+#[inline]
+pub fn four_slot_read<W: Record>(
+    alloc: Global,
+    reader: &mut Handle,
+    item: &mut W,
+    number: &mut u64,
+) -> u32
+    ensures { IsRead (λ g. W.side (Reads g)) HasRead (held reader.old) (held reader.new)
+        item.old item.new number.old number.new result }
+{
+    read::<Side, Loose, W, FourSlotReader<W>>(alloc, reader.live, &mut reader.loose, item, number)
+}
+
+/// Looks which number the newest record has.
+#[inline]
+pub fn four_slot_look<W: Record>(alloc: Global, reader: &mut Handle, number: &mut u64) -> u32
+    ensures { IsLook (λ g. W.side (Reads g)) HasRead (held reader.old) (held reader.new) number.old number.new result }
+{
+    look::<Side, Loose, W, FourSlotReader<W>>(alloc, reader.live, &mut reader.loose, number)
+}
+
+/// Ends the writing side.
+pub fn four_slot_end_writer<W: Record>(alloc: Global, writer: &mut Handle) -> u32
+    ensures { IsEnd (λ p. W.side (Writes p)) (held writer.old) (held writer.new) result }
+{
+    end::<Side, Handle, FourSlotWriter<W>>(alloc, writer)
+}
+
+/// Ends the reading side.
+pub fn four_slot_end_reader<W: Record>(alloc: Global, reader: &mut Handle) -> u32
+    ensures { IsEnd (λ g. W.side (Reads g)) (held reader.old) (held reader.new) result }
+{
+    end::<Side, Handle, FourSlotReader<W>>(alloc, reader)
 }

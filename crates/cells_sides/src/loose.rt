@@ -5,6 +5,7 @@ ghost use Rattle.cells_sides.specs.Loosely.{side_coded, loosely};
 
 use crate::parts::Parts;
 use crate::side::Side;
+use sides::Holds;
 use std::alloc::Global;
 use std::marker::Model;
 
@@ -48,24 +49,6 @@ impl Loose {
         }
     }
 
-    /// Takes the box out.
-    #[inline]
-    pub fn take(&mut self, alloc: Global) -> Box<Side>
-        requires { self.old.full ≡ true }
-        ensures { (self.new.full ≡ false) × (result.value ≡ self.old.side) }
-    {
-        std::mem::replace(self, Loose::empty()).into_box(alloc)
-    }
-
-    /// Puts a box where nothing is.
-    #[inline]
-    pub fn put(&mut self, side: Box<Side>)
-        requires { self.old.full ≡ false }
-        ensures { (self.new.full ≡ true) × (self.new.side ≡ side.value) }
-    {
-        std::mem::replace(self, Loose::of(side)).end();
-    }
-
     /// The box, without its type.
     fn of(side: Box<Side>) -> Loose
         ensures { (result.full ≡ true) × (result.side ≡ side.value) }
@@ -86,6 +69,25 @@ impl Loose {
         requires { self.full ≡ false }
     {
         let Loose { at: _ } = self;
+    }
+}
+
+impl Holds<Side> for Loose {
+    ghost full = { λ l. l.full };
+
+    ghost side = { λ l. l.side };
+
+    #[inline]
+    fn take(&mut self, alloc: Global) -> Box<Side> {
+        std::mem::replace(self, Loose::empty()).into_box(alloc)
+    }
+
+    #[inline]
+    fn put(&mut self, boxed: Box<Side>)
+        requires { self.old.full ≡ false }
+        ensures { (self.new.full ≡ true) × (self.new.side ≡ boxed.value) }
+    {
+        std::mem::replace(self, Loose::of(boxed)).end();
     }
 }
 

@@ -9,10 +9,9 @@ ghost use Rattle.cells_sides.specs.declared.side.Party.TheVariants.{Writes, Read
 ghost use Rattle.cells_sides.specs.contracts.side.Side as sides;
 ghost use Rattle.cells_sides.specs.contracts.side.Party as parties;
 
-use crate::four_slot::{FourSlotReader, FourSlotWriter};
 use crate::record::{Record8, Record24, Record64, Record128, Record256, Record1024, Record4096};
 use crate::side::{Party, Side};
-use crate::triple::{TripleReader, TripleWriter};
+use sides::{FourSlotReader, FourSlotWriter, Offers, TripleReader, TripleWriter};
 
 /// A record of one of the sizes.
 pub trait Record: Copy {
@@ -262,5 +261,53 @@ pub fn pick<'a, W: Record + 'a, S: Role<W> + 'a>(among: &'a mut Side) -> Option<
     match W::party(among) {
         None => None,
         Some(party) => S::of(party),
+    }
+}
+
+impl<W: Record> Offers<FourSlotWriter<W>> for Side {
+    ghost side = { λ s. W.side (Writes s) };
+
+    fn of(&mut self) -> Option<&mut FourSlotWriter<W>> {
+        pick::<W, FourSlotWriter<W>>(self)
+    }
+
+    fn whole(variant: FourSlotWriter<W>) -> Side {
+        W::into_side(Party::Writes(variant))
+    }
+}
+
+impl<W: Record> Offers<FourSlotReader<W>> for Side {
+    ghost side = { λ s. W.side (Reads s) };
+
+    fn of(&mut self) -> Option<&mut FourSlotReader<W>> {
+        pick::<W, FourSlotReader<W>>(self)
+    }
+
+    fn whole(variant: FourSlotReader<W>) -> Side {
+        W::into_side(Party::Reads(variant))
+    }
+}
+
+impl<W: Record> Offers<TripleWriter<W>> for Side {
+    ghost side = { λ s. W.side (TripleWrites s) };
+
+    fn of(&mut self) -> Option<&mut TripleWriter<W>> {
+        pick::<W, TripleWriter<W>>(self)
+    }
+
+    fn whole(variant: TripleWriter<W>) -> Side {
+        W::into_side(Party::TripleWrites(variant))
+    }
+}
+
+impl<W: Record> Offers<TripleReader<W>> for Side {
+    ghost side = { λ s. W.side (TripleReads s) };
+
+    fn of(&mut self) -> Option<&mut TripleReader<W>> {
+        pick::<W, TripleReader<W>>(self)
+    }
+
+    fn whole(variant: TripleReader<W>) -> Side {
+        W::into_side(Party::TripleReads(variant))
     }
 }

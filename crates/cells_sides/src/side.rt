@@ -1,8 +1,7 @@
 //! What a handle can have.
 
-use crate::four_slot::{FourSlotReader, FourSlotWriter};
 use crate::record::{Record8, Record24, Record64, Record128, Record256, Record1024, Record4096};
-use crate::triple::{TripleReader, TripleWriter};
+use sides::{FourSlotReader, FourSlotWriter, TripleReader, TripleWriter};
 
 /// One side of a cell whose records have this type.
 #[derive(Drop)]

@@ -1,6 +1,7 @@
 //! A four-slot cell with records of 24 bytes.
-ghost use Rattle.cells_sides.specs.FourSlotCalls.{IsMade, HasWritten, HasRead};
-ghost use Rattle.cells_sides.specs.Handles.{IsMake, IsWrite, IsRead, IsLook, IsEnd};
+ghost use Rattle.sides.specs.FourSlotCalls.{IsMade, HasWritten, HasRead};
+ghost use Rattle.sides.specs.Handles.{IsMake, IsWrite, IsRead, IsLook, IsEnd};
+ghost use Rattle.cells_sides.specs.Held.{held};
 ghost use Rattle.cells_sides.specs.declared.side.Side.TheVariants.{Of24};
 ghost use Rattle.cells_sides.specs.declared.side.Party.TheVariants.{Writes, Reads};
 
@@ -18,14 +19,14 @@ pub extern "C" fn nidzaru_24_make(
     reader: &mut Handle,
 ) -> u32
     ensures { IsMake (λ p. Of24 (Writes p)) (λ g. Of24 (Reads g)) IsMade
-        writer.old reader.old writer.new reader.new first.now result }
+        (held writer.old) (held reader.old) (held writer.new) (held reader.new) first.now result }
 {
     four_slot_make::<Record24>(alloc, first, writer, reader)
 }
 
 #[unsafe(no_mangle)]
 pub extern "C" fn nidzaru_24_write(alloc: Global, writer: &mut Handle, item: &Record24) -> u32
-    ensures { IsWrite (λ p. Of24 (Writes p)) (λ p. p.number) HasWritten writer.old writer.new item.now result }
+    ensures { IsWrite (λ p. Of24 (Writes p)) (λ p. p.number) HasWritten (held writer.old) (held writer.new) item.now result }
 {
     four_slot_write::<Record24>(alloc, writer, item)
 }
@@ -37,7 +38,7 @@ pub extern "C" fn nidzaru_24_read(
     item: &mut Record24,
     number: &mut u64,
 ) -> u32
-    ensures { IsRead (λ g. Of24 (Reads g)) HasRead reader.old reader.new
+    ensures { IsRead (λ g. Of24 (Reads g)) HasRead (held reader.old) (held reader.new)
         item.old item.new number.old number.new result }
 {
     four_slot_read::<Record24>(alloc, reader, item, number)
@@ -45,21 +46,21 @@ pub extern "C" fn nidzaru_24_read(
 
 #[unsafe(no_mangle)]
 pub extern "C" fn nidzaru_24_look(alloc: Global, reader: &mut Handle, number: &mut u64) -> u32
-    ensures { IsLook (λ g. Of24 (Reads g)) HasRead reader.old reader.new number.old number.new result }
+    ensures { IsLook (λ g. Of24 (Reads g)) HasRead (held reader.old) (held reader.new) number.old number.new result }
 {
     four_slot_look::<Record24>(alloc, reader, number)
 }
 
 #[unsafe(no_mangle)]
 pub extern "C" fn nidzaru_24_end_writer(alloc: Global, writer: &mut Handle) -> u32
-    ensures { IsEnd (λ p. Of24 (Writes p)) writer.old writer.new result }
+    ensures { IsEnd (λ p. Of24 (Writes p)) (held writer.old) (held writer.new) result }
 {
     four_slot_end_writer::<Record24>(alloc, writer)
 }
 
 #[unsafe(no_mangle)]
 pub extern "C" fn nidzaru_24_end_reader(alloc: Global, reader: &mut Handle) -> u32
-    ensures { IsEnd (λ g. Of24 (Reads g)) reader.old reader.new result }
+    ensures { IsEnd (λ g. Of24 (Reads g)) (held reader.old) (held reader.new) result }
 {
     four_slot_end_reader::<Record24>(alloc, reader)
 }

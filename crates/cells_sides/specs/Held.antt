@@ -1,0 +1,7 @@
+-- What a handle has (this project's definitions).
+use Rattle.sides.specs.Handles.{Holding}
+use Rattle.cells_sides.specs.declared.handle.Handle.{Handle}
+use Rattle.cells_sides.specs.declared.side.Side.{Side}
+
+abbrev pub held : Handle → Holding Side
+held h = record { live = h.live; side = h.loose.side }

@@ -1,0 +1,4 @@
+pub mod Numbers
+pub mod FourSlotCalls
+pub mod TripleCalls
+pub mod Handles

@@ -1,0 +1,22 @@
+//! The two sides of a cell, and the calls that C makes on them through handles, over any record, cell, side and handle.
+//!
+//! A handle has a box of one side, or nothing, so a call that is handed an empty handle, or another side, answers by a status. What
+//! a handle is, and which sides it can have, is for the crate above to say. Records are numbered: the opening is number 0, and each
+//! write has the next number.
+#![tactic(auto)]
+
+mod calls;
+mod four_slot;
+mod hands;
+mod numbered;
+mod roles;
+mod status;
+mod triple;
+
+pub use calls::{end, look, make, read, write};
+pub use four_slot::{FourSlotReader, FourSlotWriter};
+pub use hands::{Hand, Holds, Offers};
+pub use numbered::Numbered;
+pub use roles::{Opens, Reading, Writing};
+pub use status::{DONE, ENDED, IN_USE, LIMIT, NO_MEMORY, OLDER, OTHER_SIDE, PROCESSES, WORN_OUT};
+pub use triple::{TripleReader, TripleWriter};
