@@ -39,9 +39,6 @@ module _ {V F S T : Type 0} where
     pub of : all ≡ left ++ done
     pub are : ArePasses n first (length left) done (reverse made)
 
-  pub nothing_dealt : (n : ℕ) (first : Posted V) (all : List S) → DealtFrom n first all all []
-  nothing_dealt n first all = record { done = []; of = sym (append-nil all); are = tt }
-
   pub dealt_more : (n : ℕ) (first : Posted V) (all before left : List S) (made : List (Pass V F S T)) (process : ℕ) (seat : S)
       (room : Vec S Global) → DealtFrom n first all before made → before ≡ left ++ seat ∷ [] → process ≡ length left →
       IsRoom n process room → DealtFrom n first all left (made ++ pass_of first process seat room ∷ [])

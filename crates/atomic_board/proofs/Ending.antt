@@ -15,28 +15,6 @@ use Rattle.atomic_board.specs.inner.Room.{HaveRoom}
 use Rattle.atomic_board.specs.Records.{greater, stamped}
 use Rattle.atomic_board.proofs.Records.{either_greater, stamped_greater}
 
--- a list of what was made so far from the last elements, last first
-pub record MappedFrom {A B : Type 0} (f : A → B) (whole left : List A) (made : List B) : Type 0 where
-  pub done : List A
-  pub of : whole ≡ left ++ done
-  pub are : reverse made ≡ map f done
-
-pub mapped_none : {A B : Type 0} (f : A → B) (whole : List A) → MappedFrom f whole whole []
-mapped_none f whole = record { done = []; of = sym (append-nil whole); are = refl }
-
-pub mapped_more : {A B : Type 0} (f : A → B) (whole before left : List A) (made : List B) (x : A) → MappedFrom f whole before made
-    → before ≡ left ++ x ∷ [] → MappedFrom f whole left (made ++ f x ∷ [])
-mapped_more f whole before left made x h e = record {
-  done = x ∷ h.done;
-  of = h.of ∙ ap (λ z. z ++ h.done) e ∙ append_assoc left (x ∷ []) h.done;
-  are = reverse-append made (f x ∷ []) ∙ ap (λ z. f x ∷ z) h.are;
-}
-
-pub mapped_all : {A B : Type 0} (f : A → B) (whole left : List A) (made : List B) → MappedFrom f whole left made → length left ≡ 0
-    → reverse made ≡ map f whole
-mapped_all f whole [] made h e = h.are ∙ ap (map f) (sym h.of)
-mapped_all f whole (x ∷ xs) made h e = absurd (omega (arith, e))
-
 module _ {V F S T : Type 0} where
   -- the last pass has the room
   pub room_of_last : (passes left : List (Pass V F S T)) (last : Pass V F S T) → passes ≡ left ++ last ∷ [] → HaveRoom passes →

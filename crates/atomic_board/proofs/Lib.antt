@@ -2,6 +2,7 @@ mod Records
 mod Accessing
 mod Calling
 mod Ending
+pub mod Mapping
 mod Whole
 mod Dealing
 mod Same

@@ -99,6 +99,7 @@ module _ {V F S T : Type 0} (words : FamilyWords F (Posted V) S T) (obeys : V â†
               there.1 there.3 there.2 there.4;
           holds = history_last words.width board.processes board.limit board.first.item scheduled.0 (did_by words passes calls) run there.0
               there.1 there.3 there.2 (stamped last) there.4 own;
+          greatest = own;
           steps = scheduled.0;
           run = run;
         }

@@ -11,11 +11,12 @@ use Rattle.stamps.specs.Stamps.{IsBelow}
 use Rattle.matrix_core.specs.Listings.{IsInOrder}
 use Rattle.matrix_core.specs.Lines.{first_record}
 use Rattle.board_history.specs.BoardRuns.{Called, Did, IsBoardRun}
-use Rattle.board_history.specs.Histories.{IsHistory}
+use Rattle.board_history.specs.Histories.{IsGreatestOwn, IsHistory}
 use Rattle.atomic_board.specs.declared.board.Board.{Board}
 use Rattle.atomic_board.specs.declared.board.Pass.{Pass}
 use Rattle.atomic_board.specs.declared.record.Posted.{Posted}
 use Rattle.atomic_board.specs.Passes.{did_of, HasMade, IsPass}
+use Rattle.atomic_board.specs.Records.{stamped}
 
 module _ {V F S T : Type 0} where
   -- the greatest of the records that the processes chose last, of equal stamps that of the smaller process
@@ -48,8 +49,8 @@ module _ {V F S T : Type 0} (words : FamilyWords F (Posted V) S T) where
   did_by passes calls i = did_at (slice_get passes i) (calls i)
 
   -- *An atomic run*: the calls are the operations of a history, each once, with their intervals, and there is an order of them by stamp
-  -- that is atomic by these intervals and refuses lawfully; after it the register holds this record. This comes of one schedule of all
-  -- steps, by which each register between two processes is atomic
+  -- that is atomic by these intervals and refuses lawfully; after it the register holds this record, the greatest that a process has. This
+  -- comes of one schedule of all steps, by which each register between two processes is atomic
   pub record IsAtomicRun (board : Board V F S T) (did : ℕ → Did V) (last : Posted V) : Type 0 where
     pub ops : List (Op V)
     pub stamps : List (Option Stamp)
@@ -59,6 +60,7 @@ module _ {V F S T : Type 0} (words : FamilyWords F (Posted V) S T) where
     pub atomic : IsAtomicOrder (λ x y. x ≡ y) board.first.item ops order
     pub lawful : RefusesLawfully (record { first = 0; limit = board.limit } ∷ []) ops order
     pub holds : latest board.first.item ops order ≡ Some last.item
+    pub greatest : IsGreatestOwn board.processes (first_record board.first.item) did (stamped last)
     pub steps : List ℕ
     pub run : IsBoardRun words.width board.processes board.limit (first_record board.first.item) steps did
 

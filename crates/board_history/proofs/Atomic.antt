@@ -12,7 +12,8 @@ use Rattle.fourslot_core.specs.Accesses.{IsBefore}
 use Rattle.fourslot_core.specs.Traces.{source_record}
 use Rattle.stamps.specs.declared.stamp.Stamp.{Stamp}
 use Rattle.stamps.specs.declared.stamp.Stamped.{Stamped}
-use Rattle.matrix_core.specs.CellAnswers.{greatest, Intervals, IsReadOf}
+use Rattle.matrix_core.specs.CellAnswers.{greatest}
+use Rattle.fourslot_core.specs.ReadNumbers.{Intervals, IsReadOf}
 use Rattle.matrix_core.specs.ByAccesses.{choice_at, ChoosesBy, chooses_at, column, intervals_at, IsChosenBy, row}
 use Rattle.stamps.specs.Choices.{Choice, ChoosesByKind, HasChoices}
 use Rattle.matrix_core.specs.Lines.{first_record, other}

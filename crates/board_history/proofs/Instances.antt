@@ -8,7 +8,7 @@ use Rattle.stamps.specs.Choices.{ChoosesByKind}
 use Rattle.stamps.specs.Stamps.{greater}
 use Rattle.history_core.specs.declared.history.Kind.TheVariants.{Write, Read}
 use Rattle.history_core.specs.Schedules.{positions}
-use Rattle.matrix_core.specs.CellAnswers.{IsReadOf}
+use Rattle.fourslot_core.specs.ReadNumbers.{IsReadOf}
 use Rattle.board_history.specs.BoardRuns.{AreAccesses, Called, IsBoardRun, IsProcess, IsRegister, Sees}
 use Rattle.board_history.specs.Instances.{one_call, reads_opening, reads_seven, seven, two_processes, zero_first}
 

@@ -34,11 +34,11 @@ chosen_at_least limit c Write seen item h = inr (subst (λ z. IsBelow seen z) (s
 chosen_at_least limit c Read seen item h = inl (sym h.0)
 chosen_at_least limit c Refused seen item h = inl (sym h.1)
 
-own_zero : {V : Type 0} (own : Stamped V) (calls : List (Called V)) → own_before own calls zero ≡ own
+pub own_zero : {V : Type 0} (own : Stamped V) (calls : List (Called V)) → own_before own calls zero ≡ own
 own_zero own [] = refl
 own_zero own (x ∷ calls) = refl
 
-own_next : {V : Type 0} (first : Stamped V) (calls : List (Called V)) (k : ℕ) (c : Called V) → slice_get calls k ≡ Some c →
+pub own_next : {V : Type 0} (first : Stamped V) (calls : List (Called V)) (k : ℕ) (c : Called V) → slice_get calls k ≡ Some c →
     own_before first calls (suc k) ≡ c.chosen
 own_next first [] k c e = cc
 own_next first (d ∷ calls) zero c e = own_zero d.chosen calls ∙ ap (λ z. z.chosen) (same_Some d c e)
@@ -69,7 +69,7 @@ module _ {V : Type 0} (width n limit : ℕ) (opening : V) (steps : List ℕ) (di
       (at_most_trans (own_before first (did i).calls (j + more)).stamp c.0.seen.stamp c.0.chosen.stamp up on))
 
   -- what a call chose isn't above what its process has after its calls
-  chosen_below : (i k : ℕ) (c : Called V) → i < n → slice_get (did i).calls k ≡ Some c →
+  pub chosen_below : (i k : ℕ) (c : Called V) → i < n → slice_get (did i).calls k ≡ Some c →
       IsAtMost c.chosen.stamp (own_after (first_record opening) (did i)).stamp
   chosen_below i k c l e =
       let first : Stamped V = first_record opening in

@@ -1,3 +1,4 @@
+pub mod Members
 mod Plans
 mod Sorts
 mod Calls
@@ -6,4 +7,5 @@ pub mod There
 pub mod Last
 pub mod Later
 pub mod Growing
+pub mod Registers
 mod Instances

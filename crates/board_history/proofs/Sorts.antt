@@ -3,7 +3,7 @@ use Rattle.std.proofs.Common.{◌≡◌, ℕ, zero, suc, ◌<◌, List, [], ◌�
 use Rattle.std.proofs.Common.{◌⊎◌, inl, inr, ⊎_elim}
 use Rattle.std.proofs.lemmas.Option.{none-some, same_Some}
 use Rattle.stamps.specs.Choices.{IsIn}
-use Rattle.stamps.proofs.lists.Sorting.{in_here}
+use Rattle.board_history.proofs.Members.{in_here}
 
 -- where an element stands
 pub stands_at : {X : Type 0} (x : X) (xs : List X) → IsIn x xs → (i : ℕ) × (slice_get xs i ≡ Some x)

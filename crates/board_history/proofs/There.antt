@@ -19,7 +19,7 @@ use Rattle.matrix_core.specs.Lines.{first_record}
 use Rattle.matrix_core.specs.Listings.{IsInOrder, is_listed, MayPrecede}
 use Rattle.stamps.specs.Stamps.{first_stamp, IsBelow}
 use Rattle.stamps.proofs.choices.Stamps.{below_itself, below_trans, stamp_same}
-use Rattle.stamps.proofs.lists.Sorting.{append_left, append_right, in_append, in_here}
+use Rattle.board_history.proofs.Members.{append_left, append_right, in_append, in_here}
 use Rattle.matrix_core.proofs.orders.Listing.{get_map_back}
 use Rattle.board_history.specs.BoardRuns.{Called, Did, IsBoardRun, steps_of_call}
 use Rattle.board_history.specs.Histories.{IsCall, IsHistory}

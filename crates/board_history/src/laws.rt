@@ -14,6 +14,7 @@ ghost use Rattle.board_history.specs.Accesses.{HasDoneNothing, MakesCall};
 ghost use Rattle.board_history.specs.BoardRuns.{Called, Did, IsBoardRun, IsProcess};
 ghost use Rattle.board_history.specs.Instances.{reads_opening, reads_seven, two_processes, zero_first};
 ghost use Rattle.board_history.specs.Histories.{ChoseFrom, IsGreatestOwn, IsHistory};
+ghost use Rattle.board_history.specs.OneRegister.{IsOneOrder, Named};
 
 /// Every run of a board whose processes make their steps in one time is a history, the order of its calls by stamp is atomic by their
 /// intervals, and it refuses lawfully. After it the register holds the greatest record that any process has.
@@ -45,6 +46,14 @@ pub fn calls_heed<V>()
     ensures agree { (width n limit : ℕ) (opening : V) (steps : List ℕ) (did : ℕ → Did V) (i j k m : ℕ) (c d : Called V) →
         IsBoardRun width n limit (first_record opening) steps did → i < n → j < n → slice_get (did i).calls k ≡ Some c →
         slice_get (did j).calls m ≡ Some d → c.chosen.stamp ≡ d.chosen.stamp → c.chosen ≡ d.chosen }
+{}
+
+/// All calls of a run have one order, which has those of each process in their order and keeps their intervals, and are those of one
+/// register that holds records with their stamps: a read has the very record that is there, and each write raises the stamp.
+pub fn calls_are_of_one_register<V>()
+    ensures { (width n limit : ℕ) (opening : V) (steps : List ℕ) (did : ℕ → Did V) (last : Stamped V) →
+        IsBoardRun width n limit (first_record opening) steps did → IsGreatestOwn n (first_record opening) did last →
+        (order : List (Named V)) × IsOneOrder n limit (first_record opening) did last order }
 {}
 
 /// What the definitions say of two processes: an answer that was written is a run's, and an answer that is older than a write that had

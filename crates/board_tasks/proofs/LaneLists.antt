@@ -1,5 +1,5 @@
 -- Lists of lanes and of passes, made from their ends: the last is made first, so what was made is turned round.
-use Rattle.std.proofs.Common.{◌≡◌, Bool, ℕ, zero, suc, ◌+◌, ◌<◌, ◌≤◌, ◌^◌, List, [], ◌∷◌, ◌++◌, length, length-append, append_assoc, map, reverse}
+use Rattle.std.proofs.Common.{◌≡◌, Bool, ℕ, zero, suc, ◌+◌, ◌<◌, ◌≤◌, ◌^◌, List, [], ◌∷◌, ◌++◌, length, length-append, append_assoc, append-nil, reverse}
 use Rattle.std.proofs.Common.{refl, sym, ◌∙◌, ap, subst, arith}
 use Rattle.std.specs.Prelude.{slice_get, Some, slice_index_or, All}
 use Rattle.std.proofs.lemmas.Option.{same_Some, none-some}
@@ -16,36 +16,10 @@ use Rattle.matrix_core.proofs.lists.Elements.{get_exists}
 use Rattle.board_tasks.specs.Jobs.{AllReady}
 use Rattle.board_tasks.specs.Lanes.{AreLanes, IsLane, IsNewLane}
 
-append_nothing : {A : Type 0} (xs : List A) → xs ≡ xs ++ []
-append_nothing [] = refl
-append_nothing (x ∷ xs) = ap (λ z. x ∷ z) (append_nothing xs)
-
 -- what holds of the elements of a list holds of one that stands before others
 pub all_at : {A : Type 0} (P : A → Type 0) (all xs : List A) (x : A) (ys : List A) → all ≡ (xs ++ x ∷ []) ++ ys → All P all → P x
 all_at P all [] x ys e h = subst (λ z. P (slice_index_or z 0 x)) e (h 0 x (rw e (omega arith)))
 all_at P all (y ∷ xs) x ys e h = all_at P ((xs ++ x ∷ []) ++ ys) xs x ys refl (λ k d l. (subst (All P) e h) (suc k) d (omega arith))
-
--- a list of what was made so far from the last elements, last first
-pub record MappedFrom {A B : Type 0} (f : A → B) (whole left : List A) (made : List B) : Type 0 where
-  pub done : List A
-  pub of : whole ≡ left ++ done
-  pub are : reverse made ≡ map f done
-
-pub mapped_none : {A B : Type 0} (f : A → B) (whole : List A) → MappedFrom f whole whole []
-mapped_none f whole = record { done = []; of = append_nothing whole; are = refl }
-
-pub mapped_more : {A B : Type 0} (f : A → B) (whole before left : List A) (made : List B) (x : A) → MappedFrom f whole before made
-    → before ≡ left ++ x ∷ [] → MappedFrom f whole left (made ++ f x ∷ [])
-mapped_more f whole before left made x h e = record {
-  done = x ∷ h.done;
-  of = h.of ∙ ap (λ z. z ++ h.done) e ∙ append_assoc left (x ∷ []) h.done;
-  are = reverse-append made (f x ∷ []) ∙ ap (λ z. f x ∷ z) h.are;
-}
-
-pub mapped_all : {A B : Type 0} (f : A → B) (whole left : List A) (made : List B) → MappedFrom f whole left made → length left ≡ 0
-    → reverse made ≡ map f whole
-mapped_all f whole [] made h e = h.are ∙ ap (map f) (sym h.of)
-mapped_all f whole (x ∷ xs) made h e = absurd (omega (arith, e))
 
 module _ {V F S T : Type 0} (family : FamilyWords F (Posted V) S T) (obeys : V → Bool) where
   -- the lanes of the last passes were made
@@ -62,7 +36,7 @@ module _ {V F S T : Type 0} (family : FamilyWords F (Posted V) S T) (obeys : V �
   pub lanes_none : (passes : List (Pass V F S T)) (scripts : List (List (Wish V))) → length scripts ≡ length passes
       → LanesFrom passes scripts passes scripts []
   lanes_none passes scripts same =
-      record { done = []; done_scripts = []; of_passes = append_nothing passes; of_scripts = append_nothing scripts; are = tt; same = same }
+      record { done = []; done_scripts = []; of_passes = sym (append-nil passes); of_scripts = sym (append-nil scripts); are = tt; same = same }
 
   pub lanes_more : (passes : List (Pass V F S T)) (scripts : List (List (Wish V)))
       (before left : List (Pass V F S T)) (before_scripts left_scripts : List (List (Wish V)))
@@ -82,14 +56,6 @@ module _ {V F S T : Type 0} (family : FamilyWords F (Posted V) S T) (obeys : V �
         are = rw (reverse-append lanes (lane ∷ [])) (new, h.are);
         same = omega (arith, n, m, h.same);
       }
-
-  pub lanes_all : (passes : List (Pass V F S T)) (scripts : List (List (Wish V)))
-      (left : List (Pass V F S T)) (left_scripts : List (List (Wish V)))
-      (lanes : List (Lane V F S T)) → LanesFrom passes scripts left left_scripts lanes → length left ≡ 0
-      → AreLanes obeys passes scripts (reverse lanes)
-  lanes_all passes scripts [] [] lanes h e = rw (h.of_passes, h.of_scripts) h.are
-  lanes_all passes scripts [] (s ∷ ss) lanes h e = absurd (omega (arith, h.same))
-  lanes_all passes scripts (p ∷ ps) left_scripts lanes h e = absurd (omega (arith, e))
 
   -- the pass of a lane is the one at its place
   pub lane_at : (passes : List (Pass V F S T)) (scripts : List (List (Wish V))) (lanes : List (Lane V F S T))

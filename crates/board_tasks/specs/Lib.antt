@@ -1,5 +1,6 @@
 pub mod Jobs
 pub mod Lanes
+pub mod LogOrders
 pub mod Logs
 pub mod Tasks
 pub mod Worked

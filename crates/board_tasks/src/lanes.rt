@@ -1,6 +1,7 @@
 //! Lanes for all passes of a board, and the passes of lanes.
 ghost use Rattle.std.specs.Prelude.{◌≡◌, All, IfOk, length, map};
 ghost use Rattle.atomic_board.specs.Ends.{IsGreatest};
+ghost use Rattle.board_tasks.specs.LogOrders.{LogsInOrder};
 ghost use Rattle.board_tasks.specs.Lanes.{AreLanes};
 ghost use Rattle.board_tasks.specs.Logs.{Obeys};
 ghost use Rattle.board_tasks.specs.Worked.{AreAtomic, HaveWorked, logs_of};
@@ -60,7 +61,7 @@ pub fn into_passes<V: RecordLaw + Drop, F: Family<Posted<V>>>(
 }
 
 /// Ends the board of these lanes. Gives the log of each task, and the last record. The entries of the logs tell of calls that are atomic
-/// by their intervals. A refusal drops the board and the lanes.
+/// by their intervals, so the logs have one order. A refusal drops the board and the lanes.
 pub fn finish_lanes<V: RecordLaw + Drop, F: Family<Posted<V>>>(
     alloc: Global,
     board: Board<V, F>,
@@ -70,6 +71,7 @@ pub fn finish_lanes<V: RecordLaw + Drop, F: Family<Posted<V>>>(
     ensures logs { IfOk result (λ r. map (λ v. v.items) r.0.items ≡ logs_of lanes.items) }
     ensures last { IfOk result (λ r. IsGreatest (map (λ l. l.pass) lanes.items) r.1) }
     ensures atomic { IfOk result (λ r. AreAtomic ⟦<F as Family<Posted<V>>>⟧ board lanes.items r.1) }
+    ensures ordered { IfOk result (λ r. LogsInOrder board.first.item board.limit (logs_of lanes.items) r.1) }
 {
     let mut lanes = lanes;
     let mut passes = Vec::with_capacity(alloc, lanes.len())?;

@@ -10,7 +10,8 @@ use Rattle.fourslot_core.specs.declared.state.ReaderStage.{ReaderStage}
 use Rattle.fourslot_core.specs.declared.state.ReaderStage.TheVariants as reader
 use Rattle.fourslot_core.specs.Freshness.{IsBegun}
 use Rattle.fourslot_core.proofs.Pushed.{get_before, get_within}
-use Rattle.cell_live.specs.Intervals.{At, heard_at, IsLate, HasBegun, intervals, IsReadOf, AreAtomic}
+use Rattle.cell_live.specs.Intervals.{At, heard_at, IsLate, HasBegun, intervals, AreAtomic}
+use Rattle.fourslot_core.specs.ReadNumbers.{IsReadOf}
 use Rattle.cell_live.specs.declared.times.Known.{Known}
 use Rattle.cell_four_slot.specs.declared.notes.WriterNotes.{WriterNotes}
 use Rattle.cell_four_slot.specs.declared.notes.ReaderNotes.{ReaderNotes}

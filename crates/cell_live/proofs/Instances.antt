@@ -3,7 +3,8 @@ use Rattle.std.proofs.Common.{◌≡◌, ℕ, zero, suc, ◌+◌, ◌<◌, ◌�
 use Rattle.std.proofs.lemmas.Option.{none-some, same_Some}
 use Rattle.fourslot_core.specs.Accesses.{IsBefore}
 use Rattle.cell_live.specs.declared.times.Times.{Times}
-use Rattle.cell_live.specs.Intervals.{At, InTurn, IsReadOf, intervals, AreAtomic, one_write, two_reads}
+use Rattle.cell_live.specs.Intervals.{At, InTurn, intervals, AreAtomic, one_write, two_reads}
+use Rattle.fourslot_core.specs.ReadNumbers.{IsReadOf}
 
 writes_turn : InTurn one_write.begins one_write.ends
 writes_turn = record {

@@ -1,8 +1,8 @@
 -- The calls of a cell as intervals of the table's time, in which each step on a word has a time of its own. Operations as
 -- intervals and their precedence are L. Lamport's, On Interprocess Communication, Parts I and II, Distributed Computing 1, 1986;
 -- numbers of reads are this project's own.
-use Rattle.std.specs.Prelude.{◌≡◌, ℕ, ◌+◌, ◌<◌, ◌≤◌, max, List, [], ◌∷◌, ◌++◌, length, slice_get, Option, Some}
-use Rattle.fourslot_core.specs.Accesses.{IsBefore}
+use Rattle.std.specs.Prelude.{◌≡◌, ℕ, ◌+◌, ◌<◌, ◌≤◌, max, List, [], ◌∷◌, ◌++◌, length, slice_get, Some}
+use Rattle.fourslot_core.specs.ReadNumbers.{Intervals, IsReadOf}
 use Rattle.cell_live.specs.declared.times.Times.{Times}
 use Rattle.cell_live.specs.declared.times.Known.{Known}
 use Rattle.cell_live.specs.declared.times.Dated.{Dated}
@@ -76,17 +76,9 @@ IsLate ends time n = (k e : ℕ) → At ends k e → e < time → k < n
 abbrev pub HasBegun : List ℕ → ℕ → ℕ → Type 0
 HasBegun begins time n = (k : ℕ) → n ≡ k + 1 → (b : ℕ) × At begins k b × (b < time)
 
--- the same as of a board's cells: the calls of one side, and what is known of a read with a number
-pub record Intervals : Type 0 where
-  pub begins : ℕ → Option ℕ
-  pub ends : ℕ → Option ℕ
-
+-- the calls of one side
 abbrev pub intervals : Times → Intervals
 intervals s = record { begins = slice_get s.begins; ends = slice_get s.ends }
-
-pub record IsReadOf (writes reads : Intervals) (m n : ℕ) : Type 0 where
-  pub late : (k : ℕ) → IsBefore (writes.ends k) (reads.begins m) → k < n
-  pub begun : (k : ℕ) → n ≡ k + 1 → IsBefore (writes.begins k) (reads.ends m)
 
 -- *Atomic by intervals*: each answer has a number, which is that of its record; a write that ended before the read began has no
 -- greater number; the write with the number began before the read ended; and numbers never fall. The last write may be under way

@@ -5,7 +5,8 @@ use Rattle.std.proofs.Common.{length-append, le_refl, le_trans}
 use native.Mathlib.Nat.{le-max_left, max-le}
 use Rattle.std.proofs.lemmas.Option.{slice_get_within, none-some}
 use Rattle.fourslot_core.proofs.Pushed.{get_before, get_within}
-use Rattle.cell_live.specs.Intervals.{At, begun_at, intervals, IsReadOf, AreAtomic}
+use Rattle.cell_live.specs.Intervals.{At, begun_at, intervals, AreAtomic}
+use Rattle.fourslot_core.specs.ReadNumbers.{IsReadOf}
 use Rattle.cell_live.specs.declared.times.Dated.{Dated}
 use Rattle.cell_live.specs.declared.times.Known.{Known}
 use Rattle.cell_triple.specs.declared.notes.WriterNotes.{WriterNotes}

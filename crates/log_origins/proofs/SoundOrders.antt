@@ -16,7 +16,7 @@ use Rattle.board_tasks.specs.declared.lane.Entry.{Entry}
 use Rattle.board_tasks.specs.declared.lane.Reply.{Reply}
 use Rattle.board_tasks.specs.declared.lane.Reply.TheVariants.{Written, Seen, Ended}
 use Rattle.atomic_board.specs.declared.record.Posted.{Posted}
-use Rattle.log_origins.specs.LogOrders.{AreOfOne, entries_of, is_of, IsLogOrder, LogsInOrder, Noted, Takes}
+use Rattle.board_tasks.specs.LogOrders.{AreOfOne, entries_of, is_of, IsLogOrder, LogsInOrder, Noted, Takes}
 use Rattle.board_tasks.specs.Logs.{is_at_most, stamp_of}
 use Rattle.log_origins.specs.Origins.{AllKeep, has_origin, has_write, in_order, is_known, is_reply_at, IsFirstBreak, IsOrigin, same_stamp}
 use Rattle.log_origins.specs.Origins.{sees_known, stamp_before, wrote}

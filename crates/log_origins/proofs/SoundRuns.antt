@@ -35,6 +35,7 @@ use Rattle.board_tasks.specs.declared.lane.Reply.{Reply}
 use Rattle.board_tasks.specs.declared.lane.Reply.TheVariants.{Written, Seen, Ended}
 use Rattle.board_tasks.specs.Logs.{is_at_most, stamp_of}
 use Rattle.board_tasks.specs.Tasks.{kind_by}
+use Rattle.board_tasks.proofs.Ordered.{call_at, calls_did, entry_at}
 use Rattle.board_tasks.specs.Worked.{AreAtomic, EachTells, Has, HaveWorked, logs_of, Tells}
 use Rattle.log_origins.specs.declared.origin.Origin.TheVariants.{Broken}
 use Rattle.log_origins.specs.Origins.{AllKeep, has_origin, has_write, in_order, is_known, is_reply_at, IsOrigin, same_stamp, sees_known}
@@ -60,21 +61,6 @@ greatest_first own (x ∷ xs) =
     at_most_trans own.stamp (greater own x).stamp (greatest (greater own x) xs).stamp (greater_first own x) (greatest_first (greater own x) xs)
 
 module _ {V : Type 0} where
-  -- the call of which an entry tells, and the entry that tells of a call
-  call_at : (es : List (Entry V)) (cs : List (Called V)) (k : ℕ) (e : Entry V) → EachTells es cs → slice_get es k ≡ Some e →
-      (c : Called V) × (slice_get cs k ≡ Some c) × Tells e c
-  call_at [] cs k e h at = cc
-  call_at (x ∷ es) [] k e h at = absurd h
-  call_at (x ∷ es) (c ∷ cs) zero e h at = (c, refl, subst (λ z. Tells z c) (same_Some x e at) h.0)
-  call_at (x ∷ es) (c ∷ cs) (suc k) e h at = call_at es cs k e h.1 at
-
-  entry_at : (es : List (Entry V)) (cs : List (Called V)) (k : ℕ) (c : Called V) → EachTells es cs → slice_get cs k ≡ Some c →
-      (e : Entry V) × (slice_get es k ≡ Some e) × Tells e c
-  entry_at es [] k c h at = cc
-  entry_at [] (x ∷ cs) k c h at = absurd h
-  entry_at (e ∷ es) (x ∷ cs) zero c h at = (e, refl, subst (λ z. Tells e z) (same_Some x c at) h.0)
-  entry_at (e ∷ es) (x ∷ cs) (suc k) c h at = entry_at es cs k c h.1 at
-
   -- the stamp that an entry hands on is the one that its call chose
   stamp_told : (wish : Wish V) (reply : Reply V) (chosen : Stamped V) → Has wish reply chosen → stamp_of reply ≡ chosen.stamp
   stamp_told (Write item) (Written s) chosen h = ap (λ (z : Stamped V). z.stamp) (sym h)
@@ -209,11 +195,6 @@ module _ {V : Type 0} where
       sound_unbroken equal opening logs (run_in_order opening logs h) (run_known opening logs h equal itself)
 
 module _ {V F S T : Type 0} (family : FamilyWords F (Posted V) S T) (obeys : V → Bool) where
-  calls_did : (o : Option (Pass V F S T)) (pass : Pass V F S T) (calls : List (Called V)) → o ≡ Some pass →
-      calls ≡ (did_at family o calls).calls
-  calls_did (Some p) pass calls e = refl
-  calls_did None pass calls e = cc
-
   -- the logs of lanes whose calls are atomic are of a run
   pub atomic_run : (board : Board V F S T) (lanes : List (Lane V F S T)) (last : Posted V) → HaveWorked family obeys board lanes →
       AreAtomic family board lanes last → AreOfRun board.first.item (logs_of lanes)
@@ -230,6 +211,6 @@ module _ {V F S T : Type 0} (family : FamilyWords F (Posted V) S T) (obeys : V �
         told = λ i log at.
             let w = get_map_back (λ (l : Lane V F S T). l.log.items) lanes i log at in
             subst (λ es. EachTells es (did i).calls) w.2
-            (subst (EachTells w.0.log.items) (calls_did (slice_get passes i) w.0.pass (h.calls i)
+            (subst (EachTells w.0.log.items) (calls_did family obeys (slice_get passes i) w.0.pass (h.calls i)
             (slice_get-map (λ (l : Lane V F S T). l.pass) lanes i ∙ ap (option_map (λ (l : Lane V F S T). l.pass)) w.1)) (h.told i w.0 w.1));
       }

@@ -1,4 +1,3 @@
-pub mod LogOrders
 pub mod Origins
 pub mod Told
 pub mod inner

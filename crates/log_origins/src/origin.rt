@@ -1,6 +1,6 @@
 //! The check of logs: whether every record that a call saw has its origin.
 ghost use Rattle.std.specs.Prelude.{◌≡◌, ℕ, List, map};
-ghost use Rattle.log_origins.specs.LogOrders.{LogsInOrder};
+ghost use Rattle.board_tasks.specs.LogOrders.{LogsInOrder};
 ghost use Rattle.log_origins.specs.declared.origin.Origin.TheVariants.{Sound};
 ghost use Rattle.log_origins.specs.Origins.{AllKeep, in_order, IsOrigin};
 ghost use Rattle.log_origins.specs.Told.{AreOfRun};

@@ -1,3 +1,1 @@
-pub mod lists
 pub mod choices
-pub mod calls

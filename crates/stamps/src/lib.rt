@@ -1,5 +1,5 @@
-//! Stamps, which order the records of several writers; what operations and calls choose by them; and the one order of a running
-//! board's calls. The idea of tags is credited to P. Vitányi and B. Awerbuch, FOCS 1986; the rules are this project's own.
+//! Stamps, which order the records of several writers, and what operations choose by them. The idea of tags is credited to P. Vitányi
+//! and B. Awerbuch, FOCS 1986; the rules are this project's own.
 #![tactic(auto)]
 
 pub mod laws;

@@ -19,7 +19,7 @@ use Rattle.fourslot_core.specs.Traces.{writes_of}
 use Rattle.fourslot_core.proofs.traces.Laws.{moments_of_more, moments_of_rise, trace_more, traces_fresh}
 use Rattle.stamps.specs.declared.stamp.Stamped.{Stamped}
 use Rattle.matrix_core.specs.Lines.{first_record, other}
-use Rattle.matrix_core.specs.CellAnswers.{IsReadOf}
+use Rattle.fourslot_core.specs.ReadNumbers.{IsReadOf}
 use Rattle.matrix_core.specs.ByAccesses.{column, row}
 use Rattle.board_play.specs.Boards.{cell_moments, cell_trace, Event, event_after, events_after, is_read_of, is_write_of, noise_record}
 use Rattle.board_play.specs.Boards.{turn_in}

@@ -88,7 +88,3 @@ module _ {R : Type 0} (at : ℕ) (span : Span R) (opening noise : R) (cut : IsCu
         else slice_get (cell_trace at span opening noise (chosen_in at span opening noise) j
         (other j (read - (length span.plans - 1)))).write_slots k) t;
   }
-
-  -- and so its operations choose by the law of choices
-  pub told_choose : (choices : List (Choice R)) × HasChoices opening span.limit ops stamps choices
-  told_choose = board_chooses at span opening noise ops stamps slot_in (chosen_in at span opening noise) cut is_run told.played.played

@@ -12,7 +12,7 @@ use Rattle.fourslot_core.specs.Accesses.{IsBefore}
 use Rattle.fourslot_core.proofs.Pushed.{of_before, to_before}
 use Rattle.stamps.specs.declared.stamp.Stamp.{Stamp}
 use Rattle.stamps.specs.Choices.{AllChoose, Choice, ChoosesByKind, IsFrom, IsIn}
-use Rattle.matrix_core.specs.CellAnswers.{IsReadOf, Intervals}
+use Rattle.fourslot_core.specs.ReadNumbers.{IsReadOf, Intervals}
 use Rattle.matrix_core.proofs.choices.ByAccesses.{done_event, in_done}
 
 -- an access of one position

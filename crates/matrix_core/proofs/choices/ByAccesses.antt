@@ -24,7 +24,7 @@ use Rattle.stamps.specs.declared.stamp.Stamp.{Stamp}
 use Rattle.stamps.specs.declared.stamp.Stamped.{Stamped}
 use Rattle.matrix_core.specs.Lines.{first_record, other}
 use Rattle.stamps.specs.Choices.{Choice, HasChoices, IsChoiceOf, IsEarlier, IsIn}
-use Rattle.matrix_core.specs.CellAnswers.{IsReadOf}
+use Rattle.fourslot_core.specs.ReadNumbers.{IsReadOf}
 use Rattle.matrix_core.specs.Gathering.{AllGather, choices_of, Gathers, IsCellAnswer, numbered, record_of}
 use Rattle.matrix_core.specs.ByAccesses.{choice_at, chooses_at, ChoosesBy, column, IsChosenBy, IsCut, row}
 use Rattle.matrix_core.proofs.lines.Others.{other_differs, other_inside, other_reached}

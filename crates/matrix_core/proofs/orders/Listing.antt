@@ -57,9 +57,6 @@ module _ {R : Type 0} (ops : List (Op R)) (stamps : List (Option Stamp)) where
     pub times : (p : ℕ) (op : Op R) (stamp : Option Stamp) → p < i → slice_get ops p ≡ Some op → slice_get stamps p ≡ Some stamp
         → times_of p (map (λ (e : Listed). e.place) entries) ≡ (if is_listed op stamp then 1 else 0)
 
-  pub nothing_listed : IsListedSoFar 0 []
-  nothing_listed = record { each = λ k e h. absurd (none-some e h); times = λ p op stamp l h g. absurd (omega arith) }
-
   fresh : (i : ℕ) (entries : List Listed) → IsListedSoFar i entries → times_of i (map (λ (e : Listed). e.place) entries) ≡ 0
   fresh i entries h = times_absent i (map (λ (e : Listed). e.place) entries) (λ k q g.
       let b = get_map_back (λ (e : Listed). e.place) entries k q g in

@@ -31,7 +31,7 @@ times_some p (suc i) (x ∷ xs) e =
     let g : times_of p xs ≤ times_of p (x ∷ xs) = times_later p x xs in
     omega arith
 
-times_twice : (p i j : ℕ) (order : List ℕ) → i < j → slice_get order i ≡ Some p → slice_get order j ≡ Some p → 2 ≤ times_of p order
+pub times_twice : (p i j : ℕ) (order : List ℕ) → i < j → slice_get order i ≡ Some p → slice_get order j ≡ Some p → 2 ≤ times_of p order
 times_twice p i j [] l e f = cc
 times_twice p zero zero (x ∷ xs) l e f = absurd (omega arith)
 times_twice p zero (suc j) (x ∷ xs) l e f =

@@ -16,16 +16,6 @@ use Rattle.matrix_core.specs.declared.overruns.Cells.{Cells}
 use Rattle.matrix_core.proofs.lists.Elements.{same_or_not, split_at, take_next, get_exists, drop_next}
 
 module _ {R : Type 0} (cells : Cells) (term : MatrixTerm R) where
-  pub overruns_here : (i who c : ℕ) (plan : List (Wish R)) → slice_get term.steps i ≡ Some who → slice_get term.plans who ≡ Some plan →
-      c ≡ steps_of who (take i term.steps)
-      → length plan ≤ c / accesses_by cells (length term.plans) → Overruns (span_by cells term) i
-  overruns_here i who c plan h p e l = (
-    who,
-    h,
-    ap (λ n. planned (span_by cells term) who (n / accesses_by cells (length term.plans))) (sym e) ∙ (planned_in (span_by cells term) who
-        (c / accesses_by cells (length term.plans)) plan p ∙ slice_get_past plan (c / accesses_by cells (length term.plans)) l),
-  )
-
   pub has_operation : (i who c : ℕ) (plan : List (Wish R)) → slice_get term.steps i ≡ Some who → slice_get term.plans who ≡ Some plan →
       c ≡ steps_of who (take i term.steps)
       → c / accesses_by cells (length term.plans) < length plan → ¬ Overruns (span_by cells term) i
@@ -54,12 +44,6 @@ count_more steps made i who h lw c = record {
       ∙ (c.each w l ∙ (sym (steps_other w who (take i steps) (λ z. ne (sym z))) ∙ ap (steps_of w) (sym (take_next steps i who h)))))
       (same_or_not w who);
 }
-
-pub count_small : (steps made : List ℕ) (i who : ℕ) → who < 16 → i ≤ length steps → IsCount steps i made → get_or made who 0 ≤ i
-count_small steps made i who l le c =
-    let e : get_or made who 0 ≡ steps_of who (take i steps) = c.each who l in
-    let b : steps_of who (take i steps) ≤ length (take i steps) = count_by-le-length (λ s. nat_eq s who) (take i steps) in
-    let t : length (take i steps) ≡ i = length-take-le i steps le in omega arith
 
 pub below_next : {P : ℕ → Type 0} (i : ℕ) → ((q : ℕ) → q < i → P q) → P i → (q : ℕ) → q < i + 1 → P q
 below_next {P} i below here q l = ⊎_elim (λ (e : q ≡ i). subst P (sym e) here) (λ (ne : q ≢ i). below q (omega arith)) (same_or_not q i)

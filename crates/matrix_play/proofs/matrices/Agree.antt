@@ -17,7 +17,8 @@ use Rattle.fourslot_core.specs.Traces.{source_record}
 use Rattle.fourslot_core.proofs.Pushed.{of_before}
 use Rattle.stamps.specs.declared.stamp.Stamp.{Stamp}
 use Rattle.stamps.specs.declared.stamp.Stamped.{Stamped}
-use Rattle.matrix_core.specs.CellAnswers.{greatest, IsReadOf, Intervals}
+use Rattle.matrix_core.specs.CellAnswers.{greatest}
+use Rattle.fourslot_core.specs.ReadNumbers.{IsReadOf, Intervals}
 use Rattle.matrix_core.specs.ByAccesses.{choice_at, chooses_at, ChoosesBy, column, IsChosenBy, IsCut, row}
 use Rattle.stamps.specs.Choices.{Choice, ChoosesByKind}
 use Rattle.matrix_core.specs.Lines.{first_record, other}

@@ -571,9 +571,6 @@ module _ {R : Type 0} (at : ℕ) (opening : R) (term : MatrixTerm R) where
   pub term_begins : IsTerm term → IsTermSoFar at opening term 0 (opening_matrix_play (length term.plans) term.limit opening at)
   term_begins t = record { is = refl; so_far = opening_so_far at (span_of term) opening (term_span t) }
 
-  length_take : (i who : ℕ) → slice_get term.steps i ≡ Some who → length (take i term.steps) ≡ i
-  length_take i who h = let l : i < length term.steps = slice_get_within term.steps i who h in length-take-le i term.steps (omega arith)
-
   pub term_ready : (i who : ℕ) (run : MatrixPlaying R) → IsTerm term → ((step : ℕ) → ¬ Overruns (span_of term) step) →
       at + length term.steps + 1 < 18446744073709551616 → slice_get term.steps i ≡ Some who
       → IsTermSoFar at opening term i run → IsReady term.plans run who

@@ -14,7 +14,8 @@ use Rattle.fourslot_core.proofs.Pushed.{get_cases, of_before, to_before}
 use Rattle.stamps.specs.declared.stamp.Stamped.{Stamped}
 use Rattle.matrix_core.specs.declared.progress.Progress.{Progress}
 use Rattle.matrix_core.specs.declared.progress.Outcome.{Outcome}
-use Rattle.matrix_core.specs.CellAnswers.{greatest, IsReadOf}
+use Rattle.matrix_core.specs.CellAnswers.{greatest}
+use Rattle.fourslot_core.specs.ReadNumbers.{IsReadOf}
 use Rattle.matrix_core.specs.ByAccesses.{column, row, intervals_at}
 use Rattle.matrix_play.specs.MatrixEvents.{after_access, IsMatrix, Matrix}
 use Rattle.matrix_core.specs.Lines.{begun, cell_place, choice, first_record, gathered, other}

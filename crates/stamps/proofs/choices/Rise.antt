@@ -39,12 +39,6 @@ module _ {R : Type 0} where
       ChoosesByKind limit c c.kind seen item → IsAtMost seen c.stamp
   chosen_at_least limit c seen item h = at_least limit c c.kind seen item h
 
-  -- a record that was there stays there after one more choice
-  pub from_more : (opening : R) (past : List (Choice R)) (c : Choice R) (stamp : Stamp) (item : R) → IsFrom opening past stamp item →
-      IsFrom opening (c ∷ past) stamp item
-  from_more opening past c stamp item (inl h) = inl h
-  from_more opening past c stamp item (inr h) = inr (h.0, inr h.1, h.2, h.3)
-
   from_fits : (opening : R) (past : List (Choice R)) (stamp : Stamp) (item : R) → ((c : Choice R) → IsIn c past → Fits c.stamp) →
       IsFrom opening past stamp item → Fits stamp
   from_fits opening past stamp item f (inl h) = let e : stamp.writer ≡ 0 = ap (λ s. s.writer) h.0 in omega arith

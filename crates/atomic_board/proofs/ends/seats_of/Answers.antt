@@ -1,6 +1,7 @@
 -- The seat of the last pass stands before those that were taken out.
 use Rattle.std.proofs.Common.{arith, ap, ◌∙◌, ◌≡◌, ◌+◌, ◌∷◌, ◌++◌, [], length, length-append}
-use Rattle.atomic_board.proofs.Ending.{mapped_all, mapped_more, mapped_none, room_of_last}
+use Rattle.atomic_board.proofs.Ending.{room_of_last}
+use Rattle.atomic_board.proofs.Mapping.{mapped_all, mapped_more, mapped_none}
 use Rattle.atomic_board.proofs.ends.seats_of.Goals as goal
 
 pub push_reserved-requires : goal.push_reserved-requires

@@ -1,7 +1,7 @@
 -- The seats of the last passes were taken out.
 use Rattle.std.proofs.Common.{◌≡◌, ◌+◌, ◌≤◌, length}
 use Rattle.std.specs.Prelude.{vec_capacity}
-use Rattle.atomic_board.proofs.Ending.{MappedFrom}
+use Rattle.atomic_board.proofs.Mapping.{MappedFrom}
 use Rattle.atomic_board.proofs.ends.seats_of.Given as goal
 
 abbrev pub invariant-loop : goal.invariant-loop

@@ -1,8 +1,9 @@
 -- The pass of the last lane stands before those that were taken out, and so does its log.
 use Rattle.std.proofs.Common.{arith, ap, sym, subst, ◌∙◌, ◌≡◌, ◌+◌, ◌∷◌, [], length, length-append, map}
 use Rattle.atomic_board.specs.Ends.{AllPasses, HaveAtomicOrder, IsGreatest}
-use Rattle.board_tasks.proofs.LaneLists.{mapped_all, mapped_more, mapped_none}
+use Rattle.atomic_board.proofs.Mapping.{mapped_all, mapped_more, mapped_none}
 use Rattle.board_tasks.proofs.Logged.{all_passes, items_of, logs_atomic}
+use Rattle.board_tasks.proofs.Ordered.{lanes_in_order}
 use Rattle.board_tasks.proofs.lanes.finish_lanes.Goals as goal
 
 pub loop-init : goal.loop-init
@@ -53,3 +54,12 @@ returns-clause-last g c =
     subst (λ ps. IsGreatest ps c.finish.result)
     (c.reverse.ensures.items ∙ mapped_all _ c.args.lanes.items c.loop.lanes.items c.loop.passes.items c.loop.invariant.0 n)
     c.finish.ensures.last
+
+pub returns-clause-ordered : goal.returns-clause-ordered
+returns-clause-ordered g c =
+    let n : length c.loop.lanes.items ≡ 0 = omega (arith, c.loop.invariant.2) in
+    lanes_in_order g.F.Family g.V.RecordLaw.obeys c.args.board c.args.lanes.items c.finish.result c.requires
+    (logs_atomic g.F.Family g.V.RecordLaw.obeys c.args.board c.args.lanes.items c.requires c.finish.result
+    (subst (λ ps. HaveAtomicOrder g.F.Family c.args.board ps c.finish.result)
+    (c.reverse.ensures.items ∙ mapped_all _ c.args.lanes.items c.loop.lanes.items c.loop.passes.items c.loop.invariant.0 n)
+    c.finish.ensures.atomic))

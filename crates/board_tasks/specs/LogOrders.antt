@@ -50,8 +50,3 @@ module _ {V : Type 0} where
   -- *One order* of the logs: they have one
   abbrev pub LogsInOrder : V → ℕ → List (List (Entry V)) → Posted V → Type 0
   LogsInOrder opening limit logs last = (order : List (Noted V)) × IsLogOrder opening limit logs last order
-
-  -- how many entries these logs have
-  abbrev pub entries_in : List (List (Entry V)) → ℕ
-  entries_in [] = 0
-  entries_in (log ∷ logs) = length log + entries_in logs

@@ -1,2 +1,0 @@
--- Lists: sorting.
-pub mod Sorting
