@@ -31,6 +31,7 @@ use Rattle.board_tasks.specs.Logs.{Obeys}
 use Rattle.board_tasks.specs.Tasks.{AreCalls, Ran, Replies}
 use Rattle.board_tasks.specs.Worked.{AreAtomic, HaveWorked, logs_of}
 use Rattle.atomic_board.proofs.Passing.{all_new}
+use Rattle.board_tasks.specs.LogOrders.{LogsInOrder}
 use Rattle.board_tasks.proofs.LaneLists.{all_ready, lane_at, lanes_length}
 use Rattle.board_tasks.proofs.Works.{have_worked}
 use Rattle.log_origins.specs.declared.origin.Origin.{Origin}
@@ -48,15 +49,6 @@ use Rattle.report_text.specs.declared.report.Report.TheVariants.{Race}
 -- how much an element that passes a test adds to a count
 abbrev one : Bool → ℕ
 one b = cond b 1 0
-
-wish_obeys : (wish : Wish Band) → IsTrue (wish_fits wish) → Obeys fits wish
-wish_obeys (Write item) h = h
-wish_obeys Read h = h
-
--- scripts of records that fit may be run
-pub scripts_obey : (scripts : List (List (Wish Band))) → All (λ script. All (λ wish. IsTrue (wish_fits wish)) script) scripts
-    → All (λ script. All (Obeys fits) script) scripts
-scripts_obey scripts h = λ k d l. λ j e m. wish_obeys (get_or (get_or scripts k d) j e) (h k d l j e m)
 
 seen_as_read : (limit process : ℕ) (wish : Wish Band) (seen chosen : Posted Band) (reply : Reply Band)
     → Replies limit process wish seen chosen reply
@@ -178,13 +170,14 @@ module _ {F S T : Type 0} (family : FamilyWords F (Posted Band) S T) where
       → IsNew family fits n limit (record { stamp = first_stamp; item = opening }) board passes → AreLanes fits passes scripts lanes
       → before ≡ lanes → EachStep (Ran family fits may_call may_stop board) 0 before after → ended ≡ after
       → map (λ v. v.items) logs ≡ logs_of ended → IsGreatest (map (λ l. l.pass) ended) last → AreAtomic family board ended last
+      → LogsInOrder board.first.item board.limit (logs_of ended) last
       → counted ≡ logs → tasks ≡ map (λ v. counts_of v.items) counted
       → checked ≡ logs → IsOrigin same_band opening (map (λ v. v.items) checked) origin
       → (AreOfRun opening (map (λ v. v.items) checked) → origin ≡ Sound)
       → broken ≡ broken_at origin
       → IsRaceOver family may_call may_stop opening limit scripts (Race tasks broken)
   race_of may_call may_stop opening limit n scripts board passes lanes before after ended logs counted checked last origin tasks broken count new are
-      same ran end given greatest atomic these counts those found finds told =
+      same ran end given greatest atomic ordered these counts those found finds told =
       let items : List (Vec (Entry Band) Global) → List (List (Entry Band)) = map (λ (v : Vec (Entry Band) Global). v.items) in
       let first : board.first.item ≡ opening = ap (λ (z : Posted Band). z.item) new.opened in
       let worked : HaveWorked family fits board ended =
@@ -209,6 +202,8 @@ module _ {F S T : Type 0} (family : FamilyWords F (Posted Band) S T) where
             (subst (λ z. EachStep (Ran family fits may_call may_stop board) 0 before z) (sym end) ran);
         greatest = greatest;
         atomic = atomic;
+        ordered = subst (λ z. LogsInOrder z limit (logs_of ended) last) first
+            (subst (λ z. LogsInOrder board.first.item z (logs_of ended) last) new.limited ordered);
         checked = subst (IsOrigin same_band opening (logs_of ended)) sound (subst (λ ls. IsOrigin same_band opening ls origin) seen found);
         told = rw (tell, unbroken) refl;
       }
@@ -242,6 +237,7 @@ module _ {F S T : Type 0} (family : FamilyWords F (Posted Band) S T) where
     };
     greatest = h.greatest;
     atomic = h.atomic;
+    ordered = h.ordered;
     checked = h.checked;
     told = h.told;
   }

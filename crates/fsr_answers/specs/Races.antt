@@ -16,6 +16,7 @@ use Rattle.atomic_board.specs.declared.board.Pass.{Pass}
 use Rattle.atomic_board.specs.declared.record.Posted.{Posted}
 use Rattle.atomic_board.specs.Deals.{IsNew}
 use Rattle.atomic_board.specs.Ends.{IsGreatest}
+use Rattle.board_tasks.specs.LogOrders.{LogsInOrder}
 use Rattle.board_tasks.specs.declared.lane.Entry.{Entry}
 use Rattle.board_tasks.specs.declared.lane.Lane.{Lane}
 use Rattle.board_tasks.specs.declared.lane.Reply.{Reply}
@@ -92,8 +93,8 @@ module _ {F S T : Type 0} (family : FamilyWords F (Posted Band) S T) where
 
   -- *Race*: a new board has a lane for each script. Each lane ran: the board calls that were made stand in its log, and the log is
   -- whole, or the task may stop before the next call. The entries tell of calls that are atomic by their intervals, after which the
-  -- register holds the last record, the greatest of all, and each entry is sound. What is told are the counts of the logs, and that no
-  -- entry is without its origin.
+  -- register holds the last record, the greatest of all. The logs have one order, and each entry is sound. What is told are the counts of
+  -- the logs, and that no entry is without its origin.
   pub record IsRaceOver (may_call may_stop : ℕ → ℕ → Type 0) (opening : Band) (limit : ℕ) (scripts : List (List (Wish Band)))
       (report : Report) : Type 0 where
     pub board : Board Band F S T
@@ -106,6 +107,7 @@ module _ {F S T : Type 0} (family : FamilyWords F (Posted Band) S T) where
     pub ran : EachStep (Ran family fits may_call may_stop board) 0 lanes ended
     pub greatest : IsGreatest (map (λ l. l.pass) ended) last
     pub atomic : AreAtomic family board ended last
+    pub ordered : LogsInOrder opening limit (logs_of ended) last
     pub checked : IsOrigin same_band opening (logs_of ended) Sound
     pub told : report ≡ Race (counts_in ended) None
 

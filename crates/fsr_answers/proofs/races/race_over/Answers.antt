@@ -29,7 +29,7 @@ returns-clause-report g c =
     c.in-Ok.made.0 c.in-Ok.made.1.items c.in_ok-lanes.lanes.items c.as_mut_slice.result.now c.run_tasks.new.lanes _ c.in_ok-logs.logs.items
     c.as_slice.result.now c.as_slice-2.result.now _ c.check_origin.result c.new-tasks.result c.broken_at-broken.result
     (ap length c.as_slice-processes.ensures) c.in-Ok.ensures c.in_ok-lanes.ensures c.as_mut_slice.ensures.value c.run_tasks.ensures whole
-    c.in_ok-logs.ensures.logs c.in_ok-logs.ensures.last c.in_ok-logs.ensures.atomic c.as_slice.ensures.value
+    c.in_ok-logs.ensures.logs c.in_ok-logs.ensures.last c.in_ok-logs.ensures.atomic c.in_ok-logs.ensures.ordered c.as_slice.ensures.value
     (c.new-tasks.ensures ∙ c.in_ok-counts.ensures)
     c.as_slice-2.ensures.value c.check_origin.ensures.origin c.check_origin.ensures.run c.broken_at-broken.ensures
 
