@@ -1,7 +1,7 @@
 -- One more step of each loop, over plain lists.
 use Rattle.std.proofs.Common.{◌≡◌, ◌≢◌, ℕ, zero, suc, ◌+◌, ◌<◌, ◌≤◌, Bool, true, false, List, [], ◌∷◌, ◌++◌, length, take, get_or}
 use Rattle.std.proofs.Common.{refl, sym, ◌∙◌, ap, subst, arith, ◌⊎◌, inl, inr, slice_get, set, replicate, Option, None, Some, nat_eq}
-use Rattle.std.specs.Prelude.{IfSome, IsSome, IsSomeAnd, is_some, nat_lt, if◌then◌else◌, ◌&&◌}
+use Rattle.std.specs.Prelude.{IfNone, IfSome, IsSome, IsSomeAnd, is_some, nat_lt, if◌then◌else◌, ◌&&◌}
 use Rattle.std.specs.List.{All}
 use Rattle.std.specs.List.Sorted.{IsPermutation}
 use Rattle.std.proofs.lemmas.Bool.{cases_lt, cases_eq, cases_Bool}
@@ -24,7 +24,7 @@ use Rattle.order_search.specs.declared.span.Span.{Span}
 use Rattle.order_search.specs.Searches.{AreForwards}
 use Rattle.order_search.specs.inner.Groups.{AreSpans, earlier_moment, empty_span, ends_before, HaveGroups, IsSpan, joined_span, later_moment}
 use Rattle.order_search.specs.inner.Groups.{Member, refused_at}
-use Rattle.order_search.specs.inner.Found.{EndsBefore}
+use Rattle.order_search.specs.inner.Found.{EndsBefore, IsEarlyIn, NoneEarlyIn, NoneEndsBefore, NoneStaleIn}
 use Rattle.order_search.specs.inner.Limits.{IsFirstRefusal, NoneRefused}
 use Rattle.order_search.specs.inner.Ranks.{AreRanks, ends_at, IsRank, IsTurned, later_rank, NoneTurned, stands_in}
 use Rattle.order_search.proofs.Ranks.{places_of, rank_at}
@@ -33,7 +33,55 @@ use Rattle.order_search.proofs.Ranks.{places_of, rank_at}
 below_or : (p n : ℕ) → p < n + 1 → (p < n) ⊎ (p ≡ n)
 below_or p n l = elim (cases_lt p n) [ inl lt ↦ inl lt | inr le ↦ inr (omega arith) ]
 
+-- the opening's group has no beginning, or this one
+pub stale_none : (spans : List Span) (s : Span) → slice_get spans 0 ≡ Some s → s.begins ≡ None → NoneStaleIn spans
+stale_none spans s at e opened m found begins =
+    let q : s ≡ opened = same_Some s opened (sym at ∙ found) in
+    let z : ⊥ = none-some m (sym e ∙ ap (λ (y : Span). y.begins) q ∙ begins) in
+    absurd z
+
+pub stale_past : (spans : List Span) (s : Span) (m : Moment) → slice_get spans 0 ≡ Some s → s.begins ≡ Some m →
+    NoneEndsBefore spans m.at → NoneStaleIn spans
+stale_past spans s m at e none opened other found begins =
+    let q : s ≡ opened = same_Some s opened (sym at ∙ found) in
+    let k : m ≡ other = same_Some m other (sym e ∙ ap (λ (y : Span). y.begins) q ∙ begins) in
+    subst (λ (y : Moment). NoneEndsBefore spans y.at) k none
+
+-- the group of a place is none, or this one
+pub none_asked : {R : Type 0} (ops : List (Op R)) (groups : List (Option ℕ)) (spans : List Span) (cut : Option (Option ℕ)) (place : ℕ)
+    (r : Option Rank) → place < length groups → get_or groups place None ≡ None →
+    IfNone r ((g : ℕ) (o : Op R) → Member ops groups place o g → stands_in cut g (slice_get spans g) ≡ false)
+none_asked ops groups spans cut place None l e = λ g o m.
+    let k : None ≡ Some g = same_Some None (Some g) (ap Some (sym e) ∙ sym (slice_get-get_or groups place None l) ∙ m.1) in
+    absurd (none-some g k)
+none_asked ops groups spans cut place (Some x) l e = tt
+
+pub not_stood : (groups : List (Option ℕ)) (spans : List Span) (cut : Option (Option ℕ)) (place group g : ℕ) → place < length groups →
+    get_or groups place None ≡ Some group → stands_in cut group (slice_get spans group) ≡ false →
+    slice_get groups place ≡ Some (Some g) → stands_in cut g (slice_get spans g) ≡ false
+not_stood groups spans cut place group g l e isnt at =
+    let k : Some group ≡ Some g = same_Some (Some group) (Some g) (ap Some (sym e) ∙ sym (slice_get-get_or groups place None l) ∙ at) in
+    subst (λ (z : ℕ). stands_in cut z (slice_get spans z) ≡ false) (same_Some group g k) isnt
+
 module _ {R : Type 0} (ops : List (Op R)) where
+  -- a read that precedes the write of its group, whose span has the number m
+  pub early_found : (spans : List Span) (n m read : ℕ) (o : Op R) (span : Span) → m ≡ n + 1 → slice_get ops n ≡ Some o →
+      slice_get spans m ≡ Some span → ends_before span.ends o.starts ≡ Some read → IsEarlyIn ops spans read n
+  early_found spans n m read o span s at found e =
+      let k : suc n ≡ m = omega arith in
+      (o, span, at, ap (slice_get spans) k ∙ found, e)
+
+  pub early_more : (spans : List Span) (n m : ℕ) (o : Op R) (span : Span) → m ≡ n + 1 → slice_get ops n ≡ Some o →
+      slice_get spans m ≡ Some span → ends_before span.ends o.starts ≡ None → NoneEarlyIn ops spans n → NoneEarlyIn ops spans (n + 1)
+  early_more spans n m o span s at found e before w a other l f h = elim (below_or w n l) [
+    | inl lt ↦ before w a other lt f h
+    | inr q ↦
+        let k : m ≡ suc w = omega arith in
+        let x : o ≡ a = same_Some o a (sym at ∙ ap (slice_get ops) (sym q) ∙ f) in
+        let y : span ≡ other = same_Some span other (sym found ∙ ap (slice_get spans) k ∙ h) in
+        subst (λ (z : Span). ends_before z.ends a.starts ≡ None) y (subst (λ (z : Op R). ends_before span.ends z.starts ≡ None) x e)
+  ]
+
   pub forwards_more : (n : ℕ) (o : Op R) → slice_get ops n ≡ Some o → (IsSomeAnd o.ends (λ end. end < o.starts) → ⊥) → AreForwards ops n →
       AreForwards ops (n + 1)
   forwards_more n o e not_back before p a l f = elim (below_or p n l) [

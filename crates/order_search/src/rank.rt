@@ -12,7 +12,7 @@ use std::alloc::{AllocError, Global};
 
 /// What the place of an operation in the order goes by. Groups stand by `late`, `first`, `last` and their number; within a group
 /// the write comes first, and then the others by beginning.
-#[derive(Clone, Copy, Debug, PartialEq, Eq, PartialOrd, Ord)]
+#[derive(Clone, Copy, PartialEq, Eq, PartialOrd, Ord)]
 pub struct Rank {
     /// Whether the group has to stand behind a refused write.
     pub late: bool,

@@ -8,14 +8,14 @@ use history_core::{Kind, Op};
 use std::alloc::{AllocError, Global};
 
 /// A moment, and the place of the operation that ends or begins then.
-#[derive(Clone, Copy, Debug, PartialEq, Eq)]
+#[derive(Clone, Copy)]
 pub struct Moment {
     pub at: u64,
     pub place: usize,
 }
 
 /// What the operations of one record have between them.
-#[derive(Clone, Copy, Debug, PartialEq, Eq)]
+#[derive(Clone, Copy)]
 pub struct Span {
     /// The earliest end; none where no operation is finished.
     pub ends: Option<Moment>,
@@ -135,7 +135,7 @@ fn ends_before(ends: Option<Moment>, moment: u64) -> Option<usize>
 }
 
 /// A read or refused write that precedes the write of its record.
-#[derive(Clone, Copy, Debug, PartialEq, Eq)]
+#[derive(Clone, Copy)]
 pub struct EarlyRead {
     pub read: usize,
     pub write: usize,
@@ -156,7 +156,7 @@ pub(crate) fn first_early<R>(ops: &[Op<R>], spans: &[Span]) -> Option<EarlyRead>
 }
 
 /// A read or refused write of the opening, and an operation of another record that precedes it.
-#[derive(Clone, Copy, Debug, PartialEq, Eq)]
+#[derive(Clone, Copy)]
 pub struct StaleRead {
     pub before: usize,
     pub read: usize,

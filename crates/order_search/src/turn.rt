@@ -10,7 +10,7 @@ use crate::span::{Moment, Span};
 use history_core::Op;
 
 /// Two ranks of which the second stands behind the first, and its operation precedes that of the first.
-#[derive(Clone, Copy, Debug, PartialEq, Eq)]
+#[derive(Clone, Copy)]
 pub struct Turn {
     pub earlier: Rank,
     pub later: Rank,

@@ -8,7 +8,7 @@ ghost use Rattle.order_witnesses.specs.inner.Searches.{later_of};
 use history_core::Op;
 
 /// An entry, with the beginning of its operation.
-#[derive(Clone, Copy, Debug, PartialEq, Eq)]
+#[derive(Clone, Copy)]
 pub(super) struct Begun {
     pub(super) entry: usize,
     pub(super) starts: u64,

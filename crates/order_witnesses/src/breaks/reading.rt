@@ -9,7 +9,7 @@ use super::Break;
 use history_core::{Kind, Op};
 
 /// The latest record, and the entry of the write that wrote it.
-#[derive(Clone, Copy, Debug, PartialEq, Eq)]
+#[derive(Clone, Copy)]
 pub(super) struct Held<R> {
     pub(super) latest: R,
     pub(super) write: Option<usize>,

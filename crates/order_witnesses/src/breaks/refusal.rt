@@ -10,7 +10,7 @@ use history_core::ranges::{count, is_within};
 use history_core::{Op, Term};
 
 /// A write that was refused too early.
-#[derive(Clone, Copy, Debug, PartialEq, Eq)]
+#[derive(Clone, Copy)]
 pub(super) struct Early {
     pub(super) entry: usize,
     /// The writes of its term before it.

@@ -1,5 +1,5 @@
 -- However the answer was found, it is right.
-use Rattle.std.proofs.Common.{ℕ, List, slice_get, sym, ap, subst, ◌∙◌}
+use Rattle.std.proofs.Common.{rules, ℕ, List, slice_get, sym, ap, subst, ◌∙◌}
 use Rattle.std.specs.Prelude.{IsTrue}
 use Rattle.history_core.specs.declared.history.Op.{Op}
 use Rattle.order_search.specs.Searches.{AreForwards, IsFault}
@@ -30,3 +30,6 @@ returns-in-Ok-search_groups g c =
     c.as_slice-ops.ensures c.as_slice-2.ensures.value (searched g.R.PartialEq.eq g.R.Ord.cmp g.met.R.Eq.laws g.met.R.Ord.total
     g.met.R.Ord.matches_eq c.args.h.now.opening c.as_slice-ops.result.now forwards c.in-Ok.ensures.once) c.in-Some.ensures.some forwards
     c.in-Ok.ensures.once c.in-Ok.ensures.groups c.in-Ok-search_groups.ensures
+
+pub returns-in-Some-first_backwards : goal.returns-in-Some-first_backwards
+returns-in-Some-first_backwards g c = search rules

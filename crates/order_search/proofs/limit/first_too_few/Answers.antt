@@ -1,10 +1,13 @@
 -- One more entry that isn't a refused write adds to the count where it is a write.
-use Rattle.std.proofs.Common.{◌≡◌, ◌+◌, ◌<◌, ◌≤◌, ℕ, length, get_or, arith, false, true, slice_get, inl, subst, sym, ap, ◌∙◌}
+use Rattle.std.proofs.Common.{rules, ◌≡◌, ◌+◌, ◌<◌, ◌≤◌, ℕ, length, get_or, arith, false, true, slice_get, inl, inr, refl, subst, sym, ap, ◌∙◌}
 use Rattle.std.specs.Prelude.{if◌then◌else◌}
 use Rattle.std.proofs.lemmas.Option.{slice_get-get_or}
 use Rattle.history_core.specs.Orders.{is_write_at}
-use Rattle.order_search.proofs.Loops.{few_more, none_refused, writes_next}
+use Rattle.order_search.proofs.Loops.{few_more, none_refused, refusal_at, writes_next}
 use Rattle.order_search.proofs.limit.first_too_few.Goals as goal
+
+pub loop-i-init : goal.loop-i-init
+loop-i-init g c = search rules
 
 pub loop-i-preserved : goal.loop-i-preserved
 loop-i-preserved g c =
@@ -26,3 +29,27 @@ pub returns-clause-enough : goal.returns-clause-enough
 returns-clause-enough g c =
     let e : length c.args.order.now ≤ c.loop-i.i = c.loop-i-test.false in
     inl (λ i p o l f h k. c.loop-i.invariant.none i p o (omega arith) f h k)
+
+pub returns-then-writes-limit-clause-few : goal.returns-then-writes-limit-clause-few
+returns-then-writes-limit-clause-few g c =
+    let n : ℕ = c.loop-i.i in (
+      n,
+      c.loop-i.writes,
+      refusal_at c.args.ops.now c.args.order.now n (get_or c.args.order.now n 0) c.loop-i.writes
+          (slice_get-get_or c.args.order.now n 0 c.loop-i-test.true) (c.if-is_refused.ensures.0 refl) c.loop-i.invariant.none
+          c.loop-i.invariant.counted,
+      c.if-writes-limit.true,
+    )
+
+pub returns-else-writes-limit-clause-enough : goal.returns-else-writes-limit-clause-enough
+returns-else-writes-limit-clause-enough g c =
+    let n : ℕ = c.loop-i.i in
+    inr (
+      n,
+      get_or c.args.order.now n 0,
+      c.loop-i.writes,
+      refusal_at c.args.ops.now c.args.order.now n (get_or c.args.order.now n 0) c.loop-i.writes
+          (slice_get-get_or c.args.order.now n 0 c.loop-i-test.true) (c.if-is_refused.ensures.0 refl) c.loop-i.invariant.none
+          c.loop-i.invariant.counted,
+      c.if-writes-limit.false,
+    )

@@ -1,5 +1,5 @@
 -- One more operation joins the span of its group.
-use Rattle.std.proofs.Common.{◌≡◌, ◌+◌, ◌<◌, ◌≤◌, ℕ, List, length, get_or, set, arith, None, Some, slice_get, refl, sym, subst, ap, ◌∙◌}
+use Rattle.std.proofs.Common.{Option, ◌≡◌, ◌+◌, ◌<◌, ◌≤◌, ℕ, List, length, get_or, set, arith, None, Some, slice_get, refl, sym, subst, ap, ◌∙◌}
 use Rattle.std.proofs.lemmas.Option.{slice_get-get_or, slice_get_read}
 use Rattle.order_search.specs.declared.span.Span.{Span}
 use Rattle.order_search.specs.inner.Groups.{AreSpans, empty_span}
@@ -7,6 +7,36 @@ use Rattle.order_search.proofs.Assembled.{none_of}
 use Rattle.order_search.proofs.Loops.{spans_more, spans_skip}
 use Rattle.order_search.proofs.span.join_ops.Goals as goal
 use Rattle.order_search.proofs.span.join_ops.Goals.{in-Some, in_default}
+
+-- the group of an operation is one of the spans
+spanned : (groups : List (Option ℕ)) (n group k m : ℕ) → n < k → length groups ≡ k → get_or groups n None ≡ Some group →
+    ((p g : ℕ) → slice_get groups p ≡ Some (Some g) → g ≤ k) → m ≡ k + 1 → group < m
+spanned groups n group k m l long is within longer =
+    let lg : n < length groups = omega arith in
+    let h : group ≤ k = within n group (slice_get-get_or groups n None lg ∙ ap Some is) in
+    omega arith
+
+pub loop-place-init : goal.loop-place-init
+loop-place-init g c = c.requires.empty
+
+pub bounds : goal.bounds
+bounds g c = subst (λ (z : ℕ). c.loop-place.place < z) (sym c.requires.long) c.loop-place-test.true
+
+pub bounds-groups-place : goal.bounds-groups-place
+bounds-groups-place g c = subst (λ (z : ℕ). c.loop-place.place < z) (sym c.requires.long) c.loop-place-test.true
+
+pub slice_copy_out-joined : goal.slice_copy_out-joined
+slice_copy_out-joined g c =
+    spanned c.args.groups.now c.loop-place.place c.in-Some.group (length c.args.ops.now) (length c.loop-place.spans)
+    c.loop-place-test.true c.requires.long c.in-Some.is c.requires.within c.loop-place.invariant.long
+
+pub bounds-ops-place : goal.bounds-ops-place
+bounds-ops-place g c = c.loop-place-test.true
+
+pub bounds-spans-group : goal.bounds-spans-group
+bounds-spans-group g c =
+    spanned c.args.groups.now c.loop-place.place c.in-Some.group (length c.args.ops.now) (length c.loop-place.spans)
+    c.loop-place-test.true c.requires.long c.in-Some.is c.requires.within c.loop-place.invariant.long
 
 pub loop-place-preserved : goal.loop-place-preserved
 loop-place-preserved g c =
