@@ -216,7 +216,7 @@ fn paced<const N: usize, R: Register<N>>(name: &str) {
         (writer.join().unwrap(), reads)
     });
     for (times, op) in [(writes, "write"), (reads, "read")] {
-        for (share, metric) in [(500, "p50"), (990, "p99"), (999, "p99.9")] {
+        for (share, metric) in [(500, "p50"), (990, "p99")] {
             let time = times.get(times.len() * share / 1000).copied().unwrap_or(0).saturating_sub(cost);
             say(name, N, "paced", &format!("{op}_{metric}_ns"), time as f64);
         }
@@ -226,9 +226,8 @@ fn paced<const N: usize, R: Register<N>>(name: &str) {
 /// The nanoseconds of a run at full speed.
 const BUDGET: u64 = 40_000_000;
 
-/// Writer and reader at full speed. Gives the millions of writes and of reads in a second, the share of reads that saw a record
-/// not seen before, the torn or older records, and the sorted times of the reads where they are wanted.
-fn at_full_speed<const N: usize, R: Register<N>>(timed: bool) -> (f64, f64, f64, u64, Vec<u64>) {
+/// Writer and reader at full speed. Gives the torn or older records, and the sorted times of the reads.
+fn at_full_speed<const N: usize, R: Register<N>>() -> (u64, Vec<u64>) {
     let (cell, start) = (Box::new(Apart(R::make())), Instant::now());
     let now = move || start.elapsed().as_nanos() as u64;
     let (ready, over) = (Apart(AtomicU64::new(0)), Apart(AtomicU64::new(0)));
@@ -238,16 +237,14 @@ fn at_full_speed<const N: usize, R: Register<N>>(timed: bool) -> (f64, f64, f64,
             let (mut put, mut item, mut number) = (R::Put::default(), [0; N], 0);
             ready.fetch_add(1, SeqCst);
             while ready.load(SeqCst) < 2 {}
-            let begun = now();
             while over.load(SeqCst) == 0 {
                 number += 1;
                 mark(&mut item, number);
                 cell.write(&mut put, black_box(&item));
             }
-            number as f64 * 1e3 / (now() - begun) as f64
         });
         let (mut get, mut last, mut wrong) = (R::Get::default(), 0, 0);
-        let (mut reads, mut fresh, mut times) = (0u64, 0u64, Vec::with_capacity(600_000));
+        let mut times = Vec::with_capacity(600_000);
         ready.fetch_add(1, SeqCst);
         while ready.load(SeqCst) < 2 {}
         let begun = now();
@@ -255,21 +252,17 @@ fn at_full_speed<const N: usize, R: Register<N>>(timed: bool) -> (f64, f64, f64,
         while before < begun + BUDGET {
             let answer = black_box(cell.read(&mut get));
             let (first, end) = (answer[0], answer[N - 1]);
-            if timed && times.len() < 600_000 {
+            if times.len() < 600_000 {
                 times.push(now() - before);
             }
-            reads += 1;
-            fresh += (first != last) as u64;
             wrong += (first != end || first < last) as u64;
             last = first;
-            if timed || reads % 64 == 0 {
-                before = now();
-            }
+            before = now();
         }
-        let speed = reads as f64 * 1e3 / (now() - begun) as f64;
         over.store(1, SeqCst);
+        writer.join().unwrap();
         times.sort();
-        (writer.join().unwrap(), speed, fresh as f64 / reads as f64, wrong, times)
+        (wrong, times)
     })
 }
 
@@ -277,25 +270,19 @@ fn duo<const N: usize, R: Register<N>>(name: &str) {
     let start = Instant::now();
     let now = || start.elapsed().as_nanos() as u64;
     let cost = (0..20_000).map(|_| { let t = now(); now() - t }).min().unwrap();
-    let (writes, reads, fresh, wrong, _) = at_full_speed::<N, R>(false);
-    for (metric, value) in [("write_mops", writes), ("read_mops", reads), ("read_fresh_share", fresh)] {
-        say(name, N, "duo", metric, value);
-    }
-    let (_, _, _, more, times) = at_full_speed::<N, R>(true);
+    let (wrong, times) = at_full_speed::<N, R>();
     for (share, metric) in [(5_000, "p50"), (9_900, "p99"), (9_990, "p99.9"), (9_999, "p99.99")] {
         let time = times.get(times.len() * share / 10_000).copied().unwrap_or(BUDGET).saturating_sub(cost);
         say(name, N, "duo", &format!("read_{metric}_ns"), time as f64);
     }
-    say(name, N, "duo", "read_max_ns", times.last().copied().unwrap_or(BUDGET).saturating_sub(cost) as f64);
-    if wrong + more > 0 {
-        say(name, N, "duo", "torn_or_backward", (wrong + more) as f64);
+    if wrong > 0 {
+        say(name, N, "duo", "torn_or_backward", wrong as f64);
     }
 }
 
 fn one<const N: usize, R: Register<N>>(name: &str) {
     say(name, N, "solo", "write_ns", per_call::<N, R>("write"));
     say(name, N, "solo", "read_ns", per_call::<N, R>("read"));
-    say(name, N, "solo", "write_read_ns", per_call::<N, R>("both"));
     duo::<N, R>(name);
     paced::<N, R>(name);
 }
@@ -479,7 +466,6 @@ fn several<P: Process>(name: &str, make: fn(usize) -> Vec<P>) {
                 let time = times.get(times.len() * share / 10_000).copied().unwrap_or(BUDGET).saturating_sub(cost);
                 say(name, 3, &mode, &format!("read_{metric}_ns"), time as f64);
             }
-            say(name, 3, &mode, "read_max_ns", times.last().copied().unwrap_or(BUDGET).saturating_sub(cost) as f64);
             if torn > 0 {
                 say(name, 3, &mode, "torn_or_backward", torn as f64);
             }

@@ -45,17 +45,17 @@ sort -t, -k1,1 -k2,2n -k3,3 -k4,4 -k5,5g "$room/lines" | awk -F, '
     { k = $1 "," $2 "," $3 "," $4; if (k != key) { close_group(); n = 0; key = k; name = $1; bytes = $2 } v[++n] = $5 }
     END {
         close_group()
-        split("solo,write_ns solo,read_ns solo,write_read_ns solo,write_insn solo,read_insn paced,write_p50_ns paced,read_p50_ns paced,write_p99_ns paced,read_p99_ns duo,read_p50_ns duo,read_p99.9_ns duo,read_p99.99_ns", what, " ")
+        split("solo,write_ns solo,read_ns solo,write_insn solo,read_insn paced,write_p50_ns paced,read_p50_ns paced,write_p99_ns paced,read_p99_ns duo,read_p50_ns duo,read_p99.9_ns duo,read_p99.99_ns", what, " ")
         printf "%-18s %5s", "register", "bytes"
-        split("write ns|read ns|wr+rd ns|write insn|read insn|paced w p50|paced r p50|paced w p99|paced r p99|duo r p50|duo r p99.9|duo r p99.99", head, "|")
-        for (i = 1; i <= 12; i++) printf " | %-16s", head[i]
+        split("write ns|read ns|write insn|read insn|paced w p50|paced r p50|paced w p99|paced r p99|duo r p50|duo r p99.9|duo r p99.99", head, "|")
+        for (i = 1; i <= 11; i++) printf " | %-16s", head[i]
         print ""
         for (j = 1; j <= count; j++) {
             split(order[j], part, ",")
             if (m[order[j] ",solo,write_ns"] == "") continue
             base = part[1] ~ /triple/ ? "plain_triple" : "plain_four_slot"
             printf "%-18s %5d", part[1], part[2]
-            for (i = 1; i <= 12; i++) {
+            for (i = 1; i <= 11; i++) {
                 cell(m[order[j] "," what[i]], m[base "," part[2] "," what[i]])
             }
             print ""

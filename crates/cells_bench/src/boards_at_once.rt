@@ -221,9 +221,7 @@ fn say_times(rt: &impl Print, name: &str, mode: &str, total: &Total) -> io::Resu
         let time = quantile(times, part).saturating_sub(total.cost);
         say(rt, name, 24, mode, metric, time.saturating_mul(1_000))?;
     }
-    let most = times.last().copied().unwrap_or(0);
-    let most = most.saturating_sub(total.cost).saturating_mul(1_000);
-    say(rt, name, 24, mode, "read_max_ns", most)
+    Ok(())
 }
 
 fn say_total(rt: &impl Print, name: &str, mode: &str, total: &Total) -> io::Result<()> {

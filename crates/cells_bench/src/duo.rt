@@ -30,8 +30,6 @@ fn meet(mine: &AtomicU64, theirs: &AtomicU64) {
 /// What the reader counted. The writer numbers its records and puts the number into the first word and the last.
 #[derive(Clone, Copy)]
 struct Seen {
-    reads: u64,
-    fresh: u64,
     torn_or_older: u64,
     last: u64,
 }
@@ -39,8 +37,6 @@ struct Seen {
 impl Seen {
     fn none() -> Seen {
         Seen {
-            reads: 0,
-            fresh: 0,
             torn_or_older: 0,
             last: 0,
         }
@@ -48,8 +44,6 @@ impl Seen {
 
     fn add(&mut self, first: u64, last: u64) {
         let wrong = first != last || first < self.last;
-        self.reads = self.reads.saturating_add(1);
-        self.fresh = self.fresh.saturating_add((first != self.last) as u64);
         self.torn_or_older = self.torn_or_older.saturating_add(wrong as u64);
         self.last = first;
     }
@@ -57,29 +51,23 @@ impl Seen {
 
 #[derive(Drop)]
 struct Writer<'a, W: Shared, C: Cell<Record<W>>> {
-    start: Instant,
     cell: &'a C,
     put: C::Put,
     item: Record<W>,
-    writes: u64,
-    nanos: u64,
 }
 
 impl<'a, W: Shared, C: Cell<Record<W>>> Side for Writer<'a, W, C> {
     ghost ready = { λ s. C.is_put s.cell.now s.put };
 
-    fn run<R: Clock>(&mut self, rt: &R, beats: &Beats) {
+    fn run<R: Clock>(&mut self, _rt: &R, beats: &Beats) {
         meet(&beats.write, &beats.read);
-        let begun = since(rt, self.start);
         for number in 1..u64::MAX {
             if beats.over.load(Ordering::SeqCst) != 0 {
                 break;
             }
             self.item.mark(number);
             self.cell.write_from(&mut self.put, &self.item);
-            self.writes = number;
         }
-        self.nanos = since(rt, self.start).saturating_sub(begun);
     }
 }
 
@@ -90,34 +78,11 @@ struct Reader<'a, W: Shared, C: Cell<Record<W>>> {
     get: C::Get,
     /// Where each record is copied to.
     answer: Record<W>,
-    timed: bool,
     seen: Seen,
-    nanos: u64,
     times: Vec<u64>,
 }
 
-/// Reads until the time is over, which it looks at now and then alone.
-fn read_on<R: Clock, W: Words, C: Calls<Record<W>>>(
-    rt: &R,
-    start: Instant,
-    cell: &C,
-    get: &mut C::Get,
-    answer: &mut Record<W>,
-    seen: &mut Seen,
-)
-    requires { C.is_get cell.now get.old }
-{
-    let end = since(rt, start).saturating_add(BUDGET);
-    for number in 0..u64::MAX {
-        if number % 64 == 0 && since(rt, start) >= end {
-            break;
-        }
-        *answer = cell.read(get);
-        seen.add(answer.first(), answer.last());
-    }
-}
-
-/// The same, with the time of each read.
+/// Reads until the time is over, and keeps the time of each read.
 fn read_timed<R: Clock, W: Words, C: Calls<Record<W>>>(
     rt: &R,
     start: Instant,
@@ -150,45 +115,22 @@ impl<'a, W: Shared, C: Cell<Record<W>>> Side for Reader<'a, W, C> {
 
     fn run<R: Clock>(&mut self, rt: &R, beats: &Beats) {
         meet(&beats.read, &beats.write);
-        let begun = since(rt, self.start);
-        if self.timed {
-            read_timed(
-                rt,
-                self.start,
-                self.cell,
-                &mut self.get,
-                &mut self.answer,
-                &mut self.seen,
-                &mut self.times,
-            );
-        } else {
-            read_on(
-                rt,
-                self.start,
-                self.cell,
-                &mut self.get,
-                &mut self.answer,
-                &mut self.seen,
-            );
-        }
-        self.nanos = since(rt, self.start).saturating_sub(begun);
+        read_timed(
+            rt,
+            self.start,
+            self.cell,
+            &mut self.get,
+            &mut self.answer,
+            &mut self.seen,
+            &mut self.times,
+        );
         beats.over.store(1, Ordering::SeqCst);
     }
-}
-
-/// A number of calls as thousandths of millions in a second.
-fn speed(calls: u64, nanos: u64) -> u64 {
-    calls
-        .saturating_mul(1_000_000)
-        .checked_div(nanos)
-        .unwrap_or(0)
 }
 
 /// What one run measured.
 #[derive(Drop)]
 struct Measured {
-    writes: u64,
-    reads: u64,
     seen: Seen,
     cost: u64,
     times: Vec<u64>,
@@ -197,7 +139,6 @@ struct Measured {
 fn measure<R: Clock + Threads + Sync, W: Shared, C: Cell<Record<W>>>(
     rt: &R,
     alloc: Global,
-    timed: bool,
 ) -> io::Result<Measured>
 where
     C::Put: Send,
@@ -205,34 +146,26 @@ where
     C::Told: Send,
 {
     let start = Instant::now(rt)?;
-    let times = Vec::with_capacity(alloc, if timed { KEPT } else { 0 })?;
+    let times = Vec::with_capacity(alloc, KEPT)?;
     let (cell, put, get) = C::make(alloc, Record::zero())?;
     let cell = CachePadded::new(cell);
     let mut writer: CachePadded<Writer<W, C>> = CachePadded::new(Writer {
-        start,
         cell: &cell,
         put,
         item: Record::zero(),
-        writes: 0,
-        nanos: 0,
     });
     let mut reader: CachePadded<Reader<W, C>> = CachePadded::new(Reader {
         start,
         cell: &cell,
         get,
         answer: Record::zero(),
-        timed,
         seen: Seen::none(),
-        nanos: 0,
         times,
     });
     let cost = clock_cost(rt, start);
     at_once(rt, &Beats::new(), &mut *writer, &mut *reader);
-    let writer = writer.into_inner();
     let reader = reader.into_inner();
     Ok(Measured {
-        writes: speed(writer.writes, writer.nanos),
-        reads: speed(reader.seen.reads, reader.nanos),
         seen: reader.seen,
         cost,
         times: reader.times,
@@ -247,19 +180,6 @@ fn say_wrong(rt: &impl Print, name: &str, bytes: u64, seen: Seen) -> io::Result<
     say(rt, name, bytes, "duo", "torn_or_backward", wrong)
 }
 
-fn say_speed(rt: &impl Print, name: &str, bytes: u64, measured: &Measured) -> io::Result<()> {
-    let seen = measured.seen;
-    let fresh = seen
-        .fresh
-        .saturating_mul(1_000)
-        .checked_div(seen.reads)
-        .unwrap_or(0);
-    say(rt, name, bytes, "duo", "write_mops", measured.writes)?;
-    say(rt, name, bytes, "duo", "read_mops", measured.reads)?;
-    say(rt, name, bytes, "duo", "read_fresh_share", fresh)?;
-    say_wrong(rt, name, bytes, seen)
-}
-
 fn say_times(rt: &impl Print, name: &str, bytes: u64, measured: &mut Measured) -> io::Result<()> {
     measured.times.sort()?;
     let times = measured.times.as_slice();
@@ -272,9 +192,6 @@ fn say_times(rt: &impl Print, name: &str, bytes: u64, measured: &mut Measured) -
         let time = quantile(times, part).saturating_sub(measured.cost);
         say(rt, name, bytes, "duo", metric, time.saturating_mul(1_000))?;
     }
-    let most = times.last().copied().unwrap_or(0);
-    let most = most.saturating_sub(measured.cost).saturating_mul(1_000);
-    say(rt, name, bytes, "duo", "read_max_ns", most)?;
     say_wrong(rt, name, bytes, measured.seen)
 }
 
@@ -289,8 +206,6 @@ where
     C::Get: Send,
     C::Told: Send,
 {
-    let untimed = measure::<R, W, C>(rt, alloc, false)?;
-    say_speed(rt, name, bytes, &untimed)?;
-    let mut timed = measure::<R, W, C>(rt, alloc, true)?;
-    say_times(rt, name, bytes, &mut timed)
+    let mut measured = measure::<R, W, C>(rt, alloc)?;
+    say_times(rt, name, bytes, &mut measured)
 }

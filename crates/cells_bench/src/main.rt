@@ -41,9 +41,8 @@ fn main(rt: HostRuntime) -> io::Result<()> {
         [_, command, name, bytes, op, calls] if command.as_str() == "count" => {
             let op = match op.as_str() {
                 "write" => Op::Write,
-                "read" => Op::Read,
                 "look" => Op::Look,
-                _ => Op::Both,
+                _ => Op::Read,
             };
             let calls = calls.as_str().parse::<u64>().unwrap_or(0);
             count(

@@ -9,7 +9,6 @@ pub enum Op {
     Write,
     Read,
     Look,
-    Both,
 }
 
 /// What is asked of a cell or a board: all its measures, or so many calls.

@@ -110,12 +110,12 @@ fn say_times(
     rt: &impl Print,
     name: &str,
     bytes: u64,
-    op: [&str; 3],
+    op: [&str; 2],
     cost: u64,
     times: &mut Times,
 ) -> io::Result<()> {
     times.nanos.sort()?;
-    for (metric, part) in [(op[0], 5_000), (op[1], 9_900), (op[2], 9_990)] {
+    for (metric, part) in [(op[0], 5_000), (op[1], 9_900)] {
         let time = quantile(times.nanos.as_slice(), part).saturating_sub(cost);
         say(rt, name, bytes, "paced", metric, time.saturating_mul(1_000))?;
     }
@@ -174,9 +174,9 @@ fn say_measured(
     measured: &mut Measured,
 ) -> io::Result<()> {
     let cost = measured.cost;
-    let of_writes = ["write_p50_ns", "write_p99_ns", "write_p99.9_ns"];
+    let of_writes = ["write_p50_ns", "write_p99_ns"];
     say_times(rt, name, bytes, of_writes, cost, &mut measured.writes)?;
-    let of_reads = ["read_p50_ns", "read_p99_ns", "read_p99.9_ns"];
+    let of_reads = ["read_p50_ns", "read_p99_ns"];
     say_times(rt, name, bytes, of_reads, cost, &mut measured.reads)
 }
 

@@ -24,7 +24,6 @@ fn batch<W: Words, C: Calls<Record<W>>>(
         Op::Write => write(cell, put, calls),
         Op::Read => read(cell, get, calls),
         Op::Look => look(cell, get, calls),
-        Op::Both => both(cell, put, get, calls),
     }
 }
 
@@ -59,25 +58,6 @@ fn look<W: Words, C: Calls<Record<W>>>(cell: &C, get: &mut C::Get, calls: u64) -
     let mut sum = 0;
     for number in 0..calls {
         sum |= cell.read_with(get, |record| record.word(number));
-    }
-    sum
-}
-
-fn both<W: Words, C: Calls<Record<W>>>(
-    cell: &C,
-    put: &mut C::Put,
-    get: &mut C::Get,
-    calls: u64,
-) -> u64
-    requires { C.is_put cell.now put.old × C.is_get cell.now get.old }
-    ensures { C.is_put cell.now put.new × C.is_get cell.now get.new }
-{
-    let mut item = Record::<W>::zero();
-    let mut sum = 0;
-    for number in 0..calls {
-        item.mark(number);
-        cell.write_from(put, &item);
-        sum |= cell.read(get).word(number);
     }
     sum
 }
@@ -129,8 +109,6 @@ pub fn run<R: Clock + Print, W: Shared, C: Cell<Record<W>>>(
 ) -> io::Result<()> {
     let write = time::<W, C>(rt, alloc, Op::Write)?;
     let read = time::<W, C>(rt, alloc, Op::Read)?;
-    let both = time::<W, C>(rt, alloc, Op::Both)?;
     say(rt, name, bytes, "solo", "write_ns", write)?;
-    say(rt, name, bytes, "solo", "read_ns", read)?;
-    say(rt, name, bytes, "solo", "write_read_ns", both)
+    say(rt, name, bytes, "solo", "read_ns", read)
 }

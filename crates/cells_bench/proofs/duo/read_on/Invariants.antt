@@ -1,5 +1,0 @@
--- Each call leaves the pass one of this cell.
-use Rattle.cells_bench.proofs.duo.read_on.Given as goal
-
-abbrev pub invariant-loop-number : goal.invariant-loop-number
-invariant-loop-number g l = g.C.Calls.is_get l.cell l.get
