@@ -1,4 +1,5 @@
-"""The exports of the library for C, made from one text: for each cell and size of record the same six calls.
+"""The exports of the library for C, made from two texts: for each cell and size of record the same six calls, and for each family and
+size of a board's record the same five.
 
     exports.py write     writes crates/cells_c/src/exports.rt and exports/
     exports.py check     compares them, and what c/nidzaru.h declares and c/tests/control.c has, with the text below
@@ -11,13 +12,19 @@ import sys
 TOP = os.path.dirname(os.path.dirname(os.path.realpath(__file__)))
 EXPORTS = os.path.join(TOP, "crates/cells_c/src/exports")
 SIZES = (8, 24, 64, 128, 256, 1024, 4096)
+BOARD_SIZES = (24,)
 CELLS = {
     "four_slot": {"words": "A four-slot cell", "prefix": "", "specs": "FourSlotCalls", "name": "four_slot", "party": ""},
     "triple": {"words": "A triple buffer", "prefix": "triple_", "specs": "TripleCalls", "name": "triple", "party": "Triple"},
 }
 
-HEAD = """//! The exports: for each cell and size a make, a write, a read, a look and an end of either side, and the library's version. The
-//! files of the cells are made by c/exports.py.
+FAMILIES = {
+    "board": {"words": "A board over four-slot cells", "prefix": "", "family": "FourSlot", "variant": "Board"},
+    "triple_board": {"words": "A board over triple buffers", "prefix": "triple_", "family": "Triple", "variant": "TripleBoard"},
+}
+
+HEAD = """//! The exports: for each cell and size a make, a write, a read, a look and an end of either side, for each family and size of a
+//! board a make, a write, two reads and an end, and the library's version. The files of cells and boards are made by c/exports.py.
 """
 
 TEXT = """//! {words} with records of {bytes} bytes.
@@ -86,10 +93,87 @@ pub extern "C" fn nidzaru_{prefix}{size}_end_reader(alloc: Global, reader: &mut 
 """
 
 
+BOARD_TEXT = """//! {words} with records of {bytes} bytes.
+ghost use Rattle.sides.specs.Handles.{{IsEnd}};
+ghost use Rattle.places.specs.Places.{{IsBoardMake, IsBoardWrite, IsBoardRead, IsBoardReadSince}};
+ghost use Rattle.cells_sides.specs.Held.{{held, live_of, side_of}};
+ghost use Rattle.cells_sides.specs.declared.side.Side.TheVariants.{{{variant}{size}}};
+
+use cells_sides::{{{names}}};
+use places::{{Mark, Posts, end_place, make_places, read_place, read_place_since, write_place}};
+use std::alloc::Global;
+
+#[unsafe(no_mangle)]
+pub extern "C" fn nidzaru_{prefix}board_{size}_make(
+    alloc: Global,
+    first: &Record{size},
+    limit: u64,
+    places: &mut [Handle],
+) -> u32
+    ensures {{ IsBoardMake live_of side_of {variant}{size} ⟦<{family}Seat{size} as Posts<Record{size}>>⟧.is_made
+        limit places.old places.new first.now result }}
+{{
+    make_places::<Side, Handle, Record{size}, {family}Seat{size}>(alloc, first, limit, places)
+}}
+
+#[unsafe(no_mangle)]
+pub extern "C" fn nidzaru_{prefix}board_{size}_write(
+    alloc: Global,
+    place: &mut Handle,
+    item: &Record{size},
+    stamp: &mut Mark,
+) -> u32
+    ensures {{ IsBoardWrite {variant}{size} ⟦<{family}Seat{size} as Posts<Record{size}>>⟧.has_posted ⟦<{family}Seat{size} as Posts<Record{size}>>⟧.is_refused
+        (held place.old) (held place.new) item.now stamp.old stamp.new result }}
+{{
+    write_place::<Side, Loose, Record{size}, {family}Seat{size}>(alloc, place.live, &mut place.loose, item, stamp)
+}}
+
+#[unsafe(no_mangle)]
+pub extern "C" fn nidzaru_{prefix}board_{size}_read(
+    alloc: Global,
+    place: &mut Handle,
+    item: &mut Record{size},
+    stamp: &mut Mark,
+) -> u32
+    ensures {{ IsBoardRead {variant}{size} ⟦<{family}Seat{size} as Posts<Record{size}>>⟧.has_seen
+        (held place.old) (held place.new) item.old item.new stamp.old stamp.new result }}
+{{
+    read_place::<Side, Loose, Record{size}, {family}Seat{size}>(alloc, place.live, &mut place.loose, item, stamp)
+}}
+
+#[unsafe(no_mangle)]
+pub extern "C" fn nidzaru_{prefix}board_{size}_read_since(
+    alloc: Global,
+    place: &mut Handle,
+    least: &Mark,
+    item: &mut Record{size},
+    stamp: &mut Mark,
+) -> u32
+    ensures {{ IsBoardReadSince {variant}{size} ⟦<{family}Seat{size} as Posts<Record{size}>>⟧.has_seen
+        (held place.old) (held place.new) least.now item.old item.new stamp.old stamp.new result }}
+{{
+    read_place_since::<Side, Loose, Record{size}, {family}Seat{size}>(alloc, place.live, &mut place.loose, least, item, stamp)
+}}
+
+#[unsafe(no_mangle)]
+pub extern "C" fn nidzaru_{prefix}board_{size}_end(alloc: Global, place: &mut Handle) -> u32
+    ensures {{ IsEnd {variant}{size} (held place.old) (held place.new) result }}
+{{
+    end_place::<Side, Handle, {family}Seat{size}>(alloc, place)
+}}
+"""
+
+
 def export(size, cell):
     calls = ("end_reader", "end_writer", "look", "make", "read", "write")
     names = ["Handle", f"Record{size}", *(f"{cell['name']}_{call}" for call in calls)]
     return TEXT.format(size=size, bytes=f"{size:,}", names=", ".join(sorted(names)), **cell)
+
+
+def board_export(size, family):
+    names = ["Handle", "Loose", f"Record{size}", "Side", f"{family['family']}Seat{size}"]
+    return BOARD_TEXT.format(size=size, bytes=f"{size:,}", names=", ".join(sorted(names)), **family)
 
 
 def exports():
@@ -99,9 +183,16 @@ def exports():
         for name, cell in CELLS.items()
         for size in SIZES
     }
+    for name, family in FAMILIES.items():
+        files.update({f"exports/{name}_{size}.rt": board_export(size, family) for size in BOARD_SIZES})
     modules = sorted([os.path.basename(name)[:-3] for name in files] + ["version"])
     files["exports.rt"] = HEAD + "\n" + "".join(f"mod {name};\n" for name in modules)
     return files
+
+
+def boards():
+    """The boards' names in the exports."""
+    return [f"{family['prefix']}board_{size}" for family in FAMILIES.values() for size in BOARD_SIZES]
 
 
 def words(text):
@@ -126,6 +217,8 @@ def faults():
     cells = [f"{cell['prefix']}{size}" for cell in CELLS.values() for size in SIZES]
     if re.findall(r"^NIDZARU_DECLARE\((\w+)\)", read(TOP, "c/nidzaru.h"), re.M) != cells:
         yield "c/nidzaru.h declares other cells"
+    if re.findall(r"^NIDZARU_DECLARE_BOARD\((\w+)\)", read(TOP, "c/nidzaru.h"), re.M) != boards():
+        yield "c/nidzaru.h declares other boards"
     if re.findall(r"^CELL\((\w+), \d+\)", read(TOP, "c/tests/control.c"), re.M) != cells:
         yield "c/tests/control.c has other cells"
     version = re.search(r"result ≡ (\d+)", read(EXPORTS, "version.rt")).group(1)
@@ -140,7 +233,7 @@ if sys.argv[1:] == ["write"]:
             file.write(text)
 elif sys.argv[1:] == ["check"]:
     found = list(faults())
-    print("\n".join(found) or f"{6 * len(CELLS) * len(SIZES)} exports of {len(CELLS) * len(SIZES)} cells")
+    print("\n".join(found) or f"{6 * len(CELLS) * len(SIZES)} exports of {len(CELLS) * len(SIZES)} cells, {5 * len(boards())} of {len(boards())} boards")
     sys.exit(1 if found else 0)
 else:
     sys.exit(__doc__)

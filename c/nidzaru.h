@@ -1,4 +1,5 @@
-/* Registers that two threads share without waiting: one thread writes whole records, the other reads them.
+/* Registers that two threads share without waiting: one thread writes whole records, the other reads them. And boards, on which 2
+ * to 16 threads each write and read: "Boards" below.
  *
  *   struct limits { double low, high; };
  *   NIDZARU_REGISTER(limits, struct limits);           typed functions for the program's own struct
@@ -15,7 +16,7 @@
  * number never falls from one read to the next, and one number is one record: a greater number than the last is news, and
  * what lies between them was missed. NIDZARU_REGISTER takes the four-slot cell, NIDZARU_TRIPLE_REGISTER the triple buffer.
  *
- * Each call answers 0 or one of the numbers below, and then has changed nothing.
+ * Each call on a register answers 0 or one of the numbers below, and then has changed nothing.
  *
  * What the caller owes and nothing checks stands in docs/C.md, "What C owes". */
 #ifndef NIDZARU_H
@@ -27,7 +28,7 @@
 
 /* This header's version. `nidzaru_version()` is the library's: the two are of one release where the numbers are the same. */
 #define NIDZARU_VERSION_MAJOR 2
-#define NIDZARU_VERSION_MINOR 0
+#define NIDZARU_VERSION_MINOR 1
 #define NIDZARU_VERSION_PATCH 0
 #define NIDZARU_VERSION (NIDZARU_VERSION_MAJOR * 10000 + NIDZARU_VERSION_MINOR * 100 + NIDZARU_VERSION_PATCH)
 
@@ -116,10 +117,13 @@ enum nidzaru_status {
     NIDZARU_NO_MEMORY = 1,  /* make: memory was refused */
     NIDZARU_IN_USE = 2,     /* make: a handle has a side already */
     NIDZARU_ENDED = 3,      /* the handle has no side: it was ended, or never made */
-    NIDZARU_WORN_OUT = 4,   /* write: all 2^64 - 1 numbers are used */
+    NIDZARU_WORN_OUT = 4,   /* write: all 2^64 - 1 numbers are used, or a board's tags have ended */
     NIDZARU_OTHER_SIDE = 5, /* the handle has another side, or a side of another cell or size */
     NIDZARU_NULL = 6,       /* a null pointer was passed */
-    NIDZARU_COPIED = 7      /* the handle isn't where its side was put: it was copied */
+    NIDZARU_COPIED = 7,     /* the handle isn't where its side was put: it was copied */
+    NIDZARU_PROCESSES = 8,  /* make of a board: it has 2 to 16 places */
+    NIDZARU_LIMIT = 9,      /* make of a board: a limit is at least 1 and below 2^64 - 1 */
+    NIDZARU_OLDER = 10      /* read_since: the answer, which is given, has a smaller stamp */
 };
 
 /* What the library has of a side. Nothing else reads or writes it. */
@@ -368,6 +372,189 @@ NIDZARU_CHECKED int nidzaru_move(nidzaru_handle *to, nidzaru_handle *from) {
  * NAME_end_reader, for records of this type. */
 #define NIDZARU_REGISTER(name, type) NIDZARU_FUNCTIONS(name, type, 0)
 #define NIDZARU_TRIPLE_REGISTER(name, type) NIDZARU_FUNCTIONS(name, type, 1)
+
+/* Boards: one record that 2 to 16 threads share. Each has a place, by which it writes and reads.
+ *
+ *   NIDZARU_BOARD(plans, struct plan);                 typed functions for the program's own struct
+ *
+ *   plans_place places[3] = {NIDZARU_EMPTY, NIDZARU_EMPTY, NIDZARU_EMPTY};
+ *   plans_make(&opening, places, 3)                    a board that holds `opening`, as its three places
+ *   plans_write(&places[0], &item, &stamp)             puts the record there, and gives its stamp
+ *   plans_read(&places[1], &item, &stamp)              one whole record, and its stamp
+ *   plans_read_since(&places[1], least, &item, &stamp) the same, and NIDZARU_OLDER where its stamp is smaller than this one
+ *   plans_end(&places[2])                              in any order, each from its own thread
+ *
+ * No call waits, tries again or takes memory, but `make`. One stamp is one record; the opening has the stamp 0.0. Of two stamps the
+ * one with the greater tag is the later one, of equal tags the one with the greater writer. What a place reads is never older than
+ * what it wrote or read before. A place goes to the struct of its thread by `nidzaru_move`. NIDZARU_BOARD takes four-slot cells,
+ * NIDZARU_TRIPLE_BOARD triple buffers.
+ *
+ * With NIDZARU_WORN_OUT and NIDZARU_OLDER the place has made a call of its board all the same. With any other status but 0
+ * nothing has changed. */
+typedef struct {
+    uint64_t tag, writer;
+} nidzaru_stamp;
+
+/* Whether the first stamp is the smaller one. */
+NIDZARU_INLINE int nidzaru_stamp_is_below(nidzaru_stamp a, nidzaru_stamp b) {
+    return a.tag < b.tag || (a.tag == b.tag && a.writer < b.writer);
+}
+
+/* The greatest limit: no program gets there. */
+#define NIDZARU_UNLIMITED (UINT64_MAX - 1)
+
+/* The library's own calls: for each family and size of record the same five. */
+#define NIDZARU_DECLARE_BOARD(board)                                                                                  \
+    uint32_t nidzaru_##board##_make(const void *first, uint64_t limit, nidzaru_side *places, size_t count);           \
+    uint32_t nidzaru_##board##_write(nidzaru_side *place, const void *item, nidzaru_stamp *stamp);                    \
+    uint32_t nidzaru_##board##_read(nidzaru_side *place, void *item, nidzaru_stamp *stamp);                           \
+    uint32_t nidzaru_##board##_read_since(nidzaru_side *place, const nidzaru_stamp *least, void *item,                \
+                                          nidzaru_stamp *stamp);                                                      \
+    uint32_t nidzaru_##board##_end(nidzaru_side *place);
+NIDZARU_DECLARE_BOARD(board_24)
+NIDZARU_DECLARE_BOARD(triple_board_24)
+#undef NIDZARU_DECLARE_BOARD
+
+/* The size of the library's records that a record of a board goes into. */
+#define NIDZARU_BOARD_SIZE(size) 24
+#define NIDZARU_BOARD_PASSES(size, alignment) (!NIDZARU_WATCHED && (size) == NIDZARU_BOARD_SIZE(size) && (alignment) >= 8)
+#ifdef __cplusplus
+#define NIDZARU_BOARD_IN_PLACE(type) (NIDZARU_BOARD_PASSES(sizeof(type), alignof(type)) && !nidzaru::detail::shares_tail<type>::value)
+#else
+#define NIDZARU_BOARD_IN_PLACE(type) NIDZARU_BOARD_PASSES(sizeof(type), _Alignof(type))
+#endif
+
+#define NIDZARU_BOARD_PICK(triple, size, call, arguments)                                                             \
+    ((void)(size), (triple) ? nidzaru_triple_board_24_##call arguments : nidzaru_board_24_##call arguments)
+
+/* Makes a board with a place for each handle. They must be empty. */
+NIDZARU_CHECKED int nidzaru_sized_board_make(int triple, size_t size, const void *first, uint64_t limit, nidzaru_handle *const *places,
+                                             size_t count) {
+    nidzaru_side sides[16] = {{0, 0}};
+    uint32_t status;
+    size_t i;
+    void *order;
+    if (count < 2 || count > 16) return NIDZARU_PROCESSES;
+    for (i = 0; i < count; i++)
+        if (places[i]->side.live) return NIDZARU_IN_USE;
+    nidzaru_ignore();
+    status = NIDZARU_BOARD_PICK(triple, size, make, (first, limit, sides, count));
+    nidzaru_heed();
+    if (status) return (int)status;
+    order = nidzaru_new_order();
+    for (i = 0; i < count; i++) {
+        places[i]->side = sides[i];
+        places[i]->home = places[i];
+        places[i]->order = order;
+    }
+    return NIDZARU_DONE;
+}
+
+NIDZARU_CHECKED int nidzaru_sized_board_write(int triple, size_t size, nidzaru_handle *place, const void *item, nidzaru_stamp *stamp) {
+    uint32_t status;
+    nidzaru_begin(place);
+    nidzaru_show(place);
+    status = NIDZARU_BOARD_PICK(triple, size, write, (&place->side, item, stamp));
+    nidzaru_heed();
+    return (int)status;
+}
+
+NIDZARU_CHECKED int nidzaru_sized_board_read(int triple, size_t size, nidzaru_handle *place, void *item, nidzaru_stamp *stamp) {
+    uint32_t status;
+    nidzaru_begin(place);
+    status = NIDZARU_BOARD_PICK(triple, size, read, (&place->side, item, stamp));
+    nidzaru_see(place);
+    nidzaru_heed();
+    return (int)status;
+}
+
+NIDZARU_CHECKED int nidzaru_sized_board_read_since(int triple, size_t size, nidzaru_handle *place, nidzaru_stamp least, void *item,
+                                                   nidzaru_stamp *stamp) {
+    uint32_t status;
+    nidzaru_begin(place);
+    status = NIDZARU_BOARD_PICK(triple, size, read_since, (&place->side, &least, item, stamp));
+    nidzaru_see(place);
+    nidzaru_heed();
+    return (int)status;
+}
+
+NIDZARU_INLINE int nidzaru_sized_board_end(int triple, size_t size, nidzaru_handle *place) {
+    uint32_t status;
+    nidzaru_begin(place);
+    status = NIDZARU_BOARD_PICK(triple, size, end, (&place->side));
+    nidzaru_heed();
+    return (int)status;
+}
+#undef NIDZARU_BOARD_PICK
+
+#define NIDZARU_BOARD_FUNCTIONS(name, type, triple)                                                                   \
+    NIDZARU_ASSERT(NIDZARU_COPIES(type), "a record of a board is trivially copyable");                                \
+    NIDZARU_ASSERT(sizeof(type) <= 24, "a record of a board has at most 24 bytes");                                \
+    NIDZARU_ASSERT(NIDZARU_ALIGNMENT(type) <= 8, "a record of a board is aligned to at most 8 bytes");                \
+    typedef struct {                                                                                                  \
+        nidzaru_handle handle;                                                                                        \
+    } name##_place;                                                                                                   \
+    /* Makes a board that holds `first`, and puts its 2 to 16 places into empty handles. Its tags end at the limit. */ \
+    NIDZARU_CHECKED int name##_make_limited(const type *first, uint64_t limit, name##_place *places, size_t count) {  \
+        uint64_t record[NIDZARU_BOARD_SIZE(sizeof(type)) / 8] = {0};                                                  \
+        nidzaru_handle *handles[16] = {0};                                                                            \
+        size_t i;                                                                                                     \
+        if (!first || !places) return NIDZARU_NULL;                                                                   \
+        for (i = 0; i < count && i < 16; i++) handles[i] = &places[i].handle;                                         \
+        memcpy(record, (const void *)first, sizeof(type));                                                            \
+        return nidzaru_sized_board_make(triple, sizeof record, record, limit, handles, count);                        \
+    }                                                                                                                 \
+    /* The same, with tags that no program uses up. */                                                                \
+    NIDZARU_CHECKED int name##_make(const type *first, name##_place *places, size_t count) {                          \
+        return name##_make_limited(first, NIDZARU_UNLIMITED, places, count);                                          \
+    }                                                                                                                 \
+    /* Puts the record under the next stamp above all that this place sees, and gives the stamp. */                   \
+    NIDZARU_CHECKED int name##_write(name##_place *place, const type *item, nidzaru_stamp *stamp) {                   \
+        if (!place || !item || !stamp) return NIDZARU_NULL;                                                           \
+        if (nidzaru_is_copied(&place->handle)) return NIDZARU_COPIED;                                                 \
+        if (NIDZARU_BOARD_PASSES(sizeof(type), NIDZARU_ALIGNMENT(type))) {                                            \
+            return nidzaru_sized_board_write(triple, sizeof(type), &place->handle, (const void *)item, stamp);        \
+        } else {                                                                                                      \
+            uint64_t record[NIDZARU_BOARD_SIZE(sizeof(type)) / 8] = {0};                                              \
+            memcpy(record, (const void *)item, sizeof(type));                                                         \
+            return nidzaru_sized_board_write(triple, sizeof record, &place->handle, record, stamp);                   \
+        }                                                                                                             \
+    }                                                                                                                 \
+    /* Gives one whole record and its stamp, which is never below that of any call of this place before. */           \
+    NIDZARU_CHECKED int name##_read(name##_place *place, type *item, nidzaru_stamp *stamp) {                          \
+        if (!place || !item || !stamp) return NIDZARU_NULL;                                                           \
+        if (nidzaru_is_copied(&place->handle)) return NIDZARU_COPIED;                                                 \
+        if (NIDZARU_BOARD_IN_PLACE(type)) {                                                                           \
+            return nidzaru_sized_board_read(triple, sizeof(type), &place->handle, (void *)item, stamp);               \
+        } else {                                                                                                      \
+            uint64_t record[NIDZARU_BOARD_SIZE(sizeof(type)) / 8] = {0};                                              \
+            int status = nidzaru_sized_board_read(triple, sizeof record, &place->handle, record, stamp);              \
+            if (!status) NIDZARU_GIVE(item, record);                                                                  \
+            return status;                                                                                            \
+        }                                                                                                             \
+    }                                                                                                                 \
+    /* The same; NIDZARU_OLDER where the answer, which is given, has a smaller stamp than this one. */                \
+    NIDZARU_CHECKED int name##_read_since(name##_place *place, nidzaru_stamp least, type *item, nidzaru_stamp *stamp) { \
+        uint64_t record[NIDZARU_BOARD_SIZE(sizeof(type)) / 8] = {0};                                                  \
+        int status;                                                                                                   \
+        if (!place || !item || !stamp) return NIDZARU_NULL;                                                           \
+        if (nidzaru_is_copied(&place->handle)) return NIDZARU_COPIED;                                                 \
+        status = nidzaru_sized_board_read_since(triple, sizeof record, &place->handle, least, record, stamp);         \
+        if (!status || status == NIDZARU_OLDER) NIDZARU_GIVE(item, record);                                           \
+        return status;                                                                                                \
+    }                                                                                                                 \
+    /* Ends the place. The others go on, and keep the last record; the last end frees the board. */                   \
+    NIDZARU_INLINE int name##_end(name##_place *place) {                                                              \
+        if (!place) return NIDZARU_NULL;                                                                              \
+        if (nidzaru_is_copied(&place->handle)) return NIDZARU_COPIED;                                                 \
+        return nidzaru_sized_board_end(triple, NIDZARU_BOARD_SIZE(sizeof(type)), &place->handle);                     \
+    }                                                                                                                 \
+    NIDZARU_ASSERT(1, "takes a semicolon")
+
+/* The type NAME_place and the functions NAME_make, NAME_make_limited, NAME_write, NAME_read, NAME_read_since and NAME_end, for records
+ * of this type. */
+#define NIDZARU_BOARD(name, type) NIDZARU_BOARD_FUNCTIONS(name, type, 0)
+#define NIDZARU_TRIPLE_BOARD(name, type) NIDZARU_BOARD_FUNCTIONS(name, type, 1)
 
 #ifdef __cplusplus
 }

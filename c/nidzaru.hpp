@@ -1,4 +1,5 @@
-// Registers that two threads share without waiting, as C++ objects: each ends its side when it goes, and may be moved.
+// Registers that two threads share without waiting, and boards that several share, as C++ objects: each ends its side or place when
+// it goes, and may be moved.
 //
 //   auto [writer, reader] = nidzaru::make(limits{0.0, 9.5});     both sides of a register that holds these limits
 //   writer.write(item)                                           0, or a status of nidzaru.h
@@ -6,16 +7,23 @@
 //   reader.latest()                                              one whole record, if there is a side
 //   reader.has_news()                                            whether `latest` would give another record than the last one
 //
-// The record's type is trivially copyable, of at most 4096 bytes, and aligned to at most 8.
+//   auto places = nidzaru::make_board<3>(plan{})                 the three places of a board that holds this plan
+//   places[0].write(item, stamp)                                 puts the record there, and gives its stamp
+//   places[1].read(item, stamp), places[1].latest()              one whole record, and its stamp
+//   places[1].read_since(least, item, stamp)                     the same, and NIDZARU_OLDER where its stamp is smaller
+//
+// The record's type is trivially copyable, of at most 4096 bytes (24 on a board), and aligned to at most 8.
 #ifndef NIDZARU_HPP
 #define NIDZARU_HPP
 #include "nidzaru.h"
 
+#include <array>
 #include <cstdint>
 #include <cstring>
 #include <memory>
 #include <new>
 #include <optional>
+#include <stdexcept>
 #include <type_traits>
 #include <utility>
 
@@ -188,6 +196,156 @@ template <class T> [[nodiscard]] auto make(const T &first) { return make<T, cell
 template <class T> [[nodiscard]] auto make_triple(const T &first) { return make<T, cell::triple>(first); }
 template <class T> [[nodiscard]] auto try_make(const T &first) noexcept { return try_make<T, cell::four_slot>(first); }
 template <class T> [[nodiscard]] auto try_make_triple(const T &first) noexcept { return try_make<T, cell::triple>(first); }
+
+// The stamp of a record of a board: one stamp is one record, and the opening has 0.0.
+struct stamp : nidzaru_stamp {
+    stamp() noexcept : nidzaru_stamp{0, 0} {}
+    friend bool operator==(const stamp &a, const stamp &b) noexcept { return a.tag == b.tag && a.writer == b.writer; }
+    friend bool operator!=(const stamp &a, const stamp &b) noexcept { return !(a == b); }
+    friend bool operator<(const stamp &a, const stamp &b) noexcept { return nidzaru_stamp_is_below(a, b); }
+    friend bool operator>(const stamp &a, const stamp &b) noexcept { return b < a; }
+    friend bool operator<=(const stamp &a, const stamp &b) noexcept { return !(b < a); }
+    friend bool operator>=(const stamp &a, const stamp &b) noexcept { return !(a < b); }
+};
+
+template <class T, cell C> class place;
+template <class T, std::size_t N, cell C = cell::four_slot> using places = std::array<place<T, C>, N>;
+
+namespace detail {
+
+// How a `T` lies in a record of a board.
+template <class T, cell C> struct board_record {
+    static_assert(std::is_trivially_copyable<T>::value, "a record of a board is trivially copyable");
+    static_assert(!std::is_array<T>::value, "a record of a board is no array: std::array may be one");
+    static_assert(sizeof(T) <= 24, "a record of a board has at most 24 bytes");
+    static_assert(alignof(T) <= 8, "a record of a board is aligned to at most 8 bytes");
+    static constexpr std::size_t size = NIDZARU_BOARD_SIZE(sizeof(T));
+    static constexpr bool passes = NIDZARU_BOARD_PASSES(sizeof(T), alignof(T));
+    static constexpr bool in_place = NIDZARU_BOARD_IN_PLACE(T);
+    static constexpr int triple = C == cell::triple;
+    std::uint64_t words[size / 8] = {};
+
+    board_record() = default;
+    explicit board_record(const T &item) noexcept { std::memcpy(words, std::addressof(item), sizeof(T)); }
+};
+
+// Makes a board as its places, and gives the status.
+struct board_making {
+    template <class T, std::size_t N, cell C> static int make(const T &first, std::uint64_t limit, places<T, N, C> &made) noexcept;
+};
+
+} // namespace detail
+
+// A place at a board, the right to write and to read as one of its tasks: one thread uses it at a time.
+template <class T, cell C = cell::four_slot> class place : detail::side {
+    using record = detail::board_record<T, C>;
+
+  public:
+    place() = default;
+    place(place &&) = default;
+    place &operator=(place &&from) noexcept {
+        if (this != std::addressof(from)) {
+            end();
+            take(from);
+            last = from.last;
+        }
+        return *this;
+    }
+    ~place() { end(); }
+
+    // Puts the record under the next stamp above all that this place sees, and gives the stamp.
+    [[nodiscard]] int write(const T &item, stamp &given) noexcept {
+        int status;
+        if constexpr (record::passes) {
+            status = nidzaru_sized_board_write(record::triple, record::size, &handle, std::addressof(item), &given);
+        } else {
+            record copy(item);
+            status = nidzaru_sized_board_write(record::triple, record::size, &handle, copy.words, &given);
+        }
+        if (!status) last = given;
+        return status;
+    }
+
+    // Gives one whole record with its stamp, which is never below that of any call of this place before.
+    [[nodiscard]] int read(T &item, stamp &given) noexcept {
+        static_assert(record::in_place || std::is_copy_assignable<T>::value,
+                      "a read into a record assigns it: where it can't be assigned there is latest()");
+        int status;
+        if constexpr (record::in_place) {
+            status = nidzaru_sized_board_read(record::triple, record::size, &handle, std::addressof(item), &given);
+        } else {
+            record copy;
+            status = nidzaru_sized_board_read(record::triple, record::size, &handle, copy.words, &given);
+            if (!status) detail::give(std::addressof(item), copy.words);
+        }
+        if (!status) last = given;
+        return status;
+    }
+
+    // The same; NIDZARU_OLDER where the answer, which is given, has a smaller stamp than this one.
+    [[nodiscard]] int read_since(const stamp &least, T &item, stamp &given) noexcept {
+        static_assert(std::is_copy_assignable<T>::value, "a read into a record assigns it");
+        record copy;
+        int status = nidzaru_sized_board_read_since(record::triple, record::size, &handle, least, copy.words, &given);
+        if (!status || status == NIDZARU_OLDER) {
+            detail::give(std::addressof(item), copy.words);
+            last = given;
+        }
+        return status;
+    }
+
+    // One whole record, whose stamp is `last_stamp()` then. Nothing where there is no place.
+    [[nodiscard]] std::optional<T> latest() noexcept {
+        record copy;
+        stamp given;
+        if (nidzaru_sized_board_read(record::triple, record::size, &handle, copy.words, &given)) return std::nullopt;
+        last = given;
+        return std::optional<T>(std::in_place, detail::unmade<T>(copy.words).value);
+    }
+
+    // The stamp of the record that was written or read last.
+    [[nodiscard]] stamp last_stamp() const noexcept { return last; }
+
+    // Ends the place before the object goes. The others go on.
+    int end() noexcept { return nidzaru_sized_board_end(record::triple, record::size, &handle); }
+
+  private:
+    friend struct detail::board_making;
+    stamp last;
+};
+
+template <class T, std::size_t N, cell C>
+int detail::board_making::make(const T &first, std::uint64_t limit, places<T, N, C> &made) noexcept {
+    static_assert(2 <= N && N <= 16, "a board has 2 to 16 places");
+    using record = detail::board_record<T, C>;
+    record copy(first);
+    nidzaru_handle *handles[N];
+    for (std::size_t i = 0; i < N; i++) handles[i] = &made[i].handle;
+    return nidzaru_sized_board_make(record::triple, record::size, copy.words, limit, handles, N);
+}
+
+// The places of a new board of N tasks that holds `first`, and whose tags end at the limit. Nothing where memory is refused, or where
+// the limit isn't at least 1 and below 2^64 - 1.
+template <std::size_t N, cell C = cell::four_slot, class T>
+[[nodiscard]] std::optional<places<T, N, C>> try_make_board(const T &first, std::uint64_t limit = NIDZARU_UNLIMITED) noexcept {
+    std::optional<places<T, N, C>> made(std::in_place);
+    if (detail::board_making::make<T, N, C>(first, limit, *made)) return std::nullopt;
+    return made;
+}
+
+// The same. Throws std::bad_alloc where memory is refused, and std::invalid_argument at such a limit.
+template <std::size_t N, cell C = cell::four_slot, class T>
+[[nodiscard]] places<T, N, C> make_board([[maybe_unused]] const T &first, [[maybe_unused]] std::uint64_t limit = NIDZARU_UNLIMITED) {
+#ifdef __cpp_exceptions
+    places<T, N, C> made;
+    int status = detail::board_making::make<T, N, C>(first, limit, made);
+    if (status == NIDZARU_LIMIT) throw std::invalid_argument("a board's limit is at least 1 and below 2^64 - 1");
+    if (status) throw std::bad_alloc();
+    return made;
+#else
+    static_assert(detail::never<T>, "make_board throws where memory is refused: without exceptions there is try_make_board");
+#endif
+}
 
 } // namespace nidzaru
 #endif

@@ -64,8 +64,13 @@ test_in_c() {
     wants=passed
     run_here "c/tests/test.c ($c)" "$c" -std=c11 -D_GNU_SOURCE $strict -O2 c/tests/test.c $flags -o "$room/program"
     run_here "c/tests/edges.c ($c)" "$c" -std=c11 $strict -O1 c/tests/edges.c $wrapped $flags -o "$room/program"
+    for family in '' -DTRIPLE; do
+        run_here "c/tests/boards.c $family($c)" \
+            "$c" -std=c11 -D_GNU_SOURCE $strict -O2 $family c/tests/boards.c $wrapped $flags -o "$room/program"
+    done
     wants='no record was torn'
     run_here "examples/c/tasks.c ($c)" "$c" -std=c11 $strict -O2 examples/c/tasks.c $flags -o "$room/program"
+    run_here "examples/c/board.c ($c)" "$c" -std=c11 $strict -O2 examples/c/board.c $flags -o "$room/program"
     wants='a torn record'
     run_control "c/tests/test.c over a plain buffer ($c)" \
         "$c" -std=c11 -D_GNU_SOURCE $strict -O2 -I c c/tests/test.c c/tests/control.c -o "$room/program"
@@ -78,6 +83,10 @@ test_in_c() {
         struct wide { _Alignas(16) char bytes[16]; };
         NIDZARU_REGISTER(wides, struct wide);'
     refuse "a record aligned to 16 ($c)" "$c" -std=c11 -x c $cflags
+    wants='at most 24 bytes' text='#include <nidzaru.h>
+        struct large { char bytes[25]; };
+        NIDZARU_BOARD(larges, struct large);'
+    refuse "a record of a board of 25 bytes ($c)" "$c" -std=c11 -x c $cflags
     wants='unused.result' text='#include <nidzaru.h>
         NIDZARU_REGISTER(doubles, double);
         void show(doubles_writer *writer, double item) { doubles_write(writer, &item); }'
@@ -89,6 +98,9 @@ test_in_cpp() {
     for year in 17 20; do
         run_here "c/tests/test.cpp ($cpp, C++$year)" \
             "$cpp" -std=c++$year $strict -O2 c/tests/test.cpp $wrapped $flags -o "$room/program"
+    done
+    for year in 17 20; do
+        run_here "c/tests/boards.cpp ($cpp, C++$year)" "$cpp" -std=c++$year $strict -O2 c/tests/boards.cpp $flags -o "$room/program"
     done
     run_here "c/tests/bare.cpp, without exceptions ($cpp)" \
         "$cpp" -std=c++17 $strict -O2 -fno-exceptions -fno-rtti c/tests/bare.cpp $flags -o "$room/program"
@@ -108,6 +120,9 @@ test_in_cpp() {
     wants='unused.result\|nodiscard' text='#include <nidzaru.hpp>
         void show(nidzaru::writer<double> &writer) { writer.write(1.5); }'
     refuse "a status that nobody looks at ($cpp)" "$cpp" -std=c++17 -Werror -x c++ $cflags
+    wants='2 to 16 places' text='#include <nidzaru.hpp>
+        auto places = nidzaru::make_board<17>(1.5);'
+    refuse "a board of 17 places ($cpp)" "$cpp" -std=c++17 -x c++ $cflags
     wants='deleted' text='#include <nidzaru.hpp>
         void copy(nidzaru::writer<double> &writer) { auto other = writer; }'
     refuse "a copy of a side ($cpp)" "$cpp" -std=c++17 -x c++ $cflags

@@ -1,6 +1,6 @@
 # What `install` and the tests of the static library share. They name the folder at the top in $top.
 
-library_crates='history_core fourslot_core cell_live cell_four_slot cell_triple sides cells_sides cells_c'
+library_crates='history_core fourslot_core stamps matrix_core board_history cell_live cell_four_slot cell_triple family_live family_four_slot family_triple atomic_board sides places cells_sides cells_c'
 
 # Whether this is there and no source that the library is made of is newer.
 is_newest() {

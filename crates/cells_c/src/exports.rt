@@ -1,6 +1,7 @@
-//! The exports: for each cell and size a make, a write, a read, a look and an end of either side, and the library's version. The
-//! files of the cells are made by c/exports.py.
+//! The exports: for each cell and size a make, a write, a read, a look and an end of either side, for each family and size of a
+//! board a make, a write, two reads and an end, and the library's version. The files of cells and boards are made by c/exports.py.
 
+mod board_24;
 mod four_slot_1024;
 mod four_slot_128;
 mod four_slot_24;
@@ -15,4 +16,5 @@ mod triple_256;
 mod triple_4096;
 mod triple_64;
 mod triple_8;
+mod triple_board_24;
 mod version;

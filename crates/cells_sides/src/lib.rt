@@ -1,4 +1,4 @@
-//! Handles that C can hold, the sides that they can have, and the calls on them over any size: those of `sides` at its records.
+//! Handles that C can hold, the sides of cells and the places at boards that they can have, and the calls on cells over any size.
 //!
 //! A handle holds an erased box of one `Side`, or nothing.
 #![tactic(auto)]
@@ -9,6 +9,7 @@ mod layout;
 mod loose;
 mod parts;
 mod pick;
+mod placed;
 mod record;
 mod side;
 mod triple;
@@ -21,7 +22,7 @@ pub use handle::{Handle, handles_cross};
 pub use loose::Loose;
 pub use pick::{Record, Role};
 pub use record::{Record8, Record24, Record64, Record128, Record256, Record1024, Record4096};
-pub use side::{Party, Side};
+pub use side::{FourSlotSeat24, Party, Side, TripleSeat24};
 pub use triple::{
     triple_end_reader, triple_end_writer, triple_look, triple_make, triple_read, triple_write,
 };

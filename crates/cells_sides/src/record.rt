@@ -1,4 +1,9 @@
-//! The records that C passes.
+//! The records that C passes. It owes no law of them.
+ghost use Rattle.std.specs.Prelude.{true};
+ghost use Rattle.std.proofs.Common.{rules};
+
+use atomic_board::RecordLaw;
+use places::Free;
 
 /// A record of 8 bytes.
 #[repr(C)]
@@ -9,7 +14,7 @@ pub struct Record8 {
 
 /// A record of 24 bytes.
 #[repr(C)]
-#[derive(Clone, Copy)]
+#[derive(Clone, Copy, PartialEq, Eq)]
 pub struct Record24 {
     pub words: [u64; 3],
 }
@@ -47,4 +52,16 @@ pub struct Record1024 {
 #[derive(Clone, Copy)]
 pub struct Record4096 {
     pub words: [u64; 512],
+}
+
+impl RecordLaw for Record24 {
+    ghost obeys = { λ _. true };
+
+    fn fits(&self) -> bool {
+        true
+    }
+}
+
+impl Free for Record24 {
+    ghost free = { λ _. Prim.search rules };
 }

@@ -1,7 +1,16 @@
 //! What a handle can have.
 
 use crate::record::{Record8, Record24, Record64, Record128, Record256, Record1024, Record4096};
+use atomic_board::Posted;
+use family_four_slot::FourSlotFamily;
+use family_triple::TripleFamily;
+use places::{Place, Seated};
 use sides::{FourSlotReader, FourSlotWriter, TripleReader, TripleWriter};
+
+/// A place at a board over four-slot cells, or over triple buffers, with records of a size.
+pub type FourSlotSeat24 = Seated<Place<Record24, FourSlotFamily<Posted<Record24>>>>;
+
+pub type TripleSeat24 = Seated<Place<Record24, TripleFamily<Posted<Record24>>>>;
 
 /// One side of a cell whose records have this type.
 #[derive(Drop)]
@@ -12,7 +21,7 @@ pub enum Party<W: Copy> {
     TripleReads(TripleReader<W>),
 }
 
-/// One side of a cell, or none.
+/// One side of a cell, or a place at a board, or none.
 #[derive(Drop)]
 pub enum Side {
     Ended,
@@ -23,4 +32,6 @@ pub enum Side {
     Of256(Party<Record256>),
     Of1024(Party<Record1024>),
     Of4096(Party<Record4096>),
+    Board24(FourSlotSeat24),
+    TripleBoard24(TripleSeat24),
 }

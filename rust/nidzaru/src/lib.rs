@@ -1,4 +1,5 @@
-//! Registers that two threads share without waiting: one thread writes whole records, the other reads them.
+//! Registers that two threads share without waiting: one thread writes whole records, the other reads them. And boards, on which
+//! several threads each write and read: [`board`].
 //!
 //! A sensor's thread publishes its reading; the control loop takes the newest one whenever it likes. Neither ever waits for
 //! the other, tries again or takes memory, and no read gives half of one record and half of another. A register is no queue:
@@ -47,12 +48,15 @@
 //! # What is proved
 //!
 //! The calls go to the static library for C, each of whose exports is proved: the status that it answers, the record that it
-//! adds, and that no number falls. This crate is tested.
+//! adds, and that no number and no stamp falls. This crate is tested.
 
 #![deny(unsafe_code)]
 #![warn(missing_docs)]
 
+mod boards;
 mod raw;
+
+pub use boards::{board, limited_board, triple_board, BoardError, Place, Since, Stamp, TagsEnded, GREATEST_LIMIT};
 
 use raw::{Calls, ReadingSide, WritingSide};
 use std::fmt;

@@ -2,14 +2,14 @@
 //!
 //! What a call owes (the library's page for C lists it), and why it is met here:
 //!
-//! 1. *A handle begins empty, and only these calls write it.* A [`Side`] is made by [`open`] alone, its fields are private to this
-//!    module, and it is neither `Copy` nor `Clone`. The library doesn't know where a handle lies: it may be moved between calls.
+//! 1. *A handle begins empty, and only these calls write it.* A [`Side`] is made by [`open`] and [`open_board`] alone, its fields are
+//!    private to this module, and it is neither `Copy` nor `Clone`. The library doesn't know where a handle lies: it may be moved between calls.
 //! 2. *One call at a time with one handle.* Each call takes the handle by `&mut`. From thread to thread it goes by a move, which
 //!    std's threads and channels order.
 //! 3. *Pointers lead to whole objects, and what one call is passed doesn't overlap.* A record of the library is passed as a `T` of just
 //!    that size and alignment, or as an array of words of that size; `&mut` borrows don't overlap. The words may be uninitialized where
 //!    the record has padding: they are copied and never looked at, on either side.
-//! 4. *The record that comes back is a `T`.* The library gives a record that was written into this register, whole, or its opening:
+//! 4. *The record that comes back is a `T`.* The library gives a record that was written into this register or board, whole, or its opening:
 //!    bytes that were copied from a `T`, and a `Copy` type may be had again from its bytes. `T` is `Send`, so it may come in another
 //!    thread.
 //! 5. *The calls are those of the record's size.* They are chosen by `size_of::<T>()` at [`open`] and at each call, in one way.
@@ -24,6 +24,9 @@ use std::ptr;
 const DONE: u32 = 0;
 const NO_MEMORY: u32 = 1;
 const WORN_OUT: u32 = 4;
+const PROCESSES: u32 = 8;
+const LIMIT: u32 = 9;
+const OLDER: u32 = 10;
 
 /// A handle of the library.
 #[repr(C)]
@@ -335,7 +338,7 @@ fn is_written(status: u32) -> bool {
     match status {
         DONE => true,
         WORN_OUT => false,
-        other => unreachable!("the handle has the writing side, so the status isn't {other}"),
+        other => unreachable!("the handle has the writing side, or a place, so the status isn't {other}"),
     }
 }
 
@@ -389,7 +392,189 @@ pub fn look(calls: &'static Calls, reader: &mut ReadingSide) -> u64 {
 
 #[inline]
 fn must_be_done(status: u32) {
-    assert_eq!(status, DONE, "the handle has the reading side");
+    assert_eq!(status, DONE, "the handle has the reading side, or a place");
+}
+
+/// A stamp of the library.
+#[repr(C)]
+#[derive(Clone, Copy, Default)]
+pub struct Mark {
+    pub tag: u64,
+    pub writer: u64,
+}
+
+type MakeBoard = unsafe extern "C" fn(*const c_void, u64, *mut Side, usize) -> u32;
+type WritePlace = unsafe extern "C" fn(*mut Side, *const c_void, *mut Mark) -> u32;
+type ReadPlace = unsafe extern "C" fn(*mut Side, *mut c_void, *mut Mark) -> u32;
+type ReadPlaceSince = unsafe extern "C" fn(*mut Side, *const Mark, *mut c_void, *mut Mark) -> u32;
+
+/// The calls of boards over one family, with records of one size.
+pub struct BoardCalls {
+    size: usize,
+    make: MakeBoard,
+    write: WritePlace,
+    read: ReadPlace,
+    read_since: ReadPlaceSince,
+    end: End,
+}
+
+/// Declares the calls of boards over a family and names them.
+macro_rules! board_calls {
+    ($name:ident, $size:literal, $make:ident, $write:ident, $read:ident, $read_since:ident, $end:ident) => {
+        extern "C" {
+            fn $make(first: *const c_void, limit: u64, places: *mut Side, count: usize) -> u32;
+            fn $write(place: *mut Side, item: *const c_void, stamp: *mut Mark) -> u32;
+            fn $read(place: *mut Side, item: *mut c_void, stamp: *mut Mark) -> u32;
+            fn $read_since(place: *mut Side, least: *const Mark, item: *mut c_void, stamp: *mut Mark) -> u32;
+            fn $end(place: *mut Side) -> u32;
+        }
+        static $name: BoardCalls = BoardCalls { size: $size, make: $make, write: $write, read: $read, read_since: $read_since, end: $end };
+    };
+}
+
+board_calls!(
+    FOUR_SLOT_BOARD_24,
+    24,
+    nidzaru_board_24_make,
+    nidzaru_board_24_write,
+    nidzaru_board_24_read,
+    nidzaru_board_24_read_since,
+    nidzaru_board_24_end
+);
+board_calls!(
+    TRIPLE_BOARD_24,
+    24,
+    nidzaru_triple_board_24_make,
+    nidzaru_triple_board_24_write,
+    nidzaru_triple_board_24_read,
+    nidzaru_triple_board_24_read_since,
+    nidzaru_triple_board_24_end
+);
+
+/// The calls of boards for records of a size of at most 24 bytes.
+pub const fn board_calls_for(size: usize, triple: bool) -> &'static BoardCalls {
+    match (size, triple) {
+        (0..=24, false) => &FOUR_SLOT_BOARD_24,
+        (0..=24, true) => &TRIPLE_BOARD_24,
+        _ => panic!("a record of a board has at most 24 bytes"),
+    }
+}
+
+/// A place that is live until it goes.
+pub struct BoardPlace {
+    side: Side,
+    end: End,
+}
+
+// A place may go to another thread, as a side may.
+unsafe impl Send for BoardPlace {}
+
+impl Drop for BoardPlace {
+    fn drop(&mut self) {
+        // The place is live, and is not used again.
+        let status = unsafe { (self.end)(&mut self.side) };
+        debug_assert_eq!(status, DONE);
+    }
+}
+
+/// Why no board was made.
+#[derive(Clone, Copy)]
+pub enum NoBoard {
+    Places,
+    Limit,
+    Memory,
+}
+
+/// Whether a `T` is passed where it lies.
+const fn passes_board<T>(calls: &BoardCalls) -> bool {
+    size_of::<T>() == calls.size && align_of::<T>() == 8
+}
+
+/// The places of a new board.
+pub fn open_board<T: Copy>(calls: &'static BoardCalls, n: usize, limit: u64, first: &T) -> Result<Vec<BoardPlace>, NoBoard> {
+    if !(2..=16).contains(&n) {
+        return Err(NoBoard::Places);
+    }
+    let mut places = Vec::new();
+    places.try_reserve_exact(n).map_err(|_| NoBoard::Memory)?;
+    let mut sides = [const { Side::EMPTY }; 16];
+    by_size!(calls, open_board_by, (calls, &mut sides[..n], limit, first))?;
+    places.extend(sides.into_iter().take(n).map(|side| BoardPlace { side, end: calls.end }));
+    Ok(places)
+}
+
+fn open_board_by<T: Copy, const N: usize>(calls: &BoardCalls, sides: &mut [Side], limit: u64, first: &T) -> Result<(), NoBoard> {
+    // The handles are empty and as many as is said, and the words are as many as the library's record has.
+    let status = unsafe { (calls.make)(Words::<N>::of(first).as_ptr(), limit, sides.as_mut_ptr(), sides.len()) };
+    match status {
+        DONE => Ok(()),
+        NO_MEMORY => Err(NoBoard::Memory),
+        PROCESSES => Err(NoBoard::Places),
+        LIMIT => Err(NoBoard::Limit),
+        other => unreachable!("all handles are empty, so the status isn't {other}"),
+    }
+}
+
+/// Writes the record, and gives its stamp. None where the tags have ended.
+#[inline]
+pub fn write_place<T: Copy>(calls: &'static BoardCalls, place: &mut BoardPlace, item: &T) -> Option<Mark> {
+    if passes_board::<T>(calls) {
+        let mut stamp = Mark::default();
+        // The item is as large and aligned as the library's record.
+        let status = unsafe { (calls.write)(&mut place.side, ptr::from_ref(item).cast(), &mut stamp) };
+        is_written(status).then_some(stamp)
+    } else {
+        by_size!(calls, write_place_by, (calls, place, item))
+    }
+}
+
+#[inline]
+fn write_place_by<T: Copy, const N: usize>(calls: &BoardCalls, place: &mut BoardPlace, item: &T) -> Option<Mark> {
+    let mut stamp = Mark::default();
+    // The words are as many as the library's record has.
+    let status = unsafe { (calls.write)(&mut place.side, Words::<N>::of(item).as_ptr(), &mut stamp) };
+    is_written(status).then_some(stamp)
+}
+
+/// Reads a record and its stamp.
+#[inline]
+pub fn read_place<T: Copy>(calls: &'static BoardCalls, place: &mut BoardPlace) -> (T, Mark) {
+    if passes_board::<T>(calls) {
+        let (mut item, mut stamp) = (MaybeUninit::<T>::uninit(), Mark::default());
+        // The place is as large and aligned as the library's record.
+        must_be_done(unsafe { (calls.read)(&mut place.side, item.as_mut_ptr().cast(), &mut stamp) });
+        // The call has filled it with the bytes of a `T`.
+        (unsafe { item.assume_init() }, stamp)
+    } else {
+        by_size!(calls, read_place_by, (calls, place))
+    }
+}
+
+#[inline]
+fn read_place_by<T: Copy, const N: usize>(calls: &BoardCalls, place: &mut BoardPlace) -> (T, Mark) {
+    assert!(size_of::<T>() <= size_of::<Words<N>>());
+    let (mut words, mut stamp) = (Words::<N>::zero(), Mark::default());
+    // The words are as many as the library's record has.
+    must_be_done(unsafe { (calls.read)(&mut place.side, words.as_mut_ptr(), &mut stamp) });
+    // They begin with the bytes of a `T`.
+    (unsafe { ptr::read_unaligned(words.as_ptr().cast::<T>()) }, stamp)
+}
+
+/// Reads a record and its stamp, and says whether the stamp is at least this one.
+#[inline]
+pub fn read_place_since<T: Copy>(calls: &'static BoardCalls, place: &mut BoardPlace, least: Mark) -> (T, Mark, bool) {
+    by_size!(calls, read_place_since_by, (calls, place, least))
+}
+
+#[inline]
+fn read_place_since_by<T: Copy, const N: usize>(calls: &BoardCalls, place: &mut BoardPlace, least: Mark) -> (T, Mark, bool) {
+    assert!(size_of::<T>() <= size_of::<Words<N>>());
+    let (mut words, mut stamp) = (Words::<N>::zero(), Mark::default());
+    // The words are as many as the library's record has.
+    let status = unsafe { (calls.read_since)(&mut place.side, &least, words.as_mut_ptr(), &mut stamp) };
+    assert!(status == DONE || status == OLDER, "the handle has a place");
+    // They begin with the bytes of a `T`, with either status.
+    (unsafe { ptr::read_unaligned(words.as_ptr().cast::<T>()) }, stamp, status == DONE)
 }
 
 #[cfg(test)]
@@ -410,6 +595,16 @@ mod tests {
             assert_eq!(calls_for(size, false).size, least);
             assert_eq!(calls_for(size, true).size, least);
             assert_ne!(calls_for(size, false).write as usize, calls_for(size, true).write as usize);
+        }
+    }
+
+    #[test]
+    fn the_least_calls_of_boards_that_have_room_are_chosen() {
+        for size in 0..=24 {
+            let least = 24;
+            assert_eq!(board_calls_for(size, false).size, least);
+            assert_eq!(board_calls_for(size, true).size, least);
+            assert_ne!(board_calls_for(size, false).write as usize, board_calls_for(size, true).write as usize);
         }
     }
 

@@ -1,6 +1,6 @@
 //! Each call once, at the edges of the library's sizes, and what it refuses.
 
-use nidzaru::{library_version, register, triple_register, Mechanism, OutOfMemory, Sides, WornOut};
+use nidzaru::{board, library_version, register, triple_board, triple_register, BoardError, Mechanism, OutOfMemory, Place, Sides, WornOut};
 use std::cell::Cell;
 use std::ffi::c_void;
 
@@ -105,6 +105,21 @@ fn requests_for_memory_are_refused_in_turn() {
     }
     refuse(|| register([1; 3]));
     refuse(|| triple_register([1; 3]));
+    fn refuse_board<M: Mechanism>(make: impl Fn() -> Result<Vec<Place<[u64; 3], M>>, BoardError>) {
+        for at in 1.. {
+            ASKED.set(0);
+            REFUSED.set(at);
+            let made = make();
+            REFUSED.set(u64::MAX);
+            if ASKED.get() < at {
+                assert!(made.is_ok() && at > 8, "no request was refused");
+                return;
+            }
+            assert_eq!(made.err(), Some(BoardError::OutOfMemory));
+        }
+    }
+    refuse_board(|| board(3, [1; 3]));
+    refuse_board(|| triple_board(3, [1; 3]));
 }
 
 #[test]

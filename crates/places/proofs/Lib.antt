@@ -1,0 +1,5 @@
+pub mod Pairing
+pub mod Putting
+pub mod Opening
+pub mod Since
+pub mod Lives

@@ -1,0 +1,4 @@
+pub mod Marks
+pub mod Opens
+pub mod Places
+pub mod Boards

@@ -1,0 +1,22 @@
+//! A place at a board, and the calls that C makes on it through a handle, over any record, family and handle.
+//!
+//! A place is a share of the board with the pass of one of its processes. What a handle is, and which places it can have, is for
+//! the crate above to say.
+#![tactic(auto)]
+
+mod calls;
+mod known;
+mod makes;
+mod mark;
+mod place;
+mod posts;
+mod seated;
+mod sits;
+
+pub use calls::{end_place, read_place, read_place_since, write_place};
+pub use makes::make_places;
+pub use mark::Mark;
+pub use place::Place;
+pub use posts::Posts;
+pub use seated::Seated;
+pub use sits::{Free, Sits, Sitting};

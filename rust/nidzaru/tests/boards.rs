@@ -1,0 +1,100 @@
+//! Boards: each call at the edges of the library's sizes, what it refuses, and threads at full speed.
+
+use nidzaru::{
+    board, limited_board, triple_board, BoardError, FourSlot, Mechanism, Place, Since, Stamp, TagsEnded, Triple, GREATEST_LIMIT,
+};
+use std::fmt::Debug;
+use std::sync::{Arc, Mutex};
+use std::thread;
+
+fn calls<T: Copy + Send + PartialEq + Debug + 'static, M: Mechanism>(made: Result<Vec<Place<T, M>>, BoardError>, first: T, next: T) {
+    let mut places = made.unwrap();
+    let n = places.len();
+    assert_eq!((places[n - 1].read(), places[n - 1].stamp()), (first, Stamp::default()));
+    let told = places[1].write(&next).unwrap();
+    assert_eq!((told, places[1].stamp()), (Stamp { tag: 1, writer: 1 }, told));
+    assert_eq!((places[0].read_since(told), places[0].stamp()), (Since::Fresh(next), told));
+    let later = Stamp { tag: 1, writer: 2 };
+    assert!(told < later);
+    assert_eq!((places[0].read_since(later), places[0].stamp()), (Since::Older(next), told));
+    drop(places.remove(1));
+    assert_eq!(places[0].read(), next);
+    assert_eq!(places[0].write(&first), Ok(Stamp { tag: 2, writer: 0 }));
+    assert_eq!(places[0].read(), first);
+}
+
+macro_rules! at_sizes {
+    ($($size:literal)*) => {$(
+        let (first, next) = ([1u8; $size], [2u8; $size]);
+        calls(board(2, first), first, next);
+        calls(triple_board(3, first), first, next);
+    )*};
+}
+
+#[test]
+fn each_call_at_each_size() {
+    at_sizes!(1 7 8 9 15 16 17 23 24);
+    calls(board(16, [1u64; 3]), [1; 3], [2; 3]);
+    calls(board(4, 'a'), 'a', 'b');
+    calls(triple_board(16, Some(1.5)), Some(1.5), None);
+}
+
+#[test]
+fn what_no_board_has_is_refused() {
+    for n in [0, 1, 17, usize::MAX] {
+        assert_eq!(board(n, 1).err(), Some(BoardError::Places));
+    }
+    for limit in [0, u64::MAX] {
+        assert_eq!(limited_board::<_, FourSlot>(2, limit, 1).err(), Some(BoardError::Limit));
+        assert_eq!(limited_board::<_, Triple>(2, limit, 1).err(), Some(BoardError::Limit));
+    }
+    assert!(limited_board::<_, Triple>(2, GREATEST_LIMIT, 1).is_ok());
+    assert_eq!(BoardError::OutOfMemory.to_string(), "memory for a board was refused");
+}
+
+#[test]
+fn tags_end_at_the_limit() {
+    let mut places = limited_board::<_, Triple>(2, 2, 0).unwrap();
+    assert!(places[0].write(&1).is_ok() && places[1].write(&2).is_ok());
+    assert_eq!(places[0].write(&3), Err(TagsEnded));
+    assert_eq!((places[0].read(), places[1].read()), (2, 2));
+}
+
+/// The tasks of a board write and read at once, and each reads what another one told.
+fn run<M: Mechanism>(places: Vec<Place<[u32; 5], M>>) {
+    let told: Arc<Vec<Mutex<Stamp>>> = Arc::new(places.iter().map(|_| Mutex::default()).collect());
+    let tasks: Vec<_> = places
+        .into_iter()
+        .enumerate()
+        .map(|(me, mut place)| {
+            let told = Arc::clone(&told);
+            thread::spawn(move || {
+                let mut last = Stamp::default();
+                let whole = |item: [u32; 5]| item.iter().all(|&word| word == item[0]);
+                for n in 1..=5_000usize {
+                    let stamp = place.write(&[(n * 16 + me) as u32; 5]).unwrap();
+                    assert!(stamp > last && stamp.writer == me as u64);
+                    *told[me].lock().unwrap() = stamp;
+                    assert!(whole(place.read()) && place.stamp() >= stamp);
+                    let least = *told[(me + n) % told.len()].lock().unwrap();
+                    match place.read_since(least) {
+                        Since::Fresh(item) => assert!(whole(item) && place.stamp() >= least && place.stamp() >= stamp),
+                        Since::Older(_) => panic!("an answer that is older than what was told"),
+                    }
+                    last = place.stamp();
+                }
+            })
+        })
+        .collect();
+    for task in tasks {
+        task.join().unwrap();
+    }
+}
+
+#[test]
+fn nothing_is_torn_and_no_stamp_falls() {
+    for n in [2, 4, 16] {
+        run(board(n, [0; 5]).unwrap());
+        run(triple_board(n, [0; 5]).unwrap());
+    }
+}
