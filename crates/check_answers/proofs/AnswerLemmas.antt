@@ -5,7 +5,7 @@ use Rattle.history_core.specs.declared.history.Verdict.{Verdict}
 use Rattle.history_core.specs.declared.history.Verdict.TheVariants.{Lawful, Listing, Precedence, Reading, Limit}
 use Rattle.history_text.specs.Check.{check_of}
 use Rattle.history_text.specs.declared.document.CheckDocument.{CheckDocument}
-use Rattle.history_text.specs.declared.document.DocError.{DocError}
+use Rattle.document_refusals.specs.declared.refusal.DocError.{DocError}
 use Rattle.document_runs.specs.Answers.{AnswersReading, Gives, HasLowStatus}
 use Rattle.document_runs.specs.declared.fault.Answer.{Answer}
 use Rattle.document_runs.specs.declared.fault.Fault.{Fault}

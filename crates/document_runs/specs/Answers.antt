@@ -1,6 +1,6 @@
 -- The answer to a document that may be refused, and what a call gives of it (this project's own).
 use Rattle.std.specs.Prelude.{◌≡◌, ◌≢◌, ◌≤◌, Result, Ok, Err}
-use Rattle.history_text.specs.declared.document.DocError.{DocError}
+use Rattle.document_refusals.specs.declared.refusal.DocError.{DocError}
 use Rattle.document_runs.specs.declared.fault.Answer.{Answer}
 use Rattle.document_runs.specs.declared.fault.Fault.{Fault}
 use Rattle.document_runs.specs.declared.fault.Fault.TheVariants as fault

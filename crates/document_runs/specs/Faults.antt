@@ -1,8 +1,8 @@
 -- The faults that the refusals of the crates below become (this project's own).
 use Rattle.history_core.specs.declared.wish.PlayError.{PlayError}
 use Rattle.history_core.specs.declared.wish.PlayError.TheVariants as play
-use Rattle.history_text.specs.declared.document.DocError.{DocError}
-use Rattle.history_text.specs.declared.document.DocError.TheVariants as doc
+use Rattle.document_refusals.specs.declared.refusal.DocError.{DocError}
+use Rattle.document_refusals.specs.declared.refusal.DocError.TheVariants as doc
 use Rattle.document_runs.specs.declared.fault.Fault.{Fault}
 use Rattle.document_runs.specs.declared.fault.Fault.TheVariants.{Document, Schedule, NoMemory}
 

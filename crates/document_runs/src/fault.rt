@@ -3,7 +3,7 @@ ghost use Rattle.document_runs.specs.Faults.{play_fault, refusal_fault};
 ghost use Rattle.document_runs.specs.declared.fault.Fault.TheVariants.{NoMemory};
 
 use history_core::{Items, PlayError};
-use history_text::DocError;
+use document_refusals::DocError;
 use std::alloc::AllocError;
 use thiserror::Error;
 

@@ -7,7 +7,7 @@ use Rattle.fsr_words.specs.declared.command.Want.{Want}
 use Rattle.fsr_words.specs.declared.command.Want.TheVariants as want
 use Rattle.check_answers.proofs.AnswerLemmas.{low_check}
 use Rattle.order_answers.proofs.AnswerLemmas.{low_order}
-use Rattle.history_text.specs.declared.document.DocError.{DocError}
+use Rattle.document_refusals.specs.declared.refusal.DocError.{DocError}
 use Rattle.report_text.specs.declared.report.Report.{Report}
 use Rattle.report_text.specs.declared.report.Report.TheVariants as report
 use Rattle.schedule_text.specs.Document.{race_of, schedule_of}

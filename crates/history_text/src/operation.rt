@@ -1,5 +1,6 @@
 //! An operation of a history.
-ghost use Rattle.std.specs.Prelude.{◌≡◌, option_map};
+ghost use Rattle.std.specs.Prelude.{◌≡◌, codes, option_and_then, option_map};
+ghost use Rattle.serde_json.specs.Find.{as_str, get};
 ghost use Rattle.serde_json.specs.View.{view};
 ghost use Rattle.history_text.specs.Shapes.{as_band, as_op, as_whole, kind_named, optional};
 
@@ -20,12 +21,30 @@ fn op_in(value: &Value) -> Option<Op<Band>>
     ensures { result ≡ as_op (view value.now) }
 {
     Some(Op {
-        who: place_in(value.get("who")?)?,
-        kind: kind_named(value.get("kind")?.as_str()?)?,
-        starts: value.get("begin")?.as_u64()?,
+        who: actor_of(value)?,
+        kind: kind_of(value)?,
+        starts: beginning_of(value)?,
         ends: optional_number(value.get("end"))?,
         item: optional_band(value.get("record"))?,
     })
+}
+
+fn actor_of(value: &Value) -> Option<usize>
+    ensures { result ≡ option_and_then as_whole (get (codes "who") (view value.now)) }
+{
+    place_in(value.get("who")?)
+}
+
+fn kind_of(value: &Value) -> Option<Kind>
+    ensures { result ≡ option_and_then kind_named (option_and_then as_str (get (codes "kind") (view value.now))) }
+{
+    kind_named(value.get("kind")?.as_str()?)
+}
+
+fn beginning_of(value: &Value) -> Option<u64>
+    ensures { result ≡ option_and_then as_whole (get (codes "begin") (view value.now)) }
+{
+    value.get("begin")?.as_u64()
 }
 
 fn kind_named(name: &str) -> Option<Kind>

@@ -1,5 +1,5 @@
 //! The shape of a value, and those of numbers, records and arrays.
-ghost use Rattle.std.specs.Prelude.{◌≡◌, Option, map, option_map, IfOk};
+ghost use Rattle.std.specs.Prelude.{◌≡◌, ◌++◌, [], ◌∷◌, if◌then◌else◌, Option, Some, None, map, option_map, IfOk};
 ghost use Rattle.serde_json.specs.Data.{Data};
 ghost use Rattle.serde_json.specs.View.{view};
 ghost use Rattle.history_text.specs.Shapes.{all_of, as_band, as_items, as_list, as_three, as_whole};
@@ -97,10 +97,21 @@ fn all_of<T: Shape>(alloc: Global, values: &[Value]) -> Result<Option<Vec<T>>, A
 {
     let mut found = Vec::with_capacity(alloc, values.len())?;
     for item in values {
-        let Some(x) = T::read(alloc, item)? else {
+        if !adds(alloc, item, &mut found)? {
             return Ok(None);
-        };
-        found.push(x)?;
+        }
     }
     Ok(Some(found))
+}
+
+/// Adds what the value stands for, and says whether it has the shape.
+fn adds<T: Shape>(alloc: Global, value: &Value, found: &mut Vec<T>) -> Result<bool, AllocError>
+    ensures { IfOk result (λ fits. (if fits then Some found.new.items else None)
+        ≡ option_map (λ x. found.old.items ++ x ∷ []) (T.shape (view value.now))) }
+{
+    let Some(x) = T::read(alloc, value)? else {
+        return Ok(false);
+    };
+    found.push(x)?;
+    Ok(true)
 }

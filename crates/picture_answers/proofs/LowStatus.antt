@@ -3,7 +3,7 @@ use Rattle.std.proofs.Common.{rules, ◌≡◌, ◌≤◌, List, ℕ, Result, Ok
 use Rattle.document_runs.specs.Answers.{AnswersReading, Gives, HasLowStatus}
 use Rattle.document_runs.specs.declared.fault.Answer.{Answer}
 use Rattle.document_runs.specs.declared.fault.Fault.{Fault}
-use Rattle.history_text.specs.declared.document.DocError.{DocError}
+use Rattle.document_refusals.specs.declared.refusal.DocError.{DocError}
 use Rattle.picture_text.specs.declared.scene.Finding.{Finding}
 use Rattle.picture_text.specs.declared.scene.Finding.TheVariants.{Lawful, Broken, NoOrder}
 use Rattle.picture_text.specs.declared.scene.Scene.{Scene}

@@ -16,8 +16,8 @@ use Rattle.history_text.specs.Document.{value_of}
 use Rattle.history_text.specs.Log.{CanBeSearched, log_document}
 use Rattle.history_text.specs.Refusals.{◌>>=◌}
 use Rattle.history_text.specs.declared.document.CheckDocument.{CheckDocument}
-use Rattle.history_text.specs.declared.document.DocError.{DocError}
-use Rattle.history_text.specs.declared.document.DocError.TheVariants as doc
+use Rattle.document_refusals.specs.declared.refusal.DocError.{DocError}
+use Rattle.document_refusals.specs.declared.refusal.DocError.TheVariants as doc
 use Rattle.board_play.specs.BoardReports.{IsBoardReport}
 use Rattle.matrix_core.specs.Runs.{board_spans}
 use Rattle.matrix_play.specs.MatrixReports.{IsMatrixReport}

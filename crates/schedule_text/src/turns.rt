@@ -3,7 +3,7 @@ ghost use Rattle.std.specs.Prelude.{◌≡◌, IfOk};
 ghost use Rattle.serde_json.specs.View.{view};
 ghost use Rattle.history_text.specs.Refusals.{field, Gives};
 ghost use Rattle.history_text.specs.Shapes.{all_of};
-ghost use Rattle.history_text.specs.declared.key.Key.TheVariants.{Steps};
+ghost use Rattle.document_refusals.specs.declared.key.Key.TheVariants.{Steps};
 ghost use Rattle.schedule_text.specs.Shapes.{as_turns, turn_named};
 
 use fourslot_core::Turn;

@@ -19,7 +19,7 @@ pub enum Key {
 }
 
 impl Key {
-    ghost use Rattle.history_text.specs.Keys.{name_of};
+    ghost use Rattle.document_refusals.specs.Keys.{name_of};
 
     /// The key as it stands in a document.
     pub fn name(self) -> &'static str
@@ -42,7 +42,7 @@ impl Key {
 }
 
 impl fmt::Display for Key {
-    ghost use Rattle.history_text.specs.Keys.{name_of};
+    ghost use Rattle.document_refusals.specs.Keys.{name_of};
 
     ghost output = { λ key. Some (name_of key) };
 

@@ -1,8 +1,8 @@
 -- The keys of a document (this project's own).
 use Rattle.std.specs.Prelude.{ℕ, List, codes}
-use Rattle.history_text.specs.declared.key.Key.{Key}
-use Rattle.history_text.specs.declared.key.Key.TheVariants.{Opening, Noise, Limit, Ops, Order}
-use Rattle.history_text.specs.declared.key.Key.TheVariants.{Writes, Reads, Steps, Plans, Scripts, Terms}
+use Rattle.document_refusals.specs.declared.key.Key.{Key}
+use Rattle.document_refusals.specs.declared.key.Key.TheVariants.{Opening, Noise, Limit, Ops, Order}
+use Rattle.document_refusals.specs.declared.key.Key.TheVariants.{Writes, Reads, Steps, Plans, Scripts, Terms}
 
 abbrev pub name_of : Key → List ℕ
 name_of Opening = codes "opening"
