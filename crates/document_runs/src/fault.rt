@@ -2,8 +2,8 @@ ghost use Rattle.std.specs.Prelude.{◌≡◌};
 ghost use Rattle.document_runs.specs.Faults.{play_fault, refusal_fault};
 ghost use Rattle.document_runs.specs.declared.fault.Fault.TheVariants.{NoMemory};
 
-use history_core::{Items, PlayError};
 use document_refusals::DocError;
+use history_core::{Items, PlayError};
 use std::alloc::AllocError;
 use thiserror::Error;
 
