@@ -3,7 +3,8 @@ use Rattle.std.proofs.Common.{◌≡◌, ◌≢◌, ℕ, ◌+◌, ◌-◌, ◌*�
 use Rattle.std.proofs.lemmas.Bool.Decides.{nat_tests}
 use Rattle.std.proofs.lemmas.Bool.{cases_lt}
 use Rattle.family_four_slot.specs.Layouts.{IsLayout}
-use Rattle.family_triple.specs.Places.{among, other, triples, word_at, slot_at}
+use Rattle.history_core.specs.Others.{other}
+use Rattle.family_triple.specs.Places.{among, triples, word_at, slot_at}
 
 pub is_layout : (n : ℕ) → IsLayout (triples n)
 is_layout n = record {

@@ -13,7 +13,8 @@ use Rattle.family_four_slot.specs.Family.{of_cell}
 use Rattle.family_four_slot.specs.Places.{place, writer_of}
 use Rattle.family_four_slot.proofs.Places.{place_in, place_apart, writer_there}
 use Rattle.family_four_slot.proofs.Slices.{get_set_here, get_set_else, set_long}
-use Rattle.family_triple.specs.Places.{among, other, slot_at}
+use Rattle.history_core.specs.Others.{other}
+use Rattle.family_triple.specs.Places.{among, slot_at}
 use Rattle.family_triple.specs.Steps.{goes_on}
 use Rattle.family_triple.specs.Tables.{IsTurned}
 use Rattle.family_triple.specs.Words.{IsRow, IsColumn, IsAtRest}

@@ -22,7 +22,8 @@ use Rattle.family_four_slot.proofs.Places.{place_in, place_apart, writer_there, 
 use Rattle.family_four_slot.proofs.Slices.{get_set_here, get_set_else, set_long}
 use Rattle.family_four_slot.proofs.Starts.{upto_long, upto_get}
 use Rattle.family_triple.specs.Access.{IsReady}
-use Rattle.family_triple.specs.Places.{among, other, slot_at}
+use Rattle.history_core.specs.Others.{other}
+use Rattle.family_triple.specs.Places.{among, slot_at}
 use Rattle.family_triple.specs.Steps.{Beside, alters}
 use Rattle.family_triple.specs.Tables.{IsTurned}
 use Rattle.family_triple.specs.Triples.{first_part, first_process}

@@ -1,5 +1,5 @@
 -- A receipt tells of each cell of its process's row what the process wrote last, and of other cells nothing.
-use Rattle.std.proofs.Common.{◌≡◌, ◌≢◌, ◌<◌, ℕ, List, [], ◌∷◌, refl, sym, ap, ◌∙◌, subst, map}
+use Rattle.std.proofs.Common.{◌≡◌, ◌<◌, ℕ, [], refl, sym, ap, ◌∙◌, subst}
 use Rattle.cell_live.specs.Intervals.{dated}
 use Rattle.cell_live.specs.Running.{snap}
 use Rattle.cell_live.specs.Sights.{receipt_or}

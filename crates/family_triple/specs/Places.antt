@@ -3,12 +3,9 @@
 use Rattle.std.specs.Prelude.{ℕ, ◌+◌, ◌-◌, ◌*◌, nat_lt, cond}
 use Rattle.family_four_slot.specs.Layouts.{Layout}
 
--- the number of a process among the others of this one, and the other way
+-- the number of a process among the others of this one
 abbrev pub among : ℕ → ℕ → ℕ
 among i j = cond (nat_lt j i) j (j - 1)
-
-abbrev pub other : ℕ → ℕ → ℕ
-other i k = cond (nat_lt k i) k (k + 1)
 
 abbrev pub word_at : ℕ → ℕ → ℕ
 word_at k i = 8 * k + 8 + i

@@ -1,5 +1,5 @@
 -- A family of triple buffers (this project's own).
-use Rattle.std.specs.Prelude.{ℕ, ◌-◌, ◌*◌, ◌≤◌, nat_eq, cond, []}
+use Rattle.std.specs.Prelude.{ℕ, ◌*◌, ◌≤◌, nat_eq, cond, []}
 use Rattle.atomic_table.specs.Table.{State}
 use Rattle.cell_live.specs.declared.sight.Sight.TheVariants.{Spent, Writer, Reader}
 use Rattle.cell_triple.specs.Rule.{TripleRule}

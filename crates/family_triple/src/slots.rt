@@ -6,7 +6,8 @@ ghost use Rattle.cell_triple.specs.Steps.{TripleSight};
 ghost use Rattle.family_four_slot.specs.declared.notes.Process.{Process};
 ghost use Rattle.family_four_slot.specs.declared.notes.View.TheVariants.{Has};
 ghost use Rattle.family_triple.specs.Access.{HasLooked, IsReady};
-ghost use Rattle.family_triple.specs.Places.{among, other, triples, slot_at};
+ghost use Rattle.history_core.specs.Others.{other};
+ghost use Rattle.family_triple.specs.Places.{among, triples, slot_at};
 ghost use Rattle.family_triple.specs.Tables.{HasReader};
 ghost use Rattle.family_triple.specs.Triples.{first_process};
 

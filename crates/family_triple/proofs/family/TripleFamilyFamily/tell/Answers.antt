@@ -1,5 +1,5 @@
 -- The receipt is that of the process.
-use Rattle.std.proofs.Common.{◌≡◌, List, [], ◌∷◌, refl, sym, ap, ◌∙◌}
+use Rattle.std.proofs.Common.{◌≡◌, [], refl, ap, ◌∙◌}
 use Rattle.cell_triple.specs.Steps.{TripleSight, receipt_for}
 use Rattle.family_four_slot.specs.declared.notes.Receipt.{Receipt}
 use Rattle.family_four_slot.specs.declared.notes.View.TheVariants.{Told}

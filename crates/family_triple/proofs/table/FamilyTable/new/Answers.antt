@@ -1,5 +1,5 @@
 -- Words without a mark and copies of the record are a family at the start.
-use Rattle.std.proofs.Common.{rules, ◌≡◌, ◌*◌, ◌+◌, ◌-◌, List, ℕ, replicate, sym, subst, ◌∙◌, true, is_ok, vec_len}
+use Rattle.std.proofs.Common.{rules, ◌≡◌, ◌*◌, ◌+◌, List, ℕ, replicate, sym, subst, ◌∙◌, true, is_ok, vec_len}
 use Rattle.atomic_table.specs.Table.{opening}
 use Rattle.family_triple.specs.Triples.{TripleFamily, first_view}
 use Rattle.family_four_slot.proofs.Starts.{filled}
