@@ -1,9 +1,12 @@
 //! `fsr`: checks an order of a history, finds one of a log, plays a schedule, or runs a race, that comes as a document on standard input.
 #![tactic(auto)]
 
+use atomic_board::Posted;
 use document_runs::FSR;
+use family_four_slot::FourSlotFamily;
 use fsr_answers::run;
 use fsr_words::words_of;
+use history_core::Band;
 use std::process::ExitCode;
 use streams::Over;
 
@@ -15,7 +18,7 @@ fn main(rt: HostRuntime) -> ExitCode {
     };
     let mut input = Over::new(rt.stdin());
     let mut out = Over::new(rt.stdout());
-    let status = run(
+    let status = run::<FourSlotFamily<Posted<Band>>, _, _, _, _, _>(
         &rt,
         rt.alloc(),
         words.as_slice(),

@@ -1,3 +1,2 @@
 pub mod LowStatus
 pub mod ProgramLemmas
-pub mod RaceLemmas

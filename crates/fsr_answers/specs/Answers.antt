@@ -1,95 +1,20 @@
--- The answer to a document: what is printed with which status, or the fault (this project's own).
-use Rattle.std.specs.Prelude.{◌≡◌, ℕ, Bool, List, [], ◌∷◌, Option, Some, None, Result, Ok, Err}
-use Rattle.document_runs.specs.Answers.{AnswersReading}
+-- The answer of each command to a document (this project's own).
+use Rattle.std.specs.Prelude.{ℕ, List, Result}
 use Rattle.document_runs.specs.declared.fault.Answer.{Answer}
 use Rattle.document_runs.specs.declared.fault.Fault.{Fault}
-use Rattle.document_runs.specs.declared.fault.Fault.TheVariants as fault
-use Rattle.fourslot_play.specs.CellReports.{IsCellReport}
-use Rattle.fourslot_core.specs.Play.{cell_span}
-use Rattle.fourslot_core.specs.declared.schedule.CellReport.{CellReport}
-use Rattle.fourslot_core.specs.declared.schedule.CellSchedule.{CellSchedule}
 use Rattle.fsr_words.specs.declared.command.Want.{Want}
 use Rattle.fsr_words.specs.declared.command.Want.TheVariants as want
+use Rattle.history_core.specs.declared.band.Band.{Band}
+use Rattle.family_live.specs.declared.family.Family.{Ghosts as FamilyWords}
+use Rattle.atomic_board.specs.declared.record.Posted.{Posted}
 use Rattle.check_answers.specs.Check.{IsCheckAnswer}
 use Rattle.order_answers.specs.Order.{IsOrderAnswer}
-use Rattle.history_core.specs.Schedules.{HasOperations, IsFirstOverrun, Span}
-use Rattle.history_core.specs.declared.band.Band.{Band}
-use Rattle.board_play.specs.BoardReports.{IsBoardReport}
-use Rattle.matrix_core.specs.Runs.{board_spans}
-use Rattle.matrix_play.specs.MatrixReports.{IsMatrixReport}
-use Rattle.matrix_core.specs.Runs.{spans_of}
-use Rattle.matrix_core.specs.declared.schedule.BoardSchedule.{BoardSchedule}
-use Rattle.matrix_core.specs.declared.schedule.MatrixSchedule.{MatrixSchedule}
-use Rattle.report_text.specs.Text.{text_of}
-use Rattle.report_text.specs.declared.report.Report.{Report}
-use Rattle.report_text.specs.declared.report.Report.TheVariants as report
-use Rattle.schedule_text.specs.Document.{race_of, schedule_of}
-use Rattle.schedule_text.specs.declared.document.RaceDocument.{RaceDocument}
-use Rattle.schedule_text.specs.declared.document.ScheduleDocument.{ScheduleDocument}
-use Rattle.schedule_text.specs.declared.document.ScheduleDocument.TheVariants.{Cell, Matrix, Board}
-use Rattle.fsr_answers.specs.Races.{IsRace}
+use Rattle.play_answers.specs.Play.{IsPlayAnswer}
+use Rattle.race_answers.specs.Answers.{IsRaceAnswer}
 
--- the status of a race: 0 where each record has its origin, else 1
-abbrev pub origin_status : Option (ℕ × ℕ) → ℕ
-origin_status None = 0
-origin_status (Some broken) = 1
-
-abbrev pub race_status : Report → ℕ
-race_status (report.Race tasks broken) = origin_status broken
-race_status other = 0
-
--- the text of a report, with this status
-abbrev pub printed : Report → ℕ → Answer
-printed r status = record { text = text_of r; status = status }
-
--- the answer to the schedule of a cell: the text of the report of its run, or the first step that has no operation
-abbrev pub AnswersCell : CellSchedule Band → Result Answer Fault → Type 0
-AnswersCell schedule (Ok answer) =
-    (r : CellReport Band) × IsCellReport schedule r × (answer ≡ printed (report.Cell r) 0)
-AnswersCell schedule (Err (fault.Document refusal)) = ⊥
-AnswersCell schedule (Err (fault.History why)) = ⊥
-AnswersCell schedule (Err (fault.Schedule position)) = IsFirstOverrun (cell_span schedule ∷ []) position
-AnswersCell schedule (Err fault.NoMemory) = ⊥
-
--- the answer to a schedule with these spans, likewise: the text of a report that is made as it should be
-abbrev pub AnswersTerms : {Made : Type 0} → List (Span Band) → (Made → Type 0) → (Made → Report) → Result Answer Fault → Type 0
-AnswersTerms {Made} spans IsMade told (Ok answer) = (r : Made) × HasOperations spans × IsMade r × (answer ≡ printed (told r) 0)
-AnswersTerms spans IsMade told (Err (fault.Document refusal)) = ⊥
-AnswersTerms spans IsMade told (Err (fault.History why)) = ⊥
-AnswersTerms spans IsMade told (Err (fault.Schedule position)) = IsFirstOverrun spans position
-AnswersTerms spans IsMade told (Err fault.NoMemory) = ⊥
-
--- the answer to the schedule of a matrix; titled, where its terms are told
-abbrev pub AnswersMatrix : MatrixSchedule Band → Bool → Result Answer Fault → Type 0
-AnswersMatrix schedule titled reply = AnswersTerms (spans_of schedule.terms) (IsMatrixReport schedule) (λ r. report.Matrix r titled) reply
-
--- the answer to the schedule of a composed board
-abbrev pub AnswersBoard : BoardSchedule Band → Bool → Result Answer Fault → Type 0
-AnswersBoard schedule titled reply = AnswersTerms (board_spans schedule.terms) (IsBoardReport schedule) (λ r. report.Board r titled) reply
-
--- the answer to the scripts of a race: the text of what a race tells that nothing stops
-abbrev pub AnswersRace : RaceDocument → Result Answer Fault → Type 0
-AnswersRace document (Ok answer) =
-    (r : Report) × IsRace (λ task call. Unit {0}) (λ task call. ⊥) document.opening document.limit document.scripts r
-    × (answer ≡ printed r (race_status r))
-AnswersRace document (Err fault) = ⊥
-
--- the answer to what a document of a schedule stands for
-abbrev pub AnswersSchedule : ScheduleDocument → Result Answer Fault → Type 0
-AnswersSchedule (Cell schedule) reply = AnswersCell schedule reply
-AnswersSchedule (Matrix schedule titled) reply = AnswersMatrix schedule titled reply
-AnswersSchedule (Board schedule titled) reply = AnswersBoard schedule titled reply
-
--- the answers of the commands `play` and `race` to the bytes of a document
-abbrev pub IsPlayAnswer : List ℕ → Result Answer Fault → Type 0
-IsPlayAnswer bytes reply = AnswersReading AnswersSchedule (schedule_of bytes) reply
-
-abbrev pub IsRaceAnswer : List ℕ → Result Answer Fault → Type 0
-IsRaceAnswer bytes reply = AnswersReading AnswersRace (race_of bytes) reply
-
--- the answer of a command to the bytes of a document
-abbrev pub IsAnswer : Want → List ℕ → Result Answer Fault → Type 0
-IsAnswer want.Check bytes reply = IsCheckAnswer bytes reply
-IsAnswer want.Order bytes reply = IsOrderAnswer bytes reply
-IsAnswer want.Play bytes reply = IsPlayAnswer bytes reply
-IsAnswer want.Race bytes reply = IsRaceAnswer bytes reply
+-- the answer of a command to the bytes of a document; a race is run over a board of this family
+abbrev pub IsAnswer : {F S T : Type 0} → FamilyWords F (Posted Band) S T → Want → List ℕ → Result Answer Fault → Type 0
+IsAnswer family want.Check bytes reply = IsCheckAnswer bytes reply
+IsAnswer family want.Order bytes reply = IsOrderAnswer bytes reply
+IsAnswer family want.Play bytes reply = IsPlayAnswer bytes reply
+IsAnswer family want.Race bytes reply = IsRaceAnswer family bytes reply

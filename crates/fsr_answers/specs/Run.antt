@@ -3,9 +3,12 @@ use Rattle.std.specs.Prelude.{◌≡◌, ℕ, List, Option, Some, None}
 use Rattle.document_runs.specs.Run.{IsToldBy, nothing_asked}
 use Rattle.document_runs.specs.declared.fault.Answer.{Answer}
 use Rattle.fsr_words.specs.declared.command.Want.{Want}
+use Rattle.history_core.specs.declared.band.Band.{Band}
+use Rattle.family_live.specs.declared.family.Family.{Ghosts as FamilyWords}
+use Rattle.atomic_board.specs.declared.record.Posted.{Posted}
 use Rattle.fsr_answers.specs.Answers.{IsAnswer}
 
 -- what the command makes of the input: words that are no command print nothing, with status 2
-abbrev pub IsOutcome : Option Want → List ℕ → Answer → Type 0
-IsOutcome None bytes told = told ≡ nothing_asked
-IsOutcome (Some want) bytes told = IsToldBy (IsAnswer want) bytes told
+abbrev pub IsOutcome : {F S T : Type 0} → FamilyWords F (Posted Band) S T → Option Want → List ℕ → Answer → Type 0
+IsOutcome family None bytes told = told ≡ nothing_asked
+IsOutcome family (Some want) bytes told = IsToldBy (IsAnswer family want) bytes told

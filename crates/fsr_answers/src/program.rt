@@ -6,59 +6,70 @@ ghost use Rattle.fsr_answers.specs.Run.{IsOutcome};
 ghost use Rattle.fsr_words.specs.Command.{command_of};
 ghost use Rattle.streams.specs.Stream.{HasRoom};
 
-use crate::{play, run_race};
+use atomic_board::Posted;
 use check_answers::check;
 use document_runs::{Answer, FSR, Fault, give_answer, take_document};
+use family_live::{Family, SharedFamily};
 use fsr_words::{Want, command_of, tell_refusal};
+use history_core::Band;
 use order_answers::order;
+use play_answers::play;
+use race_answers::run_race;
 use std::alloc::Global;
 use std::convert::AsStr;
 use std::thread::Threads;
 use streams::{Sink, Source};
 
-/// The answer of a command to the bytes of a document.
-pub fn answer<R: Threads + Sync>(
+/// The answer of a command to the bytes of a document. A race is run over a board of this family.
+pub fn answer<F: SharedFamily<Posted<Band>>, R: Threads + Sync>(
     rt: &R,
     alloc: Global,
     want: Want,
     bytes: &[u8],
 ) -> Result<Answer, Fault>
-    ensures { Gives (IsAnswer want bytes.now) result }
+where
+    F::Seat: Send,
+    F::Told: Send,
+    ensures { Gives (IsAnswer ⟦<F as Family<Posted<Band>>>⟧ want bytes.now) result }
 {
     match want {
         Want::Check => check(alloc, bytes),
         Want::Order => order(alloc, bytes),
         Want::Play => play(alloc, bytes),
-        Want::Race => run_race(rt, alloc, bytes),
+        Want::Race => run_race::<R, F>(rt, alloc, bytes),
     }
 }
 
 /// Runs the program over its words, of which the first is its name, and its streams, and gives the status that it ends with.
 /// The text goes to `out`, and what is to be told besides goes to `faults`, whose failures change no status.
-pub fn run<'a, R: Threads + Sync, S: AsStr, I: Source, O: Sink, E: Sink>(
-    rt: &R,
-    alloc: Global,
-    words: &'a [S],
-    input: &mut I,
-    out: &mut O,
-    faults: &mut E,
-) -> u8
+pub fn run<
+    'a,
+    F: SharedFamily<Posted<Band>>,
+    R: Threads + Sync,
+    S: AsStr,
+    I: Source,
+    O: Sink,
+    E: Sink,
+>(rt: &R, alloc: Global, words: &'a [S], input: &mut I, out: &mut O, faults: &mut E) -> u8
+where
+    F::Seat: Send,
+    F::Told: Send,
     requires input { HasRoom (I.failed input.old) }
     requires out { HasRoom (O.failed out.old) }
     requires faults { HasRoom (E.failed faults.old) }
-    ensures runs { Runs (IsOutcome (command_of (map S.text words.now))) (I.remaining input.old)
+    ensures runs { Runs (IsOutcome ⟦<F as Family<Posted<Band>>>⟧ (command_of (map S.text words.now))) (I.remaining input.old)
         (I.remaining input.new) (O.contents out.old) (O.contents out.new) result }
     ensures fails { Fails (I.failed input.old) (I.failed input.new) (O.failed out.old)
         (O.failed out.new) result }
     ensures faults { E.failed faults.new ≤ E.failed faults.old + 1 }
 {
     match command_of(alloc, words) {
-        Ok(want) => run_command(rt, alloc, want, input, out, faults),
+        Ok(want) => run_command::<F, R, I, O, E>(rt, alloc, want, input, out, faults),
         Err(refusal) => tell_refusal(alloc, FSR.no_memory, refusal, faults),
     }
 }
 
-fn run_command<R: Threads + Sync, I: Source, O: Sink, E: Sink>(
+fn run_command<F: SharedFamily<Posted<Band>>, R: Threads + Sync, I: Source, O: Sink, E: Sink>(
     rt: &R,
     alloc: Global,
     want: Want,
@@ -66,10 +77,13 @@ fn run_command<R: Threads + Sync, I: Source, O: Sink, E: Sink>(
     out: &mut O,
     faults: &mut E,
 ) -> u8
+where
+    F::Seat: Send,
+    F::Told: Send,
     requires input { HasRoom (I.failed input.old) }
     requires out { HasRoom (O.failed out.old) }
     requires faults { HasRoom (E.failed faults.old) }
-    ensures runs { Runs (IsOutcome (Some want)) (I.remaining input.old) (I.remaining input.new)
+    ensures runs { Runs (IsOutcome ⟦<F as Family<Posted<Band>>>⟧ (Some want)) (I.remaining input.old) (I.remaining input.new)
         (O.contents out.old) (O.contents out.new) result }
     ensures fails { Fails (I.failed input.old) (I.failed input.new) (O.failed out.old)
         (O.failed out.new) result }
@@ -77,7 +91,7 @@ fn run_command<R: Threads + Sync, I: Source, O: Sink, E: Sink>(
 {
     match take_document(alloc, &FSR, input, faults) {
         Ok(bytes) => {
-            let reply = answer(rt, alloc, want, bytes.as_slice());
+            let reply = answer::<F, R>(rt, alloc, want, bytes.as_slice());
             give_answer(alloc, &FSR, reply, out, faults)
         }
         Err(status) => status,

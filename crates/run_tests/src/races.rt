@@ -1,8 +1,9 @@
-use crate::runs;
+use crate::runs::{self, FsrFamily};
 use board_tasks::{CountingGate, Gate, OpenGate, TimedGate};
 use document_runs::Fault;
-use fsr_answers::{answer, race};
+use fsr_answers::answer;
 use fsr_words::Want;
+use race_answers::race;
 use report_text::{Report, report_text};
 use schedule_text::{RaceDocument, read_race};
 use std::alloc::Global;
@@ -29,7 +30,7 @@ fn race_under<R: Threads + Sync, G: Gate + Sync>(
         limit,
         scripts,
     } = read_race(alloc, document.as_bytes())?;
-    race(rt, alloc, opening, limit, scripts, gate)
+    race::<R, G, FsrFamily>(rt, alloc, opening, limit, scripts, gate)
 }
 
 /// Each task raises its flag before its first call, and goes on where it sees the other's. With one thread none does. A task that
@@ -165,7 +166,7 @@ fn open_gate_lets_every_call_through(rt: HostRuntime) -> Result<(), Fail> {
         let report = race_under(&rt, rt.alloc(), document, &OpenGate)?;
         let text = report_text(rt.alloc(), &report)?;
         assert!(rt; text.as_slice() == lines.as_bytes());
-        let answer = answer(&rt, rt.alloc(), Want::Race, document.as_bytes())?;
+        let answer = answer::<FsrFamily, _>(&rt, rt.alloc(), Want::Race, document.as_bytes())?;
         assert!(rt; answer.text.as_slice() == lines.as_bytes());
         assert_eq!(rt; answer.status, 0);
         runs::race(&rt, rt.alloc(), document.as_bytes(), 0, lines, "");

@@ -1,9 +1,32 @@
+ghost use Rattle.streams.specs.Stream.{HasRoom};
+
 use crate::fakes::{Full, Kept, Pieces};
-use fsr_answers::run;
+use atomic_board::Posted;
+use family_four_slot::FourSlotFamily;
+use history_core::Band;
 use std::alloc::{AllocError, Global};
 use std::process::Abort;
 use std::thread::Threads;
-use streams::Over;
+use streams::{Over, Sink, Source};
+
+/// The family of the boards over which `fsr` runs races.
+pub type FsrFamily = FourSlotFamily<Posted<Band>>;
+
+/// Runs `fsr` over words and streams, as its `main` does.
+pub fn run<'a, R: Threads + Sync, I: Source, O: Sink, E: Sink>(
+    rt: &R,
+    alloc: Global,
+    words: &'a [&'a str],
+    input: &mut I,
+    out: &mut O,
+    faults: &mut E,
+) -> u8
+    requires input { HasRoom (I.failed input.old) }
+    requires out { HasRoom (O.failed out.old) }
+    requires faults { HasRoom (E.failed faults.old) }
+{
+    fsr_answers::run::<FsrFamily, R, &'a str, I, O, E>(rt, alloc, words, input, out, faults)
+}
 
 /// More bytes than any test gives or prints.
 pub const AMPLE: usize = 2_000_000;

@@ -1,7 +1,6 @@
 use crate::fakes::{Full, InterruptedReader, InterruptedWriter, Kept, Pieces};
 use crate::long::padded;
-use crate::runs::{AMPLE, ROW};
-use fsr_answers::run;
+use crate::runs::{AMPLE, ROW, run};
 use std::test::Fail;
 use streams::{Over, Sink, Source};
 

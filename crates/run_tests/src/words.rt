@@ -1,6 +1,5 @@
 use crate::fakes::{Full, Kept, Pieces};
-use crate::runs::{AMPLE, ROW};
-use fsr_answers::run;
+use crate::runs::{AMPLE, ROW, run};
 use std::alloc::Global;
 use std::process::Abort;
 use std::thread::Threads;

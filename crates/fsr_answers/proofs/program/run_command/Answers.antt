@@ -6,14 +6,14 @@ use Rattle.fsr_answers.proofs.program.run_command.Goals as goal
 
 pub returns-in-Ok-clause-runs : goal.returns-in-Ok-clause-runs
 returns-in-Ok-clause-runs g c =
-    ends_answered (IsAnswer c.args.want) _ _ _ _ c.in-Ok.bytes.items _ _ _ _ c.answer-reply.result c.in-Ok.ensures.taken
-    c.as_slice.ensures.value c.answer-reply.ensures (low_answer c.args.want _ c.answer-reply.result c.answer-reply.ensures)
+    ends_answered (IsAnswer g.F.Family c.args.want) _ _ _ _ c.in-Ok.bytes.items _ _ _ _ c.answer-reply.result c.in-Ok.ensures.taken
+    c.as_slice.ensures.value c.answer-reply.ensures (low_answer g.F.Family c.args.want _ c.answer-reply.result c.answer-reply.ensures)
     c.give_answer.ensures.given
 
 pub returns-in-Ok-clause-fails : goal.returns-in-Ok-clause-fails
 returns-in-Ok-clause-fails g c =
     fails_answered _ _ _ _ _ _ _ c.answer-reply.result c.in-Ok.ensures.counts
-    (low_answer c.args.want _ c.answer-reply.result c.answer-reply.ensures) c.give_answer.ensures.given
+    (low_answer g.F.Family c.args.want _ c.answer-reply.result c.answer-reply.ensures) c.give_answer.ensures.given
 
 pub returns-in-Err-clause-runs : goal.returns-in-Err-clause-runs
 returns-in-Err-clause-runs g c = ends_untaken _ _ _ _ _ _ _ c.in-Err.ensures.taken c.in-Err.ensures.counts

@@ -40,8 +40,8 @@ use Rattle.log_origins.specs.Origins.{IsOrigin}
 use Rattle.log_origins.specs.Told.{AreOfRun}
 use Rattle.log_origins.proofs.SoundRuns.{atomic_run}
 use Rattle.schedule_text.specs.Plans.{wish_fits}
-use Rattle.fsr_answers.specs.Races.{CountsAll, CountsScript, IsRaceOver, broken_at, counts_in, counts_of, is_read}
-use Rattle.fsr_answers.specs.Races.{is_refused, is_seen, is_write, is_written, replies, same_band}
+use Rattle.race_answers.specs.Races.{CountsAll, CountsScript, IsRace, broken_at, counts_in, counts_of, is_read}
+use Rattle.race_answers.specs.Races.{is_refused, is_seen, is_write, is_written, replies, same_band}
 use Rattle.report_text.specs.declared.report.Counts.{Counts}
 use Rattle.report_text.specs.declared.report.Report.{Report}
 use Rattle.report_text.specs.declared.report.Report.TheVariants.{Race}
@@ -70,7 +70,7 @@ written_as_write limit process (Write item) seen chosen (Written s) h = refl
 written_as_write limit process (Write item) seen chosen (Seen p) h = absurd h
 written_as_write limit process (Write item) seen chosen (Ended p) h = refl
 
--- over any family, so that no step unfolds what a family of four-slot cells is
+-- over any family
 module _ {F S T : Type 0} (family : FamilyWords F (Posted Band) S T) where
   reads_answered : (board : Board Band F S T) (old : Pass Band F S T) (log : List (Entry Band)) (new : Pass Band F S T)
       → AreCalls family fits board old log new
@@ -118,7 +118,7 @@ module _ {F S T : Type 0} (family : FamilyWords F (Posted Band) S T) where
   -- under a gate that never stops a race has the counts of its scripts
   pub race_counts : (may_call may_stop : ℕ → ℕ → Type 0) → ((task call : ℕ) → may_stop task call → ⊥)
       → (opening : Band) (limit : ℕ) (scripts : List (List (Wish Band))) (report : Report)
-      → IsRaceOver family may_call may_stop opening limit scripts report → CountsAll scripts report
+      → IsRace family may_call may_stop opening limit scripts report → CountsAll scripts report
   race_counts may_call may_stop never opening limit scripts report h =
       let tell : (Lane Band F S T) → Counts = λ (l : Lane Band F S T). counts_of l.log.items in
       let all = length-map h.ended tell ∙ h.ran.lengths ∙ lanes_length family fits h.passes scripts h.lanes h.begins ∙ h.new.count.1 in
@@ -175,7 +175,7 @@ module _ {F S T : Type 0} (family : FamilyWords F (Posted Band) S T) where
       → checked ≡ logs → IsOrigin same_band opening (map (λ v. v.items) checked) origin
       → (AreOfRun opening (map (λ v. v.items) checked) → origin ≡ Sound)
       → broken ≡ broken_at origin
-      → IsRaceOver family may_call may_stop opening limit scripts (Race tasks broken)
+      → IsRace family may_call may_stop opening limit scripts (Race tasks broken)
   race_of may_call may_stop opening limit n scripts board passes lanes before after ended logs counted checked last origin tasks broken count new are
       same ran end given greatest atomic ordered these counts those found finds told =
       let items : List (Vec (Entry Band) Global) → List (List (Entry Band)) = map (λ (v : Vec (Entry Band) Global). v.items) in
@@ -210,8 +210,8 @@ module _ {F S T : Type 0} (family : FamilyWords F (Posted Band) S T) where
 
   -- a race is one under a gate that permits all
   pub open_race : (may_call may_stop : ℕ → ℕ → Type 0) (opening : Band) (limit : ℕ) (scripts : List (List (Wish Band))) (report : Report)
-      → IsRaceOver family may_call may_stop opening limit scripts report
-      → IsRaceOver family (λ task call. Unit {0}) may_stop opening limit scripts report
+      → IsRace family may_call may_stop opening limit scripts report
+      → IsRace family (λ task call. Unit {0}) may_stop opening limit scripts report
   open_race may_call may_stop opening limit scripts report h = record {
     board = h.board;
     passes = h.passes;

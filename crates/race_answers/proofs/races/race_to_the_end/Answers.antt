@@ -1,7 +1,7 @@
 -- The gate of the race permits every call.
 use Rattle.std.proofs.Common.{rules}
-use Rattle.fsr_answers.proofs.RaceLemmas.{open_race}
-use Rattle.fsr_answers.proofs.races.race_to_the_end.Goals as goal
+use Rattle.race_answers.proofs.RaceLemmas.{open_race}
+use Rattle.race_answers.proofs.races.race_to_the_end.Goals as goal
 
 pub returns : goal.returns
 returns g c = (

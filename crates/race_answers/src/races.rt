@@ -2,34 +2,41 @@
 ghost use Rattle.std.specs.Prelude.{◌≡◌, ℕ, IfErr, IfOk, map};
 ghost use Rattle.schedule_text.specs.Players.{CanRace};
 ghost use Rattle.document_runs.specs.Answers.{Gives};
-ghost use Rattle.fsr_answers.specs.Answers.{AnswersRace, IsRaceAnswer, race_status};
-ghost use Rattle.fsr_answers.specs.Races.{CountsAll, IsRace, IsRaceOver, broken_at, counts_of, is_refused, is_seen, is_written, replies};
+ghost use Rattle.race_answers.specs.Answers.{AnswersRace, IsRaceAnswer, race_status};
+ghost use Rattle.race_answers.specs.Races.{CountsAll, IsRace, broken_at, counts_of, is_refused, is_seen, is_written, replies};
 ghost use Rattle.board_tasks.specs.Tasks.{Permitted};
 ghost use Rattle.history_text.specs.Refusals.{Gives as Reads};
 ghost use Rattle.schedule_text.specs.Document.{race_of};
 ghost use Rattle.document_runs.specs.declared.fault.Fault.TheVariants.{NoMemory};
 
-use crate::plays::print;
 use atomic_board::{Board, BoardError, Posted};
 use board_tasks::{Entry, Gate, OpenGate, Reply, finish_lanes, make_lanes, run_tasks};
 use document_runs::{Answer, Fault};
-use family_four_slot::FourSlotFamily;
 use family_live::{Family, SharedFamily};
 use history_core::{Band, Items, Wish};
 use history_text::{DocError, read_value};
 use log_origins::{Origin, check_origin};
+use report_answers::print;
 use report_text::{Counts, Report};
 use schedule_text::{RaceDocument, race_document};
 use std::alloc::{AllocError, Global};
 use std::mem::forget;
 use std::thread::Threads;
 
-/// The answer of the command `race` to the bytes of a document: what a race of its scripts tells, whose gate lets every call through.
-pub fn run_race<R: Threads + Sync>(rt: &R, alloc: Global, bytes: &[u8]) -> Result<Answer, Fault>
-    ensures { Gives (IsRaceAnswer bytes.now) result }
+/// The answer of the command `race` to the bytes of a document: what a race of its scripts tells, whose gate lets every call through,
+/// over a board of the family that the caller names.
+pub fn run_race<R: Threads + Sync, F: SharedFamily<Posted<Band>>>(
+    rt: &R,
+    alloc: Global,
+    bytes: &[u8],
+) -> Result<Answer, Fault>
+where
+    F::Seat: Send,
+    F::Told: Send,
+    ensures { Gives (IsRaceAnswer ⟦<F as Family<Posted<Band>>>⟧ bytes.now) result }
 {
     let document = read(alloc, bytes)?;
-    race_to_the_end(rt, alloc, document)
+    race_to_the_end::<R, F>(rt, alloc, document)
 }
 
 /// The race that the bytes stand for. The JSON value that they are is left unfreed, as that of a schedule.
@@ -45,20 +52,23 @@ fn read(alloc: Global, bytes: &[u8]) -> Result<RaceDocument, DocError>
 }
 
 /// The report of a race whose gate lets every call through.
-fn race_to_the_end<R: Threads + Sync>(
+fn race_to_the_end<R: Threads + Sync, F: SharedFamily<Posted<Band>>>(
     rt: &R,
     alloc: Global,
     document: RaceDocument,
 ) -> Result<Answer, Fault>
+where
+    F::Seat: Send,
+    F::Told: Send,
     requires { CanRace document.opening document.limit document.scripts }
-    ensures { Gives (AnswersRace document) result }
+    ensures { Gives (AnswersRace ⟦<F as Family<Posted<Band>>>⟧ document) result }
 {
     let RaceDocument {
         opening,
         limit,
         scripts,
     } = document;
-    let report = race(rt, alloc, opening, limit, scripts, &OpenGate)?;
+    let report = race::<R, OpenGate, F>(rt, alloc, opening, limit, scripts, &OpenGate)?;
     let status = race_status(&report);
     let answer = print(alloc, report, status)?;
     Ok(answer)
@@ -76,26 +86,9 @@ fn race_status(report: &Report) -> u8
     }
 }
 
-/// Runs each script as a task of its own, in threads, over a board of four-slot registers, ends the board, and tells what the
-/// logs say: they tell of calls that are atomic by their intervals, so that no origin is broken.
-pub fn race<R: Threads + Sync, G: Gate + Sync>(
-    rt: &R,
-    alloc: Global,
-    opening: Band,
-    limit: u64,
-    scripts: Items<Items<Wish<Band>>>,
-    gate: &G,
-) -> Result<Report, Fault>
-    requires { CanRace opening limit scripts }
-    ensures report { IfOk result (IsRace (Permitted G.is_for gate.now) (G.may_stop gate.now) opening limit scripts) }
-    ensures counted { ((task call : ℕ) → G.may_stop gate.now task call → ⊥) → IfOk result (CountsAll scripts) }
-    ensures refused { IfErr result (λ e. e ≡ NoMemory) }
-{
-    race_over::<R, G, FourSlotFamily<Posted<Band>>>(rt, alloc, opening, limit, scripts, gate)
-}
-
-/// The same over any family.
-fn race_over<R: Threads + Sync, G: Gate + Sync, F: SharedFamily<Posted<Band>>>(
+/// Runs each script as a task of its own, in threads, over a board of this family, ends the board, and tells what the logs say: they
+/// tell of calls that are atomic by their intervals, so that no origin is broken.
+pub fn race<R: Threads + Sync, G: Gate + Sync, F: SharedFamily<Posted<Band>>>(
     rt: &R,
     alloc: Global,
     opening: Band,
@@ -107,7 +100,7 @@ where
     F::Seat: Send,
     F::Told: Send,
     requires { CanRace opening limit scripts }
-    ensures report { IfOk result (IsRaceOver ⟦<F as Family<Posted<Band>>>⟧ (Permitted G.is_for gate.now) (G.may_stop gate.now)
+    ensures report { IfOk result (IsRace ⟦<F as Family<Posted<Band>>>⟧ (Permitted G.is_for gate.now) (G.may_stop gate.now)
         opening limit scripts) }
     ensures counted { ((task call : ℕ) → G.may_stop gate.now task call → ⊥) → IfOk result (CountsAll scripts) }
     ensures refused { IfErr result (λ e. e ≡ NoMemory) }

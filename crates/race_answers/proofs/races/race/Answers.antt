@@ -3,8 +3,8 @@ use Rattle.std.proofs.Common.{rules, ◌≡◌, length, ap, refl, ◌∙◌}
 use Rattle.board_tasks.specs.Tasks.{Permitted}
 use Rattle.board_tasks.proofs.Works.{changed_whole}
 use Rattle.report_text.specs.declared.report.Report.TheVariants.{Race}
-use Rattle.fsr_answers.proofs.RaceLemmas.{race_counts, race_of, race_ready, race_worked}
-use Rattle.fsr_answers.proofs.races.race_over.Goals as goal
+use Rattle.race_answers.proofs.RaceLemmas.{race_counts, race_of, race_ready, race_worked}
+use Rattle.race_answers.proofs.races.race.Goals as goal
 
 pub run_tasks-requires-after_bounds : goal.run_tasks-requires-after_bounds
 run_tasks-requires-after_bounds g c κs within =

@@ -1,4 +1,4 @@
--- What a race tells: its scripts are run as tasks over a running board of a family of four-slot cells (this project's own).
+-- What a race tells: its scripts are run as tasks over a running board of any family (this project's own).
 use Rattle.std.specs.Prelude.{◌≡◌, Bool, true, false, ◌&&◌, nat_eq, ℕ, ◌+◌, List, length, map, count_by, slice_get, Option, Some, None}
 use Rattle.history_core.specs.declared.band.Band.{Band}
 use Rattle.history_core.specs.declared.wish.Wish.{Wish}
@@ -6,11 +6,6 @@ use Rattle.history_core.specs.declared.wish.Wish.TheVariants.{Write, Read}
 use Rattle.stamps.specs.Stamps.{first_stamp}
 use Rattle.history_core.specs.Band.{fits}
 use Rattle.family_live.specs.declared.family.Family.{Ghosts as FamilyWords}
-use Rattle.family_four_slot.specs.declared.family.FourSlotFamily.{FourSlotFamily}
-use Rattle.family_four_slot.specs.declared.family.FourSlotSeat.{FourSlotSeat}
-use Rattle.family_four_slot.specs.declared.family.FourSlotTold.{FourSlotTold}
-use Rattle.family_four_slot.specs.Seated.{opening_of, processes_of, number_of, clock_of, times_of, writes_of, reads_of, IsSeat}
-use Rattle.family_four_slot.specs.Seated.{sender_of, time_of, named_by, IsTold, three_steps}
 use Rattle.atomic_board.specs.declared.board.Board.{Board}
 use Rattle.atomic_board.specs.declared.board.Pass.{Pass}
 use Rattle.atomic_board.specs.declared.record.Posted.{Posted}
@@ -67,25 +62,6 @@ broken_at (Broken task call) = Some (task, call)
 
 -- ---- the race
 
--- the words of the contract of a family of four-slot cells of bands
-abbrev pub words : FamilyWords (FourSlotFamily (Posted Band)) (Posted Band) (FourSlotSeat (Posted Band)) (FourSlotTold (Posted Band))
-words = record {
-  opening = opening_of;
-  processes = processes_of;
-  width = 3;
-  some_steps = three_steps;
-  is_seat = IsSeat;
-  is_told = IsTold;
-  who = number_of;
-  clock = clock_of;
-  times = times_of;
-  writes = writes_of;
-  reads = reads_of;
-  sender = sender_of;
-  time_of = time_of;
-  named = named_by;
-}
-
 -- over any family
 module _ {F S T : Type 0} (family : FamilyWords F (Posted Band) S T) where
   abbrev pub counts_in : List (Lane Band F S T) → List Counts
@@ -95,7 +71,7 @@ module _ {F S T : Type 0} (family : FamilyWords F (Posted Band) S T) where
   -- whole, or the task may stop before the next call. The entries tell of calls that are atomic by their intervals, after which the
   -- register holds the last record, the greatest of all. The logs have one order, and each entry is sound. What is told are the counts of
   -- the logs, and that no entry is without its origin.
-  pub record IsRaceOver (may_call may_stop : ℕ → ℕ → Type 0) (opening : Band) (limit : ℕ) (scripts : List (List (Wish Band)))
+  pub record IsRace (may_call may_stop : ℕ → ℕ → Type 0) (opening : Band) (limit : ℕ) (scripts : List (List (Wish Band)))
       (report : Report) : Type 0 where
     pub board : Board Band F S T
     pub passes : List (Pass Band F S T)
@@ -110,10 +86,6 @@ module _ {F S T : Type 0} (family : FamilyWords F (Posted Band) S T) where
     pub ordered : LogsInOrder opening limit (logs_of ended) last
     pub checked : IsOrigin same_band opening (logs_of ended) Sound
     pub told : report ≡ Race (counts_in ended) None
-
--- and over a family of four-slot cells
-abbrev pub IsRace : (ℕ → ℕ → Type 0) → (ℕ → ℕ → Type 0) → Band → ℕ → List (List (Wish Band)) → Report → Type 0
-IsRace = IsRaceOver words
 
 -- ---- scripts that were run whole
 

@@ -1,23 +1,24 @@
 //! Played schedules: the report of each, printed.
-ghost use Rattle.std.specs.Prelude.{◌≡◌, IfOk};
+ghost use Rattle.std.specs.Prelude.{IfOk};
 ghost use Rattle.document_runs.specs.Answers.{Gives};
 ghost use Rattle.history_text.specs.Refusals.{Gives as Reads};
 ghost use Rattle.matrix_core.specs.Runs.{CanPlay};
 ghost use Rattle.schedule_text.specs.Document.{schedule_of};
 ghost use Rattle.schedule_text.specs.Players.{CanBePlayed};
-ghost use Rattle.fsr_answers.specs.Answers.{AnswersBoard, AnswersCell, AnswersMatrix, IsPlayAnswer, printed};
+ghost use Rattle.play_answers.specs.Play.{AnswersBoard, AnswersCell, AnswersMatrix, IsPlayAnswer};
 
 use board_play::play_board;
 use document_runs::{Answer, Fault};
 use fourslot_core::CellSchedule;
 use fourslot_play::play_cell;
-use history_core::{Band, Items};
+use history_core::Band;
 use history_text::{DocError, read_value};
 use matrix_core::{BoardSchedule, MatrixSchedule};
 use matrix_play::play_matrix;
-use report_text::{Report, report_text};
+use report_answers::print;
+use report_text::Report;
 use schedule_text::{ScheduleDocument, schedule_document};
-use std::alloc::{AllocError, Global};
+use std::alloc::Global;
 use std::mem::forget;
 
 /// The answer of the command `play` to the bytes of a document: the report of its schedule.
@@ -71,14 +72,4 @@ fn board(alloc: Global, schedule: &BoardSchedule<Band>, titled: bool) -> Result<
     let report = play_board(alloc, schedule)?;
     let answer = print(alloc, Report::Board { report, titled }, 0)?;
     Ok(answer)
-}
-
-/// The text of a report, with this status. The report, too, goes with the process: of a board each operation has a list of slots.
-pub(crate) fn print(alloc: Global, report: Report, status: u8) -> Result<Answer, AllocError>
-    ensures { IfOk result (λ answer. answer ≡ printed report status) }
-{
-    let text = report_text(alloc, &report);
-    forget(report);
-    let text = Items::new(text?);
-    Ok(Answer { text, status })
 }
