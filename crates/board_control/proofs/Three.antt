@@ -12,7 +12,7 @@ use Rattle.atomic_board.specs.declared.record.Posted.{Posted}
 use Rattle.atomic_board.specs.Ends.{AllPasses, did_by, HaveAtomicOrder}
 use Rattle.atomic_board.specs.Passes.{HasMade, IsPass}
 use Rattle.board_control.specs.declared.control.Control.{Control}
-use Rattle.board_control.specs.Turns.{Drives, HasControlled, HasCrossed, HasRun, HasSteered, in_order, IsFresh}
+use Rattle.board_control.specs.Turns.{AreDealt, Drives, HasControlled, HasCrossed, HasRun, HasSteered, in_order, IsFresh, Publishes, SetsLimits}
 use Rattle.board_control.proofs.Runs.{of_reads, of_turns}
 
 -- those that were taken from the end of three, and of two
@@ -36,6 +36,14 @@ pub two_taken : {X : Type 0} (passes mid rest : List X) (w r : X) → passes ≡
 two_taken passes mid [] w r e f n = (rw (e, f) refl, rw (e, f) refl)
 two_taken passes mid (x ∷ xs) w r e f n =
     absurd (omega (arith, n, ap length e, ap length f, length-append mid (r ∷ []), length-append (x ∷ xs) (w ∷ [])))
+
+-- those that were pushed onto none
+pub two_pushed : {X : Type 0} (none one two : List X) (p q : X) → none ≡ [] → one ≡ none ++ p ∷ [] → two ≡ one ++ q ∷ [] → two ≡ p ∷ q ∷ []
+two_pushed none one two p q e f d = rw (d, f, e) refl
+
+pub three_pushed : {X : Type 0} (none one two three : List X) (p q r : X) → none ≡ [] → one ≡ none ++ p ∷ [] → two ≡ one ++ q ∷ []
+    → three ≡ two ++ r ∷ [] → three ≡ p ∷ q ∷ r ∷ []
+three_pushed none one two three p q r e f d h = rw (h, d, f, e) refl
 
 module _ {V F S T : Type 0} (words : FamilyWords F (Posted V) S T) (board : Board V F S T) where
   -- calls of the first two processes
@@ -100,6 +108,35 @@ module _ {F S T : Type 0} (words : FamilyWords F (Posted Control) S T) (board : 
       (subst (λ z. HasSteered words was_sent named z new before after) f (subst (λ z. HasSteered words was_sent named seen new z after) m h)) in
       let x = of_reads words board old here.calls new here.reads fresh.of fresh.none in
       (here.calls, record { of = x.0; process = x.1 ∙ fresh.who; made = x.2 }, here.drives)
+
+  -- the passes of three tasks that came back, and what the motor was sent meanwhile
+  pub record AreBack {M : Type 0} (was_sent : M → ℕ → M → Type 0) (p q r : Pass Control F S T) (before after : M) : Type 0 where
+    pub limits_calls : List (Called Control)
+    pub readings_calls : List (Called Control)
+    pub steering_calls : List (Called Control)
+    pub limits : IsBack 0 p limits_calls
+    pub readings : IsBack 1 q readings_calls
+    pub steering : IsBack 2 r steering_calls
+    pub drives : Drives was_sent before steering_calls after
+
+  -- they were dealt to the tasks, over this board and by these passes, where they go by other names
+  pub come_back : {M : Type 0} (was_sent : M → ℕ → M → Type 0) (opening : Control) (p q r : Pass Control F S T)
+      → AreDealt words opening board p q r → (b c d : Board Control F S T) (p' q' r' : Pass Control F S T) (x y z : Pass Control F S T)
+      (before kept after : M) → b ≡ board → p' ≡ p → HasRun words b SetsLimits p' x → c ≡ board → q' ≡ q → HasRun words c Publishes q' y
+      → d ≡ board → r' ≡ r → kept ≡ before → HasSteered words was_sent d r' z kept after → AreBack was_sent x y z before after
+  come_back was_sent opening p q r dealt b c d p' q' r' x y z before kept after e f h i j k l m n o =
+      let limits = back_from_turns 0 SetsLimits b p p' x dealt.limits e f h in
+      let readings = back_from_turns 1 Publishes c q q' y dealt.readings i j k in
+      let steering = back_from_steering was_sent 2 d r r' z before kept after dealt.steering l m n o in
+      record {
+        limits_calls = limits.0;
+        readings_calls = readings.0;
+        steering_calls = steering.0;
+        limits = limits.1;
+        readings = readings.1;
+        steering = steering.1;
+        drives = steering.2;
+      }
 
   module _ (p q r : Pass Control F S T) (cs ds es : List (Called Control)) (of_p : IsBack 0 p cs) (of_q : IsBack 1 q ds) (of_r : IsBack 2 r es)
     where

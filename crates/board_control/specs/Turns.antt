@@ -125,6 +125,16 @@ pub record IsFresh {V F S T : Type 0} (words : FamilyWords F (Posted V) S T) (ob
   pub who : pass.process ≡ process
   pub none : HasMade words board pass []
 
+-- what three tasks begin with: a board that opened with this record, and the fresh passes of all
+pub record AreDealt {F S T : Type 0} (words : FamilyWords F (Posted Control) S T) (opening : Control) (board : Board Control F S T)
+    (p q r : Pass Control F S T) : Type 0 where
+  pub opened : board.first ≡ record { stamp = first_stamp; item = opening }
+  pub limited : board.limit ≡ 18446744073709551614
+  pub three : board.processes ≡ 3
+  pub limits : IsFresh words in_order board 0 p
+  pub readings : IsFresh words in_order board 1 q
+  pub steering : IsFresh words in_order board 2 r
+
 -- *A receipt that crossed*: the two calls of two processes, of which the read began after the write had ended, are an atomic run
 pub record HasCrossed {V F S T : Type 0} (words : FamilyWords F (Posted V) S T) (board : Board V F S T) (item : V) (last : Posted V)
     : Type 0 where

@@ -3,17 +3,120 @@ ghost use Rattle.std.specs.Prelude.{◌≡◌, IfOk, IfSome, [], ◌∷◌};
 ghost use Rattle.std.specs.Arc.{arc_value};
 ghost use Rattle.atomic_board.specs.Ends.{AllPasses, HaveAtomicOrder};
 ghost use Rattle.atomic_board.specs.Passes.{IsPass};
-ghost use Rattle.board_control.specs.Turns.{HasControlled, in_order};
+ghost use Rattle.board_control.specs.Turns.{AreDealt, HasControlled, in_order};
 
 use crate::control::Control;
 use crate::tasks::{LimitsTask, Motor, ReadingsTask, Shared, SteeringTask};
-use crate::threads::start;
+use crate::threads::{Done, start};
 use atomic_board::{Board, Pass, Posted};
 use family_live::{Family, SharedFamily};
 use history_core::MAX_LIMIT;
 use std::alloc::{AllocError, Global};
 use std::sync::{Arc, Wait};
-use std::thread::Threads;
+use std::thread::{PromisedHandle, Threads};
+
+/// A new board of three, and the passes that set limits, publish and steer.
+fn deal<F: Family<Posted<Control>>>(
+    alloc: Global,
+    opening: Control,
+) -> Result<
+    (
+        Board<Control, F>,
+        Pass<Control, F>,
+        Pass<Control, F>,
+        Pass<Control, F>,
+    ),
+    AllocError,
+>
+    ensures { IfOk result (λ d. AreDealt ⟦<F as Family<Posted<Control>>>⟧ opening d.0 d.1 d.2 d.3) }
+{
+    let Ok((board, mut passes)) = Board::<Control, F>::new(alloc, 3, MAX_LIMIT, opening) else {
+        return Err(AllocError);
+    };
+    let Some(steering) = passes.pop() else {
+        unreachable!()
+    };
+    let Some(readings) = passes.pop() else {
+        unreachable!()
+    };
+    let Some(limits) = passes.pop() else {
+        unreachable!()
+    };
+    Ok((board, limits, readings, steering))
+}
+
+/// Starts the limits' task with its pass.
+fn start_limits<
+    R: Threads + Wait + Copy + Send + 'static,
+    F: SharedFamily<Posted<Control>> + 'static,
+>(
+    rt: R,
+    shared: &Arc<Shared<F>, Global>,
+    pass: Pass<Control, F>,
+) -> Result<PromisedHandle<Pass<Control, F>, Done<LimitsTask<F>>>, AllocError>
+where
+    F::Seat: Send + 'static,
+    F::Told: Send + 'static,
+    requires { IsPass ⟦<F as Family<Posted<Control>>>⟧ in_order (arc_value shared.now).board pass }
+    ensures board { IfOk result (λ h. (arc_value h.promise.task.value.shared).board ≡ (arc_value shared.now).board) }
+    ensures pass { IfOk result (λ h. h.promise.task.value.pass ≡ pass) }
+{
+    let task = LimitsTask {
+        shared: Arc::try_clone(shared)?,
+        pass,
+    };
+    start(rt, task)
+}
+
+/// Starts the readings' task with its pass.
+fn start_readings<
+    R: Threads + Wait + Copy + Send + 'static,
+    F: SharedFamily<Posted<Control>> + 'static,
+>(
+    rt: R,
+    shared: &Arc<Shared<F>, Global>,
+    pass: Pass<Control, F>,
+) -> Result<PromisedHandle<Pass<Control, F>, Done<ReadingsTask<F>>>, AllocError>
+where
+    F::Seat: Send + 'static,
+    F::Told: Send + 'static,
+    requires { IsPass ⟦<F as Family<Posted<Control>>>⟧ in_order (arc_value shared.now).board pass }
+    ensures board { IfOk result (λ h. (arc_value h.promise.task.value.shared).board ≡ (arc_value shared.now).board) }
+    ensures pass { IfOk result (λ h. h.promise.task.value.pass ≡ pass) }
+{
+    let task = ReadingsTask {
+        shared: Arc::try_clone(shared)?,
+        pass,
+    };
+    start(rt, task)
+}
+
+/// Starts the control loop with its pass and its motor.
+fn start_steering<
+    R: Threads + Wait + Copy + Send + 'static,
+    F: SharedFamily<Posted<Control>> + 'static,
+    M: Motor + Send + Drop + 'static,
+>(
+    rt: R,
+    shared: &Arc<Shared<F>, Global>,
+    pass: Pass<Control, F>,
+    motor: M,
+) -> Result<PromisedHandle<(Pass<Control, F>, M), Done<SteeringTask<F, M>>>, AllocError>
+where
+    F::Seat: Send + 'static,
+    F::Told: Send + 'static,
+    requires { IsPass ⟦<F as Family<Posted<Control>>>⟧ in_order (arc_value shared.now).board pass }
+    ensures board { IfOk result (λ h. (arc_value h.promise.task.value.shared).board ≡ (arc_value shared.now).board) }
+    ensures pass { IfOk result (λ h. h.promise.task.value.pass ≡ pass) }
+    ensures motor { IfOk result (λ h. h.promise.task.value.motor ≡ motor) }
+{
+    let task = SteeringTask {
+        shared: Arc::try_clone(shared)?,
+        pass,
+        motor,
+    };
+    start(rt, task)
+}
 
 /// Ends the board with the passes that its tasks gave back.
 fn end<F: Family<Posted<Control>>>(
@@ -27,9 +130,9 @@ fn end<F: Family<Posted<Control>>>(
     ensures { IfOk result (HaveAtomicOrder ⟦<F as Family<Posted<Control>>>⟧ board (limits ∷ readings ∷ steering ∷ [])) }
 {
     let mut passes = Vec::with_capacity(alloc, 3)?;
-    passes.push(limits)?;
-    passes.push(readings)?;
-    passes.push(steering)?;
+    passes.push_reserved(limits);
+    passes.push_reserved(readings);
+    passes.push_reserved(steering);
     Ok(board.finish(passes))
 }
 
@@ -63,38 +166,14 @@ where
     F::Told: Send + 'static,
     ensures { IfOk result (λ r. IfSome r (λ end. HasControlled ⟦<F as Family<Posted<Control>>>⟧ M.was_sent opening end.0 motor end.1)) }
 {
-    let Ok((board, mut passes)) = Board::<Control, F>::new(alloc, 3, MAX_LIMIT, opening) else {
-        return Err(AllocError);
-    };
-    let Some(steering) = passes.pop() else {
-        return Ok(None);
-    };
-    let Some(readings) = passes.pop() else {
-        return Ok(None);
-    };
-    let Some(limits) = passes.pop() else {
-        return Ok(None);
-    };
+    let (board, limits, readings, steering) = deal::<F>(alloc, opening)?;
     let shared = Arc::new(alloc, Shared::new(board))?;
     let stop = Stop {
         shared: Arc::try_clone(&shared)?,
     };
-    let limits = LimitsTask {
-        shared: Arc::try_clone(&shared)?,
-        pass: limits,
-    };
-    let limits = start(rt, limits)?;
-    let readings = ReadingsTask {
-        shared: Arc::try_clone(&shared)?,
-        pass: readings,
-    };
-    let readings = start(rt, readings)?;
-    let steering = SteeringTask {
-        shared: Arc::try_clone(&shared)?,
-        pass: steering,
-        motor,
-    };
-    let steering = start(rt, steering)?;
+    let limits = start_limits(rt, &shared, limits)?;
+    let readings = start_readings(rt, &shared, readings)?;
+    let steering = start_steering(rt, &shared, steering, motor)?;
     shared.wait(&rt, turns);
     drop(stop);
     let limits = limits.join(&rt);

@@ -30,8 +30,8 @@ pub fn ends_in_order<V: RecordLaw, F: Family<Posted<V>>>(
     let receipt = board.tell(&mut writer);
     board.learn(&mut reader, receipt);
     let _seen = board.read(&mut reader);
-    passes.push(writer)?;
-    passes.push(reader)?;
+    passes.push_reserved(writer);
+    passes.push_reserved(reader);
     let last = board.finish(passes);
     Ok(Some(last))
 }

@@ -1,17 +1,17 @@
 -- The receipt has the time of the write's end, and the read begins after the times that its process was told.
-use Rattle.std.proofs.Common.{◌≡◌, [], ◌∷◌, ◌++◌, refl, sym, ◌∙◌, ap, subst, arith}
+use Rattle.std.proofs.Common.{◌≡◌, [], ◌∷◌, refl, sym, ◌∙◌, ap, subst, arith}
 use Rattle.history_core.specs.declared.history.Kind.TheVariants.{Read, Write}
 use Rattle.atomic_board.specs.Ends.{AllPasses, HaveAtomicOrder}
 use Rattle.atomic_board.specs.Records.{stamped}
-use Rattle.board_control.proofs.Three.{crossed, two_passes}
+use Rattle.board_control.proofs.Three.{crossed, two_passes, two_pushed}
 use Rattle.board_control.proofs.receipts.ends_in_order.Goals as goal
 
 pub finish-last-requires : goal.finish-last-requires
 finish-last-requires g c =
     let w = c.tell-receipt.new.pass in
     let r = c.read-seen.new.pass in
-    let passes : c.push-2.new.self.items ≡ w ∷ r ∷ [] = c.in_ok-push-2.ensures.items ∙ ap (λ z. z ++ r ∷ [])
-    (c.in_ok-push.ensures.items ∙ ap (λ z. z ++ w ∷ []) c.in_ok-passes.ensures.items) in
+    let passes : c.push_reserved-2.new.self.items ≡ w ∷ r ∷ [] = two_pushed c.in_ok-passes.passes.items c.push_reserved.new.self.items
+    c.push_reserved-2.new.self.items w r c.in_ok-passes.ensures.items c.push_reserved.ensures.items c.push_reserved-2.ensures.items in
     subst (λ ps. AllPasses g.F.Family g.V.RecordLaw.obeys c.args.board ps) (sym passes)
     (two_passes g.F.Family c.args.board g.V.RecordLaw.obeys w r c.requires.two c.tell-receipt.ensures.pass
     (c.tell-receipt.ensures.same.process ∙ c.in-Ok.ensures.call.1.process ∙ c.requires.writer.who) c.read-seen.ensures.pass
@@ -22,8 +22,8 @@ returns g c =
     let clock = g.F.Family.clock in
     let w = c.tell-receipt.new.pass in
     let r = c.read-seen.new.pass in
-    let passes : c.push-2.new.self.items ≡ w ∷ r ∷ [] = c.in_ok-push-2.ensures.items ∙ ap (λ z. z ++ r ∷ [])
-    (c.in_ok-push.ensures.items ∙ ap (λ z. z ++ w ∷ []) c.in_ok-passes.ensures.items) in
+    let passes : c.push_reserved-2.new.self.items ≡ w ∷ r ∷ [] = two_pushed c.in_ok-passes.passes.items c.push_reserved.new.self.items
+    c.push_reserved-2.new.self.items w r c.in_ok-passes.ensures.items c.push_reserved.ensures.items c.push_reserved-2.ensures.items in
     let atomic = subst (λ ps. HaveAtomicOrder g.F.Family c.args.board ps c.finish-last.result) passes c.finish-last.ensures.atomic in
     let write = c.in-Ok.ensures.call.1 in
     let chose = c.in-Ok.ensures.call.2 in
