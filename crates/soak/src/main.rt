@@ -9,9 +9,9 @@ use cell_triple::TripleCell;
 use family_four_slot::FourSlotFamily;
 use family_live::SharedFamily;
 use family_triple::TripleFamily;
-use soak_rounds::finding::{Finding, Tally, status};
+use soak_findings::{Finding, Tally, status};
 use soak_rounds::record::{Record, Shared};
-use soak_rounds::{boards, pair, planted};
+use soak_rounds::{pair, planted};
 use std::alloc::{AllocError, Global};
 use std::io;
 use std::process::ExitCode;
@@ -162,7 +162,7 @@ where
     for board in boards {
         let tasks = board.tasks;
         let calls = board.calls(bytes);
-        let (tally, last) = boards::round::<R, W, F>(
+        let (tally, last) = soak_boards::round::<R, W, F>(
             rt,
             alloc,
             tasks,

@@ -1,4 +1,2 @@
-pub mod LaneRounds
 pub mod Lists
-pub mod Origins
 pub mod Wholes

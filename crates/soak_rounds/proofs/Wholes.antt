@@ -3,7 +3,7 @@ use Rattle.std.proofs.Common.{arith, refl, ◌≡◌, ◌<◌, ℕ}
 use lib.ListN.{replicate}
 use Rattle.std.proofs.lemmas.List.{length-replicate}
 use Rattle.std.proofs.lemmas.List.Elements.{All-replicate}
-use Rattle.soak_rounds.specs.Findings.{IsWhole}
+use Rattle.soak_rounds.specs.Records.{IsWhole}
 
 pub whole : (count number : ℕ) → 0 < count → IsWhole (replicate count number) number
 whole count number some = record {

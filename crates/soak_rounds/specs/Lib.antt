@@ -1,3 +1,2 @@
-pub mod Findings
+pub mod Records
 pub mod Rounds
-pub mod Scripts

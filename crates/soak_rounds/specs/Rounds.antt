@@ -2,8 +2,9 @@
 use Rattle.std.specs.Prelude.{◌≡◌, ℕ, ◌+◌, List, [], ◌∷◌, ◌++◌, length, Option}
 use Rattle.cell_live.specs.declared.cell.Calls.{Ghosts as CellWords}
 use Rattle.cell_live.specs.Running.{last_or}
-use Rattle.soak_rounds.specs.declared.finding.Tally.{Tally}
-use Rattle.soak_rounds.specs.Findings.{AreOf, IsWhole, counted, last_read, no_tally, with_end, with_read, with_tally, with_write}
+use Rattle.soak_findings.specs.declared.finding.Tally.{Tally}
+use Rattle.soak_findings.specs.Findings.{counted, last_read, no_tally, with_end, with_read, with_tally, with_write}
+use Rattle.soak_rounds.specs.Records.{AreOf, IsWhole}
 
 -- `words` are those of a record
 module _ {X : Type 0} (words : X → List ℕ) where

@@ -1,7 +1,7 @@
 //! Records whose every word tells which write they are of.
 ghost use Rattle.std.specs.Prelude.{◌≡◌, ℕ, ◌<◌, List, length};
-ghost use Rattle.soak_rounds.specs.Findings.{AreOf, IsWhole};
-ghost use Rattle.soak_rounds.specs.Scripts.{no_law};
+ghost use Rattle.soak_rounds.specs.Records.{AreOf, IsWhole};
+ghost use Rattle.soak_rounds.specs.Records.{no_law};
 
 use atomic_board::RecordLaw;
 use cell_live::{Kept, Lawful};

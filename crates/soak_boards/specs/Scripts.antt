@@ -7,12 +7,9 @@ use Rattle.board_tasks.specs.declared.lane.Reply.{Reply}
 use Rattle.board_tasks.specs.declared.lane.Reply.TheVariants.{Written, Seen, Ended}
 use Rattle.log_origins.specs.declared.origin.Origin.TheVariants.{Sound}
 use Rattle.log_origins.specs.Origins.{IsOrigin}
-use Rattle.soak_rounds.specs.declared.finding.Tally.{Tally}
-use Rattle.soak_rounds.specs.Findings.{IsWhole, counted}
-
--- any item may stand
-abbrev pub no_law : {X : Type 0} → X → Bool
-no_law item = true
+use Rattle.soak_findings.specs.declared.finding.Tally.{Tally}
+use Rattle.soak_findings.specs.Findings.{counted}
+use Rattle.soak_rounds.specs.Records.{IsWhole}
 
 -- `words` are those of a record
 module _ {X : Type 0} (words : X → List ℕ) where

@@ -4,9 +4,10 @@ use Rattle.std.specs.Prelude.{slice_get, Some}
 use Rattle.history_core.specs.declared.wish.Wish.{Wish}
 use Rattle.board_tasks.specs.Logs.{Obeys}
 use Rattle.soak_rounds.specs.declared.record.Record.{Record}
-use Rattle.soak_rounds.specs.Findings.{counted}
-use Rattle.soak_rounds.specs.Scripts.{no_law, Scripted}
-use Rattle.soak_rounds.proofs.boards.scripts.Given as goal
+use Rattle.soak_findings.specs.Findings.{counted}
+use Rattle.soak_rounds.specs.Records.{no_law}
+use Rattle.soak_boards.specs.Scripts.{Scripted}
+use Rattle.soak_boards.proofs.boards.scripts.Given as goal
 
 abbrev pub invariant-loop-task : goal.invariant-loop-task
 invariant-loop-task g l = record {

@@ -1,8 +1,9 @@
 -- Two calls for each turn so far.
 use Rattle.std.proofs.Common.{All}
 use Rattle.board_tasks.specs.Logs.{Obeys}
-use Rattle.soak_rounds.specs.Scripts.{no_law, Scripted}
-use Rattle.soak_rounds.proofs.boards.script.Given as goal
+use Rattle.soak_rounds.specs.Records.{no_law}
+use Rattle.soak_boards.specs.Scripts.{Scripted}
+use Rattle.soak_boards.proofs.boards.script.Given as goal
 
 abbrev pub invariant-loop : goal.invariant-loop
 invariant-loop g l = record {

@@ -1,10 +1,10 @@
 -- What is found is nothing exactly where the logs are sound.
 use Rattle.std.proofs.Common.{◌∙◌, refl, arith}
 use Rattle.std.proofs.lemmas.List.{take_all}
-use Rattle.soak_rounds.specs.Scripts.{reads_of, writes_of}
-use Rattle.soak_rounds.proofs.Lists.{counted_more}
-use Rattle.soak_rounds.proofs.Origins.{not_both}
-use Rattle.soak_rounds.proofs.boards.look.Goals as goal
+use Rattle.soak_boards.specs.Scripts.{reads_of, writes_of}
+use Rattle.soak_boards.proofs.Lists.{counted_more}
+use Rattle.soak_boards.proofs.Origins.{not_both}
+use Rattle.soak_boards.proofs.boards.look.Goals as goal
 
 pub loop-lane-preserved : goal.loop-lane-preserved
 loop-lane-preserved g c =

@@ -13,9 +13,9 @@ use Rattle.board_tasks.specs.declared.lane.Lane.{Lane}
 use Rattle.board_tasks.specs.Jobs.{EachStep}
 use Rattle.board_tasks.specs.Lanes.{AreLanes}
 use Rattle.board_tasks.specs.Tasks.{Ran}
-use Rattle.soak_rounds.specs.declared.finding.Tally.{Tally}
-use Rattle.soak_rounds.specs.Findings.{counted}
-use Rattle.soak_rounds.specs.Scripts.{IsRound, IsTally, Scripted}
+use Rattle.soak_findings.specs.declared.finding.Tally.{Tally}
+use Rattle.soak_findings.specs.Findings.{counted}
+use Rattle.soak_boards.specs.Scripts.{IsRound, IsTally, Scripted}
 
 of_mapped : {A B : Type 0} (f : A → B) (xs : List A) (k : ℕ) (y : B) → slice_get (map f xs) k ≡ Some y
     → (x : A) × (slice_get xs k ≡ Some x) × (f x ≡ y)

@@ -1,6 +1,6 @@
 //! What a soak found.
 ghost use Rattle.std.specs.Prelude.{◌≡◌, ℕ};
-ghost use Rattle.soak_rounds.specs.Findings.{last_read, no_tally, status_of, with_end, with_read, with_tally, with_write, wrong_end, wrong_read};
+ghost use Rattle.soak_findings.specs.Findings.{last_read, no_tally, status_of, with_end, with_read, with_tally, with_write, wrong_end, wrong_read};
 
 use std::{fmt, io};
 

@@ -1,7 +1,7 @@
 -- What the logs so far were counted as.
 use Rattle.std.proofs.Common.{◌≡◌, map, take}
-use Rattle.soak_rounds.specs.Scripts.{counted_in, reads_of, writes_of}
-use Rattle.soak_rounds.proofs.boards.look.Given as goal
+use Rattle.soak_boards.specs.Scripts.{counted_in, reads_of, writes_of}
+use Rattle.soak_boards.proofs.boards.look.Given as goal
 
 abbrev pub invariant-loop-lane : goal.invariant-loop-lane
 invariant-loop-lane g l = record {

@@ -1,8 +1,8 @@
 -- One more write, and a read after it.
 use Rattle.std.proofs.Common.{◌≡◌, arith}
-use Rattle.soak_rounds.specs.Scripts.{no_call, two_calls}
-use Rattle.soak_rounds.proofs.Lists.{both_lawful, none_lawful, scripted_all}
-use Rattle.soak_rounds.proofs.boards.script.Goals as goal
+use Rattle.soak_boards.specs.Scripts.{no_call, two_calls}
+use Rattle.soak_boards.proofs.Lists.{both_lawful, none_lawful, scripted_all}
+use Rattle.soak_boards.proofs.boards.script.Goals as goal
 
 pub loop-init : goal.loop-init
 loop-init g c = record {

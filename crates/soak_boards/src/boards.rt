@@ -2,16 +2,17 @@
 ghost use Rattle.std.specs.Prelude.{◌≡◌, ℕ, All, IfOk, length, map, slice_get};
 ghost use Rattle.board_tasks.specs.Logs.{Obeys};
 ghost use Rattle.history_core.specs.declared.wish.Wish.TheVariants.{Write};
-ghost use Rattle.soak_rounds.specs.Findings.{IsWhole, counted};
-ghost use Rattle.soak_rounds.specs.Scripts.{is_seen, is_written, IsRound, IsTally, no_law, reads_of, Scripted, writes_of};
+ghost use Rattle.soak_findings.specs.Findings.{counted};
+ghost use Rattle.soak_rounds.specs.Records.{IsWhole, no_law};
+ghost use Rattle.soak_boards.specs.Scripts.{is_seen, is_written, IsRound, IsTally, reads_of, Scripted, writes_of};
 
-use crate::finding::{Finding, Tally};
-use crate::record::{Record, Shared, Words};
 use atomic_board::{Board, Posted};
 use board_tasks::{Entry, Lane, OpenGate, Reply, make_lanes, run_tasks};
 use family_live::{Family, SharedFamily};
 use history_core::{Items, MAX_LIMIT, Wish};
 use log_origins::{Origin, check_origin};
+use soak_findings::{Finding, Tally};
+use soak_rounds::record::{Record, Shared, Words};
 use stamps::Stamp;
 use std::alloc::{AllocError, Global};
 use std::thread::Threads;

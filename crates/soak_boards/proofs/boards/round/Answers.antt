@@ -3,9 +3,9 @@ use Rattle.std.proofs.Common.{rules, ◌≡◌, ◌∙◌, length, refl}
 use Rattle.board_tasks.proofs.LaneLists.{all_ready}
 use Rattle.board_tasks.proofs.Works.{changed_whole}
 use Rattle.atomic_board.proofs.Passing.{all_new}
-use Rattle.soak_rounds.specs.Scripts.{no_law}
-use Rattle.soak_rounds.proofs.LaneRounds.{is_round}
-use Rattle.soak_rounds.proofs.boards.round.Goals as goal
+use Rattle.soak_rounds.specs.Records.{no_law}
+use Rattle.soak_boards.proofs.LaneRounds.{is_round}
+use Rattle.soak_boards.proofs.boards.round.Goals as goal
 
 pub run_tasks-requires-after_bounds : goal.run_tasks-requires-after_bounds
 run_tasks-requires-after_bounds g c κs within = rw c.as_mut_slice.ensures.value

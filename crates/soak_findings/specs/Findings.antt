@@ -1,19 +1,9 @@
 -- What a soak may find (this project's own).
-use Rattle.std.specs.Prelude.{◌≡◌, ℕ, ◌+◌, ◌<◌, List, length, All, Option, Some, None, Result, Ok, Err, nat_lt, if◌then◌else◌, min}
+use Rattle.std.specs.Prelude.{ℕ, ◌+◌, Option, Some, None, Result, Ok, Err, nat_lt, if◌then◌else◌, min}
 use Rattle.std.specs.Option.{option_or}
-use Rattle.soak_rounds.specs.declared.finding.Finding.{Finding}
-use Rattle.soak_rounds.specs.declared.finding.Finding.TheVariants.{Torn, Older, Foreign}
-use Rattle.soak_rounds.specs.declared.finding.Tally.{Tally}
-
--- the words of a whole record of the write with this number: there are some, and each is the number
-pub record IsWhole (words : List ℕ) (number : ℕ) : Type 0 where
-  pub some : 0 < length words
-  pub each : All (λ word. word ≡ number) words
-
--- the write that words are of; none where they are of no one write
-abbrev pub AreOf : List ℕ → Option ℕ → Type 0
-AreOf words (Some number) = IsWhole words number
-AreOf words None = (number : ℕ) → IsWhole words number → ⊥
+use Rattle.soak_findings.specs.declared.finding.Finding.{Finding}
+use Rattle.soak_findings.specs.declared.finding.Finding.TheVariants.{Torn, Older, Foreign}
+use Rattle.soak_findings.specs.declared.finding.Tally.{Tally}
 
 -- what is wrong with a record that was read after one of the write `last`. Of a torn record no write is known
 abbrev pub wrong_read : ℕ → Option ℕ → Option Finding

@@ -6,10 +6,11 @@ use Rattle.history_core.specs.declared.wish.Wish.{Wish}
 use Rattle.board_tasks.specs.Logs.{Obeys}
 use Rattle.board_tasks.proofs.LogLaws.{get_last}
 use Rattle.soak_rounds.specs.declared.record.Record.{Record}
-use Rattle.soak_rounds.specs.Findings.{counted}
-use Rattle.soak_rounds.specs.Scripts.{no_law, Scripted}
-use Rattle.soak_rounds.proofs.Lists.{scripted_from}
-use Rattle.soak_rounds.proofs.boards.scripts.Goals as goal
+use Rattle.soak_findings.specs.Findings.{counted}
+use Rattle.soak_rounds.specs.Records.{no_law}
+use Rattle.soak_boards.specs.Scripts.{Scripted}
+use Rattle.soak_boards.proofs.Lists.{scripted_from}
+use Rattle.soak_boards.proofs.boards.scripts.Goals as goal
 
 pub loop-task-preserved : goal.loop-task-preserved
 loop-task-preserved g c =

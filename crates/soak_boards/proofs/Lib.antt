@@ -1,0 +1,3 @@
+mod LaneRounds
+mod Lists
+mod Origins
