@@ -11,7 +11,7 @@ use std::alloc::{AllocError, Global};
 use std::test::Fail;
 use std::thread::Threads;
 
-const ROUNDS: usize = 50_000;
+const ROUNDS: usize = 10_000;
 
 const LIMIT: u64 = 50;
 
