@@ -1,8 +1,8 @@
 //! Schedules stepped by hand. The expected bits, slots and answers are those of the worked traces.
 
 use fourslot_core::laws::{self, reader_at};
-use fourslot_core::{Bits, CellCore, InSlot, ReadStage, Stage};
-use history_core::Band;
+use fourslot_core::{Bits, CellCore, CellReport, InSlot, ReadStage, Stage};
+use history_core::{Band, Op};
 use std::process::Abort;
 
 mod limits;
@@ -19,29 +19,30 @@ struct Shown {
     in_slot: (Option<u8>, Option<u8>),
 }
 
-fn shows(
-    item: u64,
-    steps: &'static str,
-    bits: [u8; 4],
-    in_slot: (Option<u8>, Option<u8>),
-) -> Shown {
-    Shown {
-        item,
-        steps,
-        answer: None,
-        bits,
-        in_slot,
-    }
+/// A row with no answer.
+macro_rules! shows {
+    ($item:expr, $steps:expr, $bits:expr, $in_slot:expr) => {
+        Shown {
+            item: $item,
+            steps: $steps,
+            answer: None,
+            bits: $bits,
+            in_slot: $in_slot,
+        }
+    };
 }
 
-fn gives(steps: &'static str, answer: u64, bits: [u8; 4]) -> Shown {
-    Shown {
-        item: 0,
-        steps,
-        answer: Some(answer),
-        bits,
-        in_slot: (None, None),
-    }
+/// A row of reads alone, after which neither side is in a slot.
+macro_rules! gives {
+    ($steps:expr, $answer:expr, $bits:expr) => {
+        Shown {
+            item: 0,
+            steps: $steps,
+            answer: Some($answer),
+            bits: $bits,
+            in_slot: (None, None),
+        }
+    };
 }
 
 fn make(cell: &mut CellCore<u64>, item: u64, steps: &str) -> Option<u64> {
@@ -56,137 +57,152 @@ fn make(cell: &mut CellCore<u64>, item: u64, steps: &str) -> Option<u64> {
     answer
 }
 
+fn bits_of(cell: &CellCore<u64>) -> [u8; 4] {
+    let bits = cell.bits();
+    let [zero, one] = bits.slot;
+    [bits.latest as u8, bits.reading as u8, zero as u8, one as u8]
+}
+
+/// Whether the cell tells this slot, where a side is in one.
+fn is_slot(side: Option<u8>, told: u8) -> bool {
+    match side {
+        Some(slot) => slot == told,
+        None => true,
+    }
+}
+
+/// Whether the sides are in these slots, and the cell tells each of them.
+fn is_in(cell: &CellCore<u64>, (writer, reader): (Option<u8>, Option<u8>)) -> bool {
+    cell.in_slot() == InSlot { writer, reader }
+        && is_slot(writer, cell.write_slot())
+        && is_slot(reader, cell.read_slot())
+}
+
+/// Makes the steps, and tells whether the cell shows what stands in the row.
+fn is_shown(cell: &mut CellCore<u64>, sight: &Shown) -> bool {
+    let answer = make(cell, sight.item, sight.steps);
+    answer == sight.answer && bits_of(cell) == sight.bits && is_in(cell, sight.in_slot)
+}
+
 fn follows(rt: &impl Abort, cell: &mut CellCore<u64>, sights: &[Shown]) {
-    for sight in sights {
-        assert_eq!(rt; make(cell, sight.item, sight.steps), sight.answer);
-        let bits = cell.bits();
-        let told = [
-            bits.latest as u8,
-            bits.reading as u8,
-            bits.slot[0] as u8,
-            bits.slot[1] as u8,
-        ];
-        assert_eq!(rt; told, sight.bits);
-        let (writer, reader) = sight.in_slot;
-        assert_eq!(rt; cell.in_slot(), InSlot { writer, reader });
-        if writer.is_some() {
-            assert_eq!(rt; Some(cell.write_slot()), writer);
-        }
-        if reader.is_some() {
-            assert_eq!(rt; Some(cell.read_slot()), reader);
-        }
+    for (place, sight) in sights.iter().enumerate() {
+        assert!(rt; is_shown(cell, sight), "at row {place}");
     }
 }
 
 const NONE: (Option<u8>, Option<u8>) = (None, None);
 
+const READ_AFTER_A_WRITE: &[Shown] = &[
+    shows!(1, "w", [0, 0, 0, 0], NONE),
+    shows!(1, "w", [0, 0, 0, 0], (Some(3), None)),
+    shows!(1, "w", [0, 0, 0, 0], NONE),
+    shows!(1, "w", [0, 0, 0, 1], NONE),
+    shows!(1, "w", [1, 0, 0, 1], NONE),
+    shows!(0, "r", [1, 0, 0, 1], NONE),
+    shows!(0, "r", [1, 1, 0, 1], NONE),
+    shows!(0, "r", [1, 1, 0, 1], NONE),
+    shows!(0, "r", [1, 1, 0, 1], (None, Some(3))),
+    gives!("r", 1, [1, 1, 0, 1]),
+];
+
 #[test]
 fn read_after_a_write(rt: HostRuntime) {
-    let mut cell = CellCore::new(0, 987);
-    let sights = [
-        shows(1, "w", [0, 0, 0, 0], NONE),
-        shows(1, "w", [0, 0, 0, 0], (Some(3), None)),
-        shows(1, "w", [0, 0, 0, 0], NONE),
-        shows(1, "w", [0, 0, 0, 1], NONE),
-        shows(1, "w", [1, 0, 0, 1], NONE),
-        shows(0, "r", [1, 0, 0, 1], NONE),
-        shows(0, "r", [1, 1, 0, 1], NONE),
-        shows(0, "r", [1, 1, 0, 1], NONE),
-        shows(0, "r", [1, 1, 0, 1], (None, Some(3))),
-        gives("r", 1, [1, 1, 0, 1]),
-    ];
-    follows(&rt, &mut cell, &sights);
+    follows(&rt, &mut CellCore::new(0, 987), READ_AFTER_A_WRITE);
 }
+
+const READ_BEGUN_BEFORE_THE_WRITE: &[Shown] = &[
+    shows!(0, "r", [0, 0, 0, 0], NONE),
+    shows!(1, "ww", [0, 0, 0, 0], (Some(3), None)),
+    shows!(1, "ww", [0, 0, 0, 1], NONE),
+    shows!(1, "w", [1, 0, 0, 1], NONE),
+    shows!(0, "rr", [1, 0, 0, 1], NONE),
+    shows!(0, "r", [1, 0, 0, 1], (None, Some(0))),
+    gives!("r", 0, [1, 0, 0, 1]),
+];
 
 #[test]
 fn read_begun_before_the_write(rt: HostRuntime) {
-    let mut cell = CellCore::new(0, 987);
-    let sights = [
-        shows(0, "r", [0, 0, 0, 0], NONE),
-        shows(1, "ww", [0, 0, 0, 0], (Some(3), None)),
-        shows(1, "ww", [0, 0, 0, 1], NONE),
-        shows(1, "w", [1, 0, 0, 1], NONE),
-        shows(0, "rr", [1, 0, 0, 1], NONE),
-        shows(0, "r", [1, 0, 0, 1], (None, Some(0))),
-        gives("r", 0, [1, 0, 0, 1]),
-    ];
-    follows(&rt, &mut cell, &sights);
+    follows(&rt, &mut CellCore::new(0, 987), READ_BEGUN_BEFORE_THE_WRITE);
 }
+
+const READ_OF_AN_UNFINISHED_WRITE: &[Shown] = &[
+    shows!(1, "wwwww", [1, 0, 0, 1], NONE),
+    shows!(2, "ww", [1, 0, 0, 1], (Some(2), None)),
+    shows!(2, "ww", [1, 0, 0, 0], NONE),
+    shows!(0, "rr", [1, 1, 0, 0], NONE),
+    shows!(0, "rr", [1, 1, 0, 0], (None, Some(2))),
+    gives!("r", 2, [1, 1, 0, 0]),
+];
 
 #[test]
 fn read_of_an_unfinished_write(rt: HostRuntime) {
-    let mut cell = CellCore::new(0, 987);
-    let sights = [
-        shows(1, "wwwww", [1, 0, 0, 1], NONE),
-        shows(2, "ww", [1, 0, 0, 1], (Some(2), None)),
-        shows(2, "ww", [1, 0, 0, 0], NONE),
-        shows(0, "rr", [1, 1, 0, 0], NONE),
-        shows(0, "rr", [1, 1, 0, 0], (None, Some(2))),
-        gives("r", 2, [1, 1, 0, 0]),
-    ];
-    follows(&rt, &mut cell, &sights);
+    follows(&rt, &mut CellCore::new(0, 987), READ_OF_AN_UNFINISHED_WRITE);
 }
+
+const TWO_SLOTS_OF_ONE_PAIR: &[Shown] = &[
+    shows!(1, "wwwww", [1, 0, 0, 1], NONE),
+    shows!(2, "ww", [1, 0, 0, 1], (Some(2), None)),
+    shows!(0, "rrr", [1, 1, 0, 1], (Some(2), None)),
+    shows!(0, "r", [1, 1, 0, 1], (Some(2), Some(3))),
+    shows!(2, "w", [1, 1, 0, 1], (None, Some(3))),
+    gives!("r", 1, [1, 1, 0, 1]),
+    shows!(2, "w", [1, 1, 0, 0], NONE),
+    shows!(2, "w", [1, 1, 0, 0], NONE),
+];
 
 #[test]
 fn two_slots_of_one_pair(rt: HostRuntime) {
-    let mut cell = CellCore::new(0, 987);
-    let sights = [
-        shows(1, "wwwww", [1, 0, 0, 1], NONE),
-        shows(2, "ww", [1, 0, 0, 1], (Some(2), None)),
-        shows(0, "rrr", [1, 1, 0, 1], (Some(2), None)),
-        shows(0, "r", [1, 1, 0, 1], (Some(2), Some(3))),
-        shows(2, "w", [1, 1, 0, 1], (None, Some(3))),
-        gives("r", 1, [1, 1, 0, 1]),
-        shows(2, "w", [1, 1, 0, 0], NONE),
-        shows(2, "w", [1, 1, 0, 0], NONE),
-    ];
-    follows(&rt, &mut cell, &sights);
+    follows(&rt, &mut CellCore::new(0, 987), TWO_SLOTS_OF_ONE_PAIR);
 }
+
+const STALLED_READER: &[Shown] = &[
+    shows!(1, "wwwww", [1, 0, 0, 1], NONE),
+    shows!(0, "rrrr", [1, 1, 0, 1], (None, Some(3))),
+    shows!(2, "ww", [1, 1, 0, 1], (Some(1), Some(3))),
+    shows!(2, "www", [0, 1, 1, 1], (None, Some(3))),
+    shows!(3, "ww", [0, 1, 1, 1], (Some(0), Some(3))),
+    shows!(3, "www", [0, 1, 0, 1], (None, Some(3))),
+    gives!("r", 1, [0, 1, 0, 1]),
+    shows!(0, "rrrr", [0, 0, 0, 1], (None, Some(0))),
+    gives!("r", 3, [0, 0, 0, 1]),
+];
 
 #[test]
 fn stalled_reader(rt: HostRuntime) {
-    let mut cell = CellCore::new(0, 987);
-    let sights = [
-        shows(1, "wwwww", [1, 0, 0, 1], NONE),
-        shows(0, "rrrr", [1, 1, 0, 1], (None, Some(3))),
-        shows(2, "ww", [1, 1, 0, 1], (Some(1), Some(3))),
-        shows(2, "www", [0, 1, 1, 1], (None, Some(3))),
-        shows(3, "ww", [0, 1, 1, 1], (Some(0), Some(3))),
-        shows(3, "www", [0, 1, 0, 1], (None, Some(3))),
-        gives("r", 1, [0, 1, 0, 1]),
-        shows(0, "rrrr", [0, 0, 0, 1], (None, Some(0))),
-        gives("r", 3, [0, 0, 0, 1]),
-    ];
-    follows(&rt, &mut cell, &sights);
+    follows(&rt, &mut CellCore::new(0, 987), STALLED_READER);
 }
+
+const READ_BETWEEN_THE_STORES_OF_A_WRITE: &[Shown] = &[
+    shows!(1, "wwwww", [1, 0, 0, 1], NONE),
+    gives!("rrrrr", 1, [1, 1, 0, 1]),
+    shows!(2, "ww", [1, 1, 0, 1], (Some(1), None)),
+    shows!(2, "ww", [1, 1, 1, 1], NONE),
+    shows!(0, "rrrr", [1, 1, 1, 1], (None, Some(3))),
+    gives!("r", 1, [1, 1, 1, 1]),
+    shows!(2, "w", [0, 1, 1, 1], NONE),
+];
 
 #[test]
 fn read_between_the_stores_of_a_write(rt: HostRuntime) {
-    let mut cell = CellCore::new(0, 987);
-    let sights = [
-        shows(1, "wwwww", [1, 0, 0, 1], NONE),
-        gives("rrrrr", 1, [1, 1, 0, 1]),
-        shows(2, "ww", [1, 1, 0, 1], (Some(1), None)),
-        shows(2, "ww", [1, 1, 1, 1], NONE),
-        shows(0, "rrrr", [1, 1, 1, 1], (None, Some(3))),
-        gives("r", 1, [1, 1, 1, 1]),
-        shows(2, "w", [0, 1, 1, 1], NONE),
-    ];
-    follows(&rt, &mut cell, &sights);
+    follows(
+        &rt,
+        &mut CellCore::new(0, 987),
+        READ_BETWEEN_THE_STORES_OF_A_WRITE,
+    );
 }
+
+const WHOLE_CALLS: &[Shown] = &[
+    shows!(1, "wwwww", [1, 0, 0, 1], NONE),
+    shows!(2, "wwwww", [1, 0, 0, 0], NONE),
+    gives!("rrrrr", 2, [1, 1, 0, 0]),
+    shows!(3, "wwwww", [0, 1, 1, 0], NONE),
+    gives!("rrrrr", 3, [0, 0, 1, 0]),
+    gives!("rrrrr", 3, [0, 0, 1, 0]),
+];
 
 #[test]
 fn whole_calls(rt: HostRuntime) {
-    let mut cell = CellCore::new(0, 987);
-    let sights = [
-        shows(1, "wwwww", [1, 0, 0, 1], NONE),
-        shows(2, "wwwww", [1, 0, 0, 0], NONE),
-        gives("rrrrr", 2, [1, 1, 0, 0]),
-        shows(3, "wwwww", [0, 1, 1, 0], NONE),
-        gives("rrrrr", 3, [0, 0, 1, 0]),
-        gives("rrrrr", 3, [0, 0, 1, 0]),
-    ];
-    follows(&rt, &mut cell, &sights);
+    follows(&rt, &mut CellCore::new(0, 987), WHOLE_CALLS);
 }
 
 /// A reader that stands just after R3 with slot 3, to which the first write goes.
@@ -206,7 +222,7 @@ fn noise(rt: HostRuntime) {
     follows(
         &rt,
         &mut cell,
-        &[shows(1, "wwr", [0, 0, 0, 0], (Some(3), Some(3)))],
+        &[shows!(1, "wwr", [0, 0, 0, 0], (Some(3), Some(3)))],
     );
 }
 
@@ -218,15 +234,43 @@ fn reader_at_each_slot(rt: HostRuntime) {
             &rt,
             &mut cell,
             &[
-                shows(0, "r", [0, 0, 0, 0], (None, Some(slot))),
-                gives("r", 0, [0, 0, 0, 0]),
+                shows!(0, "r", [0, 0, 0, 0], (None, Some(slot))),
+                gives!("r", 0, [0, 0, 0, 0]),
             ],
         );
     }
 }
 
+/// Whether the report has these operations with these slots, and this order of them.
+fn has(report: &CellReport<u64>, ops: &[Op<u64>], slots: &[Option<u8>], order: &[usize]) -> bool {
+    report.history.ops.as_slice() == ops
+        && report.slots.as_slice() == slots
+        && report.order.as_slice() == order
+}
+
 fn band(lo: u64, now: u64, hi: u64) -> Band {
     Band { lo, now, hi }
+}
+
+/// The events of a write. Its first step is made with the item, and the others with another one.
+fn events_of_write(cell: &mut CellCore<Band>, item: Band, other: Band) -> [Stage; 5] {
+    [
+        cell.write_step(item),
+        cell.write_step(other),
+        cell.write_step(other),
+        cell.write_step(other),
+        cell.write_step(other),
+    ]
+}
+
+fn events_of_read(cell: &mut CellCore<Band>) -> [ReadStage<Band>; 5] {
+    [
+        cell.read_step(),
+        cell.read_step(),
+        cell.read_step(),
+        cell.read_step(),
+        cell.read_step(),
+    ]
 }
 
 /// The events by their names, at bands; the item of a write is that of its first event.
@@ -234,27 +278,23 @@ fn band(lo: u64, now: u64, hi: u64) -> Band {
 fn events_of_bands(rt: HostRuntime) {
     let (opening, noise, a) = (band(0, 0, 0), band(9, 8, 7), band(1, 1, 1));
     let mut cell = CellCore::new(opening, noise);
-    assert_eq!(rt; cell.write_step(a), Stage::W1);
-    for stage in [Stage::W2, Stage::W3, Stage::W4, Stage::W5] {
-        assert_eq!(rt; cell.write_step(opening), stage);
-    }
-    for stage in [
+    let written = events_of_write(&mut cell, a, opening);
+    assert!(rt; written == [Stage::W1, Stage::W2, Stage::W3, Stage::W4, Stage::W5]);
+    let read = events_of_read(&mut cell);
+    let events = [
         ReadStage::R1,
         ReadStage::R2,
         ReadStage::R3,
         ReadStage::R4,
         ReadStage::R5(a),
-    ] {
-        assert_eq!(rt; cell.read_step(), stage);
-    }
-    assert_eq!(rt;
-        cell.bits(),
-        Bits {
-            latest: true,
-            reading: true,
-            slot: [false, true]
-        }
-    );
+    ];
+    assert!(rt; read == events);
+    let bits = Bits {
+        latest: true,
+        reading: true,
+        slot: [false, true],
+    };
+    assert_eq!(rt; cell.bits(), bits);
 }
 
 /// A read of a band that meets a write gives the noise.

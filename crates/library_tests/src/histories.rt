@@ -24,6 +24,19 @@ const B: Band = Band {
     hi: 2,
 };
 
+/// An operation of a constant row that has ended.
+macro_rules! finished {
+    ($who:expr, $kind:expr, $starts:expr, $ends:expr, $item:expr) => {
+        Op {
+            who: $who,
+            kind: $kind,
+            starts: $starts,
+            ends: Some($ends),
+            item: Some($item),
+        }
+    };
+}
+
 fn finished(who: usize, kind: Kind, starts: u64, ends: u64, item: Band) -> Op<Band> {
     Op {
         who,
@@ -242,92 +255,154 @@ fn break_of(
     Ok(first_break(&history, order))
 }
 
-#[test]
-fn breaks(rt: HostRuntime) -> Result<(), Fail> {
-    let write = finished(0, Kind::Write, 0, 4, A);
-    let read = finished(1, Kind::Read, 5, 9, A);
-    let stale = finished(1, Kind::Read, 5, 9, NONE);
-    let bare = unfinished(0, Kind::Write, 0, None);
-    let refused = finished(0, Kind::Refused, 10, 11, A);
-    let ends = [
-        finished(0, Kind::Write, 0, 1, A),
-        finished(1, Kind::Read, 0, 9, B),
-        finished(2, Kind::Write, 5, 6, B),
-    ];
-    let precedence = |earlier, entry| Some(Break::Precedence { earlier, entry });
-    let rows: [(&[Op<Band>], &[usize], Option<Break>); 9] = [
-        (&[write, read], &[0, 1], None),
-        (&[write, read], &[1, 0], precedence(0, 1)),
-        (&ends, &[2, 1, 0], precedence(0, 2)),
-        (&[write, read], &[0, 2], Some(Break::NoPlace { entry: 1 })),
-        (
-            &[write, read],
-            &[1, 0, 0],
-            Some(Break::Times { place: 0, times: 2 }),
-        ),
-        (
-            &[write, read],
-            &[0],
-            Some(Break::Times { place: 1, times: 0 }),
-        ),
-        (
-            &[write, stale],
-            &[0, 1],
-            Some(Break::Reading {
-                entry: 1,
-                write: Some(0),
-            }),
-        ),
-        (&[bare], &[0], Some(Break::NoItem { entry: 0 })),
-        (
-            &[read],
-            &[0],
-            Some(Break::Reading {
-                entry: 0,
-                write: None,
-            }),
-        ),
-    ];
-    for (ops, order, expected) in &rows {
-        assert_eq!(&rt; break_of(rt.alloc(), &[term(0, 1)], ops, order)?, *expected);
-    }
-    let early = break_of(rt.alloc(), &[term(0, 2)], &[write, refused], &[0, 1])?;
-    assert_eq!(&rt;
-        early,
+const WRITE: Op<Band> = finished!(0, Kind::Write, 0, 4, A);
+
+const READ: Op<Band> = finished!(1, Kind::Read, 5, 9, A);
+
+const STALE: Op<Band> = finished!(1, Kind::Read, 5, 9, NONE);
+
+const BARE: Op<Band> = Op {
+    who: 0,
+    kind: Kind::Write,
+    starts: 0,
+    ends: None,
+    item: None,
+};
+
+const REFUSED: Op<Band> = finished!(0, Kind::Refused, 10, 11, A);
+
+const ENDS: &[Op<Band>] = &[
+    finished!(0, Kind::Write, 0, 1, A),
+    finished!(1, Kind::Read, 0, 9, B),
+    finished!(2, Kind::Write, 5, 6, B),
+];
+
+/// Operations, an order of them, the limit of their term, and the first rule that the order breaks.
+type Broken = (&'static [Op<Band>], &'static [usize], u64, Option<Break>);
+
+const BREAKS: &[Broken] = &[
+    (&[WRITE, READ], &[0, 1], 1, None),
+    (
+        &[WRITE, READ],
+        &[1, 0],
+        1,
+        Some(Break::Precedence {
+            earlier: 0,
+            entry: 1,
+        }),
+    ),
+    (
+        ENDS,
+        &[2, 1, 0],
+        1,
+        Some(Break::Precedence {
+            earlier: 0,
+            entry: 2,
+        }),
+    ),
+    (
+        &[WRITE, READ],
+        &[0, 2],
+        1,
+        Some(Break::NoPlace { entry: 1 }),
+    ),
+    (
+        &[WRITE, READ],
+        &[1, 0, 0],
+        1,
+        Some(Break::Times { place: 0, times: 2 }),
+    ),
+    (
+        &[WRITE, READ],
+        &[0],
+        1,
+        Some(Break::Times { place: 1, times: 0 }),
+    ),
+    (
+        &[WRITE, STALE],
+        &[0, 1],
+        1,
+        Some(Break::Reading {
+            entry: 1,
+            write: Some(0),
+        }),
+    ),
+    (&[BARE], &[0], 1, Some(Break::NoItem { entry: 0 })),
+    (
+        &[READ],
+        &[0],
+        1,
+        Some(Break::Reading {
+            entry: 0,
+            write: None,
+        }),
+    ),
+    (
+        &[WRITE, REFUSED],
+        &[0, 1],
+        2,
         Some(Break::Limit {
             entry: 1,
-            writes: 1
-        })
-    );
+            writes: 1,
+        }),
+    ),
+];
+
+#[test]
+fn breaks(rt: HostRuntime) -> Result<(), Fail> {
+    for (ops, order, limit, expected) in BREAKS {
+        assert_eq!(rt;
+            break_of(rt.alloc(), &[term(0, *limit)], ops, order)?,
+            *expected
+        );
+    }
     Ok(())
 }
 
+/// The earliest points of the operations in this order, or none where there are no such points.
+fn points_of(
+    alloc: Global,
+    ops: &[Op<Band>],
+    order: &[usize],
+) -> Result<Option<Vec<u64>>, AllocError> {
+    let history = History {
+        opening: NONE,
+        terms: Items::new(Vec::from_slice(alloc, &[term(0, 9)])?),
+        ops: Items::new(Vec::from_slice(alloc, ops)?),
+    };
+    match points(alloc, &history, order)? {
+        Some(found) => Ok(Some(found.into_vec())),
+        None => Ok(None),
+    }
+}
+
+/// Whether the earliest points are these.
+fn has_points(
+    alloc: Global,
+    ops: &[Op<Band>],
+    order: &[usize],
+    expected: &[u64],
+) -> Result<bool, AllocError> {
+    Ok(match points_of(alloc, ops, order)? {
+        Some(found) => found.as_slice() == expected,
+        None => false,
+    })
+}
+
+const MEETING: &[Op<Band>] = &[
+    finished!(0, Kind::Write, 3, 8, A),
+    finished!(1, Kind::Read, 1, 9, A),
+    finished!(2, Kind::Write, 6, 7, B),
+];
+
+const LATER: &[Op<Band>] = &[
+    finished!(0, Kind::Write, 8, 9, A),
+    finished!(1, Kind::Read, 1, 7, A),
+];
+
 #[test]
 fn earliest_points(rt: HostRuntime) -> Result<(), Fail> {
-    let ops = [
-        finished(0, Kind::Write, 3, 8, A),
-        finished(1, Kind::Read, 1, 9, A),
-        finished(2, Kind::Write, 6, 7, B),
-    ];
-    let history = History {
-        opening: NONE,
-        terms: Items::new(Vec::from_slice(rt.alloc(), &[term(0, 9)])?),
-        ops: Items::new(Vec::from_slice(rt.alloc(), &ops)?),
-    };
-    let found = points(rt.alloc(), &history, &[0, 1, 2])?;
-    assert_eq!(&rt;
-        found.map(|points| points.into_vec().as_slice() == [3, 3, 6].as_slice()),
-        Some(true)
-    );
-    let later = [
-        finished(0, Kind::Write, 8, 9, A),
-        finished(1, Kind::Read, 1, 7, A),
-    ];
-    let history = History {
-        opening: NONE,
-        terms: Items::new(Vec::from_slice(rt.alloc(), &[term(0, 9)])?),
-        ops: Items::new(Vec::from_slice(rt.alloc(), &later)?),
-    };
-    assert_eq!(&rt; points(rt.alloc(), &history, &[0, 1])?.is_none(), true);
+    assert!(rt; has_points(rt.alloc(), MEETING, &[0, 1, 2], &[3, 3, 6])?);
+    assert!(rt; points_of(rt.alloc(), LATER, &[0, 1])?.is_none());
     Ok(())
 }

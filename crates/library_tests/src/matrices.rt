@@ -7,7 +7,9 @@ mod boards;
 mod matrices;
 mod sizes;
 
-use history_core::{Band, Items, Kind, MAX_LIMIT, Op, PlayError, Verdict, Wish, check_order};
+use history_core::{
+    Band, History, Items, Kind, MAX_LIMIT, Op, PlayError, Term, Verdict, Wish, check_order,
+};
 use matrix_core::{MatrixReport, MatrixSchedule, MatrixTerm};
 use matrix_play::play_matrix;
 use stamps::Stamp;
@@ -82,6 +84,46 @@ pub(crate) fn schedule_of_two(
     })
 }
 
+/// A term in which the first of n processes writes and then the last one reads, each in so many accesses for each other process.
+pub(crate) fn first_and_last(
+    alloc: Global,
+    n: usize,
+    accesses: usize,
+) -> Result<MatrixTerm<Band>, AllocError> {
+    let mut plans = Vec::new(alloc);
+    for process in 0..n {
+        let wish = if process == 0 {
+            Wish::Write(A)
+        } else {
+            Wish::Read
+        };
+        plans.push(Items::new(vec![in alloc; wish]?))?;
+    }
+    let last = n.saturating_sub(1);
+    let mut steps = Vec::new(alloc);
+    for process in [0, last] {
+        for _ in 0..last.saturating_mul(accesses) {
+            steps.push(process)?;
+        }
+    }
+    Ok(MatrixTerm {
+        limit: 9,
+        plans: Items::new(plans),
+        steps: Items::new(steps),
+    })
+}
+
+/// The operations of such a term.
+pub(crate) fn first_and_last_ops(n: usize, accesses: u64) -> [Op<Band>; 2] {
+    let last = n.saturating_sub(1);
+    let each = accesses.saturating_mul(last as u64);
+    let ends = each.saturating_mul(2).saturating_sub(1);
+    [
+        op(Kind::Write, 0, 0, Some(each.saturating_sub(1)), Some(A)),
+        op(Kind::Read, last, each, Some(ends), Some(A)),
+    ]
+}
+
 fn is_term(term: &MatrixTerm<Band>) -> bool
     ensures { IsTrue result → IsTerm term.now }
 {
@@ -137,6 +179,38 @@ pub(crate) fn stamp(tag: u64, writer: usize) -> Option<Stamp> {
     Some(Stamp { tag, writer })
 }
 
+/// Whether the history opens so and has these operations, and this order of them is lawful.
+fn has(history: &History<Band>, opening: Band, ops: &[Op<Band>], order: &[usize]) -> bool {
+    history.opening == opening
+        && history.ops.as_slice() == ops
+        && check_order(history, order) == Verdict::Lawful
+}
+
+/// Whether the terms begin at these places, and have the limits that were planned.
+fn has_terms(terms: &[Term], firsts: &[usize], planned: &[MatrixTerm<Band>]) -> bool {
+    let mut same = terms.len() == firsts.len();
+    for (told, first) in terms.iter().zip(firsts) {
+        same = same & (told.first == *first);
+    }
+    for (told, planned) in terms.iter().zip(planned) {
+        same = same & (told.limit == planned.limit);
+    }
+    same
+}
+
+/// Whether the report has these operations with these stamps, and this order of them.
+fn tells(
+    report: &MatrixReport<Band>,
+    opening: Band,
+    ops: &[Op<Band>],
+    stamps: &[Option<Stamp>],
+    order: &[usize],
+) -> bool {
+    has(&report.history, opening, ops, order)
+        && report.stamps.as_slice() == stamps
+        && report.order.as_slice() == order
+}
+
 /// The report of a schedule is this one, whose terms begin at these places, and its order is lawful.
 pub(crate) fn gives(
     rt: &impl Abort,
@@ -150,18 +224,8 @@ pub(crate) fn gives(
     match play(schedule, alloc) {
         Some(Ok(report)) => {
             let terms = report.history.terms.as_slice();
-            assert!(rt; terms.len() == firsts.len());
-            for (told, first) in terms.iter().zip(firsts) {
-                assert!(rt; told.first == *first);
-            }
-            for (told, planned) in terms.iter().zip(schedule.terms.as_slice()) {
-                assert!(rt; told.limit == planned.limit);
-            }
-            assert!(rt; report.history.opening == schedule.opening);
-            assert!(rt; report.history.ops.as_slice() == ops);
-            assert!(rt; report.stamps.as_slice() == stamps);
-            assert!(rt; report.order.as_slice() == order);
-            assert!(rt; check_order(&report.history, order) == Verdict::Lawful);
+            assert!(rt; has_terms(terms, firsts, schedule.terms.as_slice()));
+            assert!(rt; tells(&report, schedule.opening, ops, stamps, order));
         }
         _ => panic!(rt; "not played"),
     }

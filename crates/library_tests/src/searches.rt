@@ -33,12 +33,40 @@ fn unfinished(starts: u64, item: u64) -> Op<u64> {
     }
 }
 
-fn log(alloc: Global, limit: u64, ops: &[Op<u64>]) -> Result<History<u64>, AllocError> {
+fn log(alloc: Global, term: Term, ops: &[Op<u64>]) -> Result<History<u64>, AllocError> {
     Ok(History {
         opening: O,
-        terms: Items::new(vec![in alloc; Term { first: 0, limit }]?),
+        terms: Items::new(vec![in alloc; term]?),
         ops: Items::new(ops.to_vec(alloc)?),
     })
+}
+
+/// Whether the order that is found is this one, and the check calls it lawful.
+fn is_found(alloc: Global, history: &History<u64>, order: &[usize]) -> bool {
+    match find_order(alloc, history) {
+        Ok(Search::Order(found)) => {
+            found.as_slice() == order && check_order(history, order) == Verdict::Lawful
+        }
+        _ => false,
+    }
+}
+
+/// Why there is no order, if that was found.
+fn reason_of(alloc: Global, history: &History<u64>) -> Option<Reason> {
+    match find_order(alloc, history) {
+        Ok(Search::Unlawful(reason)) => Some(reason),
+        _ => None,
+    }
+}
+
+/// Why the log isn't searched, if it isn't.
+fn error_of(
+    alloc: Global,
+    first: usize,
+    ops: &[Op<u64>],
+) -> Result<Option<SearchError>, AllocError> {
+    let history = log(alloc, Term { first, limit: 1 }, ops)?;
+    Ok(find_order(alloc, &history).err())
 }
 
 /// The order is this one, and the check calls it lawful.
@@ -49,14 +77,8 @@ fn finds(
     ops: &[Op<u64>],
     order: &[usize],
 ) -> Result<(), AllocError> {
-    let history = log(alloc, limit, ops)?;
-    match find_order(alloc, &history) {
-        Ok(Search::Order(found)) => {
-            assert_eq!(rt; found.as_slice(), order);
-            assert_eq!(rt; check_order(&history, found.as_slice()), Verdict::Lawful);
-        }
-        _ => panic!(rt; "there is an order"),
-    }
+    let history = log(alloc, Term { first: 0, limit }, ops)?;
+    assert!(rt; is_found(alloc, &history, order), "there is an order");
     Ok(())
 }
 
@@ -68,24 +90,11 @@ fn refuses(
     ops: &[Op<u64>],
     reason: Reason,
 ) -> Result<(), AllocError> {
-    match find_order(alloc, &log(alloc, limit, ops)?) {
-        Ok(Search::Unlawful(found)) => assert_eq!(rt; found, reason),
-        _ => panic!(rt; "there is no order"),
-    }
-    Ok(())
-}
-
-/// The log isn't searched.
-fn fails(
-    rt: &impl Abort,
-    alloc: Global,
-    ops: &[Op<u64>],
-    error: SearchError,
-) -> Result<(), AllocError> {
-    match find_order(alloc, &log(alloc, 1, ops)?) {
-        Err(found) => assert_eq!(rt; found, error),
-        Ok(_) => panic!(rt; "it isn't searched"),
-    }
+    let history = log(alloc, Term { first: 0, limit }, ops)?;
+    assert!(rt;
+        reason_of(alloc, &history) == Some(reason),
+        "there is no order"
+    );
     Ok(())
 }
 
@@ -177,26 +186,21 @@ fn limits(rt: HostRuntime) -> Result<(), Fail> {
 
 #[test]
 fn not_searched(rt: HostRuntime) -> Result<(), Fail> {
-    let alloc = rt.alloc();
-    let ops = [op(Kind::Write, 0, 1, A), op(Kind::Write, 2, 3, A)];
-    fails(
-        &rt,
-        alloc,
-        &ops,
-        SearchError::WritesTwice {
-            first: 0,
-            second: 1,
-        },
-    )?;
-    let ops = [op(Kind::Write, 0, 1, O)];
-    fails(&rt, alloc, &ops, SearchError::WritesOpening { place: 0 })?;
-    let ops = [op(Kind::Write, 0, 1, A), op(Kind::Read, 3, 2, A)];
-    fails(&rt, alloc, &ops, SearchError::Backwards { place: 1 })?;
-    let history = History {
-        opening: O,
-        terms: Items::new(vec![in alloc; Term { first: 1, limit: 1 }]?),
-        ops: Items::new(ops.to_vec(alloc)?),
+    let twice = [op(Kind::Write, 0, 1, A), op(Kind::Write, 2, 3, A)];
+    let opening = [op(Kind::Write, 0, 1, O)];
+    let backwards = [op(Kind::Write, 0, 1, A), op(Kind::Read, 3, 2, A)];
+    let told_twice = SearchError::WritesTwice {
+        first: 0,
+        second: 1,
     };
-    assert_eq!(&rt; find_order(alloc, &history).is_err(), true);
+    let rows: [(&[Op<u64>], SearchError); 3] = [
+        (&twice, told_twice),
+        (&opening, SearchError::WritesOpening { place: 0 }),
+        (&backwards, SearchError::Backwards { place: 1 }),
+    ];
+    for (ops, error) in rows {
+        assert_eq!(rt; error_of(rt.alloc(), 0, ops)?, Some(error));
+    }
+    assert!(rt; error_of(rt.alloc(), 1, &backwards)?.is_some());
     Ok(())
 }

@@ -2,10 +2,12 @@
 //! step. Followed by hand, each read begins one step after its write and gets the write before, and the slots come round after
 //! four writes.
 
-use fourslot_core::{CellReport, CellSchedule, Turn};
+use super::has;
+use fourslot_core::{CellSchedule, Turn};
 use fourslot_play::play_cell;
 use history_core::{Items, Kind, Op};
 use std::alloc::{AllocError, Global};
+use std::test::Fail;
 
 const ROUNDS: u64 = 10_000;
 
@@ -66,15 +68,32 @@ fn slots_and_order(alloc: Global) -> Result<(Vec<Option<u8>>, Vec<usize>), Alloc
     Ok((slots, order))
 }
 
+/// Whether the schedule has a hundred thousand steps, and its report these operations with their slots and their order.
+fn gives(
+    alloc: Global,
+    schedule: &CellSchedule<u64>,
+    ops: &[Op<u64>],
+    slots: &[Option<u8>],
+    order: &[usize],
+) -> bool {
+    match play_cell(alloc, schedule) {
+        Ok(report) => {
+            schedule.steps.as_slice().len() == 100_000 && has(&report, ops, slots, order)
+        }
+        Err(_) => false,
+    }
+}
+
+/// Whether the schedule gives what was followed by hand.
+fn is_as_followed(alloc: Global) -> Result<bool, AllocError> {
+    let schedule = schedule(alloc)?;
+    let ops = operations(alloc)?;
+    let (slots, order) = slots_and_order(alloc)?;
+    Ok(gives(alloc, &schedule, &ops, &slots, &order))
+}
+
 #[test]
-fn a_hundred_thousand_steps(rt: HostRuntime) {
-    let alloc = rt.alloc();
-    let schedule = schedule(alloc).expect(&rt, "memory");
-    assert_eq!(&rt; schedule.steps.as_slice().len(), 100_000);
-    let report: CellReport<u64> = play_cell(alloc, &schedule).expect(&rt, "a report");
-    let ops = operations(alloc).expect(&rt, "memory");
-    let (slots, order) = slots_and_order(alloc).expect(&rt, "memory");
-    assert!(&rt; report.history.ops.as_slice() == ops.as_slice());
-    assert!(&rt; report.slots.as_slice() == slots.as_slice());
-    assert!(&rt; report.order.as_slice() == order.as_slice());
+fn a_hundred_thousand_steps(rt: HostRuntime) -> Result<(), Fail> {
+    assert!(rt; is_as_followed(rt.alloc())?);
+    Ok(())
 }

@@ -1,9 +1,10 @@
 //! Schedules played, with the reports that were worked out by hand. The opening is 0, the noise 987, and the writes store 1,
 //! 2 and 3.
 
+use super::has;
 use fourslot_core::{CellReport, CellSchedule, Turn};
 use fourslot_play::play_cell;
-use history_core::{Items, Kind, MAX_LIMIT, Op, PlayError, Term, Verdict, check_order};
+use history_core::{History, Items, Kind, MAX_LIMIT, Op, PlayError, Term, Verdict, check_order};
 use std::alloc::{AllocError, Global};
 use std::process::Abort;
 
@@ -84,16 +85,18 @@ fn shows(
     slots: &[Option<u8>],
     order: &[usize],
 ) {
-    assert_eq!(rt; report.history.opening, 0);
+    assert!(rt; has(report, ops, slots, order));
+    assert!(rt; is_of_one_term(&report.history));
+    assert!(rt; check_order(&report.history, order) == Verdict::Lawful);
+}
+
+/// Whether the history opens with 0 and is one term without a limit.
+fn is_of_one_term(history: &History<u64>) -> bool {
     let terms = [Term {
         first: 0,
         limit: MAX_LIMIT,
     }];
-    assert!(rt; report.history.terms.as_slice() == terms.as_slice());
-    assert!(rt; report.history.ops.as_slice() == ops);
-    assert!(rt; report.slots.as_slice() == slots);
-    assert!(rt; report.order.as_slice() == order);
-    assert!(rt; check_order(&report.history, order) == Verdict::Lawful);
+    history.opening == 0 && history.terms.as_slice() == terms.as_slice()
 }
 
 #[test]

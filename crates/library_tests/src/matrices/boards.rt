@@ -1,10 +1,10 @@
 //! Worked rows of composed boards. The expected intervals, stamps, slots, answers and orders are those of the rows.
 
-ghost use Rattle.std.specs.Prelude.{◌<◌};
-
-use crate::matrices::{A, B, C, OPENING, can_play, op, stamp, term};
+use crate::matrices::{
+    A, B, C, OPENING, can_play, first_and_last, first_and_last_ops, has, op, stamp, term,
+};
 use board_play::play_board;
-use history_core::{Band, Items, Kind, Op, PlayError, Verdict, Wish, check_order};
+use history_core::{Band, Items, Kind, Op, PlayError, Wish};
 use matrix_core::{BoardReport, BoardSchedule, MatrixTerm};
 use stamps::Stamp;
 use std::alloc::{AllocError, Global};
@@ -43,6 +43,28 @@ fn play(
     }
 }
 
+/// Whether the rows of slots are these.
+fn are_slots(rows: &[Items<Option<u8>>], slots: &[&[Option<u8>]]) -> bool {
+    let mut same = rows.len() == slots.len();
+    for (row, expected) in rows.iter().zip(slots) {
+        same = same & (row.as_slice() == *expected);
+    }
+    same
+}
+
+/// Whether the report has these operations with these stamps, and this order of them, which is lawful.
+fn tells(
+    report: &BoardReport<Band>,
+    opening: Band,
+    ops: &[Op<Band>],
+    stamps: &[Option<Stamp>],
+    order: &[usize],
+) -> bool {
+    has(&report.history, opening, ops, order)
+        && report.stamps.as_slice() == stamps
+        && report.order.as_slice() == order
+}
+
 /// The report of a schedule is this one, and its order is lawful.
 fn gives(
     rt: &impl Abort,
@@ -55,15 +77,8 @@ fn gives(
 ) {
     match play(schedule, alloc) {
         Some(Ok(report)) => {
-            assert!(rt; report.history.opening == schedule.opening);
-            assert!(rt; report.history.ops.as_slice() == ops);
-            assert!(rt; report.stamps.as_slice() == stamps);
-            assert!(rt; report.order.as_slice() == order);
-            assert!(rt; report.slots.as_slice().len() == slots.len());
-            for (row, expected) in report.slots.as_slice().iter().zip(slots) {
-                assert!(rt; row.as_slice() == *expected);
-            }
-            assert!(rt; check_order(&report.history, order) == Verdict::Lawful);
+            assert!(rt; tells(&report, schedule.opening, ops, stamps, order));
+            assert!(rt; are_slots(report.slots.as_slice(), slots));
         }
         _ => panic!(rt; "not played"),
     }
@@ -203,58 +218,21 @@ fn a_term_after_another(rt: HostRuntime) -> Result<(), Fail> {
     Ok(())
 }
 
-/// A write by the first process and then a read by the last one.
-fn of_size(
-    alloc: Global,
-    n: usize,
-) -> Result<Option<Result<BoardReport<Band>, PlayError>>, AllocError>
-    requires { 0 < n × n < 17 }
-{
-    let mut plans = Vec::new(alloc);
-    let mut steps = Vec::new(alloc);
-    for process in 0..n {
-        let mut plan = Vec::new(alloc);
-        if process == 0 {
-            plan.push(Wish::Write(A))?;
-        } else {
-            plan.push(Wish::Read)?;
-        }
-        plans.push(Items::new(plan))?;
-    }
-    for _i in 0..20usize * 16 {
-        if steps.len() < 10 * (n - 1) {
-            steps.push(0)?;
-        } else if steps.len() < 20 * (n - 1) {
-            steps.push(n - 1)?;
-        }
-    }
-    let mut terms = Vec::new(alloc);
-    terms.push(MatrixTerm {
-        limit: 9,
-        plans: Items::new(plans),
-        steps: Items::new(steps),
-    })?;
-    Ok(play(&board(terms), alloc))
+/// Whether n processes, of which the first writes and then the last one reads, give this write and this read.
+fn plays(alloc: Global, n: usize) -> Result<bool, AllocError> {
+    let terms = vec![in alloc; first_and_last(alloc, n, 10)?]?;
+    let ops = first_and_last_ops(n, 10);
+    let stamps = [stamp(1, 0), stamp(1, 0)];
+    Ok(match play(&board(terms), alloc) {
+        Some(Ok(report)) => tells(&report, OPENING, &ops, &stamps, &[0, 1]),
+        _ => false,
+    })
 }
 
 #[test]
 fn at_each_size(rt: HostRuntime) -> Result<(), Fail> {
-    let alloc = rt.alloc();
-    for n in 2..17usize {
-        let accesses = 10 * (n as u64 - 1);
-        match of_size(alloc, n)? {
-            Some(Ok(report)) => {
-                let ops = [
-                    op(Kind::Write, 0, 0, Some(accesses - 1), Some(A)),
-                    op(Kind::Read, n - 1, accesses, Some(2 * accesses - 1), Some(A)),
-                ];
-                assert!(rt; report.history.ops.as_slice() == ops.as_slice());
-                assert!(rt; report.stamps.as_slice() == [stamp(1, 0), stamp(1, 0)].as_slice());
-                assert!(rt; report.order.as_slice() == [0, 1].as_slice());
-                assert!(rt; check_order(&report.history, &[0, 1]) == Verdict::Lawful);
-            }
-            _ => panic!(rt; "not played"),
-        }
+    for n in 2..17 {
+        assert!(rt; plays(rt.alloc(), n)?);
     }
     Ok(())
 }

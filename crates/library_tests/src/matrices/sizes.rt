@@ -1,65 +1,28 @@
 //! Matrices at each size, at the limits of a document, and with many operations.
 
-ghost use Rattle.std.specs.Prelude.{◌<◌};
-
-use crate::matrices::{A, B, OPENING, op, play, schedule, stamp};
-use history_core::{Band, Items, Kind, MAX_LIMIT, PlayError, Verdict, Wish, check_order};
-use matrix_core::{MatrixReport, MatrixSchedule, MatrixTerm};
+use crate::matrices::{
+    B, OPENING, first_and_last, first_and_last_ops, op, play, schedule, stamp, tells,
+};
+use history_core::{Items, Kind, MAX_LIMIT, Wish};
+use matrix_core::{MatrixSchedule, MatrixTerm};
 use std::alloc::{AllocError, Global};
 use std::test::Fail;
 
-/// A write by the first process and then a read by the last one.
-fn of_size(
-    alloc: Global,
-    n: usize,
-) -> Result<Option<Result<MatrixReport<Band>, PlayError>>, AllocError>
-    requires { 0 < n × n < 17 }
-{
-    let mut plans = Vec::new(alloc);
-    let mut steps = Vec::new(alloc);
-    for process in 0..n {
-        let mut plan = Vec::new(alloc);
-        if process == 0 {
-            plan.push(Wish::Write(A))?;
-        } else {
-            plan.push(Wish::Read)?;
-        }
-        plans.push(Items::new(plan))?;
-    }
-    for _i in 0..64 {
-        if steps.len() < 2 * (n - 1) {
-            steps.push(0)?;
-        } else if steps.len() < 4 * (n - 1) {
-            steps.push(n - 1)?;
-        }
-    }
-    let first = MatrixTerm {
-        limit: 9,
-        plans: Items::new(plans),
-        steps: Items::new(steps),
-    };
-    Ok(play(&schedule(alloc, first)?, alloc))
+/// Whether n processes, of which the first writes and then the last one reads, give this write and this read.
+fn plays(alloc: Global, n: usize) -> Result<bool, AllocError> {
+    let row = schedule(alloc, first_and_last(alloc, n, 2)?)?;
+    let ops = first_and_last_ops(n, 2);
+    let stamps = [stamp(1, 0), stamp(1, 0)];
+    Ok(match play(&row, alloc) {
+        Some(Ok(report)) => tells(&report, OPENING, &ops, &stamps, &[0, 1]),
+        _ => false,
+    })
 }
 
 #[test]
 fn at_each_size(rt: HostRuntime) -> Result<(), Fail> {
-    let alloc = rt.alloc();
-    for n in 2..17usize {
-        let accesses = 2 * (n as u64 - 1);
-        match of_size(alloc, n)? {
-            Some(Ok(report)) => {
-                let ops = [
-                    op(Kind::Write, 0, 0, Some(accesses - 1), Some(A)),
-                    op(Kind::Read, n - 1, accesses, Some(2 * accesses - 1), Some(A)),
-                ];
-                assert!(rt; report.history.ops.as_slice() == ops.as_slice());
-                assert!(rt; report.stamps.as_slice() == [stamp(1, 0), stamp(1, 0)].as_slice());
-                assert!(rt;
-                    check_order(&report.history, report.order.as_slice()) == Verdict::Lawful
-                );
-            }
-            _ => panic!(rt; "not played"),
-        }
+    for n in 2..17 {
+        assert!(rt; plays(rt.alloc(), n)?);
     }
     Ok(())
 }
