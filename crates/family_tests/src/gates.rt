@@ -7,8 +7,10 @@ use board_tasks::{CountingGate, Gate, Lane, TimedGate};
 use family_four_slot::FourSlotFamily;
 use family_live::Family;
 use history_core::Band;
+use std::alloc::{AllocError, Global};
 use std::sync::atomic::{AtomicU64, Ordering};
 use std::test::Fail;
+use std::thread::Threads;
 
 type FourSlot = FourSlotFamily<Posted<Band>>;
 
@@ -21,28 +23,39 @@ fn made<F: Family<Posted<Band>>>(lanes: &[Lane<Band, F>]) -> u64 {
     made
 }
 
+/// Runs the plans on a board over four slots, and gives how many calls were made.
+fn run<R: Threads + Sync, G: Gate + Sync>(
+    rt: &R,
+    alloc: Global,
+    plans: &[&[u64]],
+    gate: &G,
+) -> Result<u64, AllocError> {
+    let crew = run_plans::<R, FourSlot, G>(rt, alloc, 9, plans, gate)?;
+    Ok(made(crew.lanes.as_slice()))
+}
+
 #[test]
 fn calls_are_counted(rt: HostRuntime) -> Result<(), Fail> {
     let gate = CountingGate::new();
-    let plans: &[&[u64]] = &[&[1, 0, 2], &[0, 0], &[]];
-    let crew = run_plans::<_, FourSlot, _>(&rt, rt.alloc(), 9, plans, &gate)?;
-    assert_eq!(rt; made(crew.lanes.as_slice()), 5);
-    assert_eq!(rt; gate.made(), 5);
+    let calls = run(&rt, rt.alloc(), &[&[1, 0, 2], &[0, 0], &[]], &gate)?;
+    assert_eq!(rt; (calls, gate.made()), (5, 5));
     Ok(())
+}
+
+/// Whether the gate lets a call through, and how many it has counted by then and once the call was made.
+fn lets(gate: &CountingGate, task: usize, call: usize) -> (bool, u64, u64) {
+    let is_let = gate.before(task, call) == Some(());
+    let let_through = gate.made();
+    gate.after(task, call, ());
+    (is_let, let_through, gate.made())
 }
 
 /// A call that is let through isn't counted: one that was made is.
 #[test]
 fn a_call_is_counted_when_it_was_made(rt: HostRuntime) -> Result<(), Fail> {
     let gate = CountingGate::new();
-    assert_eq!(rt; gate.before(0, 1), Some(()));
-    assert_eq!(rt; gate.made(), 0);
-    gate.after(0, 1, ());
-    assert_eq!(rt; gate.made(), 1);
-    assert_eq!(rt; gate.before(1, 1), Some(()));
-    assert_eq!(rt; gate.made(), 1);
-    gate.after(1, 1, ());
-    assert_eq!(rt; gate.made(), 2);
+    assert_eq!(rt; lets(&gate, 0, 1), (true, 0, 1));
+    assert_eq!(rt; lets(&gate, 1, 1), (true, 1, 2));
     Ok(())
 }
 
@@ -51,8 +64,7 @@ fn time_is_up_for_all_tasks(rt: HostRuntime) -> Result<(), Fail> {
     let plans: &[&[u64]] = &[&[0; 40], &[0; 40]];
     for turns in [0, 1, 50, 80, 90] {
         let gate = TimedGate::new(turns);
-        let crew = run_plans::<_, FourSlot, _>(&rt, rt.alloc(), 9, plans, &gate)?;
-        assert_eq!(rt; made(crew.lanes.as_slice()), turns.min(80));
+        assert_eq!(rt; run(&rt, rt.alloc(), plans, &gate)?, turns.min(80));
     }
     Ok(())
 }
@@ -103,9 +115,12 @@ fn tasks_count_from_0_and_calls_from_1(rt: HostRuntime) -> Result<(), Fail> {
         told: AtomicU64::new(0),
     };
     let plans: &[&[u64]] = &[&[1, 0, 2], &[0, 0], &[], &[0]];
-    run_plans::<_, FourSlot, _>(&rt, rt.alloc(), 9, plans, &gate)?;
+    run(&rt, rt.alloc(), plans, &gate)?;
     let all = 1 + 2 + 3 + 101 + 102 + 301;
-    assert_eq!(rt; gate.asked.load(Ordering::SeqCst), all);
-    assert_eq!(rt; gate.told.load(Ordering::SeqCst), all);
+    let sums = [
+        gate.asked.load(Ordering::SeqCst),
+        gate.told.load(Ordering::SeqCst),
+    ];
+    assert_eq!(rt; sums, [all, all]);
     Ok(())
 }

@@ -78,18 +78,17 @@ fn worn_out_tags_on_four_slots(rt: HostRuntime) -> Result<(), Fail> {
     Ok(())
 }
 
-/// What two tasks left behind: how long their logs are, whether each record in them has its origin, and the last record.
-fn left_by_two<R: Threads + Sync, F: SharedFamily<Posted<Band>>>(
+/// What two tasks left behind on a board over four slots: how long their logs are, whether each record in them has its origin, and the
+/// last record.
+fn left_by_two<R: Threads + Sync>(
     rt: &R,
     alloc: Global,
     limit: u64,
     plans: &[&[u64]],
-) -> Result<([usize; 2], Origin, Posted<Band>), AllocError>
-where
-    F::Seat: Send,
-    F::Told: Send,
-{
-    let crew = run_plans::<R, F, OpenGate>(rt, alloc, limit, plans, &OpenGate)?;
+) -> Result<([usize; 2], Origin, Posted<Band>), AllocError> {
+    let crew = run_plans::<R, FourSlotFamily<Posted<Band>>, OpenGate>(
+        rt, alloc, limit, plans, &OpenGate,
+    )?;
     let (logs, last) = finish_lanes(alloc, crew.board, crew.lanes)?;
     let origin = check_origin(point(0), logs.as_slice());
     let lengths = match logs.as_slice() {
@@ -99,36 +98,25 @@ where
     Ok((lengths, origin, last))
 }
 
+/// Whether it is the second write of one task or the only one of the other, above another write.
+fn is_last_of_three(last: Posted<Band>) -> bool {
+    last.stamp.tag >= 2 && (last.item.now == 2 || last.item.now == 3)
+}
+
 #[test]
 fn two_tasks_write_and_read(rt: HostRuntime) -> Result<(), Fail> {
     let plans: &[&[u64]] = &[&[1, 0, 2], &[3, 0]];
-    let (lengths, origin, last) = left_by_two::<_, FourSlotFamily<Posted<Band>>>(
-        &rt,
-        rt.alloc(),
-        9,
-        plans,
-    )?;
-    assert_eq!(rt; lengths, [3, 2]);
-    assert_eq!(rt; origin, Origin::Sound);
-    assert!(rt; last.stamp.tag >= 2);
-    assert!(rt;
-        last.item.now == 2 || last.item.now == 3,
-        "a write that no other followed"
-    );
+    let (lengths, origin, last) = left_by_two(&rt, rt.alloc(), 9, plans)?;
+    assert_eq!(rt; (lengths, origin), ([3, 2], Origin::Sound));
+    assert!(rt; is_last_of_three(last), "a write that no other followed");
     Ok(())
 }
 
 #[test]
 fn two_tasks_meet_the_limit(rt: HostRuntime) -> Result<(), Fail> {
     let plans: &[&[u64]] = &[&[1, 2], &[0, 0]];
-    let (lengths, origin, last) = left_by_two::<_, FourSlotFamily<Posted<Band>>>(
-        &rt,
-        rt.alloc(),
-        1,
-        plans,
-    )?;
-    assert_eq!(rt; lengths, [2, 2]);
-    assert_eq!(rt; origin, Origin::Sound);
+    let (lengths, origin, last) = left_by_two(&rt, rt.alloc(), 1, plans)?;
+    assert_eq!(rt; (lengths, origin), ([2, 2], Origin::Sound));
     assert_eq!(rt; (last.stamp.tag, last.item.now), (1, 1));
     Ok(())
 }

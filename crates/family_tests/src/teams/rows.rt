@@ -1,5 +1,5 @@
 //! What the calls of a team give.
-use super::{A, B, C, Given, OPENING, Team, UNLAWFUL, at};
+use super::{A, B, C, Given, OPENING, Team, UNLAWFUL};
 use atomic_board::{BoardError, Posted, TagsEnded};
 use family_four_slot::FourSlotFamily;
 use family_live::Family;
@@ -13,12 +13,34 @@ type FourSlot = FourSlotFamily<Posted<Band>>;
 
 type Triple = TripleFamily<Posted<Band>>;
 
-fn stamp(tag: u64, writer: usize) -> Given {
-    Given::Stamp(Stamp { tag, writer })
+/// What a write gave. (A macro, so that the rows are constants.)
+macro_rules! stamp {
+    ($tag:expr, $writer:expr) => {
+        Given::Stamp(Stamp {
+            tag: $tag,
+            writer: $writer,
+        })
+    };
 }
 
-fn posted(tag: u64, writer: usize, item: Band) -> Given {
-    Given::Posted(at(tag, writer, item))
+/// A record of a board.
+macro_rules! at {
+    ($tag:expr, $writer:expr, $item:expr) => {
+        Posted {
+            stamp: Stamp {
+                tag: $tag,
+                writer: $writer,
+            },
+            item: $item,
+        }
+    };
+}
+
+/// What a call gave that answers with a record.
+macro_rules! posted {
+    ($tag:expr, $writer:expr, $item:expr) => {
+        Given::Posted(at!($tag, $writer, $item))
+    };
 }
 
 fn given(answer: Result<Stamp, TagsEnded<Band>>) -> Given {
@@ -41,17 +63,18 @@ fn three<F: Family<Posted<Band>>>(alloc: Global) -> Result<[Given; 6], BoardErro
     ])
 }
 
+const THREE_PROCESSES: [Given; 6] = [
+    stamp!(1, 1),
+    posted!(1, 1, B),
+    stamp!(2, 2),
+    stamp!(3, 0),
+    posted!(3, 0, A),
+    posted!(3, 0, A),
+];
+
 #[test]
 fn three_processes(rt: HostRuntime) -> Result<(), Fail> {
-    let expected = [
-        stamp(1, 1),
-        posted(1, 1, B),
-        stamp(2, 2),
-        stamp(3, 0),
-        posted(3, 0, A),
-        posted(3, 0, A),
-    ];
-    assert_eq!(rt; three::<FourSlot>(rt.alloc())?, expected);
+    assert_eq!(rt; three::<FourSlot>(rt.alloc())?, THREE_PROCESSES);
     Ok(())
 }
 
@@ -68,17 +91,18 @@ fn ends<F: Family<Posted<Band>>>(alloc: Global) -> Result<[Given; 6], BoardError
     ])
 }
 
+const TAGS_END: [Given; 6] = [
+    stamp!(1, 0),
+    stamp!(2, 1),
+    Given::Ended(at!(2, 1, B)),
+    posted!(2, 1, B),
+    posted!(2, 1, B),
+    posted!(2, 1, B),
+];
+
 #[test]
 fn tags_end(rt: HostRuntime) -> Result<(), Fail> {
-    let expected = [
-        stamp(1, 0),
-        stamp(2, 1),
-        Given::Ended(at(2, 1, B)),
-        posted(2, 1, B),
-        posted(2, 1, B),
-        posted(2, 1, B),
-    ];
-    assert_eq!(rt; ends::<FourSlot>(rt.alloc())?, expected);
+    assert_eq!(rt; ends::<FourSlot>(rt.alloc())?, TAGS_END);
     Ok(())
 }
 
@@ -96,18 +120,19 @@ fn told<F: Family<Posted<Band>>>(alloc: Global) -> Result<[Given; 7], BoardError
     ])
 }
 
+const RECEIPTS_THAT_ARE_LEARNT: [Given; 7] = [
+    stamp!(1, 0),
+    posted!(1, 0, A),
+    posted!(0, 0, OPENING),
+    posted!(0, 0, OPENING),
+    posted!(1, 0, A),
+    posted!(1, 0, A),
+    posted!(1, 0, A),
+];
+
 #[test]
 fn receipts_that_are_learnt(rt: HostRuntime) -> Result<(), Fail> {
-    let expected = [
-        stamp(1, 0),
-        posted(1, 0, A),
-        posted(0, 0, OPENING),
-        posted(0, 0, OPENING),
-        posted(1, 0, A),
-        posted(1, 0, A),
-        posted(1, 0, A),
-    ];
-    assert_eq!(rt; told::<FourSlot>(rt.alloc())?, expected);
+    assert_eq!(rt; told::<FourSlot>(rt.alloc())?, RECEIPTS_THAT_ARE_LEARNT);
     Ok(())
 }
 
@@ -117,10 +142,18 @@ fn told_at_limit<F: Family<Posted<Band>>>(alloc: Global) -> Result<[Given; 3], B
     Ok([team.write(0, A), team.pass_on(0, 1), team.write(1, B)])
 }
 
+const TAGS_END_AT_A_RECEIPT: [Given; 3] = [
+    stamp!(1, 0),
+    posted!(1, 0, A),
+    Given::Ended(at!(1, 0, A)),
+];
+
 #[test]
 fn tags_end_at_a_receipt(rt: HostRuntime) -> Result<(), Fail> {
-    let expected = [stamp(1, 0), posted(1, 0, A), Given::Ended(at(1, 0, A))];
-    assert_eq!(rt; told_at_limit::<FourSlot>(rt.alloc())?, expected);
+    assert_eq!(rt;
+        told_at_limit::<FourSlot>(rt.alloc())?,
+        TAGS_END_AT_A_RECEIPT
+    );
     Ok(())
 }
 
@@ -130,10 +163,11 @@ fn untold<F: Family<Posted<Band>>>(alloc: Global) -> Result<[Given; 3], BoardErr
     Ok([team.write(0, A), team.drop_receipt(0), team.read(1)])
 }
 
+const READ_WITHOUT_RECEIPT: [Given; 3] = [stamp!(1, 0), posted!(1, 0, A), posted!(1, 0, A)];
+
 #[test]
 fn read_without_receipt(rt: HostRuntime) -> Result<(), Fail> {
-    let expected = [stamp(1, 0), posted(1, 0, A), posted(1, 0, A)];
-    assert_eq!(rt; untold::<FourSlot>(rt.alloc())?, expected);
+    assert_eq!(rt; untold::<FourSlot>(rt.alloc())?, READ_WITHOUT_RECEIPT);
     Ok(())
 }
 
@@ -164,17 +198,18 @@ fn late<F: Family<Posted<Band>>>(alloc: Global) -> Result<Option<[Given; 6]>, Bo
     ]))
 }
 
+const LATE_RECEIPT_OF_A_LOST_PASS: Option<[Given; 6]> = Some([
+    stamp!(1, 0),
+    stamp!(2, 0),
+    posted!(2, 0, B),
+    posted!(1, 0, A),
+    posted!(2, 0, B),
+    stamp!(3, 1),
+]);
+
 #[test]
 fn late_receipt_of_a_lost_pass(rt: HostRuntime) -> Result<(), Fail> {
-    let expected = Some([
-        stamp(1, 0),
-        stamp(2, 0),
-        posted(2, 0, B),
-        posted(1, 0, A),
-        posted(2, 0, B),
-        stamp(3, 1),
-    ]);
-    assert_eq!(rt; late::<FourSlot>(rt.alloc())?, expected);
+    assert_eq!(rt; late::<FourSlot>(rt.alloc())?, LATE_RECEIPT_OF_A_LOST_PASS);
     Ok(())
 }
 
@@ -198,10 +233,15 @@ fn dropped<F: Family<Posted<Band>>>(alloc: Global) -> Result<Option<[Given; 3]>,
     ]))
 }
 
+const RECORD_OF_A_LOST_PASS: Option<[Given; 3]> = Some([
+    posted!(1, 1, B),
+    stamp!(2, 0),
+    posted!(2, 0, C),
+]);
+
 #[test]
 fn record_of_a_lost_pass(rt: HostRuntime) -> Result<(), Fail> {
-    let expected = Some([posted(1, 1, B), stamp(2, 0), posted(2, 0, C)]);
-    assert_eq!(rt; dropped::<FourSlot>(rt.alloc())?, expected);
+    assert_eq!(rt; dropped::<FourSlot>(rt.alloc())?, RECORD_OF_A_LOST_PASS);
     Ok(())
 }
 
@@ -223,18 +263,19 @@ fn terms<F: Family<Posted<Band>>>(alloc: Global) -> Result<[Given; 7], BoardErro
     ])
 }
 
+const TERMS_OF_A_BOARD: [Given; 7] = [
+    stamp!(1, 0),
+    Given::Ended(at!(1, 0, A)),
+    posted!(1, 0, A),
+    posted!(0, 0, A),
+    stamp!(1, 15),
+    posted!(1, 15, B),
+    posted!(1, 15, B),
+];
+
 #[test]
 fn terms_of_a_board(rt: HostRuntime) -> Result<(), Fail> {
-    let expected = [
-        stamp(1, 0),
-        Given::Ended(at(1, 0, A)),
-        posted(1, 0, A),
-        posted(0, 0, A),
-        stamp(1, 15),
-        posted(1, 15, B),
-        posted(1, 15, B),
-    ];
-    assert_eq!(rt; terms::<FourSlot>(rt.alloc())?, expected);
+    assert_eq!(rt; terms::<FourSlot>(rt.alloc())?, TERMS_OF_A_BOARD);
     Ok(())
 }
 
@@ -281,7 +322,7 @@ fn refused_boards(rt: HostRuntime) -> Result<(), Fail> {
 }
 
 /// What all rows give.
-#[derive(Clone, Copy, Debug, PartialEq, Eq)]
+#[derive(Clone, Copy, PartialEq, Eq)]
 struct Rows {
     three: [Given; 6],
     ends: [Given; 6],
@@ -311,9 +352,6 @@ fn make_rows<F: Family<Posted<Band>>>(alloc: Global) -> Result<Rows, BoardError>
 /// Boards over triple buffers answer as those over four slots, whose answers are the rows above.
 #[test]
 fn rows_on_triple_buffers(rt: HostRuntime) -> Result<(), Fail> {
-    assert_eq!(rt;
-        make_rows::<Triple>(rt.alloc())?,
-        make_rows::<FourSlot>(rt.alloc())?
-    );
+    assert!(rt; make_rows::<Triple>(rt.alloc())? == make_rows::<FourSlot>(rt.alloc())?);
     Ok(())
 }
