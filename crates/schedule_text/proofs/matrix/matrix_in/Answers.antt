@@ -1,0 +1,8 @@
+-- Looked for at once, so that another value is refused at once.
+use Rattle.std.proofs.Common.{rules}
+use Rattle.schedule_text.specs.Matrix.{matrix_in}
+use Rattle.schedule_text.proofs.matrix.matrix_in.Goals as goal
+
+pub returns-clause-document : goal.returns-clause-document
+unfolding matrix_in
+returns-clause-document c = search rules
