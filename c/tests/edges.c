@@ -14,15 +14,17 @@ static void check(int holds, const char *name, const char *what) {
     }
 }
 
-/* Memory: the request whose number is `refuse` fails. Requests and blocks that live are counted. */
+/* Memory: the request whose number is `refuse` fails. Requests, their bytes and blocks that live are counted. */
 void *__real_malloc(size_t size);
 void *__real_realloc(void *old, size_t size);
 void __real_free(void *old);
 static long asked, refuse = -1, blocks;
+static size_t bytes;
 
 void *__wrap_malloc(size_t size) {
     void *made;
     if (++asked == refuse) return 0;
+    bytes += size;
     made = __real_malloc(size);
     blocks += made != 0;
     return made;
@@ -30,6 +32,7 @@ void *__wrap_malloc(size_t size) {
 
 void *__wrap_realloc(void *old, size_t size) {
     if (++asked == refuse) return 0;
+    bytes += size;
     blocks += !old;
     return __real_realloc(old, size);
 }
@@ -113,6 +116,10 @@ static void only_these(const char *name, size_t size, int triple, nidzaru_side *
 NIDZARU_ASSERT(NIDZARU_WATCHED || (NIDZARU_PASSES(24, 8) && NIDZARU_PASSES(4096, 8)), "records that are passed where they lie");
 NIDZARU_ASSERT(!NIDZARU_PASSES(24, 4) && !NIDZARU_PASSES(8, 1) && !NIDZARU_PASSES(16, 8) && !NIDZARU_PASSES(4088, 8), "records that are copied");
 
+/* The most bytes that `make` asks for: records of the library with their numbers, in slots and in the passes, and what is the same
+ * for every size. */
+static size_t most_bytes(size_t size) { return 7 * (8 + NIDZARU_SIZE(size)) + 700; }
+
 enum { GUARD = 64 };
 
 #define EDGE(name, type, register_of, triple)                                                                                 \
@@ -162,7 +169,9 @@ enum { GUARD = 64 };
         check(name##_make(0, &w, &r) == NIDZARU_NULL && name##_make(&item.x, 0, &r) == NIDZARU_NULL                           \
                   && name##_make(&item.x, &w, 0) == NIDZARU_NULL, #name, "make with a null pointer");                         \
         check(!w.handle.side.live && !r.handle.side.live && blocks == had, #name, "what a refused make leaves");              \
+        bytes = 0;                                                                                                            \
         check(!name##_make(&item.x, &w, &r) && name##_is(&item, 3), #name, "make");                                           \
+        check(bytes <= most_bytes(sizeof(type)), #name, "make takes more than its own records need");                         \
         took = asked;                                                                                                         \
         alive = blocks;                                                                                                       \
         name##_lives(&w, &r, 3, 0, "the opening");                                                                            \

@@ -11,5 +11,6 @@ mod seats;
 #[derive(Drop)]
 pub struct Place<V: RecordLaw, F: Family<Posted<V>>> {
     pub board: Arc<Board<V, F>, Global>,
-    pub pass: Pass<V, F>,
+    /// In a box, so that a place has one size, whatever its records have.
+    pub pass: Box<Pass<V, F>>,
 }

@@ -13,18 +13,18 @@ use stamps::Stamp;
 use std::alloc::Global;
 
 impl<V: Free + Drop, F: Family<Posted<V>>> Sits for Place<V, F> {
-    ghost sits = { λ p. IsPass ⟦<F as Family<Posted<V>>>⟧ V.obeys (arc_value p.board) p.pass };
+    ghost sits = { λ p. IsPass ⟦<F as Family<Posted<V>>>⟧ V.obeys (arc_value p.board) p.pass.value };
 }
 
 impl<V: Free + Drop, F: Family<Posted<V>>> Sitting<V> for Place<V, F> {
-    ghost has_posted = { λ p q. HasPosted ⟦<F as Family<Posted<V>>>⟧ V.obeys (arc_value p.board) (arc_value q.board) p.pass q.pass };
+    ghost has_posted = { λ p q. HasPosted ⟦<F as Family<Posted<V>>>⟧ V.obeys (arc_value p.board) (arc_value q.board) p.pass.value q.pass.value };
 
-    ghost is_refused = { λ p q. IsRefused ⟦<F as Family<Posted<V>>>⟧ V.obeys (arc_value p.board) (arc_value q.board) p.pass q.pass };
+    ghost is_refused = { λ p q. IsRefused ⟦<F as Family<Posted<V>>>⟧ V.obeys (arc_value p.board) (arc_value q.board) p.pass.value q.pass.value };
 
-    ghost has_seen = { λ p q. HasSeen ⟦<F as Family<Posted<V>>>⟧ V.obeys (arc_value p.board) (arc_value q.board) p.pass q.pass };
+    ghost has_seen = { λ p q. HasSeen ⟦<F as Family<Posted<V>>>⟧ V.obeys (arc_value p.board) (arc_value q.board) p.pass.value q.pass.value };
 
     ghost is_made = { λ n limit w ss. IsBoardOf ⟦<F as Family<Posted<V>>>⟧ V.obeys n limit w
-        (map (λ s. arc_value s.board) ss) (map (λ s. s.pass) ss) };
+        (map (λ s. arc_value s.board) ss) (map (λ s. s.pass.value) ss) };
 
     fn open(alloc: Global, n: usize, limit: u64, words: V) -> Result<Vec<Place<V, F>>, BoardError> {
         open_places(alloc, n, limit, words)
@@ -32,7 +32,7 @@ impl<V: Free + Drop, F: Family<Posted<V>>> Sitting<V> for Place<V, F> {
 
     #[inline]
     fn post(&mut self, words: &V) -> Option<Stamp> {
-        match self.board.write(&mut self.pass, *words) {
+        match self.board.write(self.pass.as_mut(), *words) {
             Ok(stamp) => Some(stamp),
             Err(_) => None,
         }
@@ -40,6 +40,6 @@ impl<V: Free + Drop, F: Family<Posted<V>>> Sitting<V> for Place<V, F> {
 
     #[inline]
     fn see(&mut self) -> Posted<V> {
-        self.board.read(&mut self.pass)
+        self.board.read(self.pass.as_mut())
     }
 }

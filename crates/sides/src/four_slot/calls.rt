@@ -15,12 +15,13 @@ impl<W: Copy> Reading<W> for FourSlotReader<W> {
 
     #[inline]
     fn read(&mut self) -> Numbered<W> {
-        self.cell.read(&mut self.get)
+        self.cell.read(self.get.as_mut())
     }
 
     #[inline]
     fn look(&mut self) -> u64 {
-        self.cell.read_with(&mut self.get, |record| record.number)
+        self.cell
+            .read_with(self.get.as_mut(), |record| record.number)
     }
 }
 
@@ -35,7 +36,7 @@ impl<W: Copy> Writing<W> for FourSlotWriter<W> {
             return false;
         };
         self.cell
-            .write_laid(&mut self.put, &Numbering { number, words });
+            .write_laid(self.put.as_mut(), &Numbering { number, words });
         self.number = number;
         true
     }
@@ -46,6 +47,8 @@ impl<W: Copy> Opens<W, FourSlotReader<W>> for FourSlotWriter<W> {
 
     fn open(alloc: Global, words: W) -> Result<(FourSlotWriter<W>, FourSlotReader<W>), AllocError> {
         let (cell, put, get) = FourSlotCell::make(alloc, Numbered { number: 0, words })?;
+        let put = Box::new(alloc, put)?;
+        let get = Box::new(alloc, get)?;
         let cell = Arc::new(alloc, cell)?;
         let other = Arc::try_clone(&cell)?;
         let writer = FourSlotWriter {

@@ -15,12 +15,13 @@ impl<W: Copy> Reading<W> for TripleReader<W> {
 
     #[inline]
     fn read(&mut self) -> Numbered<W> {
-        self.cell.read(&mut self.get)
+        self.cell.read(self.get.as_mut())
     }
 
     #[inline]
     fn look(&mut self) -> u64 {
-        self.cell.read_with(&mut self.get, |record| record.number)
+        self.cell
+            .read_with(self.get.as_mut(), |record| record.number)
     }
 }
 
@@ -35,7 +36,7 @@ impl<W: Copy> Writing<W> for TripleWriter<W> {
             return false;
         };
         self.cell
-            .write_laid(&mut self.put, &Numbering { number, words });
+            .write_laid(self.put.as_mut(), &Numbering { number, words });
         self.number = number;
         true
     }
@@ -46,6 +47,8 @@ impl<W: Copy> Opens<W, TripleReader<W>> for TripleWriter<W> {
 
     fn open(alloc: Global, words: W) -> Result<(TripleWriter<W>, TripleReader<W>), AllocError> {
         let (cell, put, get) = TripleCell::make(alloc, Numbered { number: 0, words })?;
+        let put = Box::new(alloc, put)?;
+        let get = Box::new(alloc, get)?;
         let cell = Arc::new(alloc, cell)?;
         let other = Arc::try_clone(&cell)?;
         let writer = TripleWriter {

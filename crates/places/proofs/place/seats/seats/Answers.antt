@@ -1,5 +1,5 @@
 -- The place of the last pass stands before those that were made.
-use Rattle.std.proofs.Common.{arith, ap, refl, ◌∙◌, ◌≡◌, ◌+◌, ◌∷◌, ◌++◌, [], length, length-append}
+use Rattle.std.proofs.Common.{arith, ap, ◌∙◌, ◌≡◌, ◌+◌, ◌∷◌, ◌++◌, [], length, length-append}
 use Rattle.places.proofs.Pairing.{paired_none, paired_more, paired_all}
 use Rattle.places.proofs.place.seats.seats.Goals as goal
 
@@ -12,7 +12,7 @@ loop-preserved g c =
     ap length c.in-Some.ensures.items ∙ length-append c.pop.new.self.items (c.in-Some.pass ∷ []) in (
       rw c.in_ok-push.ensures.items
           (paired_more _ c.args.passes.items c.loop.passes.items c.pop.new.self.items c.loop.places.items c.in-Some.pass _
-          c.loop.invariant.0 c.in-Some.ensures.items (refl, c.in_ok-board.ensures)),
+          c.loop.invariant.0 c.in-Some.ensures.items c.in_ok-place.ensures),
       omega (arith, n, c.loop.invariant.1),
     )
 

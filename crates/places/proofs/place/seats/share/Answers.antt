@@ -7,5 +7,5 @@ use Rattle.places.proofs.place.seats.share.Goals as goal
 
 pub returns : goal.returns
 returns g c =
-    subst (λ b. IfOk c.seats.result (λ v. Pairs (λ p s. (s.pass ≡ p) × (arc_value s.board ≡ b)) c.args.passes.items v.items))
+    subst (λ b. IfOk c.seats.result (λ v. Pairs (λ p s. (s.pass.value ≡ p) × (arc_value s.board ≡ b)) c.args.passes.items v.items))
     c.in_ok-board.ensures.ok c.seats.ensures
