@@ -12,7 +12,7 @@ import sys
 TOP = os.path.dirname(os.path.dirname(os.path.realpath(__file__)))
 EXPORTS = os.path.join(TOP, "crates/cells_c/src/exports")
 SIZES = (8, 24, 64, 128, 256, 1024, 4096)
-BOARD_SIZES = (24,)
+BOARD_SIZES = (24, 256, 4096)
 CELLS = {
     "four_slot": {"words": "A four-slot cell", "prefix": "", "specs": "FourSlotCalls", "name": "four_slot", "party": ""},
     "triple": {"words": "A triple buffer", "prefix": "triple_", "specs": "TripleCalls", "name": "triple", "party": "Triple"},

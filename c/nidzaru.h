@@ -412,11 +412,17 @@ NIDZARU_INLINE int nidzaru_stamp_is_below(nidzaru_stamp a, nidzaru_stamp b) {
                                           nidzaru_stamp *stamp);                                                      \
     uint32_t nidzaru_##board##_end(nidzaru_side *place);
 NIDZARU_DECLARE_BOARD(board_24)
+NIDZARU_DECLARE_BOARD(board_256)
+NIDZARU_DECLARE_BOARD(board_4096)
 NIDZARU_DECLARE_BOARD(triple_board_24)
+NIDZARU_DECLARE_BOARD(triple_board_256)
+NIDZARU_DECLARE_BOARD(triple_board_4096)
 #undef NIDZARU_DECLARE_BOARD
 
 /* The size of the library's records that a record of a board goes into. */
-#define NIDZARU_BOARD_SIZE(size) 24
+#define NIDZARU_BOARD_SIZE(size) ((size) <= 24 ? 24 : (size) <= 256 ? 256 : 4096)
+
+/* Whether a record of a board is passed where it lies, as a register's is. */
 #define NIDZARU_BOARD_PASSES(size, alignment) (!NIDZARU_WATCHED && (size) == NIDZARU_BOARD_SIZE(size) && (alignment) >= 8)
 #ifdef __cplusplus
 #define NIDZARU_BOARD_IN_PLACE(type) (NIDZARU_BOARD_PASSES(sizeof(type), alignof(type)) && !nidzaru::detail::shares_tail<type>::value)
@@ -425,7 +431,10 @@ NIDZARU_DECLARE_BOARD(triple_board_24)
 #endif
 
 #define NIDZARU_BOARD_PICK(triple, size, call, arguments)                                                             \
-    ((void)(size), (triple) ? nidzaru_triple_board_24_##call arguments : nidzaru_board_24_##call arguments)
+    ((size) == 24    ? (triple) ? nidzaru_triple_board_24_##call arguments : nidzaru_board_24_##call arguments        \
+     : (size) == 256 ? (triple) ? nidzaru_triple_board_256_##call arguments : nidzaru_board_256_##call arguments      \
+     : (triple)      ? nidzaru_triple_board_4096_##call arguments                                                     \
+                     : nidzaru_board_4096_##call arguments)
 
 /* Makes a board with a place for each handle. They must be empty. */
 NIDZARU_CHECKED int nidzaru_sized_board_make(int triple, size_t size, const void *first, uint64_t limit, nidzaru_handle *const *places,
@@ -489,7 +498,7 @@ NIDZARU_INLINE int nidzaru_sized_board_end(int triple, size_t size, nidzaru_hand
 
 #define NIDZARU_BOARD_FUNCTIONS(name, type, triple)                                                                   \
     NIDZARU_ASSERT(NIDZARU_COPIES(type), "a record of a board is trivially copyable");                                \
-    NIDZARU_ASSERT(sizeof(type) <= 24, "a record of a board has at most 24 bytes");                                \
+    NIDZARU_ASSERT(sizeof(type) <= 4096, "a record of a board has at most 4096 bytes");                               \
     NIDZARU_ASSERT(NIDZARU_ALIGNMENT(type) <= 8, "a record of a board is aligned to at most 8 bytes");                \
     typedef struct {                                                                                                  \
         nidzaru_handle handle;                                                                                        \

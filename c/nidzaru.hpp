@@ -12,7 +12,7 @@
 //   places[1].read(item, stamp), places[1].latest()              one whole record, and its stamp
 //   places[1].read_since(least, item, stamp)                     the same, and NIDZARU_OLDER where its stamp is smaller
 //
-// The record's type is trivially copyable, of at most 4096 bytes (24 on a board), and aligned to at most 8.
+// The record's type is trivially copyable, of at most 4096 bytes, and aligned to at most 8.
 #ifndef NIDZARU_HPP
 #define NIDZARU_HPP
 #include "nidzaru.h"
@@ -39,15 +39,15 @@ template <class T, cell C> [[nodiscard]] std::optional<sides<T, C>> try_make(con
 
 namespace detail {
 
-// How a `T` lies in a record of the library.
-template <class T, cell C> struct record {
-    static_assert(std::is_trivially_copyable<T>::value, "a record of a register is trivially copyable");
-    static_assert(!std::is_array<T>::value, "a record of a register is no array: std::array may be one");
-    static_assert(sizeof(T) <= 4096, "a record of a register has at most 4096 bytes");
-    static_assert(alignof(T) <= 8, "a record of a register is aligned to at most 8 bytes");
-    static constexpr std::size_t size = NIDZARU_SIZE(sizeof(T));
-    static constexpr bool passes = NIDZARU_PASSES(sizeof(T), alignof(T));
-    static constexpr bool in_place = NIDZARU_IN_PLACE(T);
+// How a `T` lies in a record of the library, of this size.
+template <class T, cell C, std::size_t bytes = NIDZARU_SIZE(sizeof(T))> struct record {
+    static_assert(std::is_trivially_copyable<T>::value, "a record of a register or board is trivially copyable");
+    static_assert(!std::is_array<T>::value, "a record of a register or board is no array: std::array may be one");
+    static_assert(sizeof(T) <= 4096, "a record of a register or board has at most 4096 bytes");
+    static_assert(alignof(T) <= 8, "a record of a register or board is aligned to at most 8 bytes");
+    static constexpr std::size_t size = bytes;
+    static constexpr bool passes = !NIDZARU_WATCHED && sizeof(T) == bytes && alignof(T) >= 8;
+    static constexpr bool in_place = passes && !shares_tail<T>::value;
     static constexpr int triple = C == cell::triple;
     std::uint64_t words[size / 8] = {};
 
@@ -213,21 +213,8 @@ template <class T, std::size_t N, cell C = cell::four_slot> using places = std::
 
 namespace detail {
 
-// How a `T` lies in a record of a board.
-template <class T, cell C> struct board_record {
-    static_assert(std::is_trivially_copyable<T>::value, "a record of a board is trivially copyable");
-    static_assert(!std::is_array<T>::value, "a record of a board is no array: std::array may be one");
-    static_assert(sizeof(T) <= 24, "a record of a board has at most 24 bytes");
-    static_assert(alignof(T) <= 8, "a record of a board is aligned to at most 8 bytes");
-    static constexpr std::size_t size = NIDZARU_BOARD_SIZE(sizeof(T));
-    static constexpr bool passes = NIDZARU_BOARD_PASSES(sizeof(T), alignof(T));
-    static constexpr bool in_place = NIDZARU_BOARD_IN_PLACE(T);
-    static constexpr int triple = C == cell::triple;
-    std::uint64_t words[size / 8] = {};
-
-    board_record() = default;
-    explicit board_record(const T &item) noexcept { std::memcpy(words, std::addressof(item), sizeof(T)); }
-};
+// The same of a board.
+template <class T, cell C> using board_record = record<T, C, NIDZARU_BOARD_SIZE(sizeof(T))>;
 
 // Makes a board as its places, and gives the status.
 struct board_making {

@@ -64,6 +64,7 @@ test_in_c() {
     wants=passed
     run_here "c/tests/test.c ($c)" "$c" -std=c11 -D_GNU_SOURCE $strict -O2 c/tests/test.c $flags -o "$room/program"
     run_here "c/tests/edges.c ($c)" "$c" -std=c11 $strict -O1 c/tests/edges.c $wrapped $flags -o "$room/program"
+    run_here "c/tests/board_edges.c ($c)" "$c" -std=c11 $strict -O1 c/tests/board_edges.c $wrapped $flags -o "$room/program"
     for family in '' -DTRIPLE; do
         run_here "c/tests/boards.c $family($c)" \
             "$c" -std=c11 -D_GNU_SOURCE $strict -O2 $family c/tests/boards.c $wrapped $flags -o "$room/program"
@@ -83,10 +84,10 @@ test_in_c() {
         struct wide { _Alignas(16) char bytes[16]; };
         NIDZARU_REGISTER(wides, struct wide);'
     refuse "a record aligned to 16 ($c)" "$c" -std=c11 -x c $cflags
-    wants='at most 24 bytes' text='#include <nidzaru.h>
-        struct large { char bytes[25]; };
+    wants='at most 4096 bytes' text='#include <nidzaru.h>
+        struct large { char bytes[4097]; };
         NIDZARU_BOARD(larges, struct large);'
-    refuse "a record of a board of 25 bytes ($c)" "$c" -std=c11 -x c $cflags
+    refuse "a record of a board of 4,097 bytes ($c)" "$c" -std=c11 -x c $cflags
     wants='unused.result' text='#include <nidzaru.h>
         NIDZARU_REGISTER(doubles, double);
         void show(doubles_writer *writer, double item) { doubles_write(writer, &item); }'

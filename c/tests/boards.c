@@ -37,9 +37,10 @@ void __wrap_free(void *old) {
     __real_free(old);
 }
 
-/* A record that is passed where it lies, and one that a copy goes through. */
+/* Records that are passed where they lie, a small and the largest one, and one that a copy goes through. */
 struct small { uint64_t words[3]; };
 struct odd { uint32_t words[5]; };
+struct large { uint64_t words[512]; };
 #ifdef TRIPLE
 #define BOARD NIDZARU_TRIPLE_BOARD
 #define CALL(rest) nidzaru_triple_board_##rest
@@ -51,6 +52,7 @@ struct odd { uint32_t words[5]; };
 #endif
 BOARD(smalls, struct small);
 BOARD(odds, struct odd);
+BOARD(larges, struct large);
 BOARD(bytes, char);
 NIDZARU_REGISTER(cells, struct small);
 
@@ -61,6 +63,7 @@ static pthread_barrier_t start;
 struct task {
     smalls_place place;
     odds_place odd;
+    larges_place large;
     uint64_t me, count, torn, fell, wrong, older;
     uint64_t told[2];
     pthread_mutex_t telling;
@@ -87,9 +90,21 @@ static void look_at(struct task *me, const struct small *s, nidzaru_stamp stamp,
     *last = stamp;
 }
 
+/* The largest record, written and read. */
+static void run_large(struct task *me, uint64_t x, nidzaru_stamp *last) {
+    struct large l;
+    nidzaru_stamp stamp;
+    for (uint64_t k = 0; k < 512; k++) l.words[k] = x + k;
+    me->wrong += larges_write(&me->large, &l, &stamp) != 0 || stamp.writer != me->me;
+    me->fell += !nidzaru_stamp_is_below(*last, stamp);
+    me->wrong += larges_read(&me->large, &l, last) != 0;
+    me->fell += nidzaru_stamp_is_below(*last, stamp);
+    for (uint64_t k = 0; k < 512; k++) me->torn += l.words[k] != l.words[0] + k;
+}
+
 static void *run(void *shared) {
     struct task *me = shared;
-    nidzaru_stamp last = {0, 0}, stamp, odd_last = {0, 0};
+    nidzaru_stamp last = {0, 0}, stamp, odd_last = {0, 0}, large_last = {0, 0};
     pthread_barrier_wait(&start);
     for (uint64_t i = 1; i <= calls; i++) {
         uint64_t x = me->me * 1000000007u + i;
@@ -112,24 +127,29 @@ static void *run(void *shared) {
         me->fell += nidzaru_stamp_is_below(stamp, odd_last);
         odd_last = stamp;
         for (int k = 0; k < 5; k++) me->torn += o.words[k] != o.words[0];
+        if (i % 8 == 0) run_large(me, x, &large_last);
     }
-    check(!smalls_end(&me->place) && !odds_end(&me->odd), "the end in its thread");
+    check(!smalls_end(&me->place) && !odds_end(&me->odd) && !larges_end(&me->large), "the end in its thread");
     return 0;
 }
 
 static void threads(size_t n) {
     smalls_place places[16];
     odds_place odd[16];
+    larges_place large[16];
     pthread_t of[16];
     struct small s = {{0, 0, 0}};
     struct odd o = {{0}};
-    memset(tasks, 0, sizeof tasks), memset(places, 0, sizeof places), memset(odd, 0, sizeof odd);
-    check(!smalls_make(&s, places, n) && !odds_make(&o, odd, n), "make");
+    struct large l;
+    for (uint64_t k = 0; k < 512; k++) l.words[k] = k;
+    memset(tasks, 0, sizeof tasks), memset(places, 0, sizeof places), memset(odd, 0, sizeof odd), memset(large, 0, sizeof large);
+    check(!smalls_make(&s, places, n) && !odds_make(&o, odd, n) && !larges_make(&l, large, n), "make");
     pthread_barrier_init(&start, 0, (unsigned)n);
     for (size_t i = 0; i < n; i++) {
         tasks[i].me = i, tasks[i].count = n;
         pthread_mutex_init(&tasks[i].telling, 0);
-        check(!nidzaru_move(&tasks[i].place.handle, &places[i].handle) && !nidzaru_move(&tasks[i].odd.handle, &odd[i].handle), "move");
+        check(!nidzaru_move(&tasks[i].place.handle, &places[i].handle) && !nidzaru_move(&tasks[i].odd.handle, &odd[i].handle)
+            && !nidzaru_move(&tasks[i].large.handle, &large[i].handle), "move");
     }
     for (size_t i = 0; i < n; i++) pthread_create(&of[i], 0, run, &tasks[i]);
     for (size_t i = 0; i < n; i++) pthread_join(of[i], 0);
@@ -182,6 +202,7 @@ static void statuses(void) {
     check(smalls_write(&p[1], &s, &stamp) == NIDZARU_WORN_OUT && stamp.tag == 55, "the tags have ended");
     check(!smalls_read(&p[0], &t, &stamp) && t.words[0] == 20 && stamp.tag == 2, "a read after the tags have ended");
     check(OTHER(24_read)(&p[0].handle.side, &t, &stamp) == NIDZARU_OTHER_SIDE, "a place over another family");
+    check(CALL(256_write)(&p[0].handle.side, &s, &stamp) == NIDZARU_OTHER_SIDE, "a place of another size");
     check(!odds_make(&x, o, 2), "make odd");
     check(nidzaru_24_write(&p[0].handle.side, &s) == NIDZARU_OTHER_SIDE, "a place for a cell's call");
     check(!cells_make(&s, &w, &r), "a cell");

@@ -16,18 +16,21 @@ struct plan {
     std::uint64_t from, to, sum;
 };
 
-// A record that a copy goes through, and that is less aligned.
-struct note {
-    std::uint32_t words[5];
+// A record that a copy goes through, and that is less aligned, and a large one.
+template <std::size_t N> struct words {
+    std::uint32_t words[N];
 };
+using note = words<5>;
+using page = words<1000>;
 
 template <std::size_t N, nidzaru::cell C> void threads() {
     std::uint64_t torn[N] = {}, fell[N] = {}, wrong[N] = {};
     auto places = nidzaru::make_board<N, C>(plan{0, 0, 0});
     auto notes = nidzaru::make_board<N, C>(note{});
+    auto pages = nidzaru::make_board<N, C>(page{});
     std::vector<std::thread> tasks;
     for (std::size_t me = 0; me < N; me++)
-        tasks.emplace_back([&, me, place = std::move(places[me]), other = std::move(notes[me])]() mutable {
+        tasks.emplace_back([&, me, place = std::move(places[me]), other = std::move(notes[me]), large = std::move(pages[me])]() mutable {
             nidzaru::stamp last, given;
             for (std::uint64_t n = 1; n <= 5000; n++) {
                 plan p{n, me, n + me};
@@ -46,6 +49,11 @@ template <std::size_t N, nidzaru::cell C> void threads() {
                 auto seen = other.latest();
                 wrong[me] += !seen || other.last_stamp() < given;
                 for (auto &word : seen->words) torn[me] += word != seen->words[0];
+                if (n % 8) continue;
+                page y;
+                for (auto &word : y.words) word = static_cast<std::uint32_t>(n);
+                wrong[me] += large.write(y, given) != 0 || large.read(y, given) != 0;
+                for (auto &word : y.words) torn[me] += word != y.words[0];
             }
         });
     for (auto &task : tasks) task.join();

@@ -118,7 +118,7 @@ NIDZARU_ASSERT(!NIDZARU_PASSES(24, 4) && !NIDZARU_PASSES(8, 1) && !NIDZARU_PASSE
 
 /* The most bytes that `make` asks for: records of the library with their numbers, in slots and in the passes, and what is the same
  * for every size. */
-static size_t most_bytes(size_t size) { return 7 * (8 + NIDZARU_SIZE(size)) + 700; }
+static size_t most_bytes(size_t size) { return 13 * (8 + NIDZARU_SIZE(size)) + 300; }
 
 enum { GUARD = 64 };
 

@@ -44,6 +44,7 @@ compile() {
         && "$c" -std=c11 -D_GNU_SOURCE -g -O1 -pthread $flags -I c c/tests/edges.c "$library" $wrapped -o "$room/edges" \
         && "$c" -std=c11 -D_GNU_SOURCE -g -O1 -pthread $flags -I c c/tests/boards.c "$library" $wrapped -o "$room/boards" \
         && "$c" -std=c11 -D_GNU_SOURCE -g -O1 -pthread $flags -DTRIPLE -I c c/tests/boards.c "$library" $wrapped -o "$room/triple_boards" \
+        && "$c" -std=c11 -g -O1 $flags -I c c/tests/board_edges.c "$library" $wrapped -o "$room/board_edges" \
         && "$cpp" -std=c++17 -g -O1 -pthread $flags -I c c/tests/test.cpp "$library" $wrapped -o "$room/test_cpp"
 }
 
@@ -56,7 +57,7 @@ has() {
 c=gcc cpp=g++
 if command -v valgrind >/dev/null 2>&1 && has ''; then
     compile '' || exit 1
-    for test in test edges boards triple_boards test_cpp; do
+    for test in test edges boards triple_boards board_edges test_cpp; do
         run "$test under valgrind" valgrind -q --error-exitcode=9 --leak-check=full --fair-sched=yes "$room/$test" "$writes"
     done
 fi
@@ -64,14 +65,14 @@ for pair in gcc,g++ clang,clang++; do
     c=${pair%,*} cpp=${pair#*,}
     if has '-fsanitize=address,undefined'; then
         compile '-fsanitize=address,undefined -fno-sanitize-recover=all' || exit 1
-        for test in test edges boards triple_boards test_cpp; do
+        for test in test edges boards triple_boards board_edges test_cpp; do
             run "$test with the sanitizers of addresses and undefined behaviour ($c)" "$room/$test" "$writes"
         done
     fi
     if has '-fsanitize=thread'; then
         compile '-fsanitize=thread' || exit 1
         "$c" -std=c11 -D_GNU_SOURCE -g -O1 -pthread -fsanitize=thread -I c c/tests/watched.c "$library" -o "$room/watched" || exit 1
-        for test in test edges boards triple_boards test_cpp; do
+        for test in test edges boards triple_boards board_edges test_cpp; do
             run "$test with ThreadSanitizer ($c)" "$room/$test" "$writes"
         done
         run "what records point to, with ThreadSanitizer ($c)" "$room/watched" clean

@@ -2,6 +2,8 @@
 //! board a make, a write, two reads and an end, and the library's version. The files of cells and boards are made by c/exports.py.
 
 mod board_24;
+mod board_256;
+mod board_4096;
 mod four_slot_1024;
 mod four_slot_128;
 mod four_slot_24;
@@ -17,4 +19,6 @@ mod triple_4096;
 mod triple_64;
 mod triple_8;
 mod triple_board_24;
+mod triple_board_256;
+mod triple_board_4096;
 mod version;

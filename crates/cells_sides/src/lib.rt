@@ -22,7 +22,10 @@ pub use handle::{Handle, handles_cross};
 pub use loose::Loose;
 pub use pick::{Record, Role};
 pub use record::{Record8, Record24, Record64, Record128, Record256, Record1024, Record4096};
-pub use side::{FourSlotSeat24, Party, Side, TripleSeat24};
+pub use side::{
+    FourSlotSeat24, FourSlotSeat256, FourSlotSeat4096, Party, Side, TripleSeat24, TripleSeat256,
+    TripleSeat4096,
+};
 pub use triple::{
     triple_end_reader, triple_end_writer, triple_look, triple_make, triple_read, triple_write,
 };

@@ -35,7 +35,7 @@ pub struct Record128 {
 
 /// A record of 256 bytes.
 #[repr(C)]
-#[derive(Clone, Copy)]
+#[derive(Clone, Copy, PartialEq, Eq)]
 pub struct Record256 {
     pub words: [u64; 32],
 }
@@ -49,7 +49,7 @@ pub struct Record1024 {
 
 /// A record of 4,096 bytes.
 #[repr(C)]
-#[derive(Clone, Copy)]
+#[derive(Clone, Copy, PartialEq, Eq)]
 pub struct Record4096 {
     pub words: [u64; 512],
 }
@@ -63,5 +63,29 @@ impl RecordLaw for Record24 {
 }
 
 impl Free for Record24 {
+    ghost free = { λ _. Prim.search rules };
+}
+
+impl RecordLaw for Record256 {
+    ghost obeys = { λ _. true };
+
+    fn fits(&self) -> bool {
+        true
+    }
+}
+
+impl Free for Record256 {
+    ghost free = { λ _. Prim.search rules };
+}
+
+impl RecordLaw for Record4096 {
+    ghost obeys = { λ _. true };
+
+    fn fits(&self) -> bool {
+        true
+    }
+}
+
+impl Free for Record4096 {
     ghost free = { λ _. Prim.search rules };
 }

@@ -7,10 +7,19 @@ use family_triple::TripleFamily;
 use places::{Place, Seated};
 use sides::{FourSlotReader, FourSlotWriter, TripleReader, TripleWriter};
 
-/// A place at a board over four-slot cells, or over triple buffers, with records of a size.
+/// A place at a board over four-slot cells, with records of a size.
 pub type FourSlotSeat24 = Seated<Place<Record24, FourSlotFamily<Posted<Record24>>>>;
 
+pub type FourSlotSeat256 = Seated<Place<Record256, FourSlotFamily<Posted<Record256>>>>;
+
+pub type FourSlotSeat4096 = Seated<Place<Record4096, FourSlotFamily<Posted<Record4096>>>>;
+
+/// A place at a board over triple buffers, with records of a size.
 pub type TripleSeat24 = Seated<Place<Record24, TripleFamily<Posted<Record24>>>>;
+
+pub type TripleSeat256 = Seated<Place<Record256, TripleFamily<Posted<Record256>>>>;
+
+pub type TripleSeat4096 = Seated<Place<Record4096, TripleFamily<Posted<Record4096>>>>;
 
 /// One side of a cell whose records have this type.
 #[derive(Drop)]
@@ -33,5 +42,9 @@ pub enum Side {
     Of1024(Party<Record1024>),
     Of4096(Party<Record4096>),
     Board24(FourSlotSeat24),
+    Board256(FourSlotSeat256),
+    Board4096(FourSlotSeat4096),
     TripleBoard24(TripleSeat24),
+    TripleBoard256(TripleSeat256),
+    TripleBoard4096(TripleSeat4096),
 }

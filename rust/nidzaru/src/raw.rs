@@ -56,135 +56,43 @@ pub struct Calls {
     end_reader: End,
 }
 
-/// Declares the calls of a cell and names them.
+/// Declares the calls of a cell, by its name in the library, and names them.
 macro_rules! calls {
-    ($name:ident, $size:literal, $make:ident, $write:ident, $read:ident, $look:ident, $end_writer:ident, $end_reader:ident) => {
-        extern "C" {
-            fn $make(first: *const c_void, writer: *mut Side, reader: *mut Side) -> u32;
-            fn $write(writer: *mut Side, item: *const c_void) -> u32;
-            fn $read(reader: *mut Side, item: *mut c_void, number: *mut u64) -> u32;
-            fn $look(reader: *mut Side, number: *mut u64) -> u32;
-            fn $end_writer(writer: *mut Side) -> u32;
-            fn $end_reader(reader: *mut Side) -> u32;
-        }
-        static $name: Calls =
-            Calls { size: $size, make: $make, write: $write, read: $read, look: $look, end_writer: $end_writer, end_reader: $end_reader };
+    ($name:ident, $size:literal, $cell:literal) => {
+        static $name: Calls = {
+            extern "C" {
+                #[link_name = concat!("nidzaru_", $cell, "_make")]
+                fn make(first: *const c_void, writer: *mut Side, reader: *mut Side) -> u32;
+                #[link_name = concat!("nidzaru_", $cell, "_write")]
+                fn write(writer: *mut Side, item: *const c_void) -> u32;
+                #[link_name = concat!("nidzaru_", $cell, "_read")]
+                fn read(reader: *mut Side, item: *mut c_void, number: *mut u64) -> u32;
+                #[link_name = concat!("nidzaru_", $cell, "_look")]
+                fn look(reader: *mut Side, number: *mut u64) -> u32;
+                #[link_name = concat!("nidzaru_", $cell, "_end_writer")]
+                fn end_writer(writer: *mut Side) -> u32;
+                #[link_name = concat!("nidzaru_", $cell, "_end_reader")]
+                fn end_reader(reader: *mut Side) -> u32;
+            }
+            Calls { size: $size, make, write, read, look, end_writer, end_reader }
+        };
     };
 }
 
-calls!(FOUR_SLOT_8, 8, nidzaru_8_make, nidzaru_8_write, nidzaru_8_read, nidzaru_8_look, nidzaru_8_end_writer, nidzaru_8_end_reader);
-calls!(FOUR_SLOT_24, 24, nidzaru_24_make, nidzaru_24_write, nidzaru_24_read, nidzaru_24_look, nidzaru_24_end_writer, nidzaru_24_end_reader);
-calls!(FOUR_SLOT_64, 64, nidzaru_64_make, nidzaru_64_write, nidzaru_64_read, nidzaru_64_look, nidzaru_64_end_writer, nidzaru_64_end_reader);
-calls!(
-    FOUR_SLOT_128,
-    128,
-    nidzaru_128_make,
-    nidzaru_128_write,
-    nidzaru_128_read,
-    nidzaru_128_look,
-    nidzaru_128_end_writer,
-    nidzaru_128_end_reader
-);
-calls!(
-    FOUR_SLOT_256,
-    256,
-    nidzaru_256_make,
-    nidzaru_256_write,
-    nidzaru_256_read,
-    nidzaru_256_look,
-    nidzaru_256_end_writer,
-    nidzaru_256_end_reader
-);
-calls!(
-    FOUR_SLOT_1024,
-    1024,
-    nidzaru_1024_make,
-    nidzaru_1024_write,
-    nidzaru_1024_read,
-    nidzaru_1024_look,
-    nidzaru_1024_end_writer,
-    nidzaru_1024_end_reader
-);
-calls!(
-    FOUR_SLOT_4096,
-    4096,
-    nidzaru_4096_make,
-    nidzaru_4096_write,
-    nidzaru_4096_read,
-    nidzaru_4096_look,
-    nidzaru_4096_end_writer,
-    nidzaru_4096_end_reader
-);
-calls!(
-    TRIPLE_8,
-    8,
-    nidzaru_triple_8_make,
-    nidzaru_triple_8_write,
-    nidzaru_triple_8_read,
-    nidzaru_triple_8_look,
-    nidzaru_triple_8_end_writer,
-    nidzaru_triple_8_end_reader
-);
-calls!(
-    TRIPLE_24,
-    24,
-    nidzaru_triple_24_make,
-    nidzaru_triple_24_write,
-    nidzaru_triple_24_read,
-    nidzaru_triple_24_look,
-    nidzaru_triple_24_end_writer,
-    nidzaru_triple_24_end_reader
-);
-calls!(
-    TRIPLE_64,
-    64,
-    nidzaru_triple_64_make,
-    nidzaru_triple_64_write,
-    nidzaru_triple_64_read,
-    nidzaru_triple_64_look,
-    nidzaru_triple_64_end_writer,
-    nidzaru_triple_64_end_reader
-);
-calls!(
-    TRIPLE_128,
-    128,
-    nidzaru_triple_128_make,
-    nidzaru_triple_128_write,
-    nidzaru_triple_128_read,
-    nidzaru_triple_128_look,
-    nidzaru_triple_128_end_writer,
-    nidzaru_triple_128_end_reader
-);
-calls!(
-    TRIPLE_256,
-    256,
-    nidzaru_triple_256_make,
-    nidzaru_triple_256_write,
-    nidzaru_triple_256_read,
-    nidzaru_triple_256_look,
-    nidzaru_triple_256_end_writer,
-    nidzaru_triple_256_end_reader
-);
-calls!(
-    TRIPLE_1024,
-    1024,
-    nidzaru_triple_1024_make,
-    nidzaru_triple_1024_write,
-    nidzaru_triple_1024_read,
-    nidzaru_triple_1024_look,
-    nidzaru_triple_1024_end_writer,
-    nidzaru_triple_1024_end_reader
-);
-calls!(
-    TRIPLE_4096,
-    4096,
-    nidzaru_triple_4096_make,
-    nidzaru_triple_4096_write,
-    nidzaru_triple_4096_read,
-    nidzaru_triple_4096_look,
-    nidzaru_triple_4096_end_writer,
-    nidzaru_triple_4096_end_reader
-);
+calls!(FOUR_SLOT_8, 8, "8");
+calls!(FOUR_SLOT_24, 24, "24");
+calls!(FOUR_SLOT_64, 64, "64");
+calls!(FOUR_SLOT_128, 128, "128");
+calls!(FOUR_SLOT_256, 256, "256");
+calls!(FOUR_SLOT_1024, 1024, "1024");
+calls!(FOUR_SLOT_4096, 4096, "4096");
+calls!(TRIPLE_8, 8, "triple_8");
+calls!(TRIPLE_24, 24, "triple_24");
+calls!(TRIPLE_64, 64, "triple_64");
+calls!(TRIPLE_128, 128, "triple_128");
+calls!(TRIPLE_256, 256, "triple_256");
+calls!(TRIPLE_1024, 1024, "triple_1024");
+calls!(TRIPLE_4096, 4096, "triple_4096");
 
 extern "C" {
     fn nidzaru_version() -> u32;
@@ -248,9 +156,9 @@ impl Drop for ReadingSide {
     }
 }
 
-/// Whether a `T` is passed where it lies.
-const fn passes<T>(calls: &Calls) -> bool {
-    size_of::<T>() == calls.size && align_of::<T>() == 8
+/// Whether a `T` is passed where it lies, to calls over records of this size.
+const fn passes<T>(size: usize) -> bool {
+    size_of::<T>() == size && align_of::<T>() == 8
 }
 
 /// A record of the library with a smaller one in front.
@@ -319,7 +227,7 @@ fn open_by<T: Copy, const N: usize>(calls: &'static Calls, first: &T) -> Option<
 /// Writes the record. `false` where the numbers are used up.
 #[inline]
 pub fn write<T: Copy>(calls: &'static Calls, writer: &mut WritingSide, item: &T) -> bool {
-    if passes::<T>(calls) {
+    if passes::<T>(calls.size) {
         // The item is as large and aligned as the library's record.
         is_written(unsafe { (calls.write)(&mut writer.side, ptr::from_ref(item).cast()) })
     } else {
@@ -345,7 +253,7 @@ fn is_written(status: u32) -> bool {
 /// Reads a record and its number.
 #[inline]
 pub fn read<T: Copy>(calls: &'static Calls, reader: &mut ReadingSide) -> (T, u64) {
-    if passes::<T>(calls) {
+    if passes::<T>(calls.size) {
         let (mut item, mut number) = (MaybeUninit::<T>::uninit(), 0);
         // The place is as large and aligned as the library's record.
         must_be_done(unsafe { (calls.read)(&mut reader.side, item.as_mut_ptr().cast(), &mut number) });
@@ -369,7 +277,7 @@ fn read_by<T: Copy, const N: usize>(calls: &'static Calls, reader: &mut ReadingS
 /// Reads a record into place, and gives its number.
 #[inline]
 pub fn read_into<T: Copy>(calls: &'static Calls, reader: &mut ReadingSide, item: &mut T) -> u64 {
-    if passes::<T>(calls) {
+    if passes::<T>(calls.size) {
         let mut number = 0;
         // The item is as large and aligned as the library's record, and gets the bytes of a `T`.
         must_be_done(unsafe { (calls.read)(&mut reader.side, ptr::from_mut(item).cast(), &mut number) });
@@ -418,45 +326,44 @@ pub struct BoardCalls {
     end: End,
 }
 
-/// Declares the calls of boards over a family and names them.
+/// Declares the calls of boards over a family, by their name in the library, and names them.
 macro_rules! board_calls {
-    ($name:ident, $size:literal, $make:ident, $write:ident, $read:ident, $read_since:ident, $end:ident) => {
-        extern "C" {
-            fn $make(first: *const c_void, limit: u64, places: *mut Side, count: usize) -> u32;
-            fn $write(place: *mut Side, item: *const c_void, stamp: *mut Mark) -> u32;
-            fn $read(place: *mut Side, item: *mut c_void, stamp: *mut Mark) -> u32;
-            fn $read_since(place: *mut Side, least: *const Mark, item: *mut c_void, stamp: *mut Mark) -> u32;
-            fn $end(place: *mut Side) -> u32;
-        }
-        static $name: BoardCalls = BoardCalls { size: $size, make: $make, write: $write, read: $read, read_since: $read_since, end: $end };
+    ($name:ident, $size:literal, $board:literal) => {
+        static $name: BoardCalls = {
+            extern "C" {
+                #[link_name = concat!("nidzaru_", $board, "_make")]
+                fn make(first: *const c_void, limit: u64, places: *mut Side, count: usize) -> u32;
+                #[link_name = concat!("nidzaru_", $board, "_write")]
+                fn write(place: *mut Side, item: *const c_void, stamp: *mut Mark) -> u32;
+                #[link_name = concat!("nidzaru_", $board, "_read")]
+                fn read(place: *mut Side, item: *mut c_void, stamp: *mut Mark) -> u32;
+                #[link_name = concat!("nidzaru_", $board, "_read_since")]
+                fn read_since(place: *mut Side, least: *const Mark, item: *mut c_void, stamp: *mut Mark) -> u32;
+                #[link_name = concat!("nidzaru_", $board, "_end")]
+                fn end(place: *mut Side) -> u32;
+            }
+            BoardCalls { size: $size, make, write, read, read_since, end }
+        };
     };
 }
 
-board_calls!(
-    FOUR_SLOT_BOARD_24,
-    24,
-    nidzaru_board_24_make,
-    nidzaru_board_24_write,
-    nidzaru_board_24_read,
-    nidzaru_board_24_read_since,
-    nidzaru_board_24_end
-);
-board_calls!(
-    TRIPLE_BOARD_24,
-    24,
-    nidzaru_triple_board_24_make,
-    nidzaru_triple_board_24_write,
-    nidzaru_triple_board_24_read,
-    nidzaru_triple_board_24_read_since,
-    nidzaru_triple_board_24_end
-);
+board_calls!(FOUR_SLOT_BOARD_24, 24, "board_24");
+board_calls!(FOUR_SLOT_BOARD_256, 256, "board_256");
+board_calls!(FOUR_SLOT_BOARD_4096, 4096, "board_4096");
+board_calls!(TRIPLE_BOARD_24, 24, "triple_board_24");
+board_calls!(TRIPLE_BOARD_256, 256, "triple_board_256");
+board_calls!(TRIPLE_BOARD_4096, 4096, "triple_board_4096");
 
-/// The calls of boards for records of a size of at most 24 bytes.
+/// The calls of boards for records of a size of at most 4,096 bytes.
 pub const fn board_calls_for(size: usize, triple: bool) -> &'static BoardCalls {
     match (size, triple) {
         (0..=24, false) => &FOUR_SLOT_BOARD_24,
+        (25..=256, false) => &FOUR_SLOT_BOARD_256,
+        (257..=4096, false) => &FOUR_SLOT_BOARD_4096,
         (0..=24, true) => &TRIPLE_BOARD_24,
-        _ => panic!("a record of a board has at most 24 bytes"),
+        (25..=256, true) => &TRIPLE_BOARD_256,
+        (257..=4096, true) => &TRIPLE_BOARD_4096,
+        _ => panic!("a record of a board has at most 4096 bytes"),
     }
 }
 
@@ -483,11 +390,6 @@ pub enum NoBoard {
     Places,
     Limit,
     Memory,
-}
-
-/// Whether a `T` is passed where it lies.
-const fn passes_board<T>(calls: &BoardCalls) -> bool {
-    size_of::<T>() == calls.size && align_of::<T>() == 8
 }
 
 /// The places of a new board.
@@ -518,7 +420,7 @@ fn open_board_by<T: Copy, const N: usize>(calls: &BoardCalls, sides: &mut [Side]
 /// Writes the record, and gives its stamp. None where the tags have ended.
 #[inline]
 pub fn write_place<T: Copy>(calls: &'static BoardCalls, place: &mut BoardPlace, item: &T) -> Option<Mark> {
-    if passes_board::<T>(calls) {
+    if passes::<T>(calls.size) {
         let mut stamp = Mark::default();
         // The item is as large and aligned as the library's record.
         let status = unsafe { (calls.write)(&mut place.side, ptr::from_ref(item).cast(), &mut stamp) };
@@ -539,7 +441,7 @@ fn write_place_by<T: Copy, const N: usize>(calls: &BoardCalls, place: &mut Board
 /// Reads a record and its stamp.
 #[inline]
 pub fn read_place<T: Copy>(calls: &'static BoardCalls, place: &mut BoardPlace) -> (T, Mark) {
-    if passes_board::<T>(calls) {
+    if passes::<T>(calls.size) {
         let (mut item, mut stamp) = (MaybeUninit::<T>::uninit(), Mark::default());
         // The place is as large and aligned as the library's record.
         must_be_done(unsafe { (calls.read)(&mut place.side, item.as_mut_ptr().cast(), &mut stamp) });
@@ -587,31 +489,33 @@ mod tests {
         assert!(!is_written(WORN_OUT));
     }
 
+    /// The least of these sizes with room for this one.
+    fn least<const N: usize>(sizes: [usize; N], size: usize) -> usize {
+        sizes.into_iter().find(|&it| it >= size).unwrap()
+    }
+
     #[test]
     fn the_least_calls_that_have_room_are_chosen() {
-        let sizes = [8, 24, 64, 128, 256, 1024, 4096];
         for size in 0..=4096 {
-            let least = sizes.into_iter().find(|&it| it >= size).unwrap();
-            assert_eq!(calls_for(size, false).size, least);
-            assert_eq!(calls_for(size, true).size, least);
+            assert_eq!(calls_for(size, false).size, least([8, 24, 64, 128, 256, 1024, 4096], size));
+            assert_eq!(calls_for(size, true).size, least([8, 24, 64, 128, 256, 1024, 4096], size));
             assert_ne!(calls_for(size, false).write as usize, calls_for(size, true).write as usize);
         }
     }
 
     #[test]
     fn the_least_calls_of_boards_that_have_room_are_chosen() {
-        for size in 0..=24 {
-            let least = 24;
-            assert_eq!(board_calls_for(size, false).size, least);
-            assert_eq!(board_calls_for(size, true).size, least);
+        for size in 0..=4096 {
+            assert_eq!(board_calls_for(size, false).size, least([24, 256, 4096], size));
+            assert_eq!(board_calls_for(size, true).size, least([24, 256, 4096], size));
             assert_ne!(board_calls_for(size, false).write as usize, board_calls_for(size, true).write as usize);
         }
     }
 
     #[test]
     fn what_passes_is_as_large_and_aligned_as_the_librarys_record() {
-        assert!(passes::<[u64; 3]>(calls_for(24, false)));
-        assert!(!passes::<[u32; 6]>(calls_for(24, false)));
-        assert!(!passes::<[u64; 2]>(calls_for(16, false)));
+        assert!(passes::<[u64; 3]>(24));
+        assert!(!passes::<[u32; 6]>(24));
+        assert!(!passes::<[u64; 2]>(24));
     }
 }

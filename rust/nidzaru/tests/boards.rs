@@ -33,8 +33,9 @@ macro_rules! at_sizes {
 
 #[test]
 fn each_call_at_each_size() {
-    at_sizes!(1 7 8 9 15 16 17 23 24);
+    at_sizes!(1 7 8 9 23 24 25 63 64 65 127 128 129 255 256 257 1023 1024 1025 4095 4096);
     calls(board(16, [1u64; 3]), [1; 3], [2; 3]);
+    calls(triple_board(16, [1u64; 512]), [1; 512], [2; 512]);
     calls(board(4, 'a'), 'a', 'b');
     calls(triple_board(16, Some(1.5)), Some(1.5), None);
 }
@@ -61,7 +62,7 @@ fn tags_end_at_the_limit() {
 }
 
 /// The tasks of a board write and read at once, and each reads what another one told.
-fn run<M: Mechanism>(places: Vec<Place<[u32; 5], M>>) {
+fn run<M: Mechanism, const N: usize>(places: Vec<Place<[u32; N], M>>, times: usize) {
     let told: Arc<Vec<Mutex<Stamp>>> = Arc::new(places.iter().map(|_| Mutex::default()).collect());
     let tasks: Vec<_> = places
         .into_iter()
@@ -70,9 +71,9 @@ fn run<M: Mechanism>(places: Vec<Place<[u32; 5], M>>) {
             let told = Arc::clone(&told);
             thread::spawn(move || {
                 let mut last = Stamp::default();
-                let whole = |item: [u32; 5]| item.iter().all(|&word| word == item[0]);
-                for n in 1..=5_000usize {
-                    let stamp = place.write(&[(n * 16 + me) as u32; 5]).unwrap();
+                let whole = |item: [u32; N]| item.iter().all(|&word| word == item[0]);
+                for n in 1..=times {
+                    let stamp = place.write(&[(n * 16 + me) as u32; N]).unwrap();
                     assert!(stamp > last && stamp.writer == me as u64);
                     *told[me].lock().unwrap() = stamp;
                     assert!(whole(place.read()) && place.stamp() >= stamp);
@@ -94,7 +95,9 @@ fn run<M: Mechanism>(places: Vec<Place<[u32; 5], M>>) {
 #[test]
 fn nothing_is_torn_and_no_stamp_falls() {
     for n in [2, 4, 16] {
-        run(board(n, [0; 5]).unwrap());
-        run(triple_board(n, [0; 5]).unwrap());
+        run(board(n, [0; 5]).unwrap(), 5_000);
+        run(triple_board(n, [0; 5]).unwrap(), 5_000);
+        run(board(n, [0; 1000]).unwrap(), 500);
+        run(triple_board(n, [0; 1000]).unwrap(), 500);
     }
 }

@@ -1,0 +1,88 @@
+//! A board over triple buffers with records of 4,096 bytes.
+ghost use Rattle.sides.specs.Handles.{IsEnd};
+ghost use Rattle.places.specs.Places.{IsBoardMake, IsBoardWrite, IsBoardRead, IsBoardReadSince};
+ghost use Rattle.cells_sides.specs.Held.{held, live_of, side_of};
+ghost use Rattle.cells_sides.specs.declared.side.Side.TheVariants.{TripleBoard4096};
+
+use cells_sides::{Handle, Loose, Record4096, Side, TripleSeat4096};
+use places::{Mark, Posts, end_place, make_places, read_place, read_place_since, write_place};
+use std::alloc::Global;
+
+#[unsafe(no_mangle)]
+pub extern "C" fn nidzaru_triple_board_4096_make(
+    alloc: Global,
+    first: &Record4096,
+    limit: u64,
+    places: &mut [Handle],
+) -> u32
+    ensures { IsBoardMake live_of side_of TripleBoard4096 ⟦<TripleSeat4096 as Posts<Record4096>>⟧.is_made
+        limit places.old places.new first.now result }
+{
+    make_places::<Side, Handle, Record4096, TripleSeat4096>(alloc, first, limit, places)
+}
+
+#[unsafe(no_mangle)]
+pub extern "C" fn nidzaru_triple_board_4096_write(
+    alloc: Global,
+    place: &mut Handle,
+    item: &Record4096,
+    stamp: &mut Mark,
+) -> u32
+    ensures { IsBoardWrite TripleBoard4096 ⟦<TripleSeat4096 as Posts<Record4096>>⟧.has_posted ⟦<TripleSeat4096 as Posts<Record4096>>⟧.is_refused
+        (held place.old) (held place.new) item.now stamp.old stamp.new result }
+{
+    write_place::<Side, Loose, Record4096, TripleSeat4096>(
+        alloc,
+        place.live,
+        &mut place.loose,
+        item,
+        stamp,
+    )
+}
+
+#[unsafe(no_mangle)]
+pub extern "C" fn nidzaru_triple_board_4096_read(
+    alloc: Global,
+    place: &mut Handle,
+    item: &mut Record4096,
+    stamp: &mut Mark,
+) -> u32
+    ensures { IsBoardRead TripleBoard4096 ⟦<TripleSeat4096 as Posts<Record4096>>⟧.has_seen
+        (held place.old) (held place.new) item.old item.new stamp.old stamp.new result }
+{
+    read_place::<Side, Loose, Record4096, TripleSeat4096>(
+        alloc,
+        place.live,
+        &mut place.loose,
+        item,
+        stamp,
+    )
+}
+
+#[unsafe(no_mangle)]
+pub extern "C" fn nidzaru_triple_board_4096_read_since(
+    alloc: Global,
+    place: &mut Handle,
+    least: &Mark,
+    item: &mut Record4096,
+    stamp: &mut Mark,
+) -> u32
+    ensures { IsBoardReadSince TripleBoard4096 ⟦<TripleSeat4096 as Posts<Record4096>>⟧.has_seen
+        (held place.old) (held place.new) least.now item.old item.new stamp.old stamp.new result }
+{
+    read_place_since::<Side, Loose, Record4096, TripleSeat4096>(
+        alloc,
+        place.live,
+        &mut place.loose,
+        least,
+        item,
+        stamp,
+    )
+}
+
+#[unsafe(no_mangle)]
+pub extern "C" fn nidzaru_triple_board_4096_end(alloc: Global, place: &mut Handle) -> u32
+    ensures { IsEnd TripleBoard4096 (held place.old) (held place.new) result }
+{
+    end_place::<Side, Handle, TripleSeat4096>(alloc, place)
+}
