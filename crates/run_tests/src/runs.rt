@@ -1,3 +1,5 @@
+ghost use Rattle.std.specs.Prelude.{◌≤◌, ◌+◌};
+ghost use Rattle.document_runs.specs.Run.{Fails};
 ghost use Rattle.streams.specs.Stream.{HasRoom};
 
 use crate::fakes::{Full, Kept, Pieces};
@@ -24,6 +26,9 @@ pub fn run<'a, R: Threads + Sync, I: Source, O: Sink, E: Sink>(
     requires input { HasRoom (I.failed input.old) }
     requires out { HasRoom (O.failed out.old) }
     requires faults { HasRoom (E.failed faults.old) }
+    ensures fails { Fails (I.failed input.old) (I.failed input.new) (O.failed out.old)
+        (O.failed out.new) result }
+    ensures faults { E.failed faults.new ≤ E.failed faults.old + 1 }
 {
     fsr_answers::run::<FsrFamily, R, &'a str, I, O, E>(rt, alloc, words, input, out, faults)
 }
