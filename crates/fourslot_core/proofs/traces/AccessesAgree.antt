@@ -1,5 +1,5 @@
 -- Clear and fresh look at the five events and the slot of each access alone, so accesses that agree there are clear and fresh alike.
-use Rattle.std.proofs.Common.{◌≡◌, ℕ, ◌<◌, Option, None, Some, IsSome, sym, subst, ◌∙◌, arith, ◌⊎◌, inl, inr}
+use Rattle.std.proofs.Common.{◌≡◌, ℕ, Option, IsSome, sym, subst, ◌∙◌, arith, inl, inr}
 use Rattle.fourslot_core.specs.Accesses.{Accesses, Agree, Fills, IsBefore, IsClear, IsFreshRead, IsSameSlot, IsSource}
 
 pub turned : {a b : Accesses} → Agree a b → Agree b a

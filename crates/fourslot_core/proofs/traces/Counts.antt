@@ -1,5 +1,5 @@
 -- How many steps each side of a trace has made, and the slots of the operations under way: by cases on the stage.
-use Rattle.std.proofs.Common.{◌≡◌, ℕ, ◌+◌, ◌*◌, ◌≤◌, List, [], ◌∷◌, length, slice_get, Some, refl, sym, subst, ◌∙◌, ap, arith}
+use Rattle.std.proofs.Common.{◌≡◌, ℕ, ◌+◌, ◌*◌, ◌≤◌, List, [], ◌∷◌, length, Some, refl, sym, subst, ◌∙◌, ap, arith}
 use Rattle.std.proofs.Common.{length-append}
 use Rattle.fourslot_core.specs.declared.state.State.{State}
 use Rattle.fourslot_core.specs.declared.state.Stage.{Stage}
