@@ -1,46 +1,7 @@
 /* Boards at the edges of the library's sizes: records of each size at which the next greater record is taken, and one beyond, between
  * guard bytes; which of the library's calls is taken, and what all others leave; no memory taken but by `make`, each request of which
  * is refused in turn. Link with --wrap=malloc,--wrap=realloc,--wrap=free. */
-#include "nidzaru.h"
-#include <stdio.h>
-#include <stdlib.h>
-
-static int failed;
-
-static void check(int holds, const char *name, const char *what) {
-    if (!holds) {
-        failed++;
-        printf("FAILED: %s: %s\n", name, what);
-    }
-}
-
-/* Memory: the request whose number is `refuse` fails. Requests, their bytes and blocks that live are counted. */
-void *__real_malloc(size_t size);
-void *__real_realloc(void *old, size_t size);
-void __real_free(void *old);
-static long asked, refuse = -1, blocks;
-static size_t bytes;
-
-void *__wrap_malloc(size_t size) {
-    void *made;
-    if (++asked == refuse) return 0;
-    bytes += size;
-    made = __real_malloc(size);
-    blocks += made != 0;
-    return made;
-}
-
-void *__wrap_realloc(void *old, size_t size) {
-    if (++asked == refuse) return 0;
-    bytes += size;
-    blocks += !old;
-    return __real_realloc(old, size);
-}
-
-void __wrap_free(void *old) {
-    blocks -= old != 0;
-    __real_free(old);
-}
+#include "edges.h"
 
 /* The library's own calls on a place, of each family and size. */
 typedef struct {
@@ -63,16 +24,6 @@ static const calls *board_of(size_t size, int triple) {
     for (int k = 0; k < BOARDS; k++)
         if (library[k].triple == triple && library[k].size >= size) return &library[k];
     return 0;
-}
-
-static int is_all(const void *bytes, size_t count, int value) {
-    for (size_t k = 0; k < count; k++)
-        if (((const unsigned char *)bytes)[k] != value) return 0;
-    return 1;
-}
-
-static void fill(void *bytes, size_t count, int seed) {
-    for (size_t k = 0; k < count; k++) ((unsigned char *)bytes)[k] = (unsigned char)(seed + 7 * (int)k + 1);
 }
 
 static int is_stamp(nidzaru_stamp s, uint64_t tag, uint64_t writer) { return s.tag == tag && s.writer == writer; }

@@ -1,0 +1,57 @@
+/* What the tests of the library's edges share: checks that are told and counted, memory that is refused and counted, and bytes.
+ * A program that includes it is linked with --wrap=malloc,--wrap=realloc,--wrap=free. */
+#ifndef NIDZARU_TESTS_EDGES_H
+#define NIDZARU_TESTS_EDGES_H
+
+#include "nidzaru.h"
+#include <stdio.h>
+#include <stdlib.h>
+
+static int failed;
+
+static void check(int holds, const char *name, const char *what) {
+    if (!holds) {
+        failed++;
+        printf("FAILED: %s: %s\n", name, what);
+    }
+}
+
+/* Memory: the request whose number is `refuse` fails. Requests, their bytes and blocks that live are counted. */
+void *__real_malloc(size_t size);
+void *__real_realloc(void *old, size_t size);
+void __real_free(void *old);
+static long asked, refuse = -1, blocks;
+static size_t bytes;
+
+void *__wrap_malloc(size_t size) {
+    void *made;
+    if (++asked == refuse) return 0;
+    bytes += size;
+    made = __real_malloc(size);
+    blocks += made != 0;
+    return made;
+}
+
+void *__wrap_realloc(void *old, size_t size) {
+    if (++asked == refuse) return 0;
+    bytes += size;
+    blocks += !old;
+    return __real_realloc(old, size);
+}
+
+void __wrap_free(void *old) {
+    blocks -= old != 0;
+    __real_free(old);
+}
+
+static int is_all(const void *bytes, size_t count, int value) {
+    for (size_t k = 0; k < count; k++)
+        if (((const unsigned char *)bytes)[k] != value) return 0;
+    return 1;
+}
+
+static void fill(void *bytes, size_t count, int seed) {
+    for (size_t k = 0; k < count; k++) ((unsigned char *)bytes)[k] = (unsigned char)(seed + 7 * (int)k + 1);
+}
+
+#endif
