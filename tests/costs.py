@@ -1,12 +1,12 @@
 """What it costs to prove a crate from nothing, by function: where a search or a long body is dear, it stands at the top.
 
-    tests/costs.py CRATE [ROWS] [--parts]
+    tests/costs.py CRATE [ROWS] [--parts] [--test]
 
 The crate's kept work is put aside, `rt check` proves it at one job, and the processor time that passes until the checker saves a module is
 counted for that module. Modules of one function or of one file of lemmas are added up, but with --parts: there a function's `Lts` is its
-symbolic run and its `Proof` its goals, with the searches for those that have no answer. Prints the dearest ROWS, 20 if none is named, and
-the sum. The crates below it have to be built. What else runs on the machine makes the figures up to half as large again: compare two
-forms of a proof side by side.
+symbolic run and its `Proof` its goals, with the searches for those that have no answer. With --test the tests are proved too. Prints the
+dearest ROWS, 20 if none is named, and the sum. The crates below it have to be built. What else runs on the machine makes the figures up
+to half as large again: compare two forms of a proof side by side.
 """
 
 import os
@@ -66,7 +66,7 @@ def of_function(module, crate, parts):
     return name if parts else PARTS.sub("", name)
 
 
-def measure(crate, parts):
+def measure(crate, parts, flags):
     """The processor time of each function's modules, and of the whole run, and how it ended."""
     here = f"{TOP}/crates/{crate}"
     kept, aside = f"{here}/out/incremental", f"{here}/out/incremental.aside"
@@ -75,7 +75,7 @@ def measure(crate, parts):
     costs, seen, before = {}, {}, 0.0
     try:
         said = tempfile.TemporaryFile("w+")
-        run = subprocess.Popen(["rt", "check", "--jobs", "1"], cwd=here, stdout=said, stderr=said)
+        run = subprocess.Popen(["rt", "check", "--jobs", "1", *flags], cwd=here, stdout=said, stderr=said)
         while run.poll() is None:
             time.sleep(0.05)
             now = saved_in(kept)
@@ -101,7 +101,7 @@ def main(words):
     if not words or not os.path.isdir(f"{TOP}/crates/{words[0]}"):
         print(__doc__.strip())
         return 2
-    costs, whole, end = measure(words[0], "--parts" in words)
+    costs, whole, end = measure(words[0], "--parts" in words, [it for it in words if it == "--test"])
     rows = next((int(it) for it in words[1:] if it.isdigit()), 20)
     for name, cost in sorted(costs.items(), key=lambda it: -it[1])[:rows]:
         print(f"{cost:7.1f}  {name}")

@@ -14,6 +14,7 @@ PAGE = f"{TOP}/docs/TESTING.md"
 MARKS = "<!-- counted by tests/numbers.py -->\n", "<!-- to here -->\n"
 FOLDERS = (
     ("tests/schedules/", "schedules, what `fsr play` prints of each, and the status where it isn't 0"),
+    ("tests/races/", "races with one outcome, and what `fsr race` prints of each"),
     ("tests/growths/", "what `growths` prints of each call, with ample memory and with each request refused"),
     ("docs/pictures/", "what `picture` draws"),
 )
@@ -34,7 +35,7 @@ def counted():
     lines = [
         f"{sum(bodies.values())} wrong bodies and {sum(tests.values())} test functions in the crates; "
         f"{len(glob.glob(f'{TOP}/examples/*.json'))} examples; {len([it for it in refused if it and it[0] != '#'])} documents at the bounds of "
-        f"refusals;\n{random:,} random documents and {logs:,} random logs against a plain reference.",
+        f"refusals and rules;\n{random:,} random documents and {logs:,} random logs against a plain reference.",
         "",
         "| Crate | Wrong bodies | Tests |",
         "|---|---|---|",

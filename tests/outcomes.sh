@@ -1,12 +1,12 @@
 # How the tests beside the gate count.
 
 pass() {
-    echo "test: $1: ok"
+    printf 'test: %s: ok\n' "$1"
     passed=$((passed + 1))
 }
 
 fail() {
-    echo "test: $1: FAILED: $2"
+    printf 'test: %s: FAILED: %s\n' "$1" "$2"
     failed=$((failed + 1))
 }
 

@@ -1,18 +1,37 @@
-# What `fsr` tells of documents at the bounds of each refusal. Each line of tests/refusals/COMMAND.txt is what is told, a bar
-# and the document; documents that are too long for a line are made here.
+# What `fsr` tells of documents at the bounds of each refusal, of orders and of logs. Each line of tests/refusals/COMMAND.txt is what is
+# told, with `\n` for a line's end within it, a bar and the document; documents that are too long for a line are made here. Histories go
+# through the program that has their command alone, too.
 
-# Sees that a command tells this of the document in $room/document: a fault on standard error alone with status 3, or as the last
-# line of its text with status 0, or 1 for an unlawful order or a log without a lawful one.
+# Runs a program with these words on the document in $room/document. Sees that it ends with the wanted status, tells what stands in
+# $room/wanted on the one stream and nothing on the other, and leaves of the document what is beyond the longest and one byte more.
+#   ends PROGRAM WORDS..
+ends() {
+    program=$1
+    shift
+    {
+        "crates/$program/out/$program" "$@" >"$room/out" 2>"$room/err"
+        status=$?
+        left=$(wc -c)
+    } <"$room/document"
+    beyond=$(($(wc -c <"$room/document") - 1048577))
+    [ "$status" = "$wanted_status" ] && cmp -s "$room/$stream" "$room/wanted" && [ ! -s "$room/$other" ] &&
+        [ $((left)) = $((beyond > 0 ? beyond : 0)) ]
+}
+
+# Sees that a command tells this of the document in $room/document: a fault on standard error with status 3, or its text with status 0,
+# or 1 for an unlawful order or a log without a lawful one.
 #   tells COMMAND TOLD
 tells() {
-    crates/fsr/out/fsr "$1" <"$room/document" >"$room/out" 2>"$room/err"
-    status=$?
+    stream=out other=err wanted_status=0 line=$2
     case $2 in
-    document:* | history:* | schedule:*) wanted_status=3 wanted="fsr: $2" told=$(cat "$room/err") other=out ;;
-    unlawful*) wanted_status=1 wanted=$2 told=$(tail -n 1 "$room/out") other=err ;;
-    *) wanted_status=0 wanted=$2 told=$(tail -n 1 "$room/out") other=err ;;
+    document:* | history:* | schedule:*) stream=err other=out wanted_status=3 line="fsr: $2" ;;
+    unlawful*) wanted_status=1 ;;
     esac
-    [ "$status" = "$wanted_status" ] && [ "$told" = "$wanted" ] && [ ! -s "$room/$other" ]
+    printf '%b\n' "$line" >"$room/wanted"
+    ends fsr "$1" || return 1
+    case $1 in
+    check | order) ends "fsr_$1" ;;
+    esac
 }
 
 # The same, counted as a test with this title.
@@ -51,13 +70,24 @@ copies() {
     awk -v count="$1" -v text="$2" -v between="$3" 'BEGIN { for (k = 0; k < count; k++) printf "%s%s", k ? between : "", text }'
 }
 
-# A `check` document of so many operations, so many entries in its order, and so many arrays in each other under another key.
-long_check() {
-    printf '{"kind":"check","opening":[0,0,0],"noise":0,"terms":null,"limit":0,"limit":9,"ops":['
-    copies "$1" '{"who":0,"kind":"read","begin":4}' ,
+# A `check` document of so many operations that begin then, so many entries in its order, and so many arrays in each other under another
+# key, with these keys before its limit.
+#   check_with KEYS BEGIN OPERATIONS ENTRIES ARRAYS
+check_with() {
+    printf '{"kind":"check","opening":[0,0,0],%s"limit":9,"ops":[' "$1"
+    copies "$3" "{\"who\":0,\"kind\":\"read\",\"begin\":$2}" ,
     printf '],"order":['
-    copies "$2" 0 ,
-    printf '],"x":%snull%s}' "$(copies "$3" '[' '')" "$(copies "$3" ']' '')"
+    copies "$4" 0 ,
+    printf '],"x":%snull%s}' "$(copies "$5" '[' '')" "$(copies "$5" ']' '')"
+}
+
+plain_check() {
+    check_with '' 0 "$@"
+}
+
+# The same with other keys, of which the last limit counts.
+long_check() {
+    check_with '"noise":0,"terms":null,"limit":0,' 4 "$@"
 }
 
 # A `log` document of so many operations, with an order that isn't read.
@@ -122,10 +152,11 @@ byte_order_mark() {
     printf '\357\273\277{}'
 }
 
-# The first document with blanks after it, this many bytes in all.
+# The first document with blanks in place of its last line feed, this many bytes in all.
 padded() {
-    cat examples/lawful.json
-    copies $(($1 - $(wc -c <examples/lawful.json))) ' ' ''
+    first=$(cat examples/lawful.json)
+    printf '%s' "$first"
+    copies $(($1 - ${#first})) ' ' ''
 }
 
 # Each part of the first document that ends before its last byte; the line feed after that doesn't count.
@@ -148,18 +179,28 @@ else
     table_of check
     table_of order
     table_of play
+    table_of race
     sees_parts
     sees_long check 'document: not JSON' byte_255
     sees_long check 'document: not JSON' byte_order_mark
+    sees_long check lawful cat examples/lawful.json
     sees_long check lawful padded 1048576
     sees_long check 'document: longer than 1048576 bytes' padded 1048577
+    sees_long check 'document: longer than 1048576 bytes' padded 1048578
+    sees_long check 'document: longer than 1048576 bytes' padded 1200000
+    sees_long check lawful plain_check 10000 0 126
+    sees_long check 'document: not JSON' plain_check 0 0 127
+    sees_long check 'document: range of ops' plain_check 10001 0 0
+    sees_long check 'unlawful listing' plain_check 0 10000 0
+    sees_long check 'document: range of order' plain_check 0 10001 0
     sees_long check lawful long_check 0 0 126
     sees_long check 'document: not JSON' long_check 0 0 127
     sees_long check 'unlawful listing' long_check 10000 10000 0
     sees_long check 'document: range of ops' long_check 10001 10001 0
     sees_long check 'document: range of order' long_check 10000 10001 0
-    sees_long order 'order:' long_log 10000
+    sees_long order 'lawful\norder:' long_log 10000
     sees_long order 'document: range of ops' long_log 10001
+    sees_long order 'document: kind' cat examples/lawful.json
     sees_long play 'schedule: no operation left at step 50000' long_cell 10000 0 100000
     sees_long play 'document: range of reads' long_cell 10000 1 100001
     sees_long play 'document: range of steps' long_cell 10000 0 100001

@@ -32,6 +32,36 @@ if [ -c /dev/full ]; then
     refuses_words /dev/full "$title" checks && pass "$title"
 fi
 
+# Sees that `fsr` refuses these words and reads nothing, and how what it tells begins. Its input is a folder, of which each read fails.
+#   refuses_unread BEGINS WORDS..
+refuses_unread() {
+    begins=$1
+    shift
+    title="fsr${1+ $*}, with nothing read"
+    if ! has_program fsr; then
+        fail "$title" "fsr wasn't built"
+        return
+    fi
+    crates/fsr/out/fsr "$@" <examples >"$room/out" 2>"$room/err"
+    status=$?
+    case $status:$(cat "$room/out"):$(cat "$room/err") in
+    "2::$begins"*) pass "$title" ;;
+    *) fail "$title" "it ended with status $status: $(head -c 200 "$room/out" "$room/err")" ;;
+    esac
+}
+
+refuses_unread error:
+refuses_unread error: ''
+refuses_unread error: checks
+refuses_unread error: --version
+refuses_unread error: check check
+refuses_unread error: check -x
+refuses_unread error: play w
+refuses_unread 'Reads a document' help
+refuses_unread 'Reads a document' -h
+refuses_unread 'Reads a document' --help
+refuses_unread 'Checks that' check --help
+
 # Sees that `fsr` tells this first line of a command, and how it is used.
 #   helps COMMAND LINE
 helps() {
