@@ -129,13 +129,30 @@ def found_by(path, word):
     return found_by(file_of(crate, parts), name)
 
 
+def member_of(path, type_name, member):
+    """Where a ghost member of a type parameter of a file of `src/` is defined, by the trait that bounds it there; nothing if in the kit."""
+    text = "\n".join(lines_of(path))
+    for bound in re.findall(rf"\b{type_name}: ([^,>(){{}}]+)", text):
+        for trait in re.findall(r"\w+", bound):
+            used = re.search(rf"(?m)^use (\w+)::[^;]*\b{trait}\b", text)
+            crate = path.split("/")[1] if not used or used[1] == "crate" else used[1]
+            where, _ = type_of(crate, trait)
+            if where and member in ghosts(where):
+                return where, member, ghosts(where)[member]
+    return None
+
+
 def reading_set(quotes):
     """By file the names to be read there, each with the numbers of its lines."""
     found, waiting = {}, list(quotes)
     while waiting:
         path, lines = waiting.pop()
-        for word in sorted({word for line in lines for word in WORD.findall(re.sub(r"(--|//).*", "", line))}):
-            where, name, numbers = found_by(path, word) or (None, word, ())
+        lines = [re.sub(r"(--|//).*", "", line) for line in lines]
+        places = [found_by(path, word) for word in sorted({word for line in lines for word in WORD.findall(line)})]
+        if path.endswith(".rt"):
+            members = sorted({pair for line in lines for pair in re.findall(r"\b([A-Z])\.(\w+)", line)})
+            places += [member_of(path, *pair) for pair in members]
+        for where, name, numbers in filter(None, places):
             if where and name not in found.setdefault(where, {}):
                 found[where][name] = numbers
                 waiting.append((where, [lines_of(where)[it] for it in numbers]))
