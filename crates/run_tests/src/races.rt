@@ -1,10 +1,10 @@
-use crate::runs::{self, FsrFamily};
-use board_tasks::{CountingGate, Gate, OpenGate, TimedGate};
+use atomic_board::Posted;
+use board_tasks::{CountingGate, Gate, TimedGate};
 use document_runs::Fault;
-use fsr_answers::answer;
-use fsr_words::Want;
+use family_four_slot::FourSlotFamily;
+use history_core::Band;
 use race_answers::race;
-use report_text::{Report, report_text};
+use report_text::report_text;
 use schedule_text::{RaceDocument, read_race};
 use std::alloc::Global;
 use std::sync::atomic::{AtomicBool, Ordering};
@@ -18,19 +18,23 @@ const WRITE_AND_READ: &str =
 const WRITE_AND_READ_TEXT: &str =
     "task 0: 1 writes, 1 reads, 0 refused\ntask 1: 0 writes, 1 reads, 0 refused\norigin: sound\n";
 
-/// Runs the scripts of a document under this gate.
-fn race_under<R: Threads + Sync, G: Gate + Sync>(
+/// Whether this is told of a race of these two tasks under this gate.
+fn tells<R: Threads + Sync, G: Gate + Sync>(
     rt: &R,
     alloc: Global,
-    document: &str,
     gate: &G,
-) -> Result<Report, Fault> {
+    text: &str,
+) -> Result<bool, Fault> {
     let RaceDocument {
         opening,
         limit,
         scripts,
-    } = read_race(alloc, document.as_bytes())?;
-    race::<R, G, FsrFamily>(rt, alloc, opening, limit, scripts, gate)
+    } = read_race(alloc, WRITE_AND_READ.as_bytes())?;
+    let report = race::<R, G, FourSlotFamily<Posted<Band>>>(
+        rt, alloc, opening, limit, scripts, gate,
+    )?;
+    let told = report_text(alloc, &report)?;
+    Ok(told.as_slice() == text.as_bytes())
 }
 
 /// Each task raises its flag before its first call, and goes on where it sees the other's. With one thread none does. A task that
@@ -101,25 +105,21 @@ fn tasks_run_at_once(rt: HostRuntime) -> Result<(), Fail> {
         first: AtomicBool::new(false),
         second: AtomicBool::new(false),
     };
-    let report = race_under(&rt, rt.alloc(), WRITE_AND_READ, &gate)?;
-    let text = report_text(rt.alloc(), &report)?;
-    assert!(rt; text.as_slice() == WRITE_AND_READ_TEXT.as_bytes());
+    assert!(rt; tells(&rt, rt.alloc(), &gate, WRITE_AND_READ_TEXT)?);
     Ok(())
 }
 
 #[test]
 fn every_call_is_made(rt: HostRuntime) -> Result<(), Fail> {
     let gate = CountingGate::new();
-    let report = race_under(&rt, rt.alloc(), WRITE_AND_READ, &gate)?;
-    let text = report_text(rt.alloc(), &report)?;
-    assert!(rt; text.as_slice() == WRITE_AND_READ_TEXT.as_bytes());
-    assert_eq!(rt; gate.made(), 3);
+    let is_told = tells(&rt, rt.alloc(), &gate, WRITE_AND_READ_TEXT)?;
+    assert_eq!(rt; (is_told, gate.made()), (true, 3));
     Ok(())
 }
 
 #[test]
 fn stopped_tasks_are_counted_as_far_as_they_came(rt: HostRuntime) -> Result<(), Fail> {
-    for (task, call, lines) in [
+    for (task, call, text) in [
         (
             0,
             2,
@@ -132,82 +132,10 @@ fn stopped_tasks_are_counted_as_far_as_they_came(rt: HostRuntime) -> Result<(), 
         ),
         (0, 3, WRITE_AND_READ_TEXT),
     ] {
-        let report = race_under(&rt, rt.alloc(), WRITE_AND_READ, &Stops { task, call })?;
-        let text = report_text(rt.alloc(), &report)?;
-        assert!(rt; text.as_slice() == lines.as_bytes());
+        assert!(rt; tells(&rt, rt.alloc(), &Stops { task, call }, text)?);
     }
-    let report = race_under(&rt, rt.alloc(), WRITE_AND_READ, &TimedGate::new(0))?;
-    let text = report_text(rt.alloc(), &report)?;
-    let lines =
+    let text =
         "task 0: 0 writes, 0 reads, 0 refused\ntask 1: 0 writes, 0 reads, 0 refused\norigin: sound\n";
-    assert!(rt; text.as_slice() == lines.as_bytes());
-    Ok(())
-}
-
-const RACES: [(&str, &str); 4] = [
-    (WRITE_AND_READ, WRITE_AND_READ_TEXT),
-    (
-        r#"{"kind":"race","opening":[0,0,0],"limit":9,"scripts":[["read"],["read","read"]]}"#,
-        "task 0: 0 writes, 1 reads, 0 refused\ntask 1: 0 writes, 2 reads, 0 refused\norigin: sound\n",
-    ),
-    (
-        r#"{"kind":"race","opening":[0,0,0],"limit":1,"scripts":[[[1,1,1],[2,2,2]],["read"]]}"#,
-        "task 0: 1 writes, 0 reads, 1 refused\ntask 1: 0 writes, 1 reads, 0 refused\norigin: sound\n",
-    ),
-    (
-        r#"{"kind":"race","opening":[0,0,0],"limit":18446744073709551614,"scripts":[[],[],[[1,1,1],[0,5,9],"read"]]}"#,
-        "task 0: 0 writes, 0 reads, 0 refused\ntask 1: 0 writes, 0 reads, 0 refused\ntask 2: 2 writes, 1 reads, 0 refused\norigin: sound\n",
-    ),
-];
-
-#[test]
-fn open_gate_lets_every_call_through(rt: HostRuntime) -> Result<(), Fail> {
-    for (document, lines) in RACES {
-        let report = race_under(&rt, rt.alloc(), document, &OpenGate)?;
-        let text = report_text(rt.alloc(), &report)?;
-        assert!(rt; text.as_slice() == lines.as_bytes());
-        let answer = answer::<FsrFamily, _>(&rt, rt.alloc(), Want::Race, document.as_bytes())?;
-        assert!(rt; answer.text.as_slice() == lines.as_bytes());
-        assert_eq!(rt; answer.status, 0);
-        runs::race(&rt, rt.alloc(), document.as_bytes(), 0, lines, "");
-    }
-    Ok(())
-}
-
-#[test]
-fn refuses_races(rt: HostRuntime) -> Result<(), Fail> {
-    for (document, fault) in [
-        (r#"{"kind":"matrix"}"#, "kind"),
-        (
-            r#"{"kind":"race","opening":[0,0,0],"limit":9}"#,
-            "missing scripts",
-        ),
-        (
-            r#"{"kind":"race","opening":[0,0,0],"limit":0,"scripts":["read",[]]}"#,
-            "shape of scripts",
-        ),
-        (
-            r#"{"kind":"race","opening":[3,2,1],"limit":0,"scripts":[[]]}"#,
-            "range of limit",
-        ),
-        (
-            r#"{"kind":"race","opening":[3,2,1],"limit":9,"scripts":[["read"]]}"#,
-            "range of scripts",
-        ),
-        (
-            r#"{"kind":"race","opening":[3,2,1],"limit":9,"scripts":[[[3,2,1]],[]]}"#,
-            "law of opening",
-        ),
-        (
-            r#"{"kind":"race","opening":[1,2,3],"limit":9,"scripts":[[[3,2,1]],[]]}"#,
-            "law of scripts",
-        ),
-    ] {
-        let line = format!(in rt.alloc(); "fsr: document: {fault}\n")?;
-        runs::race(&rt, rt.alloc(), document.as_bytes(), 3, "", line.as_str());
-    }
-    let line = "fsr: document: kind\n";
-    runs::play(&rt, rt.alloc(), WRITE_AND_READ.as_bytes(), 3, "", line);
-    runs::check(&rt, rt.alloc(), WRITE_AND_READ.as_bytes(), 3, "", line);
+    assert!(rt; tells(&rt, rt.alloc(), &TimedGate::new(0), text)?);
     Ok(())
 }
