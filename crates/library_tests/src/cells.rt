@@ -46,24 +46,6 @@ fn in_one_thread<C: Cell<Count>>(alloc: Global) -> Result<[u64; 5], AllocError> 
     Ok([first, second, third, told, last])
 }
 
-#[test]
-fn triple_in_one_thread(rt: HostRuntime) -> Result<(), Fail> {
-    assert_eq!(rt;
-        in_one_thread::<TripleCell<Count>>(rt.alloc())?,
-        [0, 2, 2, 2, 3]
-    );
-    Ok(())
-}
-
-#[test]
-fn four_slots_in_one_thread(rt: HostRuntime) -> Result<(), Fail> {
-    assert_eq!(rt;
-        in_one_thread::<FourSlotCell<Count>>(rt.alloc())?,
-        [0, 2, 2, 2, 3]
-    );
-    Ok(())
-}
-
 // A task owns its pass.
 #[derive(Drop)]
 struct Writing<C: Cell<Count>> {
@@ -167,24 +149,6 @@ where
     Ok((wrong, last))
 }
 
-#[test]
-fn triple_in_two_threads(rt: HostRuntime) -> Result<(), Fail> {
-    assert_eq!(rt;
-        in_two_threads::<_, TripleCell<Count>>(&rt, rt.alloc())?,
-        (0, 1_000)
-    );
-    Ok(())
-}
-
-#[test]
-fn four_slots_in_two_threads(rt: HostRuntime) -> Result<(), Fail> {
-    assert_eq!(rt;
-        in_two_threads::<_, FourSlotCell<Count>>(&rt, rt.alloc())?,
-        (0, 1_000)
-    );
-    Ok(())
-}
-
 /// The reader's pass is dropped, and the writer goes on.
 fn without_reader<C: Cell<Count>>(alloc: Global) -> Result<u64, AllocError> {
     let (cell, mut put, mut get) = C::make(alloc, Count(0))?;
@@ -195,14 +159,30 @@ fn without_reader<C: Cell<Count>>(alloc: Global) -> Result<u64, AllocError> {
     Ok(answer)
 }
 
+/// What the cell gives in one thread, without its reader, and in two threads.
+type Given = ([u64; 5], u64, (u64, u64));
+
+fn given<R: Threads + Sync, C: Cell<Count>>(rt: &R, alloc: Global) -> Result<Given, AllocError>
+where
+    C::Put: Send,
+    C::Get: Send,
+    C::Told: Send,
+{
+    let alone = in_one_thread::<C>(alloc)?;
+    let dropped = without_reader::<C>(alloc)?;
+    Ok((alone, dropped, in_two_threads::<R, C>(rt, alloc)?))
+}
+
+const GIVEN: Given = ([0, 2, 2, 2, 3], 1, (0, 1_000));
+
 #[test]
-fn dropped_reader_of_triple(rt: HostRuntime) -> Result<(), Fail> {
-    assert_eq!(rt; without_reader::<TripleCell<Count>>(rt.alloc())?, 1);
+fn counts_in_triple(rt: HostRuntime) -> Result<(), Fail> {
+    assert!(rt; given::<_, TripleCell<Count>>(&rt, rt.alloc())? == GIVEN);
     Ok(())
 }
 
 #[test]
-fn dropped_reader_of_four_slots(rt: HostRuntime) -> Result<(), Fail> {
-    assert_eq!(rt; without_reader::<FourSlotCell<Count>>(rt.alloc())?, 1);
+fn counts_in_four_slots(rt: HostRuntime) -> Result<(), Fail> {
+    assert!(rt; given::<_, FourSlotCell<Count>>(&rt, rt.alloc())? == GIVEN);
     Ok(())
 }

@@ -29,13 +29,14 @@ fn heard_of<C: Calls<Door>>(alloc: Global, angle: u64) -> Result<u64, AllocError
 }
 
 #[test]
-fn four_slots_hear_of_a_door(rt: HostRuntime) -> Result<(), Fail> {
-    assert_eq!(rt; heard_of::<FourSlotCell<Door>>(rt.alloc(), 40)?, 40);
-    Ok(())
-}
-
-#[test]
-fn triple_hears_of_a_door(rt: HostRuntime) -> Result<(), Fail> {
-    assert_eq!(rt; heard_of::<TripleCell<Door>>(rt.alloc(), 50)?, 50);
+fn hears_of_a_door(rt: HostRuntime) -> Result<(), Fail> {
+    assert!(rt;
+        heard_of::<FourSlotCell<Door>>(rt.alloc(), 40)? == 40,
+        "by four slots"
+    );
+    assert!(rt;
+        heard_of::<TripleCell<Door>>(rt.alloc(), 50)? == 50,
+        "by a triple buffer"
+    );
     Ok(())
 }

@@ -196,13 +196,10 @@ fn is_enough(seen: Seen) -> bool {
 }
 
 #[test]
-fn triple_is_never_torn(rt: HostRuntime) -> Result<(), Fail> {
-    assert!(rt; is_enough(under_way::<_, TripleCell<Three>>(&rt, rt.alloc())?));
-    Ok(())
-}
-
-#[test]
-fn four_slots_are_never_torn(rt: HostRuntime) -> Result<(), Fail> {
-    assert!(rt; is_enough(under_way::<_, FourSlotCell<Three>>(&rt, rt.alloc())?));
+fn records_are_never_torn(rt: HostRuntime) -> Result<(), Fail> {
+    let triple = under_way::<_, TripleCell<Three>>(&rt, rt.alloc())?;
+    assert!(rt; is_enough(triple), "triple buffer");
+    let four_slots = under_way::<_, FourSlotCell<Three>>(&rt, rt.alloc())?;
+    assert!(rt; is_enough(four_slots), "four slots");
     Ok(())
 }
