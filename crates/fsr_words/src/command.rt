@@ -45,11 +45,11 @@ fn line_over_histories<'a>(alloc: Global) -> Result<Command<'a>, AllocError>
 fn command_line<'a>(alloc: Global) -> Result<Command<'a>, AllocError>
     ensures { IfOk result (λ c. app_of c ≡ fsr) }
 {
-    let play = Command::new(alloc, "play").about("Plays a schedule and reports its history");
-    let race = Command::new(alloc, "race").about("Runs tasks over a board and checks their logs");
     line_over_histories(alloc)?
-        .subcommand(play)?
-        .subcommand(race)?
+        .subcommand(Command::new(alloc, "play").about("Plays a schedule and reports its history"))?
+        .subcommand(Command::new(alloc, "race").about(
+            "Runs tasks over a board and checks their logs",
+        ))?
         .bin_name("fsr")
 }
 
