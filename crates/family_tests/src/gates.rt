@@ -1,21 +1,18 @@
 //! The gates that come with the crate, and what a gate is asked and told.
 ghost use Rattle.std.specs.Prelude.{◌≡◌};
 
-use crate::plans::run_plans;
 use atomic_board::Posted;
 use board_tasks::{CountingGate, Gate, Lane, TimedGate};
-use family_four_slot::FourSlotFamily;
-use family_live::Family;
+use board_teams::run_plans;
+use family_live::{Family, SharedFamily};
 use history_core::Band;
 use std::alloc::{AllocError, Global};
 use std::sync::atomic::{AtomicU64, Ordering};
 use std::test::Fail;
 use std::thread::Threads;
 
-type FourSlot = FourSlotFamily<Posted<Band>>;
-
 /// How many calls all lanes have made.
-fn made<F: Family<Posted<Band>>>(lanes: &[Lane<Band, F>]) -> u64 {
+pub fn made<F: Family<Posted<Band>>>(lanes: &[Lane<Band, F>]) -> u64 {
     let mut made = 0u64;
     for lane in lanes {
         made = made.saturating_add(lane.log().len() as u64);
@@ -23,23 +20,35 @@ fn made<F: Family<Posted<Band>>>(lanes: &[Lane<Band, F>]) -> u64 {
     made
 }
 
-/// Runs the plans on a board over four slots, and gives how many calls were made.
-fn run<R: Threads + Sync, G: Gate + Sync>(
+/// Runs the plans on a board, and gives how many calls were made.
+fn run<R: Threads + Sync, F: SharedFamily<Posted<Band>>, G: Gate + Sync>(
     rt: &R,
     alloc: Global,
     plans: &[&[u64]],
     gate: &G,
-) -> Result<u64, AllocError> {
-    let crew = run_plans::<R, FourSlot, G>(rt, alloc, 9, plans, gate)?;
+) -> Result<u64, AllocError>
+where
+    F::Seat: Send,
+    F::Told: Send,
+{
+    let crew = run_plans::<R, F, G>(rt, alloc, 9, plans, gate)?;
     Ok(made(crew.lanes.as_slice()))
 }
 
-#[test]
-fn calls_are_counted(rt: HostRuntime) -> Result<(), Fail> {
+const FIVE: &[&[u64]] = &[&[1, 0, 2], &[0, 0], &[]];
+
+/// How many calls were made, and how many the gate counted.
+fn counted<R: Threads + Sync, F: SharedFamily<Posted<Band>>>(
+    rt: &R,
+    alloc: Global,
+) -> Result<(u64, u64), AllocError>
+where
+    F::Seat: Send,
+    F::Told: Send,
+{
     let gate = CountingGate::new();
-    let calls = run(&rt, rt.alloc(), &[&[1, 0, 2], &[0, 0], &[]], &gate)?;
-    assert_eq!(rt; (calls, gate.made()), (5, 5));
-    Ok(())
+    let calls = run::<R, F, CountingGate>(rt, alloc, FIVE, &gate)?;
+    Ok((calls, gate.made()))
 }
 
 /// Whether the gate lets a call through, and how many it has counted by then and once the call was made.
@@ -59,14 +68,36 @@ fn a_call_is_counted_when_it_was_made(rt: HostRuntime) -> Result<(), Fail> {
     Ok(())
 }
 
-#[test]
-fn time_is_up_for_all_tasks(rt: HostRuntime) -> Result<(), Fail> {
-    let plans: &[&[u64]] = &[&[0; 40], &[0; 40]];
+const EIGHTY: &[&[u64]] = &[&[0; 40], &[0; 40]];
+
+/// Whether time is up for all tasks after so many turns.
+fn is_up<R: Threads + Sync, F: SharedFamily<Posted<Band>>>(
+    rt: &R,
+    alloc: Global,
+    turns: u64,
+) -> Result<bool, AllocError>
+where
+    F::Seat: Send,
+    F::Told: Send,
+{
+    let gate = TimedGate::new(turns);
+    Ok(run::<R, F, TimedGate>(rt, alloc, EIGHTY, &gate)? == turns.min(80))
+}
+
+fn time_is_up<R: Threads + Sync, F: SharedFamily<Posted<Band>>>(
+    rt: &R,
+    alloc: Global,
+) -> Result<bool, AllocError>
+where
+    F::Seat: Send,
+    F::Told: Send,
+{
     for turns in [0, 1, 50, 80, 90] {
-        let gate = TimedGate::new(turns);
-        assert_eq!(rt; run(&rt, rt.alloc(), plans, &gate)?, turns.min(80));
+        if !is_up::<R, F>(rt, alloc, turns)? {
+            return Ok(false);
+        }
     }
-    Ok(())
+    Ok(true)
 }
 
 /// The call of a task, as its gate was asked about it.
@@ -108,19 +139,45 @@ impl Gate for Numbers {
     }
 }
 
-#[test]
-fn tasks_count_from_0_and_calls_from_1(rt: HostRuntime) -> Result<(), Fail> {
+const SIX: &[&[u64]] = &[&[1, 0, 2], &[0, 0], &[], &[0]];
+
+const SUM_OF_SIX: u64 = 1 + 2 + 3 + 101 + 102 + 301;
+
+/// The sums of a gate that was asked about six calls, and told of them.
+fn sums<R: Threads + Sync, F: SharedFamily<Posted<Band>>>(
+    rt: &R,
+    alloc: Global,
+) -> Result<(u64, u64), AllocError>
+where
+    F::Seat: Send,
+    F::Told: Send,
+{
     let gate = Numbers {
         asked: AtomicU64::new(0),
         told: AtomicU64::new(0),
     };
-    let plans: &[&[u64]] = &[&[1, 0, 2], &[0, 0], &[], &[0]];
-    run(&rt, rt.alloc(), plans, &gate)?;
-    let all = 1 + 2 + 3 + 101 + 102 + 301;
-    let sums = [
-        gate.asked.load(Ordering::SeqCst),
-        gate.told.load(Ordering::SeqCst),
-    ];
-    assert_eq!(rt; sums, [all, all]);
-    Ok(())
+    run::<R, F, Numbers>(rt, alloc, SIX, &gate)?;
+    let asked = gate.asked.load(Ordering::SeqCst);
+    Ok((asked, gate.told.load(Ordering::SeqCst)))
+}
+
+/// What gates of tasks over this family don't keep.
+pub fn wrong_gate<R: Threads + Sync, F: SharedFamily<Posted<Band>>>(
+    rt: &R,
+    alloc: Global,
+) -> Result<Option<&'static str>, AllocError>
+where
+    F::Seat: Send,
+    F::Told: Send,
+{
+    if counted::<R, F>(rt, alloc)? != (5, 5) {
+        return Ok(Some("calls are counted"));
+    }
+    if !time_is_up::<R, F>(rt, alloc)? {
+        return Ok(Some("time is up for all tasks"));
+    }
+    if sums::<R, F>(rt, alloc)? != (SUM_OF_SIX, SUM_OF_SIX) {
+        return Ok(Some("tasks count from 0 and calls from 1"));
+    }
+    Ok(None)
 }

@@ -1,19 +1,57 @@
 //! Lanes that run, and the passes that they give back.
 ghost use Rattle.std.specs.Prelude.{◌≡◌};
 
-use crate::plans::{point, run_plans, said_at};
-use atomic_board::Posted;
-use board_tasks::{Gate, OpenGate, into_passes};
-use family_four_slot::FourSlotFamily;
-use family_live::SharedFamily;
+use atomic_board::{Pass, Posted};
+use board_tasks::{Entry, Gate, Lane, OpenGate, Reply, into_passes};
+use board_teams::{point, run_plans};
+use family_live::{Family, SharedFamily};
 use history_core::Band;
 use stamps::Stamp;
 use std::alloc::{AllocError, Global};
-use std::test::Fail;
 use std::thread::Threads;
 
+/// What an entry says in numbers: its kind, its stamp, and the reading of the record seen.
+fn said(entry: &Entry<Band>) -> (char, u64, usize, u64) {
+    match entry.reply {
+        Reply::Written(stamp) => ('w', stamp.tag, stamp.writer, 0),
+        Reply::Seen(posted) => ('r', posted.stamp.tag, posted.stamp.writer, posted.item.now),
+        Reply::Ended(posted) => ('e', posted.stamp.tag, posted.stamp.writer, posted.item.now),
+    }
+}
+
+/// What the entry at this place of a log says, or 'none'.
+fn said_at(log: &[Entry<Band>], place: usize) -> (char, u64, usize, u64) {
+    match log.get(place) {
+        Some(entry) => said(entry),
+        None => ('n', 0, 0, 0),
+    }
+}
+
+/// Whether it is the log of the task that writes.
+fn is_writer(log: &[Entry<Band>]) -> bool {
+    log.len() == 3
+        && said_at(log, 0) == ('w', 1, 0, 0)
+        && said_at(log, 1) == ('e', 1, 0, 1)
+        && said_at(log, 2) == ('r', 1, 0, 1)
+}
+
+/// Whether it is the log of the task that reads, before the write or after it.
+fn is_reader(log: &[Entry<Band>]) -> bool {
+    let seen = said_at(log, 0);
+    log.len() == 1 && (seen == ('r', 0, 0, 0) || seen == ('r', 1, 0, 1))
+}
+
+fn are_at_limit<F: Family<Posted<Band>>>(lanes: &[Lane<Band, F>]) -> bool {
+    match lanes {
+        [writer, reader] => is_writer(writer.log()) && is_reader(reader.log()),
+        _ => false,
+    }
+}
+
+const TO_LIMIT: &[&[u64]] = &[&[1, 2, 0], &[0]];
+
 /// One task writes up to the limit and beyond, the other reads.
-pub(crate) fn write_to_limit<R: Threads + Sync, F: SharedFamily<Posted<Band>>>(
+pub fn write_to_limit<R: Threads + Sync, F: SharedFamily<Posted<Band>>>(
     rt: &R,
     alloc: Global,
 ) -> Result<bool, AllocError>
@@ -21,25 +59,8 @@ where
     F::Seat: Send,
     F::Told: Send,
 {
-    let crew = run_plans::<R, F, OpenGate>(rt, alloc, 1, &[&[1, 2, 0], &[0]], &OpenGate)?;
-    Ok(match crew.lanes.as_slice() {
-        [writer, reader] => {
-            let seen = said_at(reader.log(), 0);
-            writer.log().len() == 3
-                && said_at(writer.log(), 0) == ('w', 1, 0, 0)
-                && said_at(writer.log(), 1) == ('e', 1, 0, 1)
-                && said_at(writer.log(), 2) == ('r', 1, 0, 1)
-                && reader.log().len() == 1
-                && (seen == ('r', 0, 0, 0) || seen == ('r', 1, 0, 1))
-        }
-        _ => false,
-    })
-}
-
-#[test]
-fn write_to_limit_on_four_slots(rt: HostRuntime) -> Result<(), Fail> {
-    assert!(rt; write_to_limit::<_, FourSlotFamily<Posted<Band>>>(&rt, rt.alloc())?);
-    Ok(())
+    let crew = run_plans::<R, F, OpenGate>(rt, alloc, 1, TO_LIMIT, &OpenGate)?;
+    Ok(are_at_limit(crew.lanes.as_slice()))
 }
 
 /// Stops task 1 before its second call.
@@ -64,35 +85,30 @@ impl Gate for StopsSecond {
     fn after(&self, _task: usize, _call: usize, _permit: ()) {}
 }
 
+const STOPPED: &[&[u64]] = &[&[], &[1, 2]];
+
+fn is_at(posted: Posted<Band>, tag: u64, writer: usize, number: u64) -> bool {
+    posted.stamp == Stamp { tag, writer } && posted.item == point(number)
+}
+
+/// Whether the first pass knows the opening alone, and the second what it wrote.
+fn know<F: Family<Posted<Band>>>(passes: &[Pass<Band, F>]) -> bool {
+    match passes {
+        [first, second] => is_at(first.own(), 0, 0, 0) && is_at(second.own(), 1, 1, 1),
+        _ => false,
+    }
+}
+
 /// The passes of lanes that ran know what they wrote, also where a gate has stopped a task.
-fn known<R: Threads + Sync, F: SharedFamily<Posted<Band>>>(
+pub fn passes_know<R: Threads + Sync, F: SharedFamily<Posted<Band>>>(
     rt: &R,
     alloc: Global,
-) -> Result<Option<[Posted<Band>; 2]>, AllocError>
+) -> Result<bool, AllocError>
 where
     F::Seat: Send,
     F::Told: Send,
 {
-    let plans: &[&[u64]] = &[&[], &[1, 2]];
-    let crew = run_plans::<R, F, StopsSecond>(rt, alloc, 9, plans, &StopsSecond)?;
+    let crew = run_plans::<R, F, StopsSecond>(rt, alloc, 9, STOPPED, &StopsSecond)?;
     let passes = into_passes(alloc, crew.lanes)?;
-    Ok(match passes.as_slice() {
-        [first, second] => Some([first.own(), second.own()]),
-        _ => None,
-    })
-}
-
-#[test]
-fn passes_of_lanes_that_ran(rt: HostRuntime) -> Result<(), Fail> {
-    let opening = Posted {
-        stamp: Stamp { tag: 0, writer: 0 },
-        item: point(0),
-    };
-    let written = Posted {
-        stamp: Stamp { tag: 1, writer: 1 },
-        item: point(1),
-    };
-    let known = known::<_, FourSlotFamily<Posted<Band>>>(&rt, rt.alloc())?;
-    assert!(rt; known == Some([opening, written]));
-    Ok(())
+    Ok(know(passes.as_slice()))
 }

@@ -12,8 +12,6 @@ mod orders;
 #[cfg(test)]
 mod origins;
 #[cfg(test)]
-mod plans;
+mod runs;
 #[cfg(test)]
 mod teams;
-#[cfg(test)]
-mod triples;

@@ -2,15 +2,14 @@
 //! can't pass it.
 ghost use Rattle.std.specs.Prelude.{◌≡◌};
 
-use crate::plans::run_plans;
+use crate::gates::made;
 use atomic_board::Posted;
 use board_tasks::Gate;
-use family_four_slot::FourSlotFamily;
+use board_teams::run_plans;
 use family_live::SharedFamily;
 use history_core::Band;
 use std::alloc::{AllocError, Global};
 use std::sync::atomic::{AtomicBool, AtomicUsize, Ordering};
-use std::test::Fail;
 use std::thread::{Threads, yield_now};
 
 /// How often a task looks for the others. It lets them run in between, so that tasks also meet where all processors are busy.
@@ -60,12 +59,12 @@ impl Gate for Meeting {
 
 const PLAN: &[u64] = &[1, 0];
 
-/// How many of so many tasks, 16 at most, made both their calls.
-pub(crate) fn met<R: Threads + Sync, F: SharedFamily<Posted<Band>>>(
+/// Whether so many tasks, 16 at most, made both their calls.
+fn met<R: Threads + Sync, F: SharedFamily<Posted<Band>>>(
     rt: &R,
     alloc: Global,
     tasks: usize,
-) -> Result<usize, AllocError>
+) -> Result<bool, AllocError>
 where
     F::Seat: Send,
     F::Told: Send,
@@ -80,21 +79,22 @@ where
         plans.push(PLAN)?;
     }
     let crew = run_plans::<R, F, Meeting>(rt, alloc, 9, plans.as_slice(), &gate)?;
-    Ok(
-        crew.lanes
-            .iter()
-            .filter(|lane| lane.log().len() == 2)
-            .count(),
-    )
+    Ok(made(crew.lanes.as_slice()) == (tasks as u64).saturating_mul(2))
 }
 
-#[test]
-fn all_tasks_meet_on_four_slots(rt: HostRuntime) -> Result<(), Fail> {
+/// Whether all tasks meet, of 2 to 16.
+pub fn all_met<R: Threads + Sync, F: SharedFamily<Posted<Band>>>(
+    rt: &R,
+    alloc: Global,
+) -> Result<bool, AllocError>
+where
+    F::Seat: Send,
+    F::Told: Send,
+{
     for tasks in 2..=16 {
-        assert_eq!(rt;
-            met::<_, FourSlotFamily<Posted<Band>>>(&rt, rt.alloc(), tasks)?,
-            tasks
-        );
+        if !met::<R, F>(rt, alloc, tasks)? {
+            return Ok(false);
+        }
     }
-    Ok(())
+    Ok(true)
 }

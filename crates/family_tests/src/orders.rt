@@ -1,14 +1,12 @@
 //! Tasks over a board that is ended.
-use crate::plans::{point, run_plans};
 use atomic_board::Posted;
 use board_tasks::{Entry, OpenGate, Reply, finish_lanes};
-use family_four_slot::FourSlotFamily;
+use board_teams::{point, run_plans};
 use family_live::SharedFamily;
 use history_core::Band;
 use log_origins::{Origin, check_origin};
 use stamps::Stamp;
 use std::alloc::{AllocError, Global};
-use std::test::Fail;
 use std::thread::Threads;
 
 const ROUNDS: usize = 10_000;
@@ -41,12 +39,12 @@ fn plan(alloc: Global) -> Result<Vec<u64>, AllocError> {
     Ok(plan)
 }
 
-/// Runs three tasks, which write and read in turn, until long after the tags have ended. Gives the tags of the last entries, and of the
-/// last record.
-pub(crate) fn worn_out<R: Threads + Sync, F: SharedFamily<Posted<Band>>>(
+/// Runs three tasks, which write and read in turn, until long after the tags have ended: the greatest tag of the last entries is the
+/// limit, and so is that of the last record.
+pub fn wears_out<R: Threads + Sync, F: SharedFamily<Posted<Band>>>(
     rt: &R,
     alloc: Global,
-) -> Result<Option<(u64, u64)>, AllocError>
+) -> Result<bool, AllocError>
 where
     F::Seat: Send,
     F::Told: Send,
@@ -64,31 +62,23 @@ where
             greatest = greatest.max(entry.reply.stamp().tag);
         }
     }
-    Ok(if lawful {
-        Some((greatest, last.stamp.tag))
-    } else {
-        None
-    })
+    Ok(lawful & (greatest == LIMIT) & (last.stamp.tag == LIMIT))
 }
 
-#[test]
-fn worn_out_tags_on_four_slots(rt: HostRuntime) -> Result<(), Fail> {
-    let tags = worn_out::<_, FourSlotFamily<Posted<Band>>>(&rt, rt.alloc())?;
-    assert_eq!(rt; tags, Some((50, 50)));
-    Ok(())
-}
+/// What two tasks left behind: how long their logs are, whether each record in them has its origin, and the last record.
+type Left = ([usize; 2], Origin, Posted<Band>);
 
-/// What two tasks left behind on a board over four slots: how long their logs are, whether each record in them has its origin, and the
-/// last record.
-fn left_by_two<R: Threads + Sync>(
+fn left_by_two<R: Threads + Sync, F: SharedFamily<Posted<Band>>>(
     rt: &R,
     alloc: Global,
     limit: u64,
     plans: &[&[u64]],
-) -> Result<([usize; 2], Origin, Posted<Band>), AllocError> {
-    let crew = run_plans::<R, FourSlotFamily<Posted<Band>>, OpenGate>(
-        rt, alloc, limit, plans, &OpenGate,
-    )?;
+) -> Result<Left, AllocError>
+where
+    F::Seat: Send,
+    F::Told: Send,
+{
+    let crew = run_plans::<R, F, OpenGate>(rt, alloc, limit, plans, &OpenGate)?;
     let (logs, last) = finish_lanes(alloc, crew.board, crew.lanes)?;
     let origin = check_origin(point(0), logs.as_slice());
     let lengths = match logs.as_slice() {
@@ -98,25 +88,37 @@ fn left_by_two<R: Threads + Sync>(
     Ok((lengths, origin, last))
 }
 
-/// Whether it is the second write of one task or the only one of the other, above another write.
-fn is_last_of_three(last: Posted<Band>) -> bool {
-    last.stamp.tag >= 2 && (last.item.now == 2 || last.item.now == 3)
+const OF_THREE: &[&[u64]] = &[&[1, 0, 2], &[3, 0]];
+
+/// The last record is the second write of one task or the only one of the other, above another write.
+pub fn two_write_and_read<R: Threads + Sync, F: SharedFamily<Posted<Band>>>(
+    rt: &R,
+    alloc: Global,
+) -> Result<bool, AllocError>
+where
+    F::Seat: Send,
+    F::Told: Send,
+{
+    let (lengths, origin, last) = left_by_two::<R, F>(rt, alloc, 9, OF_THREE)?;
+    Ok(
+        lengths == [3, 2]
+            && origin == Origin::Sound
+            && last.stamp.tag >= 2
+            && (last.item.now == 2 || last.item.now == 3),
+    )
 }
 
-#[test]
-fn two_tasks_write_and_read(rt: HostRuntime) -> Result<(), Fail> {
-    let plans: &[&[u64]] = &[&[1, 0, 2], &[3, 0]];
-    let (lengths, origin, last) = left_by_two(&rt, rt.alloc(), 9, plans)?;
-    assert_eq!(rt; (lengths, origin), ([3, 2], Origin::Sound));
-    assert!(rt; is_last_of_three(last), "a write that no other followed");
-    Ok(())
-}
+const TO_LIMIT: &[&[u64]] = &[&[1, 2], &[0, 0]];
 
-#[test]
-fn two_tasks_meet_the_limit(rt: HostRuntime) -> Result<(), Fail> {
-    let plans: &[&[u64]] = &[&[1, 2], &[0, 0]];
-    let (lengths, origin, last) = left_by_two(&rt, rt.alloc(), 1, plans)?;
-    assert_eq!(rt; (lengths, origin), ([2, 2], Origin::Sound));
-    assert_eq!(rt; (last.stamp.tag, last.item.now), (1, 1));
-    Ok(())
+/// One task writes up to the limit and beyond, the other reads.
+pub fn two_meet_the_limit<R: Threads + Sync, F: SharedFamily<Posted<Band>>>(
+    rt: &R,
+    alloc: Global,
+) -> Result<bool, AllocError>
+where
+    F::Seat: Send,
+    F::Told: Send,
+{
+    let (lengths, origin, last) = left_by_two::<R, F>(rt, alloc, 1, TO_LIMIT)?;
+    Ok(lengths == [2, 2] && origin == Origin::Sound && (last.stamp.tag, last.item.now) == (1, 1))
 }

@@ -2,7 +2,7 @@
 use Rattle.std.proofs.Common.{arith}
 use Rattle.history_core.specs.Band.{fits}
 use Rattle.atomic_board.proofs.Passing.{stood, used}
-use Rattle.family_tests.proofs.teams.Team.read.Goals as goal
+use Rattle.board_teams.proofs.team.Team.read.Goals as goal
 
 pub read-requires : goal.read-requires
 read-requires g c =

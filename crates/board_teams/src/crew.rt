@@ -1,5 +1,5 @@
-//! Boards whose tasks have scripts, for the tests. A script is a list of numbers: 0 is a read, and any other number is a write of the
-//! record that is this number alone.
+//! Boards whose tasks have scripts. A script is a list of numbers: 0 is a read, and any other number is a write of the record that is this
+//! number alone.
 ghost use Rattle.std.specs.Prelude.{◌≡◌, All, IfOk, IsTrue, length};
 ghost use Rattle.history_core.specs.Band.{fits};
 ghost use Rattle.stamps.specs.Stamps.{first_stamp};
@@ -9,7 +9,7 @@ ghost use Rattle.board_tasks.specs.Logs.{Obeys};
 ghost use Rattle.board_tasks.specs.Worked.{HaveWorked};
 
 use atomic_board::{Board, Posted};
-use board_tasks::{Entry, Gate, Lane, Reply, make_lanes, run_tasks};
+use board_tasks::{Gate, Lane, make_lanes, run_tasks};
 use family_live::{Family, SharedFamily};
 use history_core::{Band, Items, Wish};
 use std::alloc::{AllocError, Global};
@@ -46,7 +46,8 @@ fn script(alloc: Global, numbers: &[u64]) -> Result<Items<Wish<Band>>, AllocErro
     Ok(Items::new(wishes))
 }
 
-fn scripts(alloc: Global, plans: &[&[u64]]) -> Result<Items<Items<Wish<Band>>>, AllocError>
+/// The calls that these numbers mean.
+pub fn scripts(alloc: Global, plans: &[&[u64]]) -> Result<Items<Items<Wish<Band>>>, AllocError>
     ensures lawful { IfOk result (λ s. All (λ t. All (Obeys fits) t) s) }
     ensures count { IfOk result (λ s. length s ≡ length plans.now) }
 {
@@ -84,21 +85,4 @@ where
     let mut lanes = make_lanes(alloc, passes, all)?;
     run_tasks(rt, &board, lanes.as_mut_slice(), gate);
     Ok(Crew { board, lanes })
-}
-
-/// What an entry says in numbers: its kind, its stamp, and the reading of the record seen.
-fn said(entry: &Entry<Band>) -> (char, u64, usize, u64) {
-    match entry.reply {
-        Reply::Written(stamp) => ('w', stamp.tag, stamp.writer, 0),
-        Reply::Seen(posted) => ('r', posted.stamp.tag, posted.stamp.writer, posted.item.now),
-        Reply::Ended(posted) => ('e', posted.stamp.tag, posted.stamp.writer, posted.item.now),
-    }
-}
-
-/// What the entry at this place of a log says, or 'none'.
-pub fn said_at(log: &[Entry<Band>], place: usize) -> (char, u64, usize, u64) {
-    match log.get(place) {
-        Some(entry) => said(entry),
-        None => ('n', 0, 0, 0),
-    }
 }

@@ -6,7 +6,7 @@ use Rattle.board_tasks.specs.Lanes.{AreLanes}
 use Rattle.board_tasks.specs.Worked.{HaveWorked}
 use Rattle.board_tasks.proofs.LaneLists.{all_ready}
 use Rattle.board_tasks.proofs.Works.{changed_whole, have_worked}
-use Rattle.family_tests.proofs.plans.run_plans.Goals as goal
+use Rattle.board_teams.proofs.crew.run_plans.Goals as goal
 
 pub run_tasks-requires-after_bounds : goal.run_tasks-requires-after_bounds
 run_tasks-requires-after_bounds g c κs within =

@@ -4,7 +4,7 @@ use Rattle.std.specs.Prelude.{vec_len}
 use Rattle.history_core.specs.Band.{fits}
 use Rattle.atomic_board.specs.Ends.{AllPasses}
 use Rattle.atomic_board.proofs.Passing.{stood, used}
-use Rattle.family_tests.proofs.teams.Team.pass_on.Goals as goal
+use Rattle.board_teams.proofs.team.Team.pass_on.Goals as goal
 
 pub tell-receipt-requires : goal.tell-receipt-requires
 tell-receipt-requires g c =

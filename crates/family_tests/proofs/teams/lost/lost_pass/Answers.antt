@@ -1,14 +1,14 @@
 -- The passes are the last two of a new board.
 use Rattle.history_core.specs.Band.{fits}
 use Rattle.atomic_board.proofs.Passing.{last_two}
-use Rattle.family_tests.proofs.teams.rows.late.Goals as goal
+use Rattle.family_tests.proofs.teams.lost.lost_pass.Goals as goal
 
 pub write-requires-clause-pass : goal.write-requires-clause-pass
 write-requires-clause-pass g c =
     (last_two g.F.Family fits c.in_ok-board.field-0.board c.in_ok-board.field-0.passes.items c.pop.new.self.items c.pop-2.new.self.items
-    c.in-Some-pop.writer c.in-Some.reader c.in-Some.ensures.items c.in-Some-pop.ensures.items c.in_ok-board.ensures).0
+    c.in-Some-pop.kept c.in-Some.lost c.in-Some.ensures.items c.in-Some-pop.ensures.items c.in_ok-board.ensures).1
 
-pub read-before-requires : goal.read-before-requires
-read-before-requires g c =
+pub read-first-requires : goal.read-first-requires
+read-first-requires g c =
     (last_two g.F.Family fits c.in_ok-board.field-0.board c.in_ok-board.field-0.passes.items c.pop.new.self.items c.pop-2.new.self.items
-    c.in-Some-pop.writer c.in-Some.reader c.in-Some.ensures.items c.in-Some-pop.ensures.items c.in_ok-board.ensures).1
+    c.in-Some-pop.kept c.in-Some.lost c.in-Some.ensures.items c.in-Some-pop.ensures.items c.in_ok-board.ensures).0

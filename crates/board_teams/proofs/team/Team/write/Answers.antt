@@ -2,7 +2,7 @@
 use Rattle.std.proofs.Common.{arith}
 use Rattle.history_core.specs.Band.{fits}
 use Rattle.atomic_board.proofs.Passing.{stood, used}
-use Rattle.family_tests.proofs.teams.Team.write.Goals as goal
+use Rattle.board_teams.proofs.team.Team.write.Goals as goal
 
 pub write-requires-clause-pass : goal.write-requires-clause-pass
 write-requires-clause-pass g c =
