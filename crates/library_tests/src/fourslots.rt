@@ -3,7 +3,6 @@
 use fourslot_core::laws::{self, reader_at};
 use fourslot_core::{Bits, CellCore, CellReport, InSlot, ReadStage, Stage};
 use history_core::{Band, Op};
-use std::process::Abort;
 
 mod limits;
 mod worked;
@@ -84,10 +83,13 @@ fn is_shown(cell: &mut CellCore<u64>, sight: &Shown) -> bool {
     answer == sight.answer && bits_of(cell) == sight.bits && is_in(cell, sight.in_slot)
 }
 
-fn follows(rt: &impl Abort, cell: &mut CellCore<u64>, sights: &[Shown]) {
-    for (place, sight) in sights.iter().enumerate() {
-        assert!(rt; is_shown(cell, sight), "at row {place}");
+/// Whether each row is shown, one after the other.
+fn follows(cell: &mut CellCore<u64>, sights: &[Shown]) -> bool {
+    let mut same = true;
+    for sight in sights {
+        same = is_shown(cell, sight) && same;
     }
+    same
 }
 
 const NONE: (Option<u8>, Option<u8>) = (None, None);
@@ -105,11 +107,6 @@ const READ_AFTER_A_WRITE: &[Shown] = &[
     gives!("r", 1, [1, 1, 0, 1]),
 ];
 
-#[test]
-fn read_after_a_write(rt: HostRuntime) {
-    follows(&rt, &mut CellCore::new(0, 987), READ_AFTER_A_WRITE);
-}
-
 const READ_BEGUN_BEFORE_THE_WRITE: &[Shown] = &[
     shows!(0, "r", [0, 0, 0, 0], NONE),
     shows!(1, "ww", [0, 0, 0, 0], (Some(3), None)),
@@ -120,11 +117,6 @@ const READ_BEGUN_BEFORE_THE_WRITE: &[Shown] = &[
     gives!("r", 0, [1, 0, 0, 1]),
 ];
 
-#[test]
-fn read_begun_before_the_write(rt: HostRuntime) {
-    follows(&rt, &mut CellCore::new(0, 987), READ_BEGUN_BEFORE_THE_WRITE);
-}
-
 const READ_OF_AN_UNFINISHED_WRITE: &[Shown] = &[
     shows!(1, "wwwww", [1, 0, 0, 1], NONE),
     shows!(2, "ww", [1, 0, 0, 1], (Some(2), None)),
@@ -133,11 +125,6 @@ const READ_OF_AN_UNFINISHED_WRITE: &[Shown] = &[
     shows!(0, "rr", [1, 1, 0, 0], (None, Some(2))),
     gives!("r", 2, [1, 1, 0, 0]),
 ];
-
-#[test]
-fn read_of_an_unfinished_write(rt: HostRuntime) {
-    follows(&rt, &mut CellCore::new(0, 987), READ_OF_AN_UNFINISHED_WRITE);
-}
 
 const TWO_SLOTS_OF_ONE_PAIR: &[Shown] = &[
     shows!(1, "wwwww", [1, 0, 0, 1], NONE),
@@ -149,11 +136,6 @@ const TWO_SLOTS_OF_ONE_PAIR: &[Shown] = &[
     shows!(2, "w", [1, 1, 0, 0], NONE),
     shows!(2, "w", [1, 1, 0, 0], NONE),
 ];
-
-#[test]
-fn two_slots_of_one_pair(rt: HostRuntime) {
-    follows(&rt, &mut CellCore::new(0, 987), TWO_SLOTS_OF_ONE_PAIR);
-}
 
 const STALLED_READER: &[Shown] = &[
     shows!(1, "wwwww", [1, 0, 0, 1], NONE),
@@ -167,11 +149,6 @@ const STALLED_READER: &[Shown] = &[
     gives!("r", 3, [0, 0, 0, 1]),
 ];
 
-#[test]
-fn stalled_reader(rt: HostRuntime) {
-    follows(&rt, &mut CellCore::new(0, 987), STALLED_READER);
-}
-
 const READ_BETWEEN_THE_STORES_OF_A_WRITE: &[Shown] = &[
     shows!(1, "wwwww", [1, 0, 0, 1], NONE),
     gives!("rrrrr", 1, [1, 1, 0, 1]),
@@ -182,15 +159,6 @@ const READ_BETWEEN_THE_STORES_OF_A_WRITE: &[Shown] = &[
     shows!(2, "w", [0, 1, 1, 1], NONE),
 ];
 
-#[test]
-fn read_between_the_stores_of_a_write(rt: HostRuntime) {
-    follows(
-        &rt,
-        &mut CellCore::new(0, 987),
-        READ_BETWEEN_THE_STORES_OF_A_WRITE,
-    );
-}
-
 const WHOLE_CALLS: &[Shown] = &[
     shows!(1, "wwwww", [1, 0, 0, 1], NONE),
     shows!(2, "wwwww", [1, 0, 0, 0], NONE),
@@ -200,43 +168,60 @@ const WHOLE_CALLS: &[Shown] = &[
     gives!("rrrrr", 3, [0, 0, 1, 0]),
 ];
 
+const TRACES: &[(&str, &[Shown])] = &[
+    ("read after a write", READ_AFTER_A_WRITE),
+    ("read begun before the write", READ_BEGUN_BEFORE_THE_WRITE),
+    ("read of an unfinished write", READ_OF_AN_UNFINISHED_WRITE),
+    ("two slots of one pair", TWO_SLOTS_OF_ONE_PAIR),
+    ("stalled reader", STALLED_READER),
+    (
+        "read between the stores of a write",
+        READ_BETWEEN_THE_STORES_OF_A_WRITE,
+    ),
+    ("whole calls", WHOLE_CALLS),
+];
+
 #[test]
-fn whole_calls(rt: HostRuntime) {
-    follows(&rt, &mut CellCore::new(0, 987), WHOLE_CALLS);
+fn traces(rt: HostRuntime) {
+    for (name, sights) in TRACES {
+        assert!(rt; follows(&mut CellCore::new(0, 987), sights), "{name}");
+    }
 }
 
-/// A reader that stands just after R3 with slot 3, to which the first write goes.
+/// The steps of a reader that stands just after R3 with slot 3, to which the first write goes, its answer, and the events.
+const MET: &[(&str, u64, &str)] = &[
+    ("wwrr", 987, "W1 W2 R4 R5"),
+    ("rwwwr", 987, "R4 W1 W2 W3 R5"),
+    ("wwwrr", 1, "W1 W2 W3 R4 R5"),
+    ("wrrw", 0, "W1 R4 R5 W2"),
+];
+
+const IN_ONE_SLOT: &[Shown] = &[shows!(1, "wwr", [0, 0, 0, 0], (Some(3), Some(3)))];
+
 #[test]
 fn noise(rt: HostRuntime) {
-    let rows = [
-        ("wwrr", 987, "W1 W2 R4 R5"),
-        ("rwwwr", 987, "R4 W1 W2 W3 R5"),
-        ("wwwrr", 1, "W1 W2 W3 R4 R5"),
-        ("wrrw", 0, "W1 R4 R5 W2"),
-    ];
-    for (steps, record, events) in rows {
-        let mut cell = reader_at(0, 987, 3);
-        assert_eq!(rt; make(&mut cell, 1, steps), Some(record), "at {events}");
+    for (steps, record, events) in MET {
+        let answer = make(&mut reader_at(0, 987, 3), 1, steps);
+        assert!(rt; answer == Some(*record), "at {events}");
     }
-    let mut cell = reader_at(0, 987, 3);
-    follows(
-        &rt,
-        &mut cell,
-        &[shows!(1, "wwr", [0, 0, 0, 0], (Some(3), Some(3)))],
-    );
+    assert!(rt; follows(&mut reader_at(0, 987, 3), IN_ONE_SLOT));
+}
+
+/// Whether the cell's reader is in this slot at its next step, and then gives the opening.
+fn reads_opening(cell: &mut CellCore<u64>, slot: u8) -> bool {
+    let sights = [
+        shows!(0, "r", [0, 0, 0, 0], (None, Some(slot))),
+        gives!("r", 0, [0, 0, 0, 0]),
+    ];
+    follows(cell, &sights)
 }
 
 #[test]
 fn reader_at_each_slot(rt: HostRuntime) {
     for slot in 0..4 {
-        let mut cell = reader_at(0, 987, slot);
-        follows(
-            &rt,
-            &mut cell,
-            &[
-                shows!(0, "r", [0, 0, 0, 0], (None, Some(slot))),
-                gives!("r", 0, [0, 0, 0, 0]),
-            ],
+        assert!(rt;
+            reads_opening(&mut reader_at(0, 987, slot), slot),
+            "slot {slot}"
         );
     }
 }
@@ -248,8 +233,14 @@ fn has(report: &CellReport<u64>, ops: &[Op<u64>], slots: &[Option<u8>], order: &
         && report.order.as_slice() == order
 }
 
-fn band(lo: u64, now: u64, hi: u64) -> Band {
-    Band { lo, now, hi }
+macro_rules! band {
+    ($lo:expr, $now:expr, $hi:expr) => {
+        Band {
+            lo: $lo,
+            now: $now,
+            hi: $hi,
+        }
+    };
 }
 
 /// The events of a write. Its first step is made with the item, and the others with another one.
@@ -273,46 +264,49 @@ fn events_of_read(cell: &mut CellCore<Band>) -> [ReadStage<Band>; 5] {
     ]
 }
 
+const ORIGIN: Band = band!(0, 0, 0);
+
+const NOISE: Band = band!(9, 8, 7);
+
+const A: Band = band!(1, 1, 1);
+
+const WRITTEN: [Stage; 5] = [Stage::W1, Stage::W2, Stage::W3, Stage::W4, Stage::W5];
+
+const READ: [ReadStage<Band>; 5] = [
+    ReadStage::R1,
+    ReadStage::R2,
+    ReadStage::R3,
+    ReadStage::R4,
+    ReadStage::R5(A),
+];
+
+const BITS: Bits = Bits {
+    latest: true,
+    reading: true,
+    slot: [false, true],
+};
+
 /// The events by their names, at bands; the item of a write is that of its first event.
 #[test]
 fn events_of_bands(rt: HostRuntime) {
-    let (opening, noise, a) = (band(0, 0, 0), band(9, 8, 7), band(1, 1, 1));
-    let mut cell = CellCore::new(opening, noise);
-    let written = events_of_write(&mut cell, a, opening);
-    assert!(rt; written == [Stage::W1, Stage::W2, Stage::W3, Stage::W4, Stage::W5]);
-    let read = events_of_read(&mut cell);
-    let events = [
-        ReadStage::R1,
-        ReadStage::R2,
-        ReadStage::R3,
-        ReadStage::R4,
-        ReadStage::R5(a),
-    ];
-    assert!(rt; read == events);
-    let bits = Bits {
-        latest: true,
-        reading: true,
-        slot: [false, true],
-    };
-    assert_eq!(rt; cell.bits(), bits);
+    let mut cell = CellCore::new(ORIGIN, NOISE);
+    assert!(rt; events_of_write(&mut cell, A, ORIGIN) == WRITTEN);
+    assert!(rt; events_of_read(&mut cell) == READ && cell.bits() == BITS);
 }
+
+const MET_IN_SLOT: InSlot = InSlot {
+    writer: Some(3),
+    reader: Some(3),
+};
 
 /// A read of a band that meets a write gives the noise.
 #[test]
 fn noise_of_bands(rt: HostRuntime) {
-    let (opening, noise, a) = (band(0, 0, 0), band(9, 8, 7), band(1, 1, 1));
-    let mut met = reader_at(opening, noise, 3);
+    let mut met = reader_at(ORIGIN, NOISE, 3);
     met.read_step();
-    met.write_step(a);
-    met.write_step(a);
-    assert_eq!(rt;
-        met.in_slot(),
-        InSlot {
-            writer: Some(3),
-            reader: Some(3)
-        }
-    );
-    assert_eq!(rt; met.read_step(), ReadStage::R5(noise));
+    met.write_step(A);
+    met.write_step(A);
+    assert!(rt; met.in_slot() == MET_IN_SLOT && met.read_step() == ReadStage::R5(NOISE));
 }
 
 /// Laws have no effect; here they are called at a type.

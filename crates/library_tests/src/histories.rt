@@ -3,7 +3,6 @@
 use history_core::{Band, History, Items, Kind, MAX_LIMIT, Op, Term, Verdict, check_order};
 use order_witnesses::{Break, first_break, points};
 use std::alloc::{AllocError, Global};
-use std::process::Abort;
 use std::test::Fail;
 
 const NONE: Band = Band {
@@ -24,12 +23,12 @@ const B: Band = Band {
     hi: 2,
 };
 
-/// An operation of a constant row that has ended.
+/// An operation of a row that has ended.
 macro_rules! finished {
-    ($who:expr, $kind:expr, $starts:expr, $ends:expr, $item:expr) => {
+    ($who:expr, $kind:ident, $starts:expr, $ends:expr, $item:expr) => {
         Op {
             who: $who,
-            kind: $kind,
+            kind: Kind::$kind,
             starts: $starts,
             ends: Some($ends),
             item: Some($item),
@@ -37,148 +36,141 @@ macro_rules! finished {
     };
 }
 
-fn finished(who: usize, kind: Kind, starts: u64, ends: u64, item: Band) -> Op<Band> {
-    Op {
-        who,
-        kind,
-        starts,
-        ends: Some(ends),
-        item: Some(item),
-    }
-}
-
-fn unfinished(who: usize, kind: Kind, starts: u64, item: Option<Band>) -> Op<Band> {
-    Op {
-        who,
-        kind,
-        starts,
-        ends: None,
-        item,
-    }
-}
-
-fn term(first: usize, limit: u64) -> Term {
-    Term { first, limit }
-}
-
-fn verdict_by_terms(
-    alloc: Global,
-    terms: &[Term],
-    ops: &[Op<Band>],
-    order: &[usize],
-) -> Result<Verdict, AllocError> {
-    let history = History {
-        opening: NONE,
-        terms: Items::new(Vec::from_slice(alloc, terms)?),
-        ops: Items::new(Vec::from_slice(alloc, ops)?),
+/// An operation of a row that hasn't ended.
+macro_rules! unfinished {
+    ($who:expr, $kind:ident, $starts:expr, $item:expr) => {
+        Op {
+            who: $who,
+            kind: Kind::$kind,
+            starts: $starts,
+            ends: None,
+            item: $item,
+        }
     };
-    Ok(check_order(&history, order))
 }
 
-/// Operations, an order of them, and the verdict on it under one term with the limit 9.
-type Row<'a> = (&'a [Op<Band>], &'a [usize], Verdict);
-
-fn gives(rt: &impl Abort, alloc: Global, rows: &[Row]) -> Result<(), AllocError> {
-    for (ops, order, expected) in rows {
-        assert_eq!(rt;
-            verdict_by_terms(alloc, &[term(0, 9)], ops, order)?,
-            *expected
-        );
-    }
-    Ok(())
+/// A term of a row.
+macro_rules! term {
+    ($first:expr, $limit:expr) => {
+        Term {
+            first: $first,
+            limit: $limit,
+        }
+    };
 }
+
+fn history(alloc: Global, terms: &[Term], ops: &[Op<Band>]) -> Result<History<Band>, AllocError> {
+    let terms = Items::new(Vec::from_slice(alloc, terms)?);
+    Ok(History {
+        opening: NONE,
+        terms,
+        ops: Items::new(Vec::from_slice(alloc, ops)?),
+    })
+}
+
+/// Terms, operations, an order of them, and the verdict on it.
+type Row<'a> = (&'a [Term], &'a [Op<Band>], &'a [usize], Verdict);
+
+fn is_judged(alloc: Global, row: &Row) -> Result<bool, AllocError> {
+    let (terms, ops, order, verdict) = *row;
+    Ok(check_order(&history(alloc, terms, ops)?, order) == verdict)
+}
+
+const NINE: &[Term] = &[term!(0, 9)];
+
+const WRITE: Op<Band> = finished!(0, Write, 0, 4, A);
+
+const READ: Op<Band> = finished!(1, Read, 5, 9, A);
+
+const BESIDE: Op<Band> = finished!(1, Read, 4, 9, NONE);
+
+const OPEN_READ: Op<Band> = unfinished!(1, Read, 5, Some(A));
+
+const STALE: Op<Band> = finished!(1, Read, 5, 9, NONE);
+
+const ENDS: &[Op<Band>] = &[
+    finished!(0, Write, 0, 1, A),
+    finished!(1, Read, 0, 9, B),
+    finished!(2, Write, 5, 6, B),
+];
+
+const OPEN_WRITE: Op<Band> = unfinished!(0, Write, 0, Some(A));
+
+const OPEN_REFUSED: Op<Band> = unfinished!(0, Refused, 0, Some(NONE));
+
+const BACKWARDS: Op<Band> = finished!(0, Write, 4, 0, A);
+
+const SECOND: Op<Band> = finished!(0, Write, 2, 6, B);
+
+const BARE: Op<Band> = unfinished!(0, Write, 0, None);
+
+const REFUSED_ALONE: Op<Band> = finished!(0, Refused, 0, 1, NONE);
+
+const ONE_REFUSED: &[Op<Band>] = &[finished!(0, Write, 0, 1, A), finished!(1, Refused, 2, 3, A)];
+
+const VERDICTS: &[Row<'static>] = &[
+    // each rule
+    (NINE, &[], &[], Verdict::Lawful),
+    (NINE, &[WRITE, READ], &[0, 1], Verdict::Lawful),
+    (NINE, &[WRITE, READ], &[1, 0], Verdict::Precedence),
+    (NINE, &[WRITE, BESIDE], &[1, 0], Verdict::Lawful),
+    (NINE, &[WRITE, READ], &[0, 0], Verdict::Listing),
+    (NINE, &[WRITE, OPEN_READ], &[0, 1], Verdict::Listing),
+    (NINE, &[WRITE, OPEN_READ], &[0], Verdict::Lawful),
+    (NINE, &[WRITE, STALE], &[0, 1], Verdict::Reading),
+    (NINE, ENDS, &[2, 1, 0], Verdict::Precedence),
+    // what is listed
+    (NINE, &[WRITE, READ], &[0], Verdict::Listing),
+    (NINE, &[WRITE, READ], &[0, 1, 2], Verdict::Listing),
+    (NINE, &[OPEN_WRITE], &[], Verdict::Lawful),
+    (NINE, &[OPEN_WRITE], &[0], Verdict::Lawful),
+    (NINE, &[OPEN_WRITE], &[0, 0], Verdict::Listing),
+    (NINE, &[OPEN_REFUSED], &[0], Verdict::Listing),
+    (NINE, &[OPEN_REFUSED], &[], Verdict::Lawful),
+    // nothing else is asked
+    (NINE, &[BACKWARDS], &[0], Verdict::Lawful),
+    (NINE, &[WRITE, SECOND], &[1, 0], Verdict::Lawful),
+    (NINE, &[BARE], &[0], Verdict::Reading),
+    (NINE, &[BARE], &[], Verdict::Lawful),
+    // limits and terms
+    (&[term!(0, 1)], &[REFUSED_ALONE], &[0], Verdict::Limit),
+    (&[term!(0, 1)], ONE_REFUSED, &[0, 1], Verdict::Lawful),
+    (&[term!(0, 2)], ONE_REFUSED, &[0, 1], Verdict::Limit),
+    (
+        &[term!(0, 1), term!(1, 1)],
+        ONE_REFUSED,
+        &[0, 1],
+        Verdict::Limit,
+    ),
+    // the last of the list whose first is not above the place, wherever the others stand
+    (
+        &[term!(1, 1), term!(0, 1)],
+        ONE_REFUSED,
+        &[0, 1],
+        Verdict::Lawful,
+    ),
+    // of two terms with one first the later one
+    (
+        &[term!(0, 2), term!(0, 1)],
+        ONE_REFUSED,
+        &[0, 1],
+        Verdict::Lawful,
+    ),
+    (
+        &[term!(0, 1), term!(0, 2)],
+        ONE_REFUSED,
+        &[0, 1],
+        Verdict::Limit,
+    ),
+    // no term
+    (&[term!(2, 2)], ONE_REFUSED, &[0, 1], Verdict::Lawful),
+    (&[], ONE_REFUSED, &[0, 1], Verdict::Lawful),
+];
 
 #[test]
-fn worked_rows(rt: HostRuntime) -> Result<(), Fail> {
-    let write = finished(0, Kind::Write, 0, 4, A);
-    let read = finished(1, Kind::Read, 5, 9, A);
-    let beside = finished(1, Kind::Read, 4, 9, NONE);
-    let open = unfinished(1, Kind::Read, 5, Some(A));
-    let stale = finished(1, Kind::Read, 5, 9, NONE);
-    let ends = [
-        finished(0, Kind::Write, 0, 1, A),
-        finished(1, Kind::Read, 0, 9, B),
-        finished(2, Kind::Write, 5, 6, B),
-    ];
-    let rows: [Row; 9] = [
-        (&[], &[], Verdict::Lawful),
-        (&[write, read], &[0, 1], Verdict::Lawful),
-        (&[write, read], &[1, 0], Verdict::Precedence),
-        (&[write, beside], &[1, 0], Verdict::Lawful),
-        (&[write, read], &[0, 0], Verdict::Listing),
-        (&[write, open], &[0, 1], Verdict::Listing),
-        (&[write, open], &[0], Verdict::Lawful),
-        (&[write, stale], &[0, 1], Verdict::Reading),
-        (&ends, &[2, 1, 0], Verdict::Precedence),
-    ];
-    gives(&rt, rt.alloc(), &rows)?;
-    Ok(())
-}
-
-#[test]
-fn listing(rt: HostRuntime) -> Result<(), Fail> {
-    let write = finished(0, Kind::Write, 0, 4, A);
-    let read = finished(1, Kind::Read, 5, 9, A);
-    let open = unfinished(0, Kind::Write, 0, Some(A));
-    let refused = unfinished(0, Kind::Refused, 0, Some(NONE));
-    let rows: [Row; 7] = [
-        (&[write, read], &[0], Verdict::Listing),
-        (&[write, read], &[0, 1, 2], Verdict::Listing),
-        (&[open], &[], Verdict::Lawful),
-        (&[open], &[0], Verdict::Lawful),
-        (&[open], &[0, 0], Verdict::Listing),
-        (&[refused], &[0], Verdict::Listing),
-        (&[refused], &[], Verdict::Lawful),
-    ];
-    gives(&rt, rt.alloc(), &rows)?;
-    Ok(())
-}
-
-#[test]
-fn nothing_else_is_asked(rt: HostRuntime) -> Result<(), Fail> {
-    let backwards = finished(0, Kind::Write, 4, 0, A);
-    let first = finished(0, Kind::Write, 0, 4, A);
-    let second = finished(0, Kind::Write, 2, 6, B);
-    let bare = unfinished(0, Kind::Write, 0, None);
-    let rows: [Row; 4] = [
-        (&[backwards], &[0], Verdict::Lawful),
-        (&[first, second], &[1, 0], Verdict::Lawful),
-        (&[bare], &[0], Verdict::Reading),
-        (&[bare], &[], Verdict::Lawful),
-    ];
-    gives(&rt, rt.alloc(), &rows)?;
-    Ok(())
-}
-
-#[test]
-fn limits_and_terms(rt: HostRuntime) -> Result<(), Fail> {
-    let alone = finished(0, Kind::Refused, 0, 1, NONE);
-    assert_eq!(rt;
-        verdict_by_terms(rt.alloc(), &[term(0, 1)], &[alone], &[0])?,
-        Verdict::Limit
-    );
-    let ops = [
-        finished(0, Kind::Write, 0, 1, A),
-        finished(1, Kind::Refused, 2, 3, A),
-    ];
-    let rows: [(&[Term], Verdict); 8] = [
-        (&[term(0, 1)], Verdict::Lawful),
-        (&[term(0, 2)], Verdict::Limit),
-        (&[term(0, 1), term(1, 1)], Verdict::Limit),
-        // the last of the list whose first is not above the place, wherever the others stand
-        (&[term(1, 1), term(0, 1)], Verdict::Lawful),
-        // of two terms with one first the later one
-        (&[term(0, 2), term(0, 1)], Verdict::Lawful),
-        (&[term(0, 1), term(0, 2)], Verdict::Limit),
-        // no term
-        (&[term(2, 2)], Verdict::Lawful),
-        (&[], Verdict::Lawful),
-    ];
-    for (terms, expected) in rows {
-        assert_eq!(rt;
-            verdict_by_terms(rt.alloc(), terms, &ops, &[0, 1])?,
-            expected
-        );
+fn verdicts(rt: HostRuntime) -> Result<(), Fail> {
+    for (place, row) in VERDICTS.iter().enumerate() {
+        assert!(rt; is_judged(rt.alloc(), row)?, "row {place}");
     }
     Ok(())
 }
@@ -189,93 +181,84 @@ fn many(alloc: Global) -> Result<(Vec<Op<Band>>, Vec<usize>), AllocError> {
     let mut order = Vec::new(alloc);
     for place in 0..10_000 {
         let starts = 2 * place as u64;
-        ops.push(finished(place % 16, Kind::Write, starts, starts + 1, A))?;
+        ops.push(finished!(place % 16, Write, starts, starts + 1, A))?;
         order.push(place)?;
     }
     Ok((ops, order))
 }
 
-#[test]
-fn ten_thousand_operations(rt: HostRuntime) -> Result<(), Fail> {
-    let (ops, mut order) = many(rt.alloc())?;
-    gives(&rt, rt.alloc(), &[(&ops, &order, Verdict::Lawful)])?;
-    for again in [0, 4095, 4096, 8191, 8192, 9999] {
-        order.push(again)?;
-        gives(&rt, rt.alloc(), &[(&ops, &order, Verdict::Listing)])?;
-        order.pop();
-    }
-    let mut backwards = Vec::from_slice(rt.alloc(), &order)?;
-    backwards.reverse();
+/// Whether the order is no listing where it has this place once more.
+fn lists_again(
+    alloc: Global,
+    ops: &[Op<Band>],
+    order: &mut Vec<usize>,
+    again: usize,
+) -> Result<bool, AllocError> {
+    order.push(again)?;
+    let judged = is_judged(alloc, &(NINE, ops, order, Verdict::Listing));
     order.pop();
-    let rows: [Row; 2] = [
-        (&ops, &order, Verdict::Listing),
-        (&ops, &backwards, Verdict::Precedence),
-    ];
-    gives(&rt, rt.alloc(), &rows)?;
-    Ok(())
+    judged
+}
+
+/// Whether the order is unlawful the other way round, and without its last place.
+fn is_needed(alloc: Global, ops: &[Op<Band>], order: &mut Vec<usize>) -> Result<bool, AllocError> {
+    order.reverse();
+    let backwards = is_judged(alloc, &(NINE, ops, order, Verdict::Precedence))?;
+    order.reverse();
+    order.pop();
+    Ok(backwards && is_judged(alloc, &(NINE, ops, order, Verdict::Listing))?)
 }
 
 #[test]
-fn bands(rt: HostRuntime) {
-    let rows = [
-        (0, 0, 0, true),
-        (1, 1, 2, true),
-        (1, 2, 2, true),
-        (1, 0, 2, false),
-        (1, 3, 2, false),
-        (3, 2, 1, false),
-        (0, u64::MAX, u64::MAX, true),
-    ];
-    for (lo, now, hi, fits) in rows {
-        assert_eq!(rt; Band { lo, now, hi }.fits(), fits);
+fn ten_thousand_operations(rt: HostRuntime) -> Result<(), Fail> {
+    let (ops, mut order) = many(rt.alloc())?;
+    assert!(rt; is_judged(rt.alloc(), &(NINE, &ops, &order, Verdict::Lawful))?);
+    for again in [0, 4095, 4096, 8191, 8192, 9999] {
+        assert!(rt;
+            lists_again(rt.alloc(), &ops, &mut order, again)?,
+            "{again}"
+        );
     }
-    assert_eq!(rt; MAX_LIMIT, u64::MAX - 1);
+    assert!(rt; is_needed(rt.alloc(), &ops, &mut order)?);
+    Ok(())
+}
+
+const BANDS: &[(u64, u64, u64, bool)] = &[
+    (0, 0, 0, true),
+    (1, 1, 2, true),
+    (1, 2, 2, true),
+    (1, 0, 2, false),
+    (1, 3, 2, false),
+    (3, 2, 1, false),
+    (0, u64::MAX, u64::MAX, true),
+];
+
+#[test]
+fn bands(rt: HostRuntime) {
+    for (lo, now, hi, fits) in BANDS {
+        let band = Band {
+            lo: *lo,
+            now: *now,
+            hi: *hi,
+        };
+        assert!(rt; band.fits() == *fits, "{lo}, {now}, {hi}");
+    }
+    assert!(rt; MAX_LIMIT == u64::MAX - 1);
+}
+
+fn are_kept(alloc: Global, bands: &[Band]) -> Result<bool, AllocError> {
+    let items = Items::new(Vec::from_slice(alloc, bands)?);
+    let kept = items.as_slice() == bands;
+    Ok(kept && items.into_vec().as_slice() == bands)
 }
 
 #[test]
 fn items(rt: HostRuntime) -> Result<(), Fail> {
-    let items = Items::new(Vec::from_slice(rt.alloc(), &[A, B])?);
-    assert_eq!(rt; items.as_slice(), [A, B].as_slice());
-    let vec = items.into_vec();
-    assert_eq!(rt; vec.as_slice(), [A, B].as_slice());
+    assert!(rt; are_kept(rt.alloc(), &[A, B])?);
     Ok(())
 }
 
-fn break_of(
-    alloc: Global,
-    terms: &[Term],
-    ops: &[Op<Band>],
-    order: &[usize],
-) -> Result<Option<Break>, AllocError> {
-    let history = History {
-        opening: NONE,
-        terms: Items::new(Vec::from_slice(alloc, terms)?),
-        ops: Items::new(Vec::from_slice(alloc, ops)?),
-    };
-    Ok(first_break(&history, order))
-}
-
-const WRITE: Op<Band> = finished!(0, Kind::Write, 0, 4, A);
-
-const READ: Op<Band> = finished!(1, Kind::Read, 5, 9, A);
-
-const STALE: Op<Band> = finished!(1, Kind::Read, 5, 9, NONE);
-
-const BARE: Op<Band> = Op {
-    who: 0,
-    kind: Kind::Write,
-    starts: 0,
-    ends: None,
-    item: None,
-};
-
-const REFUSED: Op<Band> = finished!(0, Kind::Refused, 10, 11, A);
-
-const ENDS: &[Op<Band>] = &[
-    finished!(0, Kind::Write, 0, 1, A),
-    finished!(1, Kind::Read, 0, 9, B),
-    finished!(2, Kind::Write, 5, 6, B),
-];
+const REFUSED: Op<Band> = finished!(0, Refused, 10, 11, A);
 
 /// Operations, an order of them, the limit of their term, and the first rule that the order breaks.
 type Broken = (&'static [Op<Band>], &'static [usize], u64, Option<Break>);
@@ -348,61 +331,62 @@ const BREAKS: &[Broken] = &[
     ),
 ];
 
+fn is_broken(alloc: Global, row: &Broken) -> Result<bool, AllocError> {
+    let (ops, order, limit, expected) = *row;
+    Ok(first_break(&history(alloc, &[term!(0, limit)], ops)?, order) == expected)
+}
+
 #[test]
 fn breaks(rt: HostRuntime) -> Result<(), Fail> {
-    for (ops, order, limit, expected) in BREAKS {
-        assert_eq!(rt;
-            break_of(rt.alloc(), &[term(0, *limit)], ops, order)?,
-            *expected
-        );
+    for (place, row) in BREAKS.iter().enumerate() {
+        assert!(rt; is_broken(rt.alloc(), row)?, "row {place}");
     }
     Ok(())
 }
 
-/// The earliest points of the operations in this order, or none where there are no such points.
-fn points_of(
-    alloc: Global,
-    ops: &[Op<Band>],
-    order: &[usize],
-) -> Result<Option<Vec<u64>>, AllocError> {
-    let history = History {
-        opening: NONE,
-        terms: Items::new(Vec::from_slice(alloc, &[term(0, 9)])?),
-        ops: Items::new(Vec::from_slice(alloc, ops)?),
-    };
-    match points(alloc, &history, order)? {
-        Some(found) => Ok(Some(found.into_vec())),
-        None => Ok(None),
+/// Operations, an order of them, and its earliest points, or none where there are no such points.
+type Timed = (
+    &'static [Op<Band>],
+    &'static [usize],
+    Option<&'static [u64]>,
+);
+
+const TIMED: &[Timed] = &[
+    (
+        &[
+            finished!(0, Write, 3, 8, A),
+            finished!(1, Read, 1, 9, A),
+            finished!(2, Write, 6, 7, B),
+        ],
+        &[0, 1, 2],
+        Some(&[3, 3, 6]),
+    ),
+    (
+        &[finished!(0, Write, 8, 9, A), finished!(1, Read, 1, 7, A)],
+        &[0, 1],
+        None,
+    ),
+];
+
+/// Whether the points are these.
+fn are_points(found: Option<Items<u64>>, expected: Option<&[u64]>) -> bool {
+    match (found, expected) {
+        (Some(found), Some(points)) => found.as_slice() == points,
+        (None, None) => true,
+        _ => false,
     }
 }
 
-/// Whether the earliest points are these.
-fn has_points(
-    alloc: Global,
-    ops: &[Op<Band>],
-    order: &[usize],
-    expected: &[u64],
-) -> Result<bool, AllocError> {
-    Ok(match points_of(alloc, ops, order)? {
-        Some(found) => found.as_slice() == expected,
-        None => false,
-    })
+fn is_timed(alloc: Global, row: &Timed) -> Result<bool, AllocError> {
+    let (ops, order, expected) = *row;
+    let found = points(alloc, &history(alloc, NINE, ops)?, order)?;
+    Ok(are_points(found, expected))
 }
-
-const MEETING: &[Op<Band>] = &[
-    finished!(0, Kind::Write, 3, 8, A),
-    finished!(1, Kind::Read, 1, 9, A),
-    finished!(2, Kind::Write, 6, 7, B),
-];
-
-const LATER: &[Op<Band>] = &[
-    finished!(0, Kind::Write, 8, 9, A),
-    finished!(1, Kind::Read, 1, 7, A),
-];
 
 #[test]
 fn earliest_points(rt: HostRuntime) -> Result<(), Fail> {
-    assert!(rt; has_points(rt.alloc(), MEETING, &[0, 1, 2], &[3, 3, 6])?);
-    assert!(rt; points_of(rt.alloc(), LATER, &[0, 1])?.is_none());
+    for (place, row) in TIMED.iter().enumerate() {
+        assert!(rt; is_timed(rt.alloc(), row)?, "row {place}");
+    }
     Ok(())
 }

@@ -1,20 +1,42 @@
-//! Worked rows: what they share. The expected intervals, stamps, slots, answers and orders are those of the rows.
+//! Worked rows of matrices and boards: what they share. The expected intervals, stamps, slots, answers and orders are those of the rows.
 
 ghost use Rattle.std.specs.Prelude.{◌≡◌, ◌<◌, IsTrue};
 ghost use Rattle.matrix_core.specs.Runs.{CanPlay, IsTerm, step_count};
 
+/// An operation of a row.
+macro_rules! op {
+    ($kind:ident, $who:expr, $starts:expr, $ends:expr, $item:expr) => {
+        Op {
+            who: $who,
+            kind: Kind::$kind,
+            starts: $starts,
+            ends: $ends,
+            item: $item,
+        }
+    };
+}
+
+/// The stamp of an operation of a row.
+macro_rules! stamp {
+    ($tag:expr, $writer:expr) => {
+        Some(Stamp {
+            tag: $tag,
+            writer: $writer,
+        })
+    };
+}
+
 mod boards;
+mod limits;
 mod matrices;
-mod sizes;
+mod stepped;
 
 use history_core::{
-    Band, History, Items, Kind, MAX_LIMIT, Op, PlayError, Term, Verdict, Wish, check_order,
+    Band, History, Items, Kind, MAX_LIMIT, Op, PlayError, Verdict, Wish, check_order,
 };
-use matrix_core::{MatrixReport, MatrixSchedule, MatrixTerm};
-use matrix_play::play_matrix;
+use matrix_core::MatrixTerm;
 use stamps::Stamp;
 use std::alloc::{AllocError, Global};
-use std::process::Abort;
 
 pub(crate) const OPENING: Band = Band {
     lo: 0,
@@ -40,88 +62,59 @@ pub(crate) const C: Band = Band {
     hi: 3,
 };
 
-/// A term: its limit, what each process is to do, and the process of each step.
-pub(crate) fn term(
-    alloc: Global,
-    limit: u64,
-    plans: &[&[Wish<Band>]],
-    steps: &[usize],
-) -> Result<MatrixTerm<Band>, AllocError> {
+/// A term of a row: its limit, what each process is to do, and the steps: how many of which process, one after the other.
+#[derive(Clone, Copy)]
+pub(crate) struct Planned {
+    pub(crate) limit: u64,
+    pub(crate) plans: &'static [&'static [Wish<Band>]],
+    pub(crate) runs: &'static [(usize, usize)],
+}
+
+/// What a row tells: the operations, their stamps, and their order.
+#[derive(Clone, Copy)]
+pub(crate) struct Told {
+    pub(crate) ops: &'static [Op<Band>],
+    pub(crate) stamps: &'static [Option<Stamp>],
+    pub(crate) order: &'static [usize],
+}
+
+/// So many steps of each of these processes, one process after the other.
+pub(crate) fn steps_of(alloc: Global, runs: &[(usize, usize)]) -> Result<Vec<usize>, AllocError> {
+    let mut steps = Vec::new(alloc);
+    for (process, count) in runs {
+        for _ in 0..*count {
+            steps.push(*process)?;
+        }
+    }
+    Ok(steps)
+}
+
+fn plans_of(alloc: Global, plans: &[&[Wish<Band>]]) -> Result<Vec<Items<Wish<Band>>>, AllocError> {
     let mut all = Vec::new(alloc);
     for plan in plans {
         all.push(Items::new(plan.to_vec(alloc)?))?;
     }
+    Ok(all)
+}
+
+fn term_of(alloc: Global, planned: &Planned) -> Result<MatrixTerm<Band>, AllocError> {
+    let plans = Items::new(plans_of(alloc, planned.plans)?);
     Ok(MatrixTerm {
-        limit,
-        plans: Items::new(all),
-        steps: Items::new(steps.to_vec(alloc)?),
+        limit: planned.limit,
+        plans,
+        steps: Items::new(steps_of(alloc, planned.runs)?),
     })
 }
 
-pub(crate) fn schedule(
+pub(crate) fn terms_of(
     alloc: Global,
-    first: MatrixTerm<Band>,
-) -> Result<MatrixSchedule<Band>, AllocError> {
+    planned: &[Planned],
+) -> Result<Vec<MatrixTerm<Band>>, AllocError> {
     let mut terms = Vec::new(alloc);
-    terms.push(first)?;
-    Ok(MatrixSchedule {
-        opening: OPENING,
-        terms: Items::new(terms),
-    })
-}
-
-pub(crate) fn schedule_of_two(
-    alloc: Global,
-    first: MatrixTerm<Band>,
-    second: MatrixTerm<Band>,
-) -> Result<MatrixSchedule<Band>, AllocError> {
-    let mut terms = Vec::new(alloc);
-    terms.push(first)?;
-    terms.push(second)?;
-    Ok(MatrixSchedule {
-        opening: OPENING,
-        terms: Items::new(terms),
-    })
-}
-
-/// A term in which the first of n processes writes and then the last one reads, each in so many accesses for each other process.
-pub(crate) fn first_and_last(
-    alloc: Global,
-    n: usize,
-    accesses: usize,
-) -> Result<MatrixTerm<Band>, AllocError> {
-    let mut plans = Vec::new(alloc);
-    for process in 0..n {
-        let wish = if process == 0 {
-            Wish::Write(A)
-        } else {
-            Wish::Read
-        };
-        plans.push(Items::new(vec![in alloc; wish]?))?;
+    for term in planned {
+        terms.push(term_of(alloc, term)?)?;
     }
-    let last = n.saturating_sub(1);
-    let mut steps = Vec::new(alloc);
-    for process in [0, last] {
-        for _ in 0..last.saturating_mul(accesses) {
-            steps.push(process)?;
-        }
-    }
-    Ok(MatrixTerm {
-        limit: 9,
-        plans: Items::new(plans),
-        steps: Items::new(steps),
-    })
-}
-
-/// The operations of such a term.
-pub(crate) fn first_and_last_ops(n: usize, accesses: u64) -> [Op<Band>; 2] {
-    let last = n.saturating_sub(1);
-    let each = accesses.saturating_mul(last as u64);
-    let ends = each.saturating_mul(2).saturating_sub(1);
-    [
-        op(Kind::Write, 0, 0, Some(each.saturating_sub(1)), Some(A)),
-        op(Kind::Read, last, each, Some(ends), Some(A)),
-    ]
+    Ok(terms)
 }
 
 fn is_term(term: &MatrixTerm<Band>) -> bool
@@ -148,97 +141,9 @@ pub(crate) fn can_play(terms: &[MatrixTerm<Band>]) -> bool
     steps < u64::MAX && 0 < terms.len()
 }
 
-pub(crate) fn play(
-    schedule: &MatrixSchedule<Band>,
-    alloc: Global,
-) -> Option<Result<MatrixReport<Band>, PlayError>> {
-    if can_play(schedule.terms.as_slice()) {
-        Some(play_matrix(alloc, schedule))
-    } else {
-        None
-    }
-}
-
-pub(crate) fn op(
-    kind: Kind,
-    who: usize,
-    starts: u64,
-    ends: Option<u64>,
-    item: Option<Band>,
-) -> Op<Band> {
-    Op {
-        who,
-        kind,
-        starts,
-        ends,
-        item,
-    }
-}
-
-pub(crate) fn stamp(tag: u64, writer: usize) -> Option<Stamp> {
-    Some(Stamp { tag, writer })
-}
-
 /// Whether the history opens so and has these operations, and this order of them is lawful.
-fn has(history: &History<Band>, opening: Band, ops: &[Op<Band>], order: &[usize]) -> bool {
-    history.opening == opening
+pub(crate) fn has(history: &History<Band>, ops: &[Op<Band>], order: &[usize]) -> bool {
+    history.opening == OPENING
         && history.ops.as_slice() == ops
         && check_order(history, order) == Verdict::Lawful
-}
-
-/// Whether the terms begin at these places, and have the limits that were planned.
-fn has_terms(terms: &[Term], firsts: &[usize], planned: &[MatrixTerm<Band>]) -> bool {
-    let mut same = terms.len() == firsts.len();
-    for (told, first) in terms.iter().zip(firsts) {
-        same = same & (told.first == *first);
-    }
-    for (told, planned) in terms.iter().zip(planned) {
-        same = same & (told.limit == planned.limit);
-    }
-    same
-}
-
-/// Whether the report has these operations with these stamps, and this order of them.
-fn tells(
-    report: &MatrixReport<Band>,
-    opening: Band,
-    ops: &[Op<Band>],
-    stamps: &[Option<Stamp>],
-    order: &[usize],
-) -> bool {
-    has(&report.history, opening, ops, order)
-        && report.stamps.as_slice() == stamps
-        && report.order.as_slice() == order
-}
-
-/// The report of a schedule is this one, whose terms begin at these places, and its order is lawful.
-pub(crate) fn gives(
-    rt: &impl Abort,
-    alloc: Global,
-    schedule: &MatrixSchedule<Band>,
-    firsts: &[usize],
-    ops: &[Op<Band>],
-    stamps: &[Option<Stamp>],
-    order: &[usize],
-) {
-    match play(schedule, alloc) {
-        Some(Ok(report)) => {
-            let terms = report.history.terms.as_slice();
-            assert!(rt; has_terms(terms, firsts, schedule.terms.as_slice()));
-            assert!(rt; tells(&report, schedule.opening, ops, stamps, order));
-        }
-        _ => panic!(rt; "not played"),
-    }
-}
-
-pub(crate) fn stops_at(
-    rt: &impl Abort,
-    alloc: Global,
-    schedule: &MatrixSchedule<Band>,
-    position: u64,
-) {
-    match play(schedule, alloc) {
-        Some(Err(e)) => assert!(rt; e == PlayError::TooManySteps { position }),
-        _ => panic!(rt; "not refused"),
-    }
 }

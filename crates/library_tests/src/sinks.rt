@@ -19,7 +19,6 @@ impl io::Write for Closed {
 #[test]
 fn puts_an_empty_piece(rt: HostRuntime) {
     let mut out = Over::new(Closed);
-    assert_eq!(rt; out.put(b""), Ok(0));
-    assert_eq!(rt; out.put(b"a"), Err(Failed));
-    assert_eq!(rt; Sink::failures(&out), 1);
+    let (empty, piece) = (out.put(b""), out.put(b"a"));
+    assert!(rt; empty == Ok(0) && piece == Err(Failed) && Sink::failures(&out) == 1);
 }

@@ -69,29 +69,35 @@ fn through_cell(alloc: Global) -> Result<[Option<u64>; 6], AllocError> {
     Ok([None, None, Some(first), None, Some(second), Some(third)])
 }
 
-fn made(slot: u8, latest: bool, reading: bool, bits: [bool; 2], answer: Option<u64>) -> Row {
-    Row {
-        slot: Some(slot),
-        bits: Bits {
-            latest,
-            reading,
-            slot: bits,
-        },
-        answer,
-    }
+/// What a call shows, in a constant.
+macro_rules! made {
+    ($slot:expr, $latest:expr, $reading:expr, $bits:expr, $answer:expr) => {
+        Row {
+            slot: Some($slot),
+            bits: Bits {
+                latest: $latest,
+                reading: $reading,
+                slot: $bits,
+            },
+            answer: $answer,
+        }
+    };
 }
+
+const ROWS: [Row; 6] = [
+    made!(3, true, false, [false, true], None),
+    made!(2, true, false, [false, false], None),
+    made!(2, true, true, [false, false], Some(2)),
+    made!(1, false, true, [true, false], None),
+    made!(1, false, false, [true, false], Some(3)),
+    made!(1, false, false, [true, false], Some(3)),
+];
+
+const ANSWERS: [Option<u64>; 6] = [None, None, Some(2), None, Some(3), Some(3)];
 
 #[test]
 fn core_beside_cell(rt: HostRuntime) -> Result<(), Fail> {
-    let rows = [
-        made(3, true, false, [false, true], None),
-        made(2, true, false, [false, false], None),
-        made(2, true, true, [false, false], Some(2)),
-        made(1, false, true, [true, false], None),
-        made(1, false, false, [true, false], Some(3)),
-        made(1, false, false, [true, false], Some(3)),
-    ];
-    assert!(rt; through_core() == rows);
-    assert!(rt; through_cell(rt.alloc())? == [None, None, Some(2), None, Some(3), Some(3)]);
+    assert!(rt; through_core() == ROWS);
+    assert!(rt; through_cell(rt.alloc())? == ANSWERS);
     Ok(())
 }

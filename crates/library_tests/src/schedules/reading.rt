@@ -31,11 +31,6 @@ fn is_cell_read(alloc: Global) -> bool {
     }
 }
 
-#[test]
-fn reads_a_schedule(rt: HostRuntime) {
-    assert!(rt; is_cell_read(rt.alloc()));
-}
-
 const CHECK: &[u8] = br#"{"kind":"check","opening":[0,0,0],"limit":9,"ops":[],"order":[7]}"#;
 
 const RACE: &[u8] =
@@ -50,11 +45,6 @@ fn is_history_read(alloc: Global) -> bool {
         }
         Err(_) => false,
     }
-}
-
-#[test]
-fn reads_a_history(rt: HostRuntime) {
-    assert!(rt; is_history_read(rt.alloc()));
 }
 
 /// Whether one script reads, and the other one writes.
@@ -78,8 +68,10 @@ fn is_race_read(alloc: Global) -> bool {
 }
 
 #[test]
-fn reads_a_race(rt: HostRuntime) {
-    assert!(rt; is_race_read(rt.alloc()));
+fn reads_documents(rt: HostRuntime) {
+    assert!(rt; is_cell_read(rt.alloc()), "a schedule");
+    assert!(rt; is_history_read(rt.alloc()), "a history");
+    assert!(rt; is_race_read(rt.alloc()), "a race");
 }
 
 /// The refusals of the bytes as a history, as a schedule and as a race, or none where they are accepted.
@@ -94,21 +86,26 @@ fn refusals(alloc: Global, bytes: &[u8]) -> [Option<DocError>; 3] {
     }
 }
 
+const KIND: Option<DocError> = Some(DocError::Kind);
+
+const NOT_JSON: Option<DocError> = Some(DocError::NotJson);
+
+const MISSING: Option<DocError> = Some(DocError::Missing(Key::Opening));
+
+const REFUSED: &[(&[u8], [Option<DocError>; 3])] = &[
+    (CHECK, [None, KIND, KIND]),
+    (CELL, [KIND, None, KIND]),
+    (RACE, [KIND, KIND, None]),
+    (b"{", [NOT_JSON, NOT_JSON, NOT_JSON]),
+    (br#"{"kind":"race"}"#, [KIND, KIND, MISSING]),
+    (br#"{"kind":"check"}"#, [MISSING, KIND, KIND]),
+    (br#"{"kind":"board"}"#, [KIND, MISSING, KIND]),
+];
+
 #[test]
 fn refuses(rt: HostRuntime) {
-    let kind = Some(DocError::Kind);
-    let not_json = Some(DocError::NotJson);
-    let missing = Some(DocError::Missing(Key::Opening));
-    for (bytes, refused) in [
-        (CHECK, [None, kind, kind]),
-        (CELL, [kind, None, kind]),
-        (RACE, [kind, kind, None]),
-        (b"{".as_slice(), [not_json; 3]),
-        (br#"{"kind":"race"}"#.as_slice(), [kind, kind, missing]),
-        (br#"{"kind":"check"}"#.as_slice(), [missing, kind, kind]),
-        (br#"{"kind":"board"}"#.as_slice(), [kind, missing, kind]),
-    ] {
-        assert_eq!(rt; refusals(rt.alloc(), bytes), refused);
+    for (place, (bytes, refused)) in REFUSED.iter().enumerate() {
+        assert!(rt; refusals(rt.alloc(), bytes) == *refused, "row {place}");
     }
 }
 
@@ -117,19 +114,21 @@ fn is_told(alloc: Global, refusal: DocError, text: &str) -> Result<bool, AllocEr
     Ok(format!(in alloc; "{refusal}")?.as_str() == text)
 }
 
+const TOLD: &[(DocError, &str)] = &[
+    (DocError::Long, "longer than 1048576 bytes"),
+    (DocError::NotJson, "not JSON"),
+    (DocError::Kind, "kind"),
+    (DocError::Missing(Key::Opening), "missing opening"),
+    (DocError::Shape(Key::Limit), "shape of limit"),
+    (DocError::Range(Key::Ops), "range of ops"),
+    (DocError::Law(Key::Order), "law of order"),
+    (DocError::NoMemory, "out of memory"),
+];
+
 #[test]
 fn shows_refusals(rt: HostRuntime) -> Result<(), Fail> {
-    for (refusal, text) in [
-        (DocError::Long, "longer than 1048576 bytes"),
-        (DocError::NotJson, "not JSON"),
-        (DocError::Kind, "kind"),
-        (DocError::Missing(Key::Opening), "missing opening"),
-        (DocError::Shape(Key::Limit), "shape of limit"),
-        (DocError::Range(Key::Ops), "range of ops"),
-        (DocError::Law(Key::Order), "law of order"),
-        (DocError::NoMemory, "out of memory"),
-    ] {
-        assert!(rt; is_told(rt.alloc(), refusal, text)?, "{text}");
+    for (refusal, text) in TOLD {
+        assert!(rt; is_told(rt.alloc(), *refusal, text)?, "{text}");
     }
     Ok(())
 }

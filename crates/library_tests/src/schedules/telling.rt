@@ -22,16 +22,18 @@ fn puts_pieces(rt: HostRuntime) {
     assert!(rt; line.as_bytes() == b"10: ---".as_slice());
 }
 
+const VERDICTS: &[(Verdict, &str)] = &[
+    (Verdict::Lawful, "lawful\n"),
+    (Verdict::Listing, "unlawful listing\n"),
+    (Verdict::Precedence, "unlawful precedence\n"),
+    (Verdict::Reading, "unlawful reading\n"),
+    (Verdict::Limit, "unlawful limit\n"),
+];
+
 #[test]
 fn prints_verdicts(rt: HostRuntime) {
-    for (verdict, line) in [
-        (Verdict::Lawful, "lawful\n"),
-        (Verdict::Listing, "unlawful listing\n"),
-        (Verdict::Precedence, "unlawful precedence\n"),
-        (Verdict::Reading, "unlawful reading\n"),
-        (Verdict::Limit, "unlawful limit\n"),
-    ] {
-        assert_eq!(rt; verdict_text(verdict), line);
+    for (verdict, line) in VERDICTS {
+        assert!(rt; verdict_text(*verdict) == *line, "{line}");
     }
 }
 
