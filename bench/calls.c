@@ -1,0 +1,73 @@
+/* Calls of the library for C, for a counter of instructions: makes one register, or one board whose places call in turn in one
+ * thread, and calls it N times. Each call goes through a function that passes its arguments on.
+ *   calls list               names what can be called, a line each
+ *   calls NAME OP PLACES N   OP is write or read; PLACES is 0 for a register */
+#include <nidzaru.h>
+#include <stdio.h>
+#include <stdlib.h>
+
+#define PASSES_ON __attribute__((noinline)) static uint32_t
+
+static uint64_t record[512];
+static nidzaru_side sides[16];
+
+/* The loops of a register. */
+#define CELL(cell)                                                                                              \
+    PASSES_ON pass_write_##cell(nidzaru_side *w, const void *item) { return nidzaru_##cell##_write(w, item); }   \
+    PASSES_ON pass_read_##cell(nidzaru_side *r, void *item, uint64_t *number) {                                  \
+        return nidzaru_##cell##_read(r, item, number);                                                           \
+    }                                                                                                            \
+    static int call_##cell(int writes, size_t places, long calls) {                                              \
+        uint64_t number;                                                                                         \
+        if (places || nidzaru_##cell##_make(record, &sides[0], &sides[1])) return 1;                             \
+        if (writes) {                                                                                            \
+            for (long i = 0; i < calls; ++i)                                                                     \
+                if (pass_write_##cell(&sides[0], record)) return 1;                                              \
+        } else {                                                                                                 \
+            for (long i = 0; i < calls; ++i)                                                                     \
+                if (pass_read_##cell(&sides[1], record, &number)) return 1;                                      \
+        }                                                                                                        \
+        return 0;                                                                                                \
+    }
+
+/* The loops of a board. */
+#define BOARD(board)                                                                                            \
+    PASSES_ON pass_write_##board(nidzaru_side *p, const void *item, nidzaru_stamp *stamp) {                      \
+        return nidzaru_##board##_write(p, item, stamp);                                                          \
+    }                                                                                                            \
+    PASSES_ON pass_read_##board(nidzaru_side *p, void *item, nidzaru_stamp *stamp) {                             \
+        return nidzaru_##board##_read(p, item, stamp);                                                           \
+    }                                                                                                            \
+    static int call_##board(int writes, size_t places, long calls) {                                             \
+        nidzaru_stamp stamp;                                                                                     \
+        size_t turn = 0;                                                                                         \
+        if (nidzaru_##board##_make(record, NIDZARU_UNLIMITED, sides, places)) return 1;                          \
+        for (long i = 0; i < calls; ++i) {                                                                       \
+            if (writes ? pass_write_##board(&sides[turn], record, &stamp)                                        \
+                       : pass_read_##board(&sides[turn], record, &stamp)) return 1;                              \
+            turn = turn + 1 == places ? 0 : turn + 1;                                                            \
+        }                                                                                                        \
+        return 0;                                                                                                \
+    }
+
+#define EACH(CELL, BOARD)                                                                                       \
+    CELL(24) CELL(256) CELL(4096) CELL(triple_24) CELL(triple_256) CELL(triple_4096)                             \
+    BOARD(board_24) BOARD(triple_board_24)
+
+EACH(CELL, BOARD)
+
+#define NAMED(name) {#name, call_##name},
+static const struct {
+    const char *name;
+    int (*call)(int writes, size_t places, long calls);
+} loops[] = {EACH(NAMED, NAMED)};
+
+int main(int count, char **words) {
+    for (size_t i = 0; i < sizeof loops / sizeof *loops; ++i) {
+        if (count == 2) puts(loops[i].name);
+        if (count == 5 && !strcmp(words[1], loops[i].name)) {
+            return loops[i].call(!strcmp(words[2], "write"), (size_t)atoi(words[3]), atol(words[4]));
+        }
+    }
+    return count != 2;
+}
