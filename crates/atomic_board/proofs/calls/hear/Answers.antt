@@ -1,5 +1,5 @@
 -- The answer is the record that was lent, and what the closure tells of it is of its stamp.
-use Rattle.std.proofs.Common.{ap, ◌∙◌}
+use Rattle.std.proofs.Common.{ap, ◌∙◌, rules}
 use Rattle.atomic_board.specs.Records.{above}
 use Rattle.atomic_board.proofs.calls.hear.Goals as goal
 
@@ -15,3 +15,12 @@ returns g c =
       writes = c.read_with-newer.ensures.others.1;
       raised = c.take.ensures x.0 (x.3.1 ∙ ap (λ z. above c.args.seen.now.stamp z) x.3.2);
     }
+
+pub read_with-newer-requires-clause-own : goal.read_with-newer-requires-clause-own
+read_with-newer-requires-clause-own g c = search rules
+
+pub read_with-newer-requires-clause-other : goal.read_with-newer-requires-clause-other
+read_with-newer-requires-clause-other g c = search rules
+
+pub read_with-newer-requires-clause-callable : goal.read_with-newer-requires-clause-callable
+read_with-newer-requires-clause-callable g c = search rules

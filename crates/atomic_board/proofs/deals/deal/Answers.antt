@@ -1,5 +1,5 @@
 -- Each seat has become a pass, in their order.
-use Rattle.std.proofs.Common.{arith, ap, refl, sym, subst, ◌∙◌, ◌≡◌, ◌+◌, ◌∷◌, [], length, length-append}
+use Rattle.std.proofs.Common.{arith, ap, refl, sym, subst, ◌∙◌, ◌≡◌, ◌+◌, ◌∷◌, [], length, length-append, rules}
 use Rattle.atomic_board.proofs.Dealing.{all_dealt, ArePasses, dealt_more, is_new, IsRoom}
 use Rattle.atomic_board.proofs.deals.deal.Goals as goal
 
@@ -35,3 +35,27 @@ returns g c =
     c.in_ok-family.ensures.seats.1 c.in_ok-family.ensures.unused
     (subst (ArePasses c.args.n c.args.first 0 seats.items) (sym c.reverse.ensures.items)
     (all_dealt c.args.n c.args.first seats.items c.loop.seats.items c.loop.passes.items h.0 none))
+
+pub returns-in_err-room : goal.returns-in_err-room
+returns-in_err-room g c = search rules
+
+pub returns-in_err-passes : goal.returns-in_err-passes
+returns-in_err-passes g c = search rules
+
+pub make-requires-clause-lawful : goal.make-requires-clause-lawful
+make-requires-clause-lawful g c = search rules
+
+pub make-requires-clause-processes : goal.make-requires-clause-processes
+make-requires-clause-processes g c = search rules
+
+pub returns-in_err-family : goal.returns-in_err-family
+returns-in_err-family g c = search rules
+
+pub loop-init : goal.loop-init
+loop-init g c = search rules
+
+pub push_reserved-requires : goal.push_reserved-requires
+push_reserved-requires g c = search rules
+
+pub loop-smaller : goal.loop-smaller
+loop-smaller g c = search rules

@@ -24,3 +24,12 @@ returns g c =
       greatest = λ i p at. h.greatest i p (let l = slice_get_within c.args.passes.now.items i p at in search rules) at;
       earliest = h.earliest;
     }
+
+pub index-requires : goal.index-requires
+index-requires g c = search rules
+
+pub index-requires-in-loop-k : goal.index-requires-in-loop-k
+index-requires-in-loop-k g c = search rules
+
+pub loop-k-smaller : goal.loop-k-smaller
+loop-k-smaller g c = search rules

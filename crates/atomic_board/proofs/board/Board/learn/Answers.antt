@@ -1,5 +1,5 @@
 -- Nothing was read or written; what was told is in no history.
-use Rattle.std.proofs.Common.{refl, sym, ◌∙◌, ap, subst, ◌≡◌}
+use Rattle.std.proofs.Common.{refl, sym, ◌∙◌, ap, subst, ◌≡◌, rules}
 use Rattle.family_live.specs.Accesses.{IsHeardRead, KeepsOthers}
 use Rattle.atomic_board.proofs.Same.{after_learn}
 use Rattle.atomic_board.proofs.board.Board.learn.Goals as goal
@@ -36,3 +36,9 @@ returns-clause-learnt g c =
           (c.learn.ensures.heard (λ e. ne (sym from ∙ e ∙ p.who))));
       others = subst (λ z. KeepsOthers z (w.reads old) (w.reads new)) from c.learn.ensures.others.1;
     }
+
+pub learn-requires : goal.learn-requires
+learn-requires g c = search rules
+
+pub returns-clause-pass : goal.returns-clause-pass
+returns-clause-pass g c = search rules

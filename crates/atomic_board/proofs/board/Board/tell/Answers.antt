@@ -1,5 +1,5 @@
 -- Nothing was read or written, and what a process wrote last to each other one is its own record.
-use Rattle.std.proofs.Common.{refl, ◌∙◌, ap, ◌<◌, arith}
+use Rattle.std.proofs.Common.{refl, ◌∙◌, ap, ◌<◌, arith, rules}
 use Rattle.cell_live.specs.Running.{last_or}
 use Rattle.atomic_board.proofs.Same.{after_tell}
 use Rattle.atomic_board.proofs.board.Board.tell.Goals as goal
@@ -36,3 +36,9 @@ returns-clause-told g c =
       time = told.2;
       reads = c.tell-told.ensures.calls.1;
     }
+
+pub tell-told-requires : goal.tell-told-requires
+tell-told-requires g c = search rules
+
+pub returns-clause-pass : goal.returns-clause-pass
+returns-clause-pass g c = search rules

@@ -1,5 +1,5 @@
 -- The same as a read's, for both ends of a write: what is chosen is the item under the next stamp, or what was seen.
-use Rattle.std.proofs.Common.{◌≡◌, sym, ◌∙◌, ap, subst, inl, inr, arith}
+use Rattle.std.proofs.Common.{◌≡◌, sym, ◌∙◌, ap, subst, inl, inr, arith, rules}
 use Rattle.std.specs.Prelude.{IsTrue}
 use Rattle.history_core.specs.declared.history.Kind.TheVariants.{Write, Refused}
 use Rattle.stamps.specs.Stamps.{IsBelow}
@@ -65,3 +65,33 @@ returns-in-Some-clause-raised g c =
 pub returns-in-None-clause-lawful : goal.returns-in-None-clause-lawful
 returns-in-None-clause-lawful g c =
     subst (λ (z : Posted _). IsTrue (g.V.RecordLaw.obeys z.item)) (sym (chose_none g c)) c.column.ensures.lawful
+
+pub column-requires-clause-of : goal.column-requires-clause-of
+column-requires-clause-of g c = search rules
+
+pub column-requires-clause-lawful : goal.column-requires-clause-lawful
+column-requires-clause-lawful g c = search rules
+
+pub next-next-requires : goal.next-next-requires
+next-next-requires g c = search rules
+
+pub row-requires-clause-of : goal.row-requires-clause-of
+row-requires-clause-of g c = search rules
+
+pub row-requires-clause-opens : goal.row-requires-clause-opens
+row-requires-clause-opens g c = search rules
+
+pub row-requires-clause-last : goal.row-requires-clause-last
+row-requires-clause-last g c = search rules
+
+pub row-requires-clause-rises : goal.row-requires-clause-rises
+row-requires-clause-rises g c = search rules
+
+pub row-requires-clause-lawful : goal.row-requires-clause-lawful
+row-requires-clause-lawful g c = search rules
+
+pub returns-in-Some-clause-lawful : goal.returns-in-Some-clause-lawful
+returns-in-Some-clause-lawful g c = search rules
+
+pub returns-in-None-clause-raised : goal.returns-in-None-clause-raised
+returns-in-None-clause-raised g c = search rules
