@@ -29,6 +29,12 @@
 //! # Ok::<(), Box<dyn std::error::Error>>(())
 //! ```
 //!
+//! # The library
+//!
+//! The crate links the static library that `./install PREFIX` of its repository installs. Its build script asks the program
+//! `pkg-config` where that is: each command of cargo needs `PKG_CONFIG_PATH=PREFIX/lib/pkgconfig` in its environment, where `PREFIX`
+//! is an absolute path without blanks.
+//!
 //! # Numbers
 //!
 //! The opening is number 0, and each write has the next number. A number never falls from one read to the next, and one
@@ -43,7 +49,8 @@
 //!
 //! A record is of a type that is `Copy`, `Send` and `'static`, of at most 4,096 bytes and aligned to at most 8; others are
 //! refused when the program is compiled. What the writing thread did before a write comes before what the reading thread does
-//! once it has read that write's number or a greater one; nothing is ordered the other way round.
+//! once it has read that write's number or a greater one; nothing is ordered the other way round. The same holds along a board,
+//! from a write to a read that gives its record.
 //!
 //! # What is proved
 //!
