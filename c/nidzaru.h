@@ -16,7 +16,7 @@
  * number never falls from one read to the next, and one number is one record: a greater number than the last is news, and
  * what lies between them was missed. NIDZARU_REGISTER takes the four-slot cell, NIDZARU_TRIPLE_REGISTER the triple buffer.
  *
- * Each call on a register answers 0 or one of the numbers below, and then has changed nothing.
+ * Each call on a register answers 0 where it did what it says. Where it answers another of the numbers below it has changed nothing.
  *
  * What the caller owes and nothing checks stands in docs/C.md, "What C owes". */
 #ifndef NIDZARU_H
@@ -115,7 +115,7 @@ extern "C" {
 enum nidzaru_status {
     NIDZARU_DONE = 0,
     NIDZARU_NO_MEMORY = 1,  /* make: memory was refused */
-    NIDZARU_IN_USE = 2,     /* make: a handle has a side already */
+    NIDZARU_IN_USE = 2,     /* make, nidzaru_move: a handle that is to get a side has one already */
     NIDZARU_ENDED = 3,      /* the handle has no side: it was ended, or never made */
     NIDZARU_WORN_OUT = 4,   /* write: all 2^64 - 1 numbers are used, or a board's tags have ended */
     NIDZARU_OTHER_SIDE = 5, /* the handle has another side, or a side of another cell or size */
@@ -140,6 +140,7 @@ typedef struct {
     void *order;
 } nidzaru_handle;
 
+/* What a handle begins as: zeros. */
 #define NIDZARU_EMPTY {{{0, 0}, 0, 0}}
 
 NIDZARU_ASSERT(sizeof(void *) == 8, "the library is built for pointers of 8 bytes");
@@ -291,7 +292,8 @@ NIDZARU_INLINE int nidzaru_is_copied(const nidzaru_handle *handle) {
     return handle->side.live && handle->home != (const void *)handle;
 }
 
-/* Takes the side to another handle, which must be empty. */
+/* Takes the side to another handle, as nidzaru_move(&to.handle, &from.handle), and leaves the first one empty. NIDZARU_IN_USE where the
+ * other one has a side, NIDZARU_COPIED where the first one is a copy. An empty handle is moved as such. */
 NIDZARU_CHECKED int nidzaru_move(nidzaru_handle *to, nidzaru_handle *from) {
     if (!to || !from) return NIDZARU_NULL;
     if (to->side.live) return NIDZARU_IN_USE;
