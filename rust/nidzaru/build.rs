@@ -24,6 +24,7 @@ fn link() -> Result<(), String> {
     for word in ask(&["--libs"])?.split_whitespace() {
         if let Some(folder) = word.strip_prefix("-L") {
             println!("cargo:rustc-link-search=native={folder}");
+            println!("cargo:rerun-if-changed={folder}/libnidzaru.a");
         } else if let Some(name) = word.strip_prefix("-l") {
             println!("cargo:rustc-link-lib=static={name}");
         }
