@@ -1,5 +1,5 @@
 //! The tasks call in turn, with the passes of a board of three.
-ghost use Rattle.std.specs.Prelude.{◌≡◌, ◌≤◌, IfOk, length};
+ghost use Rattle.std.specs.Prelude.{◌≡◌, IfOk, length};
 ghost use Rattle.atomic_board.specs.Ends.{AllPasses};
 ghost use Rattle.atomic_board.specs.Receipts.{IsReceipt};
 ghost use Rattle.board_control.specs.Turns.{in_order};

@@ -1,5 +1,5 @@
 -- One read more, and its command.
-use Rattle.std.proofs.Common.{[], refl, subst}
+use Rattle.std.proofs.Common.{[], refl, subst, rules}
 use Rattle.board_control.specs.Turns.{no_read}
 use Rattle.board_control.proofs.Runs.{one_command}
 use Rattle.board_control.proofs.tasks.control.Goals as goal
@@ -21,3 +21,6 @@ returns-then-is_told g c =
     c.args.motor.now c.loop.motor c.send.new.self c.loop.invariant.calls c.loop.invariant.reads c.loop.invariant.drives
     c.steer-command.ensures.call
     (subst (λ z. g.M.Motor.was_sent c.loop.motor z c.send.new.self) c.steer-command.ensures.command c.send.ensures)
+
+pub steer-command-requires : goal.steer-command-requires
+steer-command-requires g c = search rules

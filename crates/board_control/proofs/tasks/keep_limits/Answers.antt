@@ -1,5 +1,5 @@
 -- One turn more.
-use Rattle.std.proofs.Common.{[], refl}
+use Rattle.std.proofs.Common.{[], refl, rules}
 use Rattle.board_control.specs.Turns.{SetsLimits, no_turn}
 use Rattle.board_control.proofs.Runs.{has_run}
 use Rattle.board_control.proofs.tasks.keep_limits.Goals as goal
@@ -17,3 +17,9 @@ pub returns-then-is_err : goal.returns-then-is_err
 returns-then-is_err g c =
     has_run g.F.Family c.args.shared.now.board SetsLimits c.args.pass.now c.loop.invariant.calls _ c.loop.pass c.set_limits-set.new.pass
     c.set_limits-set.result c.loop.invariant.turns (_, _, refl) c.set_limits-set.ensures.turn
+
+pub set_limits-set-requires-clause-pass : goal.set_limits-set-requires-clause-pass
+set_limits-set-requires-clause-pass g c = search rules
+
+pub set_limits-set-requires-clause-limits : goal.set_limits-set-requires-clause-limits
+set_limits-set-requires-clause-limits g c = search rules
