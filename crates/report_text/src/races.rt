@@ -1,5 +1,5 @@
 //! The lines of a race's report.
-ghost use Rattle.std.specs.Prelude.{◌≡◌, ◌+◌, ◌≤◌, ◌++◌, OnOk, codes, length};
+ghost use Rattle.std.specs.Prelude.{◌≡◌, ◌+◌, ◌++◌, OnOk};
 ghost use Rattle.report_text.specs.Text.{broken_line, origin_line, task_line, task_lines};
 
 use crate::Counts;

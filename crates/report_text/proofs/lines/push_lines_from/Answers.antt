@@ -1,0 +1,23 @@
+-- What a turn prints is the first of the lines that are left.
+use Rattle.std.proofs.Common.{◌≡◌, ◌<◌, ◌+◌, ◌++◌, ◌∙◌, ℕ, List, ap, append_assoc, get_or, length, sym}
+use Rattle.std.proofs.lemmas.Option.{slice_get-get_or}
+use Rattle.history_core.specs.declared.band.Band.{Band}
+use Rattle.history_core.specs.declared.history.Op.{Op}
+use Rattle.matrix_core.proofs.lists.Elements.{drop_next}
+use Rattle.report_text.specs.Text.{lines_from, op_line, op_lines}
+use Rattle.report_text.proofs.lines.push_lines_from.Goals as goal
+
+one_line : (mark : ℕ → List ℕ) (ops : List (Op Band)) (place : ℕ) (default : Op Band) (old new whole : List ℕ) → place < length ops →
+    new ≡ old ++ op_line place (get_or ops place default) (mark place) → old ++ lines_from mark ops place ≡ whole →
+    new ++ lines_from mark ops (place + 1) ≡ whole
+one_line mark ops place default old new whole lt is was =
+    ap (λ text. text ++ lines_from mark ops (place + 1)) is
+    ∙ append_assoc old (op_line place (get_or ops place default) (mark place)) (lines_from mark ops (place + 1))
+    ∙ ap (λ rest. old ++ op_lines mark place rest)
+    (sym (drop_next ops place (get_or ops place default) (slice_get-get_or ops place default lt)))
+    ∙ was
+
+pub loop-place-preserved : goal.loop-place-preserved
+loop-place-preserved g c =
+    one_line (g.M.Marks.mark c.args.marks.now) c.args.ops.now c.loop-place.place _ c.loop-place.text.items c.push_line.new.text.items _
+    c.loop-place-test.true c.in_ok-push_line.ensures c.loop-place.invariant
