@@ -1,6 +1,6 @@
 //! The composed board and its events: a matrix each of whose cells is a four-slot cell of its own.
 
-ghost use Rattle.std.specs.Prelude.{◌≡◌, ◌+◌, ◌-◌, ◌*◌, ◌<◌, ◌≤◌, ℕ, IfOk, length, replicate, Some, slice_get, slice_set, vec_len};
+ghost use Rattle.std.specs.Prelude.{◌≡◌, ◌+◌, ◌-◌, ◌*◌, ◌<◌, ◌≤◌, IfOk, replicate, Some, slice_get, slice_set, vec_len};
 ghost use Rattle.history_core.specs.Schedules.{max_limit};
 ghost use Rattle.fourslot_core.specs.declared.state.State.{State};
 ghost use Rattle.fourslot_core.specs.Events.{IsReadEvent, IsWriteEvent, opening_state};

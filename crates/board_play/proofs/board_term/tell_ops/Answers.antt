@@ -2,7 +2,7 @@
 use Rattle.std.proofs.Common.{rules, ◌≡◌, ◌<◌, length, sym, refl, ◌∙◌, ap, set}
 use Rattle.std.specs.Prelude.{slice_get, Some}
 use Rattle.std.proofs.lemmas.Option.{slice_get_read}
-use Rattle.board_play.proofs.boards.Telling.{tells_choice, tells_end}
+use Rattle.board_play.proofs.boards.Telling.{tells_choice, tells_end, tells_nothing}
 use Rattle.board_play.proofs.board_term.tell_ops.Goals as goal
 
 pub returns-then-seat-n : goal.returns-then-seat-n
@@ -21,3 +21,7 @@ returns-then-seat-n-2 g c =
     ap (set c.args.ops.now.items c.args.seat.place) c.ended.ensures
     ∙ sym (tells_end c.args.n c.args.seat c.args.now c.args.line.now c.args.ops.now.items c.index-then-seat-n-2.result.now
     c.if-seat-n.false c.if-seat-n-2.true was)
+
+pub returns-else-seat-n-2 : goal.returns-else-seat-n-2
+returns-else-seat-n-2 g c =
+    sym (tells_nothing c.args.n c.args.seat c.args.now c.args.line.now c.args.ops.now.items c.if-seat-n.false c.if-seat-n-2.false)

@@ -1,5 +1,5 @@
 -- After the last turn all rows are taken.
-use Rattle.std.proofs.Common.{◌≡◌, ◌∙◌, ◌++◌, ◌∷◌, [], ap, sym, append-nil, append_assoc}
+use Rattle.std.proofs.Common.{rules, ◌≡◌, ◌∙◌, ◌++◌, ◌∷◌, [], ap, sym, append-nil, append_assoc}
 use Rattle.std.proofs.lemmas.Iterator.Adapters.{YieldsList-from_vec}
 use Rattle.std.proofs.lemmas.Iterator.Consumers.{YieldsList-end}
 use Rattle.board_play.specs.inner.BoardPlays.{BoardPlaying}
@@ -25,3 +25,9 @@ returns-clause-slots g c =
     c.loop-row.invariant
     ∙ ap (λ rows. c.args.slots.now.items ++ rows) all
     ∙ ap (λ (p : BoardPlaying g.row.R.Denot). c.args.slots.now.items ++ p.slots) c.play.view_is
+
+pub returns-clause-ops : goal.returns-clause-ops
+returns-clause-ops g c = search rules
+
+pub returns-clause-stamps : goal.returns-clause-stamps
+returns-clause-stamps g c = search rules
