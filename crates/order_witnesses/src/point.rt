@@ -1,6 +1,6 @@
 //! The points of an order: a moment in each operation's interval, that never falls along the order.
 
-ghost use Rattle.std.specs.Prelude.{◌≡◌, ◌≤◌, ◌↔◌, ℕ, IfOk, IfSome, IsTrue, MatchOption, length};
+ghost use Rattle.std.specs.Prelude.{◌≡◌, ◌↔◌, IfOk, IsTrue, MatchOption, length};
 ghost use Rattle.order_witnesses.specs.inner.Earliest.{AreReached, begin_at, earliest, IsReached};
 ghost use Rattle.order_witnesses.specs.Points.{AreEarliest, HasPoints};
 

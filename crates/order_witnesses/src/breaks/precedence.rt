@@ -1,6 +1,6 @@
 //! What breaks the second rule: an operation that precedes one before it.
 
-ghost use Rattle.std.specs.Prelude.{◌≡◌, ◌<◌, ◌≤◌, ◌↔◌, ℕ, IfNone, IfSome, IsSomeAnd, IsTrue, MatchOption};
+ghost use Rattle.std.specs.Prelude.{◌≡◌, ◌<◌, ◌↔◌, IfNone, IfSome, IsSomeAnd, IsTrue};
 ghost use Rattle.order_witnesses.specs.Breaks.{IsOvertaken};
 ghost use Rattle.history_core.specs.Orders.{KeepsPrecedence, ListsPlaces};
 ghost use Rattle.order_witnesses.specs.inner.Searches.{later_of};
