@@ -9,7 +9,6 @@ use std::alloc::Global;
 use streams::{Sink, Source};
 
 /// The command `check`.
-#[derive(Clone, Copy, Debug, PartialEq, Eq)]
 struct Check;
 
 impl Command for Check {

@@ -15,7 +15,7 @@ pub struct Answer {
 }
 
 /// Why no order is looked for of a history. Places are those of its operations, counted from 0.
-#[derive(Clone, Copy, Debug, PartialEq, Eq, Error)]
+#[derive(Clone, Copy, Debug, Error)]
 pub enum HistoryFault {
     #[error("operations {first} and {second} write one record")]
     WritesTwice { first: usize, second: usize },
@@ -24,7 +24,7 @@ pub enum HistoryFault {
 }
 
 /// Why a document has no answer.
-#[derive(Clone, Copy, Debug, PartialEq, Eq, Error)]
+#[derive(Clone, Copy, Debug, Error)]
 pub enum Fault {
     #[error("document: {0}")]
     Document(DocError),

@@ -7,7 +7,7 @@ use std::alloc::Global;
 use streams::{InputFault, Sink, Source, read_input, tell, write_text};
 
 /// The name of a program, and the lines that it tells where a stream fails or memory runs out.
-#[derive(Clone, Copy, Debug, PartialEq, Eq)]
+#[derive(Clone, Copy, Debug)]
 pub struct Program {
     pub name: &'static str,
     pub read_failed: &'static str,

@@ -9,7 +9,6 @@ use std::alloc::Global;
 use streams::{Sink, Source};
 
 /// The command `order`.
-#[derive(Clone, Copy, Debug, PartialEq, Eq)]
 struct Order;
 
 impl Command for Order {
