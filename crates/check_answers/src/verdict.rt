@@ -1,33 +1,18 @@
 ghost use Rattle.std.specs.Prelude.{◌≡◌, IfOk};
 ghost use Rattle.document_runs.specs.Answers.{Gives};
 ghost use Rattle.check_answers.specs.Check.{AnswersCheck, IsCheckAnswer, printed, status_of};
-ghost use Rattle.history_text.specs.Check.{check_of};
-ghost use Rattle.history_text.specs.Refusals.{Gives as Reads};
 
 use document_runs::{Answer, Fault};
 use history_core::{Items, Verdict, check_order};
-use history_text::{CheckDocument, DocError, check_document, read_value, verdict_text};
+use history_text::{CheckDocument, read_check_leaking, verdict_text};
 use std::alloc::{AllocError, Global};
-use std::mem::forget;
 
 /// The answer of the command `check` to the bytes of a document: the verdict on its order.
 pub fn check(alloc: Global, bytes: &[u8]) -> Result<Answer, Fault>
     ensures { Gives (IsCheckAnswer bytes.now) result }
 {
-    let document = read(alloc, bytes)?;
+    let document = read_check_leaking(alloc, bytes)?;
     check_history(alloc, &document)
-}
-
-/// The document that the bytes stand for. The JSON value that they are is left unfreed: a run reads one document and ends, and
-/// the value goes with the process.
-#[tactic(auto, unfolding(history_text::specs::Check::check_of))]
-fn read(alloc: Global, bytes: &[u8]) -> Result<CheckDocument, DocError>
-    ensures { Reads (λ d. d) result (check_of bytes.now) }
-{
-    let value = read_value(alloc, bytes)?;
-    let document = check_document(alloc, &value);
-    forget(value);
-    document
 }
 
 /// The verdict on the order of a document.

@@ -1,10 +1,15 @@
 -- The lists of a document's values, by cases on their elements: serde_json's items are the document's, in their order.
-use Rattle.std.proofs.Common.{◌≡◌, ◌<◌, ◌≤◌, List, [], ◌∷◌, ◌++◌, length, map, refl, ap, sym, ◌∙◌, arith, Option, Some, None, option_map}
+use Rattle.std.proofs.Common.{◌≡◌, ◌<◌, ◌≤◌, ◌+◌, ℕ, zero, suc, List, [], ◌∷◌, ◌++◌, length, map, drop, refl, ap, sym, subst, ◌∙◌, arith, add-one}
+use Rattle.std.proofs.Common.{Bool, true, false, Option, Some, None, option_map, append_assoc}
+use Rattle.std.proofs.lemmas.List.{append-nil, drop_all}
+use Rattle.std.proofs.lemmas.Option.{none-some, same_Some}
+use Rattle.std.specs.Prelude.{slice_get, if◌then◌else◌}
+use Rattle.std.specs.Option.{option_and_then}
 use Rattle.serde_json.specs.Data.{Data}
 use Rattle.serde_json.specs.Find.{as_array}
 use Rattle.serde_json.specs.View.{view, items_of, items_view}
 use Rattle.serde_json.specs.declared.value.Value.{Value}
-use Rattle.history_text.specs.Shapes.{list_of, as_three, as_items}
+use Rattle.history_text.specs.Shapes.{all_of, list_of, as_three, as_items}
 
 pub list_of-items_of : (ds : List Data) → list_of (items_of ds) ≡ ds
 list_of-items_of [] = refl
@@ -29,3 +34,59 @@ as_three_long (a ∷ b ∷ c ∷ d ∷ rest) h = refl
 
 pub as_items_seen : (d : Data) (vs : List Value) → Some (items_view vs) ≡ as_array d → Some (map view vs) ≡ as_items d
 as_items_seen d vs e = ap Some (sym (list_of-items_of (map view vs))) ∙ ap (option_map list_of) e
+
+-- ---- a list that is read item by item: what was read stands in front of what the rest gives
+
+-- nothing was read yet
+pub with_nothing : {B : Type 0} (front : List B) (read : Option (List B)) → front ≡ [] → with_front front read ≡ read
+with_nothing front None e = refl
+with_nothing front (Some ys) e = ap (λ xs. Some (xs ++ ys)) e
+
+drop_suc : {X : Type 0} (xs : List X) (i : ℕ) (x : X) → slice_get xs i ≡ Some x → drop i xs ≡ x ∷ drop (suc i) xs
+drop_suc [] i x h = absurd (none-some x h)
+drop_suc (y ∷ ys) zero x h = ap (λ z. z ∷ ys) (same_Some y x h)
+drop_suc (y ∷ ys) (suc i) x h = drop_suc ys i x h
+
+-- the rest begins with the next item
+next_first : {A B C : Type 0} (f : C → Option B) (seen : A → C) (xs : List A) (i : ℕ) (x : A) → slice_get xs i ≡ Some x
+    → all_of f (map seen (drop i xs)) ≡ all_of f (seen x ∷ map seen (drop (i + 1) xs))
+next_first f seen xs i x at =
+    ap (λ l. all_of f (map seen l)) (drop_suc xs i x at ∙ ap (λ k. x ∷ drop k xs) (sym (add-one i)))
+
+-- what is there where an item was added, or refused
+abbrev pub added : {B : Type 0} → List B → Option B → Option (List B)
+added front read = option_map (λ y. front ++ y ∷ []) read
+
+one_added : {B : Type 0} (front now : List B) (read : Option B) (rest : Option (List B)) → Some now ≡ added front read
+    → with_front now rest ≡ with_front front (option_and_then (λ y. option_map (λ ys. y ∷ ys) rest) read)
+one_added front now None rest e = absurd (none-some now (sym e))
+one_added front now (Some y) None e = refl
+one_added front now (Some y) (Some ys) e = ap (λ l. Some (l ++ ys)) (same_Some now (front ++ y ∷ []) e) ∙ ap Some (append_assoc front (y ∷ []) ys)
+
+none_added : {B : Type 0} (front : List B) (read : Option B) (rest : Option (List B)) → None ≡ added front read
+    → with_front front (option_and_then (λ y. option_map (λ ys. y ∷ ys) rest) read) ≡ None
+none_added front None rest e = refl
+none_added front (Some y) rest e = absurd (none-some (front ++ y ∷ []) e)
+
+-- an item was read
+pub one_read : {A B C : Type 0} (f : C → Option B) (seen : A → C) (front now : List B) (xs : List A) (i : ℕ) (x : A) (fits : Bool)
+    → slice_get xs i ≡ Some x → (if fits then Some now else None) ≡ added front (f (seen x)) → fits ≡ true
+    → with_front now (all_of f (map seen (drop (i + 1) xs))) ≡ with_front front (all_of f (map seen (drop i xs)))
+one_read f seen front now xs i x fits at is true_is =
+    one_added front now (f (seen x)) (all_of f (map seen (drop (i + 1) xs)))
+    (subst (λ b. (if b then Some now else None) ≡ added front (f (seen x))) true_is is)
+    ∙ ap (with_front front) (sym (next_first f seen xs i x at))
+
+-- an item was refused
+pub one_refused : {A B C : Type 0} (f : C → Option B) (seen : A → C) (front now : List B) (xs : List A) (i : ℕ) (x : A) (fits : Bool)
+    → slice_get xs i ≡ Some x → (if fits then Some now else None) ≡ added front (f (seen x)) → fits ≡ false
+    → with_front front (all_of f (map seen (drop i xs))) ≡ None
+one_refused f seen front now xs i x fits at is false_is =
+    ap (with_front front) (next_first f seen xs i x at)
+    ∙ none_added front (f (seen x)) (all_of f (map seen (drop (i + 1) xs)))
+    (subst (λ b. (if b then Some now else None) ≡ added front (f (seen x))) false_is is)
+
+-- all items were read
+pub all_read : {A B C : Type 0} (f : C → Option B) (seen : A → C) (front : List B) (xs : List A) (i : ℕ) → length xs ≤ i
+    → with_front front (all_of f (map seen (drop i xs))) ≡ Some front
+all_read f seen front xs i h = ap (λ l. with_front front (all_of f (map seen l))) (drop_all i xs h) ∙ ap Some (append-nil front)

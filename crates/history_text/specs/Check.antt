@@ -1,8 +1,10 @@
 -- Documents of kind `check`: a history and an order of it (this project's own).
-use Rattle.std.specs.Prelude.{ℕ, List, [], ◌∷◌, length, codes, Bool, nat_le, ◌&&◌, if◌then◌else◌, Result, Ok, Err}
+use Rattle.std.specs.Prelude.{ℕ, List, [], ◌∷◌, length, codes, Bool, nat_le, ◌&&◌, if◌then◌else◌, Result, Ok, Err, ⊤}
 use Rattle.std.specs.List.{list_all}
 use Rattle.serde_json.specs.Data.{Data}
 use Rattle.history_core.specs.Band.{fits}
+use Rattle.history_core.specs.declared.band.Band.{Band}
+use Rattle.history_core.specs.declared.history.Op.{Op}
 use Rattle.history_text.specs.declared.document.CheckDocument.{CheckDocument}
 use Rattle.document_refusals.specs.declared.refusal.DocError.{DocError}
 use Rattle.document_refusals.specs.declared.refusal.DocError.TheVariants.{Range, Law, Kind as OfKind}
@@ -19,6 +21,15 @@ is_place place = nat_le place 9999
 abbrev pub order_in_range : List ℕ → Bool
 order_in_range order = count_in_range (length order) && list_all is_place order
 
+-- the ranges, and then the laws
+unfoldable pub allowed : Band → ℕ → List (Op Band) → List ℕ → Result ⊤ DocError
+allowed opening limit ops order = do
+  limit_ok ← must (limit_in_range limit) (Range Limit)
+  ops_ok ← must (ops_in_range ops) (Range Ops)
+  order_ok ← must (order_in_range order) (Range Order)
+  opening_fits ← must (fits opening) (Law Opening)
+  must (list_all is_lawful ops) (Law Ops)
+
 unfoldable pub check_in : Data → Result CheckDocument DocError
 check_in d = do
   all_there ← required (Opening ∷ Limit ∷ Ops ∷ Order ∷ []) d
@@ -26,11 +37,7 @@ check_in d = do
   limit ← field Limit as_whole d
   ops ← field Ops (as_list as_op) d
   order ← field Order (as_list as_whole) d
-  limit_ok ← must (limit_in_range limit) (Range Limit)
-  ops_ok ← must (ops_in_range ops) (Range Ops)
-  order_ok ← must (order_in_range order) (Range Order)
-  opening_fits ← must (fits opening) (Law Opening)
-  ops_lawful ← must (list_all is_lawful ops) (Law Ops)
+  all_allowed ← allowed opening limit ops order
   Ok (record { history = record { opening = opening; terms = one_term limit; ops = ops }; order = order })
 
 -- the same where the document is of its kind

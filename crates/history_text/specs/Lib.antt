@@ -1,7 +1,6 @@
 pub mod Check
 pub mod Document
 pub mod Histories
-pub mod Log
 pub mod Ranges
 pub mod Refusals
 pub mod Shapes

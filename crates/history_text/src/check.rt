@@ -1,7 +1,7 @@
 //! Documents of kind `check`.
 ghost use Rattle.std.specs.Prelude.{◌≡◌};
 ghost use Rattle.std.specs.List.{list_all};
-ghost use Rattle.history_text.specs.Check.{check_document, check_in, check_of, is_place, order_in_range};
+ghost use Rattle.history_text.specs.Check.{allowed, check_document, check_in, check_of, is_place, order_in_range};
 ghost use Rattle.history_text.specs.Refusals.{Gives};
 ghost use Rattle.serde_json.specs.View.{view};
 
@@ -13,6 +13,7 @@ use crate::{CheckDocument, DocError, Key};
 use history_core::{Band, History, Items, Op};
 use serde_json::Value;
 use std::alloc::Global;
+use std::mem::forget;
 
 const LAST_PLACE: usize = 9_999;
 
@@ -24,6 +25,17 @@ pub fn read_check(alloc: Global, bytes: &[u8]) -> Result<CheckDocument, DocError
 {
     let value = read_value(alloc, bytes)?;
     check_document(alloc, &value)
+}
+
+/// The same, but the value in between is left unfreed: for a run that reads one document and ends, with which the value goes.
+#[tactic(auto, unfolding(crate::specs::Check::check_of))]
+pub fn read_check_leaking(alloc: Global, bytes: &[u8]) -> Result<CheckDocument, DocError>
+    ensures { Gives (λ d. d) result (check_of bytes.now) }
+{
+    let value = read_value(alloc, bytes)?;
+    let document = check_document(alloc, &value);
+    forget(value);
+    document
 }
 
 /// The document that a value stands for, which its caller keeps.
@@ -46,14 +58,7 @@ fn check_in(alloc: Global, value: &Value) -> Result<CheckDocument, DocError>
     let limit: u64 = field(alloc, value, Key::Limit)?;
     let ops: Vec<Op<Band>> = list_field(alloc, value, Key::Ops)?;
     let order: Vec<usize> = list_field(alloc, value, Key::Order)?;
-    must(limit_in_range(limit), DocError::Range(Key::Limit))?;
-    must(ops_in_range(ops.as_slice()), DocError::Range(Key::Ops))?;
-    must(
-        order_in_range(order.as_slice()),
-        DocError::Range(Key::Order),
-    )?;
-    must(opening.fits(), DocError::Law(Key::Opening))?;
-    must(are_lawful(ops.as_slice()), DocError::Law(Key::Ops))?;
+    allowed(opening, limit, ops.as_slice(), order.as_slice())?;
     let terms = one_term(alloc, limit)?;
     let history = History {
         opening,
@@ -64,6 +69,18 @@ fn check_in(alloc: Global, value: &Value) -> Result<CheckDocument, DocError>
         history,
         order: Items::new(order),
     })
+}
+
+/// The ranges, and then the laws.
+#[tactic(auto, unfolding(crate::specs::Check::allowed))]
+fn allowed(opening: Band, limit: u64, ops: &[Op<Band>], order: &[usize]) -> Result<(), DocError>
+    ensures { result ≡ allowed opening limit ops.now order.now }
+{
+    must(limit_in_range(limit), DocError::Range(Key::Limit))?;
+    must(ops_in_range(ops), DocError::Range(Key::Ops))?;
+    must(order_in_range(order), DocError::Range(Key::Order))?;
+    must(opening.fits(), DocError::Law(Key::Opening))?;
+    must(are_lawful(ops), DocError::Law(Key::Ops))
 }
 
 fn order_in_range(order: &[usize]) -> bool

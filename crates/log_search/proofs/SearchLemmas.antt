@@ -9,7 +9,7 @@ use Rattle.history_core.specs.declared.band.Band.{Band}
 use Rattle.history_core.specs.declared.history.History.{History}
 use Rattle.history_core.specs.declared.history.Op.{Op}
 use Rattle.history_text.specs.Histories.{has_item, is_lawful}
-use Rattle.history_text.specs.Log.{CanBeSearched}
+use Rattle.log_text.specs.Log.{CanBeSearched}
 use Rattle.order_search.specs.Searches.{IsAnswered, IsBackwards, IsFault}
 use Rattle.order_search.specs.declared.reason.Search.{Search}
 use Rattle.order_search.specs.declared.reason.SearchError.{SearchError}

@@ -1,6 +1,6 @@
 ghost use Rattle.std.specs.Prelude.{◌≡◌, MatchResult};
-ghost use Rattle.history_text.specs.Log.{CanBeSearched};
 ghost use Rattle.log_search.specs.Logs.{fault_of, IsLogFault, IsLogSearch, IsOfLog};
+ghost use Rattle.log_text.specs.Log.{CanBeSearched};
 
 use document_runs::{Fault, HistoryFault};
 use history_core::{Band, History};

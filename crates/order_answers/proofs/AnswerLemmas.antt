@@ -5,8 +5,8 @@ use Rattle.document_runs.specs.declared.fault.Answer.{Answer}
 use Rattle.document_runs.specs.declared.fault.Fault.{Fault}
 use Rattle.history_core.specs.declared.band.Band.{Band}
 use Rattle.history_core.specs.declared.history.History.{History}
-use Rattle.history_text.specs.Log.{log_of}
 use Rattle.document_refusals.specs.declared.refusal.DocError.{DocError}
+use Rattle.log_text.specs.Log.{log_of}
 use Rattle.order_search.specs.declared.reason.Search.{Search}
 use Rattle.order_search.specs.declared.reason.Search.TheVariants.{Order, Unlawful}
 use Rattle.order_answers.specs.Order.{AnswersOrder, IsOrderAnswer, printed, status_of}

@@ -6,9 +6,9 @@ use Rattle.document_runs.specs.declared.fault.Fault.{Fault}
 use Rattle.document_runs.specs.declared.fault.Fault.TheVariants as fault
 use Rattle.history_core.specs.declared.band.Band.{Band}
 use Rattle.history_core.specs.declared.history.History.{History}
-use Rattle.history_text.specs.Log.{log_of}
 use Rattle.log_search.specs.Logs.{IsLogFault, IsLogSearch}
 use Rattle.log_search.specs.Text.{search_text}
+use Rattle.log_text.specs.Log.{log_of}
 use Rattle.order_search.specs.declared.reason.Search.{Search}
 use Rattle.order_search.specs.declared.reason.Search.TheVariants.{Order, Unlawful}
 

@@ -1,13 +1,14 @@
 ghost use Rattle.std.specs.Prelude.{◌≡◌, IfOk};
 ghost use Rattle.document_runs.specs.Answers.{Gives};
 ghost use Rattle.order_answers.specs.Order.{AnswersOrder, IsOrderAnswer, printed, status_of};
-ghost use Rattle.history_text.specs.Log.{CanBeSearched, log_of};
 ghost use Rattle.history_text.specs.Refusals.{Gives as Reads};
+ghost use Rattle.log_text.specs.Log.{CanBeSearched, log_of};
 
 use document_runs::{Answer, Fault};
 use history_core::{Band, History, Items};
-use history_text::{DocError, log_document, read_value};
+use history_text::{DocError, read_value};
 use log_search::{search_log, search_text};
+use log_text::log_document;
 use order_search::Search;
 use std::alloc::{AllocError, Global};
 use std::mem::forget;
@@ -22,7 +23,7 @@ pub fn order(alloc: Global, bytes: &[u8]) -> Result<Answer, Fault>
 
 /// The log that the bytes stand for. The JSON value that they are is left unfreed: a run reads one document and ends, and the value
 /// goes with the process.
-#[tactic(auto, unfolding(history_text::specs::Log::log_of))]
+#[tactic(auto, unfolding(log_text::specs::Log::log_of))]
 fn read(alloc: Global, bytes: &[u8]) -> Result<History<Band>, DocError>
     ensures log { Reads (λ h. h) result (log_of bytes.now) }
     ensures searchable { IfOk result CanBeSearched }

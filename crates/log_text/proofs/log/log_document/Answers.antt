@@ -1,6 +1,6 @@
 -- Looked for at once, so that another value is refused at once.
 use Rattle.std.proofs.Common.{rules}
-use Rattle.history_text.proofs.log.log_document.Goals as goal
+use Rattle.log_text.proofs.log.log_document.Goals as goal
 
 pub returns-then-is_kind-clause-log : goal.returns-then-is_kind-clause-log
 returns-then-is_kind-clause-log c = search rules

@@ -1,15 +1,14 @@
 //! Documents of kind `log`.
 ghost use Rattle.std.specs.Prelude.{◌≡◌, IfOk};
-ghost use Rattle.history_text.specs.Log.{CanBeSearched, log_document, log_in, log_of};
 ghost use Rattle.history_text.specs.Refusals.{Gives};
+ghost use Rattle.log_text.specs.Log.{CanBeSearched, log_document, log_in, log_of};
 ghost use Rattle.serde_json.specs.View.{view};
 
-use crate::fields::{field, list_field, must, required};
-use crate::history::{are_lawful, one_term, ops_in_range};
-use crate::ranges::limit_in_range;
-use crate::read::{is_kind, read_value};
-use crate::{DocError, Key};
 use history_core::{Band, History, Items, Op};
+use history_text::{
+    DocError, Key, are_lawful, field, is_kind, limit_in_range, list_field, must, one_term,
+    ops_in_range, read_value, required,
+};
 use serde_json::Value;
 use std::alloc::Global;
 
