@@ -1,5 +1,5 @@
 //! Documents of kind `board`.
-ghost use Rattle.std.specs.Prelude.{◌≡◌, IfOk};
+ghost use Rattle.std.specs.Prelude.{IfOk};
 ghost use Rattle.serde_json.specs.View.{view};
 ghost use Rattle.schedule_text.specs.Board.{board_in};
 ghost use Rattle.schedule_text.specs.Players.{CanBePlayed};

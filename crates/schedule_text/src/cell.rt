@@ -1,5 +1,5 @@
 //! Documents of kind `cell`.
-ghost use Rattle.std.specs.Prelude.{◌≡◌, IfOk, ◌+◌, ◌≤◌, length};
+ghost use Rattle.std.specs.Prelude.{◌≡◌, IfOk, ◌+◌};
 ghost use Rattle.std.specs.List.{list_all};
 ghost use Rattle.history_core.specs.Band.{fits};
 ghost use Rattle.serde_json.specs.View.{view};

@@ -1,5 +1,5 @@
 //! Documents of kind `matrix`.
-ghost use Rattle.std.specs.Prelude.{◌≡◌, IfOk};
+ghost use Rattle.std.specs.Prelude.{IfOk};
 ghost use Rattle.serde_json.specs.View.{view};
 ghost use Rattle.schedule_text.specs.Matrix.{matrix_in};
 ghost use Rattle.schedule_text.specs.Players.{CanBePlayed};

@@ -1,5 +1,5 @@
 //! Documents of kind `race`.
-ghost use Rattle.std.specs.Prelude.{◌≡◌, IfOk};
+ghost use Rattle.std.specs.Prelude.{IfOk};
 ghost use Rattle.serde_json.specs.View.{view};
 ghost use Rattle.schedule_text.specs.Players.{CanRace};
 ghost use Rattle.schedule_text.specs.Race.{race_in};

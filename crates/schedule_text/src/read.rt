@@ -1,5 +1,5 @@
 //! From bytes to a document.
-ghost use Rattle.std.specs.Prelude.{◌≡◌, IfOk};
+ghost use Rattle.std.specs.Prelude.{IfOk};
 ghost use Rattle.serde_json.specs.View.{view};
 ghost use Rattle.history_text.specs.Refusals.{Gives};
 ghost use Rattle.schedule_text.specs.Document.{race_document, race_of, schedule_document, schedule_of};

@@ -6,3 +6,7 @@ use Rattle.schedule_text.proofs.matrix.matrix_in.Goals as goal
 pub returns-clause-document : goal.returns-clause-document
 unfolding matrix_in
 returns-clause-document c = search rules
+
+pub returns-in_err-must-2-clause-document : goal.returns-in_err-must-2-clause-document
+unfolding matrix_in
+returns-in_err-must-2-clause-document c = search rules

@@ -1,9 +1,10 @@
 -- The race can be run, as its limit, scripts and opening passed their ranges and laws.
-use Rattle.std.proofs.Common.{◌≡◌, ◌∙◌, ap, sym, subst, true}
+use Rattle.std.proofs.Common.{rules, ◌≡◌, ◌∙◌, ap, sym, subst, true}
 use Rattle.history_core.specs.Band.{fits}
 use Rattle.history_text.specs.Ranges.{limit_in_range}
 use Rattle.schedule_text.specs.Plans.{plans_fit, plans_in_range}
 use Rattle.schedule_text.specs.Players.{CanRace}
+use Rattle.schedule_text.specs.Race.{race_in}
 use Rattle.schedule_text.proofs.Accepted.{can_race, must_holds}
 use Rattle.schedule_text.proofs.race.race_in.Goals as goal
 
@@ -21,3 +22,11 @@ returns-clause-playable c =
     ap plans_fit (sym c.as_slice-2.ensures.value) ∙ sym c.plans_fit.ensures ∙ writes_passed in
     subst (CanRace c.in_ok-opening.opening c.in_ok-limit.limit) (sym c.new.ensures)
     (can_race c.in_ok-opening.opening c.in_ok-limit.limit c.in_ok-scripts.scripts.items limit_ok plans_ok opening_ok writes_ok)
+
+pub returns-clause-document : goal.returns-clause-document
+unfolding race_in
+returns-clause-document c = search rules
+
+pub returns-in_err-must-4-clause-document : goal.returns-in_err-must-4-clause-document
+unfolding race_in
+returns-in_err-must-4-clause-document c = search rules
