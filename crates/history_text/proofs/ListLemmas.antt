@@ -1,6 +1,6 @@
 -- The lists of a document's values, by cases on their elements: serde_json's items are the document's, in their order.
 use Rattle.std.proofs.Common.{◌≡◌, ◌<◌, ◌≤◌, ◌+◌, ℕ, zero, suc, List, [], ◌∷◌, ◌++◌, length, map, drop, refl, ap, sym, subst, ◌∙◌, arith, add-one}
-use Rattle.std.proofs.Common.{Bool, true, false, Option, Some, None, option_map, append_assoc}
+use Rattle.std.proofs.Common.{Bool, true, false, Option, Some, None, option_map, append_assoc, get_or}
 use Rattle.std.proofs.lemmas.List.{append-nil, drop_all}
 use Rattle.std.proofs.lemmas.Option.{none-some, same_Some}
 use Rattle.std.specs.Prelude.{slice_get, if◌then◌else◌}
@@ -9,7 +9,8 @@ use Rattle.serde_json.specs.Data.{Data}
 use Rattle.serde_json.specs.Find.{as_array}
 use Rattle.serde_json.specs.View.{view, items_of, items_view}
 use Rattle.serde_json.specs.declared.value.Value.{Value}
-use Rattle.history_text.specs.Shapes.{all_of, list_of, as_three, as_items}
+use Rattle.history_core.specs.declared.band.Band.{Band}
+use Rattle.history_text.specs.Shapes.{◌>>=◌, all_of, as_items, as_three, as_whole, list_of}
 
 pub list_of-items_of : (ds : List Data) → list_of (items_of ds) ≡ ds
 list_of-items_of [] = refl
@@ -31,6 +32,31 @@ as_three_long (a ∷ []) h = refl
 as_three_long (a ∷ b ∷ []) h = refl
 as_three_long (a ∷ b ∷ c ∷ []) h = absurd (omega (arith, h))
 as_three_long (a ∷ b ∷ c ∷ d ∷ rest) h = refl
+
+abbrev pub three_of : Option ℕ → Option ℕ → Option ℕ → Option Band
+three_of lo mid hi = do
+  lo ← lo
+  now ← mid
+  hi ← hi
+  Some (record { lo = lo; now = now; hi = hi })
+
+three_are : (vs : List Value) (a b c : Value) → 3 ≤ length vs → length vs < 4 → a ≡ get_or vs 0 a → b ≡ get_or vs 1 b → c ≡ get_or vs 2 c
+    → a ∷ b ∷ c ∷ [] ≡ vs
+three_are [] a b c least most ea eb ec = absurd (omega (arith, least))
+three_are (x ∷ []) a b c least most ea eb ec = absurd (omega (arith, least))
+three_are (x ∷ y ∷ []) a b c least most ea eb ec = absurd (omega (arith, least))
+three_are (x ∷ y ∷ z ∷ []) a b c least most ea eb ec =
+    ap (λ q. q ∷ b ∷ c ∷ []) ea ∙ ap (λ q. x ∷ q ∷ c ∷ []) eb ∙ ap (λ q. x ∷ y ∷ q ∷ []) ec
+three_are (x ∷ y ∷ z ∷ w ∷ rest) a b c least most ea eb ec = absurd (omega (arith, most))
+
+-- what three values stand for
+pub three_read : (vs : List Value) (a b c : Value) (lo mid hi : Option ℕ) → 3 ≤ length vs → length vs < 4
+    → a ≡ get_or vs 0 a → b ≡ get_or vs 1 b → c ≡ get_or vs 2 c → lo ≡ as_whole (view a) → mid ≡ as_whole (view b) → hi ≡ as_whole (view c)
+    → three_of lo mid hi ≡ as_three (map view vs)
+three_read vs a b c lo mid hi least most ea eb ec of_a of_b of_c =
+    ap (λ o. three_of o mid hi) of_a ∙ ap (λ o. three_of (as_whole (view a)) o hi) of_b
+    ∙ ap (λ o. three_of (as_whole (view a)) (as_whole (view b)) o) of_c
+    ∙ ap (λ l. as_three (map view l)) (three_are vs a b c least most ea eb ec)
 
 pub as_items_seen : (d : Data) (vs : List Value) → Some (items_view vs) ≡ as_array d → Some (map view vs) ≡ as_items d
 as_items_seen d vs e = ap Some (sym (list_of-items_of (map view vs))) ∙ ap (option_map list_of) e

@@ -55,7 +55,6 @@ pub fn band_in(value: &Value) -> Option<Band>
     three(items_in(value)?)
 }
 
-#[tactic(auto, using(crate::proofs::ListLemmas::as_three_short, crate::proofs::ListLemmas::as_three_long))]
 fn three(items: &[Value]) -> Option<Band>
     ensures { result ≡ as_three (map view items.now) }
 {
