@@ -16,13 +16,14 @@ use Rattle.matrix_core.specs.declared.schedule.MatrixReport.{MatrixReport}
 use Rattle.matrix_core.specs.declared.schedule.BoardReport.{BoardReport}
 use Rattle.matrix_core.specs.declared.schedule.BoardSchedule.{BoardSchedule}
 use Rattle.stamps.specs.declared.stamp.Stamp.{Stamp}
-use Rattle.picture_text.specs.Visits.{board_lanes, board_visits, cell_visits}
+use Rattle.picture_shapes.specs.declared.shape.lanes.Lanes.{Lanes}
+use Rattle.picture_shapes.specs.declared.shape.lanes.Lanes.TheVariants.{Actors, Cell}
+use Rattle.picture_text.specs.Picture.{board_lanes}
 use Rattle.picture_text.specs.declared.scene.Finding.{Finding}
 use Rattle.picture_text.specs.declared.scene.Finding.TheVariants.{Lawful, Broken, NoOrder}
-use Rattle.picture_text.specs.declared.scene.Lanes.{Lanes}
-use Rattle.picture_text.specs.declared.scene.Lanes.TheVariants.{Actors, Cell}
 use Rattle.picture_text.specs.declared.scene.Scene.{Scene}
-use Rattle.picture_text.specs.declared.scene.Visit.{Visit}
+use Rattle.picture_visits.specs.Visits.{board_visits, cell_visits}
+use Rattle.picture_visits.specs.declared.visit.Visit.{Visit}
 
 -- two records are the same where their three numbers are
 abbrev pub AreSame : Band → Band → Type 0

@@ -2,7 +2,7 @@
 
 ghost use Rattle.std.specs.Prelude.{◌≡◌, [], IfOk};
 ghost use Rattle.matrix_core.specs.Runs.{CanPlay};
-ghost use Rattle.picture_text.specs.declared.scene.Lanes.TheVariants.{Actors};
+ghost use Rattle.picture_shapes.specs.declared.shape.lanes.Lanes.TheVariants.{Actors};
 ghost use Rattle.picture_answers.specs.Scenes.{ArePointsOf, finding_of, Shows, ShowsBoard, ShowsCell, ShowsCheck, ShowsLog, ShowsMatrix};
 
 use fourslot_core::{CellReport, CellSchedule};
@@ -10,7 +10,9 @@ use history_core::{Band, History, Items};
 use matrix_core::{BoardReport, BoardSchedule, MatrixReport};
 use order_search::Search;
 use order_witnesses::{Break, first_break, points};
-use picture_text::{Finding, Lanes, Scene, Visit, board_lanes, board_visits, cell_visits};
+use picture_shapes::Lanes;
+use picture_text::{Finding, Scene, board_lanes};
+use picture_visits::{Visit, board_visits, cell_visits};
 use stamps::Stamp;
 use std::alloc::{AllocError, Global};
 

@@ -1,7 +1,7 @@
 -- A line that is put together from its end: what stands behind, what stands between, and what stands in front.
 use Rattle.std.proofs.Common.{◌≡◌, ◌++◌, List, ℕ, codes, append_assoc, ap, sym, ◌∙◌}
 use Rattle.picture_text.specs.Picture.{both_words, crossed_words}
-use Rattle.picture_text.specs.Shapes.{unlawful_head, words_end}
+use Rattle.picture_shapes.specs.Shapes.{unlawful_head, words_end}
 
 put_together : (front between after end old behind inner line : List ℕ) → behind ≡ after ++ end ++ old → inner ≡ between ++ behind
     → line ≡ front ++ inner → line ≡ front ++ between ++ after ++ end ++ old

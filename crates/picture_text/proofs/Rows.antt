@@ -1,15 +1,10 @@
 -- One lane more, and one moment more on the axis.
-use Rattle.std.proofs.Common.{◌≡◌, ℕ, ◌+◌, ◌++◌, List, add-one, append_assoc, ap, sym, ◌∙◌, refl}
+use Rattle.std.proofs.Common.{◌≡◌, ℕ, ◌+◌, ◌++◌, List, add-one, ap}
 use Rattle.picture_text.specs.Picture.{lanes_text, tick_at, ticks_text}
-use Rattle.picture_text.specs.Shapes.{lane_text}
-use Rattle.picture_text.specs.declared.scale.Scale.{Scale}
-use Rattle.picture_text.specs.declared.scene.Lanes.{Lanes}
-
--- a row more behind those so far, which begin behind what stood before
-pub row : {T : Type 0} (start rows more before after next : List T) → next ≡ rows ++ more → before ≡ start ++ rows
-    → after ≡ before ++ more → after ≡ start ++ next
-row start rows more before after next is so_far pushed =
-    pushed ∙ ap (λ t. t ++ more) so_far ∙ append_assoc start rows more ∙ ap (λ t. start ++ t) (sym is)
+use Rattle.picture_shapes.specs.Shapes.{lane_text}
+use Rattle.picture_shapes.specs.declared.scale.Scale.{Scale}
+use Rattle.picture_shapes.specs.declared.shape.lanes.Lanes.{Lanes}
+use Rattle.picture_visits.proofs.Rows.{row}
 
 pub lane_step : (lanes : Lanes) (far n : ℕ) (start before after : List ℕ) → before ≡ start ++ lanes_text lanes far n
     → after ≡ before ++ lane_text lanes far n → after ≡ start ++ lanes_text lanes far (n + 1)

@@ -1,5 +1,1 @@
-pub mod Looks
 pub mod Picture
-pub mod Scales
-pub mod Shapes
-pub mod Visits

@@ -1,7 +1,7 @@
 -- The text of a picture (this project's own): lanes, axis and terms, then the operations, the slot accesses, the marks of what breaks
 -- the order or of why there is none, and the order's joins and points.
 use Rattle.std.specs.Prelude.{ℕ, ◌+◌, ◌-◌, ◌*◌, ◌/◌, ◌^◌, ◌++◌, min, List, [], ◌∷◌, codes, Bool, true, false, Option, None, Some, slice_get}
-use Rattle.std.specs.Prelude.{zero, suc, if◌then◌else◌}
+use Rattle.std.specs.Prelude.{zero, suc, nat_le, if◌then◌else◌}
 use Rattle.std.specs.Fmt.{decimal}
 use Rattle.std.specs.List.{flat_map}
 use Rattle.std.specs.Option.{unwrap_or}
@@ -15,21 +15,23 @@ use Rattle.history_core.specs.declared.history.Op.{Op}
 use Rattle.history_core.specs.declared.history.Term.{Term}
 use Rattle.stamps.specs.declared.stamp.Stamp.{Stamp}
 use Rattle.report_text.specs.Text.{entry_at}
-use Rattle.picture_text.specs.Looks.{looks}
-use Rattle.picture_text.specs.Scales.{actors_of, far_of, scale_of, unit_in, x_of, y_of}
-use Rattle.picture_text.specs.Shapes.{bar_of, bar_text, class_of, end_of, join_text, lane_text, lawful_words, op_shapes, place_text}
-use Rattle.picture_text.specs.Shapes.{row_y, point_text, term_text, tick_text, unlawful_head, words_end}
-use Rattle.picture_text.specs.declared.scale.Scale.{Scale}
+use Rattle.matrix_core.specs.declared.schedule.MatrixTerm.{MatrixTerm}
+use Rattle.picture_shapes.specs.Looks.{looks}
+use Rattle.picture_shapes.specs.Scales.{actors_of, far_of, scale_of, unit_in, x_of, y_of}
+use Rattle.picture_shapes.specs.Shapes.{bar_of, bar_text, class_of, end_of, join_text, lane_text, lawful_words, op_shapes, place_text}
+use Rattle.picture_shapes.specs.Shapes.{row_y, point_text, term_text, tick_text, unlawful_head, words_end}
+use Rattle.picture_shapes.specs.declared.scale.Scale.{Scale}
+use Rattle.picture_shapes.specs.declared.shape.lanes.Lanes.{Lanes}
+use Rattle.picture_shapes.specs.declared.shape.lanes.Lanes.TheVariants.{Actors, Cell, Board}
+use Rattle.picture_shapes.specs.declared.shape.Bar.{Bar}
+use Rattle.picture_shapes.specs.declared.shape.Class.TheVariants as class
+use Rattle.picture_shapes.specs.declared.shape.Join.TheVariants.{Answers, Breaks, Precedes}
+use Rattle.picture_shapes.specs.declared.shape.Spot.{Spot}
+use Rattle.picture_visits.specs.Visits.{widest}
+use Rattle.picture_visits.specs.declared.visit.Visit.{Visit}
 use Rattle.picture_text.specs.declared.scene.Finding.{Finding}
 use Rattle.picture_text.specs.declared.scene.Finding.TheVariants.{Lawful, Broken, NoOrder}
-use Rattle.picture_text.specs.declared.scene.Lanes.{Lanes}
-use Rattle.picture_text.specs.declared.scene.Lanes.TheVariants.{Actors, Cell, Board}
 use Rattle.picture_text.specs.declared.scene.Scene.{Scene}
-use Rattle.picture_text.specs.declared.scene.Visit.{Visit}
-use Rattle.picture_text.specs.declared.shape.Bar.{Bar}
-use Rattle.picture_text.specs.declared.shape.Class.TheVariants as class
-use Rattle.picture_text.specs.declared.shape.Join.TheVariants.{Answers, Breaks, Precedes}
-use Rattle.picture_text.specs.declared.shape.Spot.{Spot}
 
 -- ---- the frame
 
@@ -234,6 +236,10 @@ finding_text s ops order points (Broken broken) = break_text s ops order points 
 finding_text s ops order points (NoOrder why) = reason_text s ops why
 
 -- ---- the whole
+
+-- the lanes of a board's picture: with its cells, where no term has more than 4 processes
+abbrev pub board_lanes : List (MatrixTerm Band) → Lanes
+board_lanes terms = if nat_le (widest terms) 4 then Board (widest terms) else Actors
 
 -- how many lanes there are; a board with cells has 4 processes at most
 abbrev pub lanes_of : Lanes → List (Op Band) → ℕ

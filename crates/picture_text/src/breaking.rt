@@ -5,12 +5,9 @@ ghost use Rattle.history_core.specs.Orders.{listed_at};
 ghost use Rattle.picture_text.specs.Picture.{break_text, break_words, broken_join, mark_text, pair_text};
 
 use crate::marks::{op_at, spot_of};
-use crate::scale::Scale;
-use crate::shape::headline::{put_long_words, put_words};
-use crate::shape::points::put_join;
-use crate::shape::{Class, Join, bar_of, put_bar};
 use history_core::{Band, Op};
 use order_witnesses::Break;
+use picture_shapes::{Class, Join, Scale, bar_of, put_bar, put_join, put_long_words, put_words};
 use report_text::Line;
 use std::alloc::AllocError;
 

@@ -5,9 +5,9 @@ ghost use Rattle.picture_text.specs.Picture.{end_text, finding_text, finding_wor
 
 use crate::breaking::{push_break, put_break_words};
 use crate::reasons::{push_reason, put_reason_words};
-use crate::scale::Scale;
 use crate::scene::Finding;
 use history_core::{Band, Op};
+use picture_shapes::Scale;
 use report_text::Line;
 use std::alloc::AllocError;
 

@@ -3,14 +3,10 @@
 ghost use Rattle.std.specs.Prelude.{◌≡◌, ◌<◌, ◌≤◌, ◌^◌, ◌++◌, OnOk, length, slice_get};
 ghost use Rattle.picture_text.specs.Picture.{begin_x, frame_text, head_text, lanes_text, size_text, terms_text, tick_at, tick_moment};
 ghost use Rattle.picture_text.specs.Picture.{ticks_of, ticks_text};
-ghost use Rattle.picture_text.specs.Shapes.{cell_rows, lane_text, row_text};
+ghost use Rattle.picture_shapes.specs.Shapes.{cell_rows, lane_text, row_text};
 
-use crate::looks::push_looks;
-use crate::scale::Scale;
-use crate::scene::Lanes;
-use crate::shape::axis::{put_term, put_tick};
-use crate::shape::lanes::{put_lane, put_row};
 use history_core::{Band, Op, Term};
+use picture_shapes::{Lanes, Scale, push_looks, put_lane, put_row, put_term, put_tick};
 use report_text::Line;
 use std::alloc::AllocError;
 
@@ -84,7 +80,7 @@ fn push_lane(
 }
 
 /// The rows of the slots, in the lane of a board's cell.
-#[tactic(auto, unfolding(crate::specs::Shapes::cell_rows), using(std::proofs::Common::append_assoc))]
+#[tactic(auto, unfolding(picture_shapes::specs::Shapes::cell_rows), using(std::proofs::Common::append_assoc))]
 fn push_cell_rows(text: &mut Vec<u8>, line: &mut Line, lane: usize) -> Result<(), AllocError>
     ensures { OnOk result (text.new.items ≡ text.old.items ++ cell_rows lane) }
 {

@@ -4,18 +4,12 @@
 mod breaking;
 mod finding;
 mod frame;
-mod looks;
+mod lanes;
 mod marks;
 mod picture;
-mod places;
 mod reasons;
-mod scale;
 mod scene;
-mod shape;
-mod visits;
 
+pub use lanes::board_lanes;
 pub use picture::picture_text;
-pub use scale::Scale;
-pub use scene::{Finding, Lanes, Scene, Visit};
-pub use shape::{Bar, Class, Join, Spot};
-pub use visits::{board_lanes, board_visits, cell_visits};
+pub use scene::{Finding, Scene};

@@ -5,16 +5,14 @@ ghost use Rattle.std.specs.List.{flat_map};
 ghost use Rattle.report_text.specs.Text.{entry_at};
 ghost use Rattle.picture_text.specs.Picture.{join_at, joins_text, ops_text, order_shapes, point_at, points_text, row_bar, slot_bar};
 ghost use Rattle.picture_text.specs.Picture.{spot_of, visit_bar, visit_text, write_after};
-ghost use Rattle.picture_text.specs.Shapes.{op_shapes};
+ghost use Rattle.picture_shapes.specs.Shapes.{op_shapes};
 
-use crate::places::y_of;
-use crate::scale::Scale;
-use crate::scene::{Lanes, Visit};
-use crate::shape::labels::{put_item_words, put_kind_words};
-use crate::shape::lanes::{ROW_BAR, row_y};
-use crate::shape::points::{put_join, put_point};
-use crate::shape::{Bar, Join, Spot, bar_of, class_of, put_bar};
 use history_core::{Band, Kind, Op};
+use picture_shapes::{
+    Bar, Join, Lanes, ROW_BAR, Scale, Spot, bar_of, class_of, put_bar, put_item_words, put_join,
+    put_kind_words, put_point, row_y, y_of,
+};
+use picture_visits::Visit;
 use report_text::Line;
 use stamps::Stamp;
 use std::alloc::AllocError;
@@ -34,7 +32,7 @@ pub fn push_ops(
     Ok(())
 }
 
-#[tactic(auto, unfolding(crate::specs::Shapes::op_shapes), using(std::proofs::Common::append_assoc))]
+#[tactic(auto, unfolding(picture_shapes::specs::Shapes::op_shapes), using(std::proofs::Common::append_assoc))]
 fn push_op(
     text: &mut Vec<u8>,
     line: &mut Line,

@@ -1,16 +1,15 @@
 //! The text of a picture.
 
 ghost use Rattle.std.specs.Prelude.{◌≡◌, [], IfOk};
-ghost use Rattle.picture_text.specs.Picture.{high_of, lanes_of, picture_of, shown_terms};
+ghost use Rattle.picture_text.specs.Picture.{high_of, picture_of, shown_terms};
 
 use crate::finding::{push_end, push_finding};
 use crate::frame::push_frame;
+use crate::lanes::lanes_of;
 use crate::marks::{push_ops, push_order, push_visits};
-use crate::places::{actors_of, y_of};
-use crate::scale::Scale;
-use crate::scene::{Lanes, Scene};
-use crate::visits::WIDEST;
-use history_core::{Band, Op, Term};
+use crate::scene::Scene;
+use history_core::Term;
+use picture_shapes::{Lanes, Scale, y_of};
 use std::alloc::{AllocError, Global};
 
 /// The greatest number of operations for which room is made before they are drawn.
@@ -50,17 +49,6 @@ fn with_room(alloc: Global, operations: usize) -> Result<Vec<u8>, AllocError>
     ensures { IfOk result (λ v. v.items ≡ []) }
 {
     Vec::with_capacity(alloc, 2048 + 400 * operations.min(MOST_ROOM))
-}
-
-/// How many lanes there are. A board with its cells has four processes at most.
-fn lanes_of(lanes: Lanes, ops: &[Op<Band>]) -> usize
-    ensures { result ≡ lanes_of lanes ops.now }
-{
-    match lanes {
-        Lanes::Actors => actors_of(ops),
-        Lanes::Cell => 6,
-        Lanes::Board { processes } => processes.min(WIDEST) * processes.min(WIDEST),
-    }
 }
 
 fn shown_terms(lanes: Lanes, terms: &[Term]) -> &[Term]

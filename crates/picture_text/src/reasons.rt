@@ -5,13 +5,12 @@ ghost use Rattle.picture_text.specs.Picture.{arrow_text, begin_spot, both_words,
 ghost use Rattle.picture_text.specs.Picture.{precedes_words, reason_text, reason_words};
 
 use crate::marks::op_at;
-use crate::places::y_of;
-use crate::scale::Scale;
-use crate::shape::headline::{put_first_words, put_last_words, put_long_words, put_words};
-use crate::shape::points::{put_join, put_place};
-use crate::shape::{Class, Join, Spot, bar_of, end_of, put_bar};
 use history_core::{Band, Op};
 use order_search::Reason;
+use picture_shapes::{
+    Class, Join, Scale, Spot, bar_of, end_of, put_bar, put_first_words, put_join, put_last_words,
+    put_long_words, put_place, put_words, y_of,
+};
 use report_text::Line;
 use std::alloc::AllocError;
 

@@ -1,30 +1,9 @@
-use history_core::{Band, History, Items, Kind};
+use history_core::{Band, History, Items};
 use order_search::Reason;
 use order_witnesses::Break;
+use picture_shapes::Lanes;
+use picture_visits::Visit;
 use stamps::Stamp;
-
-/// What the lanes of a picture are.
-#[derive(Clone, Copy, Debug, PartialEq, Eq)]
-pub enum Lanes {
-    /// A lane for each actor.
-    Actors,
-    /// The writer and the reader of a cell, and its four slots.
-    Cell,
-    /// So many processes, and the cells of their board: those that process 0 writes, then those of process 1, and so on.
-    Board { processes: usize },
-}
-
-/// A slot access of a cell, from its beginning to its end.
-#[derive(Clone, Copy, Debug, PartialEq, Eq)]
-pub struct Visit {
-    /// The lane of its cell; where each slot has its own lane, that of slot 0.
-    pub lane: usize,
-    pub slot: u8,
-    pub kind: Kind,
-    pub starts: u64,
-    /// None where the access is not at its end.
-    pub ends: Option<u64>,
-}
 
 /// What a picture says of its history.
 #[derive(Clone, Copy, Debug, PartialEq, Eq)]

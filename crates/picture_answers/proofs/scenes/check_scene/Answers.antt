@@ -7,7 +7,7 @@ use Rattle.history_core.specs.declared.band.Band.{Band}
 use Rattle.order_witnesses.specs.declared.breaks.Break.{Break}
 use Rattle.history_core.specs.declared.history.History.{History}
 use Rattle.picture_text.specs.declared.scene.Finding.{Finding}
-use Rattle.picture_text.specs.declared.scene.Lanes.TheVariants.{Actors}
+use Rattle.picture_shapes.specs.declared.shape.lanes.Lanes.TheVariants.{Actors}
 use Rattle.picture_text.specs.declared.scene.Scene.{Scene}
 use Rattle.picture_answers.specs.Scenes.{AreSame, finding_of, Shows, ShowsCheck}
 use Rattle.picture_answers.proofs.scenes.check_scene.Goals as goal

@@ -1,0 +1,64 @@
+//! The line at the top of a picture whose history has no lawful order, or whose order isn't lawful.
+
+ghost use Rattle.std.specs.Prelude.{◌≡◌, ◌+◌, ◌≤◌, ◌++◌, codes, decimal, length};
+ghost use Rattle.picture_shapes.specs.Shapes.{unlawful_head, words_end};
+
+use report_text::Line;
+
+#[tactic(auto, using(std::proofs::Common::append_assoc))]
+pub fn put_words(line: &mut Line, before: &[u8], number: u64, after: &[u8])
+    requires empty { length line.old ≡ 0 }
+    requires short { length before.now + length after.now ≤ 100 }
+    ensures { line.new ≡ unlawful_head ++ before.now ++ decimal number ++ after.now ++ codes "</text>\n" ++ line.old }
+{
+    line.put(b"</text>\n");
+    line.put(after);
+    line.put_number(number);
+    line.put(before);
+    line.put(b"<text class=\"z\" x=\"8\" y=\"24\">unlawful ");
+}
+
+#[tactic(auto, using(std::proofs::Common::append_assoc))]
+pub fn put_long_words(
+    line: &mut Line,
+    before: &[u8],
+    first: u64,
+    between: &[u8],
+    second: u64,
+    after: &[u8],
+)
+    requires empty { length line.old ≡ 0 }
+    requires short { length before.now + length between.now + length after.now ≤ 100 }
+    ensures { line.new ≡ unlawful_head ++ before.now ++ decimal first ++ between.now ++ decimal second ++ after.now
+        ++ codes "</text>\n" ++ line.old }
+{
+    line.put(b"</text>\n");
+    line.put(after);
+    line.put_number(second);
+    line.put(between);
+    line.put_number(first);
+    line.put(before);
+    line.put(b"<text class=\"z\" x=\"8\" y=\"24\">unlawful ");
+}
+
+/// The line up to what stands in it already.
+#[tactic(auto, using(std::proofs::Common::append_assoc))]
+pub fn put_first_words(line: &mut Line, before: &[u8])
+    requires { length line.old + length before.now + 40 ≤ 256 }
+    ensures { line.new ≡ unlawful_head ++ before.now ++ line.old }
+{
+    line.put(before);
+    line.put(b"<text class=\"z\" x=\"8\" y=\"24\">unlawful ");
+}
+
+/// The end of the line.
+#[tactic(auto, using(std::proofs::Common::append_assoc))]
+pub fn put_last_words(line: &mut Line, after: &[u8])
+    requires empty { length line.old ≡ 0 }
+    requires short { length after.now ≤ 100 }
+    ensures text { line.new ≡ after.now ++ words_end ++ line.old }
+    ensures len { length line.new ≤ length after.now + 8 }
+{
+    line.put(b"</text>\n");
+    line.put(after);
+}

@@ -1,0 +1,66 @@
+//! The words of an operation: its kind, its stamp and its record.
+
+ghost use Rattle.std.specs.Prelude.{◌≡◌, ◌+◌, ◌≤◌, ◌++◌, length};
+ghost use Rattle.report_text.specs.Text.{kind_text};
+ghost use Rattle.picture_shapes.specs.Shapes.{item_words, kind_words, stamp_words, words_head};
+
+use history_core::{Band, Kind};
+use report_text::{Line, put_item, put_stamp};
+use stamps::Stamp;
+
+#[tactic(auto, unfolding(crate::specs::Shapes::words_head), using(std::proofs::Common::append_assoc))]
+pub fn put_words_head(line: &mut Line, x: u64, y: u64)
+    requires { length line.old + 60 ≤ 256 }
+    ensures { line.new ≡ words_head x y ++ line.old }
+{
+    line.put(b"\">");
+    line.put_number(y);
+    line.put(b"\" y=\"");
+    line.put_number(x);
+    line.put(b"<text x=\"");
+}
+
+#[tactic(auto, unfolding(crate::specs::Shapes::kind_words), using(std::proofs::Common::append_assoc))]
+pub fn put_kind_words(line: &mut Line, x: u64, y: u64, kind: Kind, stamp: Option<Stamp>)
+    requires { length line.old ≡ 0 }
+    ensures { line.new ≡ kind_words x y kind stamp ++ line.old }
+{
+    line.put(b"</text>\n");
+    put_stamp_words(line, stamp);
+    put_kind(line, kind);
+    put_words_head(line, x, y);
+}
+
+#[tactic(auto, using(std::proofs::Common::append_assoc))]
+fn put_stamp_words(line: &mut Line, stamp: Option<Stamp>)
+    requires { length line.old + 50 ≤ 256 }
+    ensures text { line.new ≡ stamp_words stamp ++ line.old }
+    ensures len { length line.new ≤ length line.old + 50 }
+{
+    if stamp.is_some() {
+        put_stamp(line, stamp);
+        line.put(b" ");
+    }
+}
+
+fn put_kind(line: &mut Line, kind: Kind)
+    requires { length line.old + 7 ≤ 256 }
+    ensures text { line.new ≡ kind_text kind ++ line.old }
+    ensures len { length line.new ≤ length line.old + 7 }
+{
+    match kind {
+        Kind::Write => line.put(b"write"),
+        Kind::Read => line.put(b"read"),
+        Kind::Refused => line.put(b"refused"),
+    }
+}
+
+#[tactic(auto, unfolding(crate::specs::Shapes::item_words), using(std::proofs::Common::append_assoc))]
+pub fn put_item_words(line: &mut Line, x: u64, y: u64, item: Option<Band>)
+    requires { length line.old ≡ 0 }
+    ensures { line.new ≡ item_words x y item ++ line.old }
+{
+    line.put(b"</text>\n");
+    put_item(line, item);
+    put_words_head(line, x, y);
+}
