@@ -6,13 +6,13 @@ top=$(cd "$(dirname "$0")/.." && pwd) || exit 1
 rounds=${1:-5}
 room=$(mktemp -d) || exit 1
 trap 'rm -rf "$room"' EXIT
-proved=$top/bench/crates/cells_bench/out/cells_bench
+proved=$top/crates/cells_bench/out/cells_bench
 if ! command -v rustc >/dev/null 2>&1; then
     echo "bench: there is no rustc, so the plain registers can't be built"
     exit 1
 fi
 rustc -O -C target-cpu=x86-64-v2 -C panic=abort -o "$room/plain" "$top/bench/plain.rs" || exit 1
-if [ ! -x "$proved" ] || [ -n "$(find "$top"/crates/cell*/src "$top"/crates/family*/src "$top"/crates/atomic_board/src "$top"/bench/crates/cells_bench/src -newer "$proved" -print -quit)" ]; then
+if [ ! -x "$proved" ] || [ -n "$(find "$top"/crates/cell*/src "$top"/crates/family*/src "$top"/crates/atomic_board/src -newer "$proved" -print -quit)" ]; then
     (. "$top/tests/build.sh" && build cells_bench) </dev/null >&2 || exit 1
 fi
 for round in $(seq "$rounds"); do

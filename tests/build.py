@@ -22,8 +22,6 @@ import tempfile
 import time
 
 TOP = os.path.dirname(os.path.dirname(os.path.realpath(__file__)))
-# The folders that have a crates.txt, and below crates/ what it names: what the gate proves, and what only measures.
-HOMES = (TOP, f"{TOP}/bench")
 SOURCES = ("src", "specs", "proofs")
 STORED_RUN = ("stdin", "stdout", "args", "status", "data")
 # Files of out/ that are this script's and its callers' own.
@@ -41,9 +39,9 @@ def say(text):
 
 
 class Crate:
-    def __init__(self, home, row, name, words):
+    def __init__(self, row, name, words):
         self.row, self.name, self.words = row, name, words
-        self.folder = f"{home}/crates/{name}"
+        self.folder = f"{TOP}/crates/{name}"
         self.is_program = os.path.isfile(f"{self.folder}/src/main.rt")
 
     def weight(self):
@@ -53,15 +51,14 @@ class Crate:
 
 
 def read_crates():
-    """The crates that the files crates.txt list, by their names."""
+    """The crates of crates.txt by their names."""
     crates = {}
-    for home in HOMES:
-        with open(f"{home}/crates.txt", encoding="utf-8") as file:
-            for row in file:
-                head, colon, words = row.partition("#")[0].partition(":")
-                if colon:
-                    name = head.split()[0]
-                    crates[name] = Crate(home, row, name, words.split())
+    with open(f"{TOP}/crates.txt", encoding="utf-8") as file:
+        for row in file:
+            head, colon, words = row.partition("#")[0].partition(":")
+            if colon:
+                name = head.split()[0]
+                crates[name] = Crate(row, name, words.split())
     for crate in crates.values():
         crate.uses = [crates[it] for it in crate.words if it in crates]
     return crates
