@@ -32,6 +32,8 @@ MOST_JOBS = 4
 FIRST_JOB, NEXT_JOB = 2_000_000_000, 700_000_000
 # Seconds after which a folder that another rt works in is asked for again.
 PAUSE = 1
+# By how much a proof yields to each one under way with a longer chain behind it, so that the longest chain doesn't wait for processors.
+YIELDS, MOST_YIELDS = 5, 19
 
 
 def say(text):
@@ -142,7 +144,7 @@ def remove(path):
 class Room:
     """A crate that is being built. The crates below it are built."""
 
-    def __init__(self, crate, place, jobs, lower_locks, own_lock):
+    def __init__(self, crate, place, jobs, niceness, lower_locks, own_lock):
         self.crate, self.jobs, self.held = crate, jobs, own_lock
         self.began, self.rest = time.monotonic(), b""
         self.root = f"{place}/{crate.name}"
@@ -155,7 +157,7 @@ class Room:
         given = f"{self.folder}/stdin"
         with open(given if os.path.isfile(given) else os.devnull, "rb") as stdin:
             how = {"cwd": self.folder, "stdin": stdin, "stdout": subprocess.PIPE, "stderr": subprocess.STDOUT}
-            self.process = subprocess.Popen(["rt", *self.command()], **how)
+            self.process = subprocess.Popen(["nice", "-n", str(niceness), "rt", *self.command()], **how)
         os.set_blocking(self.process.stdout.fileno(), False)
 
     def furnish(self, lower):
@@ -251,7 +253,8 @@ class Builder:
                 continue
             self.left.remove(crate)
             say(f"{crate.name} begins")
-            room = self.rooms[crate] = Room(crate, self.place, jobs, lower, own)
+            longer = sum(self.behind[it] > self.behind[crate] for it in self.rooms)
+            room = self.rooms[crate] = Room(crate, self.place, jobs, min(YIELDS * longer, MOST_YIELDS), lower, own)
             self.selector.register(room.process.stdout, selectors.EVENT_READ, room)
         return waits
 
