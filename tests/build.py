@@ -46,10 +46,13 @@ class Crate:
         self.folder = f"{TOP}/crates/{name}"
         self.is_program = os.path.isfile(f"{self.folder}/src/main.rt")
 
-    def weight(self):
-        """About how long its proof takes, in bytes of text."""
-        files = (f"{at}/{it}" for part in SOURCES for at, _, names in os.walk(f"{self.folder}/{part}") for it in names)
+    def size(self, *parts):
+        files = (f"{at}/{it}" for part in parts for at, _, names in os.walk(f"{self.folder}/{part}") for it in names)
         return sum(map(os.path.getsize, files))
+
+    def weight(self):
+        """About how many processor seconds its proof takes, by its text: each crate some, and code fifteen times what proofs of its size do."""
+        return 25 + self.size("src") / 330 + self.size("specs", "proofs") / 5000
 
 
 def read_crates():
