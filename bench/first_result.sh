@@ -12,6 +12,12 @@ on=
 if [ $# -gt 0 ]; then
     on="taskset -c 0-$(($1 - 1))"
 fi
+# (`rt check` and `rt lib` begin with what any checkout on this machine kept)
+kept=$(dirname "$(dirname "$(rt doc)")")/rattle-kept/work
+if [ -d "$kept" ]; then
+    echo "first_result: not from nothing: move $kept away first, and back afterwards" >&2
+    exit 1
+fi
 git clone -q "$top" "$room/clone" || exit 1
 
 # Runs the clone's `fsr` once and tells what has passed since the beginning.
