@@ -1,0 +1,238 @@
+"""Tries the wrong bodies of the crates: the prover has to refuse each of them, at the function that it spoils.
+
+    tests/wrong_bodies.py [CRATE ..]
+
+A wrong body is an edit crates/NAME/must-fail/*.edit, as `rt must-fail` takes it. A line `function: PATH` in it names each function that it
+spoils, by its path below the crate. `rt must-fail` makes a check of the whole crate for each edit. Here a check tries edits of different
+functions together, and proves these functions alone: a function is proved by the contracts of those that it calls, so what the prover
+says of its own goals doesn't depend on what else is spoilt. Edits that spoil several functions, and those that change one place, are
+tried one after the other.
+
+First the functions of a crate, as they are, have to be proved in the same way. An edit is refused where the prover then names a goal of its
+function that it did not prove, or an error in that function's proof that is more than a name that is gone. That the function calls one
+that is refused doesn't count. An edit that a check with others leaves open is tried once more alone.
+
+The libraries below a crate have to be built. RT_JOBS=N allots N processors in place of all that there are. The last line is the sums.
+"""
+
+import os
+import re
+import shutil
+import subprocess
+import sys
+import tempfile
+from concurrent.futures import ThreadPoolExecutor
+from pathlib import Path
+
+TOP = Path(__file__).resolve().parent.parent
+SOURCES = ("src", "specs", "proofs")
+# What the prover says of a function, and of a place in a file.
+VERDICT = re.compile(r"(?m)^fn (\S+): (.*)$")
+OPEN_GOALS = re.compile(r"`search` did not prove (`[^`]+`(?:, `[^`]+`)*)")
+ERROR = re.compile(r"(?m)^(?:\./)?(proofs/\S+)/\w+\.antt:\d+:\d+: (error: .*)$")
+GONE_NAME = re.compile(r"has no field|is not in scope|has no `|was not admitted")
+ALL_PROVED = re.compile(r"(?m)^only=(\d+) proved=\1$")
+
+
+class BadEdit(Exception):
+    pass
+
+
+class Edit:
+    """An edit of a crate: the functions that it spoils, and for each change the file, the text that goes and the one that comes."""
+
+    def __init__(self, path):
+        self.name, self.functions, self.changes = path.stem, [], []
+        file = old = None
+        for line in path.read_text(encoding="utf-8").splitlines():
+            word, _, rest = line.partition(":")
+            rest = rest.removeprefix(" ")
+            if word == "function":
+                self.functions.append(rest.strip())
+            elif word == "file":
+                file = rest.strip()
+            elif word == "old":
+                old = rest
+            elif word == "new":
+                self.changes.append((file, old, rest))
+        if not self.functions:
+            raise BadEdit("no line says which function it spoils")
+        if not self.changes:
+            raise BadEdit("it changes nothing")
+
+    def made_in(self, folder, texts):
+        """These texts of files with the edit made in them; a file that isn't among them is read. None where a text stands there twice or is gone."""
+        texts = dict(texts)
+        for file, old, new in self.changes:
+            text = texts.get(file) or (folder / file).read_text(encoding="utf-8")
+            if text.count(old) != 1:
+                return None
+            texts[file] = text.replace(old, new)
+        return texts
+
+
+class Crate:
+    def __init__(self, name, words, crates):
+        self.name, self.folder = name, TOP / "crates" / name
+        self.uses = [crates[it] for it in words if it in crates]
+        self.of_kit = [it for it in words if it not in crates]
+
+    def below(self):
+        found = dict.fromkeys(self.uses)
+        for it in self.uses:
+            found |= dict.fromkeys(it.below())
+        return list(found)
+
+    def edits(self):
+        return sorted((self.folder / "must-fail").glob("*.edit"))
+
+    def weight(self):
+        sizes = sum(it.stat().st_size for part in SOURCES for it in (self.folder / part).rglob("*.*"))
+        return sizes * len(self.edits())
+
+    def command(self, kit):
+        root = "src/main.rt" if (self.folder / "src/main.rt").is_file() else "src/lib.rt"
+        words = [f"{kit}/bin/rattle", "check", "--crate-name", self.name, root]
+        for name in ["std", *self.of_kit]:
+            words += ["--extern", f"{name}={kit}/rlibs/{name}.rlib"]
+        words += ["-L", f"dependency={kit}/rlibs"]
+        for it in self.uses:
+            words += ["--extern", f"{it.name}={it.folder}/out/rlib/{it.name}.rlib"]
+        for it in self.below():
+            words += ["-L", f"dependency={it.folder}/out/rlib"]
+        return words + ["--antt-project", f"{kit}/rattle/logic/antt-project.json", "--logic-built", f"{kit}/logic_built"]
+
+
+def read_crates():
+    """The crates of crates.txt by their names. (A crate stands below those that it is used by.)"""
+    crates, rows = {}, {}
+    for row in (TOP / "crates.txt").read_text(encoding="utf-8").splitlines():
+        head, colon, words = row.partition("#")[0].partition(":")
+        if colon:
+            rows[head.split()[0]] = words.split()
+    while rows:
+        name = next(it for it, words in rows.items() if not rows.keys() & {*words})
+        crates[name] = Crate(name, rows.pop(name), crates)
+    return crates
+
+
+class Room:
+    """A copy of a crate in which its wrong bodies are tried, each check over what those before it proved."""
+
+    def __init__(self, crate, kit, place):
+        self.crate, self.kit, self.place = crate, kit, Path(place)
+        # The processor seconds of each check.
+        self.spent = []
+
+    def check(self, functions, texts=None):
+        """What the prover says of these functions alone, where the crate has these texts."""
+        copy = self.place / "copy"
+        shutil.rmtree(copy, ignore_errors=True)
+        for part in SOURCES:
+            if (self.crate.folder / part).is_dir():
+                shutil.copytree(self.crate.folder / part, copy / part)
+        for file, text in (texts or {}).items():
+            (copy / file).write_text(text, encoding="utf-8")
+        only = [word for it in functions for word in ("--only", f"{self.crate.name}::{it}")]
+        words = [*self.crate.command(self.kit), "--incremental", f"{self.place}/kept", "--jobs", "1", *only]
+        how = {"cwd": copy, "stdin": subprocess.DEVNULL, "stdout": subprocess.PIPE, "stderr": subprocess.STDOUT, "errors": "replace"}
+        with subprocess.Popen(words, **how) as process:
+            said = process.stdout.read()
+            _, status, used = os.wait4(process.pid, 0)
+            process.returncode = os.waitstatus_to_exitcode(status)
+        self.spent.append(used.ru_utime + used.ru_stime)
+        return said
+
+    def refusal(self, said, edit):
+        """Where and why the prover refuses the functions that an edit spoils, by what it says of each itself. None where it says nothing of one."""
+        verdicts = dict(VERDICT.findall(said))
+        reasons = []
+        for function in edit.functions:
+            verdict = verdicts.get(f"{self.crate.name}::{function}", "")
+            goals = OPEN_GOALS.search(verdict)
+            folder = f"proofs/{function.replace('::', '/')}"
+            errors = [told for where, told in ERROR.findall(said) if where == folder and not GONE_NAME.search(told)]
+            if verdict.startswith("no proof") and goals:
+                reasons.append(f"{function} has no proof of {goals[1]}")
+            elif verdict.startswith("not proved") and errors:
+                reasons.append(f"{function}: {errors[0]}")
+            else:
+                return None
+        return "; ".join(reasons)
+
+    def first_together(self, edits):
+        """The edits that the next check can try, the first of these among them, with the texts that they make."""
+        first, *rest = edits
+        chosen, texts = [first], first.made_in(self.crate.folder, {})
+        taken = {*first.functions}
+        for edit in rest if len(first.functions) == 1 else []:
+            made = edit.made_in(self.crate.folder, texts)
+            if made and len(edit.functions) == 1 and taken.isdisjoint(edit.functions):
+                chosen, texts = [*chosen, edit], made
+                taken.update(edit.functions)
+        return chosen, texts
+
+    def try_all(self, edits):
+        """Tries the edits, and returns by its name where and why each is refused."""
+        refused, left, alone = {}, list(edits), []
+        while left:
+            chosen, texts = self.first_together(left)
+            left = [it for it in left if it not in chosen]
+            said = self.check([it for edit in chosen for it in edit.functions], texts)
+            for edit in chosen:
+                refused[edit.name] = self.refusal(said, edit)
+            alone += [it for it in chosen if not refused[it.name] and len(chosen) > 1]
+        for edit in alone:
+            refused[edit.name] = self.refusal(self.check(edit.functions, edit.made_in(self.crate.folder, {})), edit)
+        return refused
+
+
+def judge(crate, kit):
+    """Tries a crate's wrong bodies, prints a line for each, and returns how many are refused and how many aren't."""
+    edits, refused, lines = [], {}, []
+    for path in crate.edits():
+        try:
+            edit = Edit(path)
+            if edit.made_in(crate.folder, {}) is None:
+                raise BadEdit("a text that it replaces doesn't stand once in its file")
+            edits.append(edit)
+        except (BadEdit, OSError) as why:
+            lines.append(f"{path.stem}: BAD EDIT: {why}")
+    functions = sorted({it for edit in edits for it in edit.functions})
+    with tempfile.TemporaryDirectory(prefix="wrong-bodies-") as place:
+        room = Room(crate, kit, place)
+        said = room.check(functions) if functions else ""
+        if ALL_PROVED.search(said):
+            refused = room.try_all(edits)
+        elif functions:
+            print(f"must-fail {crate.name}: its functions aren't proved as they are: {said.strip()[-600:]}", flush=True)
+    for edit in edits:
+        reason = refused.get(edit.name)
+        lines.append(f"{edit.name}: {f'refused, as it must be: {reason[:200]}' if reason else 'NOT REFUSED'}")
+    passed = sum(map(bool, refused.values()))
+    first, *rounds = room.spent or [0]
+    cost = f"{first:.0f} processor seconds for the functions as they are, {sum(rounds):.0f} for {len(rounds)} checks of wrong bodies"
+    lines = [f"must-fail {crate.name}: {passed} of {len(lines)} refused, {cost}", *(f"must-fail {crate.name}/{it}" for it in sorted(lines))]
+    print("\n".join(lines), flush=True)
+    return passed, len(lines) - 1 - passed
+
+
+def main(names):
+    crates = read_crates()
+    unknown = [it for it in names if it not in crates]
+    if unknown:
+        print(f"wrong_bodies: crates.txt has no crate {unknown[0]}")
+        return 2
+    chosen = [it for it in crates.values() if it.edits() and (not names or it.name in names)]
+    chosen.sort(key=Crate.weight, reverse=True)
+    kit = Path(subprocess.run(["rt", "doc"], stdout=subprocess.PIPE, check=True, text=True).stdout.strip()).parent
+    lanes = int(os.environ.get("RT_JOBS") or len(os.sched_getaffinity(0)))
+    with ThreadPoolExecutor(lanes) as pool:
+        counts = list(pool.map(lambda it: judge(it, kit), chosen))
+    passed, failed = (sum(it[place] for it in counts) for place in (0, 1))
+    print(f"{passed} passed, {failed} failed")
+    return 1 if failed else 0
+
+
+if __name__ == "__main__":
+    sys.exit(main(sys.argv[1:]))
