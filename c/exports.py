@@ -100,7 +100,7 @@ ghost use Rattle.cells_sides.specs.Held.{{held, live_of, side_of}};
 ghost use Rattle.cells_sides.specs.declared.side.Side.TheVariants.{{{variant}{size}}};
 
 use cells_sides::{{{names}}};
-use places::{{Mark, Posts, end_place, make_places, read_place, read_place_since, write_place}};
+use places::{{Mark, Posts}};
 use std::alloc::Global;
 
 #[unsafe(no_mangle)]
@@ -113,7 +113,7 @@ pub extern "C" fn nidzaru_{prefix}board_{size}_make(
     ensures {{ IsBoardMake live_of side_of {variant}{size} ⟦<{family}Seat{size} as Posts<Record{size}>>⟧.is_made
         limit places.old places.new first.now result }}
 {{
-    make_places::<Side, Handle, Record{size}, {family}Seat{size}>(alloc, first, limit, places)
+    board_make::<Record{size}, {family}Seat{size}>(alloc, first, limit, places)
 }}
 
 #[unsafe(no_mangle)]
@@ -126,7 +126,7 @@ pub extern "C" fn nidzaru_{prefix}board_{size}_write(
     ensures {{ IsBoardWrite {variant}{size} ⟦<{family}Seat{size} as Posts<Record{size}>>⟧.has_posted ⟦<{family}Seat{size} as Posts<Record{size}>>⟧.is_refused
         (held place.old) (held place.new) item.now stamp.old stamp.new result }}
 {{
-    write_place::<Side, Loose, Record{size}, {family}Seat{size}>(alloc, place.live, &mut place.loose, item, stamp)
+    board_write::<Record{size}, {family}Seat{size}>(alloc, place, item, stamp)
 }}
 
 #[unsafe(no_mangle)]
@@ -139,7 +139,7 @@ pub extern "C" fn nidzaru_{prefix}board_{size}_read(
     ensures {{ IsBoardRead {variant}{size} ⟦<{family}Seat{size} as Posts<Record{size}>>⟧.has_seen
         (held place.old) (held place.new) item.old item.new stamp.old stamp.new result }}
 {{
-    read_place::<Side, Loose, Record{size}, {family}Seat{size}>(alloc, place.live, &mut place.loose, item, stamp)
+    board_read::<Record{size}, {family}Seat{size}>(alloc, place, item, stamp)
 }}
 
 #[unsafe(no_mangle)]
@@ -153,14 +153,14 @@ pub extern "C" fn nidzaru_{prefix}board_{size}_read_since(
     ensures {{ IsBoardReadSince {variant}{size} ⟦<{family}Seat{size} as Posts<Record{size}>>⟧.has_seen
         (held place.old) (held place.new) least.now item.old item.new stamp.old stamp.new result }}
 {{
-    read_place_since::<Side, Loose, Record{size}, {family}Seat{size}>(alloc, place.live, &mut place.loose, least, item, stamp)
+    board_read_since::<Record{size}, {family}Seat{size}>(alloc, place, least, item, stamp)
 }}
 
 #[unsafe(no_mangle)]
 pub extern "C" fn nidzaru_{prefix}board_{size}_end(alloc: Global, place: &mut Handle) -> u32
     ensures {{ IsEnd {variant}{size} (held place.old) (held place.new) result }}
 {{
-    end_place::<Side, Handle, {family}Seat{size}>(alloc, place)
+    board_end::<{family}Seat{size}>(alloc, place)
 }}
 """
 
@@ -172,7 +172,8 @@ def export(size, cell):
 
 
 def board_export(size, family):
-    names = ["Handle", "Loose", f"Record{size}", "Side", f"{family['family']}Seat{size}"]
+    calls = ("end", "make", "read", "read_since", "write")
+    names = ["Handle", f"Record{size}", f"{family['family']}Seat{size}", *(f"board_{call}" for call in calls)]
     return BOARD_TEXT.format(size=size, bytes=f"{size:,}", names=", ".join(sorted(names)), **family)
 
 

@@ -1,8 +1,9 @@
-//! Handles that C can hold, the sides of cells and the places at boards that they can have, and the calls on cells over any size.
+//! Handles that C can hold, the sides of cells and the places at boards that they can have, and the calls on cells and boards over any size.
 //!
 //! A handle holds an erased box of one `Side`, or nothing.
 #![tactic(auto)]
 
+mod board;
 mod four_slot;
 mod handle;
 mod layout;
@@ -14,6 +15,7 @@ mod record;
 mod side;
 mod triple;
 
+pub use board::{board_end, board_make, board_read, board_read_since, board_write};
 pub use four_slot::{
     four_slot_end_reader, four_slot_end_writer, four_slot_look, four_slot_make, four_slot_read,
     four_slot_write,

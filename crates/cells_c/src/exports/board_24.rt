@@ -4,8 +4,11 @@ ghost use Rattle.places.specs.Places.{IsBoardMake, IsBoardWrite, IsBoardRead, Is
 ghost use Rattle.cells_sides.specs.Held.{held, live_of, side_of};
 ghost use Rattle.cells_sides.specs.declared.side.Side.TheVariants.{Board24};
 
-use cells_sides::{FourSlotSeat24, Handle, Loose, Record24, Side};
-use places::{Mark, Posts, end_place, make_places, read_place, read_place_since, write_place};
+use cells_sides::{
+    FourSlotSeat24, Handle, Record24, board_end, board_make, board_read, board_read_since,
+    board_write,
+};
+use places::{Mark, Posts};
 use std::alloc::Global;
 
 #[unsafe(no_mangle)]
@@ -18,7 +21,7 @@ pub extern "C" fn nidzaru_board_24_make(
     ensures { IsBoardMake live_of side_of Board24 ⟦<FourSlotSeat24 as Posts<Record24>>⟧.is_made
         limit places.old places.new first.now result }
 {
-    make_places::<Side, Handle, Record24, FourSlotSeat24>(alloc, first, limit, places)
+    board_make::<Record24, FourSlotSeat24>(alloc, first, limit, places)
 }
 
 #[unsafe(no_mangle)]
@@ -31,13 +34,7 @@ pub extern "C" fn nidzaru_board_24_write(
     ensures { IsBoardWrite Board24 ⟦<FourSlotSeat24 as Posts<Record24>>⟧.has_posted ⟦<FourSlotSeat24 as Posts<Record24>>⟧.is_refused
         (held place.old) (held place.new) item.now stamp.old stamp.new result }
 {
-    write_place::<Side, Loose, Record24, FourSlotSeat24>(
-        alloc,
-        place.live,
-        &mut place.loose,
-        item,
-        stamp,
-    )
+    board_write::<Record24, FourSlotSeat24>(alloc, place, item, stamp)
 }
 
 #[unsafe(no_mangle)]
@@ -50,13 +47,7 @@ pub extern "C" fn nidzaru_board_24_read(
     ensures { IsBoardRead Board24 ⟦<FourSlotSeat24 as Posts<Record24>>⟧.has_seen
         (held place.old) (held place.new) item.old item.new stamp.old stamp.new result }
 {
-    read_place::<Side, Loose, Record24, FourSlotSeat24>(
-        alloc,
-        place.live,
-        &mut place.loose,
-        item,
-        stamp,
-    )
+    board_read::<Record24, FourSlotSeat24>(alloc, place, item, stamp)
 }
 
 #[unsafe(no_mangle)]
@@ -70,19 +61,12 @@ pub extern "C" fn nidzaru_board_24_read_since(
     ensures { IsBoardReadSince Board24 ⟦<FourSlotSeat24 as Posts<Record24>>⟧.has_seen
         (held place.old) (held place.new) least.now item.old item.new stamp.old stamp.new result }
 {
-    read_place_since::<Side, Loose, Record24, FourSlotSeat24>(
-        alloc,
-        place.live,
-        &mut place.loose,
-        least,
-        item,
-        stamp,
-    )
+    board_read_since::<Record24, FourSlotSeat24>(alloc, place, least, item, stamp)
 }
 
 #[unsafe(no_mangle)]
 pub extern "C" fn nidzaru_board_24_end(alloc: Global, place: &mut Handle) -> u32
     ensures { IsEnd Board24 (held place.old) (held place.new) result }
 {
-    end_place::<Side, Handle, FourSlotSeat24>(alloc, place)
+    board_end::<FourSlotSeat24>(alloc, place)
 }

@@ -4,8 +4,11 @@ ghost use Rattle.places.specs.Places.{IsBoardMake, IsBoardWrite, IsBoardRead, Is
 ghost use Rattle.cells_sides.specs.Held.{held, live_of, side_of};
 ghost use Rattle.cells_sides.specs.declared.side.Side.TheVariants.{TripleBoard4096};
 
-use cells_sides::{Handle, Loose, Record4096, Side, TripleSeat4096};
-use places::{Mark, Posts, end_place, make_places, read_place, read_place_since, write_place};
+use cells_sides::{
+    Handle, Record4096, TripleSeat4096, board_end, board_make, board_read, board_read_since,
+    board_write,
+};
+use places::{Mark, Posts};
 use std::alloc::Global;
 
 #[unsafe(no_mangle)]
@@ -18,7 +21,7 @@ pub extern "C" fn nidzaru_triple_board_4096_make(
     ensures { IsBoardMake live_of side_of TripleBoard4096 ⟦<TripleSeat4096 as Posts<Record4096>>⟧.is_made
         limit places.old places.new first.now result }
 {
-    make_places::<Side, Handle, Record4096, TripleSeat4096>(alloc, first, limit, places)
+    board_make::<Record4096, TripleSeat4096>(alloc, first, limit, places)
 }
 
 #[unsafe(no_mangle)]
@@ -31,13 +34,7 @@ pub extern "C" fn nidzaru_triple_board_4096_write(
     ensures { IsBoardWrite TripleBoard4096 ⟦<TripleSeat4096 as Posts<Record4096>>⟧.has_posted ⟦<TripleSeat4096 as Posts<Record4096>>⟧.is_refused
         (held place.old) (held place.new) item.now stamp.old stamp.new result }
 {
-    write_place::<Side, Loose, Record4096, TripleSeat4096>(
-        alloc,
-        place.live,
-        &mut place.loose,
-        item,
-        stamp,
-    )
+    board_write::<Record4096, TripleSeat4096>(alloc, place, item, stamp)
 }
 
 #[unsafe(no_mangle)]
@@ -50,13 +47,7 @@ pub extern "C" fn nidzaru_triple_board_4096_read(
     ensures { IsBoardRead TripleBoard4096 ⟦<TripleSeat4096 as Posts<Record4096>>⟧.has_seen
         (held place.old) (held place.new) item.old item.new stamp.old stamp.new result }
 {
-    read_place::<Side, Loose, Record4096, TripleSeat4096>(
-        alloc,
-        place.live,
-        &mut place.loose,
-        item,
-        stamp,
-    )
+    board_read::<Record4096, TripleSeat4096>(alloc, place, item, stamp)
 }
 
 #[unsafe(no_mangle)]
@@ -70,19 +61,12 @@ pub extern "C" fn nidzaru_triple_board_4096_read_since(
     ensures { IsBoardReadSince TripleBoard4096 ⟦<TripleSeat4096 as Posts<Record4096>>⟧.has_seen
         (held place.old) (held place.new) least.now item.old item.new stamp.old stamp.new result }
 {
-    read_place_since::<Side, Loose, Record4096, TripleSeat4096>(
-        alloc,
-        place.live,
-        &mut place.loose,
-        least,
-        item,
-        stamp,
-    )
+    board_read_since::<Record4096, TripleSeat4096>(alloc, place, least, item, stamp)
 }
 
 #[unsafe(no_mangle)]
 pub extern "C" fn nidzaru_triple_board_4096_end(alloc: Global, place: &mut Handle) -> u32
     ensures { IsEnd TripleBoard4096 (held place.old) (held place.new) result }
 {
-    end_place::<Side, Handle, TripleSeat4096>(alloc, place)
+    board_end::<TripleSeat4096>(alloc, place)
 }
