@@ -1,6 +1,6 @@
 """Tries the wrong bodies of the crates: the prover has to refuse each of them, at the function that it spoils.
 
-    tests/wrong_bodies.py [--proved] [CRATE ..]
+    tests/wrong_bodies.py [--proved] [--edits FOLDER] [CRATE ..]
 
 A wrong body is an edit crates/NAME/must-fail/*.edit, as `rt must-fail` takes it. A line `function: PATH` in it names each function that it
 spoils, by its path below the crate. `rt must-fail` makes a check of the whole crate for each edit. Here a check tries edits of different
@@ -13,9 +13,11 @@ refused where the prover then names a goal of its function that it did not prove
 name that is gone. That the function calls one that is refused doesn't count. An edit that a check with others leaves open is tried once
 more alone.
 
-The libraries below a crate have to be built. RT_JOBS=N allots N processors in place of all that there are. The last line is the sums.
+The libraries below a crate have to be built. With --edits the wrong bodies of a crate are those in FOLDER/NAME. RT_JOBS=N allots N processors
+in place of all that there are. The last line is the sums.
 """
 
+import argparse
 import os
 import re
 import shutil
@@ -84,12 +86,12 @@ class Crate:
             found |= dict.fromkeys(it.below())
         return list(found)
 
-    def edits(self):
-        return sorted((self.folder / "must-fail").glob("*.edit"))
+    def edits(self, place):
+        """The files of its wrong bodies, of those in another place where one is named."""
+        return sorted((place / self.name if place else self.folder / "must-fail").glob("*.edit"))
 
-    def weight(self):
-        sizes = sum(it.stat().st_size for part in SOURCES for it in (self.folder / part).rglob("*.*"))
-        return sizes * len(self.edits())
+    def size(self):
+        return sum(it.stat().st_size for part in SOURCES for it in (self.folder / part).rglob("*.*"))
 
     def command(self, kit):
         root = "src/main.rt" if (self.folder / "src/main.rt").is_file() else "src/lib.rt"
@@ -187,10 +189,10 @@ class Room:
         return refused
 
 
-def judge(crate, kit, is_proved):
-    """Tries a crate's wrong bodies, prints a line for each, and returns how many are refused and how many aren't."""
+def judge(crate, paths, kit, is_proved):
+    """Tries these wrong bodies of a crate, prints a line for each, and returns how many are refused and how many aren't."""
     edits, refused, lines = [], {}, []
-    for path in crate.edits():
+    for path in paths:
         try:
             edit = Edit(path)
             if edit.made_in(crate.folder, {}) is None:
@@ -215,23 +217,26 @@ def judge(crate, kit, is_proved):
     return passed, tried - passed
 
 
-def main(words):
-    names = [it for it in words if it != "--proved"]
+def main():
+    parser = argparse.ArgumentParser()
+    parser.add_argument("--proved", action="store_true")
+    parser.add_argument("--edits", type=Path)
+    parser.add_argument("names", nargs="*", metavar="CRATE")
+    asked = parser.parse_args()
     crates = read_crates()
-    unknown = [it for it in names if it not in crates]
+    unknown = [it for it in asked.names if it not in crates]
     if unknown:
-        print(f"wrong_bodies: crates.txt has no crate {unknown[0]}")
-        return 2
-    chosen = [it for it in crates.values() if it.edits() and (not names or it.name in names)]
-    chosen.sort(key=Crate.weight, reverse=True)
+        parser.error(f"crates.txt has no crate {unknown[0]}")
+    paths = {it: it.edits(asked.edits) for it in crates.values() if not asked.names or it.name in asked.names}
+    chosen = sorted((it for it in paths if paths[it]), key=lambda it: -it.size() * len(paths[it]))
     kit = Path(subprocess.run(["rt", "doc"], stdout=subprocess.PIPE, check=True, text=True).stdout.strip()).parent
     lanes = int(os.environ.get("RT_JOBS") or len(os.sched_getaffinity(0)))
     with ThreadPoolExecutor(lanes) as pool:
-        counts = list(pool.map(lambda it: judge(it, kit, "--proved" in words), chosen))
+        counts = list(pool.map(lambda it: judge(it, paths[it], kit, asked.proved), chosen))
     passed, failed = (sum(it[place] for it in counts) for place in (0, 1))
     print(f"{passed} passed, {failed} failed")
     return 1 if failed else 0
 
 
 if __name__ == "__main__":
-    sys.exit(main(sys.argv[1:]))
+    sys.exit(main())
