@@ -35,7 +35,7 @@ is_fresh() {
 build() {
     cost=$(written "$1")
     if [ -n "$cost" ]; then
-        echo "build: from nothing $1 takes ${cost% *} minutes on four processors, ${cost#* } processor minutes; the lines below say how far it is"
+        echo "build: from nothing $1 took ${cost% *} minutes on the machine of docs/TESTING.md, ${cost#* } processor minutes; the lines below say how far it is"
     fi
     python3 "$top/tests/build.py" "$1"
 }
