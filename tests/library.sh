@@ -1,6 +1,7 @@
 # What `install` and the tests of the static library share. They name the folder at the top in $top.
 
-library_crates='history_core fourslot_core stamps matrix_core board_history cell_live cell_four_slot cell_triple family_live family_four_slot family_triple atomic_board sides places cells_sides cells_c'
+library_crates='history_core fourslot_core stamps matrix_core board_history cell_live cell_four_slot cell_triple family_live
+    family_four_slot family_triple atomic_board sides places cells_sides cells_c'
 
 # Whether this is there and no source that the library is made of is newer.
 is_newest() {
@@ -34,14 +35,16 @@ build_over_gate() {
 # Makes of the library's objects in this folder one whose only names for others are the library's own calls. They are hidden, so
 # that a shared object with the library inside exports none of them, and two such objects in a process don't mix their libraries.
 join_objects() {
+    # (in this order the bytes are the same everywhere)
+    export LC_ALL=C
     {
         nm -g --defined-only ./*.o | awk '$3 ~ /^nidzaru_/ { print ".hidden " $3 }'
         echo '.section .note.GNU-stack,"",@progbits'
     } >hidden.s && as hidden.s -o hidden.o && ld -r -o joined ./*.o && objcopy --wildcard --keep-global-symbol='nidzaru_*' joined nidzaru
 }
 
-# Proves and builds the library for C, where it isn't built, and puts it into the file that is named, with the toolchain's
-# one object that it needs: what takes memory from the C library.
+# Proves and builds the library for C, where it isn't built, and puts it into the file that is named, an absolute path, with the
+# toolchain's one object that it needs: what takes memory from the C library.
 make_library() {
     here=$(CDPATH= cd -- "$top/crates/cells_c" && pwd) || return 1
     kit=$(dirname -- "$(rt doc)") || return 1
@@ -50,9 +53,25 @@ make_library() {
     (
         cd "$unpacked" || exit 1
         ar x "$here/out/libcells_c.a" && ar x "$kit/c/liblibc_c.a" && join_objects && mv nidzaru nidzaru.o && rm -f "$1" \
-            && ar rcs "$1" nidzaru.o
+            && ar rcsD "$1" nidzaru.o
     )
     made=$?
     rm -rf "$unpacked"
     return $made
+}
+
+# The version that stands in the header, which is that of all parts.
+version_of_header() {
+    awk '/^#define NIDZARU_VERSION_(MAJOR|MINOR|PATCH)/ { printf dot "%s", $3; dot = "." }' "$top/c/nidzaru.h"
+}
+
+# The pages that go with the library: what the header cites, what that page's readers need next, the examples and the licences.
+library_pages='CHANGELOG.md LICENSE-MIT LICENSE-APACHE docs/C.md docs/PACKAGE.md docs/LANGUAGES.md docs/BOARD-USE.md docs/ASSUMPTIONS.md
+    docs/ONE-TIME.md examples/c/tasks.c examples/c/tasks.cpp examples/c/board.c'
+
+# Lays out the library with its headers and pages, and the script that installs them, in a new folder, an absolute path.
+lay_out() {
+    mkdir -p "$1/lib" "$1/include" && make_library "$1/lib/libnidzaru.a" && cp "$top/packaging/install" "$1/" \
+        && cp "$top/c/nidzaru.h" "$top/c/nidzaru.hpp" "$top/c/nidzaru_log.h" "$1/include/" \
+        && python3 "$top/packaging/pages.py" "$1/share/doc/nidzaru" $library_pages
 }

@@ -1,12 +1,13 @@
 //! Asks the program pkg-config where the installed library is.
 
 use std::env;
+use std::path::Path;
 use std::process::{exit, Command};
 
-/// What pkg-config prints for these words.
-fn ask(words: &[&str]) -> Result<String, String> {
+/// What pkg-config prints for this word.
+fn ask(word: &str) -> Result<String, String> {
     let program = env::var("PKG_CONFIG").unwrap_or_else(|_| "pkg-config".into());
-    let answer = Command::new(&program).args(words).arg("nidzaru").output().map_err(|error| format!("{program}: {error}"))?;
+    let answer = Command::new(&program).args([word, "nidzaru"]).output().map_err(|error| format!("{program}: {error}"))?;
     if answer.status.success() {
         Ok(String::from_utf8_lossy(&answer.stdout).trim().to_string())
     } else {
@@ -14,30 +15,49 @@ fn ask(words: &[&str]) -> Result<String, String> {
     }
 }
 
-/// Tells cargo where the library is, if it is there and of this crate's major version.
+/// A version's three numbers.
+fn numbers(version: &str) -> Option<[u64; 3]> {
+    let mut parts = version.split('.').map(|part| part.parse().ok());
+    let numbers = [parts.next()??, parts.next()??, parts.next()??];
+    parts.next().is_none().then_some(numbers)
+}
+
+/// Whether a library of this version has all that this crate calls: it is of the same major version, and not older than the crate.
+fn suits(library: &str) -> bool {
+    match (numbers(library), numbers(env!("CARGO_PKG_VERSION"))) {
+        (Some(theirs), Some(ours)) => theirs[0] == ours[0] && theirs >= ours,
+        _ => false,
+    }
+}
+
+/// Tells cargo where the library is, if it is there and suits this crate.
 fn link() -> Result<(), String> {
-    let version = ask(&["--modversion"])?;
-    let major = env::var("CARGO_PKG_VERSION_MAJOR").unwrap_or_default();
-    if version.split('.').next() != Some(&major) {
-        return Err(format!("the library is of version {version}, and this crate is for {major}"));
+    let version = ask("--modversion")?;
+    if !suits(&version) {
+        let needed = env!("CARGO_PKG_VERSION");
+        return Err(format!("the library is of version {version}, and this crate needs {needed} or a later one of its major version"));
     }
-    for word in ask(&["--libs"])?.split_whitespace() {
-        if let Some(folder) = word.strip_prefix("-L") {
-            println!("cargo:rustc-link-search=native={folder}");
-            println!("cargo:rerun-if-changed={folder}/libnidzaru.a");
-        } else if let Some(name) = word.strip_prefix("-l") {
-            println!("cargo:rustc-link-lib=static={name}");
-        }
+    let (folder, packages) = (ask("--variable=libdir")?, ask("--variable=pcfiledir")?);
+    let library = Path::new(&folder).join("libnidzaru.a");
+    if !library.is_file() {
+        return Err(format!("there is no {}", library.display()));
     }
+    println!("cargo:rustc-link-search=native={folder}");
+    println!("cargo:rustc-link-lib=static=nidzaru");
+    // (where another library is installed there, it is linked anew)
+    println!("cargo:rerun-if-changed={}", library.display());
+    println!("cargo:rerun-if-changed={}", Path::new(&packages).join("nidzaru.pc").display());
     Ok(())
 }
 
 fn main() {
-    println!("cargo:rerun-if-env-changed=PKG_CONFIG");
-    println!("cargo:rerun-if-env-changed=PKG_CONFIG_PATH");
+    for name in ["PKG_CONFIG", "PKG_CONFIG_PATH", "PKG_CONFIG_LIBDIR"] {
+        println!("cargo:rerun-if-env-changed={name}");
+    }
+    println!("cargo:rerun-if-changed=build.rs");
     if let Err(why) = link() {
         eprintln!("the library nidzaru isn't found: {why}");
-        eprintln!("install it by `./install PREFIX` of its repository, and set PKG_CONFIG_PATH=PREFIX/lib/pkgconfig");
+        eprintln!("install it by `./install PREFIX` of its repository or its package, and set PKG_CONFIG_PATH=PREFIX/lib/pkgconfig");
         exit(1);
     }
 }
