@@ -1,15 +1,17 @@
 -- The answer to a log has status 0 or 1.
-use Rattle.std.proofs.Common.{rules, arith, ◌≡◌, ◌≤◌, ℕ, List, Result, Ok, Err, ap, sym, subst}
+use Rattle.std.proofs.Common.{rules, arith, ◌≡◌, ◌≤◌, ℕ, List, Bool, true, false, Result, Ok, Err, ap, sym, subst}
 use Rattle.document_runs.specs.Answers.{AnswersReading, Gives, HasLowStatus}
 use Rattle.document_runs.specs.declared.fault.Answer.{Answer}
 use Rattle.document_runs.specs.declared.fault.Fault.{Fault}
 use Rattle.history_core.specs.declared.band.Band.{Band}
 use Rattle.history_core.specs.declared.history.History.{History}
 use Rattle.document_refusals.specs.declared.refusal.DocError.{DocError}
+use Rattle.lines_answers.specs.Answers.{IsLinesAnswer, status_of as lines_status}
+use Rattle.lines_answers.specs.Kinds.{are_lines}
 use Rattle.log_text.specs.Log.{log_of}
 use Rattle.order_search.specs.declared.reason.Search.{Search}
 use Rattle.order_search.specs.declared.reason.Search.TheVariants.{Order, Unlawful}
-use Rattle.order_answers.specs.Order.{AnswersOrder, IsOrderAnswer, printed, status_of}
+use Rattle.order_answers.specs.Order.{AnswersOrder, IsAnswerBy, IsLogAnswer, IsOrderAnswer, printed, status_of}
 
 search_is_low : (search : Search) → status_of search ≤ 1
 search_is_low (Order order) = omega arith
@@ -22,6 +24,22 @@ low_log : (d : Result (History Band) DocError) (a : Answer) → AnswersReading A
 low_log (Ok log) a answered = low_search answered.0 a answered.2
 low_log (Err refusal) a answered = absurd (cc)
 
+low_answer : (bytes : List ℕ) (r : Result Answer Fault) → Gives (IsLogAnswer bytes) r → HasLowStatus r
+low_answer bytes (Ok a) answered = low_log (log_of bytes) a answered
+low_answer bytes (Err e) refused = search rules
+
+lines_is_low : (search : Search) → lines_status search ≤ 1
+lines_is_low (Order order) = omega arith
+lines_is_low (Unlawful reason) = omega arith
+
+low_lines : (bytes : List ℕ) (r : Result Answer Fault) → Gives (IsLinesAnswer bytes) r → HasLowStatus r
+low_lines bytes (Ok a) found =
+    subst (λ (s : ℕ). s ≤ 1) (sym (ap (λ (b : Answer). b.status) found.told)) (lines_is_low found.search)
+low_lines bytes (Err e) refused = search rules
+
+low_by : (in_lines : Bool) (bytes : List ℕ) (r : Result Answer Fault) → Gives (IsAnswerBy in_lines bytes) r → HasLowStatus r
+low_by true bytes r answered = low_lines bytes r answered
+low_by false bytes r answered = low_answer bytes r answered
+
 pub low_order : (bytes : List ℕ) (r : Result Answer Fault) → Gives (IsOrderAnswer bytes) r → HasLowStatus r
-low_order bytes (Ok a) answered = low_log (log_of bytes) a answered
-low_order bytes (Err e) refused = search rules
+low_order bytes r answered = low_by (are_lines bytes) bytes r answered

@@ -1,11 +1,14 @@
--- The answer to a document of kind `log`: a lawful order of its operations, or that there is none, or the fault (this project's own).
-use Rattle.std.specs.Prelude.{◌≡◌, ℕ, List, Result, Ok, Err}
+-- The answer to a log, in lines or as a document of kind `log`: a lawful order of its operations, or that there is none, or the fault
+-- (this project's own).
+use Rattle.std.specs.Prelude.{◌≡◌, ℕ, List, Bool, true, false, Result, Ok, Err}
 use Rattle.document_runs.specs.Answers.{AnswersReading}
 use Rattle.document_runs.specs.declared.fault.Answer.{Answer}
 use Rattle.document_runs.specs.declared.fault.Fault.{Fault}
 use Rattle.document_runs.specs.declared.fault.Fault.TheVariants as fault
 use Rattle.history_core.specs.declared.band.Band.{Band}
 use Rattle.history_core.specs.declared.history.History.{History}
+use Rattle.lines_answers.specs.Answers.{IsLinesAnswer}
+use Rattle.lines_answers.specs.Kinds.{are_lines}
 use Rattle.log_search.specs.Logs.{IsLogFault, IsLogSearch}
 use Rattle.log_search.specs.Text.{search_text}
 use Rattle.log_text.specs.Log.{log_of}
@@ -26,9 +29,19 @@ abbrev pub AnswersOrder : History Band → Result Answer Fault → Type 0
 AnswersOrder log (Ok answer) = (search : Search) × IsLogSearch log search × (answer ≡ printed search)
 AnswersOrder log (Err (fault.Document refusal)) = ⊥
 AnswersOrder log (Err (fault.History why)) = IsLogFault log (fault.History why)
+AnswersOrder log (Err (fault.Lines why)) = ⊥
 AnswersOrder log (Err (fault.Schedule position)) = ⊥
 AnswersOrder log (Err fault.NoMemory) = ⊥
 
+-- the answer to the bytes of a document of kind `log`
+abbrev pub IsLogAnswer : List ℕ → Result Answer Fault → Type 0
+IsLogAnswer bytes reply = AnswersReading AnswersOrder (log_of bytes) reply
+
+-- the answer by the kind: whether the document is a log in lines
+abbrev pub IsAnswerBy : Bool → List ℕ → Result Answer Fault → Type 0
+IsAnswerBy true bytes reply = IsLinesAnswer bytes reply
+IsAnswerBy false bytes reply = IsLogAnswer bytes reply
+
 -- the answer of the command `order` to the bytes of a document
 abbrev pub IsOrderAnswer : List ℕ → Result Answer Fault → Type 0
-IsOrderAnswer bytes reply = AnswersReading AnswersOrder (log_of bytes) reply
+IsOrderAnswer bytes reply = IsAnswerBy (are_lines bytes) bytes reply

@@ -1,21 +1,35 @@
 ghost use Rattle.std.specs.Prelude.{◌≡◌, IfOk};
 ghost use Rattle.document_runs.specs.Answers.{Gives};
-ghost use Rattle.order_answers.specs.Order.{AnswersOrder, IsOrderAnswer, printed, status_of};
+ghost use Rattle.order_answers.specs.Order.{AnswersOrder, IsLogAnswer, IsOrderAnswer, printed, status_of};
 ghost use Rattle.history_text.specs.Refusals.{Gives as Reads};
 ghost use Rattle.log_text.specs.Log.{CanBeSearched, log_of};
 
 use document_runs::{Answer, Fault};
 use history_core::{Band, History, Items};
 use history_text::{DocError, read_value};
+use lines_answers::{are_lines, order_lines};
 use log_search::{search_log, search_text};
 use log_text::log_document;
 use order_search::Search;
 use std::alloc::{AllocError, Global};
 use std::mem::forget;
 
-/// The answer of the command `order` to the bytes of a document: a lawful order of its log, or the reason why there is none.
+/// The answer of the command `order` to the bytes of a document: a lawful order of its log, or the reason why there is none. A log in
+/// lines is told by its first line.
 pub fn order(alloc: Global, bytes: &[u8]) -> Result<Answer, Fault>
     ensures { Gives (IsOrderAnswer bytes.now) result }
+{
+    let in_lines = are_lines(alloc, bytes)?;
+    if in_lines {
+        order_lines(alloc, bytes)
+    } else {
+        order_document(alloc, bytes)
+    }
+}
+
+/// The answer to a document of kind `log`.
+fn order_document(alloc: Global, bytes: &[u8]) -> Result<Answer, Fault>
+    ensures { Gives (IsLogAnswer bytes.now) result }
 {
     let log = read(alloc, bytes)?;
     order_log(alloc, &log)

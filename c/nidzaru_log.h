@@ -1,0 +1,307 @@
+/* A recorder: what threads do on one register, or on anything that is to be one, written as JSON Lines for `fsr order`. It needs
+ * no library; C11 and C++17, gcc and clang.
+ *
+ * Each thread has a log of its own. All of its memory is taken, and touched, before the threads begin:
+ *
+ *   nidzaru_log log;
+ *   nidzaru_log_open(&log, who, 1000000)                     room for so many operations of one thread
+ *
+ *   nidzaru_log_begin_write(&log, item.number, &item, sizeof item);
+ *   publish(&item);
+ *   nidzaru_log_end_write(&log);                             or, if it was refused, nidzaru_log_end_refused(&log, ..) with what it saw
+ *
+ *   nidzaru_log_begin_read(&log);
+ *   fetch(&item);
+ *   nidzaru_log_end_read(&log, item.number, &item, sizeof item);
+ *
+ * and when the threads are joined, or stand still for good:
+ *
+ *   nidzaru_log *logs[] = {&first, &second};
+ *   nidzaru_log_merge(stdout, logs, 2, nidzaru_log_record_of(opening.number, &opening, sizeof opening), 0)
+ *
+ * A record is [number, hash]. The number stands in the data; no two writes have the same, and none has the opening's. The hash is of
+ * all bytes, so data of two writes that were mixed show as a record that nobody wrote (unless two hashes are equal by chance). Bytes
+ * between the members of a struct count as well: set them to zero, or pass data that has none.
+ *
+ * A write stands in the log from its begin on: one that never returns is written without an end. A read that never returns is
+ * left out. A log that has no room left counts what it lost, and then nothing is merged, since a write that is missing would
+ * condemn whoever read it. `nidzaru_log_is_full` tells a thread when to stop.
+ *
+ * Stamps. A begin is never taken late, nor an end early, so an interval may be longer than its call and is never shorter. On x86-64
+ * `lfence` behind `rdtsc` holds back what follows, and `mfence` before `rdtscp` waits for what went before (Intel, Software Developer's
+ * Manual, volume 2, "RDTSC" and "RDTSCP"). The counters of all processors have to run together (constant_tsc and nonstop_tsc in
+ * /proc/cpuinfo). With NIDZARU_LOG_TSC 0, and on other processors, the clock is CLOCK_MONOTONIC, in nanoseconds: more portable and
+ * slower, and outside x86-64 not tried. The begin waits until the clock has left the thread's last end, so operations of one thread
+ * never touch.
+ *
+ * The fence. When a call returns, what it stored may still wait in the store buffer of its processor. With an end stamped then,
+ * others read the old record after that end, and a correct register of release stores and acquire loads is `crossed` or `stale`: by the
+ * clock it isn't linearizable. With NIDZARU_LOG_FENCE 1, as it is if nothing else is defined, a full fence stands before the end's stamp.
+ * The log is then of the call and the fence together. NIDZARU_LOG_FENCE 0 leaves it out and asks the stronger question. */
+#ifndef NIDZARU_LOG_H
+#define NIDZARU_LOG_H
+
+#include <inttypes.h>
+#include <stddef.h>
+#include <stdint.h>
+#include <stdio.h>
+#include <stdlib.h>
+#include <string.h>
+#include <time.h>
+
+#ifndef NIDZARU_LOG_FENCE
+#define NIDZARU_LOG_FENCE 1
+#endif
+#ifndef NIDZARU_LOG_TSC
+#ifdef __x86_64__
+#define NIDZARU_LOG_TSC 1
+#else
+#define NIDZARU_LOG_TSC 0
+#endif
+#endif
+
+#ifdef __x86_64__
+#include <x86intrin.h>
+#endif
+#ifdef __cplusplus
+#include <atomic>
+#define NIDZARU_LOG_CAST(type, it) static_cast<type>(it)
+#define NIDZARU_LOG_ORDER(fence) std::atomic_##fence(std::memory_order_seq_cst)
+#else
+#include <stdatomic.h>
+#define NIDZARU_LOG_CAST(type, it) ((type)(it))
+#define NIDZARU_LOG_ORDER(fence) atomic_##fence(memory_order_seq_cst)
+#endif
+#if !NIDZARU_LOG_TSC && !defined(CLOCK_MONOTONIC)
+#error "the clock needs clock_gettime: compile with -D_POSIX_C_SOURCE=199309L"
+#endif
+
+#define NIDZARU_LOG_INLINE __attribute__((unused)) static inline
+#define NIDZARU_LOG_CHECKED __attribute__((warn_unused_result)) NIDZARU_LOG_INLINE
+
+/* Why no log was opened, or none was merged. 0 is that all went well. */
+enum {
+    NIDZARU_LOG_NO_MEMORY = 1, /* memory for a log was refused */
+    NIDZARU_LOG_FULL = 2,      /* a log had no room for one of its operations */
+    NIDZARU_LOG_UNPAIRED = 3,  /* an operation began within another of its thread, or ended and hadn't begun */
+    NIDZARU_LOG_NO_LIMIT = 4,  /* a write was refused, and no limit was told */
+    NIDZARU_LOG_STREAM = 5     /* the stream took not all of it */
+};
+
+enum { NIDZARU_LOG_NOTHING, NIDZARU_LOG_WRITE, NIDZARU_LOG_READ, NIDZARU_LOG_REFUSED };
+
+typedef struct {
+    uint64_t number, hash;
+} nidzaru_log_record;
+
+typedef struct {
+    uint64_t kind, begin, end;
+    nidzaru_log_record record;
+} nidzaru_log_operation;
+
+/* What one thread did. Its members are the recorder's own. */
+typedef struct {
+    nidzaru_log_operation *operations;
+    size_t count, room, merged;
+    uint64_t who, lost, unpaired, refused, last_end;
+    nidzaru_log_operation under_way; /* `end` isn't known yet; NIDZARU_LOG_NOTHING where none is */
+    char apart[64];                  /* logs that lie side by side share no cache line that their threads store to */
+} nidzaru_log;
+
+/* A log of the thread `who` with room for so many operations. Threads have different numbers. */
+NIDZARU_LOG_CHECKED int nidzaru_log_open(nidzaru_log *log, uint64_t who, size_t room) {
+    memset(log, 0, sizeof *log);
+    if (room > SIZE_MAX / sizeof *log->operations) return NIDZARU_LOG_NO_MEMORY;
+    log->operations = NIDZARU_LOG_CAST(nidzaru_log_operation *, malloc(room ? room * sizeof *log->operations : 1));
+    if (!log->operations) return NIDZARU_LOG_NO_MEMORY;
+    memset(log->operations, 1, room * sizeof *log->operations); /* every page is there before the threads begin */
+    log->room = room;
+    log->who = who;
+    return 0;
+}
+
+NIDZARU_LOG_INLINE void nidzaru_log_close(nidzaru_log *log) {
+    free(log->operations);
+    memset(log, 0, sizeof *log);
+}
+
+/* Whether the next operation of the thread has no room. */
+NIDZARU_LOG_INLINE int nidzaru_log_is_full(const nidzaru_log *log) { return log->count == log->room; }
+
+/* The record of these data: their number, and a hash of all bytes. Of two that differ in one word alone the hashes differ. */
+NIDZARU_LOG_INLINE nidzaru_log_record nidzaru_log_record_of(uint64_t number, const void *data, size_t size) {
+    const unsigned char *bytes = NIDZARU_LOG_CAST(const unsigned char *, data);
+    nidzaru_log_record record;
+    record.number = number;
+    record.hash = 0x9e3779b97f4a7c15u ^ size;
+    for (size_t at = 0; at < size; at += 8) {
+        uint64_t word = 0;
+        memcpy(&word, bytes + at, size - at < 8 ? size - at : 8);
+        record.hash = (record.hash ^ word) * 0xff51afd7ed558ccdu;
+        record.hash ^= record.hash >> 32;
+    }
+    return record;
+}
+
+NIDZARU_LOG_INLINE uint64_t nidzaru_log_clock(void) {
+    struct timespec now = {0, 0};
+#ifdef CLOCK_MONOTONIC
+    clock_gettime(CLOCK_MONOTONIC, &now);
+#endif
+    return NIDZARU_LOG_CAST(uint64_t, now.tv_sec) * 1000000000u + NIDZARU_LOG_CAST(uint64_t, now.tv_nsec);
+}
+
+/* A moment after the thread's last end. Nothing that follows has been done by it. */
+NIDZARU_LOG_INLINE uint64_t nidzaru_log_stamp_begin(const nidzaru_log *log) {
+    uint64_t now;
+    NIDZARU_LOG_ORDER(signal_fence);
+    do {
+#if NIDZARU_LOG_TSC
+        now = __rdtsc();
+#else
+        now = nidzaru_log_clock();
+#endif
+    } while (now <= log->last_end);
+#ifdef __x86_64__
+    _mm_lfence();
+#else
+    NIDZARU_LOG_ORDER(thread_fence);
+#endif
+    NIDZARU_LOG_ORDER(signal_fence);
+    return now;
+}
+
+/* A moment by which all that went before has been done, and, with the fence, can be seen by all. */
+NIDZARU_LOG_INLINE uint64_t nidzaru_log_stamp_end(void) {
+    uint64_t now;
+#if NIDZARU_LOG_TSC
+    unsigned processor;
+#endif
+    NIDZARU_LOG_ORDER(signal_fence);
+#if NIDZARU_LOG_FENCE && defined(__x86_64__)
+    _mm_mfence();
+#elif NIDZARU_LOG_FENCE
+    NIDZARU_LOG_ORDER(thread_fence);
+#endif
+#if NIDZARU_LOG_TSC
+    now = __rdtscp(&processor);
+#else
+    now = nidzaru_log_clock();
+#endif
+    NIDZARU_LOG_ORDER(signal_fence);
+    return now;
+}
+
+NIDZARU_LOG_INLINE void nidzaru_log_begin(nidzaru_log *log, uint64_t kind, nidzaru_log_record record) {
+    log->unpaired += log->under_way.kind != NIDZARU_LOG_NOTHING;
+    log->under_way.record = record;
+    log->under_way.begin = nidzaru_log_stamp_begin(log);
+    log->under_way.kind = kind;
+}
+
+NIDZARU_LOG_INLINE void nidzaru_log_end(nidzaru_log *log, uint64_t began_as, uint64_t kind, uint64_t end, nidzaru_log_record record) {
+    nidzaru_log_operation *next;
+    log->unpaired += log->under_way.kind != began_as;
+    log->last_end = end;
+    if (log->count == log->room) {
+        log->lost++;
+    } else {
+        next = &log->operations[log->count++];
+        next->kind = kind;
+        next->begin = log->under_way.begin;
+        next->end = end;
+        next->record = record;
+    }
+    log->under_way.kind = NIDZARU_LOG_NOTHING;
+}
+
+/* Before a write of these data. */
+NIDZARU_LOG_INLINE void nidzaru_log_begin_write(nidzaru_log *log, uint64_t number, const void *data, size_t size) {
+    nidzaru_log_begin(log, NIDZARU_LOG_WRITE, nidzaru_log_record_of(number, data, size));
+}
+
+/* After a write that took effect. */
+NIDZARU_LOG_INLINE void nidzaru_log_end_write(nidzaru_log *log) {
+    uint64_t end = nidzaru_log_stamp_end();
+    nidzaru_log_end(log, NIDZARU_LOG_WRITE, NIDZARU_LOG_WRITE, end, log->under_way.record);
+}
+
+/* After a write that was refused, with the data that it saw last. */
+NIDZARU_LOG_INLINE void nidzaru_log_end_refused(nidzaru_log *log, uint64_t number, const void *data, size_t size) {
+    uint64_t end = nidzaru_log_stamp_end();
+    nidzaru_log_end(log, NIDZARU_LOG_WRITE, NIDZARU_LOG_REFUSED, end, nidzaru_log_record_of(number, data, size));
+    log->refused++;
+}
+
+/* Before a read. */
+NIDZARU_LOG_INLINE void nidzaru_log_begin_read(nidzaru_log *log) {
+    nidzaru_log_record none = {0, 0};
+    nidzaru_log_begin(log, NIDZARU_LOG_READ, none);
+}
+
+/* After a read that gave these data. The stamp is taken before the hash. */
+NIDZARU_LOG_INLINE void nidzaru_log_end_read(nidzaru_log *log, uint64_t number, const void *data, size_t size) {
+    uint64_t end = nidzaru_log_stamp_end();
+    nidzaru_log_end(log, NIDZARU_LOG_READ, NIDZARU_LOG_READ, end, nidzaru_log_record_of(number, data, size));
+}
+
+/* The next operation of a log to be written, or nothing: after those that ended a write that is under way. */
+NIDZARU_LOG_INLINE const nidzaru_log_operation *nidzaru_log_next(const nidzaru_log *log) {
+    if (log->merged < log->count) return &log->operations[log->merged];
+    return log->merged == log->count && log->under_way.kind == NIDZARU_LOG_WRITE ? &log->under_way : NULL;
+}
+
+/* The log whose next operation began first, or nothing where all are written. */
+NIDZARU_LOG_INLINE nidzaru_log *nidzaru_log_first(nidzaru_log *const *logs, size_t count) {
+    nidzaru_log *first = NULL;
+    for (size_t at = 0; at < count; at++) {
+        const nidzaru_log_operation *next = nidzaru_log_next(logs[at]);
+        if (next && (!first || next->begin < nidzaru_log_next(first)->begin)) first = logs[at];
+    }
+    return first;
+}
+
+NIDZARU_LOG_INLINE void nidzaru_log_put(FILE *to, const nidzaru_log *log, uint64_t zero) {
+    static const char *const kinds[] = {"", "write", "read", "refused"};
+    const nidzaru_log_operation *it = nidzaru_log_next(log);
+    fprintf(to, "{\"who\":%" PRIu64 ",\"kind\":\"%s\",\"begin\":%" PRIu64 ",\"end\":", log->who, kinds[it->kind], it->begin - zero);
+    if (it == &log->under_way) {
+        fputs("null", to);
+    } else {
+        fprintf(to, "%" PRIu64, it->end - zero);
+    }
+    fprintf(to, ",\"record\":[%" PRIu64 ",%" PRIu64 "]}\n", it->record.number, it->record.hash);
+}
+
+/* Why these logs can't be merged, or 0. */
+NIDZARU_LOG_INLINE int nidzaru_log_fault(nidzaru_log *const *logs, size_t count, uint64_t limit) {
+    for (size_t at = 0; at < count; at++) {
+        if (logs[at]->unpaired) return NIDZARU_LOG_UNPAIRED;
+        if (logs[at]->lost) return NIDZARU_LOG_FULL;
+        if (logs[at]->refused && !limit) return NIDZARU_LOG_NO_LIMIT;
+    }
+    return 0;
+}
+
+/* Writes all logs as JSON Lines by beginning, the first of which is moment 0, and behind them their number. `limit` is the number of
+ * writes before the first that may be refused, or 0 where none ever is. Nothing is written where a log lost an operation. */
+NIDZARU_LOG_CHECKED int nidzaru_log_merge(FILE *to, nidzaru_log *const *logs, size_t count, nidzaru_log_record opening, uint64_t limit) {
+    uint64_t operations = 0, zero;
+    int fault = nidzaru_log_fault(logs, count, limit);
+    if (fault) return fault;
+    for (size_t at = 0; at < count; at++) logs[at]->merged = 0;
+    fprintf(to, "{\"kind\":\"lines\",\"opening\":[%" PRIu64 ",%" PRIu64 "]", opening.number, opening.hash);
+    if (limit) fprintf(to, ",\"limit\":%" PRIu64, limit);
+    fputs("}\n", to);
+    nidzaru_log *first = nidzaru_log_first(logs, count);
+    zero = first ? nidzaru_log_next(first)->begin : 0;
+    for (; first; first = nidzaru_log_first(logs, count)) {
+        nidzaru_log_put(to, first, zero);
+        first->merged++;
+        operations++;
+    }
+    fprintf(to, "{\"kind\":\"done\",\"ops\":%" PRIu64 "}\n", operations);
+    return fflush(to) || ferror(to) ? NIDZARU_LOG_STREAM : 0;
+}
+
+#endif

@@ -1,0 +1,166 @@
+/* The recorder's own rules: what is told, what is lost, what isn't merged. C11 and C++17. The last line is `passed`. */
+#include "nidzaru_log.h"
+
+static int failed;
+static void check(int holds, const char *what) {
+    if (!holds) {
+        failed = 1;
+        printf("FAILED: %s\n", what);
+    }
+}
+
+static nidzaru_log one, two;
+static nidzaru_log *logs[] = {&one, &two};
+static const uint64_t opening[] = {0, 7}, first[] = {1, 7}, second[] = {2, 7};
+static char text[4096];
+
+static void open_both(size_t room) {
+    check(nidzaru_log_open(&one, 3, room) == 0 && nidzaru_log_open(&two, 5, room) == 0, "logs are opened");
+}
+
+static void close_both(void) {
+    nidzaru_log_close(&one);
+    nidzaru_log_close(&two);
+    check(!one.operations && !two.operations, "a closed log has no memory");
+}
+
+/* What the merge writes stands in `text`; answers its status. */
+static int merge(uint64_t limit) {
+    FILE *to = tmpfile();
+    size_t size;
+    int status;
+    check(to != NULL, "a file for the text");
+    status = nidzaru_log_merge(to, logs, 2, nidzaru_log_record_of(opening[0], opening, sizeof opening), limit);
+    rewind(to);
+    size = fread(text, 1, sizeof text - 1, to);
+    text[size] = 0;
+    fclose(to);
+    return status;
+}
+
+static void write_one(nidzaru_log *log, const uint64_t *item) {
+    nidzaru_log_begin_write(log, item[0], item, 2 * sizeof *item);
+    nidzaru_log_end_write(log);
+}
+
+static void read_one(nidzaru_log *log, const uint64_t *item) {
+    nidzaru_log_begin_read(log);
+    nidzaru_log_end_read(log, item[0], item, 2 * sizeof *item);
+}
+
+/* The times of the operations are set, so that the text is known. */
+static void set_times(nidzaru_log *log, size_t at, uint64_t begin, uint64_t end) {
+    check(at < log->count, "an operation whose times are set");
+    log->operations[at].begin = begin;
+    log->operations[at].end = end;
+    log->operations[at].record.hash = 9;
+}
+
+static void check_text(void) {
+    open_both(4);
+    write_one(&one, first);
+    read_one(&two, opening);
+    nidzaru_log_begin_write(&two, second[0], second, sizeof second);
+    nidzaru_log_end_refused(&two, first[0], first, sizeof first);
+    set_times(&one, 0, 102, 109);
+    set_times(&two, 0, 100, 103);
+    set_times(&two, 1, 105, 106);
+    nidzaru_log_begin_write(&one, second[0], second, sizeof second);
+    one.under_way.begin = 120;
+    one.under_way.record.hash = 9;
+    nidzaru_log_begin_read(&two);
+    check(merge(0) == NIDZARU_LOG_NO_LIMIT && !text[0], "a refused write without a limit");
+    for (int again = 0; again < 2; again++) {
+        check(merge(4) == 0, "a merge");
+        check(!strcmp(strchr(text, '\n'),
+                      "\n"
+                      "{\"who\":5,\"kind\":\"read\",\"begin\":0,\"end\":3,\"record\":[0,9]}\n"
+                      "{\"who\":3,\"kind\":\"write\",\"begin\":2,\"end\":9,\"record\":[1,9]}\n"
+                      "{\"who\":5,\"kind\":\"refused\",\"begin\":5,\"end\":6,\"record\":[1,9]}\n"
+                      "{\"who\":3,\"kind\":\"write\",\"begin\":20,\"end\":null,\"record\":[2,9]}\n"
+                      "{\"kind\":\"done\",\"ops\":4}\n"),
+              "the lines by beginning: an unfinished write is there, an unfinished read isn't");
+        check(!strncmp(text, "{\"kind\":\"lines\",\"opening\":[0,", 29) && strstr(text, "],\"limit\":4}\n"), "the header");
+    }
+    close_both();
+    open_both(0);
+    check(merge(0) == 0 && !strcmp(strchr(text, '\n'), "\n{\"kind\":\"done\",\"ops\":0}\n"), "logs without operations");
+    close_both();
+}
+
+static void check_full(void) {
+    open_both(1);
+    check(!nidzaru_log_is_full(&one), "an empty log has room");
+    write_one(&one, first);
+    check(nidzaru_log_is_full(&one) && merge(0) == 0, "a log that is full has lost nothing");
+    read_one(&one, first);
+    check(merge(0) == NIDZARU_LOG_FULL && !text[0], "a log that lost an operation isn't merged");
+    close_both();
+    check(nidzaru_log_open(&one, 0, SIZE_MAX / 2) == NIDZARU_LOG_NO_MEMORY, "room that there isn't");
+}
+
+static void check_pairs(void) {
+    open_both(4);
+    nidzaru_log_begin_write(&one, first[0], first, sizeof first);
+    nidzaru_log_begin_read(&one);
+    check(merge(0) == NIDZARU_LOG_UNPAIRED && !text[0], "a read that begins within a write");
+    close_both();
+    open_both(4);
+    nidzaru_log_end_write(&two);
+    check(merge(0) == NIDZARU_LOG_UNPAIRED, "a write that ends and hadn't begun");
+    close_both();
+    open_both(4);
+    nidzaru_log_begin_read(&two);
+    nidzaru_log_end_write(&two);
+    check(merge(0) == NIDZARU_LOG_UNPAIRED, "a read that ends as a write");
+    close_both();
+}
+
+/* Operations of one thread never touch, however short they are. */
+static void check_times(void) {
+    enum { MANY = 1000 };
+    open_both(MANY);
+    for (int at = 0; at < MANY; at++) read_one(&one, opening);
+    for (int at = 0; at < MANY; at++) {
+        const nidzaru_log_operation *it = &one.operations[at];
+        check(it->begin <= it->end && (!at || it[-1].end < it->begin), "each operation begins after the thread's last end");
+    }
+    one.last_end = nidzaru_log_stamp_end() + 100000;
+    nidzaru_log_begin_read(&one);
+    check(one.under_way.begin > one.last_end, "a begin waits until the clock has left the last end");
+    close_both();
+}
+
+/* Each byte counts, and where it stands. The hash of one word was computed by hand (in Python's whole numbers). */
+static void check_records(void) {
+    unsigned char bytes[19] = {0}, other[19];
+    uint64_t word = 5, hash = nidzaru_log_record_of(0, bytes, sizeof bytes).hash;
+    check(nidzaru_log_record_of(8, &word, 8).number == 8, "the number is the one that is told");
+    check(nidzaru_log_record_of(8, &word, 8).hash == 0x2c67c3ed3a1dbcd5u, "the hash of a word");
+    for (size_t at = 0; at < sizeof bytes; at++) {
+        memcpy(other, bytes, sizeof bytes);
+        other[at] = 1;
+        check(nidzaru_log_record_of(0, other, sizeof other).hash != hash, "each byte is in the hash");
+        check(nidzaru_log_record_of(0, bytes, at).hash != hash, "the size is in the hash");
+    }
+}
+
+static void check_stream(void) {
+    FILE *full = fopen("/dev/full", "w");
+    if (!full) return;
+    open_both(1);
+    check(nidzaru_log_merge(full, logs, 2, nidzaru_log_record_of(0, opening, sizeof opening), 0) == NIDZARU_LOG_STREAM, "a full disk");
+    fclose(full);
+    close_both();
+}
+
+int main(void) {
+    check_text();
+    check_full();
+    check_pairs();
+    check_times();
+    check_records();
+    check_stream();
+    puts(failed ? "failed" : "passed");
+    return failed;
+}

@@ -1,0 +1,31 @@
+-- What a search answers about a whole log. This project's own, over the verdict on an order and the reasons.
+use Rattle.std.specs.Prelude.{◌≡◌, ℕ, ◌<◌, ◌≤◌, true, false, List, length, take, slice_get, Some}
+use Rattle.history_core.specs.declared.history.Op.{Op}
+use Rattle.history_core.specs.declared.history.Verdict.TheVariants.{Lawful as LawfulOrder}
+use Rattle.history_core.specs.Numbers.{StandsAt}
+use Rattle.history_core.specs.Orders.{is_write, IsVerdict, writes_in}
+use Rattle.order_search.specs.Reasons.{OfOneRecord}
+use Rattle.order_search.specs.Searches.{IsFault, IsUnlawful}
+use Rattle.order_search.specs.declared.reason.SearchError.{SearchError}
+use Rattle.history_thinning.specs.declared.thinned.LogAnswer.{LogAnswer}
+use Rattle.history_thinning.specs.declared.thinned.LogAnswer.TheVariants.{Lawful, Unlawful}
+use Rattle.history_thinning.specs.Thinnings.{Equal, one_term}
+
+-- an order of the whole log is lawful; its writes stand as listed, each with as many listed before it as stand before it; and answers of
+-- one record stand by beginning
+pub record IsLawfulBy (limit : ℕ) (log : List (Op ℕ)) (writes order : List ℕ) : Type 0 where
+  pub lawful : IsVerdict Equal 0 (one_term limit) log order LawfulOrder
+  pub long : length writes ≡ writes_in (λ _. true) log order
+  pub listed : (i p : ℕ) (o : Op ℕ) → StandsAt log order i p o → is_write o.kind ≡ true →
+      slice_get writes (writes_in (λ _. true) log (take i order)) ≡ Some p
+  pub by_beginning : (i j p q : ℕ) (a b : Op ℕ) → StandsAt log order i p a → StandsAt log order j q b → i < j → is_write a.kind ≡ false →
+      OfOneRecord Equal a b → a.starts ≤ b.starts
+
+-- the answer: such an order exists; or none is lawful, and this is a reason of the first rule that any reason of the whole log has
+abbrev pub IsLogAnswer : ℕ → List (Op ℕ) → LogAnswer → Type 0
+IsLogAnswer limit log (Lawful writes) = (order : List ℕ) × IsLawfulBy limit log writes order
+IsLogAnswer limit log (Unlawful reason) = IsUnlawful Equal 0 limit (one_term limit) log reason
+
+-- what stands in the way of a search of this log: what a search of the whole of it would tell
+abbrev pub IsLogFault : List (Op ℕ) → SearchError → Type 0
+IsLogFault log error = (limit : ℕ) → IsFault Equal 0 (one_term limit) log error

@@ -1,0 +1,91 @@
+-- What is kept of each record, while a log is read. Only callers' invariants and private functions cite this, which is this project's
+-- own; what is kept at the end stands in Thinnings.
+use Rattle.std.specs.Prelude.{◌≡◌, ℕ, ◌≤◌, true, List, slice_get, Option, None, Some, IsSome, IsSomeAnd, nat_lt, if◌then◌else◌}
+use Rattle.history_core.specs.declared.history.Op.{Op}
+use Rattle.history_core.specs.declared.history.Kind.{Kind}
+use Rattle.history_core.specs.declared.history.Kind.TheVariants.{Write, Read, Refused}
+use Rattle.history_core.specs.Orders.{is_write}
+use Rattle.order_search.specs.Reasons.{counts}
+use Rattle.order_search.specs.Searches.{AreForwards, WritesOnce}
+use Rattle.history_thinning.specs.declared.group.Group.{Group}
+use Rattle.history_thinning.specs.declared.group.Placed.{Placed}
+use Rattle.history_thinning.specs.declared.thinner.Thinner.{Thinner}
+use Rattle.history_thinning.specs.Thinnings.{Equal}
+
+abbrev pub latest_write : Option Placed → Placed → Kind → Option Placed
+latest_write kept placed Write = Some placed
+latest_write kept placed Read = kept
+latest_write kept placed Refused = kept
+
+abbrev pub latest_refused : Option Placed → Placed → Kind → Option Placed
+latest_refused kept placed Refused = Some placed
+latest_refused kept placed Write = kept
+latest_refused kept placed Read = kept
+
+abbrev pub end_of : Option Placed → Option ℕ
+end_of None = None
+end_of (Some m) = m.op.ends
+
+-- the first to end, where the kept one ends then and the new one then
+abbrev pub first_of : Option Placed → Placed → Option ℕ → ℕ → Option Placed
+first_of kept placed None end = Some placed
+first_of kept placed (Some least) end = if nat_lt end least then Some placed else kept
+
+abbrev pub earlier_end : Option Placed → Placed → Option ℕ → Option Placed
+earlier_end kept placed None = kept
+earlier_end kept placed (Some end) = first_of kept placed (end_of kept) end
+
+abbrev pub later_begin : Option Placed → Placed → Option Placed
+later_begin None placed = Some placed
+later_begin (Some m) placed = if nat_lt m.op.starts placed.op.starts then Some placed else Some m
+
+-- a group with one more operation
+abbrev pub joined_group : Group → Placed → Group
+joined_group group placed = record {
+  write = latest_write group.write placed placed.op.kind;
+  first = earlier_end group.first placed placed.op.ends;
+  last = later_begin group.last placed;
+  refused = latest_refused group.refused placed placed.op.kind;
+}
+
+abbrev pub empty_group : Group
+empty_group = record { write = None; first = None; last = None; refused = None }
+
+-- what is kept is an operation of the log that counts, with its place, and has this record
+pub record IsPlaced (log : List (Op ℕ)) (number : ℕ) (kept : Placed) : Type 0 where
+  pub at : slice_get log kept.place ≡ Some kept.op
+  pub item : kept.op.item ≡ Some number
+  pub counted : counts kept.op ≡ true
+
+-- what is kept of a record is of the log
+pub record IsGroup (log : List (Op ℕ)) (number : ℕ) (group : Group) : Type 0 where
+  pub write : (m : Placed) → group.write ≡ Some m → IsPlaced log number m × (is_write m.op.kind ≡ true)
+  pub first : (m : Placed) → group.first ≡ Some m → IsPlaced log number m × IsSome m.op.ends
+  pub last : (m : Placed) → group.last ≡ Some m → IsPlaced log number m
+  pub refused : (m : Placed) → group.refused ≡ Some m → IsPlaced log number m × IsSome m.op.ends × (m.op.kind ≡ Refused)
+
+-- what is kept of the record of an operation stands for it
+pub record StandsFor (group : Group) (p : ℕ) (o : Op ℕ) : Type 0 where
+  pub write : is_write o.kind ≡ true → (m : Placed) × (group.write ≡ Some m) × (m.place ≡ p)
+  pub first : (end : ℕ) → o.ends ≡ Some end → (m : Placed) × (group.first ≡ Some m) × IsSomeAnd m.op.ends (λ least. least ≤ end)
+  pub last : (m : Placed) × (group.last ≡ Some m) × (o.starts ≤ m.op.starts)
+  pub refused : o.kind ≡ Refused → (m : Placed) × (group.refused ≡ Some m)
+
+-- the group of the record of an operation stands for it
+pub record IsStoodFor (groups : List Group) (p : ℕ) (o : Op ℕ) : Type 0 where
+  pub number : ℕ
+  pub group : Group
+  pub item : o.item ≡ Some number
+  pub at : slice_get groups number ≡ Some group
+  pub stands : StandsFor group p o
+
+-- groups of a log so far
+pub record AreKept (log : List (Op ℕ)) (groups : List Group) : Type 0 where
+  pub each : (number : ℕ) (group : Group) → slice_get groups number ≡ Some group → IsGroup log number group
+  pub all : (p : ℕ) (o : Op ℕ) → slice_get log p ≡ Some o → counts o ≡ true → IsStoodFor groups p o
+  pub forwards : (n : ℕ) → AreForwards log n
+  pub once : (n : ℕ) → WritesOnce Equal 0 log n
+
+-- a log has been entered
+abbrev pub IsThinning : List (Op ℕ) → Thinner → Type 0
+IsThinning log thinner = AreKept log thinner.groups.items

@@ -1,0 +1,103 @@
+//! The search of a thinned log, and what it says of the whole.
+
+ghost use Rattle.std.specs.Prelude.{◌≡◌, ℕ, List, length, IfOk, MatchResult, slice_get};
+ghost use Rattle.history_core.specs.Orders.{is_write_at};
+ghost use Rattle.history_core.specs.declared.history.Op.{Op};
+ghost use Rattle.order_search.specs.declared.reason.SearchError.TheVariants.{NoMemory};
+ghost use Rattle.history_thinning.specs.Answers.{IsLogAnswer};
+ghost use Rattle.history_thinning.specs.Thinnings.{IsThinnedLog};
+ghost use Rattle.history_thinning.specs.inner.Mapped.{AreWrites, place_in, reason_in};
+
+use crate::thinned::{LogAnswer, Thinned};
+use history_core::{Items, Kind, Op};
+use order_search::{Reason, Search, SearchError, find_order};
+use std::alloc::{AllocError, Global};
+
+/// What a search of the whole log would answer, from few of its operations. It takes n log n steps for n operations that were kept.
+pub fn search_thinned(alloc: Global, thinned: &Thinned) -> Result<LogAnswer, SearchError>
+    ensures { MatchResult result
+        (λ answer. (limit : ℕ) (log : List (Op ℕ)) → IsThinnedLog limit log thinned.now → IsLogAnswer limit log answer)
+        (λ error. (limit : ℕ) (log : List (Op ℕ)) → IsThinnedLog limit log thinned.now → error ≡ NoMemory) }
+{
+    let places = thinned.places.as_slice();
+    match find_order(alloc, &thinned.history) {
+        Ok(Search::Order(order)) => {
+            let ops = thinned.history.ops.as_slice();
+            let listed = order.into_vec();
+            match writes_of(alloc, ops, places, listed.as_slice()) {
+                Ok(writes) => Ok(LogAnswer::Lawful {
+                    writes: Items::new(writes),
+                }),
+                Err(_) => Err(SearchError::NoMemory),
+            }
+        }
+        Ok(Search::Unlawful(reason)) => Ok(LogAnswer::Unlawful {
+            reason: reason_in(places, reason),
+        }),
+        Err(error) => Err(error),
+    }
+}
+
+/// The places in the log of the writes that an order lists.
+fn writes_of(
+    alloc: Global,
+    ops: &[Op<usize>],
+    places: &[usize],
+    order: &[usize],
+) -> Result<Vec<usize>, AllocError>
+    ensures { IfOk result (λ v. AreWrites ops.now places.now order.now (length order.now) v.items) }
+{
+    let mut writes = Vec::new(alloc);
+    for kept in order {
+        if is_write_at(ops, *kept) {
+            writes.push(place_in(places, *kept))?;
+        }
+    }
+    Ok(writes)
+}
+
+fn is_write_at(ops: &[Op<usize>], kept: usize) -> bool
+    ensures { result ≡ is_write_at (slice_get ops.now kept) }
+{
+    match ops.get(kept) {
+        Some(op) => op.kind == Kind::Write,
+        None => false,
+    }
+}
+
+/// The place in the log of a kept operation.
+fn place_in(places: &[usize], kept: usize) -> usize
+    ensures { result ≡ place_in places.now kept }
+{
+    match places.get(kept) {
+        Some(place) => *place,
+        None => kept,
+    }
+}
+
+fn reason_in(places: &[usize], reason: Reason) -> Reason
+    ensures { result ≡ reason_in places.now reason }
+{
+    match reason {
+        Reason::Unwritten { read } => Reason::Unwritten {
+            read: place_in(places, read),
+        },
+        Reason::Early { read, write } => Reason::Early {
+            read: place_in(places, read),
+            write: place_in(places, write),
+        },
+        Reason::Stale { before, read } => Reason::Stale {
+            before: place_in(places, before),
+            read: place_in(places, read),
+        },
+        Reason::Crossed { a, b, c, d } => Reason::Crossed {
+            a: place_in(places, a),
+            b: place_in(places, b),
+            c: place_in(places, c),
+            d: place_in(places, d),
+        },
+        Reason::Limit { refused } => Reason::Limit {
+            refused: place_in(places, refused),
+        },
+    }
+}

@@ -1,0 +1,20 @@
+use history_core::{History, Items};
+use order_search::Reason;
+
+/// The operations that are kept of a log, in the order of the log.
+#[derive(Debug, Drop)]
+pub struct Thinned {
+    /// They, under one term. The opening is 0.
+    pub history: History<usize>,
+    /// The place of each of them in the log.
+    pub places: Items<usize>,
+}
+
+/// What a search answers about a whole log. Places are those in the log, counted from 0.
+#[derive(Debug, Drop)]
+pub enum LogAnswer {
+    /// A lawful order exists. Its writes stand in this order, behind each the finished operations that have its record, by beginning.
+    Lawful { writes: Items<usize> },
+    /// No order is lawful.
+    Unlawful { reason: Reason },
+}

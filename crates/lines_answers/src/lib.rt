@@ -1,0 +1,10 @@
+//! What `fsr` answers to a log in lines.
+#![tactic(auto)]
+
+mod answer;
+mod kind;
+mod named;
+mod text;
+
+pub use answer::order_lines;
+pub use kind::are_lines;

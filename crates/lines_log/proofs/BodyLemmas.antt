@@ -1,0 +1,173 @@
+-- Line by line: what is left of the body becomes shorter, and what was read longer.
+use Rattle.std.proofs.Common.{◌≡◌, ℕ, List, [], ◌∷◌, ◌++◌, length, refl, ap, sym, ◌∙◌, arith, subst, Some, None, Option, Ok, Result, Err}
+use Rattle.std.proofs.Common.{Bool, true, false, ◌⊎◌, inl, inr, append_assoc}
+use Rattle.std.specs.Prelude.{◌==◌, not, if◌then◌else◌}
+use Rattle.std.proofs.lemmas.List.{append-nil}
+use Rattle.document_refusals.specs.declared.refusal.DocError.{DocError}
+use Rattle.document_refusals.specs.declared.refusal.DocError.TheVariants.{Missing}
+use Rattle.document_refusals.specs.declared.key.Key.TheVariants as key
+use Rattle.history_core.specs.declared.history.Op.{Op}
+use Rattle.history_text.specs.Refusals.{◌>>=◌}
+use Rattle.document_runs.specs.declared.fault.Fault.{Fault}
+use Rattle.lines_tables.specs.Splits.{in_front, IsSplit, lines_of}
+use Rattle.lines_text.specs.Lines.{done, Entry, entry_of, Head, head_of, operation}
+use Rattle.lines_log.specs.Faults.{IsBodyFault, is_last, IsLineFault}
+use Rattle.lines_log.specs.Logs.{AreAll, AreLines, IsLinesLog, is_refused, judged, judged_line}
+use Rattle.std.specs.Prelude.{is_some, MatchOption, unwrap_or}
+use Rattle.std.proofs.lemmas.Option.{same_Some}
+use Rattle.history_text.specs.Histories.{one_term}
+use Rattle.lines_tables.specs.Tasks.{TakeTurns}
+use Rattle.lines_log.specs.declared.lines_log.LinesLog.{LinesLog}
+use Rattle.lines_log.specs.inner.Readings.{IsFinished, IsRead, IsReadWhole, IsUnderWay, is_end, ReadsLine}
+use Rattle.lines_log.specs.declared.reader.Reader.{Reader}
+
+-- with lines behind it a line is no end
+abbrev judged_inside : Bool → ℕ → Result Entry DocError → Result (Option (Op (List ℕ))) DocError
+judged_inside limited count entry = entry >>= judged limited count false
+
+never : (limited : Bool) (count : ℕ) (entry : Result Entry DocError) → judged_inside limited count entry ≡ Ok None → ⊥
+never limited count (Err why) h = cc
+never limited count (Ok (done ops)) h = cc
+never true count (Ok (operation o)) h = cc
+never false count (Ok (operation o)) h = by_kind (is_refused o.kind) h
+  where
+    by_kind : (b : Bool) → (if (not b) then Ok (Some o) else Err (Missing key.Limit)) ≡ Ok None → ⊥
+    by_kind true e = cc
+    by_kind false e = cc
+
+-- only the last line ends a log
+ends_last : (limited last : Bool) (count : ℕ) (line : List ℕ) → judged_line limited count last line ≡ Ok None → last ≡ true
+ends_last limited true count line is = refl
+ends_last limited false count line is = absurd (never limited count (entry_of line) is)
+
+end_is : (rest : List ℕ) → is_end rest ≡ true → rest ≡ []
+end_is [] e = refl
+end_is (x ∷ xs) e = cc
+
+-- where nothing is left no line is
+pub last_of_rest : (rest : List ℕ) → is_last (lines_of rest) ≡ is_end rest
+last_of_rest [] = refl
+last_of_rest (x ∷ xs) = by_feed (x == 10)
+  where
+    of_front : (ls : List (List ℕ)) → is_last (in_front x ls) ≡ false
+    of_front [] = refl
+    of_front (l ∷ ls) = refl
+
+    by_feed : (b : Bool) → is_last (if b then [] ∷ lines_of xs else in_front x (lines_of xs)) ≡ false
+    by_feed true = refl
+    by_feed false = of_front (lines_of xs)
+
+pub begun : (opening : List ℕ) (body : List ℕ) (reader : Reader) → IsRead opening [] reader
+    → IsUnderWay opening reader.limited (lines_of body) body reader
+begun opening body reader read = record { lines = []; read = read; limits = refl; left = inl refl }
+
+none_left : (rest line behind : List ℕ) → IsSplit rest line behind → rest ≡ [] → ⊥
+none_left rest line behind split none =
+    let empty : length rest ≡ 0 = ap length none in omega (arith, empty, split.shorter)
+
+pub one_more : (opening : List ℕ) (limited : Bool) (body : List (List ℕ)) (rest line behind : List ℕ) (old new : Reader)
+    → IsUnderWay opening limited body rest old → IsSplit rest line behind
+    → ((lines : List (List ℕ)) → IsRead opening lines old → ReadsLine opening lines line (is_end behind) old new) → new.limited ≡ old.limited
+    → IsUnderWay opening limited body behind new
+one_more opening limited body rest line behind old new way split reads same = by_left way.left
+  where
+    at_line : body ≡ way.lines ++ lines_of rest → body ≡ way.lines ++ line ∷ lines_of behind
+    at_line going = going ∙ ap (λ (l : List (List ℕ)). way.lines ++ l) split.lines
+
+    by_line : body ≡ way.lines ++ line ∷ lines_of behind → ReadsLine opening way.lines line (is_end behind) old new
+        → IsUnderWay opening limited body behind new
+    by_line here (inl more) = record {
+      lines = way.lines ++ line ∷ [];
+      read = more;
+      limits = same ∙ way.limits;
+      left = inl (here ∙ sym (append_assoc way.lines (line ∷ []) (lines_of behind)));
+    }
+    by_line here (inr ended) =
+        let at_end : is_end behind ≡ true = ends_last old.limited (is_end behind) (length way.lines) line ended.1 in
+        let nothing : behind ≡ [] = end_is behind at_end in
+        let judged_last : judged_line limited (length way.lines) true line ≡ Ok None =
+        subst (λ (b : Bool). judged_line b (length way.lines) true line ≡ Ok None) way.limits
+        (subst (λ (b : Bool). judged_line old.limited (length way.lines) b line ≡ Ok None) at_end ended.1) in
+        record {
+          lines = way.lines;
+          read = ended.0;
+          limits = same ∙ way.limits;
+          left = inr (nothing, (line, here ∙ ap (λ (l : List ℕ). way.lines ++ line ∷ lines_of l) nothing, judged_last));
+        }
+
+    by_left : (body ≡ way.lines ++ lines_of rest)
+        ⊎ ((rest ≡ []) × ((end : List ℕ) × (body ≡ way.lines ++ end ∷ []) × (judged_line limited (length way.lines) true end ≡ Ok None)))
+        → IsUnderWay opening limited body behind new
+    by_left (inl going) = by_line (at_line going) (reads way.lines way.read)
+    by_left (inr ended) = absurd (none_left rest line behind split ended.0)
+
+pub all_read : (opening : List ℕ) (limited : Bool) (body : List (List ℕ)) (rest : List ℕ) (reader : Reader) → rest ≡ []
+    → IsUnderWay opening limited body rest reader → IsReadWhole opening body reader
+all_read opening limited body rest reader none way = record { lines = way.lines; read = way.read; all = by_left way.left }
+  where
+    by_left : (body ≡ way.lines ++ lines_of rest)
+        ⊎ ((rest ≡ []) × ((end : List ℕ) × (body ≡ way.lines ++ end ∷ []) × (judged_line limited (length way.lines) true end ≡ Ok None)))
+        → AreAll reader.limited body way.lines
+    by_left (inl going) = inl (going ∙ ap (λ (l : List ℕ). way.lines ++ lines_of l) none ∙ append-nil way.lines)
+    by_left (inr ended) =
+        inr (ended.1.0, ended.1.1, subst (λ (b : Bool). judged_line b (length way.lines) true ended.1.0 ≡ Ok None) (sym way.limits) ended.1.2)
+
+pub at_fault : (opening : List ℕ) (limited : Bool) (body : List (List ℕ)) (rest line behind : List ℕ) (reader : Reader) (f : Fault)
+    → IsUnderWay opening limited body rest reader → IsSplit rest line behind
+    → ((lines : List (List ℕ)) → IsRead opening lines reader → IsLineFault reader.limited lines line (is_end behind) f)
+    → IsBodyFault limited body f
+at_fault opening limited body rest line behind reader f way split wrong = by_left way.left
+  where
+    fill : body ≡ way.lines ++ line ∷ lines_of behind → IsBodyFault limited body f
+    fill here = record {
+      lines = way.lines;
+      line = line;
+      behind = lines_of behind;
+      split = here;
+      records = way.read.records;
+      log = reader.ops.items;
+      are = subst (λ (b : Bool). AreLines b way.lines way.read.records reader.ops.items) way.limits way.read.are;
+      turns = way.read.tasks.turn;
+      wrong = subst (λ (b : Bool). IsLineFault limited way.lines line b f) (sym (last_of_rest behind))
+          (subst (λ (b : Bool). IsLineFault b way.lines line (is_end behind) f) way.limits (wrong way.lines way.read));
+    }
+
+    by_left : (body ≡ way.lines ++ lines_of rest)
+        ⊎ ((rest ≡ []) × ((end : List ℕ) × (body ≡ way.lines ++ end ∷ []) × (judged_line limited (length way.lines) true end ≡ Ok None)))
+        → IsBodyFault limited body f
+    by_left (inl going) = fill (going ∙ ap (λ (l : List (List ℕ)). way.lines ++ l) split.lines)
+    by_left (inr ended) = absurd (none_left rest line behind split ended.0)
+
+-- nothing was found, so what holds of nothing holds
+pub none_found : {X : Type 0} {P : Type 0} (Q : X → Type 0) (o : Option X) → MatchOption o P Q → ((x : X) → o ≡ Some x → ⊥) → P
+none_found Q None h none = h
+none_found Q (Some x) h none = absurd (none x refl)
+
+-- what was read is the log
+pub assembled : (bytes first body : List ℕ) (head : Head) (limit : ℕ) (reader : Reader) (log : LinesLog) → IsSplit bytes first body
+    → head_of first ≡ Ok head → reader.limited ≡ is_some head.limit → IsReadWhole head.opening (lines_of body) reader
+    → limit ≡ unwrap_or head.limit 1 → IsFinished limit reader log → IsLinesLog bytes log
+assembled bytes first body head limit reader log split said limited whole limit_is finished =
+    let records = whole.read.records in
+    let are : AreLines (is_some head.limit) whole.lines records reader.ops.items =
+    subst (λ (b : Bool). AreLines b whole.lines records reader.ops.items) limited whole.read.are in
+    record {
+      head = head;
+      records = records;
+      is = record {
+        header = first;
+        body = lines_of body;
+        lines = whole.lines;
+        split = split.lines;
+        said = said;
+        all = subst (λ (b : Bool). AreAll b (lines_of body) whole.lines) limited whole.all;
+        are = subst (λ (ops : List (Op ℕ)). AreLines (is_some head.limit) whole.lines records ops) (sym finished.ops) are;
+        opening = whole.read.opened;
+        distinct = λ text m n at_m at_n.
+            same_Some m n (sym (whole.read.numbering.known text m at_m) ∙ whole.read.numbering.known text n at_n);
+        turns = subst (λ (ops : List (Op ℕ)). TakeTurns ops) (sym finished.ops) whole.read.tasks.turn;
+      };
+      opening = finished.opening;
+      term = finished.term ∙ ap one_term limit_is;
+      count = finished.count records whole.read.numbering;
+    }

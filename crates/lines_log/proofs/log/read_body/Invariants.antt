@@ -1,0 +1,16 @@
+-- The lines so far were read, and each took a byte of the text at least.
+use Rattle.std.proofs.Common.{◌≡◌, ◌+◌, ◌≤◌, ℕ, List, [], length}
+use Rattle.lines_log.specs.inner.Readings.{IsRead, IsUnderWay}
+use Rattle.lines_tables.specs.Splits.{lines_of}
+use Rattle.lines_log.proofs.log.read_body.Given as goal
+
+abbrev pub invariant-lines : goal.invariant-lines
+invariant-lines l = record {
+  way : (opening : List ℕ) → IsRead opening [] l.initial.reader →
+      IsUnderWay opening l.initial.reader.limited (lines_of l.body) l.rest l.reader;
+  limits : l.reader.limited ≡ l.initial.reader.limited;
+  room : length l.reader.ops.items + length l.rest ≤ length l.initial.reader.ops.items + length l.body;
+}
+
+abbrev pub decreases-lines : goal.decreases-lines
+decreases-lines l = length l.rest

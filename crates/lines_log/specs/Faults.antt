@@ -1,0 +1,90 @@
+-- Why lines stand for no log: the first line at fault, and why. The lines before it are all right (this project's own).
+use Rattle.std.specs.Prelude.{◌≡◌, ℕ, ◌+◌, ◌⊎◌, true, false, List, [], ◌∷◌, ◌++◌, length, Bool, is_some, Ok, Err}
+use Rattle.history_core.specs.declared.history.Op.{Op}
+use Rattle.document_refusals.specs.declared.refusal.DocError.{DocError}
+use Rattle.document_refusals.specs.declared.refusal.DocError.TheVariants.{Law, NoMemory as no_memory, NotJson}
+use Rattle.document_refusals.specs.declared.key.Key.TheVariants.{End}
+use Rattle.document_runs.specs.declared.fault.Fault.{Fault}
+use Rattle.document_runs.specs.declared.fault.Fault.TheVariants as fault
+use Rattle.document_runs.specs.declared.fault.LinesFault.TheVariants.{Refused, Backwards, Overlaps}
+use Rattle.lines_tables.specs.Splits.{lines_of}
+use Rattle.lines_tables.specs.Tasks.{Overlap, TakeTurns}
+use Rattle.lines_text.specs.Lines.{Head, head_of}
+use Rattle.lines_log.specs.Logs.{AreLines, judged_line}
+
+-- the line of the operation at a place: the header's is 1
+abbrev pub line_at : ℕ → ℕ
+line_at place = place + 2
+
+-- how a refusal of this line is told
+abbrev pub refused_at : ℕ → DocError → Fault
+refused_at line (Law End) = fault.Lines (Backwards line)
+refused_at line no_memory = fault.NoMemory
+refused_at line why = fault.Lines (Refused line why)
+
+-- the operation of this line overlaps one of its task
+pub record IsOverlap (limited : Bool) (lines : List (List ℕ)) (line : List ℕ) (who first second : ℕ) : Type 0 where
+  pub records : List (List ℕ)
+  pub log : List (Op ℕ)
+  pub next : Op ℕ
+  pub place : ℕ
+  pub are : AreLines limited (lines ++ line ∷ []) records (log ++ next ∷ [])
+  pub task : who ≡ next.who
+  pub overlap : Overlap log next place
+  pub first_line : first ≡ line_at place
+  pub second_line : second ≡ line_at (length log)
+
+-- a line behind these is refused
+abbrev pub IsRefusedLine : Bool → List (List ℕ) → List ℕ → Bool → Fault → Type 0
+IsRefusedLine limited lines line last f =
+    (why : DocError) × (judged_line limited (length lines) last line ≡ Err why) × (f ≡ refused_at (line_at (length lines)) why)
+
+-- the operation of the line overlaps one of its task
+abbrev pub IsOverlapped : Bool → List (List ℕ) → List ℕ → Fault → Type 0
+IsOverlapped limited lines line f =
+    (who : ℕ) × (first : ℕ) × (second : ℕ) × (f ≡ fault.Lines (Overlaps who first second)) × IsOverlap limited lines line who first second
+
+-- the fault of a line behind these, unless memory ran out
+abbrev pub IsLineFault : Bool → List (List ℕ) → List ℕ → Bool → Fault → Type 0
+IsLineFault limited lines line last f =
+    (f ≡ fault.NoMemory) ⊎ (IsRefusedLine limited lines line last f ⊎ IsOverlapped limited lines line f)
+
+-- whether no line follows
+abbrev pub is_last : List (List ℕ) → Bool
+is_last [] = true
+is_last (line ∷ lines) = false
+
+-- the first line at fault among these behind the header
+pub record IsBodyFault (limited : Bool) (body : List (List ℕ)) (f : Fault) : Type 0 where
+  pub lines : List (List ℕ)
+  pub line : List ℕ
+  pub behind : List (List ℕ)
+  pub split : body ≡ lines ++ line ∷ behind
+  pub records : List (List ℕ)
+  pub log : List (Op ℕ)
+  pub are : AreLines limited lines records log
+  pub turns : TakeTurns log
+  pub wrong : IsLineFault limited lines line (is_last behind) f
+
+-- the header is at fault
+pub record IsHeaderFault (bytes : List ℕ) (f : Fault) : Type 0 where
+  pub header : List ℕ
+  pub body : List (List ℕ)
+  pub why : DocError
+  pub split : lines_of bytes ≡ header ∷ body
+  pub refused : head_of header ≡ Err why
+  pub told : f ≡ refused_at 1 why
+
+-- a line behind a header is at fault
+pub record IsLaterFault (bytes : List ℕ) (f : Fault) : Type 0 where
+  pub header : List ℕ
+  pub body : List (List ℕ)
+  pub head : Head
+  pub split : lines_of bytes ≡ header ∷ body
+  pub said : head_of header ≡ Ok head
+  pub wrong : IsBodyFault (is_some head.limit) body f
+
+-- the fault of a text, unless memory ran out
+abbrev pub IsLinesFault : List ℕ → Fault → Type 0
+IsLinesFault bytes f =
+    (f ≡ fault.NoMemory) ⊎ (((bytes ≡ []) × (f ≡ refused_at 1 NotJson)) ⊎ (IsHeaderFault bytes f ⊎ IsLaterFault bytes f))

@@ -1,0 +1,79 @@
+-- The log that lines stand for: an operation a line, and a number for each record (this project's own).
+use Rattle.std.specs.Prelude.{◌≡◌, ℕ, ◌==◌, List, [], ◌∷◌, ◌++◌, ◌⊎◌, length, Bool, true, false, ◌||◌, not, if◌then◌else◌, slice_get}
+use Rattle.std.specs.Prelude.{Option, None, Some, is_some, unwrap_or, Result, Ok, Err}
+use Rattle.history_core.specs.declared.history.Kind.{Kind}
+use Rattle.history_core.specs.declared.history.Kind.TheVariants.{Write, Read, Refused}
+use Rattle.history_core.specs.declared.history.Op.{Op}
+use Rattle.history_text.specs.Histories.{one_term}
+use Rattle.document_refusals.specs.declared.refusal.DocError.{DocError}
+use Rattle.document_refusals.specs.declared.refusal.DocError.TheVariants.{Law, Missing, Shape}
+use Rattle.document_refusals.specs.declared.key.Key.TheVariants as key
+use Rattle.history_text.specs.Refusals.{◌>>=◌}
+use Rattle.lines_log.specs.declared.lines_log.LinesLog.{LinesLog}
+use Rattle.lines_tables.specs.Numberings.{AreDistinct}
+use Rattle.lines_tables.specs.Splits.{lines_of}
+use Rattle.lines_tables.specs.Tasks.{TakeTurns}
+use Rattle.lines_text.specs.Lines.{Entry, operation, done, entry_of, Head, head_of}
+
+abbrev pub is_refused : Kind → Bool
+is_refused Write = false
+is_refused Read = false
+is_refused Refused = true
+
+-- What a line is behind so many operations: an operation, or the end of the log. A write is refused only where the header has a limit,
+-- and the end stands on the last line, with the number of the operations.
+abbrev pub judged : Bool → ℕ → Bool → Entry → Result (Option (Op (List ℕ))) DocError
+judged limited count last (operation o) = if limited || not (is_refused o.kind) then Ok (Some o) else Err (Missing key.Limit)
+judged limited count last (done ops) = if last then (if ops == count then Ok None else Err (Law key.Ops)) else Err (Shape key.Kind)
+
+abbrev pub judged_line : Bool → ℕ → Bool → List ℕ → Result (Option (Op (List ℕ))) DocError
+judged_line limited count last line = entry_of line >>= judged limited count last
+
+-- the number of a record, where there is one
+abbrev pub IsItem : List (List ℕ) → Option (List ℕ) → Option ℕ → Type 0
+IsItem records None None = Unit {0}
+IsItem records None (Some n) = ⊥
+IsItem records (Some text) None = ⊥
+IsItem records (Some text) (Some n) = slice_get records n ≡ Some text
+
+-- an operation with the number of its record in place of its text
+pub record IsNumberedOp (records : List (List ℕ)) (said : Op (List ℕ)) (op : Op ℕ) : Type 0 where
+  pub who : op.who ≡ said.who
+  pub kind : op.kind ≡ said.kind
+  pub starts : op.starts ≡ said.starts
+  pub ends : op.ends ≡ said.ends
+  pub item : IsItem records said.item op.item
+
+-- these operations stand on these lines, where these are the records
+pub record AreLines (limited : Bool) (lines records : List (List ℕ)) (log : List (Op ℕ)) : Type 0 where
+  pub long : length log ≡ length lines
+  pub each : (p : ℕ) (line : List ℕ) (op : Op ℕ) → slice_get lines p ≡ Some line → slice_get log p ≡ Some op →
+      (said : Op (List ℕ)) × (last : Bool) × (judged_line limited p last line ≡ Ok (Some said)) × IsNumberedOp records said op
+
+-- the lines behind the header are those of the operations, and the end if it is there
+abbrev pub AreAll : Bool → List (List ℕ) → List (List ℕ) → Type 0
+AreAll limited body lines =
+    (body ≡ lines) ⊎ ((end : List ℕ) × (body ≡ lines ++ end ∷ []) × (judged_line limited (length lines) true end ≡ Ok None))
+
+-- The log that a text stands for: each record has its place among these for its number, and the opening is the first. Of two operations
+-- of one task the first has ended before the second begins.
+pub record IsLog (bytes : List ℕ) (head : Head) (records : List (List ℕ)) (log : List (Op ℕ)) : Type 0 where
+  pub header : List ℕ
+  pub body : List (List ℕ)
+  pub lines : List (List ℕ)
+  pub split : lines_of bytes ≡ header ∷ body
+  pub said : head_of header ≡ Ok head
+  pub all : AreAll (is_some head.limit) body lines
+  pub are : AreLines (is_some head.limit) lines records log
+  pub opening : slice_get records 0 ≡ Some head.opening
+  pub distinct : AreDistinct records
+  pub turns : TakeTurns log
+
+-- what is to be searched: this log, whose opening is record 0, in one term; and how many records there are
+pub record IsLinesLog (bytes : List ℕ) (read : LinesLog) : Type 0 where
+  pub head : Head
+  pub records : List (List ℕ)
+  pub is : IsLog bytes head records read.history.ops
+  pub opening : read.history.opening ≡ 0
+  pub term : read.history.terms ≡ one_term (unwrap_or head.limit 1)
+  pub count : read.records ≡ length records

@@ -1,0 +1,53 @@
+-- How far a log is read. Only private functions cite this, which is this project's own.
+use Rattle.std.specs.Prelude.{◌≡◌, ℕ, List, [], ◌∷◌, ◌++◌, ◌⊎◌, length, Bool, true, false, slice_get, None, Some, Ok}
+use Rattle.lines_tables.specs.Numberings.{IsNumbering}
+use Rattle.lines_tables.specs.Splits.{lines_of}
+use Rattle.lines_tables.specs.Tasks.{KnowsTasks}
+use Rattle.lines_log.specs.Logs.{AreAll, AreLines, judged_line}
+use Rattle.history_text.specs.Histories.{one_term}
+use Rattle.lines_log.specs.declared.lines_log.LinesLog.{LinesLog}
+use Rattle.lines_log.specs.declared.reader.Reader.{Reader}
+
+-- these lines were read
+pub record IsRead (opening : List ℕ) (lines : List (List ℕ)) (reader : Reader) : Type 0 where
+  pub records : List (List ℕ)
+  pub are : AreLines reader.limited lines records reader.ops.items
+  pub numbering : IsNumbering records reader.numbering
+  pub opened : slice_get records 0 ≡ Some opening
+  pub tasks : KnowsTasks reader.ops.items reader.turns
+
+-- one more line was read: an operation was entered, or it is the end
+abbrev pub ReadsLine : List ℕ → List (List ℕ) → List ℕ → Bool → Reader → Reader → Type 0
+ReadsLine opening lines line last old new =
+    IsRead opening (lines ++ line ∷ []) new
+    ⊎ (IsRead opening lines new × (judged_line old.limited (length lines) last line ≡ Ok None))
+
+-- some lines were read
+abbrev pub HasRead : Reader → Type 0
+HasRead reader = (opening : List ℕ) × (lines : List (List ℕ)) × IsRead opening lines reader
+
+-- lines of this body were read, and it goes on with the rest; or its end was, and nothing is left
+pub record IsUnderWay (opening : List ℕ) (limited : Bool) (body : List (List ℕ)) (rest : List ℕ) (reader : Reader) : Type 0 where
+  pub lines : List (List ℕ)
+  pub read : IsRead opening lines reader
+  pub limits : reader.limited ≡ limited
+  pub left : (body ≡ lines ++ lines_of rest)
+      ⊎ ((rest ≡ []) × ((end : List ℕ) × (body ≡ lines ++ end ∷ []) × (judged_line limited (length lines) true end ≡ Ok None)))
+
+-- the body was read
+pub record IsReadWhole (opening : List ℕ) (body : List (List ℕ)) (reader : Reader) : Type 0 where
+  pub lines : List (List ℕ)
+  pub read : IsRead opening lines reader
+  pub all : AreAll reader.limited body lines
+
+-- whether nothing is left
+abbrev pub is_end : List ℕ → Bool
+is_end [] = true
+is_end (byte ∷ bytes) = false
+
+-- what was read, as it is given
+pub record IsFinished (limit : ℕ) (reader : Reader) (log : LinesLog) : Type 0 where
+  pub opening : log.history.opening ≡ 0
+  pub term : log.history.terms ≡ one_term limit
+  pub ops : log.history.ops ≡ reader.ops.items
+  pub count : (records : List (List ℕ)) → IsNumbering records reader.numbering → log.records ≡ length records

@@ -1,0 +1,53 @@
+//! One line behind the header.
+ghost use Rattle.std.specs.Prelude.{◌≡◌, true, IfOk, IfSome, option_map};
+ghost use Rattle.history_text.specs.Refusals.{Gives};
+ghost use Rattle.lines_log.specs.Logs.{judged, judged_line};
+ghost use Rattle.lines_text.specs.Lines.{done, ends_later, operation, op_seen};
+
+use history_core::Kind;
+use history_text::{DocError, Key};
+use lines_text::{LineOp, LogLine, read_line};
+use std::alloc::Global;
+
+/// The operation of a line that stands behind so many operations, or none where it ends the log.
+pub(crate) fn read_op(
+    alloc: Global,
+    limited: bool,
+    count: usize,
+    last: bool,
+    bytes: &[u8],
+) -> Result<Option<LineOp>, DocError>
+    ensures said { Gives (option_map op_seen) result (judged_line limited count last bytes.now) }
+    ensures forwards { IfOk result (λ found. IfSome found (λ op. ends_later op.begin op.end ≡ true)) }
+{
+    let line = read_line(alloc, bytes)?;
+    match line {
+        LogLine::Operation(op) => judged_op(limited, op),
+        LogLine::Done(ops) => judged_end(ops, count, last),
+    }
+}
+
+fn judged_op(limited: bool, op: LineOp) -> Result<Option<LineOp>, DocError>
+    requires { ends_later op.begin op.end ≡ true }
+    ensures said { Gives (option_map op_seen) result (judged limited 0 true (operation (op_seen op))) }
+    ensures forwards { IfOk result (λ found. IfSome found (λ op. ends_later op.begin op.end ≡ true)) }
+{
+    if limited || op.kind != Kind::Refused {
+        Ok(Some(op))
+    } else {
+        Err(DocError::Missing(Key::Limit))
+    }
+}
+
+fn judged_end(ops: usize, count: usize, last: bool) -> Result<Option<LineOp>, DocError>
+    ensures said { Gives (option_map op_seen) result (judged true count last (done ops)) }
+    ensures forwards { IfOk result (λ found. IfSome found (λ op. ends_later op.begin op.end ≡ true)) }
+{
+    if !last {
+        Err(DocError::Shape(Key::Kind))
+    } else if ops == count {
+        Ok(None)
+    } else {
+        Err(DocError::Law(Key::Ops))
+    }
+}

@@ -1,0 +1,88 @@
+//! From bytes to the log that they stand for.
+ghost use Rattle.std.specs.Prelude.{◌≡◌, ◌<◌, ◌+◌, ◌^◌, ℕ, List, [], length, IfErr, IfOk, OnOk};
+ghost use Rattle.lines_log.specs.Faults.{IsBodyFault, IsLinesFault};
+ghost use Rattle.lines_log.specs.Logs.{IsLinesLog};
+ghost use Rattle.lines_log.specs.inner.Readings.{is_end, IsFinished, IsRead, IsReadWhole};
+ghost use Rattle.lines_tables.specs.Splits.{lines_of};
+
+use crate::faults::refused_at;
+use crate::lines_log::LinesLog;
+use crate::reader::Reader;
+use document_runs::Fault;
+use history_core::{History, Items};
+use history_text::{DocError, one_term};
+use lines_tables::split_line;
+use lines_text::read_header;
+use std::alloc::{AllocError, Global};
+
+/// The line of the header.
+const HEADER: usize = 1;
+
+/// The log that the bytes stand for, or the first line at fault. Writes of one record are left to the search.
+pub fn read_lines(alloc: Global, bytes: &[u8]) -> Result<LinesLog, Fault>
+    ensures log { IfOk result (IsLinesLog bytes.now) }
+    ensures fault { IfErr result (IsLinesFault bytes.now) }
+{
+    let Some((first, body)) = split_line(bytes) else {
+        return Err(refused_at(HEADER, DocError::NotJson));
+    };
+    let header = match read_header(alloc, first) {
+        Ok(header) => header,
+        Err(why) => return Err(refused_at(HEADER, why)),
+    };
+    let limit = header.limit.unwrap_or(1);
+    let mut reader = match Reader::new(alloc, header) {
+        Ok(reader) => reader,
+        Err(_) => return Err(Fault::NoMemory),
+    };
+    match read_body(alloc, &mut reader, body) {
+        Ok(()) => {}
+        Err(fault) => return Err(fault),
+    }
+    match finish(alloc, limit, reader) {
+        Ok(log) => Ok(log),
+        Err(_) => Err(Fault::NoMemory),
+    }
+}
+
+/// Reads the lines behind the header.
+fn read_body(alloc: Global, reader: &mut Reader, body: &[u8]) -> Result<(), Fault>
+    requires room { length reader.old.ops.items + length body.now + 1 < 2 ^ 64 }
+    requires known { (opening : List ℕ) × IsRead opening [] reader.old }
+    ensures read { OnOk result ((opening : List ℕ) → IsRead opening [] reader.old →
+        IsReadWhole opening (lines_of body.now) reader.new) }
+    ensures limited { OnOk result (reader.new.limited ≡ reader.old.limited) }
+    ensures fault { IfErr result (IsBodyFault reader.old.limited (lines_of body.now)) }
+{
+    let mut rest = body;
+    'lines: while let Some((line, behind)) = split_line(rest) {
+        let last = is_end(behind);
+        match reader.read(alloc, line, last) {
+            Ok(()) => {}
+            Err(fault) => return Err(fault),
+        }
+        rest = behind;
+    }
+    Ok(())
+}
+
+fn is_end(rest: &[u8]) -> bool
+    ensures { result ≡ is_end rest.now }
+{
+    rest.is_empty()
+}
+
+fn finish(alloc: Global, limit: u64, reader: Reader) -> Result<LinesLog, AllocError>
+    ensures { IfOk result (IsFinished limit reader) }
+{
+    let records = reader.numbering.count();
+    let terms = one_term(alloc, limit)?;
+    Ok(LinesLog {
+        history: History {
+            opening: 0,
+            terms,
+            ops: Items::new(reader.ops),
+        },
+        records,
+    })
+}

@@ -1,0 +1,95 @@
+//! The reader.
+ghost use Rattle.std.specs.Prelude.{◌≡◌, ◌<◌, ◌≤◌, Bool, Ok, Some, option_map, ◌+◌, ◌^◌, ◌++◌, ◌∷◌, [], ℕ, List, true, length, is_some, IfErr, IfOk, OnOk, string_bytes};
+ghost use Rattle.lines_log.specs.Faults.{IsLineFault};
+ghost use Rattle.lines_log.specs.Logs.{judged_line};
+ghost use Rattle.lines_text.specs.Lines.{ends_later, op_seen};
+
+use crate::faults::{line_at, refused_at};
+use crate::line::read_op;
+use crate::number::number_op;
+use document_runs::{Fault, LinesFault};
+use history_core::Op;
+use lines_tables::{Numbering, TurnError, Turns};
+use lines_text::{LineOp, LogHeader};
+use std::alloc::{AllocError, Global};
+
+/// What was read of a log.
+#[derive(Drop)]
+pub(crate) struct Reader {
+    /// Whether the header has a limit.
+    pub limited: bool,
+    pub numbering: Numbering,
+    pub turns: Turns,
+    pub ops: Vec<Op<usize>>,
+}
+
+impl Reader {
+    ghost use Rattle.lines_log.specs.inner.Readings.{HasRead, IsRead, ReadsLine};
+
+    /// No line yet.
+    pub fn new(alloc: Global, header: LogHeader) -> Result<Reader, AllocError>
+        ensures read { IfOk result (IsRead (string_bytes header.opening) []) }
+        ensures limited { IfOk result (λ reader. reader.limited ≡ is_some header.limit) }
+    {
+        let limited = header.limit.is_some();
+        let numbering = Numbering::new(alloc, header.opening)?;
+        Ok(Reader {
+            limited,
+            numbering,
+            turns: Turns::new(alloc),
+            ops: Vec::new(alloc),
+        })
+    }
+
+    /// Reads the next line, behind which another one stands or not.
+    pub fn read(&mut self, alloc: Global, bytes: &[u8], last: bool) -> Result<(), Fault>
+        requires room { length self.old.ops.items + 2 < 2 ^ 64 }
+        requires known { HasRead self.old }
+        ensures read { OnOk result ((opening : List ℕ) (lines : List (List ℕ)) → IsRead opening lines self.old →
+            ReadsLine opening lines bytes.now last self.old self.new) }
+        ensures limited { OnOk result (self.new.limited ≡ self.old.limited) }
+        ensures grows { OnOk result (length self.new.ops.items ≤ length self.old.ops.items + 1) }
+        ensures fault { IfErr result (λ fault. (opening : List ℕ) (lines : List (List ℕ)) → IsRead opening lines self.old →
+            IsLineFault self.old.limited lines bytes.now last fault) }
+    {
+        let place = self.ops.len();
+        match read_op(alloc, self.limited, place, last, bytes) {
+            Ok(Some(op)) => self.enter(op),
+            Ok(None) => Ok(()),
+            Err(why) => Err(refused_at(line_at(place), why)),
+        }
+    }
+
+    /// Enters the operation of the next line.
+    fn enter(&mut self, op: LineOp) -> Result<(), Fault>
+        requires forwards { ends_later op.begin op.end ≡ true }
+        requires room { length self.old.ops.items + 2 < 2 ^ 64 }
+        requires known { HasRead self.old }
+        ensures entered { OnOk result ((opening : List ℕ) (lines : List (List ℕ)) (line : List ℕ) (last : Bool) →
+            IsRead opening lines self.old → judged_line self.old.limited (length lines) last line ≡ Ok (Some (op_seen op)) →
+            IsRead opening (lines ++ line ∷ []) self.new) }
+        ensures limited { OnOk result (self.new.limited ≡ self.old.limited) }
+        ensures grows { OnOk result (length self.new.ops.items ≤ length self.old.ops.items + 1) }
+        ensures fault { IfErr result (λ fault. (opening : List ℕ) (lines : List (List ℕ)) (line : List ℕ) (last : Bool) →
+            IsRead opening lines self.old → judged_line self.old.limited (length lines) last line ≡ Ok (Some (op_seen op)) →
+            IsLineFault self.old.limited lines line last fault) }
+    {
+        let place = self.ops.len();
+        let next = match number_op(&mut self.numbering, op) {
+            Ok(next) => next,
+            Err(_) => return Err(Fault::NoMemory),
+        };
+        match self.turns.enter(&next, place) {
+            Ok(()) => match self.ops.push(next) {
+                Ok(()) => Ok(()),
+                Err(_) => Err(Fault::NoMemory),
+            },
+            Err(TurnError::Overlaps { first }) => Err(Fault::Lines(LinesFault::Overlaps {
+                who: next.who,
+                first: line_at(first),
+                second: line_at(place),
+            })),
+            Err(TurnError::NoMemory) => Err(Fault::NoMemory),
+        }
+    }
+}

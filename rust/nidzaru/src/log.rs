@@ -1,0 +1,484 @@
+//! A recorder: what threads do on one register, or on anything that is to be one, written as JSON Lines for `fsr order`.
+//!
+//! Each thread has a [`Log`] of its own, whose memory is taken, and touched, before the threads begin. It is told what a call is about
+//! to write, or what it gave; [`merge`] writes the logs of all threads when they are joined.
+//!
+//! ```
+//! use nidzaru::log::{merge, Log, Record};
+//! use std::sync::atomic::{AtomicU64, Ordering::{Acquire, Release}};
+//!
+//! let shared = AtomicU64::new(0);
+//! let (mut writes, mut reads) = (Log::new(0, 1000)?, Log::new(1, 1000)?);
+//! std::thread::scope(|scope| {
+//!     scope.spawn(|| {
+//!         for n in 1..=1000 {
+//!             writes.write(Record::of_words(&[n]), || shared.store(n, Release));
+//!         }
+//!     });
+//!     scope.spawn(|| {
+//!         for _ in 0..1000 {
+//!             reads.read(|| shared.load(Acquire), |n| Record::of_words(&[*n]));
+//!         }
+//!     });
+//! });
+//! let mut lines = Vec::new();
+//! assert_eq!(merge(&mut lines, &[writes, reads], Record::of_words(&[0]), None)?, 2000);
+//! # Ok::<(), Box<dyn std::error::Error>>(())
+//! ```
+//!
+//! # Records
+//!
+//! A record is a number and a hash of all data. The number stands in the data; no two writes have the same, and none has the opening's. So
+//! data of two writes that were mixed show as a record that nobody wrote (unless two hashes are equal by chance).
+//!
+//! # Stamps
+//!
+//! A begin is never taken late, nor an end early, so an interval may be longer than its call and is never shorter. On x86-64 stamps
+//! are the processor's counter, which has to run together on all processors (`constant_tsc` and `nonstop_tsc` in `/proc/cpuinfo`);
+//! elsewhere they are nanoseconds of [`std::time::Instant`], which wasn't tried. A begin waits until the clock has left the thread's last
+//! end, so operations of one thread never touch.
+//!
+//! # The fence
+//!
+//! When a call returns, what it stored may still wait in the store buffer of its processor. With an end stamped then, others read the
+//! old record after that end, and a correct register of release stores and acquire loads is `crossed` or `stale`: by the clock it isn't
+//! linearizable. So a full fence stands before the end's stamp, and the log is of the call and the fence together. [`Log::unfenced`]
+//! leaves it out and asks the stronger question.
+
+use std::fmt;
+use std::io::{self, Write};
+use std::num::NonZeroU64;
+
+/// The stamps.
+#[cfg(target_arch = "x86_64")]
+#[allow(unsafe_code)]
+mod clock {
+    use std::arch::x86_64::{__rdtscp, _mm_lfence, _mm_mfence, _rdtsc};
+
+    /// A moment; nothing that follows has been done by it.
+    pub fn begin() -> u64 {
+        // SAFETY: each x86-64 processor has both instructions.
+        unsafe {
+            let now = _rdtsc();
+            _mm_lfence();
+            now
+        }
+    }
+
+    /// A moment by which all that went before has been done, and, with the fence, can be seen by all.
+    pub fn end(fenced: bool) -> u64 {
+        let mut processor = 0;
+        std::sync::atomic::compiler_fence(std::sync::atomic::Ordering::SeqCst);
+        // SAFETY: each x86-64 processor has `mfence`; one from before `rdtscp` (2008) would end the program here.
+        unsafe {
+            if fenced {
+                _mm_mfence();
+            }
+            __rdtscp(&mut processor)
+        }
+    }
+}
+
+#[cfg(not(target_arch = "x86_64"))]
+mod clock {
+    use std::sync::atomic::{compiler_fence, fence, Ordering::SeqCst};
+    use std::sync::OnceLock;
+    use std::time::Instant;
+
+    static START: OnceLock<Instant> = OnceLock::new();
+
+    fn now() -> u64 {
+        START.get_or_init(Instant::now).elapsed().as_nanos() as u64 + 1
+    }
+
+    pub fn begin() -> u64 {
+        let now = now();
+        fence(SeqCst);
+        now
+    }
+
+    pub fn end(fenced: bool) -> u64 {
+        if fenced {
+            fence(SeqCst);
+        }
+        compiler_fence(SeqCst);
+        now()
+    }
+}
+
+/// What was written or given: the number that stands in the data, and a hash of all of them.
+#[derive(Clone, Copy, Debug, Default, PartialEq, Eq, Hash)]
+pub struct Record {
+    /// The writes of a log have different numbers.
+    pub number: u64,
+    /// Of two that differ in one word alone the hashes differ.
+    pub hash: u64,
+}
+
+impl Record {
+    /// The record of data that are words, of which the first is their number.
+    pub fn of_words(words: &[u64]) -> Record {
+        let number = words.first().copied().unwrap_or(0);
+        Record { number, hash: words.iter().fold(Record::seed(8 * words.len()), |hash, word| Record::mix(hash, *word)) }
+    }
+
+    /// The record of data that are bytes. Of words in their order in memory it is the same as [`of_words`](Record::of_words) on x86-64.
+    pub fn of_bytes(number: u64, bytes: &[u8]) -> Record {
+        let words = bytes.chunks(8).map(|chunk| {
+            let mut word = [0; 8];
+            word[..chunk.len()].copy_from_slice(chunk);
+            u64::from_le_bytes(word)
+        });
+        Record { number, hash: words.fold(Record::seed(bytes.len()), Record::mix) }
+    }
+
+    fn seed(size: usize) -> u64 {
+        0x9e37_79b9_7f4a_7c15 ^ size as u64
+    }
+
+    fn mix(hash: u64, word: u64) -> u64 {
+        let mixed = (hash ^ word).wrapping_mul(0xff51_afd7_ed55_8ccd);
+        mixed ^ (mixed >> 32)
+    }
+}
+
+/// Memory for a log was refused.
+#[derive(Clone, Copy, Debug, PartialEq, Eq)]
+pub struct NoRoom;
+
+impl fmt::Display for NoRoom {
+    fn fmt(&self, to: &mut fmt::Formatter<'_>) -> fmt::Result {
+        to.write_str("memory for a log was refused")
+    }
+}
+
+impl std::error::Error for NoRoom {}
+
+/// Why logs weren't merged. Of the first two nothing is written.
+#[derive(Debug)]
+#[non_exhaustive]
+pub enum MergeError {
+    /// The log of this thread had no room for so many of its operations. A write that is missing would condemn whoever read it.
+    Full {
+        /// The thread's number.
+        who: u64,
+        /// How many operations it lost.
+        lost: u64,
+    },
+    /// A write was refused, and no limit was told.
+    NoLimit,
+    /// The lines weren't written.
+    Stream(io::Error),
+}
+
+impl fmt::Display for MergeError {
+    fn fmt(&self, to: &mut fmt::Formatter<'_>) -> fmt::Result {
+        match self {
+            MergeError::Full { who, lost } => write!(to, "the log of thread {who} had no room for {lost} operations"),
+            MergeError::NoLimit => to.write_str("a write was refused, and no limit was told"),
+            MergeError::Stream(error) => write!(to, "the lines weren't written: {error}"),
+        }
+    }
+}
+
+impl std::error::Error for MergeError {}
+
+impl From<io::Error> for MergeError {
+    fn from(error: io::Error) -> MergeError {
+        MergeError::Stream(error)
+    }
+}
+
+#[derive(Clone, Copy, Debug, PartialEq, Eq)]
+enum Kind {
+    Write,
+    Read,
+    Refused,
+}
+
+impl fmt::Display for Kind {
+    fn fmt(&self, to: &mut fmt::Formatter<'_>) -> fmt::Result {
+        to.write_str(match self {
+            Kind::Write => "write",
+            Kind::Read => "read",
+            Kind::Refused => "refused",
+        })
+    }
+}
+
+/// An operation that ended.
+#[derive(Clone, Copy, Debug)]
+struct Operation {
+    kind: Kind,
+    begin: u64,
+    end: u64,
+    record: Record,
+}
+
+/// A line of a merged log; one without an end is of a write that never returned.
+struct Line {
+    kind: Kind,
+    begin: u64,
+    end: Option<u64>,
+    record: Record,
+}
+
+/// What one thread did.
+#[derive(Debug)]
+pub struct Log {
+    who: u64,
+    operations: Vec<Operation>,
+    room: usize,
+    lost: u64,
+    last_end: u64,
+    fenced: bool,
+    /// A write that has begun, and when.
+    under_way: Option<(u64, Record)>,
+}
+
+impl Log {
+    /// A log of the thread `who` with room for so many operations. Threads have different numbers.
+    pub fn new(who: u64, room: usize) -> Result<Log, NoRoom> {
+        let mut operations = Vec::new();
+        operations.try_reserve_exact(room).map_err(|_| NoRoom)?;
+        // (every page is there before the threads begin)
+        operations.resize(room, Operation { kind: Kind::Read, begin: 1, end: 1, record: Record::default() });
+        operations.clear();
+        Ok(Log { who, operations, room, lost: 0, last_end: 0, fenced: true, under_way: None })
+    }
+
+    /// The same without the fence before the stamp of an end.
+    pub fn unfenced(self) -> Log {
+        Log { fenced: false, ..self }
+    }
+
+    /// Whether the next operation has no room.
+    pub fn is_full(&self) -> bool {
+        self.operations.len() == self.room
+    }
+
+    /// Records a call that writes. A call that never returns, or panics, is written without an end.
+    #[inline]
+    pub fn write<T>(&mut self, record: Record, call: impl FnOnce() -> T) -> T {
+        let (begin, given, end) = self.run_write(record, call);
+        self.put(Operation { kind: Kind::Write, begin, end, record });
+        given
+    }
+
+    /// Records a call that writes, or refuses to with an error; `saw` is the record that the refused write saw last.
+    #[inline]
+    pub fn try_write<T, E>(&mut self, record: Record, call: impl FnOnce() -> Result<T, E>, saw: impl FnOnce(&E) -> Record) -> Result<T, E> {
+        let (begin, given, end) = self.run_write(record, call);
+        let (kind, record) = match &given {
+            Ok(_) => (Kind::Write, record),
+            Err(error) => (Kind::Refused, saw(error)),
+        };
+        self.put(Operation { kind, begin, end, record });
+        given
+    }
+
+    /// Records a call that reads; `record` is that of what it gave, and is computed after the stamp of the end. A call that panics is left
+    /// out.
+    #[inline]
+    pub fn read<T>(&mut self, call: impl FnOnce() -> T, record: impl FnOnce(&T) -> Record) -> T {
+        let begin = self.begin();
+        let given = call();
+        let end = clock::end(self.fenced);
+        self.put(Operation { kind: Kind::Read, begin, end, record: record(&given) });
+        given
+    }
+
+    fn run_write<T>(&mut self, record: Record, call: impl FnOnce() -> T) -> (u64, T, u64) {
+        let begin = self.begin();
+        self.under_way = Some((begin, record));
+        let given = call();
+        let end = clock::end(self.fenced);
+        self.under_way = None;
+        (begin, given, end)
+    }
+
+    /// A moment after the last end.
+    fn begin(&self) -> u64 {
+        loop {
+            let now = clock::begin();
+            if now > self.last_end {
+                return now;
+            }
+        }
+    }
+
+    fn put(&mut self, operation: Operation) {
+        self.last_end = operation.end;
+        if self.is_full() {
+            self.lost += 1;
+        } else {
+            self.operations.push(operation);
+        }
+    }
+
+    /// The line at a place: the operations that ended, and behind them a write that is under way.
+    fn line(&self, at: usize) -> Option<Line> {
+        match self.operations.get(at) {
+            Some(&Operation { kind, begin, end, record }) => Some(Line { kind, begin, end: Some(end), record }),
+            None if at == self.operations.len() => {
+                self.under_way.map(|(begin, record)| Line { kind: Kind::Write, begin, end: None, record })
+            }
+            None => None,
+        }
+    }
+
+    fn fault(&self, limit: Option<NonZeroU64>) -> Option<MergeError> {
+        if self.lost > 0 {
+            return Some(MergeError::Full { who: self.who, lost: self.lost });
+        }
+        let refused = limit.is_none() && self.operations.iter().any(|it| it.kind == Kind::Refused);
+        refused.then_some(MergeError::NoLimit)
+    }
+}
+
+/// Writes all logs as JSON Lines by beginning, the first of which is moment 0, and behind them their number, which is the answer.
+/// `limit` is the number of writes before the first that may be refused.
+pub fn merge(to: &mut impl Write, logs: &[Log], opening: Record, limit: Option<NonZeroU64>) -> Result<u64, MergeError> {
+    if let Some(error) = logs.iter().find_map(|log| log.fault(limit)) {
+        return Err(error);
+    }
+    write!(to, "{{\"kind\":\"lines\",\"opening\":[{},{}]", opening.number, opening.hash)?;
+    match limit {
+        Some(limit) => writeln!(to, ",\"limit\":{limit}}}")?,
+        None => writeln!(to, "}}")?,
+    }
+    let (mut places, mut count, mut zero) = (vec![0; logs.len()], 0, None);
+    while let Some((at, line)) = first_of(logs, &places) {
+        let zero = *zero.get_or_insert(line.begin);
+        let (who, begin, record) = (logs[at].who, line.begin - zero, line.record);
+        write!(to, "{{\"who\":{who},\"kind\":\"{}\",\"begin\":{begin},\"end\":", line.kind)?;
+        match line.end {
+            Some(end) => write!(to, "{}", end - zero)?,
+            None => write!(to, "null")?,
+        }
+        writeln!(to, ",\"record\":[{},{}]}}", record.number, record.hash)?;
+        places[at] += 1;
+        count += 1;
+    }
+    writeln!(to, "{{\"kind\":\"done\",\"ops\":{count}}}")?;
+    to.flush()?;
+    Ok(count)
+}
+
+/// Of the next lines of all logs the one that began first, with the place of its log.
+fn first_of(logs: &[Log], places: &[usize]) -> Option<(usize, Line)> {
+    let next = logs.iter().zip(places).enumerate();
+    next.filter_map(|(at, (log, place))| Some((at, log.line(*place)?))).min_by_key(|(_, line)| line.begin)
+}
+
+#[cfg(test)]
+mod tests {
+    use super::*;
+
+    const OPENING: Record = Record { number: 0, hash: 9 };
+    const FIRST: Record = Record { number: 1, hash: 9 };
+    const SECOND: Record = Record { number: 2, hash: 9 };
+
+    fn text(logs: &[Log], limit: Option<NonZeroU64>) -> Result<String, MergeError> {
+        let mut lines = Vec::new();
+        merge(&mut lines, logs, OPENING, limit).map_err(|error| {
+            assert!(lines.is_empty(), "something was written");
+            error
+        })?;
+        Ok(String::from_utf8(lines).unwrap())
+    }
+
+    /// Sets the times of an operation, so that the text is known.
+    fn set_times(log: &mut Log, at: usize, begin: u64, end: u64) {
+        log.operations[at] = Operation { begin, end, ..log.operations[at] };
+    }
+
+    #[test]
+    fn lines_stand_by_beginning() {
+        let (mut one, mut two) = (Log::new(3, 4).unwrap(), Log::new(5, 4).unwrap());
+        one.write(FIRST, || ());
+        two.read(|| OPENING, |it| *it);
+        assert_eq!(two.try_write(SECOND, || Err::<(), _>(FIRST), |it| *it), Err(FIRST));
+        set_times(&mut one, 0, 102, 109);
+        set_times(&mut two, 0, 100, 103);
+        set_times(&mut two, 1, 105, 106);
+        one.under_way = Some((120, SECOND));
+        let logs = [one, two];
+        assert!(matches!(text(&logs, None), Err(MergeError::NoLimit)));
+        let wanted = "{\"kind\":\"lines\",\"opening\":[0,9],\"limit\":4}\n\
+            {\"who\":5,\"kind\":\"read\",\"begin\":0,\"end\":3,\"record\":[0,9]}\n\
+            {\"who\":3,\"kind\":\"write\",\"begin\":2,\"end\":9,\"record\":[1,9]}\n\
+            {\"who\":5,\"kind\":\"refused\",\"begin\":5,\"end\":6,\"record\":[1,9]}\n\
+            {\"who\":3,\"kind\":\"write\",\"begin\":20,\"end\":null,\"record\":[2,9]}\n\
+            {\"kind\":\"done\",\"ops\":4}\n";
+        assert_eq!(text(&logs, NonZeroU64::new(4)).unwrap(), wanted);
+    }
+
+    #[test]
+    fn no_logs() {
+        assert_eq!(text(&[], None).unwrap(), "{\"kind\":\"lines\",\"opening\":[0,9]}\n{\"kind\":\"done\",\"ops\":0}\n");
+    }
+
+    #[test]
+    fn a_full_log_is_told() {
+        let mut log = Log::new(7, 1).unwrap();
+        assert!(!log.is_full());
+        log.write(FIRST, || ());
+        assert!(log.is_full());
+        log.read(|| FIRST, |it| *it);
+        log.read(|| FIRST, |it| *it);
+        let error = text(&[Log::new(6, 0).unwrap(), log], None).unwrap_err();
+        assert_eq!(error.to_string(), "the log of thread 7 had no room for 2 operations");
+        assert_eq!(Log::new(0, usize::MAX).unwrap_err(), NoRoom);
+    }
+
+    #[test]
+    fn a_call_that_panics() {
+        let mut log = Log::new(0, 2).unwrap();
+        let reads = std::panic::AssertUnwindSafe(|| log.read(|| panic!("planned"), |_: &()| FIRST));
+        assert!(std::panic::catch_unwind(reads).is_err());
+        assert_eq!(log.under_way, None);
+        let writes = std::panic::AssertUnwindSafe(|| log.write(FIRST, || panic!("planned")));
+        assert!(std::panic::catch_unwind(writes).is_err());
+        let lines = text(&[log], None).unwrap();
+        assert!(
+            lines.ends_with("{\"who\":0,\"kind\":\"write\",\"begin\":0,\"end\":null,\"record\":[1,9]}\n{\"kind\":\"done\",\"ops\":1}\n")
+        );
+    }
+
+    #[test]
+    fn operations_of_a_thread_never_touch() {
+        for fenced in [true, false] {
+            let mut log = Log::new(0, 1000).unwrap();
+            log = if fenced { log } else { log.unfenced() };
+            for _ in 0..1000 {
+                log.read(|| (), |_| FIRST);
+            }
+            assert!(log.operations.iter().all(|it| it.begin <= it.end));
+            assert!(log.operations.windows(2).all(|it| it[0].end < it[1].begin));
+            log.last_end = clock::end(fenced) + 100_000;
+            assert!(log.begin() > log.last_end);
+        }
+    }
+
+    /// The hash of one word was computed by hand, and is that of `nidzaru_log.h`.
+    #[test]
+    fn each_byte_is_in_the_hash() {
+        assert_eq!(Record::of_words(&[5]), Record { number: 5, hash: 0x2c67_c3ed_3a1d_bcd5 });
+        assert_eq!(Record::of_bytes(8, &5u64.to_le_bytes()), Record { number: 8, hash: 0x2c67_c3ed_3a1d_bcd5 });
+        let zeros = Record::of_bytes(0, &[0; 19]).hash;
+        for at in 0..19 {
+            let mut other = [0; 19];
+            other[at] = 1;
+            assert_ne!(Record::of_bytes(0, &other).hash, zeros);
+            assert_ne!(Record::of_bytes(0, &other[..at]).hash, zeros);
+        }
+    }
+
+    #[test]
+    fn a_stream_that_fails() {
+        let mut short = [0u8; 10];
+        let told = merge(&mut short.as_mut_slice(), &[], OPENING, None);
+        assert!(matches!(told, Err(MergeError::Stream(_))));
+    }
+}

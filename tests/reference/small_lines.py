@@ -1,0 +1,146 @@
+"""Logs in lines, as docs/FORMATS.md says them: an independent reading, and what `fsr order` answers."""
+
+import json
+
+import documents
+import searches
+
+MOST_NUMBERS = 64
+
+
+class Fault(Exception):
+    """A log has no answer; the text is the line on standard error behind `fsr: `."""
+
+
+def answer(data):
+    """The text, or of an unlawful log its rule with every reason of it by lines; the line on standard error, and the status."""
+    try:
+        opening, limit, ops = read(data)
+        rule, found = searches.search(opening, limit or 1, ops)
+    except Fault as fault:
+        return "", f"fsr: {fault}\n", 3
+    except searches.NotSearched:
+        return "", repeated(opening, ops), 3
+    if rule == "lawful":
+        return "lawful\n" + counts(opening, ops), "", 0
+    return (rule, {tuple(place + 2 for place in reason) for reason in found}), "", 1
+
+
+def repeated(opening, ops):
+    written = {}
+    for place, each in enumerate(ops):
+        if each["kind"] == "write":
+            if each["record"] == opening:
+                return f"fsr: line {place + 2}: writes the opening\n"
+            if each["record"] in written:
+                return f"fsr: line {place + 2}: writes the record of line {written[each['record']] + 2}\n"
+            written[each["record"]] = place
+    raise AssertionError("no write is repeated")
+
+
+def counts(opening, ops):
+    records = {opening} | {each["record"] for each in ops if each["record"] is not None}
+    unfinished = sum(each["end"] is None for each in ops)
+    return f"{len(ops)} operations, {unfinished} unfinished, {len(records)} records\n"
+
+
+def told(data, reason):
+    """What is printed of a reason, whose first word is the rule and whose others are lines."""
+    opening, _, ops = read(data)
+    lines = [int(word) for word in reason[1:]]
+    shown = {ops[line - 2]["record"] for line in lines} - {None}
+    named = [line for line in range(2, len(ops) + 2)
+             if line in lines or ops[line - 2]["kind"] == "write" and ops[line - 2]["record"] in shown]
+    texts = data.decode().split("\n")
+    shows = "".join(f"line {line}: {texts[line - 1]}\n" for line in named)
+    return f"unlawful {' '.join(reason)}\n" + shows + counts(opening, ops)
+
+
+def read(data):
+    """The opening, the limit and the operations."""
+    lines = data.split(b"\n")
+    if lines[-1] == b"":
+        lines.pop()
+    header = value_of(lines[0], 1)
+    opening = record_of(asked(header, "opening", 1))
+    if opening is None:
+        raise Fault("line 1: shape of opening")
+    limit = header.get("limit")
+    if limit is not None and not is_whole(limit):
+        raise Fault("line 1: shape of limit")
+    if limit is not None and not 1 <= limit <= documents.MAX_LIMIT:
+        raise Fault("line 1: range of limit")
+    ops, lasts = [], {}
+    for number, text in enumerate(lines[1:], 2):
+        value = value_of(text, number)
+        if isinstance(value, dict) and value.get("kind") == "done":
+            check_end(value, number, len(ops), number == len(lines))
+            break
+        ops.append(operation_of(value, number, limit))
+        take_turn(ops, lasts, number)
+    return opening, limit, ops
+
+
+def take_turn(ops, lasts, number):
+    who = ops[-1]["who"]
+    if who in lasts:
+        end = ops[lasts[who] - 2]["end"]
+        if end is None or end >= ops[-1]["begin"]:
+            raise Fault(f"lines {lasts[who]} and {number}: who {who} overlaps itself")
+    lasts[who] = number
+
+
+def check_end(value, number, count, last):
+    said = asked(value, "ops", number)
+    if not is_whole(said):
+        raise Fault(f"line {number}: shape of ops")
+    if not last:
+        raise Fault(f"line {number}: shape of kind")
+    if said != count:
+        raise Fault(f"line {number}: law of ops")
+
+
+def operation_of(value, number, limit):
+    who, kind, begin, end, record = (asked(value, key, number) for key in ("who", "kind", "begin", "end", "record"))
+    found = None if record is None else record_of(record)
+    for key, fits in (("who", is_whole(who)), ("kind", kind in ("write", "read", "refused") if isinstance(kind, str) else False),
+                      ("begin", is_whole(begin)), ("end", end is None or is_whole(end)),
+                      ("record", record is None or found is not None)):
+        if not fits:
+            raise Fault(f"line {number}: shape of {key}")
+    if end is not None and end < begin:
+        raise Fault(f"line {number}: end before begin")
+    if found is None and (kind == "write" or end is not None):
+        raise Fault(f"line {number}: law of record")
+    if kind == "refused" and limit is None:
+        raise Fault(f"line {number}: missing limit")
+    return {"who": who, "kind": kind, "begin": begin, "end": end, "record": found}
+
+
+def asked(value, key, number):
+    for each in ("who", "kind", "begin", "end", "record") if key != "opening" and key != "ops" else (key,):
+        if not isinstance(value, dict) or each not in value:
+            raise Fault(f"line {number}: missing {each}")
+    return value[key]
+
+
+def value_of(text, number):
+    try:
+        return documents.read_json(text)
+    except documents.Refused as refusal:
+        raise Fault(f"line {number}: {refusal}") from None
+
+
+def is_whole(value):
+    return isinstance(value, int) and not isinstance(value, bool)
+
+
+def record_of(value):
+    """A record as a value: a text, or its numbers."""
+    if isinstance(value, str):
+        return value
+    if is_whole(value):
+        return (value,)
+    if isinstance(value, list) and 1 <= len(value) <= MOST_NUMBERS and all(map(is_whole, value)):
+        return tuple(value)
+    return None
