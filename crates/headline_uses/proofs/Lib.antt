@@ -1,0 +1,7 @@
+mod Listed
+mod Latest
+mod Ordered
+mod Ended
+mod Calls
+mod Answered
+mod Reported

@@ -1,0 +1,69 @@
+-- Consequences of a board's calls and of an ended board, call by call (this project's own).
+use Rattle.std.specs.Prelude.{◌≡◌, ◌≢◌, ◌⊎◌, Bool, IsTrue, ℕ, ◌+◌, ◌<◌, ◌≤◌, List, [], ◌∷◌, slice_get, Some, All, Option}
+use Rattle.history_core.specs.declared.history.Kind.{Kind}
+use Rattle.history_core.specs.declared.history.Kind.TheVariants.{Write, Read, Refused}
+use Rattle.stamps.specs.Choices.{IsAtMost}
+use Rattle.cell_live.specs.Running.{last_or}
+use Rattle.family_live.specs.declared.family.Family.{Ghosts as FamilyWords}
+use Rattle.board_history.specs.BoardRuns.{Called, Did}
+use Rattle.atomic_board.specs.declared.board.Board.{Board}
+use Rattle.atomic_board.specs.declared.board.Pass.{Pass}
+use Rattle.atomic_board.specs.declared.record.Posted.{Posted}
+use Rattle.atomic_board.specs.Ends.{IsAtomicRun}
+use Rattle.atomic_board.specs.Passes.{IsCall, IsPass}
+use Rattle.atomic_board.specs.Records.{greater}
+
+-- call k of process i is this one, and no other call of the n processes is a write
+pub record IsOnlyWrite {V : Type 0} (n : ℕ) (did : ℕ → Did V) (i k : ℕ) (write : Called V) : Type 0 where
+  pub inside : i < n
+  pub there : slice_get (did i).calls k ≡ Some write
+  pub kind : write.kind ≡ Write
+  pub only : (j m : ℕ) (c : Called V) → j < n → slice_get (did j).calls m ≡ Some c → c.kind ≡ Write → (j ≡ i) × (m ≡ k)
+
+module _ {V F S T : Type 0} (words : FamilyWords F (Posted V) S T) where
+  -- a read that began after the only write had ended has its record
+  abbrev pub ReadsTheOnlyWrite : Type 0
+  ReadsTheOnlyWrite = (board : Board V F S T) (did : ℕ → Did V) (last : Posted V) (i k j m : ℕ) (write read : Called V) →
+      IsAtomicRun words board did last → IsOnlyWrite board.processes did i k write → j < board.processes →
+      slice_get (did j).calls m ≡ Some read → read.kind ≡ Read → write.end < read.begin → read.chosen.item ≡ write.chosen.item
+
+  -- in the end the register holds the record of the only write
+  abbrev pub EndsWithTheOnlyWrite : Type 0
+  EndsWithTheOnlyWrite = (board : Board V F S T) (did : ℕ → Did V) (last : Posted V) (i k : ℕ) (write : Called V) →
+      IsAtomicRun words board did last → IsOnlyWrite board.processes did i k write → last.item ≡ write.chosen.item
+
+  -- where nothing is written, and the limit isn't 0, no write is refused
+  abbrev pub RefusesNone : Type 0
+  RefusesNone = (board : Board V F S T) (did : ℕ → Did V) (last : Posted V) (j m : ℕ) (call : Called V) → 0 < board.limit →
+      IsAtomicRun words board did last →
+      ((i k : ℕ) (c : Called V) → i < board.processes → slice_get (did i).calls k ≡ Some c → c.kind ≢ Write) →
+      j < board.processes → slice_get (did j).calls m ≡ Some call → call.kind ≢ Refused
+
+  -- a call that began after another one had ended has no smaller stamp
+  abbrev pub StampsRise : Type 0
+  StampsRise = (board : Board V F S T) (did : ℕ → Did V) (last : Posted V) (i k j m : ℕ) (a b : Called V) →
+      IsAtomicRun words board did last → i < board.processes → j < board.processes → slice_get (did i).calls k ≡ Some a →
+      slice_get (did j).calls m ≡ Some b → a.end < b.begin → IsAtMost a.chosen.stamp b.chosen.stamp
+
+  module _ (obeys : V → Bool) (board : Board V F S T) (kind : Kind) (old new : Pass V F S T) (seen : Posted V) where
+    -- of two processes a call saw the greater of its own record and the last answer of the other process, which that one is known to have
+    -- written, or the opening
+    abbrev pub SeesTheGreater : Type 0
+    SeesTheGreater = IsCall words obeys board kind old new seen → board.processes ≡ 2 → old.process ≡ 0 →
+        (answer : Posted V) × (number : ℕ) × (seen ≡ greater old.own answer)
+        × (last_or board.first (words.reads new.seat 1).answers ≡ answer)
+        × (slice_get (board.first ∷ (words.reads new.seat 1).known.items) number ≡ Some answer) × IsTrue (obeys answer.item)
+
+    -- what it saw isn't below what its process was told
+    abbrev pub SeesWhatWasTold : Type 0
+    SeesWhatWasTold = (j k : ℕ) (told : Posted V) → IsCall words obeys board kind old new seen → j < board.processes → j ≢ old.process →
+        slice_get (words.reads old.seat j).told k ≡ Some told → IsAtMost told.stamp seen.stamp
+
+    -- after it the register to each other process has the process's own record last
+    abbrev pub ShowsItsOwn : Type 0
+    ShowsItsOwn = (j : ℕ) → IsCall words obeys board kind old new seen → IsPass words obeys board old → j < board.processes →
+        j ≢ old.process → last_or board.first (words.writes new.seat j).items ≡ new.own
+
+    -- it took its time after all that its process knew of
+    abbrev pub TakesTime : Type 0
+    TakesTime = IsCall words obeys board kind old new seen → words.clock old.seat < words.clock new.seat

@@ -1,0 +1,4 @@
+pub mod Boards
+pub mod Cells
+pub mod Orders
+pub mod Reports

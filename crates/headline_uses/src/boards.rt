@@ -1,0 +1,30 @@
+//! What the calls of a board say, one by one and all together when it ends.
+ghost use Rattle.headline_uses.specs.Boards.{EndsWithTheOnlyWrite, ReadsTheOnlyWrite, RefusesNone, SeesTheGreater, SeesWhatWasTold};
+ghost use Rattle.headline_uses.specs.Boards.{ShowsItsOwn, StampsRise, TakesTime};
+ghost use Rattle.history_core.specs.declared.history.Kind.{Kind};
+
+use atomic_board::{Board, Pass, Posted, RecordLaw};
+use family_live::Family;
+
+/// Of the calls of a board that has ended, whichever processes made them: a read that began after the only write had ended has its
+/// record, which the register holds in the end; no write is refused before one was made; and stamps rise along intervals.
+pub fn ended_boards_show<V: RecordLaw, F: Family<Posted<V>>>()
+    ensures reads { ReadsTheOnlyWrite ⟦<F as Family<Posted<V>>>⟧ }
+    ensures ends { EndsWithTheOnlyWrite ⟦<F as Family<Posted<V>>>⟧ }
+    ensures refuses { RefusesNone ⟦<F as Family<Posted<V>>>⟧ }
+    ensures rises { StampsRise ⟦<F as Family<Posted<V>>>⟧ }
+{}
+
+/// A call of a board that goes on saw the greatest record, none older than what its process was told; after it each other process is shown
+/// its process's own record; and it took its time after all that its process knew of.
+pub fn calls_show<V: RecordLaw, F: Family<Posted<V>>>(
+    board: &Board<V, F>,
+    old: &Pass<V, F>,
+    new: &Pass<V, F>,
+    seen: &Posted<V>,
+)
+    ensures sees { (kind : Kind) → SeesTheGreater ⟦<F as Family<Posted<V>>>⟧ V.obeys board.now kind old.now new.now seen.now }
+    ensures heeds { (kind : Kind) → SeesWhatWasTold ⟦<F as Family<Posted<V>>>⟧ V.obeys board.now kind old.now new.now seen.now }
+    ensures shows { (kind : Kind) → ShowsItsOwn ⟦<F as Family<Posted<V>>>⟧ V.obeys board.now kind old.now new.now seen.now }
+    ensures later { (kind : Kind) → TakesTime ⟦<F as Family<Posted<V>>>⟧ V.obeys board.now kind old.now new.now seen.now }
+{}
