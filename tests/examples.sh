@@ -1,5 +1,6 @@
-# Each document of examples/, tests/schedules/ and tests/races/ against the text that it prints, NAME.txt (of a refused one the line on
-# standard error), and the status that is wanted, NAME.status (none: 0). The programs that have `check` or `order` alone print the same.
+# Each document of examples/ (NAME.json, or NAME.jsonl of a log in lines), tests/schedules/ and tests/races/ against the text that it
+# prints, NAME.txt (of a refused one the line on standard error), and the status that is wanted, NAME.status (none: 0). The programs that
+# have `check` or `order` alone print the same.
 
 # The command that takes a document: of examples/ by the table there. The races of tests/races/ have one outcome, whoever runs first.
 command_for() {
@@ -10,10 +11,10 @@ command_for() {
     esac
 }
 
-for document in examples/*.json tests/schedules/*.json tests/races/*.json; do
+for document in examples/*.json examples/*.jsonl tests/schedules/*.json tests/races/*.json; do
     command=$(command_for "$document")
-    sees "$document" fsr "$document" "${document%.json}.txt" "$command"
+    sees "$document" fsr "$document" "${document%.json*}.txt" "$command"
     case $command in
-    check | order) sees "$document, by fsr_$command" "fsr_$command" "$document" "${document%.json}.txt" ;;
+    check | order) sees "$document, by fsr_$command" "fsr_$command" "$document" "${document%.json*}.txt" ;;
     esac
 done

@@ -27,7 +27,7 @@ sees() {
         return
     fi
     wanted_status=0
-    [ -f "${document%.json}.status" ] && wanted_status=$(cat "${document%.json}.status")
+    [ -f "${document%.json*}.status" ] && wanted_status=$(cat "${document%.json*}.status")
     "crates/$program/out/$program" "$@" <"$document" >"$room/out" 2>"$room/err"
     status=$?
     told=out other=err

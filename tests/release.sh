@@ -1,10 +1,37 @@
 # There is one version: that of the header, which the page of changes begins with and the crate for Rust has. (Of the built library and the
 # header the tests of C see it.)
-version=$(awk '/^#define NIDZARU_VERSION_(MAJOR|MINOR|PATCH)/ { printf dot "%s", $3; dot = "." }' c/nidzaru.h)
-changes=$(sed -n 's/^## \([0-9][0-9.]*\).*/\1/p' CHANGELOG.md | head -n 1)
-crate=$(sed -n 's/^version = "\(.*\)"/\1/p' rust/nidzaru/Cargo.toml | head -n 1)
-if [ -n "$version" ] && [ "$changes" = "$version" ] && [ "$crate" = "$version" ]; then
+
+# Prints the version of a tree, or which versions it has.
+version_of_tree() {
+    header=$(awk '/^#define NIDZARU_VERSION_(MAJOR|MINOR|PATCH)/ { printf dot "%s", $3; dot = "." }' "$1/c/nidzaru.h")
+    changes=$(sed -n 's/^## \([0-9][0-9.]*\).*/\1/p' "$1/CHANGELOG.md" | head -n 1)
+    crate=$(sed -n 's/^version = "\(.*\)"/\1/p' "$1/rust/nidzaru/Cargo.toml" | head -n 1)
+    if [ -n "$header" ] && [ "$changes" = "$header" ] && [ "$crate" = "$header" ]; then
+        echo "$header"
+    else
+        echo "the header has '$header', CHANGELOG.md begins with '$changes', rust/nidzaru/Cargo.toml has '$crate'"
+        return 1
+    fi
+}
+
+if version=$(version_of_tree .); then
     pass "one version, $version"
 else
-    fail "one version" "the header has '$version', CHANGELOG.md begins with '$changes', rust/nidzaru/Cargo.toml has '$crate'"
+    fail "one version" "$version"
 fi
+
+# (with another version planted in each of the three)
+for file in c/nidzaru.h CHANGELOG.md rust/nidzaru/Cargo.toml; do
+    rm -rf "$room/release"
+    mkdir -p "$room/release/c" "$room/release/rust/nidzaru"
+    for it in c/nidzaru.h CHANGELOG.md rust/nidzaru/Cargo.toml; do
+        cp "$it" "$room/release/$it"
+    done
+    sed -i 's/^\(#define NIDZARU_VERSION_PATCH\).*/\1 77/; s/^## [0-9][0-9.]*/## 0.0.77/; s/^version = .*/version = "0.0.77"/' \
+        "$room/release/$file"
+    if version_of_tree "$room/release" >"$room/said" || ! grep -q "77'" "$room/said"; then
+        fail "another version in $file" "it isn't seen"
+    else
+        pass "another version in $file is seen"
+    fi
+done

@@ -33,18 +33,18 @@ is_listed() {
 }
 
 cat >"$room/listed" <<'LIST'
-Table::new(alloc,&[0,0,0,0],slots,&first)
+Table::new(alloc,&[0;32],slots,&first)
 .shared.split_seat::<Parts>(&mutseat.inner)
 .shared.split_seat::<Tells>(&mutseat.inner)
 .shared.join_seat::<Hears>(&mutseat.inner,receipt)
 .shared.join_seat::<Ends>(&mutseat.inner,reader)
 close(self,seat:FourSlotSeat<T>)
 close_with(seat)
-.shared.load::<Begins<K>>(&mutseat.inner,1)
+.shared.load::<Begins<K>>(&mutseat.inner,24)
 .shared.store::<Stores>(&mutseat.inner,word,index)
-.shared.store::<Finishes>(&mutseat.inner,0,pair)
-.shared.load::<Asks>(&mutseat.inner,0)
-.shared.store::<Says>(&mutseat.inner,1,pair)
+.shared.store::<Finishes>(&mutseat.inner,8,pair)
+.shared.load::<Asks>(&mutseat.inner,8)
+.shared.store::<Says>(&mutseat.inner,24,pair)
 .shared.load::<Takes>(&mutseat.inner,word)
 slot_mut(&self.inner.shared,slot)
 slot_mut(&self.inner.shared,slot)

@@ -1,5 +1,5 @@
 -- One access more of a call: it is the last of its steps, and those before keep their places.
-use Rattle.std.proofs.Common.{◌≡◌, Bool, ℕ, zero, suc, ◌+◌, ◌-◌, ◌*◌, ◌<◌, ◌≤◌, List, [], ◌∷◌, ◌++◌, length, slice_get, Some}
+use Rattle.std.proofs.Common.{◌≡◌, Bool, true, false, ℕ, zero, suc, ◌+◌, ◌-◌, ◌*◌, ◌<◌, ◌≤◌, List, [], ◌∷◌, ◌++◌, length, slice_get, Some}
 use Rattle.std.proofs.Common.{refl, sym, ◌∙◌, ap, subst, arith, inl, inr, append_assoc, append-nil, add-mul}
 use Rattle.std.specs.Prelude.{IsTrue}
 use Rattle.std.proofs.lemmas.Bool.{cases_lt}
@@ -12,14 +12,17 @@ use Rattle.cell_live.specs.declared.times.Times.{Times}
 use Rattle.cell_live.specs.Running.{last_or}
 use Rattle.family_live.specs.declared.family.Family.{Ghosts as FamilyWords}
 use Rattle.family_live.specs.Accesses.{IsAccess, IsWrite, Keeps, KeepsOthers, Reads, Rises as Later, Writes}
+use Rattle.family_live.specs.Rows.{InTurn, IsWriteTo}
+use Rattle.family_live.specs.Rows.InTurn.{no_call, one_more}
 use Rattle.matrix_core.specs.Lines.{other}
 use Rattle.matrix_core.proofs.lines.Others.{other_above, other_below}
 use Rattle.board_history.specs.Accesses.{IsInterval}
+use Rattle.board_history.proofs.Growing.{not_both}
 use Rattle.atomic_board.specs.declared.record.Posted.{Posted}
-use Rattle.atomic_board.specs.inner.Calls.{HasHeard, HasRead, HasWritten, IsIntervalOf, IsSpan}
+use Rattle.atomic_board.specs.inner.Calls.{HasHeard, HasRead, HasRow, HasWritten, IsIntervalOf, IsSpan}
 use Rattle.atomic_board.specs.Passes.{IsAnswered}
 use Rattle.atomic_board.specs.Records.{greater, Rises, rises_on}
-use Rattle.atomic_board.proofs.Records.{greater_either, rises_greater}
+use Rattle.atomic_board.proofs.Records.{greater_either, risen, rises_greater}
 
 pub other_once : (i e r : ℕ) → other i e ≡ other i r → e ≡ r
 other_once i e r h = elim (cases_lt e i) [
@@ -32,6 +35,10 @@ other_once i e r h = elim (cases_lt e i) [
     | inr gr ↦ let a = other_above i e ge in let b = other_above i r gr in omega arith
   ]
 ]
+
+-- a process after this one, by its number among the others
+pub other_after : (i j : ℕ) → i < j → other i (j - 1) ≡ j
+other_after i j l = other_above i (j - 1) (omega arith) ∙ (let e : j - 1 + 1 ≡ j = omega arith in e)
 
 -- an access among more steps
 pub stays : (width : ℕ) (steps more : List ℕ) (access count : ℕ) (begins ends begins' ends' : List ℕ) → length steps ≡ count * width →
@@ -248,3 +255,48 @@ module _ {V F S T : Type 0} (words : FamilyWords F (Posted V) S T) where
       some : 0 < words.width
       some = some_steps words.width (words.clock now) (words.clock next) (words.times now) (words.times next)
           (words.writes now (other process count)).times (words.writes next (other process count)).times access
+
+  -- a row of the family is one of the board
+  pub row_written : (family : F) (process : ℕ) (start : S) (item : Posted V) → words.is_seat family start → (count : ℕ) (now : S) →
+      InTurn (IsWriteTo (words.is_seat family) words.who words.clock words.times words.writes words.reads words.width item) process start count now →
+      HasWritten words family process count start now item
+  row_written family process start item is _ _ no_call = nothing_written family process start item is
+  row_written family process start item is _ _ (one_more count now new r call) = write_more family process count start now new item
+      (row_written family process start item is count now r) call.own call.access call.written call.others
+
+  -- the record may stand after the one that was written last
+  pub stands_there : (family : F) (j : ℕ) (start : S) (first own item : Posted V) → words.opening family ≡ first →
+      last_or first (words.writes start j).items ≡ own → Rises own item → Rises (last_or (words.opening family) (words.writes start j).items) item
+  stands_there family j start first own item opens there rises =
+      subst (λ z. Rises z item) (sym (ap (λ z. last_or z (words.writes start j).items) opens ∙ there)) rises
+
+  -- a row that was written, and one that wasn't, since the record stands there
+  pub row_told : (family : F) (process count : ℕ) (seat seat' : S) (own item : Posted V) → HasWritten words family process count seat seat' item →
+      HasRow words family process count seat seat' own item
+  row_told family process count seat seat' own item w = record {
+    of = w.of;
+    tells = true;
+    steps = w.steps;
+    long = w.long;
+    times = w.times;
+    span = w.span;
+    writes = λ t e l. w.writes e l;
+    unwritten = λ f. absurd (not_both true refl f);
+    last = λ t e first l. w.last e first l;
+    reads = w.reads;
+  }
+
+  pub row_kept : (family : F) (process count : ℕ) (seat : S) (own item : Posted V) → words.is_seat family seat → Rises own item →
+      own.stamp ≡ item.stamp → HasRow words family process count seat seat own item
+  row_kept family process count seat own item is rises test = record {
+    of = (is, refl);
+    tells = false;
+    steps = [];
+    long = refl;
+    times = sym (append-nil (words.times seat));
+    span = inl (refl, refl);
+    writes = λ t. absurd (not_both false t refl);
+    unwritten = λ f. (λ j. refl, risen own item rises test);
+    last = λ t. absurd (not_both false t refl);
+    reads = λ j. refl;
+  }

@@ -1,7 +1,8 @@
 -- A whole call: its reads and then its writes are the steps of one call more.
 use Rattle.std.proofs.Common.{◌≡◌, ◌≢◌, Bool, ℕ, zero, suc, ◌+◌, ◌-◌, ◌*◌, ◌<◌, ◌≤◌, List, [], ◌∷◌, ◌++◌, length, map, slice_get, Some}
-use Rattle.std.proofs.Common.{refl, sym, ◌∙◌, ap, subst, arith, inl, inr, append_assoc, add-mul}
+use Rattle.std.proofs.Common.{refl, sym, ◌∙◌, ap, subst, arith, inl, inr, append-nil, append_assoc, add-mul}
 use Rattle.std.specs.Prelude.{All, IsTrue}
+use Rattle.std.proofs.lemmas.Bool.{cases_Bool}
 use Rattle.std.proofs.lemmas.List.{length-append, length-map, map-append}
 use Rattle.std.proofs.lemmas.List.Elements.{All-weaker}
 use Rattle.std.proofs.lemmas.Option.{slice_get_within}
@@ -24,7 +25,7 @@ use Rattle.board_history.proofs.Growing.{call_made}
 use Rattle.atomic_board.specs.declared.board.Board.{Board}
 use Rattle.atomic_board.specs.declared.board.Pass.{Pass}
 use Rattle.atomic_board.specs.declared.record.Posted.{Posted}
-use Rattle.atomic_board.specs.inner.Calls.{HasRead, HasWritten, IsSpan}
+use Rattle.atomic_board.specs.inner.Calls.{HasRead, HasRow, IsSpan}
 use Rattle.atomic_board.specs.Passes.{answered_of, did_of, HasMade, IsAnswered, IsCall, IsKnown, IsPass, written_of}
 use Rattle.atomic_board.specs.Records.{Rises, stamped}
 use Rattle.atomic_board.proofs.Accessing.{stays}
@@ -52,16 +53,26 @@ shifted width before steps count access begins ends begins' ends' long h =
       ended = h.ended;
     }
 
--- a call of two parts that aren't empty takes some time
-pub call_span : (a b c : ℕ) (steps more : List ℕ) → IsSpan a b steps → IsSpan b c more → 0 < length steps → 0 < length more →
+-- a call has steps, of its first part and perhaps of its second
+pub call_span : (a b c : ℕ) (steps more : List ℕ) → IsSpan a b steps → IsSpan b c more → 0 < length steps →
     (begin : ℕ) × (slice_get (steps ++ more) 0 ≡ Some begin) × (slice_get (steps ++ more) (length (steps ++ more) - 1) ≡ Some c)
-    × (a < begin) × (begin < c)
-call_span a b c steps more (inl x) y l m = absurd (let e : length steps ≡ 0 = ap length x.0 in omega arith)
-call_span a b c steps more (inr x) (inl y) l m = absurd (let e : length more ≡ 0 = ap length y.0 in omega arith)
-call_span a b c steps more (inr x) (inr y) l m =
+    × (a < begin) × (begin ≤ c)
+call_span a b c steps more (inl x) y l = absurd (let e : length steps ≡ 0 = ap length x.0 in omega arith)
+call_span a b c steps more (inr x) (inl y) l =
+    let p = x.3 in
+    let q : c ≡ b = y.1 in
+    let all : steps ++ more ≡ steps = ap (λ ms. steps ++ ms) y.0 ∙ append-nil steps in (
+      x.0,
+      get_before steps more 0 l ∙ x.1,
+      ap (λ ms. slice_get ms (length ms - 1)) all ∙ x.4 ∙ ap Some (sym q),
+      x.2,
+      omega arith,
+    )
+call_span a b c steps more (inr x) (inr y) l =
     let p = x.3 in
     let q = y.2 in
-    let r = y.3 in (
+    let r = y.3 in
+    let m : 0 < length more = slice_get_within more 0 y.0 y.1 in (
       x.0,
       get_before steps more 0 l ∙ x.1,
       ap (slice_get (steps ++ more)) (let e : length (steps ++ more) ≡ length steps + length more = length-append steps more in
@@ -74,7 +85,7 @@ call_span a b c steps more (inr x) (inr y) l m =
 module _ {V F S T : Type 0} (words : FamilyWords F (Posted V) S T) (obeys : V → Bool) (board : Board V F S T) (old : Pass V F S T)
     (of : IsPass words obeys board old) (kind : Kind) (seen chosen : Posted V) (mid next : S)
     (r : HasRead words obeys board.family old.process (board.processes - 1) old.seat mid old.own seen)
-    (w : HasWritten words board.family old.process (board.processes - 1) mid next chosen) where
+    (w : HasRow words board.family old.process (board.processes - 1) mid next old.own chosen) where
   abbrev n : ℕ
   n = board.processes
 
@@ -97,19 +108,15 @@ module _ {V F S T : Type 0} (words : FamilyWords F (Posted V) S T) (obeys : V �
 
   span : (begin : ℕ) × (slice_get (r.steps ++ w.steps) 0 ≡ Some begin)
       × (slice_get (r.steps ++ w.steps) (length (r.steps ++ w.steps) - 1) ≡ Some (words.clock next)) × (words.clock old.seat < begin)
-      × (begin < words.clock next)
+      × (begin ≤ words.clock next)
   span = call_span (words.clock old.seat) (words.clock mid) (words.clock next) r.steps w.steps r.span w.span
-      (let a = r.long in let s = some in omega arith) (let a = w.long in let s = some in omega arith)
+      (let a = r.long in let s = some in omega arith)
 
   abbrev called : Called V
-  called = record { begin = span.0; end = words.clock next; kind = kind; seen = stamped seen; chosen = stamped chosen }
+  called = record { begin = span.0; end = words.clock next; kind = kind; seen = stamped seen; chosen = stamped chosen; tells = w.tells }
 
-  long : length (r.steps ++ w.steps) ≡ steps_of_call words.width n
-  long = length-append r.steps w.steps
-      ∙ (let a = r.long in let b = w.long in
-      let z : length r.steps + length w.steps ≡ (n - 1) * words.width + (n - 1) * words.width = omega arith in z)
-      ∙ sym (add-mul (n - 1) (n - 1) words.width)
-      ∙ ap (λ m. m * words.width) (let z : n - 1 + (n - 1) ≡ 2 * (n - 1) = omega arith in z)
+  long : length (r.steps ++ w.steps) ≡ steps_of_call words.width n w.tells
+  long = length-append r.steps w.steps ∙ ap (λ m. m + length w.steps) r.long ∙ ap (λ m. (n - 1) * words.width + m) w.long
 
   made : ((place : ℕ) → ChoosesByKind board.limit (record { place = place; who = i; kind = kind; stamp = chosen.stamp; item = chosen.item })
       kind seen.stamp seen.item) → (calls : List (Called V)) → HasMade words board old calls → HasMade words board new (calls ++ called ∷ [])
@@ -135,14 +142,16 @@ module _ {V F S T : Type 0} (words : FamilyWords F (Posted V) S T) (obeys : V �
                 items = ap (map stamped) y.1.read.answers ∙ map-append stamped (words.reads old.seat (other i e)).answers (x.0 ∷ [])
                     ∙ ap (λ z. map stamped (words.reads old.seat (other i e)).answers ++ z ∷ []) x.2;
               });
-          writes = λ e l.
-              let x = w.writes e (omega arith) in
+          writes = λ e l t.
+              let x = w.writes t e (omega arith) in
               subst (λ z. WritesOnce words.width (r.steps ++ w.steps) (n - 1 + e) (written_of z)
               (written_of (words.writes next (other i e))) (stamped chosen)) (r.writes (other i e))
               (record {
                 interval = shifted words.width r.steps w.steps (n - 1) e _ _ _ _ r.long x.0;
                 items = ap (map stamped) x.1.items ∙ map-append stamped (words.writes mid (other i e)).items (chosen ∷ []);
               });
+          unwritten = λ e l f. ap written_of ((w.unwritten f).0 (other i e) ∙ r.writes (other i e));
+          silent = λ f. ap stamped (w.unwritten f).1 ∙ h.own;
           sees = ap stamped r.sees ∙ stamped_greatest old.own r.answers ∙ ap (λ o. greatest_stamped o (map stamped r.answers)) h.own;
           chooses = chooses;
         });
@@ -196,11 +205,15 @@ module _ {V F S T : Type 0} (words : FamilyWords F (Posted V) S T) (obeys : V �
     heeds = λ j l ne. heeds j l ne;
     rises = r.rises;
     onward = onward;
-    written = λ j l ne.
+    tells = w.tells;
+    steps = ap length (w.times ∙ ap (λ ts. ts ++ w.steps) r.times ∙ append_assoc (words.times old.seat) r.steps w.steps)
+        ∙ length-append (words.times old.seat) (r.steps ++ w.steps) ∙ ap (λ m. length (words.times old.seat) + m) long;
+    written = λ t j l ne.
         let e = other_reached n i j of.inside l ne in
-        let x = (w.writes e.0 (let z = e.1 in omega arith)).1 in
+        let x = (w.writes t e.0 (let z = e.1 in omega arith)).1 in
         subst (λ z. IsWrite z (words.writes next j) chosen) (r.writes j)
         (subst (λ z. IsWrite (words.writes mid z) (words.writes next z) chosen) e.2 x);
+    unwritten = λ f. (λ j. (w.unwritten f).0 j ∙ r.writes j, (w.unwritten f).1);
     made = λ calls h. made chooses calls h;
   }
 
@@ -217,8 +230,11 @@ module _ {V F S T : Type 0} (words : FamilyWords F (Posted V) S T) (obeys : V �
     seat = w.of.0;
     who = w.of.1 ∙ r.of.1 ∙ of.who;
     lawful = lawful;
-    last = λ j l ne.
-        let e = other_reached n i j of.inside l ne in
-        let le : e.0 < n - 1 = let z = e.1 in omega arith in
-        ap (λ z. last_or board.first (words.writes next z).items) (sym e.2) ∙ w.last e.0 board.first le;
+    last = λ j l ne. elim (cases_Bool w.tells) [
+      | inl t ↦
+          let e = other_reached n i j of.inside l ne in
+          let le : e.0 < n - 1 = let z = e.1 in omega arith in
+          ap (λ z. last_or board.first (words.writes next z).items) (sym e.2) ∙ w.last t e.0 board.first le
+      | inr f ↦ ap (λ x. last_or board.first x.items) ((w.unwritten f).0 j ∙ r.writes j) ∙ of.last j l ne ∙ sym (w.unwritten f).1
+    ];
   }

@@ -8,7 +8,7 @@ use Rattle.stamps.specs.declared.stamp.Stamp.{Stamp}
 use Rattle.stamps.specs.Stamps.{greater as greater_stamped, IsBelow, is_below}
 use Rattle.atomic_board.specs.declared.record.Posted.{Posted}
 use Rattle.stamps.specs.Choices.{IsAtMost}
-use Rattle.stamps.proofs.choices.Stamps.{at_most_trans, greater_second}
+use Rattle.stamps.proofs.choices.Stamps.{at_most_trans, below_itself, greater_second}
 use Rattle.matrix_core.specs.CellAnswers.{greatest as greatest_stamped}
 use Rattle.atomic_board.specs.Records.{greater, greatest, Rises, rises_itself, rises_on, stamped}
 
@@ -37,6 +37,11 @@ either_test obeys a b false p q = p
 pub greater_either : {V : Type 0} (obeys : V → Bool) (a b : Posted V) → IsTrue (obeys a.item) → IsTrue (obeys b.item) →
     IsTrue (obeys (greater a b).item)
 greater_either obeys a b p q = either_test obeys a b (is_below a.stamp b.stamp) p q
+
+-- a record that rises to one of the same stamp is that one
+pub risen : {V : Type 0} (a b : Posted V) → Rises a b → a.stamp ≡ b.stamp → b ≡ a
+risen a b (inl l) same = absurd (below_itself b.stamp (subst (λ z. IsBelow z b.stamp) same l))
+risen a b (inr e) same = ap (λ (z : Stamp × _). record { stamp = z.0; item = z.1 }) (λ k. (sym e.0 k, sym e.1 k))
 
 pub rises_at_most : {V : Type 0} (a b : Posted V) → Rises a b → IsAtMost a.stamp b.stamp
 rises_at_most a b (inl l) = inr l

@@ -8,7 +8,8 @@ use Rattle.stamps.specs.declared.stamp.Stamped.{Stamped}
 use Rattle.matrix_core.specs.CellAnswers.{greatest}
 use Rattle.matrix_core.specs.Lines.{other}
 use Rattle.matrix_core.proofs.lines.Others.{other_differs}
-use Rattle.board_history.specs.BoardRuns.{Answered, AreAccesses, Called, Did, IsProcess, own_before, steps_of_call}
+use Rattle.board_history.specs.BoardRuns.{Answered, AreReads, AreWrites, Called, Did, IsProcess, own_before, records}
+use Rattle.board_history.specs.BoardRuns.{steps_before, steps_of_call, told}
 use Rattle.atomic_board.specs.declared.record.Posted.{Posted}
 use Rattle.atomic_board.specs.Passes.{answered_of, did_of, written_of}
 use Rattle.atomic_board.specs.Records.{stamped}
@@ -19,29 +20,49 @@ pub record AreSameReads {V : Type 0} (old new : Answered V) : Type 0 where
   pub begins : new.begins ≡ old.begins
   pub ends : new.ends ≡ old.ends
 
-same_accesses : {V : Type 0} (width n : ℕ) (old new : Did V) (access : ℕ) (begins ends begins' ends' : List ℕ) → new.times ≡ old.times →
-    new.calls ≡ old.calls → begins' ≡ begins → ends' ≡ ends → AreAccesses width n old access begins ends → AreAccesses width n new access begins' ends'
-same_accesses width n old new access begins ends begins' ends' times calls b e h = record {
+same_reads : {V : Type 0} (width n : ℕ) (old new : Did V) (access : ℕ) (begins ends begins' ends' : List ℕ) → new.times ≡ old.times →
+    new.calls ≡ old.calls → begins' ≡ begins → ends' ≡ ends → AreReads width n old access begins ends → AreReads width n new access begins' ends'
+same_reads {V} width n old new access begins ends begins' ends' times calls b e h = record {
   begun = λ k l. ap (λ xs. slice_get xs k) b ∙ h.begun k (subst (λ cs. k < length cs) calls l)
-      ∙ ap (λ ts. slice_get ts (k * steps_of_call width n + access * width)) (sym times);
+      ∙ ap (λ (z : List ℕ × List (Called V)). slice_get z.0 (steps_before width n z.1 k + access * width)) (λ j. (sym times j, sym calls j));
   ended = λ k l. ap (λ xs. slice_get xs k) e ∙ h.ended k (subst (λ cs. k < length cs) calls l)
-      ∙ ap (λ ts. slice_get ts (k * steps_of_call width n + (access * width + (width - 1)))) (sym times);
+      ∙ ap (λ (z : List ℕ × List (Called V)). slice_get z.0 (steps_before width n z.1 k + (access * width + (width - 1))))
+      (λ j. (sym times j, sym calls j));
   all = (ap length b ∙ h.all.0 ∙ ap length (sym calls), ap length e ∙ h.all.1 ∙ ap length (sym calls));
+}
+
+same_writes : {V : Type 0} (width n : ℕ) (old new : Did V) (access : ℕ) (begins ends begins' ends' : List ℕ) → new.times ≡ old.times →
+    new.calls ≡ old.calls → begins' ≡ begins → ends' ≡ ends → AreWrites width n old access begins ends → AreWrites width n new access begins' ends'
+same_writes {V} width n old new access begins ends begins' ends' times calls b e h = record {
+  begun = λ k c at t. ap (λ (z : List ℕ × List (Called V)). slice_get z.0 (told z.1 k)) (λ j. (b j, calls j))
+      ∙ h.begun k c (ap (λ cs. slice_get cs k) (sym calls) ∙ at) t
+      ∙ ap (λ (z : List ℕ × List (Called V)). slice_get z.0 (steps_before width n z.1 k + access * width)) (λ j. (sym times j, sym calls j));
+  ended = λ k c at t. ap (λ (z : List ℕ × List (Called V)). slice_get z.0 (told z.1 k)) (λ j. (e j, calls j))
+      ∙ h.ended k c (ap (λ cs. slice_get cs k) (sym calls) ∙ at) t
+      ∙ ap (λ (z : List ℕ × List (Called V)). slice_get z.0 (steps_before width n z.1 k + (access * width + (width - 1))))
+      (λ j. (sym times j, sym calls j));
+  all = (
+    ap length b ∙ h.all.0 ∙ ap (λ cs. told cs (length cs)) (sym calls),
+    ap length e ∙ h.all.1 ∙ ap (λ cs. told cs (length cs)) (sym calls),
+  );
 }
 
 same_process : {V : Type 0} (width n limit : ℕ) (first : Stamped V) (i : ℕ) (old new : Did V) → new.times ≡ old.times → new.calls ≡ old.calls →
     ((e : ℕ) → AreSameReads (old.reads (other i e)) (new.reads (other i e))) → ((e : ℕ) → new.writes (other i e) ≡ old.writes (other i e)) →
     IsProcess width n limit first i old → IsProcess width n limit first i new
-same_process width n limit first i old new times calls reads writes h = record {
-  long = ap length times ∙ h.long ∙ ap (λ cs. length cs * steps_of_call width n) (sym calls);
-  begun = λ k c e. ap (λ ts. slice_get ts (k * steps_of_call width n)) times ∙ h.begun k c (ap (λ cs. slice_get cs k) (sym calls) ∙ e);
-  ended = λ k c e. ap (λ ts. slice_get ts (k * steps_of_call width n + (steps_of_call width n - 1))) times
+same_process {V} width n limit first i old new times calls reads writes h = record {
+  long = ap length times ∙ h.long ∙ ap (λ cs. steps_before width n cs (length cs)) (sym calls);
+  begun = λ k c e. ap (λ (z : List ℕ × List (Called V)). slice_get z.0 (steps_before width n z.1 k)) (λ j. (times j, calls j))
+      ∙ h.begun k c (ap (λ cs. slice_get cs k) (sym calls) ∙ e);
+  ended = λ k c e. ap (λ (z : List ℕ × List (Called V)). slice_get z.0 (steps_before width n z.1 k + (steps_of_call width n c.tells - 1)))
+      (λ j. (times j, calls j))
       ∙ h.ended k c (ap (λ cs. slice_get cs k) (sym calls) ∙ e);
-  reads = λ e l. same_accesses width n old new e _ _ _ _ times calls (reads e).begins (reads e).ends (h.reads e l);
+  reads = λ e l. same_reads width n old new e _ _ _ _ times calls (reads e).begins (reads e).ends (h.reads e l);
   answered = λ e l. ap length (reads e).items ∙ h.answered e l ∙ ap length (sym calls);
-  writes = λ e l. same_accesses width n old new (n - 1 + e) _ _ _ _ times calls (ap (λ w. w.begins) (writes e)) (ap (λ w. w.ends) (writes e))
+  writes = λ e l. same_writes width n old new (n - 1 + e) _ _ _ _ times calls (ap (λ w. w.begins) (writes e)) (ap (λ w. w.ends) (writes e))
       (h.writes e l);
-  written = λ e l. ap (λ w. w.items) (writes e) ∙ h.written e l ∙ ap (map (λ c. c.chosen)) (sym calls);
+  written = λ e l. ap (λ w. w.items) (writes e) ∙ h.written e l ∙ ap records (sym calls);
+  silent = λ k c e t. h.silent k c (ap (λ cs. slice_get cs k) (sym calls) ∙ e) t ∙ ap (λ cs. own_before first cs k) (sym calls);
   sees = λ k c e.
       let s = h.sees k c (ap (λ cs. slice_get cs k) (sym calls) ∙ e) in
       record {

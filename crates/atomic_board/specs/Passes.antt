@@ -1,6 +1,6 @@
 -- The passes of a board's processes, and the calls that were made with them (this project's own).
 use Rattle.std.specs.Prelude.{◌≡◌, ◌≢◌, ◌⊎◌, Bool, IsTrue, ℕ, ◌+◌, ◌<◌, ◌≤◌, List, [], ◌∷◌, ◌++◌, length, map, slice_get, Some}
-use Rattle.std.specs.Prelude.{All, vec_capacity, Result, Ok, Err}
+use Rattle.std.specs.Prelude.{All, vec_capacity, Result, Ok, Err, true, false}
 use Rattle.cell_live.specs.Running.{IsAnswer, last_or}
 use Rattle.family_live.specs.declared.family.Family.{Ghosts as FamilyWords}
 use Rattle.family_live.specs.Accesses.{IsRead, IsWrite, Keeps, Reads, Writes}
@@ -10,7 +10,7 @@ use Rattle.stamps.specs.declared.stamp.Stamp.{Stamp}
 use Rattle.stamps.specs.Choices.{IsAtMost}
 use Rattle.stamps.specs.Stamps.{first_stamp}
 use Rattle.matrix_core.specs.Lines.{other}
-use Rattle.board_history.specs.BoardRuns.{Answered, Called, Did, IsProcess, own_before, Written}
+use Rattle.board_history.specs.BoardRuns.{Answered, Called, Did, IsProcess, own_before, steps_of_call, Written}
 use Rattle.atomic_board.specs.declared.board.Board.{Board}
 use Rattle.atomic_board.specs.declared.board.Pass.{Pass}
 use Rattle.atomic_board.specs.declared.board.TagsEnded.{TagsEnded}
@@ -66,13 +66,14 @@ module _ {V F S T : Type 0} (family : FamilyWords F (Posted V) S T) where
       × (slice_get (board.first ∷ (family.reads new.seat j).known.items) number ≡ Some seen))
 
   -- *A call*: its process saw this record, the greatest of its own and of one answer of each other process, none of which is below what
-  -- it was told of that one; and it wrote the record that it chose to each. The call begins after all that the process knew of. All of
-  -- the calls that were made with the pass are those made before and this one
+  -- it was told of that one; and it wrote the record that it chose to each, or it wrote nothing, where it chose its own record. The call
+  -- begins after all that the process knew of, and takes so many steps: of a read of each other process, and of a write to each where it
+  -- tells what it chose. All of the calls that were made with the pass are those made before and this one
   pub record IsCall (obeys : V → Bool) (board : Board V F S T) (kind : Kind) (old new : Pass V F S T) (seen : Posted V) : Type 0 where
     pub process : new.process ≡ old.process
     pub begin : ℕ
     pub end : ℕ
-    pub interval : (family.clock old.seat < begin) × (begin < end) × (family.clock new.seat ≡ end)
+    pub interval : (family.clock old.seat < begin) × (begin ≤ end) × (family.clock new.seat ≡ end)
     pub answers : List (Posted V)
     pub each : length answers + 1 ≡ board.processes
     pub answered : (e : ℕ) (answer : Posted V) → slice_get answers e ≡ Some answer →
@@ -82,9 +83,19 @@ module _ {V F S T : Type 0} (family : FamilyWords F (Posted V) S T) where
     pub heeds : (j : ℕ) → j < board.processes → j ≢ old.process → All (λ t. IsAtMost t.stamp seen.stamp) (family.reads old.seat j).told
     pub rises : Rises old.own seen
     pub onward : Rises seen new.own
-    pub written : (j : ℕ) → j < board.processes → j ≢ old.process → IsWrite (family.writes old.seat j) (family.writes new.seat j) new.own
-    pub made : (calls : List (Called V)) → HasMade board old calls →
-        HasMade board new (calls ++ record { begin = begin; end = end; kind = kind; seen = stamped seen; chosen = stamped new.own } ∷ [])
+    pub tells : Bool
+    pub steps : length (family.times new.seat) ≡ length (family.times old.seat) + steps_of_call family.width board.processes tells
+    pub written : tells ≡ true → (j : ℕ) → j < board.processes → j ≢ old.process →
+        IsWrite (family.writes old.seat j) (family.writes new.seat j) new.own
+    pub unwritten : tells ≡ false → Keeps (family.writes old.seat) (family.writes new.seat) × (new.own ≡ old.own)
+    pub made : (calls : List (Called V)) → HasMade board old calls → HasMade board new (calls ++ record {
+      begin = begin;
+      end = end;
+      kind = kind;
+      seen = stamped seen;
+      chosen = stamped new.own;
+      tells = tells;
+    } ∷ [])
 
 module _ {V F S T : Type 0} (family : FamilyWords F (Posted V) S T) where
   -- no call was made: whatever calls were made with the pass still are

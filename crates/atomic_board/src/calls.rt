@@ -1,7 +1,6 @@
 //! Reading and writing.
-ghost use Rattle.std.specs.Prelude.{◌≡◌, ◌≢◌, ◌-◌, ◌<◌, IfErr, IfOk, IsTrue};
-ghost use Rattle.matrix_core.specs.Lines.{other};
-ghost use Rattle.atomic_board.specs.inner.Calls.{HasHeard, HasRead, HasWritten, IsOf};
+ghost use Rattle.std.specs.Prelude.{◌≡◌, ◌≢◌, ◌+◌, ◌-◌, ◌*◌, ◌<◌, length, IfErr, IfOk, IsTrue};
+ghost use Rattle.atomic_board.specs.inner.Calls.{HasHeard, HasRead, HasRow, HasWritten, IsOf};
 ghost use Rattle.cell_live.specs.Running.{last_or};
 ghost use Rattle.history_core.specs.declared.history.Kind.TheVariants.{Read};
 ghost use Rattle.atomic_board.specs.Passes.{Chooses, IsCall, IsKnown, IsPass, kind_of};
@@ -12,15 +11,6 @@ use crate::board::{Board, Pass, TagsEnded};
 use crate::record::{Posted, RecordLaw};
 use family_live::Family;
 use stamps::Stamp;
-
-/// The process with this number among the others.
-#[inline]
-fn other(process: usize, k: usize) -> usize
-    requires { k < 64 }
-    ensures { result ≡ other process k }
-{
-    if k < process { k } else { k + 1 }
-}
 
 /// Reads what one process shows, and copies it where it is greater.
 #[inline]
@@ -45,8 +35,9 @@ fn hear<V: RecordLaw, F: Family<Posted<V>>>(
     seen.take(newer);
 }
 
-/// Reads what each other process shows, rising, and raises `seen` to the greatest.
-#[inline]
+/// Reads what each other process shows, rising, and raises `seen` to the greatest. Those before and those after the process are a loop
+/// each, so that no turn asks which process is next.
+#[inline(always)]
 fn column<V: RecordLaw, F: Family<Posted<V>>>(
     family: &F,
     processes: usize,
@@ -58,13 +49,16 @@ fn column<V: RecordLaw, F: Family<Posted<V>>>(
     requires lawful { IsTrue (V.obeys seen.old.item) }
     ensures { HasRead ⟦<F as Family<Posted<V>>>⟧ V.obeys family.now process (processes - 1) seat.old seat.new seen.old seen.new }
 {
-    for k in 0..processes - 1 {
-        hear(family, seat, other(process, k), seen);
+    for from in 0..process {
+        hear(family, seat, from, seen);
+    }
+    for from in process + 1..processes {
+        hear(family, seat, from, seen);
     }
 }
 
 /// Writes the record to each other process, rising.
-#[inline]
+#[inline(always)]
 fn row<V: RecordLaw, F: Family<Posted<V>>>(
     family: &F,
     processes: usize,
@@ -81,14 +75,36 @@ fn row<V: RecordLaw, F: Family<Posted<V>>>(
     requires lawful { IsTrue (V.obeys item.now.item) }
     ensures { HasWritten ⟦<F as Family<Posted<V>>>⟧ family.now process (processes - 1) seat.old seat.new item.now }
 {
-    for k in 0..processes - 1 {
-        family.write_from(seat, other(process, k), item);
+    family.write_all_from(seat, item);
+}
+
+/// Writes the record to each other process, where it is above the own record, which they have.
+#[inline]
+fn tell_row<V: RecordLaw, F: Family<Posted<V>>>(
+    family: &F,
+    processes: usize,
+    process: usize,
+    seat: &mut F::Seat,
+    first: &Posted<V>,
+    own: &Posted<V>,
+    item: &Posted<V>,
+)
+    requires of { IsOf ⟦<F as Family<Posted<V>>>⟧ family.now processes process seat.old }
+    requires opens { F.opening family.now ≡ first.now }
+    requires last { (j : _) → j < processes → j ≢ process → last_or first.now (F.writes seat.old j).items ≡ own.now }
+    requires rises { Rises own.now item.now }
+    requires lawful { IsTrue (V.obeys item.now.item) }
+    ensures row { HasRow ⟦<F as Family<Posted<V>>>⟧ family.now process (processes - 1) seat.old seat.new own.now item.now }
+    ensures silent { own.now.stamp ≡ item.now.stamp → seat.new ≡ seat.old }
+{
+    if own.stamp != item.stamp {
+        row(family, processes, process, seat, first, own, item);
     }
 }
 
 impl<V: RecordLaw, F: Family<Posted<V>>> Board<V, F> {
-    /// Gives the greatest of the process's own record and what each other process shows, and hands it on. It is a record that was
-    /// really written, or the opening.
+    /// Gives the greatest of the process's own record and what each other process shows, and hands it on, where it isn't the own record,
+    /// which was handed on before. It is a record that was really written, or the opening.
     #[inline]
     pub fn read(&self, pass: &mut Pass<V, F>) -> Posted<V>
         requires { IsPass ⟦<F as Family<Posted<V>>>⟧ V.obeys self.now pass.old }
@@ -96,6 +112,9 @@ impl<V: RecordLaw, F: Family<Posted<V>>> Board<V, F> {
         ensures call { IsCall ⟦<F as Family<Posted<V>>>⟧ V.obeys self.now Read pass.old pass.new result }
         ensures known { IsKnown ⟦<F as Family<Posted<V>>>⟧ self.now pass.old pass.new result }
         ensures chosen { pass.new.own ≡ result }
+        // A read that has its process's own record takes the steps of its column alone.
+        ensures quiet { result.stamp ≡ pass.old.own.stamp →
+            length (F.times pass.new.seat) ≡ length (F.times pass.old.seat) + (self.now.processes - 1) * F.width }
         ensures lawful { IsTrue (V.obeys result.item) }
     {
         let own = pass.own;
@@ -106,7 +125,7 @@ impl<V: RecordLaw, F: Family<Posted<V>>> Board<V, F> {
             &mut pass.seat,
             &mut pass.own,
         );
-        row(
+        tell_row(
             &self.family,
             self.processes,
             pass.process,

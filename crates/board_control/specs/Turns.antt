@@ -48,7 +48,14 @@ module _ {F S T : Type 0} (words : FamilyWords F (Posted Control) S T) where
   -- a call, with its interval, what it saw and what it chose
   abbrev pub call_of : (board : Board Control F S T) (kind : Kind) (old new : Pass Control F S T) (seen : Posted Control)
       → IsCall words in_order board kind old new seen → Called Control
-  call_of board kind old new seen c = record { begin = c.begin; end = c.end; kind = kind; seen = stamped seen; chosen = stamped new.own }
+  call_of board kind old new seen c = record {
+    begin = c.begin;
+    end = c.end;
+    kind = kind;
+    seen = stamped seen;
+    chosen = stamped new.own;
+    tells = c.tells;
+  }
 
   -- a read, after which the pass has the record that was read
   pub record Reads (board : Board Control F S T) (old new : Pass Control F S T) : Type 0 where

@@ -1,184 +1,606 @@
--- A history of a board's run is one by accesses, so its calls choose by the law of choices.
-use Rattle.std.proofs.Common.{◌≡◌, ◌≢◌, ℕ, zero, suc, ◌+◌, ◌-◌, ◌*◌, ◌<◌, ◌≤◌, List, [], ◌∷◌, length, map, slice_get}
-use Rattle.std.proofs.Common.{Option, None, Some, sym, ◌∙◌, ap, subst, arith, inl, inr, mul-le-mul_right}
-use Rattle.std.proofs.lemmas.Bool.{cases_lt}
-use Rattle.std.proofs.lemmas.Option.{get_or_from_slice_get, none-some, same_Some, slice_get_past, slice_get_within}
+-- The calls of a board's run choose by the law of choices: put in order by the times at which they choose, what each saw is from the
+-- past, and isn't too old.
+use Rattle.std.proofs.Common.{◌≡◌, ℕ, zero, suc, ◌+◌, ◌-◌, ◌*◌, ◌<◌, ◌≤◌, List, [], ◌∷◌, length, map, slice_get}
+use Rattle.std.proofs.Common.{Option, Some, refl, sym, ◌∙◌, ap, subst, arith, ◌⊎◌, inl, inr, add-mul}
+use Rattle.std.specs.Prelude.{IsSomeAnd}
+use Rattle.std.proofs.lemmas.Bool.{cases_eq, cases_lt, cases_order}
+use Rattle.std.proofs.lemmas.Option.{same_Some, slice_get_within}
 use Rattle.history_core.specs.declared.history.Op.{Op}
-use Rattle.history_core.specs.declared.history.Kind.{Kind}
-use Rattle.history_core.specs.Orders.{IsAtomicOrder, RefusesLawfully}
-use Rattle.history_core.specs.Schedules.{IsOperation, positions}
+use Rattle.history_core.specs.Orders.{IsAtomicOrder, Precedes, RefusesLawfully}
 use Rattle.history_core.proofs.Played.{later_operation}
-use Rattle.fourslot_core.specs.Accesses.{IsBefore}
-use Rattle.fourslot_core.specs.Traces.{source_record}
+use Rattle.fourslot_core.specs.ReadNumbers.{IsReadOf}
+use Rattle.fourslot_core.proofs.Pushed.{of_before, to_before}
 use Rattle.stamps.specs.declared.stamp.Stamp.{Stamp}
 use Rattle.stamps.specs.declared.stamp.Stamped.{Stamped}
-use Rattle.matrix_core.specs.CellAnswers.{greatest}
-use Rattle.fourslot_core.specs.ReadNumbers.{Intervals, IsReadOf}
-use Rattle.matrix_core.specs.ByAccesses.{choice_at, ChoosesBy, chooses_at, column, intervals_at, IsChosenBy, row}
-use Rattle.stamps.specs.Choices.{Choice, ChoosesByKind, HasChoices}
+use Rattle.stamps.specs.Choices.{AllChoose, Choice, Chooses, ChoosesByKind, HasChoices, IsAtMost, IsChoiceOf, IsEarlier, IsFrom, IsIn}
+use Rattle.stamps.proofs.choices.Stamps.{at_most_trans}
 use Rattle.matrix_core.specs.Lines.{first_record, other}
 use Rattle.matrix_core.specs.Listings.{IsInOrder}
-use Rattle.matrix_core.proofs.choices.ByAccesses.{chosen_by_law}
-use Rattle.matrix_core.proofs.lines.Others.{other_differs, other_inside}
+use Rattle.matrix_core.proofs.lines.Others.{other_differs, other_inside, other_reached}
 use Rattle.matrix_core.proofs.lists.Elements.{get_exists}
 use Rattle.matrix_core.proofs.orders.Terms.{term_atomic, term_lawful}
-use Rattle.board_history.specs.BoardRuns.{AreAccesses, Called, Did, intervals, IsBoardRun, IsRegister, Sees, steps_of_call}
+use Rattle.board_history.specs.BoardRuns.{AreReads, AreWrites, Called, Did, intervals, IsBoardRun, IsRegister, own_before, records, Sees, told}
 use Rattle.board_history.specs.Histories.{IsCall, IsHistory}
-use Rattle.board_history.proofs.Calls.{call_of, chosen_by, chosen_is, cut, own_is, played, processes, span_of, step_is}
+use Rattle.board_history.proofs.Rising.{first_least, greatest_each, greatest_first, greatest_is, own_next, own_rises, own_zero}
+use Rattle.board_history.proofs.Sorts.{sort, sort_in, Strict, strict_sort}
+use Rattle.board_history.proofs.Timed.{at, at_least, at_rises, at_tells, begin_once, begins, chooses_at, ends, lasts, line, times_at_most, times_once, times_rise}
+use Rattle.board_history.proofs.Told.{held, IsTold, one_if, told_by, told_next, told_rises}
 
--- what is known of a read stays where the intervals are the same
-same_read : (writes v reads r : Intervals) (m number : ℕ) → ((k : ℕ) → (writes.begins k ≡ v.begins k) × (writes.ends k ≡ v.ends k)) →
-    (reads.begins m ≡ r.begins m) × (reads.ends m ≡ r.ends m) → IsReadOf writes reads m number → IsReadOf v r m number
-same_read writes v reads r m number w q h = record {
-  late = λ k b. h.late k (subst (λ (z : Option ℕ × Option ℕ). IsBefore z.0 z.1) (λ i. (sym (w k).1 i, sym q.0 i)) b);
-  begun = λ k e. subst (λ (z : Option ℕ × Option ℕ). IsBefore z.0 z.1) (λ i. ((w k).0 i, q.1 i)) (h.begun k e);
-}
+ends_at : {R : Type 0} (a b : Op R) (end : ℕ) → a.ends ≡ Some end → Precedes a b → end < b.starts
+ends_at a b end e h = subst (λ (o : Option ℕ). IsSomeAnd o (λ z. z < b.starts)) e h
 
--- the record with a number, of those that the calls chose
-source_is : {V : Type 0} (opening : V) (calls : List (Called V)) (number : ℕ) (x : Stamped V) →
-    slice_get (first_record opening ∷ map (λ c. c.chosen) calls) number ≡ Some x →
-    x ≡ source_record (first_record opening) (chosen_by opening calls) number
-source_is opening calls zero x e = sym (same_Some (first_record opening) x e)
-source_is opening calls (suc k) x e = sym (get_or_from_slice_get (map (λ c. c.chosen) calls) k x (first_record opening) e)
+in_map : {X Y : Type 0} (f : X → Y) (xs : List X) (y : Y) → IsIn y (map f xs) → (x : X) × IsIn x xs × (y ≡ f x)
+in_map f [] y m = absurd m
+in_map f (x ∷ xs) y (inl e) = (x, inl refl, e)
+in_map f (x ∷ xs) y (inr m) = let w = in_map f xs y m in (w.0, inr w.1, w.2)
 
--- what a call chose by its kind, by what it saw
-kind_is : {V : Type 0} (limit place who : ℕ) (kind kind' : Kind) (chose chose' seen seen' : Stamped V) → kind' ≡ kind → chose' ≡ chose →
-    seen' ≡ seen → ChoosesByKind limit (record { place = place; who = who; kind = kind; stamp = chose.stamp; item = chose.item })
-    kind seen.stamp seen.item →
-    ChoosesByKind limit (record { place = place; who = who; kind = kind'; stamp = chose'.stamp; item = chose'.item })
-    kind' seen'.stamp seen'.item
-kind_is limit place who kind kind' chose chose' seen seen' a b c h =
-    subst (λ k. ChoosesByKind limit (record { place = place; who = who; kind = k; stamp = chose'.stamp; item = chose'.item }) k seen'.stamp
-    seen'.item) (sym a)
-    (subst (λ z. ChoosesByKind limit (record { place = place; who = who; kind = kind; stamp = z.stamp; item = z.item }) kind seen'.stamp
-    seen'.item) (sym b)
-    (subst (λ z. ChoosesByKind limit (record { place = place; who = who; kind = kind; stamp = chose.stamp; item = chose.item }) kind z.stamp
-    z.item) (sym c) h))
+map_in : {X Y : Type 0} (f : X → Y) (xs : List X) (x : X) → IsIn x xs → IsIn (f x) (map f xs)
+map_in f [] x m = absurd m
+map_in f (y ∷ ys) x (inl e) = inl (ap f e)
+map_in f (y ∷ ys) x (inr m) = inr (map_in f ys x m)
 
 module _ {V : Type 0} (width n limit : ℕ) (opening : V) (steps : List ℕ) (did : ℕ → Did V)
     (run : IsBoardRun width n limit (first_record opening) steps did) where
-  abbrev pub chosen : ℕ → ℕ → Stamped V
-  chosen i k = chosen_by opening (did i).calls k
+  abbrev first : Stamped V
+  first = first_record opening
 
-  -- the accesses of a call are those of the schedule, and beyond the last call there are none
-  same_accesses : (i access k : ℕ) (begins ends : List ℕ) → i < n → access < 2 * (n - 1) → AreAccesses width n (did i) access begins ends →
-      ((intervals begins ends).begins k ≡ (intervals_at 1 (span_of width n limit opening steps did run) width i access).begins k)
-      × ((intervals begins ends).ends k ≡ (intervals_at 1 (span_of width n limit opening steps did run) width i access).ends k)
-  same_accesses i access k begins ends l la h = elim (cases_lt k (length (did i).calls)) [
-    | inl made ↦ (
-      h.begun k made ∙ sym (step_is width n limit opening steps did run i _ l),
-      h.ended k made ∙ sym (step_is width n limit opening steps did run i _ l),
-    )
-    | inr past ↦
-        let long : length (did i).times ≡ length (did i).calls * steps_of_call width n = (run.each i l).long in
-        let beyond : (at : ℕ) → k * steps_of_call width n ≤ at → slice_get (positions 1 i steps) at ≡ None = λ at le.
-        step_is width n limit opening steps did run i at l
-        ∙ slice_get_past (did i).times at (let m : length (did i).calls * steps_of_call width n ≤ k * steps_of_call width n =
-        mul-le-mul_right (steps_of_call width n) past in omega arith) in (
-          slice_get_past begins k (let a = h.all.0 in omega arith) ∙ sym (beyond _ (omega arith)),
-          slice_get_past ends k (let a = h.all.1 in omega arith) ∙ sym (beyond _ (omega arith)),
-        )
-  ]
+  abbrev own_at : ℕ → ℕ → Stamped V
+  own_at i k = own_before first (did i).calls k
+
+  -- call q of process j tells it, and has chosen before it writes
+  record IsSource (j q : ℕ) (d : Called V) (r : Stamped V) (t : ℕ) : Type 0 where
+    there : slice_get (did j).calls q ≡ Some d
+    chosen : d.chosen ≡ r
+    chose : (s : ℕ) → slice_get (did j).times (at width n limit opening steps did run j q + ((n - 1) * width - 1)) ≡ Some s → s < t
+
+  -- the answer that call k of process i had of the process number e of the others: the opening, or told by a call that had chosen; and
+  -- what that process had after a call that had ended isn't above it
+  record IsHeard (i k e : ℕ) (c : Called V) (answer : Stamped V) : Type 0 where
+    from : (answer ≡ first) ⊎ ((q : ℕ) × (d : Called V) × ((t : ℕ) → slice_get (did i).times (at width n limit opening steps did run i k + ((n - 1) * width - 1)) ≡ Some t →
+        IsSource (other i e) q d answer t))
+    above : (m : ℕ) (d : Called V) → slice_get (did (other i e)).calls m ≡ Some d → d.end < c.begin → IsAtMost d.chosen.stamp answer.stamp
+
+  module _ (i k e : ℕ) (c : Called V) (li : i < n) (le : e + 1 < n) (made : slice_get (did i).calls k ≡ Some c) (answer : Stamped V)
+      (there : slice_get ((did i).reads (other i e)).items k ≡ Some answer) where
+    abbrev j : ℕ
+    j = other i e
+
+    lj : j < n
+    lj = other_inside n i e li le
+
+    -- the writes to this process, by their number among the others
+    back : (w : ℕ) × (w + 1 < n) × (other j w ≡ i)
+    back = other_reached n j i lj li (λ z. other_differs i e (sym z))
+
+    wrote : AreWrites width n (did j) (n - 1 + back.0) ((did j).writes i).begins ((did j).writes i).ends
+    wrote = subst (λ z. AreWrites width n (did j) (n - 1 + back.0) ((did j).writes z).begins ((did j).writes z).ends) back.2
+        ((run.each j lj).writes back.0 back.1)
+
+    written : ((did j).writes i).items ≡ records (did j).calls
+    written = subst (λ z. ((did j).writes z).items ≡ records (did j).calls) back.2 ((run.each j lj).written back.0 back.1)
+
+    register : IsRegister first ((did j).writes i) ((did i).reads j)
+    register = run.registers j i lj li (other_differs i e)
+
+    read : AreReads width n (did i) e ((did i).reads j).begins ((did i).reads j).ends
+    read = (run.each i li).reads e le
+
+    lk : k < length (did i).calls
+    lk = slice_get_within (did i).calls k c made
+
+    -- where the accesses stand in a call
+    read_inside : e * width + width ≤ (n - 1) * width
+    read_inside = later_operation width e (n - 1) (omega arith)
+
+    write_after : (n - 1 + back.0) * width ≡ (n - 1) * width + back.0 * width
+    write_after = add-mul (n - 1) back.0 width
+
+    write_inside : back.0 * width + width ≤ (n - 1) * width
+    write_inside = later_operation width back.0 (n - 1) (let l : back.0 + 1 < n = back.1 in omega arith)
+
+    numbered : (number : ℕ) × (slice_get ((did i).reads j).numbers k ≡ Some number)
+    numbered = get_exists ((did i).reads j).numbers k
+        (let a = slice_get_within ((did i).reads j).items k answer there in let b = register.numbered in omega arith)
+
+    of : IsReadOf (intervals ((did j).writes i).begins ((did j).writes i).ends) (intervals ((did i).reads j).begins ((did i).reads j).ends) k numbered.0
+    of = register.read_of k numbered.0 numbered.1
+
+    source : slice_get (first ∷ records (did j).calls) numbered.0 ≡ Some answer
+    source = ap (λ ys. slice_get (first ∷ ys) numbered.0) (sym written) ∙ register.source k numbered.0 answer numbered.1 there
+
+    heard : IsHeard i k e c answer
+    heard = record {
+      from = from numbered.0 refl;
+      above = above;
+    }
+      where
+        from : (x : ℕ) → x ≡ numbered.0 → (answer ≡ first) ⊎ ((q : ℕ) × (d : Called V)
+            × ((t : ℕ) → slice_get (did i).times (at width n limit opening steps did run i k + ((n - 1) * width - 1)) ≡ Some t →
+            IsSource j q d answer t))
+        from zero x = inl (sym (same_Some first answer (ap (slice_get (first ∷ records (did j).calls)) x ∙ source)))
+        from (suc y) x =
+            let w = told_by (did j).calls y answer (ap (slice_get (first ∷ records (did j).calls)) x ∙ source) in
+            let b = of_before (slice_get ((did j).writes i).begins y) (slice_get ((did i).reads j).ends k) (of.begun y (sym x ∙ omega arith)) in
+            let begun : slice_get (did j).times (at width n limit opening steps did run j w.number + (n - 1 + back.0) * width) ≡ Some b.0 =
+            sym (wrote.begun w.number w.call w.there w.tells) ∙ ap (slice_get ((did j).writes i).begins) w.count ∙ b.1 in
+            inr (
+              w.number,
+              w.call,
+              λ t et. record {
+                there = w.there;
+                chosen = w.chosen;
+                chose = λ s es.
+                    let p : 0 < (n - 1) * width = line width n limit opening steps did run in
+                    let after = write_after in
+                    let less : s < b.0 = times_rise width n limit opening steps did run j
+                    (at width n limit opening steps did run j w.number + ((n - 1) * width - 1))
+                    (at width n limit opening steps did run j w.number + (n - 1 + back.0) * width) s b.0 lj es begun (omega arith) in
+                    let some : 0 < width = run.size.2 in
+                    let inside = read_inside in
+                    let l : at width n limit opening steps did run i k + (e * width + (width - 1))
+                    ≤ at width n limit opening steps did run i k + ((n - 1) * width - 1) = omega arith in
+                    let r = get_exists ((did i).reads j).ends k (let a = read.all.1 in let b = lk in omega arith) in
+                    let until : b.0 < r.0 = b.2 r.0 r.1 in
+                    let last : r.0 ≤ t = times_at_most width n limit opening steps did run i
+                    (at width n limit opening steps did run i k + (e * width + (width - 1)))
+                    (at width n limit opening steps did run i k + ((n - 1) * width - 1)) r.0 t li (sym (read.ended k lk) ∙ r.1) et l in
+                    omega arith;
+              },
+            )
+
+        above : (m : ℕ) (d : Called V) → slice_get (did j).calls m ≡ Some d → d.end < c.begin → IsAtMost d.chosen.stamp answer.stamp
+        above m d at_d before =
+            let lm : m < length (did j).calls = slice_get_within (did j).calls m d at_d in
+            let has : own_at j (suc m) ≡ d.chosen = own_next first (did j).calls m d at_d in
+            let is : slice_get (first ∷ records (did j).calls) (told (did j).calls (suc m)) ≡ Some (own_at j (suc m)) =
+            held first (did j).calls (run.each j lj).silent (suc m) (omega arith) in
+            subst (λ z. IsAtMost z.stamp answer.stamp) has (by_number (told (did j).calls (suc m)) refl is)
+          where
+            -- the write that told it had ended before the read began
+            late : (x : ℕ) → told (did j).calls (suc m) ≡ suc x → (w : IsTold (did j).calls x (own_at j (suc m))) → x < numbered.0
+            late x count w =
+                let r : w.number < suc m = elim (cases_lt w.number (suc m)) [
+                  | inl l ↦ l
+                  | inr ge ↦
+                      let t : told (did j).calls (suc m) ≤ told (did j).calls w.number = told_rises (did j).calls (suc m) w.number ge in
+                      let u : told (did j).calls w.number ≡ x = w.count in absurd (omega arith)
+                ] in
+                let lw : w.number < length (did j).calls = slice_get_within (did j).calls w.number w.call w.there in
+                let next : told (did j).calls (suc w.number) ≡ told (did j).calls w.number + 1 =
+                told_next (did j).calls w.number w.call w.there ∙ ap (λ b. told (did j).calls w.number + one_if b) w.tells in
+                let upto : told (did j).calls (suc w.number) ≤ told (did j).calls (length (did j).calls) =
+                told_rises (did j).calls (suc w.number) (length (did j).calls) (omega arith) in
+                let u : told (did j).calls w.number ≡ x = w.count in
+                let v = get_exists ((did j).writes i).ends x (let a = wrote.all.1 in omega arith) in
+                let ended : slice_get (did j).times (at width n limit opening steps did run j w.number + ((n - 1 + back.0) * width + (width - 1))) ≡ Some v.0 =
+                sym (wrote.ended w.number w.call w.there w.tells) ∙ ap (slice_get ((did j).writes i).ends) w.count ∙ v.1 in
+                let b = get_exists ((did i).reads j).begins k (let a = read.all.0 in let b = lk in omega arith) in
+                let begun : slice_get (did i).times (at width n limit opening steps did run i k + e * width) ≡ Some b.0 =
+                sym (read.begun k lk) ∙ b.1 in
+                let some : 0 < width = run.size.2 in
+                let after = write_after in
+                let inside = write_inside in
+                let fin : slice_get (did j).times (at width n limit opening steps did run j (suc m) - 1) ≡ Some d.end =
+                ends width n limit opening steps did run j m d lj at_d in
+                let full : at width n limit opening steps did run j (suc w.number)
+                ≡ at width n limit opening steps did run j w.number + ((n - 1) * width + (n - 1) * width) =
+                at_tells width n limit opening steps did run j w.number w.call w.there w.tells in
+                let up : at width n limit opening steps did run j (suc w.number) ≤ at width n limit opening steps did run j (suc m) =
+                at_rises width n limit opening steps did run j (suc w.number) (suc m) (omega arith) in
+                let one : v.0 ≤ d.end = times_at_most width n limit opening steps did run j
+                (at width n limit opening steps did run j w.number + ((n - 1 + back.0) * width + (width - 1)))
+                (at width n limit opening steps did run j (suc m) - 1) v.0 d.end lj ended fin (omega arith) in
+                let two : c.begin ≤ b.0 = times_at_most width n limit opening steps did run i (at width n limit opening steps did run i k)
+                (at width n limit opening steps did run i k + e * width) c.begin b.0 li
+                (begins width n limit opening steps did run i k c li made) begun (omega arith) in
+                of.late x (to_before (slice_get ((did j).writes i).ends x) (slice_get ((did i).reads j).begins k) v.0 v.1
+                (λ z h. let same : b.0 ≡ z = same_Some b.0 z (sym b.1 ∙ h) in omega arith))
+
+            -- what was told later has no smaller stamp
+            by_answer : (x y : ℕ) → y ≡ numbered.0 → x < y → (w : IsTold (did j).calls x (own_at j (suc m))) → IsAtMost (own_at j (suc m)).stamp answer.stamp
+            by_answer x zero q l w = absurd (omega arith)
+            by_answer x (suc y) q l w =
+                let v = told_by (did j).calls y answer (ap (slice_get (first ∷ records (did j).calls)) q ∙ source) in
+                let a : told (did j).calls w.number ≡ x = w.count in
+                let b : told (did j).calls v.number ≡ y = v.count in
+                let next : told (did j).calls (suc v.number) ≡ told (did j).calls v.number + 1 =
+                told_next (did j).calls v.number v.call v.there ∙ ap (λ b. told (did j).calls v.number + one_if b) v.tells in
+                let le : w.number ≤ v.number = elim (cases_lt v.number w.number) [
+                  | inl less ↦
+                      let t : told (did j).calls (suc v.number) ≤ told (did j).calls w.number =
+                      told_rises (did j).calls (suc v.number) w.number (omega arith) in absurd (omega arith)
+                  | inr ge ↦ ge
+                ] in
+                let lv : v.number < length (did j).calls = slice_get_within (did j).calls v.number v.call v.there in
+                let up : IsAtMost (own_at j (suc w.number)).stamp (own_at j (suc w.number + (v.number - w.number))).stamp =
+                own_rises width n limit opening steps did run j (suc w.number) (v.number - w.number) lj (omega arith) in
+                let z : suc w.number + (v.number - w.number) ≡ suc v.number = omega arith in
+                let here : own_at j (suc w.number) ≡ own_at j (suc m) = own_next first (did j).calls w.number w.call w.there ∙ w.chosen in
+                let there' : own_at j (suc w.number + (v.number - w.number)) ≡ answer =
+                ap (own_at j) z ∙ own_next first (did j).calls v.number v.call v.there ∙ v.chosen in
+                subst (λ (z : Stamped V × Stamped V). IsAtMost z.0.stamp z.1.stamp) (λ p. (here p, there' p)) up
+
+            by_number : (x : ℕ) → told (did j).calls (suc m) ≡ x →
+                slice_get (first ∷ records (did j).calls) x ≡ Some (own_at j (suc m)) → IsAtMost (own_at j (suc m)).stamp answer.stamp
+            by_number zero count is = subst (λ z. IsAtMost z.stamp answer.stamp) (same_Some first (own_at j (suc m)) is) (first_least answer.stamp)
+            by_number (suc x) count is =
+                let w = told_by (did j).calls x (own_at j (suc m)) is in
+                by_answer x numbered.0 refl (late x count w) w
 
   module _ (ops : List (Op V)) (stamps : List (Option Stamp)) (h : IsHistory n did ops stamps) where
-    -- the answer of each other process is a record that it chose, with a number as the order needs it
-    answered : (i k : ℕ) (seen : Stamped V) (s : Sees n (first_record opening) i (did i) k seen) → i < n → (e write : ℕ) (answer : Stamped V) →
-        slice_get s.answers e ≡ Some answer → other (other i e) write ≡ i → write + 1 < n →
-        (number : ℕ) × IsReadOf (row 1 (span_of width n limit opening steps did run) width (other i e) write)
-        (column 1 (span_of width n limit opening steps did run) width i e) k number
-        × (answer ≡ source_record (first_record opening) (chosen (other i e)) number)
-    answered i k seen s li e write answer there back lw =
-        let j : ℕ = other i e in
-        let le : e + 1 < n = let a = s.each in let b = slice_get_within s.answers e answer there in omega arith in
-        let lj : j < n = other_inside n i e li le in
-        let at : slice_get ((did i).reads j).items k ≡ Some answer = s.answered e answer there in
-        let r : IsRegister (first_record opening) ((did j).writes i) ((did i).reads j) =
-        run.registers j i lj li (other_differs i e) in
-        let x = get_exists ((did i).reads j).numbers k
-        (let a = slice_get_within ((did i).reads j).items k answer at in let b = r.numbered in omega arith) in
-        let w : AreAccesses width n (did j) (n - 1 + write) ((did j).writes i).begins ((did j).writes i).ends =
-        subst (λ z. AreAccesses width n (did j) (n - 1 + write) ((did j).writes z).begins ((did j).writes z).ends) back
-        ((run.each j lj).writes write lw) in
-        let v : AreAccesses width n (did i) e ((did i).reads j).begins ((did i).reads j).ends = (run.each i li).reads e le in
-        let items : ((did j).writes i).items ≡ map (λ c. c.chosen) (did j).calls =
-        subst (λ z. ((did j).writes z).items ≡ map (λ c. c.chosen) (did j).calls) back ((run.each j lj).written write lw) in
-        let span = span_of width n limit opening steps did run in
-        let p : length span.plans ≡ n = processes width n limit opening steps did run in
-        let same : n - 1 + write ≡ length span.plans - 1 + write = omega arith in (
-          x.0,
-          same_read (intervals ((did j).writes i).begins ((did j).writes i).ends) (row 1 span width j write)
-              (intervals ((did i).reads j).begins ((did i).reads j).ends) (column 1 span width i e) k x.0
-              (λ m. subst (λ a. (slice_get ((did j).writes i).begins m ≡ (intervals_at 1 span width j a).begins m)
-              × (slice_get ((did j).writes i).ends m ≡ (intervals_at 1 span width j a).ends m)) same
-              (same_accesses j (n - 1 + write) m ((did j).writes i).begins ((did j).writes i).ends lj (omega arith) w))
-              (same_accesses i e k ((did i).reads j).begins ((did i).reads j).ends li (omega arith) v)
-              (r.read_of k x.0 x.1),
-          source_is opening (did j).calls x.0 answer
-              (subst (λ ys. slice_get (first_record opening ∷ ys) x.0 ≡ Some answer) items (r.source k x.0 answer x.1 at)),
-        )
+    -- an operation as a call, with the time at which it chose
+    record Made : Type 0 where
+      place : ℕ
+      op : Op V
+      stamp : Option Stamp
+      there : slice_get ops place ≡ Some op
+      reported : slice_get stamps place ≡ Some stamp
+      number : ℕ
+      is : IsCall n did op stamp number
+      time : ℕ
+      chose : slice_get (did op.who).times (at width n limit opening steps did run op.who number + ((n - 1) * width - 1)) ≡ Some time
 
-    chooses : (p k : ℕ) (op : Op V) → slice_get ops p ≡ Some op →
-        IsOperation 1 (span_of width n limit opening steps did run) k op →
-        ChoosesBy 1 (span_of width n limit opening steps did run) width opening chosen (choice_at chosen p k op) k
-    chooses p k op e is =
-        let span = span_of width n limit opening steps did run in
-        let x = call_of width n limit opening steps did run ops stamps h p k op e is in
-        let c : IsCall n did op x.0 k = x.2 in
-        let process = run.each op.who c.who in
-        let s = process.sees k c.call c.made in
-        let own = own_is opening (did op.who).calls k c.call c.made in
-        let size : length span.plans ≡ n = processes width n limit opening steps did run in
-        record {
-          answers = s.answers;
-          each = s.each ∙ sym size;
-          answered = λ read write answer there back lw.
-              answered op.who k c.call.seen s c.who read write answer there back (subst (λ m. write + 1 < m) size lw);
-          by_kind = kind_is limit p op.who c.call.kind op.kind c.call.chosen (chosen op.who k) c.call.seen
-              (greatest (source_record (first_record opening) (chosen op.who) k) s.answers) c.kind
-              (chosen_is opening (did op.who).calls k c.call c.made)
-              (sym (s.greatest ∙ ap (λ o. greatest o s.answers) own)) (process.chooses k p c.call c.made);
-        }
+    abbrev made_by : (p k : ℕ) (op : Op V) (stamp : Option Stamp) → slice_get ops p ≡ Some op → slice_get stamps p ≡ Some stamp → IsCall n did op stamp k → Made
+    made_by p k op stamp e s is =
+        let t = chooses_at width n limit opening steps did run op.who k is.call is.who is.made in
+        record { place = p; op = op; stamp = stamp; there = e; reported = s; number = k; is = is; time = t.0; chose = t.1 }
 
-    -- each call of a history has chosen
-    has_chosen : (k : ℕ) (op : Op V) (stamp : Option Stamp) → IsCall n did op stamp k →
-        chooses_at 1 (span_of width n limit opening steps did run) width op.who k ≢ None
-    has_chosen k op stamp c none =
-        let span = span_of width n limit opening steps did run in
-        let size : length span.plans ≡ n = processes width n limit opening steps did run in
-        let least : 2 ≤ n = run.size.0 in
-        let some : 0 < width = run.size.2 in
-        let i : ℕ = op.who in
-        let index : ℕ = k * steps_of_call width n + ((length span.plans - 2) * width + (width - 1)) in
-        let made : k < length (did i).calls = slice_get_within (did i).calls k c.call c.made in
-        let long : length (did i).times ≡ length (did i).calls * steps_of_call width n = (run.each i c.who).long in
-        let room : k * steps_of_call width n + steps_of_call width n ≤ length (did i).calls * steps_of_call width n =
-        later_operation (steps_of_call width n) k (length (did i).calls) made in
-        let within : (length span.plans - 2) * width + width ≤ (2 * (n - 1)) * width =
-        later_operation width (length span.plans - 2) (2 * (n - 1)) (omega arith) in
-        let x = get_exists (did i).times index (omega arith) in
-        none-some x.0 (sym none ∙ step_is width n limit opening steps did run i index c.who ∙ x.1)
+    made_at : (p : ℕ) → p < length ops → (m : Made) × (m.place ≡ p)
+    made_at p l =
+        let o = get_exists ops p l in
+        let s = get_exists stamps p (let long = h.long in omega arith) in
+        let c = h.each p o.0 s.0 o.1 s.1 in
+        (made_by p c.0 o.0 s.0 o.1 s.1 c.1, refl)
 
-    by_accesses : IsChosenBy 1 (span_of width n limit opening steps did run) width opening ops stamps chosen
-    by_accesses = record {
-      long = h.long;
-      chooses = λ p k t op e is there. chooses p k op e is;
-      told = λ p k t op e is there.
-          let x = call_of width n limit opening steps did run ops stamps h p k op e is in
-          x.1 ∙ ap Some (x.2.stamp ∙ ap (λ z. Some z.stamp) (sym (chosen_is opening (did op.who).calls k x.2.call x.2.made)));
-      untold = λ p k op e is none.
-          let x = call_of width n limit opening steps did run ops stamps h p k op e is in
-          absurd (has_chosen k op x.0 x.2 none);
-      written = λ p k t op e is there write.
-          let x = call_of width n limit opening steps did run ops stamps h p k op e is in
-          x.2.item ∙ ap (λ z. Some z.item) (sym (chosen_is opening (did op.who).calls k x.2.call x.2.made));
-      ended = λ p k end op e is there.
-          let x = call_of width n limit opening steps did run ops stamps h p k op e is in
-          x.2.item ∙ ap (λ z. Some z.item) (sym (chosen_is opening (did op.who).calls k x.2.call x.2.made));
+    below : (m : ℕ) → suc m ≤ length ops → m < length ops
+    below m l = omega arith
+
+    upto : (m : ℕ) → suc m ≤ length ops → m ≤ length ops
+    upto m l = omega arith
+
+    abbrev all_made : (m : ℕ) → m ≤ length ops → List Made
+    all_made zero l = []
+    all_made (suc m) l = (made_at m (below m l)).0 ∷ all_made m (upto m l)
+
+    in_all : (m : ℕ) (l : m ≤ length ops) (p : ℕ) → p < m → (x : Made) × IsIn x (all_made m l) × (x.place ≡ p)
+    in_all zero l p lp = absurd (omega arith)
+    in_all (suc m) l p lp = elim (cases_eq p m) [
+      | inl e ↦ ((made_at m (below m l)).0, inl refl, (made_at m (below m l)).1 ∙ sym e)
+      | inr ne ↦ let w = in_all m (upto m l) p (omega arith) in (w.0, inr w.1, w.2)
+    ]
+
+    -- the newest first
+    abbrev Same : Made → Made → Type 0
+    Same a b = b.time ≡ a.time
+
+    abbrev Later : Made → Made → Type 0
+    Later a b = b.time < a.time
+
+    abbrev which : (a b : Made) → Same a b ⊎ (Later a b ⊎ Later b a)
+    which a b = cases_order b.time a.time
+
+    later_trans : (a b c : Made) → Later a b → Later b c → Later a c
+    later_trans a b c l m = omega arith
+
+    whole : length ops ≤ length ops
+    whole = omega arith
+
+    made : List Made
+    made = all_made (length ops) whole
+
+    sorted : List Made
+    sorted = sort Same Later which (λ a. refl) later_trans made
+
+    abbrev IsStrict : List Made → Type 0
+    IsStrict xs = Strict Same Later which (λ a. refl) later_trans xs
+
+    strict : IsStrict sorted
+    unfolding sorted
+    strict = strict_sort Same Later which (λ a. refl) later_trans made
+
+    -- each operation stands there, by its time
+    has : (p : ℕ) → p < length ops → (x : Made) × IsIn x sorted × ((y : Made) → y.place ≡ p → x.time ≡ y.time)
+    unfolding sorted made
+    has p l =
+        let w = in_all (length ops) whole p l in
+        let s = sort_in Same Later which (λ a. refl) later_trans w.0 made w.1 in
+        (s.0, s.1, λ y e. s.2 ∙ time_at w.0 y (w.2 ∙ sym e))
+      where
+        time_at : (a b : Made) → a.place ≡ b.place → a.time ≡ b.time
+        time_at a b e =
+            let o : a.op ≡ b.op = same_Some a.op b.op (sym a.there ∙ ap (slice_get ops) e ∙ b.there) in
+            let x : IsCall n did a.op a.stamp a.number = a.is in
+            let y : IsCall n did b.op b.stamp b.number = b.is in
+            let q = begin_once width n limit opening steps did run a.op.who b.op.who a.number b.number x.call y.call x.who y.who x.made y.made
+            (sym x.begins ∙ ap (λ z. z.starts) o ∙ y.begins) in
+            same_Some a.time b.time (sym a.chose
+            ∙ ap (λ (z : ℕ × ℕ). slice_get (did z.0).times (at width n limit opening steps did run z.0 z.1 + ((n - 1) * width - 1))) (λ k. (q.0 k, q.1 k))
+            ∙ b.chose)
+
+    -- of one time is one operation
+    one_time : (a b : Made) → a.time ≡ b.time → a.place ≡ b.place
+    one_time a b e =
+        let x : IsCall n did a.op a.stamp a.number = a.is in
+        let y : IsCall n did b.op b.stamp b.number = b.is in
+        let o = times_once width n limit opening steps did run a.op.who b.op.who
+        (at width n limit opening steps did run a.op.who a.number + ((n - 1) * width - 1))
+        (at width n limit opening steps did run b.op.who b.number + ((n - 1) * width - 1)) a.time x.who y.who a.chose (b.chose ∙ ap Some (sym e)) in
+        let same : at width n limit opening steps did run a.op.who a.number ≡ at width n limit opening steps did run b.op.who b.number =
+        let p : 0 < (n - 1) * width = line width n limit opening steps did run in let q = o.1 in omega arith in
+        let begins' : slice_get (did a.op.who).times (at width n limit opening steps did run a.op.who a.number) ≡ Some b.op.starts =
+        ap (λ (z : ℕ × ℕ). slice_get (did z.0).times z.1) (λ k. (o.0 k, same k))
+        ∙ begins width n limit opening steps did run b.op.who b.number y.call y.who y.made ∙ ap Some (sym y.begins) in
+        let starts : a.op.starts ≡ b.op.starts = x.begins ∙ same_Some x.call.begin b.op.starts
+        (sym (begins width n limit opening steps did run a.op.who a.number x.call x.who x.made) ∙ begins') in
+        elim (cases_order a.place b.place) [
+          | inl e ↦ e
+          | inr (inl l) ↦ let r : a.op.starts < b.op.starts = h.rising a.place b.place a.op b.op a.there b.there l in absurd (omega arith)
+          | inr (inr l) ↦ let r : b.op.starts < a.op.starts = h.rising b.place a.place b.op a.op b.there a.there l in absurd (omega arith)
+        ]
+
+    abbrev choice : Made → Choice V
+    choice m = record {
+      place = m.place;
+      who = m.op.who;
+      kind = m.op.kind;
+      stamp = m.is.call.chosen.stamp;
+      item = m.is.call.chosen.item;
     }
 
+    -- what is chosen no later is there too
+    abbrev IsFull : List Made → Type 0
+    IsFull xs = (x y : Made) → IsIn x xs → y.time ≤ x.time → (z : Made) × IsIn z xs × (z.time ≡ y.time)
+
+    full_rest : (x : Made) (xs : List Made) → IsStrict (x ∷ xs) → IsFull (x ∷ xs) → IsFull xs
+    full_rest x xs s f a b m le =
+        let w = f a b (inr m) le in
+        let below : a.time < x.time = s.0 a m in (
+          w.0,
+          elim w.1 [
+            | inl e ↦ absurd (let t : w.0.time ≡ x.time = ap (λ z. z.time) e in let u : w.0.time ≡ b.time = w.2 in omega arith)
+            | inr r ↦ r
+          ],
+          w.2,
+        )
+
+    full_sorted : IsFull sorted
+    full_sorted x y m le =
+        let w = has y.place (slice_get_within ops y.place y.op y.there) in (w.0, w.1, w.2 y refl)
+
+    -- a call that has chosen before stands in the past
+    in_past : (x : Made) (xs : List Made) → IsFull (x ∷ xs) → (j q t : ℕ) (d : Called V) → j < n → slice_get (did j).calls q ≡ Some d →
+        slice_get (did j).times (at width n limit opening steps did run j q + ((n - 1) * width - 1)) ≡ Some t → t < x.time →
+        (y : Made) × IsIn y xs × (y.is.call ≡ d)
+    in_past x xs f j q t d lj e et lt =
+        let w = h.all j q d lj e in
+        let y : Made = made_by w.0 q w.1 w.2 w.3 w.4 w.6 in
+        let who : w.1.who ≡ j = w.5 in
+        let ty : y.time ≡ t = same_Some y.time t (sym y.chose
+        ∙ ap (λ z. slice_get (did z).times (at width n limit opening steps did run z q + ((n - 1) * width - 1))) who ∙ et) in
+        let z = f x y (inl refl) (omega arith) in
+        let tz : z.0.time ≡ y.time = z.2 in
+        let same : z.0.place ≡ y.place = one_time z.0 y tz in
+        let o : z.0.op ≡ y.op = same_Some z.0.op y.op (sym z.0.there ∙ ap (slice_get ops) same ∙ y.there) in
+        let a : IsCall n did z.0.op z.0.stamp z.0.number = z.0.is in
+        let b = begin_once width n limit opening steps did run z.0.op.who j z.0.number q a.call d a.who lj a.made e
+        (sym a.begins ∙ ap (λ u. u.starts) o ∙ w.6.begins
+        ∙ ap (λ (u : Called V). u.begin) (same_Some w.6.call d (sym w.6.made ∙ ap (λ i. slice_get (did i).calls q) who ∙ e))) in (
+          z.0,
+          elim z.1 [ inl e ↦ absurd (let u : z.0.time ≡ x.time = ap (λ v. v.time) e in omega arith) | inr r ↦ r ],
+          same_Some a.call d (sym a.made ∙ ap (λ (u : ℕ × ℕ). slice_get (did u.0).calls u.1) (λ k. (b.0 k, b.1 k)) ∙ e),
+        )
+
+    module _ (x : Made) (xs : List Made) (s : IsStrict (x ∷ xs)) (f : IsFull (x ∷ xs)) where
+      abbrev i : ℕ
+      i = x.op.who
+
+      abbrev k : ℕ
+      k = x.number
+
+      abbrev c : Called V
+      c = x.is.call
+
+      li : i < n
+      li = x.is.who
+
+      sees : Sees n first i (did i) k c.seen
+      sees = (run.each i li).sees k c x.is.made
+
+      from_call : (j q : ℕ) (d : Called V) (t : ℕ) (r : Stamped V) → j < n → slice_get (did j).calls q ≡ Some d → d.chosen ≡ r →
+          slice_get (did j).times (at width n limit opening steps did run j q + ((n - 1) * width - 1)) ≡ Some t → t < x.time →
+          IsFrom opening (map choice xs) r.stamp r.item
+      from_call j q d t r lj e chosen et lt =
+          let y = in_past x xs f j q t d lj e et lt in
+          let same : y.0.is.call.chosen ≡ r = ap (λ z. z.chosen) y.2 ∙ chosen in
+          inr (choice y.0, map_in choice xs y.0 y.1, ap (λ z. z.stamp) same, ap (λ z. z.item) same)
+
+      -- the own record is the opening, or was chosen by the call before
+      from_own : (m : ℕ) → m ≡ k → IsFrom opening (map choice xs) (own_at i m).stamp (own_at i m).item
+      from_own zero e = inl (ap (λ z. z.stamp) (own_zero first (did i).calls), ap (λ z. z.item) (own_zero first (did i).calls))
+      from_own (suc m) e =
+          let lk : k < length (did i).calls = slice_get_within (did i).calls k c x.is.made in
+          let d = get_exists (did i).calls m (omega arith) in
+          let t = chooses_at width n limit opening steps did run i m d.0 li d.1 in
+          let up : at width n limit opening steps did run i m + (n - 1) * width ≤ at width n limit opening steps did run i (suc m) =
+          at_least width n limit opening steps did run i m d.0 d.1 in
+          let on : at width n limit opening steps did run i (suc m) ≤ at width n limit opening steps did run i k =
+          at_rises width n limit opening steps did run i (suc m) k (omega arith) in
+          let p : 0 < (n - 1) * width = line width n limit opening steps did run in
+          from_call i m d.0 t.0 (own_at i (suc m)) li d.1 (sym (own_next first (did i).calls m d.0 d.1)) t.1
+          (times_rise width n limit opening steps did run i (at width n limit opening steps did run i m + ((n - 1) * width - 1))
+          (at width n limit opening steps did run i k + ((n - 1) * width - 1)) t.0 x.time li t.1 x.chose (omega arith))
+
+      answer_of : (e : ℕ) (answer : Stamped V) → slice_get sees.answers e ≡ Some answer → IsHeard i k e c answer
+      answer_of e answer there =
+          heard i k e c li (let a = sees.each in let b = slice_get_within sees.answers e answer there in omega arith) x.is.made answer
+          (sees.answered e answer there)
+
+      from_answer : (e : ℕ) (answer : Stamped V) → slice_get sees.answers e ≡ Some answer →
+          IsFrom opening (map choice xs) answer.stamp answer.item
+      from_answer e answer there =
+          let le : e + 1 < n = let a = sees.each in let b = slice_get_within sees.answers e answer there in omega arith in
+          let lj : other i e < n = other_inside n i e li le in
+          elim (answer_of e answer there).from [
+            | inl first ↦ inl (ap (λ z. z.stamp) first, ap (λ z. z.item) first)
+            | inr w ↦
+                let o : IsSource (other i e) w.0 w.1 answer x.time = w.2 x.time x.chose in
+                let t = chooses_at width n limit opening steps did run (other i e) w.0 w.1 lj o.there in
+                from_call (other i e) w.0 w.1 t.0 answer lj o.there o.chosen t.1 (o.chose t.0 t.1)
+          ]
+
+      -- what the process chose before
+      above_own : (m : ℕ) (d : Called V) → slice_get (did i).calls m ≡ Some d → m < k → IsAtMost d.chosen.stamp c.seen.stamp
+      above_own m d e l =
+          let lk : k < length (did i).calls = slice_get_within (did i).calls k c x.is.made in
+          let up : IsAtMost (own_at i (suc m)).stamp (own_at i (suc m + (k - suc m))).stamp =
+          own_rises width n limit opening steps did run i (suc m) (k - suc m) li (omega arith) in
+          let z : suc m + (k - suc m) ≡ k = omega arith in
+          let one : IsAtMost d.chosen.stamp (own_at i k).stamp =
+          subst (λ (z : Stamped V × Stamped V). IsAtMost z.0.stamp z.1.stamp) (λ p. (own_next first (did i).calls m d e p, own_at i (z p))) up in
+          at_most_trans d.chosen.stamp (own_at i k).stamp c.seen.stamp one
+          (subst (λ z. IsAtMost (own_at i k).stamp z.stamp) (sym sees.greatest) (greatest_first (own_at i k) sees.answers))
+
+      -- an operation of the past of the same process has a smaller number
+      smaller : (y : Made) → y.time < x.time → y.op.who ≡ i → y.number < k
+      smaller y l who = elim (cases_lt y.number k) [
+        | inl less ↦ less
+        | inr ge ↦
+            let up : at width n limit opening steps did run i k ≤ at width n limit opening steps did run i y.number =
+            at_rises width n limit opening steps did run i k y.number ge in
+            let there : slice_get (did i).times (at width n limit opening steps did run i y.number + ((n - 1) * width - 1)) ≡ Some y.time =
+            subst (λ z. slice_get (did z).times (at width n limit opening steps did run z y.number + ((n - 1) * width - 1)) ≡ Some y.time) who y.chose in
+            let r : x.time ≤ y.time = times_at_most width n limit opening steps did run i
+            (at width n limit opening steps did run i k + ((n - 1) * width - 1))
+            (at width n limit opening steps did run i y.number + ((n - 1) * width - 1)) x.time y.time li x.chose there (omega arith) in
+            absurd (omega arith)
+      ]
+
+      own_past : (y : Made) → y.time < x.time → y.op.who ≡ i → IsAtMost y.is.call.chosen.stamp c.seen.stamp
+      own_past y l who = above_own y.number y.is.call (subst (λ z. slice_get (did z).calls y.number ≡ Some y.is.call) who y.is.made) (smaller y l who)
+
+      earlier_past : (y : Made) → y.time < x.time → y.is.call.end < c.begin → IsAtMost y.is.call.chosen.stamp c.seen.stamp
+      earlier_past y l before = elim (cases_eq y.op.who i) [
+        | inl who ↦ own_past y l who
+        | inr ne ↦
+            let o = other_reached n i y.op.who li y.is.who ne in
+            let le : o.0 + 1 < n = o.1 in
+            let a = get_exists sees.answers o.0 (let z = sees.each in omega arith) in
+            let v : IsHeard i k o.0 c a.0 = answer_of o.0 a.0 a.1 in
+            at_most_trans y.is.call.chosen.stamp a.0.stamp c.seen.stamp
+            (v.above y.number y.is.call (subst (λ z. slice_get (did z).calls y.number ≡ Some y.is.call) (sym o.2) y.is.made) before)
+            (subst (λ z. IsAtMost a.0.stamp z.stamp) (sym sees.greatest) (greatest_each (own_at i k) sees.answers o.0 a.0 a.1))
+      ]
+
+      -- what precedence of two choices says of their calls
+      ended_before : (a b : Made) → IsEarlier ops (choice a) (choice b) → a.is.call.end < b.is.call.begin
+      ended_before a b w =
+          let p : w.0 ≡ a.op = same_Some w.0 a.op (sym w.2 ∙ a.there) in
+          let q : w.1 ≡ b.op = same_Some w.1 b.op (sym w.3 ∙ b.there) in
+          let l : a.is.call.end < w.1.starts = ends_at w.0 w.1 a.is.call.end (ap (λ z. z.ends) p ∙ a.is.ends) w.4 in
+          let s : w.1.starts ≡ b.is.call.begin = ap (λ z. z.starts) q ∙ b.is.begins in
+          omega arith
+
+      -- a call chooses while it lasts
+      chooses_in : (a : Made) → (a.is.call.begin ≤ a.time) × (a.time ≤ a.is.call.end)
+      chooses_in a =
+          let p : 0 < (n - 1) * width = line width n limit opening steps did run in
+          let up : at width n limit opening steps did run a.op.who a.number + (n - 1) * width
+          ≤ at width n limit opening steps did run a.op.who (suc a.number) =
+          at_least width n limit opening steps did run a.op.who a.number a.is.call a.is.made in (
+            times_at_most width n limit opening steps did run a.op.who (at width n limit opening steps did run a.op.who a.number)
+                (at width n limit opening steps did run a.op.who a.number + ((n - 1) * width - 1)) a.is.call.begin a.time a.is.who
+                (begins width n limit opening steps did run a.op.who a.number a.is.call a.is.who a.is.made) a.chose (omega arith),
+            times_at_most width n limit opening steps did run a.op.who
+                (at width n limit opening steps did run a.op.who a.number + ((n - 1) * width - 1))
+                (at width n limit opening steps did run a.op.who (suc a.number) - 1) a.time a.is.call.end a.is.who a.chose
+                (ends width n limit opening steps did run a.op.who a.number a.is.call a.is.who a.is.made) (omega arith),
+          )
+
+      chooses : Chooses (IsEarlier ops) opening limit (map choice xs) (choice x)
+      chooses = record {
+        seen = c.seen.stamp;
+        seen_item = c.seen.item;
+        from = subst (λ z. IsFrom opening (map choice xs) z.stamp z.item) (sym sees.greatest)
+            (greatest_is (λ z. IsFrom opening (map choice xs) z.stamp z.item) (own_at i k) sees.answers (from_own k refl)
+            (λ e answer there. from_answer e answer there));
+        own = λ d m who.
+            let y = in_map choice xs d m in
+            let e : d ≡ choice y.0 = y.2 in
+            let l : y.0.time < x.time = s.0 y.0 y.1 in
+            subst (λ z. IsAtMost z.stamp c.seen.stamp) (sym e) (own_past y.0 l (ap (λ z. z.who) (sym e) ∙ who));
+        earlier = λ d m w.
+            let y = in_map choice xs d m in
+            let e : d ≡ choice y.0 = y.2 in
+            let l : y.0.time < x.time = s.0 y.0 y.1 in
+            subst (λ z. IsAtMost z.stamp c.seen.stamp) (sym e)
+            (earlier_past y.0 l (ended_before y.0 x (subst (λ z. IsEarlier ops z (choice x)) e w)));
+        chosen = subst (λ z. ChoosesByKind limit (record (choice x) { kind = z }) z c.seen.stamp c.seen.item) (sym x.is.kind)
+            ((run.each i li).chooses k x.place c x.is.made);
+        not_later = λ d m w.
+            let y = in_map choice xs d m in
+            let e : d ≡ choice y.0 = y.2 in
+            let l : y.0.time < x.time = s.0 y.0 y.1 in
+            let b : c.end < y.0.is.call.begin = ended_before x y.0 (subst (λ z. IsEarlier ops (choice x) z) e w) in
+            let p = chooses_in x in
+            let q = chooses_in y.0 in
+            let p1 : x.time ≤ c.end = p.1 in
+            let q0 : y.0.is.call.begin ≤ y.0.time = q.0 in
+            omega arith;
+        interval = λ w.
+            let b : c.end < c.begin = ended_before x x w in
+            let l : c.begin ≤ c.end = lasts width n limit opening steps did run i k c li x.is.made in
+            omega arith;
+        writer = let l : i < n = li in let m : n ≤ 16 = run.size.1 in omega arith;
+      }
+
+    choose_all : (xs : List Made) → IsStrict xs → IsFull xs → AllChoose (IsEarlier ops) opening limit (map choice xs)
+    choose_all [] s f = tt
+    choose_all (x ∷ xs) s f = (chooses x xs s f, choose_all xs s.1 (full_rest x xs s f))
+
+    abbrev choices : List (Choice V)
+    choices = map choice sorted
+
+    is_choice : (m : Made) → IsChoiceOf ops stamps (choice m)
+    is_choice m = record {
+      op = m.op;
+      there = m.there;
+      reported = m.reported ∙ ap Some m.is.stamp;
+      actor = refl;
+      same_kind = refl;
+      written = λ w. m.is.item;
+      ended = λ end e. m.is.item;
+    }
+
+    at_place : (p : ℕ) → p < length ops → (c : Choice V) × IsIn c choices × (c.place ≡ p)
+    at_place p l =
+        let w = has p l in
+        let y = made_at p l in
+        (choice w.0, map_in choice sorted w.0 w.1, one_time w.0 y.0 (w.2 y.0 y.1) ∙ y.1)
+
+    one_choice : (a b : Made) → a.place ≡ b.place → choice a ≡ choice b
+    one_choice a b e =
+        let o : a.op ≡ b.op = same_Some a.op b.op (sym a.there ∙ ap (slice_get ops) e ∙ b.there) in
+        let stamp : a.is.call.chosen.stamp ≡ b.is.call.chosen.stamp = same_Some a.is.call.chosen.stamp b.is.call.chosen.stamp
+        (sym a.is.stamp ∙ same_Some a.stamp b.stamp (sym a.reported ∙ ap (slice_get stamps) e ∙ b.reported) ∙ b.is.stamp) in
+        let item : a.is.call.chosen.item ≡ b.is.call.chosen.item = same_Some a.is.call.chosen.item b.is.call.chosen.item
+        (sym a.is.item ∙ ap (λ z. z.item) o ∙ b.is.item) in
+        ap (λ (z : ℕ × Op V × Stamp × V). record { place = z.0; who = z.1.who; kind = z.1.kind; stamp = z.2; item = z.3 })
+        (λ k. (e k, o k, stamp k, item k))
+
     pub choices_there : (choices : List (Choice V)) × HasChoices opening limit ops stamps choices
-    choices_there = chosen_by_law 1 width (span_of width n limit opening steps did run) opening ops stamps chosen
-        (cut width n limit opening steps did run) (played width n limit opening steps did run ops stamps h) by_accesses
+    choices_there = (
+      choices,
+      record {
+        law = choose_all sorted strict full_sorted;
+        each = λ c m. let w = in_map choice sorted c m in subst (IsChoiceOf ops stamps) (sym w.2) (is_choice w.0);
+        reported = λ p s e. at_place p (let l = slice_get_within stamps p (Some s) e in let long = h.long in omega arith);
+        finished = λ p end o e f. at_place p (slice_get_within ops p o e);
+        once = λ c d mc md e.
+            let v = in_map choice sorted c mc in
+            let w = in_map choice sorted d md in
+            v.2 ∙ one_choice v.0 w.0 (ap (λ z. z.place) (sym v.2) ∙ e ∙ ap (λ z. z.place) w.2) ∙ sym w.2;
+      },
+    )
 
     pub history_atomic : (order : List ℕ) → IsInOrder ops stamps order → IsAtomicOrder (λ x y. x ≡ y) opening ops order
     history_atomic order is = let x = choices_there in term_atomic opening limit ops stamps x.0 order x.1 is h.long h.rising

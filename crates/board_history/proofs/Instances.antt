@@ -1,36 +1,46 @@
 -- The two runs of two processes: every list has one or two elements, so each fact computes at its places.
-use Rattle.std.proofs.Common.{◌≡◌, ◌≢◌, ℕ, zero, suc, ◌+◌, ◌*◌, ◌<◌, [], ◌∷◌, slice_get, Some}
+use Rattle.std.proofs.Common.{◌≡◌, ◌≢◌, ℕ, zero, suc, ◌+◌, ◌-◌, ◌<◌, [], ◌∷◌, slice_get, Some, true, false}
 use Rattle.std.proofs.Common.{refl, sym, ◌∙◌, ap, subst, arith}
 use Rattle.std.proofs.lemmas.Option.{none-some, same_Some}
 use Rattle.fourslot_core.specs.Accesses.{IsBefore}
 use Rattle.stamps.specs.declared.stamp.Stamped.{Stamped}
 use Rattle.stamps.specs.Choices.{ChoosesByKind}
 use Rattle.stamps.specs.Stamps.{greater}
+use Rattle.history_core.specs.declared.history.Kind.{Kind}
 use Rattle.history_core.specs.declared.history.Kind.TheVariants.{Write, Read}
 use Rattle.history_core.specs.Schedules.{positions}
 use Rattle.fourslot_core.specs.ReadNumbers.{IsReadOf}
-use Rattle.board_history.specs.BoardRuns.{AreAccesses, Called, IsBoardRun, IsProcess, IsRegister, Sees}
+use Rattle.board_history.specs.BoardRuns.{AreReads, AreWrites, Called, IsBoardRun, IsProcess, IsRegister, own_before, Sees}
+use Rattle.board_history.specs.BoardRuns.{steps_before, steps_of_call, told}
+use Rattle.board_history.proofs.Growing.{not_both}
 use Rattle.board_history.specs.Instances.{one_call, reads_opening, reads_seven, seven, two_processes, zero_first}
 
+-- a call that tells what it chose
+abbrev pub telling : Kind → Stamped ℕ → Stamped ℕ → ℕ → ℕ → Called ℕ
+telling kind seen chosen read written = record { begin = read; end = written; kind = kind; seen = seen; chosen = chosen; tells = true }
+
 -- the accesses of one call of two steps
-one_access : (call : Called ℕ) (answer : Stamped ℕ) (number read written : ℕ) →
-    AreAccesses 1 2 (one_call call answer number read written) 0 (read ∷ []) (read ∷ [])
-    × AreAccesses 1 2 (one_call call answer number read written) 1 (written ∷ []) (written ∷ [])
-one_access call answer number read written = (
+one_access : (kind : Kind) (seen chosen answer : Stamped ℕ) (number read written : ℕ) →
+    AreReads 1 2 (one_call (telling kind seen chosen read written) answer number read written) 0 (read ∷ []) (read ∷ [])
+    × AreWrites 1 2 (one_call (telling kind seen chosen read written) answer number read written) 1 (written ∷ []) (written ∷ [])
+one_access kind seen chosen answer number read written = (
   record { begun = λ k l. at_read k l; ended = λ k l. at_read k l; all = (refl, refl) },
-  record { begun = λ k l. at_write k l; ended = λ k l. at_write k l; all = (refl, refl) },
+  record { begun = λ k c e t. at_write k c e; ended = λ k c e t. at_write k c e; all = (refl, refl) },
 )
   where
-    at_read : (k : ℕ) → k < 1 → slice_get (read ∷ []) k ≡ slice_get (read ∷ written ∷ []) (k * 2 + 0)
+    at_read : (k : ℕ) → k < 1 → slice_get (read ∷ []) k
+        ≡ slice_get (read ∷ written ∷ []) (steps_before 1 2 (telling kind seen chosen read written ∷ []) k + 0)
     at_read zero l = refl
     at_read (suc k) l = absurd (omega arith)
 
-    at_write : (k : ℕ) → k < 1 → slice_get (written ∷ []) k ≡ slice_get (read ∷ written ∷ []) (k * 2 + 1)
-    at_write zero l = refl
-    at_write (suc k) l = absurd (omega arith)
+    at_write : (k : ℕ) (c : Called ℕ) → slice_get (telling kind seen chosen read written ∷ []) k ≡ Some c →
+        slice_get (written ∷ []) (told (telling kind seen chosen read written ∷ []) k)
+        ≡ slice_get (read ∷ written ∷ []) (steps_before 1 2 (telling kind seen chosen read written ∷ []) k + 1)
+    at_write zero c e = refl
+    at_write (suc k) c e = absurd (none-some c e)
 
 -- a register with one write and one read
-one_each : (item answer : Stamped ℕ) (number read written : ℕ) → slice_get (zero_first ∷ item ∷ []) number ≡ Some answer →
+pub one_each : (item answer : Stamped ℕ) (number read written : ℕ) → slice_get (zero_first ∷ item ∷ []) number ≡ Some answer →
     (written < read → 0 < number) → (number ≡ 1 → written < read) →
     IsRegister zero_first (record { items = item ∷ []; begins = written ∷ []; ends = written ∷ [] })
     (record { items = answer ∷ []; numbers = number ∷ []; begins = read ∷ []; ends = read ∷ [] })
@@ -67,11 +77,11 @@ one_each item answer number read written is late begun = record {
     read_of (suc m) n a = absurd (none-some n a)
 
 -- a process that made one call
-one_process : (i : ℕ) (call : Called ℕ) (answer : Stamped ℕ) (number read written : ℕ) → call.begin ≡ read → call.end ≡ written → call.seen ≡ greater zero_first answer →
-    ((place : ℕ) → ChoosesByKind 5 (record { place = place; who = i; kind = call.kind; stamp = call.chosen.stamp; item = call.chosen.item })
-    call.kind call.seen.stamp call.seen.item) →
-    IsProcess 1 2 5 zero_first i (one_call call answer number read written)
-one_process i call answer number read written begin end sees chooses = record {
+pub one_process : (i : ℕ) (kind : Kind) (seen chosen answer : Stamped ℕ) (number read written : ℕ) → seen ≡ greater zero_first answer →
+    ((place : ℕ) → ChoosesByKind 5 (record { place = place; who = i; kind = kind; stamp = chosen.stamp; item = chosen.item })
+    kind seen.stamp seen.item) →
+    IsProcess 1 2 5 zero_first i (one_call (telling kind seen chosen read written) answer number read written)
+one_process i kind seen chosen answer number read written sees chooses = record {
   long = refl;
   begun = λ k c e. begun k c e;
   ended = λ k c e. ended k c e;
@@ -79,44 +89,55 @@ one_process i call answer number read written begin end sees chooses = record {
   answered = λ e l. refl;
   writes = λ e l. at_write e l;
   written = λ e l. refl;
+  silent = λ k c e t. silent k c e t;
   sees = λ k c e. saw k c e;
   chooses = λ k place c e. chose k place c e;
 }
   where
-    begun : (k : ℕ) (c : Called ℕ) → slice_get (call ∷ []) k ≡ Some c → slice_get (read ∷ written ∷ []) (k * 2) ≡ Some c.begin
-    begun zero c e = ap Some (sym begin ∙ ap (λ (z : Called ℕ). z.begin) (same_Some call c e))
+    begun : (k : ℕ) (c : Called ℕ) → slice_get (telling kind seen chosen read written ∷ []) k ≡ Some c →
+        slice_get (read ∷ written ∷ []) (steps_before 1 2 (telling kind seen chosen read written ∷ []) k) ≡ Some c.begin
+    begun zero c e = ap (λ (z : Called ℕ). Some z.begin) (same_Some (telling kind seen chosen read written) c e)
     begun (suc k) c e = absurd (none-some c e)
 
-    ended : (k : ℕ) (c : Called ℕ) → slice_get (call ∷ []) k ≡ Some c → slice_get (read ∷ written ∷ []) (k * 2 + 1) ≡ Some c.end
-    ended zero c e = ap Some (sym end ∙ ap (λ (z : Called ℕ). z.end) (same_Some call c e))
+    ended : (k : ℕ) (c : Called ℕ) → slice_get (telling kind seen chosen read written ∷ []) k ≡ Some c →
+        slice_get (read ∷ written ∷ []) (steps_before 1 2 (telling kind seen chosen read written ∷ []) k + (steps_of_call 1 2 c.tells - 1)) ≡ Some c.end
+    ended zero c e = ap (λ (z : Called ℕ). slice_get (read ∷ written ∷ []) (0 + (steps_of_call 1 2 z.tells - 1))) (sym (same_Some (telling kind seen chosen read written) c e))
+        ∙ ap (λ (z : Called ℕ). Some z.end) (same_Some (telling kind seen chosen read written) c e)
     ended (suc k) c e = absurd (none-some c e)
 
-    at_read : (e : ℕ) → e + 1 < 2 → AreAccesses 1 2 (one_call call answer number read written) e (read ∷ []) (read ∷ [])
-    at_read zero l = (one_access call answer number read written).0
+    not_silent : (c : Called ℕ) → (telling kind seen chosen read written) ≡ c → c.tells ≡ false → ⊥
+    not_silent c e t = not_both true refl (ap (λ (z : Called ℕ). z.tells) e ∙ t)
+
+    silent : (k : ℕ) (c : Called ℕ) → slice_get (telling kind seen chosen read written ∷ []) k ≡ Some c → c.tells ≡ false → c.chosen ≡ own_before zero_first (telling kind seen chosen read written ∷ []) k
+    silent zero c e t = absurd (not_silent c (same_Some (telling kind seen chosen read written) c e) t)
+    silent (suc k) c e t = absurd (none-some c e)
+
+    at_read : (e : ℕ) → e + 1 < 2 → AreReads 1 2 (one_call (telling kind seen chosen read written) answer number read written) e (read ∷ []) (read ∷ [])
+    at_read zero l = (one_access kind seen chosen answer number read written).0
     at_read (suc e) l = absurd (omega arith)
 
-    at_write : (e : ℕ) → e + 1 < 2 → AreAccesses 1 2 (one_call call answer number read written) (1 + e) (written ∷ []) (written ∷ [])
-    at_write zero l = (one_access call answer number read written).1
+    at_write : (e : ℕ) → e + 1 < 2 → AreWrites 1 2 (one_call (telling kind seen chosen read written) answer number read written) (1 + e) (written ∷ []) (written ∷ [])
+    at_write zero l = (one_access kind seen chosen answer number read written).1
     at_write (suc e) l = absurd (omega arith)
 
     answered : (e : ℕ) (x : Stamped ℕ) → slice_get (answer ∷ []) e ≡ Some x → slice_get (answer ∷ []) zero ≡ Some x
     answered zero x h = h
     answered (suc e) x h = absurd (none-some x h)
 
-    saw : (k : ℕ) (c : Called ℕ) → slice_get (call ∷ []) k ≡ Some c → Sees 2 zero_first i (one_call call answer number read written) k c.seen
+    saw : (k : ℕ) (c : Called ℕ) → slice_get (telling kind seen chosen read written ∷ []) k ≡ Some c → Sees 2 zero_first i (one_call (telling kind seen chosen read written) answer number read written) k c.seen
     saw zero c h = record {
       answers = answer ∷ [];
       each = refl;
       answered = λ e x g. answered e x g;
-      greatest = ap (λ (z : Called ℕ). z.seen) (sym (same_Some call c h)) ∙ sees;
+      greatest = ap (λ (z : Called ℕ). z.seen) (sym (same_Some (telling kind seen chosen read written) c h)) ∙ sees;
     }
     saw (suc k) c h = absurd (none-some c h)
 
-    chose : (k place : ℕ) (c : Called ℕ) → slice_get (call ∷ []) k ≡ Some c →
+    chose : (k place : ℕ) (c : Called ℕ) → slice_get (telling kind seen chosen read written ∷ []) k ≡ Some c →
         ChoosesByKind 5 (record { place = place; who = i; kind = c.kind; stamp = c.chosen.stamp; item = c.chosen.item }) c.kind c.seen.stamp c.seen.item
     chose zero place c h = subst (λ (c : Called ℕ). ChoosesByKind 5
         (record { place = place; who = i; kind = c.kind; stamp = c.chosen.stamp; item = c.chosen.item }) c.kind c.seen.stamp c.seen.item)
-        (same_Some call c h) (chooses place)
+        (same_Some (telling kind seen chosen read written) c h) (chooses place)
     chose (suc k) place c h = absurd (none-some c h)
 
 pub is_fresh : IsBoardRun 1 2 5 zero_first (0 ∷ 0 ∷ 1 ∷ 1 ∷ []) (two_processes reads_seven)
@@ -141,8 +162,8 @@ is_fresh = record {
     scheduled (suc (suc i)) l = absurd (omega arith)
 
     each : (i : ℕ) → i < 2 → IsProcess 1 2 5 zero_first i (two_processes reads_seven i)
-    each zero l = one_process 0 (record { begin = 1; end = 2; kind = Write; seen = zero_first; chosen = seven }) zero_first 0 1 2 refl refl refl (λ place. (omega arith, refl))
-    each (suc zero) l = one_process 1 (record { begin = 3; end = 4; kind = Read; seen = seven; chosen = seven }) seven 1 3 4 refl refl refl (λ place. (refl, refl))
+    each zero l = one_process 0 Write zero_first seven zero_first 0 1 2 refl (λ place. (omega arith, refl))
+    each (suc zero) l = one_process 1 Read seven seven seven 1 3 4 refl (λ place. (refl, refl))
     each (suc (suc i)) l = absurd (omega arith)
 
     registers : (i j : ℕ) → i < 2 → j < 2 → i ≢ j →

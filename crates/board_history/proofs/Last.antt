@@ -1,19 +1,15 @@
 -- After the order of a board's run the register holds the greatest record that any process has: a process's stamps never fall, so the
 -- greatest of what was chosen is what some process chose last.
-use Rattle.std.proofs.Common.{◌≡◌, ℕ, zero, suc, ◌+◌, ◌-◌, ◌<◌, ◌≤◌, List, [], ◌∷◌, length, slice_get}
-use Rattle.std.proofs.Common.{Option, Some, refl, sym, ◌∙◌, ap, subst, arith, inl, inr}
+use Rattle.std.proofs.Common.{◌≡◌, ℕ, suc, ◌+◌, ◌-◌, ◌<◌, List, length, slice_get}
+use Rattle.std.proofs.Common.{Option, Some, sym, ◌∙◌, ap, subst, arith, inl, inr}
 use Rattle.std.proofs.lemmas.Bool.{cases_eq}
 use Rattle.std.proofs.lemmas.Option.{same_Some, slice_get_within}
 use Rattle.history_core.specs.declared.history.Op.{Op}
-use Rattle.history_core.specs.declared.history.Kind.{Kind}
-use Rattle.history_core.specs.declared.history.Kind.TheVariants.{Write, Read, Refused}
 use Rattle.history_core.specs.Orders.{latest}
 use Rattle.stamps.specs.declared.stamp.Stamp.{Stamp}
 use Rattle.stamps.specs.declared.stamp.Stamped.{Stamped}
-use Rattle.stamps.specs.Choices.{Choice, ChoosesByKind, HasChoices, IsAtMost, IsChoiceOf, IsFrom}
-use Rattle.stamps.specs.Stamps.{greater, IsBelow}
-use Rattle.stamps.proofs.choices.Stamps.{at_most_trans, greater_first}
-use Rattle.matrix_core.specs.CellAnswers.{greatest}
+use Rattle.stamps.specs.Choices.{Choice, HasChoices, IsAtMost, IsChoiceOf, IsFrom}
+use Rattle.stamps.proofs.choices.Stamps.{at_most_trans}
 use Rattle.matrix_core.specs.Lines.{first_record}
 use Rattle.matrix_core.specs.Listings.{IsInOrder}
 use Rattle.matrix_core.proofs.lists.Elements.{get_exists}
@@ -21,53 +17,10 @@ use Rattle.matrix_core.proofs.orders.Terms.{term_last}
 use Rattle.board_history.specs.BoardRuns.{Called, Did, IsBoardRun, own_before}
 use Rattle.board_history.specs.Histories.{IsCall, IsGreatestOwn, IsHistory, own_after}
 use Rattle.board_history.proofs.Atomic.{choices_there}
-
-greatest_first : {V : Type 0} (own : Stamped V) (answers : List (Stamped V)) → IsAtMost own.stamp (greatest own answers).stamp
-greatest_first own [] = inl refl
-greatest_first own (x ∷ xs) =
-    at_most_trans own.stamp (greater own x).stamp (greatest (greater own x) xs).stamp (greater_first own x) (greatest_first (greater own x) xs)
-
--- what a call chooses isn't below what it saw
-chosen_at_least : {V : Type 0} (limit : ℕ) (c : Choice V) (kind : Kind) (seen : Stamp) (item : V) → ChoosesByKind limit c kind seen item →
-    IsAtMost seen c.stamp
-chosen_at_least limit c Write seen item h = inr (subst (λ z. IsBelow seen z) (sym h.1) (inl (omega arith)))
-chosen_at_least limit c Read seen item h = inl (sym h.0)
-chosen_at_least limit c Refused seen item h = inl (sym h.1)
-
-pub own_zero : {V : Type 0} (own : Stamped V) (calls : List (Called V)) → own_before own calls zero ≡ own
-own_zero own [] = refl
-own_zero own (x ∷ calls) = refl
-
-pub own_next : {V : Type 0} (first : Stamped V) (calls : List (Called V)) (k : ℕ) (c : Called V) → slice_get calls k ≡ Some c →
-    own_before first calls (suc k) ≡ c.chosen
-own_next first [] k c e = cc
-own_next first (d ∷ calls) zero c e = own_zero d.chosen calls ∙ ap (λ z. z.chosen) (same_Some d c e)
-own_next first (d ∷ calls) (suc k) c e = own_next d.chosen calls k c e
+use Rattle.board_history.proofs.Rising.{own_next, own_rises, own_zero}
 
 module _ {V : Type 0} (width n limit : ℕ) (opening : V) (steps : List ℕ) (did : ℕ → Did V)
     (run : IsBoardRun width n limit (first_record opening) steps did) where
-  -- a process's records rise
-  own_rises : (i j more : ℕ) → i < n → j + more ≤ length (did i).calls →
-      IsAtMost (own_before (first_record opening) (did i).calls j).stamp (own_before (first_record opening) (did i).calls (j + more)).stamp
-  own_rises i j zero l le = inl (ap (λ m. (own_before (first_record opening) (did i).calls m).stamp) (omega arith))
-  own_rises i j (suc more) l le =
-      let first : Stamped V = first_record opening in
-      let c = get_exists (did i).calls (j + more) (omega arith) in
-      let s = (run.each i l).sees (j + more) c.0 c.1 in
-      let up : IsAtMost (own_before first (did i).calls (j + more)).stamp c.0.seen.stamp =
-      subst (λ z. IsAtMost (own_before first (did i).calls (j + more)).stamp z.stamp) (sym s.greatest)
-      (greatest_first (own_before first (did i).calls (j + more)) s.answers) in
-      let on : IsAtMost c.0.seen.stamp c.0.chosen.stamp = chosen_at_least limit
-      (record { place = 0; who = i; kind = c.0.kind; stamp = c.0.chosen.stamp; item = c.0.chosen.item }) c.0.kind c.0.seen.stamp c.0.seen.item
-      ((run.each i l).chooses (j + more) 0 c.0 c.1) in
-      let next : own_before first (did i).calls (j + suc more) ≡ c.0.chosen =
-      ap (own_before first (did i).calls) (let e : j + suc more ≡ suc (j + more) = omega arith in e)
-      ∙ own_next first (did i).calls (j + more) c.0 c.1 in
-      at_most_trans (own_before first (did i).calls j).stamp (own_before first (did i).calls (j + more)).stamp
-      (own_before first (did i).calls (j + suc more)).stamp (own_rises i j more l (omega arith))
-      (subst (λ z. IsAtMost (own_before first (did i).calls (j + more)).stamp z.stamp) (sym next)
-      (at_most_trans (own_before first (did i).calls (j + more)).stamp c.0.seen.stamp c.0.chosen.stamp up on))
-
   -- what a call chose isn't above what its process has after its calls
   pub chosen_below : (i k : ℕ) (c : Called V) → i < n → slice_get (did i).calls k ≡ Some c →
       IsAtMost c.chosen.stamp (own_after (first_record opening) (did i)).stamp
@@ -75,7 +28,7 @@ module _ {V : Type 0} (width n limit : ℕ) (opening : V) (steps : List ℕ) (di
       let first : Stamped V = first_record opening in
       let m : k < length (did i).calls = slice_get_within (did i).calls k c e in
       let up : IsAtMost (own_before first (did i).calls (suc k)).stamp (own_before first (did i).calls (suc k + (length (did i).calls - suc k))).stamp =
-      own_rises i (suc k) (length (did i).calls - suc k) l (omega arith) in
+      own_rises width n limit opening steps did run i (suc k) (length (did i).calls - suc k) l (omega arith) in
       let all : suc k + (length (did i).calls - suc k) ≡ length (did i).calls = omega arith in
       subst (λ z. IsAtMost z.stamp (own_after first (did i)).stamp) (own_next first (did i).calls k c e)
       (subst (λ m. IsAtMost (own_before first (did i).calls (suc k)).stamp (own_before first (did i).calls m).stamp) all up)

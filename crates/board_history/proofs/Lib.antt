@@ -1,7 +1,9 @@
 pub mod Members
 mod Plans
 mod Sorts
-mod Calls
+pub mod Told
+pub mod Timed
+pub mod Rising
 pub mod Atomic
 pub mod There
 pub mod Last
@@ -9,3 +11,4 @@ pub mod Later
 pub mod Growing
 pub mod Registers
 mod Instances
+mod Silent

@@ -1,6 +1,6 @@
 -- The order of a run's calls by stamp is that of one register: of one stamp there is one record, so what a call that writes nothing has
 -- is the record of the last write before it.
-use Rattle.std.proofs.Common.{◌≡◌, ◌≢◌, ℕ, zero, suc, ◌+◌, ◌-◌, ◌*◌, ◌<◌, ◌≤◌, List, [], ◌∷◌, length, take, slice_get, Option, Some}
+use Rattle.std.proofs.Common.{◌≡◌, ◌≢◌, ℕ, zero, suc, ◌+◌, ◌<◌, ◌≤◌, List, [], ◌∷◌, length, take, slice_get, Option, Some}
 use Rattle.std.proofs.Common.{Bool, true, false, option_and_then, get_or, refl, sym, ◌∙◌, ap, subst, arith, ◌⊎◌, inl, inr}
 use Rattle.std.specs.Prelude.{◌&&◌, ◌||◌, is_some, IsSomeAnd, if◌then◌else◌}
 use Rattle.std.proofs.lemmas.Bool.{cases_Bool, cases_order}
@@ -13,38 +13,25 @@ use Rattle.history_core.specs.declared.history.Kind.{Kind}
 use Rattle.history_core.specs.declared.history.Kind.TheVariants.{Write, Read, Refused}
 use Rattle.history_core.specs.Numbers.{StandsAt}
 use Rattle.history_core.specs.Orders.{in_term, IsAtomicOrder, is_write, is_write_at, listed_at, Precedes, RefusesLawfully, times_of, writes_in}
-use Rattle.history_core.specs.Schedules.{IsOperation}
 use Rattle.history_core.proofs.Listing.{times_cases}
-use Rattle.history_core.proofs.Played.{earlier_precedes, ends_after, number_once}
 use Rattle.stamps.specs.declared.stamp.Stamp.{Stamp}
 use Rattle.stamps.specs.declared.stamp.Stamped.{Stamped}
 use Rattle.stamps.specs.Choices.{ChoosesByKind, IsAtMost}
 use Rattle.stamps.specs.Stamps.{first_stamp, IsBelow}
-use Rattle.stamps.proofs.choices.Stamps.{at_most_trans, below_at_most, below_itself, stamp_same}
+use Rattle.stamps.proofs.choices.Stamps.{at_most_trans, below_at_most, below_itself}
 use Rattle.matrix_core.specs.Lines.{first_record}
 use Rattle.matrix_core.specs.Listings.{IsInOrder, is_listed, MayPrecede}
 use Rattle.matrix_core.proofs.lists.Elements.{get_exists}
 use Rattle.matrix_core.proofs.orders.Places.{times_twice}
-use Rattle.board_history.specs.BoardRuns.{Called, Did, IsBoardRun, own_before, steps_of_call}
+use Rattle.board_history.specs.BoardRuns.{Called, Did, IsBoardRun, own_before}
 use Rattle.board_history.specs.Histories.{IsCall, IsGreatestOwn, IsHistory, own_after}
 use Rattle.board_history.specs.OneRegister.{AreOfOne, IsOneOrder, Named, Takes}
-use Rattle.board_history.proofs.Atomic.{choices_there, history_atomic, history_lawful}
-use Rattle.board_history.proofs.Calls.{is_operation, span_of, steps_some}
-use Rattle.board_history.proofs.Last.{chosen_below, own_next, own_zero}
+use Rattle.board_history.proofs.Atomic.{history_atomic, history_lawful}
+use Rattle.board_history.proofs.Last.{chosen_below}
+use Rattle.board_history.proofs.Rising.{first_least, own_next, own_zero}
 use Rattle.board_history.proofs.Later.{calls_agree, calls_rise, calls_written}
 use Rattle.board_history.proofs.There.{all_there}
-
--- the first stamp is at most any
-first_least : (s : Stamp) → IsAtMost first_stamp s
-first_least s = elim (cases_order s.tag 0) [
-  | inr (inr l) ↦ inr (inl (omega arith))
-  | inr (inl l) ↦ absurd (omega arith)
-  | inl e ↦ elim (cases_order s.writer 0) [
-    | inr (inr l) ↦ inr (inr (sym e, omega arith))
-    | inr (inl l) ↦ absurd (omega arith)
-    | inl w ↦ inl (sym (stamp_same s first_stamp e w))
-  ]
-]
+use Rattle.board_history.proofs.Timed.{begin_once, in_turn as turns, lasts}
 
 both_ways : (a b : Stamp) → IsAtMost a b → IsAtMost b a → a ≡ b
 both_ways a b (inl e) h = e
@@ -80,12 +67,6 @@ at_most_one false times e = omega arith
 not_both : (b : Bool) → b ≡ false → b ≡ true → ⊥
 not_both true f t = cc
 not_both false f t = cc
-
-two_of : (a b : ℕ) → 2 ≤ a → 0 < b → 1 < a * b
-two_of zero b la lb = absurd (omega arith)
-two_of (suc zero) b la lb = absurd (omega arith)
-two_of (suc (suc a)) zero la lb = absurd (omega arith)
-two_of (suc (suc a)) (suc b) la lb = omega arith
 
 -- the term that a run's order is of
 abbrev whole : ℕ → Term
@@ -198,7 +179,6 @@ module _ {V : Type 0} (width n limit : ℕ) (opening : V) (steps : List ℕ) (di
       pub begins : op.starts ≡ c.begin
       pub ends : op.ends ≡ Some c.end
       pub reported : slice_get stamps p ≡ Some (Some c.chosen.stamp)
-      pub operation : IsOperation 1 (span_of width n limit opening steps did run) k op
 
     entry_by : (x p k : ℕ) (o : Op V) (stamp : Option Stamp) (call : IsCall n did o stamp k) → StandsAt ops order x p o →
         slice_get stamps p ≡ Some stamp → Entry x p o.who k call.call
@@ -212,7 +192,6 @@ module _ {V : Type 0} (width n limit : ℕ) (opening : V) (steps : List ℕ) (di
       begins = call.begins;
       ends = call.ends;
       reported = reported ∙ ap Some call.stamp;
-      operation = is_operation width n limit opening steps did run o stamp k call;
     }
 
     entry_at : (x p : ℕ) → slice_get order x ≡ Some p → (i : ℕ) × (k : ℕ) × (c : Called V) × Entry x p i k c
@@ -269,8 +248,8 @@ module _ {V : Type 0} (width n limit : ℕ) (opening : V) (steps : List ℕ) (di
     -- of one process the call with the smaller number ends before the other begins
     earlier : (x y p q i k m : ℕ) (c d : Called V) (a : Entry x p i k c) (b : Entry y q i m d) → k < m → Precedes a.op b.op
     earlier x y p q i k m c d a b l =
-        earlier_precedes 1 (span_of width n limit opening steps did run) k m a.op b.op (steps_some width n limit opening steps did run)
-        (a.who ∙ sym b.who) l a.operation b.operation
+        precedes_at a.op b.op c.end d.begin a.ends b.begins
+        (turns width n limit opening steps did run i k m c d a.inside a.made b.made l)
 
     in_turn : (x y p q i k m : ℕ) (c d : Called V) → Entry x p i k c → Entry y q i m d → x < y → k < m
     in_turn x y p q i k m c d a b l = elim (cases_order k m) [
@@ -294,9 +273,8 @@ module _ {V : Type 0} (width n limit : ℕ) (opening : V) (steps : List ℕ) (di
       | inr (inr more) ↦ keeps x y p q i j k m c d a b (λ (e : x ≡ y). omega arith)
           (precedes_at a.op b.op c.end d.begin a.ends b.begins l)
       | inl e ↦
-          let some : 1 < steps_of_call width n = two_of (2 * (n - 1)) width (let t = run.size.0 in omega arith) run.size.2 in
-          let up : a.op.starts < c.end = ends_after 1 (span_of width n limit opening steps did run) k a.op c.end some a.operation a.ends in
-          let same : a.op.starts ≡ d.begin = ap (λ o. o.starts) (one_op x y p q i j k m c d a b e) ∙ b.begins in
+          let up : c.begin ≤ c.end = lasts width n limit opening steps did run i k c a.inside a.made in
+          let same : c.begin ≡ d.begin = sym a.begins ∙ ap (λ o. o.starts) (one_op x y p q i j k m c d a b e) ∙ b.begins in
           absurd (omega arith)
     ]
 
@@ -306,8 +284,8 @@ module _ {V : Type 0} (width n limit : ℕ) (opening : V) (steps : List ℕ) (di
     same_named x p i k c d a b =
         let op : a.op ≡ b.op = one_op x x p p i d.who k d.number c d.call a b refl in
         let who : d.who ≡ i = sym b.who ∙ ap (λ o. o.who) (sym op) ∙ a.who in
-        let number : d.number ≡ k = number_once 1 (span_of width n limit opening steps did run) d.number k b.op a.op
-        (steps_some width n limit opening steps did run) (ap (λ o. o.who) (sym op)) (ap (λ o. o.starts) (sym op)) b.operation a.operation in
+        let number : d.number ≡ k = (begin_once width n limit opening steps did run d.who i d.number k d.call c b.inside a.inside b.made a.made
+        (sym b.begins ∙ ap (λ o. o.starts) (sym op) ∙ a.begins)).1 in
         let made : slice_get (did i).calls k ≡ Some d.call =
         subst (λ (z : ℕ × ℕ). slice_get (did z.0).calls z.1 ≡ Some d.call) (λ j. (who j, number j)) b.made in
         let call : d.call ≡ c = same_Some d.call c (sym made ∙ a.made) in

@@ -1,5 +1,5 @@
 -- The history of a board's run: its calls, sorted by beginning, and their order by stamp.
-use Rattle.std.proofs.Common.{◌≡◌, ℕ, zero, suc, ◌*◌, ◌<◌, Bool, true, false, List, [], ◌∷◌, ◌++◌, length, map}
+use Rattle.std.proofs.Common.{◌≡◌, ℕ, zero, suc, ◌<◌, Bool, true, false, List, [], ◌∷◌, ◌++◌, length, map}
 use Rattle.std.proofs.Common.{get_or, slice_get, Option, Some, refl, sym, ◌∙◌, ap, subst, arith, ◌⊎◌, inl, inr, ⊎_elim}
 use Rattle.std.specs.Prelude.{if◌then◌else◌}
 use Rattle.std.specs.Option.{option_map}
@@ -9,10 +9,7 @@ use Rattle.std.proofs.lemmas.Option.{get_or_from_slice_get, same_Some, slice_get
 use Rattle.history_core.specs.declared.history.Op.{Op}
 use Rattle.history_core.specs.declared.history.Kind.TheVariants.{Read}
 use Rattle.history_core.specs.Orders.{is_write}
-use Rattle.history_core.specs.Schedules.{positions}
 use Rattle.history_core.proofs.Listing.{times_once}
-use Rattle.history_core.proofs.Played.{same_operation_number}
-use Rattle.history_core.proofs.Positions.{position_actor, position_once}
 use Rattle.stamps.specs.declared.stamp.Stamp.{Stamp}
 use Rattle.stamps.specs.Choices.{IsIn}
 use Rattle.matrix_core.specs.Lines.{first_record}
@@ -21,9 +18,9 @@ use Rattle.stamps.specs.Stamps.{first_stamp, IsBelow}
 use Rattle.stamps.proofs.choices.Stamps.{below_itself, below_trans, stamp_same}
 use Rattle.board_history.proofs.Members.{append_left, append_right, in_append, in_here}
 use Rattle.matrix_core.proofs.orders.Listing.{get_map_back}
-use Rattle.board_history.specs.BoardRuns.{Called, Did, IsBoardRun, steps_of_call}
+use Rattle.board_history.specs.BoardRuns.{Called, Did, IsBoardRun}
 use Rattle.board_history.specs.Histories.{IsCall, IsHistory}
-use Rattle.board_history.proofs.Calls.{step_is, steps_some}
+use Rattle.board_history.proofs.Timed.{begin_once}
 use Rattle.board_history.proofs.Plans.{upto, upto_at}
 use Rattle.board_history.proofs.Sorts.{in_sort, rises, sort, sort_in, stands_at, Strict, strict_sort}
 
@@ -116,7 +113,7 @@ module _ (stamp_of : ℕ → Stamp) (rank : ℕ → ℕ) where
 module _ {V : Type 0} (width n limit : ℕ) (opening : V) (steps : List ℕ) (did : ℕ → Did V)
     (run : IsBoardRun width n limit (first_record opening) steps did) where
   abbrev no_call : Called V
-  no_call = record { begin = 0; end = 0; kind = Read; seen = first_record opening; chosen = first_record opening }
+  no_call = record { begin = 0; end = 0; kind = Read; seen = first_record opening; chosen = first_record opening; tells = true }
 
   abbrev entry : ℕ → ℕ → Entry V
   entry i k =
@@ -148,10 +145,6 @@ module _ {V : Type 0} (width n limit : ℕ) (opening : V) (steps : List ℕ) (di
   entries_in i k li lk =
       join_in (λ i. upto (entry i) (length (did i).calls)) n i (entry i k) li (upto_in (entry i) (length (did i).calls) k lk)
 
-  begins_at : (i k : ℕ) → i < n → k < length (did i).calls →
-      slice_get (did i).times (k * steps_of_call width n) ≡ Some (entry i k).op.starts
-  begins_at i k li lk = (run.each i li).begun k (get_or (did i).calls k no_call) (slice_get-get_or (did i).calls k no_call lk)
-
   is_call : (i k : ℕ) → i < n → k < length (did i).calls → IsCall n did (entry i k).op (Some (entry i k).stamp) k
   is_call i k li lk = record {
     who = li;
@@ -167,19 +160,8 @@ module _ {V : Type 0} (width n limit : ℕ) (opening : V) (steps : List ℕ) (di
   -- two calls that begin at one time are one
   same_entry : (i k j m : ℕ) → i < n → k < length (did i).calls → j < n → m < length (did j).calls →
       (entry i k).op.starts ≡ (entry j m).op.starts → (i ≡ j) × (k ≡ m)
-  same_entry i k j m li lk lj lm e =
-      let p : ℕ = (entry i k).op.starts in
-      let a : slice_get (positions 1 i steps) (k * steps_of_call width n) ≡ Some p =
-      step_is width n limit opening steps did run i (k * steps_of_call width n) li ∙ begins_at i k li lk in
-      let b : slice_get (positions 1 j steps) (m * steps_of_call width n) ≡ Some p =
-      step_is width n limit opening steps did run j (m * steps_of_call width n) lj ∙ begins_at j m lj lm ∙ ap Some (sym e) in
-      let who : i ≡ j = position_actor 1 i j steps (k * steps_of_call width n) (m * steps_of_call width n) p a b in
-      let c : slice_get (positions 1 i steps) (m * steps_of_call width n) ≡ Some p =
-      subst (λ z. slice_get (positions 1 z steps) (m * steps_of_call width n) ≡ Some p) (sym who) b in
-      let at : k * steps_of_call width n ≡ m * steps_of_call width n =
-      position_once 1 i steps (k * steps_of_call width n) (m * steps_of_call width n) p a c in
-      let s : 0 < steps_of_call width n = steps_some width n limit opening steps did run in
-      (who, same_operation_number (steps_of_call width n) k m 0 0 (omega arith) s s)
+  same_entry i k j m li lk lj lm e = begin_once width n limit opening steps did run i j k m (get_or (did i).calls k no_call)
+      (get_or (did j).calls m no_call) li lj (slice_get-get_or (did i).calls k no_call lk) (slice_get-get_or (did j).calls m no_call lm) e
 
   abbrev Same : Entry V → Entry V → Type 0
   Same a b = a.op.starts ≡ b.op.starts

@@ -1,5 +1,6 @@
--- A call of a process, access by access: so many reads, one of each other process, rising, and then as many writes (this project's own).
-use Rattle.std.specs.Prelude.{◌≡◌, ℕ, ◌+◌, ◌-◌, ◌*◌, ◌<◌, List, [], ◌∷◌, ◌++◌, length, slice_get, Some}
+-- A call of a process, access by access: so many reads, one of each other process, rising, and then as many writes, or none (this
+-- project's own).
+use Rattle.std.specs.Prelude.{◌≡◌, ℕ, ◌+◌, ◌-◌, ◌*◌, ◌<◌, List, [], ◌∷◌, ◌++◌, length, slice_get, Some, true, false}
 use Rattle.stamps.specs.declared.stamp.Stamped.{Stamped}
 use Rattle.stamps.specs.Choices.{ChoosesByKind}
 use Rattle.matrix_core.specs.CellAnswers.{greatest}
@@ -26,20 +27,22 @@ module _ {V : Type 0} where
     pub items : new.items ≡ old.items ++ item ∷ []
 
   -- *One call more*: its steps are the accesses, its answers with the own record what it saw, and what it chose is written to each other
-  -- process
+  -- process, or it is the record that the process had before, and nothing is written
   pub record MakesCall (width n limit : ℕ) (first : Stamped V) (i : ℕ) (old new : Did V) (call : Called V) : Type 0 where
     pub calls : new.calls ≡ old.calls ++ call ∷ []
     pub steps : List ℕ
-    pub long : length steps ≡ steps_of_call width n
+    pub long : length steps ≡ steps_of_call width n call.tells
     pub begun : slice_get steps 0 ≡ Some call.begin
-    pub ended : slice_get steps (steps_of_call width n - 1) ≡ Some call.end
+    pub ended : slice_get steps (steps_of_call width n call.tells - 1) ≡ Some call.end
     pub times : new.times ≡ old.times ++ steps
     pub answers : List (Stamped V)
     pub each : length answers + 1 ≡ n
     pub reads : (e : ℕ) (answer : Stamped V) → slice_get answers e ≡ Some answer →
         ReadsOnce width steps e (old.reads (other i e)) (new.reads (other i e)) answer
-    pub writes : (e : ℕ) → e + 1 < n →
+    pub writes : (e : ℕ) → e + 1 < n → call.tells ≡ true →
         WritesOnce width steps (n - 1 + e) (old.writes (other i e)) (new.writes (other i e)) call.chosen
+    pub unwritten : (e : ℕ) → e + 1 < n → call.tells ≡ false → new.writes (other i e) ≡ old.writes (other i e)
+    pub silent : call.tells ≡ false → call.chosen ≡ own_before first old.calls (length old.calls)
     pub sees : call.seen ≡ greatest (own_before first old.calls (length old.calls)) answers
     pub chooses : (place : ℕ) →
         ChoosesByKind limit (record { place = place; who = i; kind = call.kind; stamp = call.chosen.stamp; item = call.chosen.item })

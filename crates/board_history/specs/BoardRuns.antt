@@ -1,8 +1,9 @@
 -- A run of a board whose processes make their steps in one time: what each process did, as lists. Each call reads the register of
--- each other process for it, rising, chooses, and then writes to the register of each other process, rising. A register is atomic by
--- its intervals (L. Lamport, On Interprocess Communication, Parts I and II, Distributed Computing 1, 1986); the rules of the matrix are
+-- each other process for it, rising, and chooses; and then it tells what it chose, to the register of each other process, rising, or it
+-- doesn't, where it chose the record that its process had before. A register is atomic by its intervals (L. Lamport, On Interprocess Communication, Parts I and II, Distributed Computing 1, 1986); the rules of the matrix are
 -- this project's own.
-use Rattle.std.specs.Prelude.{◌≡◌, ◌≢◌, ℕ, ◌+◌, ◌-◌, ◌*◌, ◌<◌, ◌≤◌, List, [], ◌∷◌, length, map, slice_get, Some, zero, suc}
+use Rattle.std.specs.Prelude.{◌≡◌, ◌≢◌, ℕ, ◌+◌, ◌-◌, ◌*◌, ◌<◌, ◌≤◌, List, [], ◌∷◌, length, slice_get, Some, zero, suc}
+use Rattle.std.specs.Prelude.{Bool, true, false, if◌then◌else◌}
 use Rattle.history_core.specs.declared.history.Kind.{Kind}
 use Rattle.history_core.specs.Schedules.{positions}
 use Rattle.stamps.specs.declared.stamp.Stamped.{Stamped}
@@ -15,17 +16,19 @@ use Rattle.fourslot_core.specs.ReadNumbers.{Intervals, IsReadOf}
 abbrev pub intervals : List ℕ → List ℕ → Intervals
 intervals begins ends = record { begins = slice_get begins; ends = slice_get ends }
 
--- the steps of a call: so many reads, and as many writes, of so many steps each
-abbrev pub steps_of_call : ℕ → ℕ → ℕ
-steps_of_call width n = (2 * (n - 1)) * width
+-- the steps of a call: so many reads, and as many writes where it tells what it chose, of so many steps each
+abbrev pub steps_of_call : ℕ → ℕ → Bool → ℕ
+steps_of_call width n tells = (n - 1) * width + (if tells then (n - 1) * width else 0)
 
--- a call that has ended: the times of its first and its last step, the greatest record that it saw, and the record that it chose
+-- a call that has ended: the times of its first and its last step, the greatest record that it saw, the record that it chose, and
+-- whether it told it
 pub record Called (V : Type 0) : Type 0 where
   pub begin : ℕ
   pub end : ℕ
   pub kind : Kind
   pub seen : Stamped V
   pub chosen : Stamped V
+  pub tells : Bool
 
 -- what a process wrote to another one, and what it read from one: each answer with its number among the records written, 0 that of
 -- the opening
@@ -54,13 +57,37 @@ module _ {V : Type 0} where
   own_before first [] (suc k) = first
   own_before first (c ∷ calls) (suc k) = own_before c.chosen calls k
 
+  -- how many of the first k calls told what they chose, and the records that were told
+  abbrev pub told : List (Called V) → ℕ → ℕ
+  told calls zero = 0
+  told [] (suc k) = 0
+  told (c ∷ calls) (suc k) = (if c.tells then 1 else 0) + told calls k
+
+  abbrev pub records : List (Called V) → List (Stamped V)
+  records [] = []
+  records (c ∷ calls) = if c.tells then c.chosen ∷ records calls else records calls
+
+  -- the steps of the first k calls
+  abbrev pub steps_before : ℕ → ℕ → List (Called V) → ℕ → ℕ
+  steps_before width n calls zero = 0
+  steps_before width n [] (suc k) = 0
+  steps_before width n (c ∷ calls) (suc k) = steps_of_call width n c.tells + steps_before width n calls k
+
   -- accesses number `access` of each call began and ended at these times
-  pub record AreAccesses (width n : ℕ) (did : Did V) (access : ℕ) (begins ends : List ℕ) : Type 0 where
+  pub record AreReads (width n : ℕ) (did : Did V) (access : ℕ) (begins ends : List ℕ) : Type 0 where
     pub begun : (k : ℕ) → k < length did.calls →
-        slice_get begins k ≡ slice_get did.times (k * steps_of_call width n + access * width)
+        slice_get begins k ≡ slice_get did.times (steps_before width n did.calls k + access * width)
     pub ended : (k : ℕ) → k < length did.calls →
-        slice_get ends k ≡ slice_get did.times (k * steps_of_call width n + (access * width + (width - 1)))
+        slice_get ends k ≡ slice_get did.times (steps_before width n did.calls k + (access * width + (width - 1)))
     pub all : (length begins ≡ length did.calls) × (length ends ≡ length did.calls)
+
+  -- accesses number `access` of each call that told what it chose began and ended at these times
+  pub record AreWrites (width n : ℕ) (did : Did V) (access : ℕ) (begins ends : List ℕ) : Type 0 where
+    pub begun : (k : ℕ) (c : Called V) → slice_get did.calls k ≡ Some c → c.tells ≡ true →
+        slice_get begins (told did.calls k) ≡ slice_get did.times (steps_before width n did.calls k + access * width)
+    pub ended : (k : ℕ) (c : Called V) → slice_get did.calls k ≡ Some c → c.tells ≡ true →
+        slice_get ends (told did.calls k) ≡ slice_get did.times (steps_before width n did.calls k + (access * width + (width - 1)))
+    pub all : (length begins ≡ told did.calls (length did.calls)) × (length ends ≡ told did.calls (length did.calls))
 
   -- what call k saw: the greatest of its process's own record and of one answer of each other process
   pub record Sees (n : ℕ) (first : Stamped V) (i : ℕ) (did : Did V) (k : ℕ) (seen : Stamped V) : Type 0 where
@@ -72,14 +99,16 @@ module _ {V : Type 0} where
 
   -- the calls of process i, all of which have ended
   pub record IsProcess (width n limit : ℕ) (first : Stamped V) (i : ℕ) (did : Did V) : Type 0 where
-    pub long : length did.times ≡ length did.calls * steps_of_call width n
-    pub begun : (k : ℕ) (c : Called V) → slice_get did.calls k ≡ Some c → slice_get did.times (k * steps_of_call width n) ≡ Some c.begin
+    pub long : length did.times ≡ steps_before width n did.calls (length did.calls)
+    pub begun : (k : ℕ) (c : Called V) → slice_get did.calls k ≡ Some c →
+        slice_get did.times (steps_before width n did.calls k) ≡ Some c.begin
     pub ended : (k : ℕ) (c : Called V) → slice_get did.calls k ≡ Some c →
-        slice_get did.times (k * steps_of_call width n + (steps_of_call width n - 1)) ≡ Some c.end
-    pub reads : (e : ℕ) → e + 1 < n → AreAccesses width n did e (did.reads (other i e)).begins (did.reads (other i e)).ends
+        slice_get did.times (steps_before width n did.calls k + (steps_of_call width n c.tells - 1)) ≡ Some c.end
+    pub reads : (e : ℕ) → e + 1 < n → AreReads width n did e (did.reads (other i e)).begins (did.reads (other i e)).ends
     pub answered : (e : ℕ) → e + 1 < n → length (did.reads (other i e)).items ≡ length did.calls
-    pub writes : (e : ℕ) → e + 1 < n → AreAccesses width n did (n - 1 + e) (did.writes (other i e)).begins (did.writes (other i e)).ends
-    pub written : (e : ℕ) → e + 1 < n → (did.writes (other i e)).items ≡ map (λ c. c.chosen) did.calls
+    pub writes : (e : ℕ) → e + 1 < n → AreWrites width n did (n - 1 + e) (did.writes (other i e)).begins (did.writes (other i e)).ends
+    pub written : (e : ℕ) → e + 1 < n → (did.writes (other i e)).items ≡ records did.calls
+    pub silent : (k : ℕ) (c : Called V) → slice_get did.calls k ≡ Some c → c.tells ≡ false → c.chosen ≡ own_before first did.calls k
     pub sees : (k : ℕ) (c : Called V) → slice_get did.calls k ≡ Some c → Sees n first i did k c.seen
     pub chooses : (k place : ℕ) (c : Called V) → slice_get did.calls k ≡ Some c →
         ChoosesByKind limit (record { place = place; who = i; kind = c.kind; stamp = c.chosen.stamp; item = c.chosen.item })

@@ -12,7 +12,7 @@ ghost use Rattle.matrix_core.specs.Lines.{first_record};
 ghost use Rattle.matrix_core.specs.Listings.{IsInOrder};
 ghost use Rattle.board_history.specs.Accesses.{HasDoneNothing, MakesCall};
 ghost use Rattle.board_history.specs.BoardRuns.{Called, Did, IsBoardRun, IsProcess};
-ghost use Rattle.board_history.specs.Instances.{reads_opening, reads_seven, two_processes, zero_first};
+ghost use Rattle.board_history.specs.Instances.{reads_opening, reads_seven, seven, silent_before, silent_read, two_processes, zero_first};
 ghost use Rattle.board_history.specs.Histories.{ChoseFrom, IsGreatestOwn, IsHistory};
 ghost use Rattle.board_history.specs.OneRegister.{IsOneOrder, Named};
 
@@ -57,10 +57,13 @@ pub fn calls_are_of_one_register<V>()
 {}
 
 /// What the definitions say of two processes: an answer that was written is a run's, and an answer that is older than a write that had
-/// ended before the read began is no run's, whatever number it is given.
+/// ended before the read began is no run's, whatever number it is given. A read that has its process's own record may tell nobody; one
+/// that has another record, and tells nobody, is no run's.
 pub fn runs_of_two()
     ensures fresh { IsBoardRun 1 2 5 zero_first (0 ∷ 0 ∷ 1 ∷ 1 ∷ []) (two_processes reads_seven) }
     ensures stale { (number : ℕ) → IsBoardRun 1 2 5 zero_first (0 ∷ 0 ∷ 1 ∷ 1 ∷ []) (two_processes (reads_opening number)) → ⊥ }
+    ensures silent { IsBoardRun 1 2 5 zero_first (1 ∷ 0 ∷ 0 ∷ []) silent_before }
+    ensures untold { (number : ℕ) → IsBoardRun 1 2 5 zero_first (0 ∷ 0 ∷ 1 ∷ []) (two_processes (silent_read seven number 3)) → ⊥ }
 {}
 
 /// A process that has done nothing has made its calls, and one call more keeps that it made its calls: so whoever makes a board's calls

@@ -46,6 +46,7 @@ module _ {V F S T : Type 0} (family : FamilyWords F (Posted V) S T) (obeys : V �
         kind = kind_by e.reply;
         seen = stamped entry.seen;
         chosen = stamped p.own;
+        tells = call.tells;
       } in
       let rest = called p es new (before ++ c ∷ []) h.2 (call.made before made) in (
         c ∷ rest.0,

@@ -1,6 +1,7 @@
 -- The passes' lists of events lead to the state shown: a step adds its events at the end of one list, and the state after it is the state
 -- before with these events made.
-use Rattle.std.proofs.Common.{◌≡◌, ℕ, ◌+◌, arith, Bool, false, ◌&&◌, if◌then◌else◌, List, [], ◌∷◌, ◌++◌, sym, refl, ap, subst}
+use Rattle.std.proofs.Common.{◌≤◌, ◌≡◌, ◌≢◌, ⊎_elim, ℕ, ◌+◌, arith, Bool, false, ◌&&◌, if◌then◌else◌, List, [], ◌∷◌, ◌++◌, sym, refl, ap, subst}
+use Rattle.std.proofs.lemmas.Bool.{cases_eq}
 use Rattle.fourslot_core.specs.declared.state.State.{State as Core}
 use Rattle.fourslot_core.specs.declared.state.Stage.{Stage}
 use Rattle.fourslot_core.specs.declared.state.Stage.TheVariants as writer
@@ -123,6 +124,9 @@ read_joined [] a b c d e = refl
 read_joined (x ∷ xs) a b c d e = ap (λ ys. x ∷ ys) (read_joined xs a b c d e)
 
 -- the counts
+pub at_most_one : (a b i : ℕ) → (a ≡ b → i ≡ 0) → (a ≢ b → i ≡ 1) → i ≤ 1
+at_most_one a b i same other = ⊎_elim (λ (e : a ≡ b). let z = same e in omega arith) (λ (ne : a ≢ b). let z = other ne in omega arith) (cases_eq a b)
+
 module _ {T : Type 0} where
   pub writes_more : (xs ys : List (WriteEvent T)) → control_writes (xs ++ ys) ≡ control_writes xs + control_writes ys
   writes_more [] ys = omega arith
@@ -141,8 +145,15 @@ module _ {T : Type 0} where
   reads_more (R5 x ∷ xs) ys = reads_more xs ys
 
   -- one access more, and its events
-  pub wrote : (n : ℕ) (xs ys : List (WriteEvent T)) → n ≡ control_writes xs → control_writes ys ≡ 1 → n + 1 ≡ control_writes (xs ++ ys)
+  pub wrote : (n : ℕ) (xs ys : List (WriteEvent T)) → n ≤ control_writes xs → control_writes ys ≡ 1 → n + 1 ≤ control_writes (xs ++ ys)
   wrote n xs ys is one = let more = writes_more xs ys in omega arith
 
-  pub has_read : (n : ℕ) (xs ys : List (ReadEvent T)) → n ≡ control_reads xs → control_reads ys ≡ 1 → n + 1 ≡ control_reads (xs ++ ys)
+  pub has_read : (n : ℕ) (xs ys : List (ReadEvent T)) → n ≤ control_reads xs → control_reads ys ≡ 1 → n + 1 ≤ control_reads (xs ++ ys)
   has_read n xs ys is one = let more = reads_more xs ys in omega arith
+
+  -- an event more, and one access or none
+  pub has_said : (i n : ℕ) (xs : List (ReadEvent T)) → i ≤ 1 → n ≤ control_reads xs → n + i ≤ control_reads (xs ++ R2 ∷ [])
+  has_said i n xs few is = let more = reads_more xs (R2 ∷ []) in omega arith
+
+  pub has_finished : (i n : ℕ) (xs : List (WriteEvent T)) → i ≤ 1 → n ≤ control_writes xs → n + i ≤ control_writes (xs ++ W5 ∷ [])
+  has_finished i n xs few is = let more = writes_more xs (W5 ∷ []) in omega arith

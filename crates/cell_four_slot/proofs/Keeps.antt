@@ -17,11 +17,11 @@ use Rattle.fourslot_core.specs.declared.state.Stage.{Stage}
 use Rattle.fourslot_core.specs.declared.state.Stage.TheVariants as writer
 use Rattle.fourslot_core.specs.declared.state.ReaderStage.{ReaderStage}
 use Rattle.fourslot_core.specs.declared.state.ReaderStage.TheVariants as reader
-use Rattle.fourslot_core.specs.declared.event.WriteEvent.TheVariants.{W1, W2, W3, W4, W5}
-use Rattle.fourslot_core.specs.declared.event.ReadEvent.TheVariants.{R1, R2, R3, R4, R5}
+use Rattle.fourslot_core.specs.declared.event.WriteEvent.TheVariants.{W1, W2, W3, W4}
+use Rattle.fourslot_core.specs.declared.event.ReadEvent.TheVariants.{R1, R3, R4, R5}
 use Rattle.fourslot_core.specs.Events.{side, with_side, record_in, slot_with, bit_number, slot_number, both, opening_state, after_write}
 use Rattle.fourslot_core.specs.Events.{after_read}
-use Rattle.fourslot_core.specs.Invariant.{latest_slot, IsSound, IsStored, IsUnderWay}
+use Rattle.fourslot_core.specs.Invariant.{latest_slot, IsSound, IsStored, IsUnderWay, IsKept}
 use Rattle.fourslot_core.specs.Freshness.{IsBegun}
 use Rattle.fourslot_core.proofs.events.Keeping.{opening_is_sound}
 use Rattle.fourslot_core.specs.Interleaving.Leads.{Stays}
@@ -36,8 +36,8 @@ use Rattle.cell_four_slot.specs.Steps.{FourSlotSight}
 use Rattle.cell_live.specs.declared.sight.Sight.TheVariants.{Spent, Told, Writer, Reader, Both}
 use Rattle.cell_four_slot.specs.Rule.{number_in, named_slot, StandsBy, InTable, IsNumbered, IsSettled, IsTimed, Sees, FourSlotRule}
 use Rattle.cell_live.specs.Sights.{writer_part, reader_part, writer_or, reader_or}
-use Rattle.cell_four_slot.specs.Steps.{begun_with, begins, stored_by, stores, finished_by, finishes, asked_by, asks, slot_of_choice}
-use Rattle.cell_four_slot.specs.Steps.{said_by, says, got_by, takes as takes_slot, first_writer, first_reader, first_sight}
+use Rattle.cell_four_slot.specs.Steps.{begun_with, begins, stored_by, stores, finishes_counting, finishes, asked_by, asks, slot_of_choice}
+use Rattle.cell_four_slot.specs.Steps.{finished_with, stores_on, said_with, word_said, asks_counting, says_counting, got_by, takes as takes_slot, first_writer, first_reader, first_sight}
 use Rattle.cell_four_slot.specs.Steps.{receipt_for, hears_of, whole_of, clock_of, HasAnswered}
 use Rattle.cell_live.specs.Intervals.{dated_at}
 use Rattle.cell_live.proofs.ListLaws.{all_snoc, rising_snoc, settled_more, seats_stay}
@@ -47,12 +47,12 @@ use Rattle.cell_four_slot.proofs.Fresh.{numbered_begins, numbered_stores, number
 use Rattle.cell_four_slot.proofs.Fresh.{shown_same, latest_grows, shown_grows, settled_begins, settled_stores, settled_finishes}
 use Rattle.cell_four_slot.proofs.Fresh.{settled_asks, settled_says, settled_reads, answers_at, free_unnamed, number_grows}
 use Rattle.cell_four_slot.proofs.Fresh.{finished_shown, number_below}
-use Rattle.cell_four_slot.proofs.Slots.{number_else, number_bound}
+use Rattle.cell_four_slot.proofs.Slots.{bit_low, number_else, number_bound}
 use Rattle.cell_live.proofs.Timing.{as_slice, first_begun, first_passed, first_ended, first_all}
 use Rattle.cell_four_slot.proofs.Timing.{timed_begins, timed_stores, timed_finishes, timed_asks, timed_says, timed_takes}
 use Rattle.cell_four_slot.proofs.Timing.{timed_hears, timed_starts, timed_atomic}
 use Rattle.cell_four_slot.proofs.Events.{leads_begins, leads_stores, leads_finishes, leads_asks, leads_says, leads_reads, sound_begins}
-use Rattle.cell_four_slot.proofs.Events.{sound_stores, sound_finishes, sound_asks, sound_says, sound_reads, wrote, has_read}
+use Rattle.cell_four_slot.proofs.Events.{sound_stores, sound_finishes, sound_asks, sound_says, sound_reads, wrote, has_read, has_said, has_finished}
 
 module _ {T : Type 0} where
   sight_put : (o : T) (p p' : WriterNotes T) (g : ReaderNotes T) (n n' t t' w w' r j : ℕ) → j ≢ w → t ≤ t' →
@@ -189,6 +189,7 @@ module _ {T : Type 0} (fits : T → Type 0) (rises : T → T → Type 0) (o : T)
               write_is = place_is;
               item_is = refl;
               remembered_are = r.in_views.remembered_are;
+              latest_is = r.in_views.latest_is;
               reader_at = r.in_views.reader_at;
               read_is = r.in_views.read_is;
               chosen_is = r.in_views.chosen_is;
@@ -275,6 +276,7 @@ module _ {T : Type 0} (fits : T → Type 0) (rises : T → T → Type 0) (o : T)
               write_is = place_is;
               item_is = item_is;
               remembered_are = λ j. with_side (r.in_views.remembered_are j) (place_is j).pair (place_is j).index;
+              latest_is = r.in_views.latest_is;
               reader_at = r.in_views.reader_at;
               read_is = r.in_views.read_is;
               chosen_is = r.in_views.chosen_is;
@@ -307,24 +309,143 @@ module _ {T : Type 0} (fits : T → Type 0) (rises : T → T → Type 0) (o : T)
         ),
       )
 
+  -- W4 and W5 at one store, where W5's store would change nothing
+  pub stores_last_at : (s : St) (r : Rule s) (t : ℕ) → r.now < t → (slots id : ℕ) (me : M) (i new : ℕ) → id ≡ r.writer → me.0 ≡ Writer r.put →
+      me.1 ≡ (slot_number r.put.slot, r.put.item.value) ∷ [] → r.put.stage ≡ writer.W3 → i ≡ 2 + bit_number r.put.slot.pair →
+      new ≡ bit_number r.put.slot.index → bit_number r.put.slot.pair ≡ bit_number r.put.latest
+      → (w : V) × (a : Act T) × (clock_of w ≡ t) × Proper me.1 a × Valid s.homes me.1 a × RuleAt t (stepped s i new id me.1 w a)
+      × stores_on (step slots i new 0 none) me new (w, carried_after me.1 a)
+  stores_last_at s r t lt slots id me i new own is holds stage word to last_pair =
+      let p : WriterNotes T = r.put in let g : ReaderNotes T = r.get in let c : Core T = r.core in let last : T = p.finished.value in
+      let filled : c.writer ≡ writer.W3 = r.in_views.writer_at ∙ stage in
+      let on : r.now ≤ t = omega arith in
+      let p1 : WriterNotes T = stored_by p t in let c1 : Core T = after_write writer.W3 c.item c in
+      let p' : WriterNotes T = finished_with p1 0 t in let w : V = Writer p' in let d : Core T = after_write writer.W4 c.item c1 in
+      let place_is : c.write ≡ p.slot = r.in_views.write_is in let item_is : c.item ≡ p.item.value = r.in_views.item_is in
+      let cs0 : List (ℕ × T) = (slot_number c.write, c.item) ∷ [] in
+      let holds' : me.1 ≡ cs0 = holds ∙ (λ j. (slot_number (sym place_is j), sym item_is j) ∷ []) in
+      let homes' : List (Opt T) = set s.homes (slot_number c.write) (some c.item) in
+      let table1 : InTable (set s.words i new) homes' g.at_hand.value c1 = table_stores s.words s.homes g.at_hand.value c c.item i new r.in_table filled
+      (word ∙ ap (λ (z : Slot). 2 + bit_number z.pair) (sym place_is)) (to ∙ ap (λ (z : Slot). bit_number z.index) (sym place_is)) in
+      let same : bit_number c.write.pair ≡ get_or (set s.words i new) 0 0 = ap (λ (z : Slot). bit_number z.pair) place_is
+      ∙ (last_pair ∙ (ap bit_number (sym r.in_views.latest_is) ∙ sym (word_latest (set s.words i new) homes' g.at_hand.value c1 table1))) in
+      let words : set (set s.words i new) 0 (bit_number c.write.pair) ≡ set s.words i new =
+      ap (set (set s.words i new) 0) same ∙ set-get_or (set s.words i new) 0 0 in
+      let sound1 : IsSound c1 last = sound_stores c last r.sound filled in
+      let numbered1 : IsNumbered o p.written p.slots last c1 = numbered_stores o p.written p.slots c last c.item r.numbered filled in
+      let shown1 : ℕ = number_in p.slots (latest_slot c1) in
+      let shown' : ℕ = number_in p.slots (latest_slot d) in
+      let grows1 : shown_number r ≤ shown1 = latest_grows o p.written p.slots c last c.item r.numbered in
+      let grows2 : shown1 ≤ shown' = shown_grows o p.written p.slots c1 last c.item numbered1 sound1 refl in
+      let grows : shown_number r ≤ shown' = le_trans grows1 grows2 in
+      let pair1 : ℕ = number_in p.slots (named_slot c1 c1.read.pair) in (
+        w,
+        gives,
+        refl,
+        subst HasOne (sym holds') tt,
+        tt,
+        subst (λ (cs : List (ℕ × T)). RuleAt t (stepped s i new id cs w gives)) (sym holds') (
+          record {
+            put = p';
+            get = g;
+            writer = r.writer;
+            reader = r.reader;
+            core = d;
+            in_table = subst (λ (ws : List ℕ). InTable ws homes' g.at_hand.value d) words
+                (table_finishes (set s.words i new) homes' g.at_hand.value c1 c.item (bit_number c.write.pair) table1 refl refl);
+            in_views = record {
+              writer_at = refl;
+              write_is = place_is;
+              item_is = item_is;
+              remembered_are = λ j. with_side (r.in_views.remembered_are j) (place_is j).pair (place_is j).index;
+              latest_is = ap (λ (z : Slot). z.pair) place_is;
+              reader_at = r.in_views.reader_at;
+              read_is = r.in_views.read_is;
+              chosen_is = r.in_views.chosen_is;
+            };
+            noise = r.noise;
+            shown = (tt, r.shown.1);
+            sound = subst (IsSound d) item_is (sound_finishes c1 last sound1 refl);
+            numbered = subst (λ (z : T). IsNumbered o p.written p.slots z d) item_is
+                (numbered_finishes o p.written p.slots c1 last c.item numbered1 sound1 refl);
+            settled = settled_finishes o p.written p.slots g.answers g.told c1 last c.item numbered1 sound1 refl
+                (settled_stores o p.written p.slots g.answers g.told c last c.item r.numbered r.settled);
+            counted = record {
+              writes = has_finished 0 (p.accesses + 1) (p.events ++ W4 ∷ []) (omega arith) (wrote p.accesses p.events (W4 ∷ []) r.counted.writes refl);
+              reads = r.counted.reads;
+            };
+            openings = r.openings;
+            lawful = r.lawful;
+            leads = leads_finishes (p.events ++ W4 ∷ []) g.events (opening_state o o) c1
+                (leads_stores p.events g.events (opening_state o o) c r.leads filled) refl;
+            now = t;
+            timed = timed_finishes o p1 g t t 0 shown1 shown' pair1 writer.W4 c.reader (le_refl t) grows2
+                (r.numbered.under_way (subst IsUnderWay (sym filled) tt)) refl
+                (timed_stores o p g r.now t (shown_number r) shown1 (pair_number r) pair1 c.writer c.reader lt grows1
+                (number_grows o p.written p.slots c last c.item c.read.pair r.numbered) filled r.timed);
+            known = first_ended g.known p.written p1.times t (first_passed g.known p.written p.times t r.known);
+            each_seat = seats_stay (Sees o p' g shown' t r.writer r.reader) s.views id w (refl, own)
+                (λ j v other e. sight_put o p p' g (shown_number r) shown' r.now t r.writer r.writer r.reader j (λ z. other (z ∙ sym own)) on
+                (λ z st. stands_more o p.written (shown_number r) shown' grows z st) v (r.each_seat j v e));
+          },
+          le_refl t,
+        ),
+        λ q is' holds''. let also : p ≡ q = ap (writer_or p) (sym is ∙ is') in (
+          t,
+          subst (λ (z : WriterNotes T). z.times.clock < t) also (put_on s r t lt),
+          ap rest holds',
+          refl,
+          λ _ j. Writer (finished_with (stored_by (also j) t) 0 t),
+          λ ne. absurd (ne (subst (λ (z : WriterNotes T). bit_number z.slot.pair ≡ bit_number z.latest) also last_pair)),
+        ),
+      )
+
+  pub stores_on_at : (s : St) (r : Rule s) (t : ℕ) → r.now < t → (slots id : ℕ) (me : M) (i new : ℕ) → id ≡ r.writer → me.0 ≡ Writer r.put →
+      me.1 ≡ (slot_number r.put.slot, r.put.item.value) ∷ [] → r.put.stage ≡ writer.W3 → i ≡ 2 + bit_number r.put.slot.pair →
+      new ≡ bit_number r.put.slot.index
+      → (w : V) × (a : Act T) × (clock_of w ≡ t) × Proper me.1 a × Valid s.homes me.1 a × RuleAt t (stepped s i new id me.1 w a)
+      × stores_on (step slots i new 0 none) me new (w, carried_after me.1 a)
+  stores_on_at s r t lt slots id me i new own is holds stage word to = ⊎_elim
+      (λ (e : bit_number r.put.slot.pair ≡ bit_number r.put.latest). stores_last_at s r t lt slots id me i new own is holds stage word to e)
+      (λ (ne : bit_number r.put.slot.pair ≢ bit_number r.put.latest).
+      let x = stores_at s r t lt slots id me i new own is holds stage word to in (
+        x.0,
+        x.1,
+        x.2,
+        x.3,
+        x.4,
+        x.5,
+        λ q is' holds'.
+            let d = x.6 q is' holds' in
+            let also : r.put ≡ q = ap (writer_or r.put) (sym is ∙ is') in (
+              d.0,
+              d.1,
+              d.3,
+              d.4,
+              λ e. absurd (ne (subst (λ (z : WriterNotes T). bit_number z.slot.pair ≡ bit_number z.latest) (sym also) e)),
+              λ _. d.2,
+            ),
+      ))
+      (cases_eq (bit_number r.put.slot.pair) (bit_number r.put.latest))
+
   pub stores_ok : (slots id : ℕ) (me : M) (p : WriterNotes T) (i new : ℕ) → me.0 ≡ Writer p → me.1
       ≡ (slot_number p.slot, p.item.value) ∷ [] → p.stage ≡ writer.W3 → i ≡ 2 + bit_number p.slot.pair → new ≡ bit_number p.slot.index
-      → Allows Rule slots id me i (λ _. new) (λ _. stores (step slots i new 0 none) me new)
+      → Allows Rule slots id me i (λ _. new) (λ _. stores_on (step slots i new 0 none) me new)
   stores_ok slots id me p i new is holds stage word to s r _ at _ =
       let known = subst (Sees o r.put r.get (shown_number r) r.now r.writer r.reader id) is (r.each_seat id me.0 at) in
       let h = subst (λ (q : WriterNotes T). (me.0 ≡ Writer q) × (me.1 ≡ (slot_number q.slot, q.item.value) ∷ []) × (q.stage ≡ writer.W3)
       × (i ≡ 2 + bit_number q.slot.pair) × (new ≡ bit_number q.slot.index)) known.0 (is, holds, stage, word, to) in
-      let x = stores_at s r (next_time r) (next_on s r) slots id me i new known.1 h.0 h.1 h.2 h.3 h.4 in (x.0, x.1, x.4, x.5.0, x.6)
+      let x = stores_on_at s r (next_time r) (next_on s r) slots id me i new known.1 h.0 h.1 h.2 h.3 h.4 in (x.0, x.1, x.4, x.5.0, x.6)
 
-  pub finishes_at : (s : St) (r : Rule s) (t : ℕ) → r.now < t → (slots id : ℕ) (me : M) (new : ℕ) → id ≡ r.writer → me.0 ≡ Writer r.put → r.put.stage ≡ writer.W4 →
+  pub finishes_at : (count : ℕ) → count ≤ 1 → (s : St) (r : Rule s) (t : ℕ) → r.now < t → (slots id : ℕ) (me : M) (new : ℕ) → id ≡ r.writer → me.0 ≡ Writer r.put → r.put.stage ≡ writer.W4 →
       new ≡ bit_number r.put.slot.pair
       → (w : V) × (a : Act T) × (clock_of w ≡ t) × Proper me.1 a × Valid s.homes me.1 a × RuleAt t (stepped s 0 new id me.1 w a)
-      × finishes (step slots 0 new 0 none) me new (w, carried_after me.1 a)
-  finishes_at s r t lt slots id me new own is stage to =
+      × finishes_counting count (step slots 0 new 0 none) me new (w, carried_after me.1 a)
+  finishes_at count few s r t lt slots id me new own is stage to =
       let p : WriterNotes T = r.put in let g : ReaderNotes T = r.get in let c : Core T = r.core in let last : T = p.finished.value in
       let stored : c.writer ≡ writer.W4 = r.in_views.writer_at ∙ stage in
       let on : r.now ≤ t = omega arith in
-      let p' : WriterNotes T = finished_by p t in let w : V = Writer p' in let d : Core T = after_write writer.W4 c.item c in
+      let p' : WriterNotes T = finished_with p count t in let w : V = Writer p' in let d : Core T = after_write writer.W4 c.item c in
       let place_is : c.write ≡ p.slot = r.in_views.write_is in let item_is : c.item ≡ p.item.value = r.in_views.item_is in
       let shown' : ℕ = number_in p.slots (latest_slot d) in
       let grows = shown_grows o p.written p.slots c last c.item r.numbered r.sound stored in (
@@ -347,6 +468,7 @@ module _ {T : Type 0} (fits : T → Type 0) (rises : T → T → Type 0) (o : T)
               write_is = place_is;
               item_is = item_is;
               remembered_are = r.in_views.remembered_are;
+              latest_is = ap (λ (z : Slot). z.pair) place_is;
               reader_at = r.in_views.reader_at;
               read_is = r.in_views.read_is;
               chosen_is = r.in_views.chosen_is;
@@ -357,12 +479,12 @@ module _ {T : Type 0} (fits : T → Type 0) (rises : T → T → Type 0) (o : T)
             numbered = subst (λ (z : T). IsNumbered o p.written p.slots z d) item_is
                 (numbered_finishes o p.written p.slots c last c.item r.numbered r.sound stored);
             settled = settled_finishes o p.written p.slots g.answers g.told c last c.item r.numbered r.sound stored r.settled;
-            counted = record { writes = wrote p.accesses p.events (W5 ∷ []) r.counted.writes refl; reads = r.counted.reads };
+            counted = record { writes = has_finished count p.accesses p.events few r.counted.writes; reads = r.counted.reads };
             openings = r.openings;
             lawful = r.lawful;
             leads = leads_finishes p.events g.events (opening_state o o) c r.leads stored;
             now = t;
-            timed = timed_finishes o p g r.now t (shown_number r) shown' (pair_number r) c.writer c.reader lt grows
+            timed = timed_finishes o p g r.now t count (shown_number r) shown' (pair_number r) c.writer c.reader on grows
                 (r.numbered.under_way (subst IsUnderWay (sym stored) tt)) stored r.timed;
             known = first_ended g.known p.written p.times t r.known;
             each_seat = seats_stay (Sees o p' g shown' t r.writer r.reader) s.views id w (refl, own)
@@ -374,7 +496,7 @@ module _ {T : Type 0} (fits : T → Type 0) (rises : T → T → Type 0) (o : T)
         λ q is'. let also : p ≡ q = ap (writer_or p) (sym is ∙ is') in (
           t,
           subst (λ (z : WriterNotes T). z.times.clock < t) also (put_on s r t lt),
-          (λ j. Writer (finished_by (also j) t)),
+          (λ j. Writer (finished_with (also j) count t)),
           refl,
           refl,
         ),
@@ -386,7 +508,7 @@ module _ {T : Type 0} (fits : T → Type 0) (rises : T → T → Type 0) (o : T)
       let known = subst (Sees o r.put r.get (shown_number r) r.now r.writer r.reader id) is (r.each_seat id me.0 at) in
       let h = subst (λ (q : WriterNotes T). (me.0 ≡ Writer q) × (q.stage ≡ writer.W4) × (new ≡ bit_number q.slot.pair))
       known.0 (is, stage, to) in
-      let x = finishes_at s r (next_time r) (next_on s r) slots id me new known.1 h.0 h.1 h.2 in (x.0, x.1, x.4, x.5.0, x.6)
+      let x = finishes_at 1 (le_refl 1) s r (next_time r) (next_on s r) slots id me new known.1 h.0 h.1 h.2 in (x.0, x.1, x.4, x.5.0, x.6)
 
   pub asks_at : (s : St) (r : Rule s) (t : ℕ) → r.now < t → (slots id : ℕ) (me : M) → id ≡ r.reader → me.0 ≡ Reader r.get → r.get.stage ≡ reader.R5
       → (w : V) × (a : Act T) × (clock_of w ≡ t) × Proper me.1 a × Valid s.homes me.1 a × RuleAt t (stepped s 0 (get_or s.words 0 0) id me.1 w a)
@@ -416,6 +538,7 @@ module _ {T : Type 0} (fits : T → Type 0) (rises : T → T → Type 0) (o : T)
               write_is = r.in_views.write_is;
               item_is = r.in_views.item_is;
               remembered_are = r.in_views.remembered_are;
+              latest_is = r.in_views.latest_is;
               reader_at = refl;
               read_is = ap (λ (z : Slot). slot_with b z.index) r.in_views.read_is;
               chosen_is = r.in_views.chosen_is;
@@ -449,22 +572,149 @@ module _ {T : Type 0} (fits : T → Type 0) (rises : T → T → Type 0) (o : T)
         ),
       )
 
-  pub asks_ok : (slots id : ℕ) (me : M) (g : ReaderNotes T) → me.0 ≡ Reader g → g.stage ≡ reader.R5 →
-      Allows Rule slots id me 0 (λ n. n) (asks (step slots 0 0 0 none) me)
-  asks_ok slots id me g is stage s r _ at _ =
-      let known = subst (Sees o r.put r.get (shown_number r) r.now r.writer r.reader id) is (r.each_seat id me.0 at) in
-      let h = subst (λ (q : ReaderNotes T). (me.0 ≡ Reader q) × (q.stage ≡ reader.R5)) known.0 (is, stage) in
-      let x = asks_at s r (next_time r) (next_on s r) slots id me known.1 h.0 h.1 in (x.0, x.1, x.4, x.5.0, x.6)
+  -- `reading` has the pair already, where `latest` is what the last R2 stored
+  said_already : (c : Core T) (last : T) (ch : Option Slot) → IsSound c last → c.reader ≡ reader.R5 → c.chosen ≡ ch →
+      bit_number c.latest ≡ word_said ch → bit_number c.latest ≡ bit_number c.reading
+  said_already c last None sound idle is e = let low = bit_low c.latest in absurd (omega arith)
+  said_already c last (Some k) sound idle is e = e ∙ ap bit_number (sym (sound.kept k (subst IsKept (sym idle) tt) is))
 
-  pub says_at : (s : St) (r : Rule s) (t : ℕ) → r.now < t → (slots id : ℕ) (me : M) (new : ℕ) → id ≡ r.reader → me.0 ≡ Reader r.get →
+  -- what a store that is left out would find: the reader's `reading`, and the writer's `latest`
+  pub said_there : (s : St) (r : Rule s) (id : ℕ) (g : ReaderNotes T) → get_elem? s.views id ≡ some (Reader g) → g.stage ≡ reader.R5 →
+      get_or s.words 0 0 ≡ word_said g.chosen → get_or s.words 1 0 ≡ get_or s.words 0 0
+  said_there s r id g at stage said =
+      let c : Core T = r.core in
+      let same : g ≡ r.get = (r.each_seat id (Reader g) at).0 in
+      let idle : c.reader ≡ reader.R5 = r.in_views.reader_at ∙ (ap (λ (z : ReaderNotes T). z.stage) (sym same) ∙ stage) in
+      let found : get_or s.words 0 0 ≡ bit_number c.latest = word_latest s.words s.homes r.get.at_hand.value c r.in_table in
+      word_reading s.words s.homes r.get.at_hand.value c r.in_table
+      ∙ (sym (said_already c r.put.finished.value g.chosen r.sound idle (r.in_views.chosen_is ∙ ap (λ (z : ReaderNotes T). z.chosen) (sym same)) (sym found ∙ said)) ∙ sym found)
+
+  pub shown_there : (s : St) (r : Rule s) (id : ℕ) (p : WriterNotes T) → get_elem? s.views id ≡ some (Writer p) →
+      get_or s.words 0 0 ≡ bit_number p.latest
+  shown_there s r id p at =
+      let same : p ≡ r.put = (r.each_seat id (Writer p) at).0 in
+      word_latest s.words s.homes r.get.at_hand.value r.core r.in_table
+      ∙ ap bit_number (r.in_views.latest_is ∙ ap (λ (z : WriterNotes T). z.latest) (sym same))
+
+  -- R1 and R2 at one load, where R2's store would change nothing
+  pub asks_said_at : (count : ℕ) → count ≤ 1 → (s : St) (r : Rule s) (t : ℕ) → r.now < t → (slots id : ℕ) (me : M) → id ≡ r.reader → me.0 ≡ Reader r.get →
+      me.1 ≡ slot_of_choice r.get.chosen r.get.at_hand.value → r.get.stage ≡ reader.R5 → get_or s.words 0 0 ≡ word_said r.get.chosen
+      → (w : V) × (a : Act T) × (clock_of w ≡ t) × Proper me.1 a × Valid s.homes me.1 a × RuleAt t (stepped s 0 (get_or s.words 0 0) id me.1 w a)
+      × asks_counting count (step slots 0 0 0 none) me (get_or s.words 0 0) (w, carried_after me.1 a)
+  asks_said_at count few s r t lt slots id me own is holds stage said =
+      let p : WriterNotes T = r.put in let g : ReaderNotes T = r.get in let c : Core T = r.core in let last : T = p.finished.value in
+      let idle : c.reader ≡ reader.R5 = r.in_views.reader_at ∙ stage in
+      let b : Bool = c.latest in let found : get_or s.words 0 0 ≡ bit_number b = word_latest s.words s.homes g.at_hand.value c r.in_table in
+      let same : bit_number b ≡ get_or s.words 1 0 = said_already c last g.chosen r.sound idle r.in_views.chosen_is (sym found ∙ said)
+      ∙ sym (word_reading s.words s.homes g.at_hand.value c r.in_table) in
+      let words : set s.words 1 (bit_number b) ≡ set s.words 0 (get_or s.words 0 0) =
+      ap (set s.words 1) same ∙ (set-get_or s.words 1 0 ∙ sym (set-get_or s.words 0 0)) in
+      let on : r.now ≤ t = omega arith in
+      let g1 : ReaderNotes T = asked_by g b t in let c1 : Core T = after_read reader.R5 c in
+      let g' : ReaderNotes T = said_with g1 count t in let w : V = Reader g' in let d : Core T = after_read reader.R1 c1 in (
+        w,
+        act_of g.chosen,
+        refl,
+        subst (λ (cs : List (ℕ × T)). Proper cs (act_of g.chosen)) (sym holds) (act_proper g.chosen g.at_hand.value),
+        subst (λ (cs : List (ℕ × T)). Valid s.homes cs (act_of g.chosen)) (sym holds) (act_valid s.homes g.chosen g.at_hand.value),
+        subst (λ (cs : List (ℕ × T)). RuleAt t (stepped s 0 (get_or s.words 0 0) id cs w (act_of g.chosen))) (sym holds)
+            (subst (λ (hs : List (Opt T)). RuleAt t (record { words = set s.words 0 (get_or s.words 0 0); homes = hs; views = set s.views id w }))
+            (act_homes s.homes g.chosen g.at_hand.value) (
+              record {
+                put = p;
+                get = g';
+                writer = r.writer;
+                reader = r.reader;
+                core = d;
+                in_table = subst (λ (ws : List ℕ). InTable ws (homes_after s.homes (slot_of_choice g.chosen g.at_hand.value) gives) g.at_hand.value d)
+                    words (table_says s.words s.homes g.at_hand.value c1 g.chosen (bit_number b)
+                    (table_asks s.words s.homes g.at_hand.value c r.in_table idle) refl r.in_views.chosen_is refl);
+                in_views = record {
+                  writer_at = r.in_views.writer_at;
+                  write_is = r.in_views.write_is;
+                  item_is = r.in_views.item_is;
+                  remembered_are = r.in_views.remembered_are;
+                  latest_is = r.in_views.latest_is;
+                  reader_at = refl;
+                  read_is = ap (λ (z : Slot). slot_with b z.index) r.in_views.read_is;
+                  chosen_is = r.in_views.chosen_is;
+                };
+                noise = r.noise;
+                shown = (r.shown.0, tt);
+                sound = sound_says c1 last (sound_asks c last r.sound idle) refl;
+                numbered = numbered_read o p.written p.slots c d last refl refl refl refl refl r.numbered;
+                settled = settled_says o p.written p.slots g.answers g.told c1 refl (settled_asks o p.written p.slots g.answers g.told c r.settled);
+                counted = record {
+                  writes = r.counted.writes;
+                  reads = has_said count (g.accesses + 1) (g.events ++ R1 ∷ []) few (has_read g.accesses g.events (R1 ∷ []) r.counted.reads refl);
+                };
+                openings = r.openings;
+                lawful = r.lawful;
+                leads = leads_says p.events (g.events ++ R1 ∷ []) (opening_state o o) c1
+                    (leads_asks p.events g.events (opening_state o o) c r.leads idle) refl;
+                now = t;
+                timed = timed_says o p g1 t t count (shown_number r) (shown_number r) c.writer reader.R1 (le_refl t) refl
+                    (timed_asks o p g r.now t b (shown_number r) (pair_number r) c.writer c.reader lt
+                    (finished_shown o p.written p.slots c last r.numbered r.sound r.shown.0) idle r.timed);
+                known = r.known;
+                each_seat = seats_stay (Sees o p g' (shown_number r) t r.writer r.reader) s.views id w (refl, own)
+                    (λ j v other e.
+                    sight_get o p g g' (shown_number r) r.now t r.writer r.reader r.reader j (λ z. other (z ∙ sym own)) on v (r.each_seat j v e));
+              },
+              le_refl t,
+            )),
+        λ q is' holds'.
+            let also : g ≡ q = ap (reader_or g) (sym is ∙ is') in (
+              b,
+              found,
+              t,
+              subst (λ (z : ReaderNotes T). z.times.clock < t) also (get_on s r t lt),
+              λ _. (
+                (λ j. Reader (said_with (asked_by (also j) b t) count t)),
+                ap (λ (cs : List (ℕ × T)). carried_after cs (act_of g.chosen)) holds ∙ act_rest g.chosen g.at_hand.value,
+              ),
+              λ ne. absurd (ne (said ∙ ap (λ (z : ReaderNotes T). word_said z.chosen) also)),
+            ),
+      )
+
+  pub asks_on_at : (count : ℕ) → count ≤ 1 → (s : St) (r : Rule s) (t : ℕ) → r.now < t → (slots id : ℕ) (me : M) → id ≡ r.reader → me.0 ≡ Reader r.get →
+      me.1 ≡ slot_of_choice r.get.chosen r.get.at_hand.value → r.get.stage ≡ reader.R5
+      → (w : V) × (a : Act T) × (clock_of w ≡ t) × Proper me.1 a × Valid s.homes me.1 a × RuleAt t (stepped s 0 (get_or s.words 0 0) id me.1 w a)
+      × asks_counting count (step slots 0 0 0 none) me (get_or s.words 0 0) (w, carried_after me.1 a)
+  asks_on_at count few s r t lt slots id me own is holds stage = ⊎_elim
+      (λ (e : get_or s.words 0 0 ≡ word_said r.get.chosen). asks_said_at count few s r t lt slots id me own is holds stage e)
+      (λ (ne : get_or s.words 0 0 ≢ word_said r.get.chosen).
+      let x = asks_at s r t lt slots id me own is stage in (
+        x.0,
+        x.1,
+        x.2,
+        x.3,
+        x.4,
+        x.5,
+        λ q is' holds'.
+            let d = x.6 q is' in
+            let also : r.get ≡ q = ap (reader_or r.get) (sym is ∙ is') in
+            (d.0, d.1, d.2, d.3, λ e. absurd (ne (e ∙ ap (λ (z : ReaderNotes T). word_said z.chosen) (sym also))), λ _. (d.4, d.5)),
+      ))
+      (cases_eq (get_or s.words 0 0) (word_said r.get.chosen))
+
+  pub asks_ok : (count : ℕ) → count ≤ 1 → (slots id : ℕ) (me : M) (g : ReaderNotes T) → me.0 ≡ Reader g → me.1 ≡ slot_of_choice g.chosen g.at_hand.value →
+      g.stage ≡ reader.R5 → Allows Rule slots id me 0 (λ n. n) (asks_counting count (step slots 0 0 0 none) me)
+  asks_ok count few slots id me g is holds stage s r _ at _ =
+      let known = subst (Sees o r.put r.get (shown_number r) r.now r.writer r.reader id) is (r.each_seat id me.0 at) in
+      let h = subst (λ (q : ReaderNotes T). (me.0 ≡ Reader q) × (me.1 ≡ slot_of_choice q.chosen q.at_hand.value) × (q.stage ≡ reader.R5))
+      known.0 (is, holds, stage) in
+      let x = asks_on_at count few s r (next_time r) (next_on s r) slots id me known.1 h.0 h.1 h.2 in (x.0, x.1, x.4, x.5.0, x.6)
+
+  pub says_at : (count : ℕ) → count ≤ 1 → (s : St) (r : Rule s) (t : ℕ) → r.now < t → (slots id : ℕ) (me : M) (new : ℕ) → id ≡ r.reader → me.0 ≡ Reader r.get →
       me.1 ≡ slot_of_choice r.get.chosen r.get.at_hand.value → r.get.stage ≡ reader.R1 → new ≡ bit_number r.get.slot.pair
       → (w : V) × (a : Act T) × (clock_of w ≡ t) × Proper me.1 a × Valid s.homes me.1 a × RuleAt t (stepped s 1 new id me.1 w a)
-      × says (step slots 1 new 0 none) me new (w, carried_after me.1 a)
-  says_at s r t lt slots id me new own is holds stage to =
+      × says_counting count (step slots 1 new 0 none) me new (w, carried_after me.1 a)
+  says_at count few s r t lt slots id me new own is holds stage to =
       let p : WriterNotes T = r.put in let g : ReaderNotes T = r.get in let c : Core T = r.core in let last : T = p.finished.value in
       let loaded : c.reader ≡ reader.R1 = r.in_views.reader_at ∙ stage in
       let on : r.now ≤ t = omega arith in
-      let g' : ReaderNotes T = said_by g t in let w : V = Reader g' in let d : Core T = after_read reader.R1 c in (
+      let g' : ReaderNotes T = said_with g count t in let w : V = Reader g' in let d : Core T = after_read reader.R1 c in (
         w,
         act_of g.chosen,
         refl,
@@ -486,6 +736,7 @@ module _ {T : Type 0} (fits : T → Type 0) (rises : T → T → Type 0) (o : T)
                   write_is = r.in_views.write_is;
                   item_is = r.in_views.item_is;
                   remembered_are = r.in_views.remembered_are;
+                  latest_is = r.in_views.latest_is;
                   reader_at = refl;
                   read_is = r.in_views.read_is;
                   chosen_is = r.in_views.chosen_is;
@@ -495,12 +746,12 @@ module _ {T : Type 0} (fits : T → Type 0) (rises : T → T → Type 0) (o : T)
                 sound = sound_says c last r.sound loaded;
                 numbered = numbered_read o p.written p.slots c d last refl refl refl refl refl r.numbered;
                 settled = settled_says o p.written p.slots g.answers g.told c loaded r.settled;
-                counted = record { writes = r.counted.writes; reads = has_read g.accesses g.events (R2 ∷ []) r.counted.reads refl };
+                counted = record { writes = r.counted.writes; reads = has_said count g.accesses g.events few r.counted.reads };
                 openings = r.openings;
                 lawful = r.lawful;
                 leads = leads_says p.events g.events (opening_state o o) c r.leads loaded;
                 now = t;
-                timed = timed_says o p g r.now t (shown_number r) (pair_number r) c.writer c.reader lt loaded r.timed;
+                timed = timed_says o p g r.now t count (shown_number r) (pair_number r) c.writer c.reader on loaded r.timed;
                 known = r.known;
                 each_seat = seats_stay (Sees o p g' (shown_number r) t r.writer r.reader) s.views id w (refl, own)
                     (λ j v other e.
@@ -512,20 +763,20 @@ module _ {T : Type 0} (fits : T → Type 0) (rises : T → T → Type 0) (o : T)
             let also : g ≡ q = ap (reader_or g) (sym is ∙ is') in (
               t,
               subst (λ (z : ReaderNotes T). z.times.clock < t) also (get_on s r t lt),
-              (λ j. Reader (said_by (also j) t)),
+              (λ j. Reader (said_with (also j) count t)),
               ap (λ (cs : List (ℕ × T)). carried_after cs (act_of g.chosen)) holds ∙ act_rest g.chosen g.at_hand.value,
               refl,
             ),
       )
 
-  pub says_ok : (slots id : ℕ) (me : M) (g : ReaderNotes T) (new : ℕ) → me.0 ≡ Reader g → me.1 ≡ slot_of_choice g.chosen g.at_hand.value →
+  pub says_ok : (count : ℕ) → count ≤ 1 → (slots id : ℕ) (me : M) (g : ReaderNotes T) (new : ℕ) → me.0 ≡ Reader g → me.1 ≡ slot_of_choice g.chosen g.at_hand.value →
       g.stage ≡ reader.R1 → new ≡ bit_number g.slot.pair →
-      Allows Rule slots id me 1 (λ _. new) (λ _. says (step slots 1 new 0 none) me new)
-  says_ok slots id me g new is holds stage to s r _ at _ =
+      Allows Rule slots id me 1 (λ _. new) (λ _. says_counting count (step slots 1 new 0 none) me new)
+  says_ok count few slots id me g new is holds stage to s r _ at _ =
       let known = subst (Sees o r.put r.get (shown_number r) r.now r.writer r.reader id) is (r.each_seat id me.0 at) in
       let h = subst (λ (q : ReaderNotes T). (me.0 ≡ Reader q) × (me.1 ≡ slot_of_choice q.chosen q.at_hand.value) × (q.stage ≡ reader.R1)
       × (new ≡ bit_number q.slot.pair)) known.0 (is, holds, stage, to) in
-      let x = says_at s r (next_time r) (next_on s r) slots id me new known.1 h.0 h.1 h.2 h.3 in (x.0, x.1, x.4, x.5.0, x.6)
+      let x = says_at count few s r (next_time r) (next_on s r) slots id me new known.1 h.0 h.1 h.2 h.3 in (x.0, x.1, x.4, x.5.0, x.6)
 
   module _ (same : (a : T) → rises a a) (along : (a b c : T) → rises a b → rises b c → rises a c) where
     pub takes_at : (s : St) (r : Rule s) (t : ℕ) → r.now < t → (slots id : ℕ) (me : M) (i : ℕ) → id ≡ r.reader → me.0 ≡ Reader r.get → me.1 ≡ [] →
@@ -586,6 +837,7 @@ module _ {T : Type 0} (fits : T → Type 0) (rises : T → T → Type 0) (o : T)
                 write_is = r.in_views.write_is;
                 item_is = r.in_views.item_is;
                 remembered_are = r.in_views.remembered_are;
+                latest_is = r.in_views.latest_is;
                 reader_at = refl;
                 read_is = place_is;
                 chosen_is = ap (λ (z : Slot). Some z) place_is;
@@ -741,6 +993,7 @@ module _ {T : Type 0} (fits : T → Type 0) (rises : T → T → Type 0) (o : T)
           write_is = r.in_views.write_is;
           item_is = r.in_views.item_is;
           remembered_are = r.in_views.remembered_are;
+          latest_is = r.in_views.latest_is;
           reader_at = r.in_views.reader_at;
           read_is = r.in_views.read_is;
           chosen_is = r.in_views.chosen_is;
@@ -862,6 +1115,7 @@ module _ {T : Type 0} (fits : T → Type 0) (rises : T → T → Type 0) (o : T)
         write_is = refl;
         item_is = refl;
         remembered_are = refl;
+        latest_is = refl;
         reader_at = refl;
         read_is = refl;
         chosen_is = refl;
@@ -879,7 +1133,7 @@ module _ {T : Type 0} (fits : T → Type 0) (rises : T → T → Type 0) (o : T)
         latest = λ _. refl;
       };
       settled = record { to_latest = (tt, λ k d l. absurd (omega arith)); to_pair = λ b. absurd b };
-      counted = record { writes = refl; reads = refl };
+      counted = record { writes = le_refl 0; reads = le_refl 0 };
       openings = (refl, refl);
       lawful = (f, tt);
       leads = Stays (opening_state o o) (opening_state o o) refl;

@@ -4,4 +4,5 @@ pub mod Events
 pub mod Fresh
 pub mod Keeps
 pub mod Slots
+pub mod Spread
 pub mod Timing

@@ -1,22 +1,21 @@
 -- The intervals of the calls and the numbers of the answers through each step, at a time later than all before. Nothing here names a slot:
 -- a step makes the two numbers that the next read can have no smaller.
-use Rattle.std.proofs.Common.{◌≡◌, ◌⊎◌, ℕ, zero, suc, ◌+◌, ◌-◌, ◌<◌, ◌≤◌, max, Bool, List, [], ◌∷◌, ◌++◌, length, slice_get, Option, None, Some, refl, sym}
+use Rattle.std.proofs.Common.{◌≡◌, ℕ, ◌+◌, ◌-◌, ◌<◌, ◌≤◌, max, Bool, List, [], ◌∷◌, ◌++◌, length, slice_get, Some, refl, sym}
 use Rattle.std.proofs.Common.{ap, ◌∙◌, subst, arith, length-append, le_refl, le_trans}
-use native.Mathlib.Nat.{le-max_left, le-max_right, max-le}
+use native.Mathlib.Nat.{le-max_left, max-le}
 use Rattle.std.proofs.lemmas.Option.{slice_get_within, none-some}
 use Rattle.fourslot_core.specs.declared.state.Stage.{Stage}
 use Rattle.fourslot_core.specs.declared.state.Stage.TheVariants as writer
 use Rattle.fourslot_core.specs.declared.state.ReaderStage.{ReaderStage}
 use Rattle.fourslot_core.specs.declared.state.ReaderStage.TheVariants as reader
-use Rattle.fourslot_core.specs.Freshness.{IsBegun}
 use Rattle.fourslot_core.proofs.Pushed.{get_before, get_within}
-use Rattle.cell_live.specs.Intervals.{At, heard_at, IsLate, HasBegun, intervals, AreAtomic}
+use Rattle.cell_live.specs.Intervals.{At, heard_at, intervals, AreAtomic}
 use Rattle.fourslot_core.specs.ReadNumbers.{IsReadOf}
 use Rattle.cell_live.specs.declared.times.Known.{Known}
 use Rattle.cell_four_slot.specs.declared.notes.WriterNotes.{WriterNotes}
 use Rattle.cell_four_slot.specs.declared.notes.ReaderNotes.{ReaderNotes}
 use Rattle.cell_four_slot.specs.Rule.{finished_number, begun_number, IsTimed}
-use Rattle.cell_four_slot.specs.Steps.{begun_with, stored_by, finished_by, asked_by, said_by, got_by, first_writer, first_reader}
+use Rattle.cell_four_slot.specs.Steps.{begun_with, stored_by, finished_with, asked_by, said_with, got_by, first_writer, first_reader}
 use Rattle.cell_live.proofs.Timing.{late_up, late_ended, begun_longer, turn_begun, turn_ended, by_passed, by_begun, by_ended, read_of}
 use Rattle.cell_live.proofs.Timing.{late_asked, late_more, begun_more, most_more, rising_more, source_more}
 
@@ -84,11 +83,11 @@ module _ {T : Type 0} (o : T) where
         pending = λ u c at. late_up p.times.ends c pair pair' keeps (h.pending u c at);
       }
 
-  -- W5
-  pub timed_finishes : (p : WriterNotes T) (g : ReaderNotes T) (now t : ℕ) (shown shown' pair : ℕ) (w : Stage) (r : ReaderStage) →
-      now < t → shown ≤ shown' → 0 < length p.written → w ≡ writer.W4 → IsTimed o p g now w r shown pair →
-      IsTimed o (finished_by p t) g t writer.W5 r shown' pair
-  timed_finishes p g now t shown shown' pair w r lt grows any stored was =
+  -- W5, at the time of W4 or later
+  pub timed_finishes : (p : WriterNotes T) (g : ReaderNotes T) (now t i : ℕ) (shown shown' pair : ℕ) (w : Stage) (r : ReaderStage) →
+      now ≤ t → shown ≤ shown' → 0 < length p.written → w ≡ writer.W4 → IsTimed o p g now w r shown pair →
+      IsTimed o (finished_with p i t) g t writer.W5 r shown' pair
+  timed_finishes p g now t i shown shown' pair w r on grows any stored was =
       let h : IsTimed o p g now writer.W4 r shown pair = subst (λ z. IsTimed o p g now z r shown pair) stored was in
       let old : p.times.clock ≤ now = h.put_clock in
       let theirs : g.times.clock ≤ now = h.get_clock in
@@ -156,10 +155,10 @@ module _ {T : Type 0} (o : T) where
             let s : k < shown = omega arith in s;
       }
 
-  -- R2
-  pub timed_says : (p : WriterNotes T) (g : ReaderNotes T) (now t : ℕ) (shown pair : ℕ) (w : Stage) (r : ReaderStage) →
-      now < t → r ≡ reader.R1 → IsTimed o p g now w r shown pair → IsTimed o p (said_by g t) t w reader.R2 shown pair
-  timed_says p g now t shown pair w r lt asked was =
+  -- R2, at the time of R1 or later
+  pub timed_says : (p : WriterNotes T) (g : ReaderNotes T) (now t i : ℕ) (shown pair : ℕ) (w : Stage) (r : ReaderStage) →
+      now ≤ t → r ≡ reader.R1 → IsTimed o p g now w r shown pair → IsTimed o p (said_with g i t) t w reader.R2 shown pair
+  timed_says p g now t i shown pair w r on asked was =
       let h : IsTimed o p g now w reader.R1 shown pair = subst (λ z. IsTimed o p g now w z shown pair) asked was in
       let old : g.times.clock ≤ now = h.get_clock in
       let theirs : p.times.clock ≤ now = h.put_clock in
@@ -329,10 +328,10 @@ module _ {T : Type 0} (o : T) where
   }
 
   -- at the end, where the reader has begun one more read to give its slot back
-  pub timed_ends : (p : WriterNotes T) (g : ReaderNotes T) (b : Bool) (t u now shown pair : ℕ) →
-      IsTimed o p (said_by (asked_by g b t) u) now writer.W5 reader.R2 shown pair →
+  pub timed_ends : (p : WriterNotes T) (g : ReaderNotes T) (b : Bool) (t u i now shown pair : ℕ) →
+      IsTimed o p (said_with (asked_by g b t) i u) now writer.W5 reader.R2 shown pair →
       AreAtomic o p.written p.times g.answers g.numbers g.times
-  timed_ends p g b t u now shown pair h =
+  timed_ends p g b t u i now shown pair h =
       let begun : length (g.times.begins ++ t ∷ []) ≡ length g.answers + 1 = h.begun_reads in
       let one = length-append g.times.begins (t ∷ []) in
       let same : length g.times.begins ≡ length g.answers = omega arith in
@@ -341,7 +340,7 @@ module _ {T : Type 0} (o : T) where
       let longer : (k c : ℕ) → At g.times.begins k c → At (g.times.begins ++ t ∷ []) k c = get_before g.times.begins t in
       record {
         writes_begun = h.begun_writes;
-        writes_ended = writes_ended p (said_by (asked_by g b t) u) now shown pair writer.W5 reader.R2 h;
+        writes_ended = writes_ended p (said_with (asked_by g b t) i u) now shown pair writer.W5 reader.R2 h;
         reads_counted = (same, ended);
         numbered = numbered;
         writes_in_turn = h.put_turn;

@@ -1,3 +1,4 @@
 pub mod Rule
+pub mod Spread
 pub mod Steps
 pub mod Words

@@ -86,12 +86,13 @@ module _ {T : Type 0} where
     pub in_writer : HasSlot c.writer → record_in c.records c.write ≡ c.item
     pub in_reader : (k : Slot) → HeldByReader c k → record_in c.records k ≡ at_hand
 
-  -- The views show this state: the writer's stage, slot, item and remembered bits, the reader's stage, slot and choice.
+  -- The views show this state: the writer's stage, slot, item, remembered bits and last pair, the reader's stage, slot and choice.
   pub record InViews (p : WriterNotes T) (g : ReaderNotes T) (c : Core T) : Type 0 where
     pub writer_at : c.writer ≡ p.stage
     pub write_is : c.write ≡ p.slot
     pub item_is : c.item ≡ p.item.value
     pub remembered_are : c.remembered ≡ p.remembered
+    pub latest_is : c.latest ≡ p.latest
     pub reader_at : c.reader ≡ g.stage
     pub read_is : c.read ≡ g.slot
     pub chosen_is : c.chosen ≡ g.chosen
@@ -169,10 +170,10 @@ module _ {T : Type 0} where
   control_reads (R5 _ ∷ es) = control_reads es
   control_reads (_ ∷ es) = suc (control_reads es)
 
-  -- a pass's count is the number of control accesses among its events
+  -- a pass's count is at most the number of control accesses among its events: a store that changes nothing needs none
   pub record IsCounted (p : WriterNotes T) (g : ReaderNotes T) : Type 0 where
-    pub writes : p.accesses ≡ control_writes p.events
-    pub reads : g.accesses ≡ control_reads g.events
+    pub writes : p.accesses ≤ control_writes p.events
+    pub reads : g.accesses ≤ control_reads g.events
 
 -- The rule. `o` is the opening. It stands for the noise too; no running read meets a write (`sound`), so none is answered by it as noise.
 pub record FourSlotRule {T : Type 0} (fits : T → Type 0) (rises : T → T → Type 0) (o : T) (s : State T (FourSlotSight T)) : Type 0 where

@@ -1,5 +1,5 @@
 -- The steps of the running four-slot cell: what each tells its seat (this project's own).
-use Rattle.std.specs.Prelude.{◌≡◌, ℕ, ◌+◌, ◌<◌, max, Bool, false, not, Option, None, Some, List, [], ◌∷◌, ◌++◌}
+use Rattle.std.specs.Prelude.{◌≡◌, ◌≢◌, ℕ, ◌+◌, ◌<◌, ◌≤◌, max, Bool, false, not, Option, None, Some, List, [], ◌∷◌, ◌++◌}
 use Rattle.atomic_table.specs.Table.{Me, Step}
 use Rattle.fourslot_core.specs.declared.state.Sides.{Sides}
 use Rattle.fourslot_core.specs.declared.state.Slot.{Slot}
@@ -26,6 +26,11 @@ Sat T = Me T (FourSlotSight T)
 -- the words of the pairs' bits
 abbrev pub bit_words : Sides Bool → List ℕ
 bit_words s = bit_number s.zero ∷ bit_number s.one ∷ []
+
+-- what `reading` has: 2 before the first read, and from then on the pair of the slot that the last R3 chose
+abbrev pub word_said : Option Slot → ℕ
+word_said None = 2
+word_said (Some k) = bit_number k.pair
 
 module _ {T : Type 0} where
   -- W1, with W2 and W3, where `reading` is b: the other pair, and there the index that the remembered bit doesn't name
@@ -64,19 +69,41 @@ module _ {T : Type 0} where
   stores st m n m' = (p : WriterNotes T) → m.0 ≡ Writer p → m.1 ≡ (slot_number p.slot, p.item.value) ∷ [] →
       (t : ℕ) × (p.times.clock < t) × (m'.0 ≡ Writer (stored_by p t)) × (m'.1 ≡ []) × (n ≡ st.first)
 
-  -- W5: the store of the pair in `latest`. The record counts as finished.
-  abbrev pub finished_by : WriterNotes T → ℕ → WriterNotes T
-  finished_by p t = record p {
+  -- W5: the store of the pair in `latest`, made by so many accesses. The record counts as finished.
+  abbrev pub finished_with : WriterNotes T → ℕ → ℕ → WriterNotes T
+  finished_with p n t = record p {
     stage = writer.W5;
     finished = p.item;
+    latest = p.slot.pair;
     events = p.events ++ W5 ∷ [];
-    accesses = p.accesses + 1;
+    accesses = p.accesses + n;
     times = ended_at p.times t;
   }
 
+  abbrev pub finished_by : WriterNotes T → ℕ → WriterNotes T
+  finished_by p t = finished_with p 1 t
+
+  -- W4; and W5 too, at the same store, where `latest` has the pair already: its store would change nothing
+  abbrev pub stores_on : Step T → Sat T → ℕ → Sat T → Type 0
+  stores_on st m n m' = (p : WriterNotes T) → m.0 ≡ Writer p → m.1 ≡ (slot_number p.slot, p.item.value) ∷ [] →
+      (t : ℕ) × (p.times.clock < t) × (m'.1 ≡ []) × (n ≡ st.first)
+      × (bit_number p.slot.pair ≡ bit_number p.latest → m'.0 ≡ Writer (finished_with (stored_by p t) 0 t))
+      × (bit_number p.slot.pair ≢ bit_number p.latest → m'.0 ≡ Writer (stored_by p t))
+
+  -- W4 and W5: W5 by no access where `latest` has the pair already, and by one where it has the other
+  abbrev pub publishes : Sat T → Sat T → Type 0
+  publishes m m' = (p : WriterNotes T) → m.0 ≡ Writer p → m.1 ≡ (slot_number p.slot, p.item.value) ∷ [] →
+      (t : ℕ) × (u : ℕ) × (i : ℕ) × (p.times.clock < t) × (t ≤ u)
+      × (bit_number p.slot.pair ≡ bit_number p.latest → i ≡ 0) × (bit_number p.slot.pair ≢ bit_number p.latest → i ≡ 1)
+      × (m'.0 ≡ Writer (finished_with (stored_by p t) i u)) × (m'.1 ≡ [])
+
+  -- a step that makes W5, counted as so many accesses: one, and none where it is thought beside W4's store
+  abbrev pub finishes_counting : ℕ → Step T → Sat T → ℕ → Sat T → Type 0
+  finishes_counting i st m n m' = (p : WriterNotes T) → m.0 ≡ Writer p →
+      (t : ℕ) × (p.times.clock < t) × (m'.0 ≡ Writer (finished_with p i t)) × (m'.1 ≡ m.1) × (n ≡ st.first)
+
   abbrev pub finishes : Step T → Sat T → ℕ → Sat T → Type 0
-  finishes st m n m' = (p : WriterNotes T) → m.0 ≡ Writer p →
-      (t : ℕ) × (p.times.clock < t) × (m'.0 ≡ Writer (finished_by p t)) × (m'.1 ≡ m.1) × (n ≡ st.first)
+  finishes = finishes_counting 1
 
   -- R1: the load of `latest`, which is b
   abbrev pub asked_by : ReaderNotes T → Bool → ℕ → ReaderNotes T
@@ -97,18 +124,43 @@ module _ {T : Type 0} where
   slot_of_choice None x = []
   slot_of_choice (Some k) x = (slot_number k, x) ∷ []
 
-  -- R2: the store of the pair in `reading`, with which the seat gives that slot back
-  abbrev pub said_by : ReaderNotes T → ℕ → ReaderNotes T
-  said_by g t = record g {
+  -- R2: the store of the pair in `reading`, with which the seat gives that slot back, made by so many accesses
+  abbrev pub said_with : ReaderNotes T → ℕ → ℕ → ReaderNotes T
+  said_with g n t = record g {
     stage = reader.R2;
     events = g.events ++ R2 ∷ [];
-    accesses = g.accesses + 1;
+    accesses = g.accesses + n;
     times = passed_at g.times t;
   }
 
+  abbrev pub said_by : ReaderNotes T → ℕ → ReaderNotes T
+  said_by g t = said_with g 1 t
+
+  -- R1; and R2 too, at the same load and counted as so many accesses, where `reading` has the pair already: the store would change nothing
+  abbrev pub asks_counting : ℕ → Step T → Sat T → ℕ → Sat T → Type 0
+  asks_counting i st m n m' = (g : ReaderNotes T) → m.0 ≡ Reader g → m.1 ≡ slot_of_choice g.chosen g.at_hand.value →
+      (b : Bool) × (n ≡ bit_number b) × (t : ℕ) × (g.times.clock < t)
+      × (n ≡ word_said g.chosen → (m'.0 ≡ Reader (said_with (asked_by g b t) i t)) × (m'.1 ≡ []))
+      × (n ≢ word_said g.chosen → (m'.0 ≡ Reader (asked_by g b t)) × (m'.1 ≡ m.1))
+
+  -- the store that is left out is none
+  abbrev pub asks_on : Step T → Sat T → ℕ → Sat T → Type 0
+  asks_on = asks_counting 0
+
+  -- R1 and R2: R2 by no access where `reading` has the pair already, and by one where it has another
+  abbrev pub announces : Sat T → ℕ → Sat T → Type 0
+  announces m n m' = (g : ReaderNotes T) → m.0 ≡ Reader g → m.1 ≡ slot_of_choice g.chosen g.at_hand.value →
+      (b : Bool) × (n ≡ bit_number b) × (t : ℕ) × (u : ℕ) × (i : ℕ) × (g.times.clock < t) × (t ≤ u)
+      × (n ≡ word_said g.chosen → i ≡ 0) × (n ≢ word_said g.chosen → i ≡ 1)
+      × (m'.0 ≡ Reader (said_with (asked_by g b t) i u)) × (m'.1 ≡ [])
+
+  -- a step that makes R2, counted likewise
+  abbrev pub says_counting : ℕ → Step T → Sat T → ℕ → Sat T → Type 0
+  says_counting i st m n m' = (g : ReaderNotes T) → m.0 ≡ Reader g → m.1 ≡ slot_of_choice g.chosen g.at_hand.value →
+      (t : ℕ) × (g.times.clock < t) × (m'.0 ≡ Reader (said_with g i t)) × (m'.1 ≡ []) × (n ≡ st.first)
+
   abbrev pub says : Step T → Sat T → ℕ → Sat T → Type 0
-  says st m n m' = (g : ReaderNotes T) → m.0 ≡ Reader g → m.1 ≡ slot_of_choice g.chosen g.at_hand.value →
-      (t : ℕ) × (g.times.clock < t) × (m'.0 ≡ Reader (said_by g t)) × (m'.1 ≡ []) × (n ≡ st.first)
+  says = says_counting 1
 
   -- R3, with R4 and R5, where the pair's bit is b: the slot of the pair and b, which has x
   abbrev pub got_by : ReaderNotes T → Bool → T → ℕ → ℕ → Known T → ReaderNotes T
@@ -145,6 +197,7 @@ module _ {T : Type 0} where
     slot = slot_with false false;
     item = snap o;
     remembered = both false;
+    latest = false;
     finished = snap o;
     opening = snap o;
     written = [];

@@ -1,6 +1,6 @@
 -- The words of the contract, of the passes of a four-slot cell (this project's own).
-use Rattle.std.specs.Prelude.{◌≡◌, ℕ, ◌+◌, List, [], ◌∷◌, ◌++◌}
-use Rattle.fourslot_core.specs.Events.{slot_number}
+use Rattle.std.specs.Prelude.{◌≡◌, ◌≢◌, ◌≤◌, ℕ, ◌+◌, List, [], ◌∷◌, ◌++◌}
+use Rattle.fourslot_core.specs.Events.{slot_number, bit_number}
 use Rattle.fourslot_core.specs.declared.event.WriteEvent.{WriteEvent}
 use Rattle.fourslot_core.specs.declared.event.ReadEvent.{ReadEvent}
 use Rattle.fourslot_core.specs.declared.event.ReadEvent.TheVariants.{R1, R2, R3, R4, R5}
@@ -9,7 +9,7 @@ use Rattle.cell_live.specs.Intervals.{IsNextCall, IsNextAnswer}
 use Rattle.cell_live.specs.declared.times.Times.{Times}
 use Rattle.cell_live.specs.declared.times.Known.{Known}
 use Rattle.cell_live.specs.Sights.{writer_or, reader_or, receipt_or}
-use Rattle.cell_four_slot.specs.Steps.{first_writer, first_reader}
+use Rattle.cell_four_slot.specs.Steps.{first_writer, first_reader, word_said}
 use Rattle.cell_live.specs.Intervals.{dated}
 use Rattle.cell_four_slot.specs.declared.notes.WriterNotes.{WriterNotes}
 use Rattle.cell_four_slot.specs.declared.notes.ReaderNotes.{ReaderNotes}
@@ -83,6 +83,13 @@ module _ {T : Type 0} where
   abbrev pub reader_accesses : FourSlotGet T → ℕ
   reader_accesses g = (get_notes g).accesses
 
+  -- the pair that a reader's pass has stored in `reading`, 2 where it has stored none; and the one that a writer's has stored in `latest`
+  abbrev pub pair_said : FourSlotGet T → ℕ
+  pair_said g = word_said (get_notes g).chosen
+
+  abbrev pub pair_shown : FourSlotPut T → ℕ
+  pair_shown p = bit_number (put_notes p).latest
+
   -- the slot that the last R3 took, and the slots that the pass holds, each with its record
   abbrev pub chosen_slot : FourSlotGet T → ℕ
   chosen_slot g = slot_number (get_notes g).slot
@@ -94,13 +101,16 @@ module _ {T : Type 0} where
   abbrev pub at_hand_of : FourSlotGet T → T
   at_hand_of g = (get_notes g).at_hand.value
 
-  -- what the three control accesses of a read make of its pass: the slot is taken, and what it has is the answer
+  -- what the control accesses of a read make of its pass: the slot is taken, and what it has is the answer. There are two where `reading`
+  -- has the pair already, as R2 then stores nothing, and else three
   pub record HasChosen (fits : T → Type 0) (rises : T → T → Type 0) (c : FourSlotCell T) (g h : FourSlotGet T) (slot : ℕ) : Type 0 where
     pub own : is_get_of c h
     pub answers : answers_of h ≡ answers_of g ++ at_hand_of h ∷ []
     pub told : told_to h ≡ told_to g
     pub running : IsAnswer fits rises (opening_of c) (answers_of g) (told_to g) (at_hand_of h)
-    pub accesses : reader_accesses h ≡ reader_accesses g + 3
+    pub accesses : reader_accesses h ≤ reader_accesses g + 3
+    pub quiet : pair_said h ≡ pair_said g → reader_accesses h ≡ reader_accesses g + 2
+    pub moved : pair_said h ≢ pair_said g → reader_accesses h ≡ reader_accesses g + 3
     pub events : read_events h ≡ read_events g ++ R1 ∷ R2 ∷ R3 ∷ R4 ∷ R5 (snap (at_hand_of h)) ∷ []
     pub held : held_by h ≡ (slot, at_hand_of h) ∷ []
     pub chosen : chosen_slot h ≡ slot

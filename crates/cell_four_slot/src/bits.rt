@@ -43,7 +43,7 @@ pub fn slot_of(pair: u64, index: u64) -> usize
 #[inline]
 pub fn word_of(pair: u64) -> usize
     requires { (p : Bool) × (pair ≡ bit_number p) }
-    ensures { (p : Bool) → pair ≡ bit_number p → result ≡ 2 + bit_number p }
+    ensures { (p : Bool) → pair ≡ bit_number p → result ≡ 10 + bit_number p }
 {
-    2 + pair as usize
+    10 + pair as usize
 }

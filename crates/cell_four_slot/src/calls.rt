@@ -1,5 +1,5 @@
 //! The calls of the four-slot cell.
-ghost use Rattle.std.specs.Prelude.{◌≡◌, ◌+◌, [], ◌∷◌, ◌++◌, IfOk};
+ghost use Rattle.std.specs.Prelude.{◌≡◌, ◌≢◌, ◌≤◌, ◌+◌, [], ◌∷◌, ◌++◌, IfOk};
 ghost use Rattle.std.specs.Fn.{FnOnceTakesAt, FnOnceReturnsAt};
 ghost use Rattle.fourslot_core.specs.declared.event.WriteEvent.TheVariants.{W1, W2, W3, W4, W5};
 ghost use Rattle.fourslot_core.specs.declared.event.ReadEvent.TheVariants.{R1, R2, R3, R4, R5};
@@ -7,6 +7,7 @@ ghost use Rattle.cell_live.specs.Running.{last_or, IsAnswer, Settled, snap};
 ghost use Rattle.cell_live.specs.Intervals.{AreAtomic, AreFirst, HaveEnded, IsHeard, IsNextAnswer, IsNextCall, no_times, none_known};
 ghost use Rattle.cell_four_slot.specs.Words.{opening_of, is_put_of, is_get_of, is_told_of, written_by, answers_of, at_hand_of};
 ghost use Rattle.cell_four_slot.specs.Words.{told_to, named_by, write_events, read_events, writer_accesses, reader_accesses};
+ghost use Rattle.cell_four_slot.specs.Words.{pair_said, pair_shown};
 ghost use Rattle.cell_four_slot.specs.Words.{chosen_slot, held_by, HasChosen, put_times, get_times, numbers_of, known_to, time_of};
 
 use crate::bits::{bit_of, other_bit, set_bit, slot_of, word_of};
@@ -23,8 +24,8 @@ fn choose<T: Lawful>(cell: &FourSlotCell<T>, get: &mut FourSlotGet<T>) -> usize
     ensures { HasChosen T.fits T.rises cell.now get.old get.new result }
 {
     let table = &cell.table;
-    let latest = table.ask(&mut get.seat);
-    table.say(&mut get.seat, latest);
+    let latest = table.announce(&mut get.seat, get.said);
+    get.said = latest;
     let word = word_of(latest);
     let index = table.take(&mut get.seat, word);
     slot_of(latest, index)
@@ -38,7 +39,10 @@ impl<T: Lawful> FourSlotCell<T> {
         requires lawful { T.fits (L.whole parts.now) × T.rises (last_or (opening_of self.now) (written_by put.old)) (L.whole parts.now) }
         ensures own { is_put_of self.now put.new }
         ensures written { written_by put.new ≡ written_by put.old ++ L.whole parts.now ∷ [] }
-        ensures accesses { writer_accesses put.new ≡ writer_accesses put.old + 3 }
+        ensures accesses { writer_accesses put.new ≤ writer_accesses put.old + 3 }
+        // Two accesses where `latest` has the pair already, as W5 then stores nothing; else three.
+        ensures quiet { pair_shown put.new ≡ pair_shown put.old → writer_accesses put.new ≡ writer_accesses put.old + 2 }
+        ensures moved { pair_shown put.new ≢ pair_shown put.old → writer_accesses put.new ≡ writer_accesses put.old + 3 }
         ensures events { write_events put.new ≡ write_events put.old ++ W1 (snap (L.whole parts.now)) ∷ W2 ∷ W3 ∷ W4 ∷ W5 ∷ [] }
         ensures timed { IsNextCall (put_times put.old) (put_times put.new) }
     {
@@ -50,10 +54,9 @@ impl<T: Lawful> FourSlotCell<T> {
         let index = other_bit(stored);
         let slot = slot_of(pair, index);
         table.fill(&mut put.seat, slot, parts);
-        let word = word_of(pair);
-        table.store(&mut put.seat, word, index);
-        table.finish(&mut put.seat, pair);
+        table.publish(&mut put.seat, pair, index, put.latest);
         set_bit(&mut put.remembered, pair, index);
+        put.latest = pair;
     }
 }
 
@@ -112,10 +115,12 @@ impl<T: Lawful> Calls<T> for FourSlotCell<T> {
             FourSlotPut {
                 seat: put,
                 remembered: [0, 0],
+                latest: 0,
                 spare: first,
             },
             FourSlotGet {
                 seat: get,
+                said: 2,
                 spare: first,
             },
         ))
@@ -127,7 +132,9 @@ impl<T: Lawful> Calls<T> for FourSlotCell<T> {
         requires lawful { T.fits item × T.rises (last_or (opening_of self.now) (written_by put.old)) item }
         ensures own { is_put_of self.now put.new }
         ensures written { written_by put.new ≡ written_by put.old ++ item ∷ [] }
-        ensures accesses { writer_accesses put.new ≡ writer_accesses put.old + 3 }
+        ensures accesses { writer_accesses put.new ≤ writer_accesses put.old + 3 }
+        ensures quiet { pair_shown put.new ≡ pair_shown put.old → writer_accesses put.new ≡ writer_accesses put.old + 2 }
+        ensures moved { pair_shown put.new ≢ pair_shown put.old → writer_accesses put.new ≡ writer_accesses put.old + 3 }
         ensures events { write_events put.new ≡ write_events put.old ++ W1 (snap item) ∷ W2 ∷ W3 ∷ W4 ∷ W5 ∷ [] }
         ensures timed { IsNextCall (put_times put.old) (put_times put.new) }
     {
@@ -140,7 +147,9 @@ impl<T: Lawful> Calls<T> for FourSlotCell<T> {
         requires lawful { T.fits item.now × T.rises (last_or (opening_of self.now) (written_by put.old)) item.now }
         ensures own { is_put_of self.now put.new }
         ensures written { written_by put.new ≡ written_by put.old ++ item.now ∷ [] }
-        ensures accesses { writer_accesses put.new ≡ writer_accesses put.old + 3 }
+        ensures accesses { writer_accesses put.new ≤ writer_accesses put.old + 3 }
+        ensures quiet { pair_shown put.new ≡ pair_shown put.old → writer_accesses put.new ≡ writer_accesses put.old + 2 }
+        ensures moved { pair_shown put.new ≢ pair_shown put.old → writer_accesses put.new ≡ writer_accesses put.old + 3 }
         ensures events { write_events put.new ≡ write_events put.old ++ W1 (snap item.now) ∷ W2 ∷ W3 ∷ W4 ∷ W5 ∷ [] }
         ensures timed { IsNextCall (put_times put.old) (put_times put.new) }
     {
@@ -154,7 +163,10 @@ impl<T: Lawful> Calls<T> for FourSlotCell<T> {
         ensures answers { answers_of get.new ≡ answers_of get.old ++ result ∷ [] }
         ensures told { told_to get.new ≡ told_to get.old }
         ensures running { IsAnswer T.fits T.rises (opening_of self.now) (answers_of get.old) (told_to get.old) result }
-        ensures accesses { reader_accesses get.new ≡ reader_accesses get.old + 3 }
+        ensures accesses { reader_accesses get.new ≤ reader_accesses get.old + 3 }
+        // Two accesses where `reading` has the pair already, as R2 then stores nothing; else three, as at the first read.
+        ensures quiet { pair_said get.new ≡ pair_said get.old → reader_accesses get.new ≡ reader_accesses get.old + 2 }
+        ensures moved { pair_said get.new ≢ pair_said get.old → reader_accesses get.new ≡ reader_accesses get.old + 3 }
         ensures events { read_events get.new ≡ read_events get.old ++ R1 ∷ R2 ∷ R3 ∷ R4 ∷ R5 (snap result) ∷ [] }
         // The pass holds the slot that this call's R3 took, and the answer is the record with which it came.
         ensures held { held_by get.new ≡ (chosen_slot get.new, result) ∷ [] }
@@ -175,7 +187,9 @@ impl<T: Lawful> Calls<T> for FourSlotCell<T> {
         ensures answers { answers_of get.new ≡ answers_of get.old ++ at_hand_of get.new ∷ [] }
         ensures told { told_to get.new ≡ told_to get.old }
         ensures running { IsAnswer T.fits T.rises (opening_of self.now) (answers_of get.old) (told_to get.old) (at_hand_of get.new) }
-        ensures accesses { reader_accesses get.new ≡ reader_accesses get.old + 3 }
+        ensures accesses { reader_accesses get.new ≤ reader_accesses get.old + 3 }
+        ensures quiet { pair_said get.new ≡ pair_said get.old → reader_accesses get.new ≡ reader_accesses get.old + 2 }
+        ensures moved { pair_said get.new ≢ pair_said get.old → reader_accesses get.new ≡ reader_accesses get.old + 3 }
         ensures events { read_events get.new ≡ read_events get.old ++ R1 ∷ R2 ∷ R3 ∷ R4 ∷ R5 (snap (at_hand_of get.new)) ∷ [] }
         ensures held { held_by get.new ≡ (chosen_slot get.new, at_hand_of get.new) ∷ [] }
         ensures timed { IsNextCall (get_times get.old) (get_times get.new) }
@@ -226,14 +240,15 @@ impl<T: Lawful> Calls<T> for FourSlotCell<T> {
         let FourSlotPut {
             seat: mut put,
             remembered: _,
+            latest: _,
             spare: _,
         } = put;
         let FourSlotGet {
             seat: mut get,
+            said,
             spare: _,
         } = get;
-        let pair = table.ask(&mut get);
-        table.say(&mut get, pair);
+        table.announce(&mut get, said);
         table.end(&mut put, get);
         table.close(put);
     }

@@ -13,6 +13,8 @@ pub struct WriterNotes<T> {
     pub item: Snapshot<T>,
     /// The pairs' bits, as the writer remembers them.
     pub remembered: Sides<bool>,
+    /// The pair that the last W5 stored, which `latest` has.
+    pub latest: bool,
     /// The record of the last finished write.
     pub finished: Snapshot<T>,
     pub opening: Snapshot<T>,

@@ -1,6 +1,6 @@
 //! What each step tells.
 ghost use Rattle.std.specs.Prelude.{List, []};
-ghost use Rattle.cell_four_slot.specs.Steps.{begins, stores, finishes, asks, says, takes, receipt_for, hears_of, whole_of};
+ghost use Rattle.cell_four_slot.specs.Steps.{begins, stores_on, finishes, asks_on, says, takes, receipt_for, hears_of, whole_of};
 ghost use Rattle.cell_live.specs.declared.sight.Sight.TheVariants.{Spent};
 
 use crate::notes::FourSlotSight;
@@ -28,7 +28,7 @@ impl<T, K: Item<T>> Play<T, FourSlotSight<T>> for Begins<K> {
 pub(crate) struct Stores;
 
 impl<T> Play<T, FourSlotSight<T>> for Stores {
-    ghost then = { stores };
+    ghost then = { stores_on };
 }
 
 pub(crate) struct Finishes;
@@ -40,7 +40,7 @@ impl<T> Play<T, FourSlotSight<T>> for Finishes {
 pub(crate) struct Asks;
 
 impl<T> Play<T, FourSlotSight<T>> for Asks {
-    ghost then = { asks };
+    ghost then = { asks_on };
 }
 
 pub(crate) struct Says;

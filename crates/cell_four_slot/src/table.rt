@@ -10,8 +10,8 @@ ghost use Rattle.fourslot_core.specs.declared.state.ReaderStage.TheVariants.{R1,
 ghost use Rattle.fourslot_core.specs.Events.{bit_number, slot_number};
 ghost use Rattle.cell_live.specs.Running.{last_or, Settled, held_slots};
 ghost use Rattle.cell_live.specs.Sights.{writer_part, reader_part};
-ghost use Rattle.cell_four_slot.specs.Steps.{begins, stores, finishes, asks, says, takes, first_sight, receipt_for, hears_of};
-ghost use Rattle.cell_four_slot.specs.Steps.{whole_of, slot_of_choice};
+ghost use Rattle.cell_four_slot.specs.Steps.{begins, stores_on, publishes, finishes, asks_on, announces, says, takes, first_sight, receipt_for, hears_of};
+ghost use Rattle.cell_four_slot.specs.Steps.{whole_of, slot_of_choice, word_said};
 ghost use Rattle.cell_four_slot.specs.Rule.{IsTimed};
 ghost use Rattle.cell_live.specs.Intervals.{AreFirst};
 ghost use Rattle.cell_live.specs.declared.times.Dated.{Dated};
@@ -19,6 +19,7 @@ ghost use Rattle.cell_four_slot.specs.declared.notes.WriterNotes.{WriterNotes};
 ghost use Rattle.cell_four_slot.specs.declared.notes.ReaderNotes.{ReaderNotes};
 ghost use Rattle.cell_live.specs.declared.sight.Sight.TheVariants.{Writer, Reader, Told, Both};
 
+use crate::bits::word_of;
 use crate::cell::FourSlot;
 use crate::notes::FourSlotSight;
 use crate::plays::{Asks, Begins, Ends, Finishes, Hears, Item, Says, Stores, Takes, Tells};
@@ -27,11 +28,12 @@ use cell_live::{Lawful, Lays, Parts, empty};
 use std::alloc::{AllocError, Global};
 use std::snapshot::Snapshot;
 
-/// Four words of one bit and four slots.
+/// Four words of one bit and four slots. Word 8 is `latest`, words 10 and 11 are the pairs' bits, and word 24 is `reading`; the others keep
+/// the two sides' words apart.
 #[derive(Drop)]
 pub struct FourSlotTable<T: Lawful> {
     inner: Table<T, FourSlotSight<T>, T, FourSlot, Global>,
-    ghost sized: { inner.shared.table_id.words ≡ 4 },
+    ghost sized: { inner.shared.table_id.words ≡ 32 },
 }
 
 /// A seat at the table.
@@ -52,9 +54,7 @@ impl<T: Lawful> FourSlotTable<T> {
         slots.push(first).map_err(|_| AllocError)?;
         slots.push(first).map_err(|_| AllocError)?;
         slots.push(first).map_err(|_| AllocError)?;
-        let (table, seat) = Table::new(alloc, &[0, 0, 0, 0], slots, &first).map_err(
-            |_| AllocError,
-        )?;
+        let (table, seat) = Table::new(alloc, &[0; 32], slots, &first).map_err(|_| AllocError)?;
         Ok((FourSlotTable { inner: table }, FourSlotSeat { inner: seat }))
     }
 
@@ -131,19 +131,36 @@ impl<T: Lawful> FourSlotTable<T> {
         requires idle { (p : WriterNotes T) × (seat.old.inner.me ≡ (Writer p, [])) × (p.stage ≡ W5) × T.fits item.value
             × T.rises (last_or p.opening.value p.written) item.value }
         ensures own { seat.new.inner.table_id ≡ seat.old.inner.table_id }
-        ensures begun { begins K.item (step self.now.inner.shared.table_id.slots 1 0 0 none) seat.old.inner.me result seat.new.inner.me }
+        ensures begun { begins K.item (step self.now.inner.shared.table_id.slots 24 0 0 none) seat.old.inner.me result seat.new.inner.me }
     {
-        self.inner.shared.load::<Begins<K>>(&mut seat.inner, 1)
+        self.inner.shared.load::<Begins<K>>(&mut seat.inner, 24)
     }
 
-    /// W4: stores the index in the pair's word, and gives the slot back.
+    /// W4 and W5. W5's store is left out where `latest` has the pair already, which is `shown`.
     #[inline]
-    pub(crate) fn store(&self, seat: &mut FourSlotSeat<T>, word: usize, index: u64)
+    pub(crate) fn publish(&self, seat: &mut FourSlotSeat<T>, pair: u64, index: u64, shown: u64)
         requires own { seat.old.inner.table_id ≡ self.now.inner.shared.table_id }
         requires filled { (p : WriterNotes T) × (seat.old.inner.me ≡ (Writer p, (slot_number p.slot, p.item.value) ∷ [])) × (p.stage ≡ W3)
-            × (word ≡ 2 + bit_number p.slot.pair) × (index ≡ bit_number p.slot.index) }
+            × (pair ≡ bit_number p.slot.pair) × (index ≡ bit_number p.slot.index) × (shown ≡ bit_number p.latest) }
         ensures own { seat.new.inner.table_id ≡ seat.old.inner.table_id }
-        ensures stored { stores (step self.now.inner.shared.table_id.slots word index 0 none) seat.old.inner.me index seat.new.inner.me }
+        ensures published { publishes seat.old.inner.me seat.new.inner.me }
+    {
+        let word = word_of(pair);
+        self.store(seat, word, index);
+        if pair == shown {
+            return;
+        }
+        self.finish(seat, pair);
+    }
+
+    /// W4: stores the index in the pair's word, and gives the slot back. This is W5 too where `latest` has the pair already.
+    #[inline]
+    fn store(&self, seat: &mut FourSlotSeat<T>, word: usize, index: u64)
+        requires own { seat.old.inner.table_id ≡ self.now.inner.shared.table_id }
+        requires filled { (p : WriterNotes T) × (seat.old.inner.me ≡ (Writer p, (slot_number p.slot, p.item.value) ∷ [])) × (p.stage ≡ W3)
+            × (word ≡ 10 + bit_number p.slot.pair) × (index ≡ bit_number p.slot.index) }
+        ensures own { seat.new.inner.table_id ≡ seat.old.inner.table_id }
+        ensures stored { stores_on (step self.now.inner.shared.table_id.slots word index 0 none) seat.old.inner.me index seat.new.inner.me }
     {
         self.inner
             .shared
@@ -152,45 +169,62 @@ impl<T: Lawful> FourSlotTable<T> {
 
     /// W5: stores the pair in `latest`.
     #[inline]
-    pub(crate) fn finish(&self, seat: &mut FourSlotSeat<T>, pair: u64)
+    fn finish(&self, seat: &mut FourSlotSeat<T>, pair: u64)
         requires own { seat.old.inner.table_id ≡ self.now.inner.shared.table_id }
         requires stored { (p : WriterNotes T) × (seat.old.inner.me.0 ≡ Writer p) × (p.stage ≡ W4) × (pair ≡ bit_number p.slot.pair) }
         ensures own { seat.new.inner.table_id ≡ seat.old.inner.table_id }
-        ensures finished { finishes (step self.now.inner.shared.table_id.slots 0 pair 0 none) seat.old.inner.me pair seat.new.inner.me }
+        ensures finished { finishes (step self.now.inner.shared.table_id.slots 8 pair 0 none) seat.old.inner.me pair seat.new.inner.me }
     {
         self.inner
             .shared
-            .store::<Finishes>(&mut seat.inner, 0, pair);
+            .store::<Finishes>(&mut seat.inner, 8, pair);
     }
 
-    /// R1: loads `latest`.
+    /// R1 and R2. R2's store is left out where `reading` has the pair already, which is `said`.
     #[inline]
-    pub(crate) fn ask(&self, seat: &mut FourSlotSeat<T>) -> u64
+    pub(crate) fn announce(&self, seat: &mut FourSlotSeat<T>, said: u64) -> u64
         requires own { seat.old.inner.table_id ≡ self.now.inner.shared.table_id }
-        requires idle { (g : ReaderNotes T) × (seat.old.inner.me.0 ≡ Reader g) × (g.stage ≡ R5) }
+        requires idle { (g : ReaderNotes T) × (seat.old.inner.me ≡ (Reader g, slot_of_choice g.chosen g.at_hand.value)) × (g.stage ≡ R5)
+            × (said ≡ word_said g.chosen) }
         ensures own { seat.new.inner.table_id ≡ seat.old.inner.table_id }
-        ensures asked { asks (step self.now.inner.shared.table_id.slots 0 0 0 none) seat.old.inner.me result seat.new.inner.me }
+        ensures announced { announces seat.old.inner.me result seat.new.inner.me }
     {
-        self.inner.shared.load::<Asks>(&mut seat.inner, 0)
+        let pair = self.ask(seat);
+        if pair == said {
+            return pair;
+        }
+        self.say(seat, pair);
+        pair
+    }
+
+    /// R1: loads `latest`. This is R2 too where `reading` has the pair already.
+    #[inline]
+    fn ask(&self, seat: &mut FourSlotSeat<T>) -> u64
+        requires own { seat.old.inner.table_id ≡ self.now.inner.shared.table_id }
+        requires idle { (g : ReaderNotes T) × (seat.old.inner.me ≡ (Reader g, slot_of_choice g.chosen g.at_hand.value)) × (g.stage ≡ R5) }
+        ensures own { seat.new.inner.table_id ≡ seat.old.inner.table_id }
+        ensures asked { asks_on (step self.now.inner.shared.table_id.slots 8 0 0 none) seat.old.inner.me result seat.new.inner.me }
+    {
+        self.inner.shared.load::<Asks>(&mut seat.inner, 8)
     }
 
     /// R2: stores the pair in `reading`, and gives the slot of the read before back.
     #[inline]
-    pub(crate) fn say(&self, seat: &mut FourSlotSeat<T>, pair: u64)
+    fn say(&self, seat: &mut FourSlotSeat<T>, pair: u64)
         requires own { seat.old.inner.table_id ≡ self.now.inner.shared.table_id }
         requires asked { (g : ReaderNotes T) × (seat.old.inner.me ≡ (Reader g, slot_of_choice g.chosen g.at_hand.value)) × (g.stage ≡ R1)
             × (pair ≡ bit_number g.slot.pair) }
         ensures own { seat.new.inner.table_id ≡ seat.old.inner.table_id }
-        ensures said { says (step self.now.inner.shared.table_id.slots 1 pair 0 none) seat.old.inner.me pair seat.new.inner.me }
+        ensures said { says (step self.now.inner.shared.table_id.slots 24 pair 0 none) seat.old.inner.me pair seat.new.inner.me }
     {
-        self.inner.shared.store::<Says>(&mut seat.inner, 1, pair);
+        self.inner.shared.store::<Says>(&mut seat.inner, 24, pair);
     }
 
     /// R3: loads the pair's word, and takes the slot that it names.
     #[inline]
     pub(crate) fn take(&self, seat: &mut FourSlotSeat<T>, word: usize) -> u64
         requires own { seat.old.inner.table_id ≡ self.now.inner.shared.table_id }
-        requires said { (g : ReaderNotes T) × (seat.old.inner.me ≡ (Reader g, [])) × (g.stage ≡ R2) × (word ≡ 2 + bit_number g.slot.pair) }
+        requires said { (g : ReaderNotes T) × (seat.old.inner.me ≡ (Reader g, [])) × (g.stage ≡ R2) × (word ≡ 10 + bit_number g.slot.pair) }
         ensures own { seat.new.inner.table_id ≡ seat.old.inner.table_id }
         ensures taken { takes T.fits T.rises (step self.now.inner.shared.table_id.slots word 0 0 none) seat.old.inner.me
             result seat.new.inner.me }

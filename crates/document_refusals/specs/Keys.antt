@@ -3,6 +3,7 @@ use Rattle.std.specs.Prelude.{ℕ, List, codes}
 use Rattle.document_refusals.specs.declared.key.Key.{Key}
 use Rattle.document_refusals.specs.declared.key.Key.TheVariants.{Opening, Noise, Limit, Ops, Order}
 use Rattle.document_refusals.specs.declared.key.Key.TheVariants.{Writes, Reads, Steps, Plans, Scripts, Terms}
+use Rattle.document_refusals.specs.declared.key.Key.TheVariants.{Who, Kind, Begin, End, Record}
 
 abbrev pub name_of : Key → List ℕ
 name_of Opening = codes "opening"
@@ -16,3 +17,8 @@ name_of Steps = codes "steps"
 name_of Plans = codes "plans"
 name_of Scripts = codes "scripts"
 name_of Terms = codes "terms"
+name_of Who = codes "who"
+name_of Kind = codes "kind"
+name_of Begin = codes "begin"
+name_of End = codes "end"
+name_of Record = codes "record"

@@ -16,6 +16,11 @@ pub enum Key {
     Plans,
     Scripts,
     Terms,
+    Who,
+    Kind,
+    Begin,
+    End,
+    Record,
 }
 
 impl Key {
@@ -37,6 +42,11 @@ impl Key {
             Key::Plans => "plans",
             Key::Scripts => "scripts",
             Key::Terms => "terms",
+            Key::Who => "who",
+            Key::Kind => "kind",
+            Key::Begin => "begin",
+            Key::End => "end",
+            Key::Record => "record",
         }
     }
 }

@@ -119,6 +119,7 @@ module _ (IsReply : List ℕ → Result Answer Fault → Type 0) (in_old in_new 
   ends_refused out fault.NoMemory refused = ends_without_memory (IsToldBy IsReply) in_old in_new out taken takes
   ends_refused out (fault.Document refusal) refused = ends_with_fault out (fault.Document refusal) (refused (search rules))
   ends_refused out (fault.History why) refused = ends_with_fault out (fault.History why) (refused (search rules))
+  ends_refused out (fault.Lines why) refused = ends_with_fault out (fault.Lines why) (refused (search rules))
   ends_refused out (fault.Schedule position) refused = ends_with_fault out (fault.Schedule position) (refused (search rules))
 
   -- the text went out whole
@@ -177,6 +178,7 @@ low_fault : (f : Fault) → fault_status f ≤ 4
 low_fault fault.NoMemory = omega arith
 low_fault (fault.Document refusal) = omega arith
 low_fault (fault.History why) = omega arith
+low_fault (fault.Lines why) = omega arith
 low_fault (fault.Schedule position) = omega arith
 
 pub fails_answered : (in_old in_new out_old out_new status : ℕ) (old new : Option (List ℕ)) (reply : Result Answer Fault) → in_new ≡ in_old

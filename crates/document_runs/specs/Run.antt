@@ -6,11 +6,12 @@ use Rattle.std.specs.Io.KnownBytes.{Consumes, Appends}
 use Rattle.streams.specs.Transfer.{IsWhole, TakesBytes, most_taken}
 use Rattle.document_runs.specs.declared.fault.Answer.{Answer}
 use Rattle.document_runs.specs.declared.fault.Fault.{Fault}
-use Rattle.document_runs.specs.declared.fault.Fault.TheVariants.{Document, History, Schedule, NoMemory}
+use Rattle.document_runs.specs.declared.fault.Fault.TheVariants.{Document, History, Lines, Schedule, NoMemory}
 
 abbrev pub fault_status : Fault → ℕ
 fault_status (Document refusal) = 3
 fault_status (History fault) = 3
+fault_status (Lines fault) = 3
 fault_status (Schedule position) = 3
 fault_status NoMemory = 4
 

@@ -23,6 +23,36 @@ pub enum HistoryFault {
     WritesOpening { place: usize },
 }
 
+/// Why a log in lines has no answer. Lines are counted from 1, the header's.
+#[derive(Clone, Copy, Debug, Error)]
+pub enum LinesFault {
+    #[error("line {line}: {why}")]
+    Refused {
+        line: usize,
+        why: DocError,
+    },
+    #[error("line {line}: end before begin")]
+    Backwards {
+        line: usize,
+    },
+    /// The operation on the second line began before the one of the same task on the first line had ended.
+    #[error("lines {first} and {second}: who {who} overlaps itself")]
+    Overlaps {
+        who: usize,
+        first: usize,
+        second: usize,
+    },
+    #[error("line {second}: writes the record of line {first}")]
+    WritesTwice {
+        first: usize,
+        second: usize,
+    },
+    #[error("line {line}: writes the opening")]
+    WritesOpening {
+        line: usize,
+    },
+}
+
 /// Why a document has no answer.
 #[derive(Clone, Copy, Debug, Error)]
 pub enum Fault {
@@ -30,6 +60,8 @@ pub enum Fault {
     Document(DocError),
     #[error("history: {0}")]
     History(HistoryFault),
+    #[error("{0}")]
+    Lines(LinesFault),
     /// The step at this position of the schedule is of an actor that has no operation left.
     #[error("schedule: no operation left at step {position}")]
     Schedule { position: u64 },
@@ -46,7 +78,7 @@ impl Fault {
         ensures { result ≡ fault_status self.now }
     {
         match self {
-            Fault::Document(_) | Fault::History(_) | Fault::Schedule { .. } => 3,
+            Fault::Document(_) | Fault::History(_) | Fault::Lines(_) | Fault::Schedule { .. } => 3,
             Fault::NoMemory => 4,
         }
     }

@@ -6,5 +6,5 @@ mod fault;
 mod run;
 
 pub use command::{Command, run_command};
-pub use fault::{Answer, Fault, HistoryFault};
+pub use fault::{Answer, Fault, HistoryFault, LinesFault};
 pub use run::{FSR, Program, give_answer, take_document};

@@ -1,8 +1,6 @@
 -- What three steps make a call: one access more, with a record or an answer, and the process is at rest again.
-use Rattle.std.proofs.Common.{◌≡◌, ◌≢◌, ◌⊎◌, ℕ, zero, suc, ◌+◌, ◌*◌, ◌-◌, ◌<◌, ◌≤◌, Bool, List, [], ◌∷◌, ◌++◌, map, length, set, get_or, nat_eq, cond, refl, sym, ap, ◌∙◌, subst, arith}
-use Rattle.fourslot_core.specs.declared.state.Stage.TheVariants as writer
-use Rattle.fourslot_core.specs.declared.state.ReaderStage.TheVariants as reader
-use Rattle.fourslot_core.specs.Events.{slot_number, slot_with}
+use Rattle.std.proofs.Common.{◌≡◌, ◌≢◌, ℕ, ◌*◌, ◌<◌, Bool, List, [], ◌∷◌, ◌++◌, length, nat_eq, cond, refl, sym, ap, ◌∙◌, subst, arith}
+use Rattle.fourslot_core.specs.Events.{bit_number, slot_number, slot_with}
 use Rattle.cell_live.specs.Running.{last_or, held_slots}
 use Rattle.cell_live.specs.Sights.{writer_or, reader_or}
 use Rattle.cell_live.specs.declared.times.Known.{Known}
@@ -11,18 +9,19 @@ use Rattle.cell_four_slot.specs.declared.notes.WriterNotes.{WriterNotes}
 use Rattle.cell_four_slot.specs.declared.notes.ReaderNotes.{ReaderNotes}
 use Rattle.cell_live.specs.declared.sight.Sight.TheVariants.{Spent, Writer, Reader}
 use Rattle.cell_four_slot.specs.Steps.{FourSlotSight, first_writer, first_reader, bit_words, slot_of_choice}
-use Rattle.cell_four_slot.specs.Steps.{begun_with, stored_by, finished_by, asked_by, said_by, got_by, HasAnswered}
+use Rattle.cell_four_slot.specs.Steps.{begun_with, stored_by, finished_with, asked_by, said_with, got_by, HasAnswered}
 use Rattle.cell_live.specs.Intervals.{IsNextAnswer}
-use Rattle.family_live.specs.Accesses.{IsAccess, IsRead, IsWrite, Keeps, KeepsOthers, Reads, Rises}
+use Rattle.family_live.specs.Accesses.{IsAccess, IsRead, IsWrite, Keeps, KeepsOthers, Reads}
+use Rattle.family_four_slot.specs.declared.family.Stored.{Stored}
 use Rattle.family_four_slot.specs.declared.notes.Process.{Process}
 use Rattle.family_four_slot.specs.Layouts.{shift}
-use Rattle.family_four_slot.specs.Places.{place, slot_at, four_slots}
+use Rattle.family_four_slot.specs.Places.{place, slot_at}
 use Rattle.family_four_slot.specs.Family.{of_cell, knows}
-use Rattle.family_four_slot.specs.Words.{writes_to, reads_from, IsAtRest, IsRow, IsColumn, HasSlots}
+use Rattle.family_four_slot.specs.Words.{writes_to, reads_from, IsAtRest, HasSlots}
 use Rattle.family_four_slot.proofs.Places.{place_in}
 use Rattle.family_four_slot.proofs.Seats.{differ}
 use Rattle.family_four_slot.proofs.Frames.{row_apart, column_apart, other_writes, other_reads, same_writes, same_reads}
-use Rattle.family_four_slot.proofs.Rests.{IsChanged, changed, changed_again, rest_write, rest_read}
+use Rattle.family_four_slot.proofs.Rests.{IsChanged, IsNewRow, IsNewColumn, changed, changed_again, rest_write, rest_read}
 
 joined : (xs : List ℕ) (a b c : ℕ) → ((xs ++ a ∷ []) ++ b ∷ []) ++ c ∷ [] ≡ xs ++ a ∷ b ∷ c ∷ []
 joined [] a b c = refl
@@ -65,19 +64,19 @@ module _ {T : Type 0} (o : T) (n : ℕ) where
       ap (λ z. let q = reader_or (first_reader o) z in record { answers = q.answers; numbers = q.numbers; known = q.known; told = q.told; times = q.times }) e
 
   -- a write: W1, W4 and W5 of the cell to process j
-  pub a_write : (v : Process V) (kept kept' : List (List ℕ)) (cs : List (ℕ × T)) (j : ℕ) (p : WriterNotes T) (b : Bool) (x : T) (a c d : ℕ)
+  pub a_write : (v : Process V) (kept kept' : Stored) (cs : List (ℕ × T)) (j : ℕ) (p : WriterNotes T) (b : Bool) (x : T) (a c d count : ℕ)
       (h1 h2 : List ℕ) (k : ℕ) → k ≡ place n v.who j → j < n → j ≢ v.who → IsAtRest o n v kept cs → of_cell Spent k v.parts ≡ Writer p → p.opening.value ≡ o →
       v.clock < a → a < c → c < d →
-      let q = finished_by (stored_by (begun_with p b x a) c) d in
+      let q = finished_with (stored_by (begun_with p b x a) c) count d in
       let u = knows Spent (knows Spent (knows Spent v k (Writer (begun_with p b x a)) a h1) k (Writer (stored_by (begun_with p b x a) c)) c h2) k
       (Writer q) d (held_slots cs) in
-      bit_words q.remembered ≡ get_or kept' j [] → ((i : ℕ) → i ≢ j → get_or kept' i [] ≡ get_or kept i []) → last_or o (p.written ++ x ∷ []) ≡ x →
+      IsNewRow kept kept' j (bit_words q.remembered) (bit_number q.latest) → last_or o (p.written ++ x ∷ []) ≡ x →
       IsAtRest o n u kept' cs × IsAccess 3 v.clock u.clock v.times u.times (writes_to o n v j).times (writes_to o n u j).times
       × IsWrite (writes_to o n v j) (writes_to o n u j) x × KeepsOthers j (writes_to o n v) (writes_to o n u) × Keeps (reads_from o n v) (reads_from o n u)
-  a_write v kept kept' cs j p b x a c d h1 h2 k place_is lj ne r is opened la lc ld bits same newest =
+  a_write v kept kept' cs j p b x a c d count h1 h2 k place_is lj ne r is opened la lc ld row newest =
       let p1 : WriterNotes T = begun_with p b x a in
       let p2 : WriterNotes T = stored_by p1 c in
-      let q : WriterNotes T = finished_by p2 d in
+      let q : WriterNotes T = finished_with p2 count d in
       let v1 : Process V = knows Spent v k (Writer p1) a h1 in
       let v2 : Process V = knows Spent v1 k (Writer p2) c h2 in
       let u : Process V = knows Spent v2 k (Writer q) d (held_slots cs) in
@@ -90,7 +89,7 @@ module _ {T : Type 0} (o : T) (n : ℕ) where
       let there : IsChanged Spent v u (place n v.who j) (Writer q) = subst (λ z. IsChanged Spent v u z (Writer q)) place_is all in
       let before = sees_writes v v.who j p ne refl (subst (λ z. of_cell Spent z v.parts ≡ Writer p) place_is is) in
       let after = sees_writes u v.who j q ne refl there.here in (
-        rest_write o n v u kept kept' cs j q lj ne r there refl opened (sym newest) bits same refl,
+        rest_write o n v u kept kept' cs j q lj ne r there refl opened (sym newest) row refl,
         subst (λ (z : Times × Times). IsAccess 3 v.clock d v.times u.times z.0 z.1) (λ i. ((sym before i).times, (sym after i).times))
             (access_of v.times v.clock a c d p.times q.times la lc ld refl refl),
         record { items = ap (λ z. z.items) after ∙ ap (λ z. z.items ++ x ∷ []) (sym before) },
@@ -99,21 +98,21 @@ module _ {T : Type 0} (o : T) (n : ℕ) where
       )
 
   -- a read: R1, R2 and R3 of the cell from process j
-  pub a_read : (v : Process V) (kept : List (List ℕ)) (before behind : List (ℕ × T)) (j : ℕ) (g : ReaderNotes T) (b : Bool) (x : T)
-      (a c d number : ℕ) (bit : Bool) (writes : Known T) (h1 h2 : List ℕ) (k : ℕ) → k ≡ place n j v.who → j < n → j ≢ v.who →
+  pub a_read : (v : Process V) (kept kept' : Stored) (before behind : List (ℕ × T)) (j : ℕ) (g : ReaderNotes T) (b : Bool) (x : T)
+      (a c d number count : ℕ) (bit : Bool) (writes : Known T) (h1 h2 : List ℕ) (k : ℕ) → k ≡ place n j v.who → j < n → j ≢ v.who →
       IsAtRest o n v kept (before ++ (shift (slot_at k) (slot_of_choice g.chosen g.at_hand.value) ++ behind)) →
       of_cell Spent k v.parts ≡ Reader g → g.opening.value ≡ o → v.clock < a → a < c → c < d →
-      let g2 = said_by (asked_by g b a) c in
+      let g2 = said_with (asked_by g b a) count c in
       let h = got_by g2 bit x d number writes in
       let u = knows Spent (knows Spent (knows Spent v k (Reader (asked_by g b a)) a h1) k (Reader g2) c h2) k (Reader h) d
       (held_slots ((slot_at k (slot_number (slot_with b bit)), x) ∷ (before ++ behind))) in
-      HasAnswered g2 h x →
-      IsAtRest o n u kept ((slot_at k (slot_number (slot_with b bit)), x) ∷ (before ++ behind))
+      HasAnswered g2 h x → IsNewColumn kept kept' j (bit_number b) →
+      IsAtRest o n u kept' ((slot_at k (slot_number (slot_with b bit)), x) ∷ (before ++ behind))
       × IsAccess 3 v.clock u.clock v.times u.times (reads_from o n v j).times (reads_from o n u j).times
       × IsRead o (reads_from o n v j) (reads_from o n u j) x × KeepsOthers j (reads_from o n v) (reads_from o n u) × Keeps (writes_to o n v) (writes_to o n u)
-  a_read v kept before behind j g b x a c d number bit writes h1 h2 k place_is lj ne r is opened la lc ld answered =
+  a_read v kept kept' before behind j g b x a c d number count bit writes h1 h2 k place_is lj ne r is opened la lc ld answered said =
       let g1 : ReaderNotes T = asked_by g b a in
-      let g2 : ReaderNotes T = said_by g1 c in
+      let g2 : ReaderNotes T = said_with g1 count c in
       let h : ReaderNotes T = got_by g2 bit x d number writes in
       let slot : ℕ × T = (slot_at k (slot_number (slot_with b bit)), x) in
       let v1 : Process V = knows Spent v k (Reader g1) a h1 in
@@ -128,9 +127,9 @@ module _ {T : Type 0} (o : T) (n : ℕ) where
       let there : IsChanged Spent v u (place n j v.who) (Reader h) = subst (λ z. IsChanged Spent v u z (Reader h)) place_is all in
       let old = sees_reads v v.who j g ne refl (subst (λ z. of_cell Spent z v.parts ≡ Reader g) place_is is) in
       let new = sees_reads u v.who j h ne refl there.here in (
-        rest_read o n v u kept before behind slot j g h lj ne
+        rest_read o n v u kept kept' before behind slot j g h lj ne
             (subst (λ z. IsAtRest o n v kept (before ++ (shift (slot_at z) (slot_of_choice g.chosen g.at_hand.value) ++ behind))) place_is r) there refl opened
-            (subst (λ z. HasSlots z h (slot ∷ (before ++ behind))) place_is ([], before ++ behind, refl)) refl,
+            (subst (λ z. HasSlots z h (slot ∷ (before ++ behind))) place_is ([], before ++ behind, refl)) said refl,
         subst (λ (z : Times × Times). IsAccess 3 v.clock d v.times u.times z.0 z.1) (λ i. ((sym old i).times, (sym new i).times))
             (access_of v.times v.clock a c d g.times h.times la lc ld refl refl),
         subst (λ (z : Reads T × Reads T). IsRead o z.0 z.1 x) (λ i. (sym old i, sym new i)) (record {

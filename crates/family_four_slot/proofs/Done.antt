@@ -1,16 +1,17 @@
 -- What a whole call makes of a seat, by what its three steps told.
-use Rattle.std.proofs.Common.{◌≡◌, ◌≢◌, ℕ, ◌<◌, Bool, List, [], ◌∷◌, ◌++◌, get_or, set, refl, sym, ap, ◌∙◌, subst}
+use Rattle.std.proofs.Common.{◌≡◌, ◌≢◌, ℕ, ◌<◌, ◌≤◌, arith, length, not, Bool, List, [], ◌∷◌, ◌++◌, set, refl, sym, ap, ◌∙◌, subst}
 use Rattle.fourslot_core.specs.Events.{bit_number, slot_number, slot_with}
 use Rattle.cell_live.specs.Running.{held_slots, IsAnswer}
 use Rattle.cell_live.specs.declared.times.Known.{Known}
 use Rattle.cell_four_slot.specs.declared.notes.WriterNotes.{WriterNotes}
 use Rattle.cell_four_slot.specs.declared.notes.ReaderNotes.{ReaderNotes}
 use Rattle.cell_live.specs.declared.sight.Sight.TheVariants.{Spent, Writer, Reader}
-use Rattle.cell_four_slot.specs.Steps.{FourSlotSight, begun_with, stored_by, finished_by, asked_by, said_by, got_by, slot_of_choice, bit_words, HasAnswered}
+use Rattle.cell_four_slot.specs.Steps.{FourSlotSight, begun_with, stored_by, finished_with, asked_by, said_with, got_by, slot_of_choice, bit_words, HasAnswered}
 use Rattle.cell_live.proofs.ListLaws.{last_snoc}
 use Rattle.family_live.specs.Accesses.{IsAccess, IsRead, IsWrite, Keeps, KeepsOthers, Reads}
 use Rattle.family_four_slot.specs.declared.family.FourSlotFamily.{FourSlotFamily}
 use Rattle.family_four_slot.specs.declared.family.FourSlotSeat.{FourSlotSeat}
+use Rattle.family_four_slot.specs.declared.family.Stored.{Stored}
 use Rattle.family_four_slot.specs.declared.notes.Process.{Process}
 use Rattle.family_four_slot.specs.declared.notes.View.TheVariants.{Has}
 use Rattle.family_four_slot.specs.Family.{knows}
@@ -20,7 +21,8 @@ use Rattle.family_four_slot.specs.Seated.{known_by, opening_of, processes_of, nu
 use Rattle.family_four_slot.specs.Words.{process_of, writes_to, reads_from, IsAtRest}
 use Rattle.family_four_slot.proofs.Calls.{a_write, a_read, sees_reads}
 use Rattle.family_four_slot.proofs.Going.{there, within, apart, row_at, row_place, row_notes, column_at, column_place, column_notes, seat_after}
-use Rattle.family_four_slot.proofs.Slices.{get_set_here, get_set_else}
+use Rattle.family_four_slot.proofs.Slices.{get_set_here, get_set_else, set_long}
+use Rattle.family_four_slot.proofs.Rests.{IsNewRow, IsNewColumn}
 
 module _ {T : Type 0} where
   -- one write more to process j, and one read more from it
@@ -37,7 +39,7 @@ module _ {T : Type 0} where
     pub others : KeepsOthers j (reads_of s) (reads_of s') × Keeps (writes_of s) (writes_of s')
 
   module _ (f : FourSlotFamily T) (s : FourSlotSeat T) (own : IsSeat f s) (j : ℕ) (other : (j < processes_of f) × (j ≢ number_of s)) (cell : ℕ) where
-    module _ (at : cell ≡ place s.processes s.who j) (b : Bool) (x : T) (a c d : ℕ) (h1 h2 : List ℕ) where
+    module _ (at : cell ≡ place s.processes s.who j) (b : Bool) (x : T) (a c d count : ℕ) (h1 h2 : List ℕ) where
       abbrev p : WriterNotes T
       p = (row_at f s own j other).notes
 
@@ -48,22 +50,35 @@ module _ {T : Type 0} where
       q2 = stored_by q1 c
 
       abbrev after_write : List ℕ → Process (FourSlotSight T)
-      after_write held = knows Spent (knows Spent (knows Spent (known_by s) cell (Writer q1) a h1) cell (Writer q2) c h2) cell (Writer (finished_by q2 d)) d held
+      after_write held = knows Spent (knows Spent (knows Spent (known_by s) cell (Writer q1) a h1) cell (Writer q2) c h2) cell (Writer (finished_with q2 count d)) d held
 
-      pub wrote : (bits : List ℕ) (cs : List (ℕ × T)) (s' : FourSlotSeat T) → (known_by s).clock < a → a < c → c < d →
+      pub wrote : (bits : List ℕ) (pair : ℕ) (cs : List (ℕ × T)) (s' : FourSlotSeat T) → (known_by s).clock < a → a < c → c < d →
           cs ≡ s.seat.inner.me.1 → s'.seat.inner.me.0 ≡ Has (after_write (held_slots cs) ∷ []) → s'.seat.inner.me.1 ≡ cs →
           s'.seat.inner.table_id ≡ s.seat.inner.table_id → s'.spare ≡ s.spare → s'.processes ≡ s.processes → s'.who ≡ s.who →
-          s'.remembered ≡ set s.remembered j bits → bit_words q2.remembered ≡ bits → Wrote f s s' j x
-      wrote bits cs s' la lc ld same me slots table spare processes who kept is_bits =
+          s'.stored ≡ record s.stored { bits = set s.stored.bits j bits; latest = set s.stored.latest j pair } →
+          bit_words q2.remembered ≡ bits → pair ≡ bit_number (not b) → Wrote f s s' j x
+      wrote bits pair cs s' la lc ld same me slots table spare processes who kept is_bits is_pair =
           let o : T = s.spare in
           let n : ℕ = s.processes in
           let v : Process (FourSlotSight T) = known_by s in
           let row = row_at f s own j other in
-          let new : List (List ℕ) = set s.remembered j bits in
-          let size = there s.remembered j (bit_number p.remembered.zero) (bit_number p.remembered.one ∷ []) row.bits in
-          let did = a_write o n v s.remembered new s.seat.inner.me.1 j p b x a c d h1 h2 cell (row_place f s own j other cell at)
+          let old : Stored = s.stored in
+          let new : Stored = record old { bits = set old.bits j bits; latest = set old.latest j pair } in
+          let size = there old.bits j (bit_number p.remembered.zero) (bit_number p.remembered.one ∷ []) row.bits in
+          let many : n ≤ length old.latest = own.rest.long.0 in
+          let low : j < n = within f s own j other in
+          let kept_row : IsNewRow old new j (bit_words q2.remembered) (bit_number (not b)) = record {
+            here = (
+              is_bits ∙ sym (get_set_here old.bits j bits [] size),
+              get_set_here old.latest j pair 0 (let z : j < length old.latest = omega arith in z) ∙ is_pair,
+            );
+            others = λ i ne. (get_set_else old.bits j i bits [] ne, get_set_else old.latest j i pair 0 ne);
+            long = set_long old.latest j pair;
+            said = refl;
+          } in
+          let did = a_write o n v old new s.seat.inner.me.1 j p b x a c d count h1 h2 cell (row_place f s own j other cell at)
           (within f s own j other) (apart f s own j other) own.rest (row_notes f s own j other cell at) row.opened la lc ld
-          (is_bits ∙ sym (get_set_here s.remembered j bits [] size)) (λ i ne. get_set_else s.remembered j i bits [] ne) (last_snoc o p.written x) in
+          kept_row (last_snoc o p.written x) in
           let u : Process (FourSlotSight T) = after_write (held_slots s.seat.inner.me.1) in
           let now : s'.seat.inner.me.0 ≡ Has (u ∷ []) = me ∙ ap (λ zs. Has (after_write (held_slots zs) ∷ [])) same in
           let is : u ≡ known_by s' = sym (ap process_of now) in
@@ -92,7 +107,7 @@ module _ {T : Type 0} where
           let seen = sees_reads s.spare s.processes (known_by s) (known_by s).who j column.notes (apart f s own j other) refl column.is in
           subst (λ (z : T × Reads T). IsAnswer fits rises z.0 z.1.answers z.1.told x) (λ i. ((column.opened ∙ own.opening) i, sym seen i)) h
 
-      module _ (b bit : Bool) (x : T) (a c d number : ℕ) (writes : Known T) (h1 h2 : List ℕ) where
+      module _ (b bit : Bool) (x : T) (a c d number count : ℕ) (writes : Known T) (h1 h2 : List ℕ) where
         abbrev g : ReaderNotes T
         g = (column_at f s own j other).notes
 
@@ -100,28 +115,40 @@ module _ {T : Type 0} where
         g1 = asked_by g b a
 
         abbrev g2 : ReaderNotes T
-        g2 = said_by g1 c
+        g2 = said_with g1 count c
 
         abbrev after_read : List ℕ → Process (FourSlotSight T)
         after_read held = knows Spent (knows Spent (knows Spent (known_by s) cell (Reader g1) a h1) cell (Reader g2) c h2) cell
             (Reader (got_by g2 bit x d number writes)) d held
 
-        pub has_read : (before behind cs : List (ℕ × T)) (s' : FourSlotSeat T) → (known_by s).clock < a → a < c → c < d →
+        pub has_read : (pair : ℕ) (before behind cs : List (ℕ × T)) (s' : FourSlotSeat T) → (known_by s).clock < a → a < c → c < d →
             s.seat.inner.me.1 ≡ before ++ (shift (slot_at cell) (slot_of_choice g.chosen g.at_hand.value) ++ behind) → cs ≡ before ++ behind →
             s'.seat.inner.me.0 ≡ Has (after_read (held_slots ((slot_at cell (slot_number (slot_with b bit)), x) ∷ cs)) ∷ []) →
             s'.seat.inner.me.1 ≡ (slot_at cell (slot_number (slot_with b bit)), x) ∷ cs →
             s'.seat.inner.table_id ≡ s.seat.inner.table_id → s'.spare ≡ s.spare → s'.processes ≡ s.processes → s'.who ≡ s.who →
-            s'.remembered ≡ s.remembered → HasAnswered g2 (got_by g2 bit x d number writes) x → HasRead f s s' j x
-        has_read before behind cs s' la lc ld split same me slots table spare processes who kept answered =
+            s'.stored ≡ record s.stored { said = set s.stored.said j pair } → pair ≡ bit_number b →
+            HasAnswered g2 (got_by g2 bit x d number writes) x → HasRead f s s' j x
+        has_read pair before behind cs s' la lc ld split same me slots table spare processes who kept is_pair answered =
             let o : T = s.spare in
             let n : ℕ = s.processes in
             let v : Process (FourSlotSight T) = known_by s in
             let column = column_at f s own j other in
             let took : ℕ × T = (slot_at cell (slot_number (slot_with b bit)), x) in
             let all_slots : List (ℕ × T) = took ∷ (before ++ behind) in
-            let did = a_read o n v s.remembered before behind j g b x a c d number bit writes h1 h2 cell (column_place f s own j other cell at)
-            (within f s own j other) (apart f s own j other) (subst (λ zs. IsAtRest o n v s.remembered zs) split own.rest)
-            (column_notes f s own j other cell at) column.opened la lc ld answered in
+            let old : Stored = s.stored in
+            let new : Stored = record old { said = set old.said j pair } in
+            let many : n ≤ length old.said = own.rest.long.1 in
+            let low : j < n = within f s own j other in
+            let kept_column : IsNewColumn old new j (bit_number b) = record {
+              here = get_set_here old.said j pair 0 (let z : j < length old.said = omega arith in z) ∙ is_pair;
+              others = λ i ne. get_set_else old.said j i pair 0 ne;
+              long = set_long old.said j pair;
+              bits = refl;
+              latest = refl;
+            } in
+            let did = a_read o n v old new before behind j g b x a c d number count bit writes h1 h2 cell (column_place f s own j other cell at)
+            (within f s own j other) (apart f s own j other) (subst (λ zs. IsAtRest o n v old zs) split own.rest)
+            (column_notes f s own j other cell at) column.opened la lc ld answered kept_column in
             let u : Process (FourSlotSight T) = after_read (held_slots all_slots) in
             let now : s'.seat.inner.me.0 ≡ Has (u ∷ []) = me ∙ ap (λ zs. Has (after_read (held_slots (took ∷ zs)) ∷ [])) same in
             let is : u ≡ known_by s' = sym (ap process_of now) in

@@ -1,10 +1,8 @@
 -- Each of the six control accesses is a step of a family of four-slot cells: the steps of one cell are cited as they stand.
-use Rattle.std.proofs.Common.{◌≡◌, ◌≢◌, ◌⊎◌, ℕ, ◌+◌, ◌*◌, ◌<◌, ◌≤◌, Bool, List, [], ◌∷◌, ◌++◌, map, length, set, refl, sym, ap, ◌∙◌, subst, arith, zero, suc, ⊎_elim, inl, inr}
-use mathlib.Core.Option.{none, some, some-injective, some-ne-none}
-use lib.ListN.{get_elem?}
+use Rattle.std.proofs.Common.{◌≡◌, ℕ, ◌+◌, ◌<◌, ◌≤◌, List, [], ◌∷◌, ◌++◌, length, refl, sym, subst, arith}
+use mathlib.Core.Option.{none}
 use Rattle.std.specs.Prelude.{Option, None, Some}
-use Rattle.atomic_table.specs.Table.{State, Me, step, Allows, opening}
-use Rattle.atomic_table.proofs.Lists.{at_set, at_snoc, set_again}
+use Rattle.atomic_table.specs.Table.{State, Me, step, Allows}
 use Rattle.fourslot_core.specs.declared.state.Slot.{Slot}
 use Rattle.fourslot_core.specs.declared.state.Stage.TheVariants as writer
 use Rattle.fourslot_core.specs.declared.state.ReaderStage.TheVariants as reader
@@ -12,9 +10,8 @@ use Rattle.fourslot_core.specs.Events.{bit_number, slot_number}
 use Rattle.cell_live.specs.Running.{last_or, held_slots}
 use Rattle.cell_four_slot.specs.declared.notes.WriterNotes.{WriterNotes}
 use Rattle.cell_four_slot.specs.declared.notes.ReaderNotes.{ReaderNotes}
-use Rattle.cell_live.specs.declared.sight.Sight.TheVariants.{Spent, Told, Writer, Reader, Both}
-use Rattle.cell_four_slot.specs.Rule.{FourSlotRule}
-use Rattle.cell_four_slot.specs.Steps.{FourSlotSight, first_sight, begins, stores, finishes, asks, says, takes, slot_of_choice}
+use Rattle.cell_live.specs.declared.sight.Sight.TheVariants.{Spent, Writer, Reader}
+use Rattle.cell_four_slot.specs.Steps.{FourSlotSight, begins, stores, finishes_counting, asks, says_counting, takes, slot_of_choice}
 use Rattle.family_four_slot.specs.declared.notes.Process.{Process}
 use Rattle.family_four_slot.specs.declared.notes.View.{View}
 use Rattle.family_four_slot.specs.declared.notes.View.TheVariants.{Has}
@@ -67,15 +64,15 @@ module _ {T : Type 0} (fits : T → Type 0) (rises : T → T → Type 0) (o : T)
         let y = stores_at fits rises o s r.0 t (omega arith) 4 id (Writer p, cs) i new known.1 h.0 h.1 h.2 h.3 h.4 in
         (y.0, y.1, y.3, y.4, y.5, (y.6, y.2))
 
-    finishes_by : (id : ℕ) (p : WriterNotes T) (new : ℕ) → p.stage ≡ writer.W4 → new ≡ bit_number p.slot.pair →
-        Cell id (Writer p, []) 0 (λ _. new) (λ t _. When (finishes (step 4 0 new 0 none) (Writer p, [])) t new)
-    finishes_by id p new stage to now t lt s r at =
+    finishes_by : (count : ℕ) → count ≤ 1 → (id : ℕ) (p : WriterNotes T) (new : ℕ) → p.stage ≡ writer.W4 → new ≡ bit_number p.slot.pair →
+        Cell id (Writer p, []) 0 (λ _. new) (λ t _. When (finishes_counting count (step 4 0 new 0 none) (Writer p, [])) t new)
+    finishes_by count few id p new stage to now t lt s r at =
         let m : r.0.now ≤ now = r.1 in
         let known = r.0.each_seat id (Writer p) at in
         let view : V = Writer p in
         let h = subst (λ (q : WriterNotes T). (view ≡ Writer q) × (q.stage ≡ writer.W4) × (new ≡ bit_number q.slot.pair))
         known.0 (refl, stage, to) in
-        let y = finishes_at fits rises o s r.0 t (omega arith) 4 id (Writer p, []) new known.1 h.0 h.1 h.2 in
+        let y = finishes_at fits rises o count few s r.0 t (omega arith) 4 id (Writer p, []) new known.1 h.0 h.1 h.2 in
         (y.0, y.1, y.3, y.4, y.5, (y.6, y.2))
 
     asks_by : (id : ℕ) (g : ReaderNotes T) → g.stage ≡ reader.R5 → Cell id (Reader g, []) 0 (λ m. m) (When (asks (step 4 0 0 0 none) (Reader g, [])))
@@ -87,17 +84,17 @@ module _ {T : Type 0} (fits : T → Type 0) (rises : T → T → Type 0) (o : T)
         let y = asks_at fits rises o s r.0 t (omega arith) 4 id (Reader g, []) known.1 h.0 h.1 in
         (y.0, y.1, y.3, y.4, y.5, (y.6, y.2))
 
-    says_by : (id : ℕ) (g : ReaderNotes T) (new : ℕ) → g.stage ≡ reader.R1 → new ≡ bit_number g.slot.pair →
+    says_by : (count : ℕ) → count ≤ 1 → (id : ℕ) (g : ReaderNotes T) (new : ℕ) → g.stage ≡ reader.R1 → new ≡ bit_number g.slot.pair →
         Cell id (Reader g, slot_of_choice g.chosen g.at_hand.value) 1 (λ _. new)
-        (λ t _. When (says (step 4 1 new 0 none) (Reader g, slot_of_choice g.chosen g.at_hand.value)) t new)
-    says_by id g new stage to now t lt s r at =
+        (λ t _. When (says_counting count (step 4 1 new 0 none) (Reader g, slot_of_choice g.chosen g.at_hand.value)) t new)
+    says_by count few id g new stage to now t lt s r at =
         let m : r.0.now ≤ now = r.1 in
         let known = r.0.each_seat id (Reader g) at in
         let view : V = Reader g in
         let cs : List (ℕ × T) = slot_of_choice g.chosen g.at_hand.value in
         let h = subst (λ (q : ReaderNotes T). (view ≡ Reader q) × (cs ≡ slot_of_choice q.chosen q.at_hand.value) × (q.stage ≡ reader.R1)
         × (new ≡ bit_number q.slot.pair)) known.0 (refl, refl, stage, to) in
-        let y = says_at fits rises o s r.0 t (omega arith) 4 id (Reader g, cs) new known.1 h.0 h.1 h.2 h.3 in
+        let y = says_at fits rises o count few s r.0 t (omega arith) 4 id (Reader g, cs) new known.1 h.0 h.1 h.2 h.3 in
         (y.0, y.1, y.3, y.4, y.5, (y.6, y.2))
 
     takes_by : ((a : T) → rises a a) → ((a b c : T) → rises a b → rises b c → rises a c) → (id : ℕ) (g : ReaderNotes T) (i : ℕ) →
@@ -150,14 +147,14 @@ module _ {T : Type 0} (fits : T → Type 0) (rises : T → T → Type 0) (o : T)
         (let l = bit_low p.slot.pair in let z : i < 4 = omega arith in z) lk has (slot_low p.slot, tt) is held
         (stores_by v.who p i new stage word to)
 
-    pub family_finishes : (slots id k new : ℕ) (v : Process V) (behind : List (ℕ × T)) (p : WriterNotes T) →
+    pub family_finishes : (count : ℕ) → count ≤ 1 → (slots id k new : ℕ) (v : Process V) (behind : List (ℕ × T)) (p : WriterNotes T) →
         k < (four_slots n).cells → k < length v.parts → of_cell Spent k v.parts ≡ Writer p → v.held ≡ held_slots behind →
         p.stage ≡ writer.W4 → new ≡ bit_number p.slot.pair
         → Allows Family slots id (Has (v ∷ []), behind) (word_at k 0) (λ _. new)
-        (Says k v [] behind (λ t _. When (finishes (step 4 0 new 0 none) (of_cell Spent k v.parts, [])) t new))
-    family_finishes slots id k new v behind p lk has is held stage to =
-        allows slots id k 0 v [] [] behind (λ _. new) (λ z t _. When (finishes (step 4 0 new 0 none) (z, [])) t new) (Writer p)
-        (let z : 0 < 4 = omega arith in z) lk has tt is held (finishes_by v.who p new stage to)
+        (Says k v [] behind (λ t _. When (finishes_counting count (step 4 0 new 0 none) (of_cell Spent k v.parts, [])) t new))
+    family_finishes count few slots id k new v behind p lk has is held stage to =
+        allows slots id k 0 v [] [] behind (λ _. new) (λ z t _. When (finishes_counting count (step 4 0 new 0 none) (z, [])) t new) (Writer p)
+        (let z : 0 < 4 = omega arith in z) lk has tt is held (finishes_by count few v.who p new stage to)
 
     pub family_asks : (slots id k : ℕ) (v : Process V) (behind : List (ℕ × T)) (g : ReaderNotes T) →
         k < (four_slots n).cells → k < length v.parts → of_cell Spent k v.parts ≡ Reader g → v.held ≡ held_slots behind → g.stage ≡ reader.R5
@@ -172,17 +169,17 @@ module _ {T : Type 0} (fits : T → Type 0) (rises : T → T → Type 0) (o : T)
     inside_choice (Some k) x = (slot_low k, tt)
 
     -- the slot of the read before lies among those of other cells
-    pub family_says : (slots id k new : ℕ) (v : Process V) (before behind : List (ℕ × T)) (g : ReaderNotes T) →
+    pub family_says : (count : ℕ) → count ≤ 1 → (slots id k new : ℕ) (v : Process V) (before behind : List (ℕ × T)) (g : ReaderNotes T) →
         k < (four_slots n).cells → k < length v.parts → of_cell Spent k v.parts ≡ Reader g →
         v.held ≡ held_slots (before ++ (shift (slot_at k) (slot_of_choice g.chosen g.at_hand.value) ++ behind)) → g.stage ≡ reader.R1 →
         new ≡ bit_number g.slot.pair
         → Allows Family slots id (Has (v ∷ []), before ++ (shift (slot_at k) (slot_of_choice g.chosen g.at_hand.value) ++ behind)) (word_at k 1)
         (λ _. new) (Says k v before behind
-        (λ t _. When (says (step 4 1 new 0 none) (of_cell Spent k v.parts, slot_of_choice g.chosen g.at_hand.value)) t new))
-    family_says slots id k new v before behind g lk has is held stage to =
+        (λ t _. When (says_counting count (step 4 1 new 0 none) (of_cell Spent k v.parts, slot_of_choice g.chosen g.at_hand.value)) t new))
+    family_says count few slots id k new v before behind g lk has is held stage to =
         let cs : List (ℕ × T) = slot_of_choice g.chosen g.at_hand.value in
-        allows slots id k 1 v before cs behind (λ _. new) (λ z t _. When (says (step 4 1 new 0 none) (z, cs)) t new) (Reader g)
-        (let z : 1 < 4 = omega arith in z) lk has (inside_choice g.chosen g.at_hand.value) is held (says_by v.who g new stage to)
+        allows slots id k 1 v before cs behind (λ _. new) (λ z t _. When (says_counting count (step 4 1 new 0 none) (z, cs)) t new) (Reader g)
+        (let z : 1 < 4 = omega arith in z) lk has (inside_choice g.chosen g.at_hand.value) is held (says_by count few v.who g new stage to)
 
     pub family_takes : ((a : T) → rises a a) → ((a b c : T) → rises a b → rises b c → rises a c) → (slots id k i : ℕ) (v : Process V)
         (behind : List (ℕ × T)) (g : ReaderNotes T) → k < (four_slots n).cells → k < length v.parts → of_cell Spent k v.parts ≡ Reader g →

@@ -1,16 +1,13 @@
 -- What the steps of a call need, of a seat that is one of the family's: each step leaves the notes with which the next one goes on.
-use Rattle.std.proofs.Common.{◌≡◌, ◌≢◌, ℕ, zero, suc, ◌+◌, ◌-◌, ◌*◌, ◌<◌, Bool, List, [], ◌∷◌, ◌++◌, length, get_or, set, refl, sym, ap, ◌∙◌, subst, arith}
+use Rattle.std.proofs.Common.{◌≡◌, ◌≢◌, ℕ, zero, suc, ◌+◌, ◌*◌, ◌<◌, Bool, List, [], ◌∷◌, length, get_or, set, refl, sym, ap, ◌∙◌, subst, arith}
 use Rattle.atomic_table.specs.Table.{Me}
-use Rattle.fourslot_core.specs.declared.state.Stage.TheVariants as writer
-use Rattle.fourslot_core.specs.declared.state.ReaderStage.TheVariants as reader
 use Rattle.fourslot_core.specs.Events.{bit_number}
-use Rattle.cell_live.specs.Running.{held_slots, last_or}
+use Rattle.cell_live.specs.Running.{held_slots}
 use Rattle.cell_four_slot.proofs.Slots.{bit_low}
 use Rattle.cell_four_slot.specs.declared.notes.WriterNotes.{WriterNotes}
 use Rattle.cell_four_slot.specs.declared.notes.ReaderNotes.{ReaderNotes}
 use Rattle.cell_live.specs.declared.sight.Sight.TheVariants.{Spent, Writer, Reader}
 use Rattle.cell_four_slot.specs.Steps.{FourSlotSight}
-use Rattle.family_live.specs.Accesses.{IsAccess, IsRead, IsWrite, Keeps, KeepsOthers}
 use Rattle.family_four_slot.specs.declared.family.FourSlotFamily.{FourSlotFamily}
 use Rattle.family_four_slot.specs.declared.family.FourSlotSeat.{FourSlotSeat}
 use Rattle.family_four_slot.specs.declared.notes.Process.{Process}
@@ -18,10 +15,10 @@ use Rattle.family_four_slot.specs.declared.notes.View.{View}
 use Rattle.family_four_slot.specs.declared.notes.View.TheVariants.{Has}
 use Rattle.family_four_slot.specs.Family.{of_cell, knows}
 use Rattle.family_four_slot.specs.Places.{place, four_slots, word_at}
-use Rattle.family_four_slot.specs.Seated.{known_by, processes_of, number_of, clock_of, times_of, writes_of, reads_of, IsSeat}
+use Rattle.family_four_slot.specs.Seated.{known_by, processes_of, number_of, writes_of, IsSeat}
 use Rattle.family_four_slot.specs.Steps.{After}
 use Rattle.family_four_slot.specs.Tables.{HasProcess, HasWriter, HasReader}
-use Rattle.family_four_slot.specs.Words.{process_of, writes_to, reads_from, IsAtRest, IsRow, IsColumn}
+use Rattle.family_four_slot.specs.Words.{process_of, IsAtRest, IsRow, IsColumn}
 use Rattle.family_four_slot.proofs.Calls.{sees_writes}
 use Rattle.family_four_slot.proofs.Places.{place_in, bit_word}
 use Rattle.family_four_slot.proofs.Slices.{get_set_here, set_long}
@@ -74,11 +71,12 @@ module _ {T : Type 0} where
     pub apart : j ≢ (known_by s).who
     apart = λ e. other.1 (e ∙ own.who)
 
-    abbrev pub row_at : IsRow s.spare (of_cell Spent (place s.processes (known_by s).who j) (known_by s).parts) (get_or s.remembered j [])
+    abbrev pub row_at : IsRow s.spare (of_cell Spent (place s.processes (known_by s).who j) (known_by s).parts) (get_or s.stored.bits j [])
+        (get_or s.stored.latest j 0)
     row_at = own.rest.row j within apart
 
     abbrev pub column_at : IsColumn s.spare (place s.processes j (known_by s).who) (of_cell Spent (place s.processes j (known_by s).who) (known_by s).parts)
-        s.seat.inner.me.1
+        (get_or s.stored.said j 0) s.seat.inner.me.1
     column_at = own.rest.column j within apart
 
     -- the cell that the seat's process writes, by its number
@@ -129,7 +127,7 @@ module _ {T : Type 0} where
     -- the seat after a call
     pub seat_after : (s' : FourSlotSeat T) (u : Process (FourSlotSight T)) (cs : List (ℕ × T)) → s'.seat.inner.table_id ≡ s.seat.inner.table_id → s'.spare ≡ s.spare →
         s'.processes ≡ s.processes → s'.who ≡ s.who → s'.seat.inner.me.0 ≡ Has (u ∷ []) → s'.seat.inner.me.1 ≡ cs → u.who ≡ (known_by s).who →
-        IsAtRest s.spare s.processes u s'.remembered cs → IsSeat f s'
+        IsAtRest s.spare s.processes u s'.stored cs → IsSeat f s'
     seat_after s' u cs table spare processes who me slots same rest =
         let is : u ≡ known_by s' = sym (ap process_of me) in record {
           table = table ∙ own.table;
@@ -137,6 +135,6 @@ module _ {T : Type 0} where
           processes = processes ∙ own.processes;
           one = me ∙ ap (λ z. Has (z ∷ [])) is;
           who = ap (λ z. z.who) (sym is) ∙ (same ∙ (own.who ∙ sym who));
-          rest = subst (λ (z : T × ℕ × Process (FourSlotSight T) × List (ℕ × T)). IsAtRest z.0 z.1 z.2 s'.remembered z.3)
+          rest = subst (λ (z : T × ℕ × Process (FourSlotSight T) × List (ℕ × T)). IsAtRest z.0 z.1 z.2 s'.stored z.3)
               (λ i. (sym spare i, sym processes i, is i, sym slots i)) rest;
         }

@@ -1,5 +1,5 @@
 -- A process learns a receipt: it knows of a later time, and was told one record more by the sender. All else stays.
-use Rattle.std.proofs.Common.{◌≡◌, ◌≢◌, ◌⊎◌, ℕ, zero, suc, ◌+◌, ◌-◌, ◌*◌, ◌<◌, ◌≤◌, nat_eq, cond, List, [], ◌∷◌, ◌++◌, length, get_or, refl, sym, ap, ◌∙◌, subst, arith, ⊎_elim, mul-le-mul_right}
+use Rattle.std.proofs.Common.{◌≡◌, ◌≢◌, ℕ, zero, suc, ◌+◌, ◌*◌, ◌<◌, ◌≤◌, cond, List, [], ◌∷◌, ◌++◌, length, get_or, refl, sym, ap, ◌∙◌, subst, arith, ⊎_elim, mul-le-mul_right}
 use Rattle.std.proofs.lemmas.Bool.{cases_eq, cases_lt}
 use Rattle.fourslot_core.specs.declared.state.ReaderStage.TheVariants as reader
 use Rattle.cell_live.specs.Running.{snap}
@@ -9,18 +9,19 @@ use Rattle.cell_four_slot.specs.declared.notes.WriterNotes.{WriterNotes}
 use Rattle.cell_four_slot.specs.declared.notes.ReaderNotes.{ReaderNotes}
 use Rattle.cell_live.specs.declared.sight.Sight.TheVariants.{Spent, Told, Writer, Reader, Both}
 use Rattle.cell_live.specs.Intervals.{heard_at}
-use Rattle.cell_four_slot.specs.Steps.{FourSlotSight, first_writer, first_reader, receipt_for, hears_of}
+use Rattle.cell_four_slot.specs.Steps.{FourSlotSight, first_writer, first_reader, receipt_for, hears_of, word_said}
 use Rattle.family_live.specs.Accesses.{IsHeardRead, Keeps, KeepsOthers, Reads}
+use Rattle.family_four_slot.specs.declared.family.Stored.{Stored}
 use Rattle.family_four_slot.specs.declared.notes.Process.{Process}
 use Rattle.family_four_slot.specs.declared.notes.Receipt.{Receipt}
 use Rattle.family_four_slot.specs.Family.{of_cell, heard_parts, heard_by}
 use Rattle.family_four_slot.specs.FourSlots.{Idle}
 use Rattle.family_four_slot.specs.Places.{place, writer_of}
-use Rattle.family_four_slot.specs.Words.{writes_to, reads_from, HasSlots, IsAtRest, IsRow, IsColumn}
+use Rattle.family_four_slot.specs.Words.{writes_to, reads_from, HasSlots, IsAtRest, IsColumn}
 use Rattle.family_four_slot.proofs.Calls.{sees_reads}
 use Rattle.family_four_slot.proofs.Cells.{deaf, mute}
 use Rattle.family_four_slot.proofs.Frames.{same_number}
-use Rattle.family_four_slot.proofs.Places.{place_in, writer_there}
+use Rattle.family_four_slot.proofs.Places.{writer_there}
 use Rattle.family_four_slot.proofs.Receipts.{heard_cell}
 use Rattle.family_four_slot.proofs.Seats.{differ}
 
@@ -68,21 +69,22 @@ module _ {T : Type 0} where
   writes_heard d (Writer p) y = refl
   writes_heard d (Both p g) y = refl
 
-  column_heard : (o : T) (k : ℕ) (g : ReaderNotes T) (y : FourSlotSight T) (cs : List (ℕ × T)) → g.stage ≡ reader.R5 → g.opening.value ≡ o → HasSlots k g cs →
-      IsColumn o k (hears_of (Reader g) y) cs
-  column_heard o k g (Told x) cs i p s = record {
+  column_heard : (o : T) (k : ℕ) (g : ReaderNotes T) (y : FourSlotSight T) (said : ℕ) (cs : List (ℕ × T)) → g.stage ≡ reader.R5 → g.opening.value ≡ o →
+      HasSlots k g cs → said ≡ word_said g.chosen → IsColumn o k (hears_of (Reader g) y) said cs
+  column_heard o k g (Told x) said cs i p s w = record {
     notes = record g { told = g.told ++ x.value.item ∷ []; times = heard_at g.times x.value.time };
     is = refl;
     idle = i;
     opened = p;
     slots = s;
+    stored = w;
   }
-  column_heard o k g Spent cs i p s = record { notes = g; is = refl; idle = i; opened = p; slots = s }
-  column_heard o k g (Writer q) cs i p s = record { notes = g; is = refl; idle = i; opened = p; slots = s }
-  column_heard o k g (Reader q) cs i p s = record { notes = g; is = refl; idle = i; opened = p; slots = s }
-  column_heard o k g (Both q h) cs i p s = record { notes = g; is = refl; idle = i; opened = p; slots = s }
+  column_heard o k g Spent said cs i p s w = record { notes = g; is = refl; idle = i; opened = p; slots = s; stored = w }
+  column_heard o k g (Writer q) said cs i p s w = record { notes = g; is = refl; idle = i; opened = p; slots = s; stored = w }
+  column_heard o k g (Reader q) said cs i p s w = record { notes = g; is = refl; idle = i; opened = p; slots = s; stored = w }
+  column_heard o k g (Both q h) said cs i p s w = record { notes = g; is = refl; idle = i; opened = p; slots = s; stored = w }
 
-  module _ (o : T) (n : ℕ) (v : Process (FourSlotSight T)) (r : Receipt (FourSlotSight T)) (kept : List (List ℕ)) (cs : List (ℕ × T)) (rest : IsAtRest o n v kept cs) where
+  module _ (o : T) (n : ℕ) (v : Process (FourSlotSight T)) (r : Receipt (FourSlotSight T)) (kept : Stored) (cs : List (ℕ × T)) (rest : IsAtRest o n v kept cs) where
     abbrev u : Process (FourSlotSight T)
     u = heard_by hears_of v r
 
@@ -96,6 +98,7 @@ module _ {T : Type 0} where
       held = rest.held;
       idle = λ k. subst Idle (sym (part k)) (idle_heard (of_cell Spent k v.parts) (of_cell Spent k r.parts) (rest.idle k));
       quiet = λ k nw. ap receipt_for (part k) ∙ quiet_heard (of_cell Spent k v.parts) (of_cell Spent k r.parts) (rest.quiet k nw);
+      long = rest.long;
       row = λ j lj ne.
           let k : ℕ = place n v.who j in
           let w = rest.row j lj ne in record {
@@ -105,12 +108,13 @@ module _ {T : Type 0} where
             opened = w.opened;
             newest = w.newest;
             bits = w.bits;
+            shown = w.shown;
           };
       column = λ j lj ne.
           let k : ℕ = place n j v.who in
           let g = rest.column j lj ne in
-          subst (λ z. IsColumn o k z cs) (sym (part k ∙ ap (λ z. hears_of z (of_cell Spent k r.parts)) g.is))
-          (column_heard o k g.notes (of_cell Spent k r.parts) cs g.idle g.opened g.slots);
+          subst (λ z. IsColumn o k z (get_or kept.said j 0) cs) (sym (part k ∙ ap (λ z. hears_of z (of_cell Spent k r.parts)) g.is))
+          (column_heard o k g.notes (of_cell Spent k r.parts) (get_or kept.said j 0) cs g.idle g.opened g.slots g.stored);
     }
 
     pub writes_stay : Keeps (writes_to o n v) (writes_to o n u)

@@ -9,10 +9,12 @@ pub mod Gathering
 pub mod Going
 pub mod Held
 pub mod Learning
+pub mod Merged
 pub mod Parting
 pub mod Places
 pub mod Receipts
 pub mod Rests
+pub mod Rows
 pub mod Seats
 pub mod Slices
 pub mod Starts

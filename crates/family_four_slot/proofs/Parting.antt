@@ -1,13 +1,11 @@
 -- The seats of a new family, one for each process, and the one that has all of them at the end.
-use Rattle.std.proofs.Common.{◌≡◌, ◌≢◌, ◌⊎◌, ℕ, zero, suc, ◌+◌, ◌-◌, ◌*◌, ◌<◌, ◌≤◌, Bool, true, false, nat_eq, cond, List, [], ◌∷◌, ◌++◌, length, map, slice_get, Some, get_or, replicate, refl, sym, ap, ◌∙◌, subst, arith, ⊎_elim, inl, inr}
-use Rattle.std.proofs.lemmas.Bool.{cases_eq, cases_lt}
+use Rattle.std.proofs.Common.{◌≡◌, ◌≢◌, ◌⊎◌, ℕ, zero, suc, ◌+◌, ◌-◌, ◌*◌, ◌<◌, ◌≤◌, Bool, true, false, nat_eq, cond, List, [], ◌∷◌, ◌++◌, length, slice_get, Some, get_or, replicate, refl, sym, ap, ◌∙◌, subst, arith, ⊎_elim, inl, inr}
+use Rattle.std.proofs.lemmas.Bool.{cases_lt}
 use Rattle.std.proofs.lemmas.List.{length_push}
-use mathlib.Core.Option.{some, none}
+use mathlib.Core.Option.{some}
 use lib.ListN.{get_elem?}
 use Rattle.atomic_table.specs.Seated.{TableId}
 use Rattle.history_core.specs.Schedules.{positions}
-use Rattle.fourslot_core.specs.declared.state.Stage.TheVariants as writer
-use Rattle.fourslot_core.specs.declared.state.ReaderStage.TheVariants as reader
 use Rattle.cell_live.specs.Sights.{writer_or, reader_or}
 use Rattle.cell_four_slot.specs.declared.notes.WriterNotes.{WriterNotes}
 use Rattle.cell_four_slot.specs.declared.notes.ReaderNotes.{ReaderNotes}
@@ -18,6 +16,7 @@ use Rattle.family_live.specs.Ends.{Each, EachTwo, IsSchedule, IsAtomicCell}
 use Rattle.family_four_slot.specs.declared.family.FourSlotFamily.{FourSlotFamily}
 use Rattle.family_four_slot.specs.declared.family.FourSlotSeat.{FourSlotSeat}
 use Rattle.family_four_slot.specs.declared.table.FamilySeat.{FamilySeat}
+use Rattle.family_four_slot.specs.declared.family.Stored.{Stored}
 use Rattle.family_four_slot.specs.declared.notes.Process.{Process}
 use Rattle.family_four_slot.specs.declared.notes.View.TheVariants.{Has}
 use Rattle.family_four_slot.specs.Family.{of_cell}
@@ -26,7 +25,7 @@ use Rattle.family_four_slot.specs.Places.{place, writer_of, reader_of}
 use Rattle.family_four_slot.specs.Seats.{all_but_first, first_of}
 use Rattle.family_four_slot.specs.Seated.{known_by, opening_of, processes_of, number_of, clock_of, times_of, writes_of, reads_of, IsSeat, IsFirst}
 use Rattle.family_four_slot.specs.Tables.{IsEnded}
-use Rattle.family_four_slot.specs.Words.{process_of, writes_to, reads_from, IsAtRest, IsRow, IsColumn}
+use Rattle.family_four_slot.specs.Words.{process_of, writes_to, reads_from, IsAtRest}
 use Rattle.family_four_slot.proofs.Calls.{sees_writes, sees_reads}
 use Rattle.family_four_slot.proofs.Frames.{same_number}
 use Rattle.family_four_slot.proofs.Gathering.{each_more}
@@ -38,10 +37,14 @@ use Rattle.family_four_slot.proofs.Starts.{upto_long, upto_get}
 pub upto_next : {A : Type 0} (f : ℕ → A) (i n : ℕ) → i < n → upto f i (n - i) ≡ f i ∷ upto f (i + 1) (n - (i + 1))
 upto_next f i n l = ap (upto f i) (let e : n - i ≡ suc (n - (i + 1)) = omega arith in e)
 
-bits_at : (m j : ℕ) (x : List ℕ) → j < m → get_or (replicate m x) j [] ≡ x
-bits_at zero j x l = absurd (omega arith)
-bits_at (suc m) zero x l = refl
-bits_at (suc m) (suc j) x l = bits_at m j x (omega arith)
+all_same : {A : Type 0} (m j : ℕ) (x d : A) → j < m → get_or (replicate m x) j d ≡ x
+all_same zero j x d l = absurd (omega arith)
+all_same (suc m) zero x d l = refl
+all_same (suc m) (suc j) x d l = all_same m j x d (omega arith)
+
+-- what a process remembers that has stored nothing
+abbrev pub unstored : Stored
+unstored = record { bits = replicate 16 (0 ∷ 0 ∷ []); latest = replicate 16 0; said = replicate 16 2 }
 
 module _ {T : Type 0} where
   -- the seats of the first processes were parted off
@@ -55,7 +58,7 @@ module _ {T : Type 0} where
   pub dealt_more : (id : TableId) (n : ℕ) (o : T) (who : ℕ) (rest rest' : FamilySeat T) (seats : List (FourSlotSeat T)) (s : FourSlotSeat T) → who < n →
       DealtTo id n o who rest seats → rest'.inner.table_id ≡ rest.inner.table_id →
       rest'.inner.me ≡ (all_but_first rest.inner.me.0, rest.inner.me.1) → s.seat.inner.table_id ≡ rest.inner.table_id →
-      s.seat.inner.me ≡ (first_of rest.inner.me.0, []) → s.spare ≡ o → s.processes ≡ n → s.who ≡ who → s.remembered ≡ replicate 16 (0 ∷ 0 ∷ []) →
+      s.seat.inner.me ≡ (first_of rest.inner.me.0, []) → s.spare ≡ o → s.processes ≡ n → s.who ≡ who → s.stored ≡ unstored →
       DealtTo id n o (who + 1) rest' (seats ++ s ∷ [])
   dealt_more id n o who rest rest' seats s l h table me mine my opens many number bits =
       let now : rest.inner.me ≡ (Has (first_process o n who ∷ upto (first_process o n) (who + 1) (n - (who + 1))), []) =
@@ -69,7 +72,10 @@ module _ {T : Type 0} where
           processes = many;
           who = number;
           me = my ∙ ap (λ z. (first_of z.0, [])) now;
-          remembered = λ j lj. ap (λ xs. get_or xs j []) bits ∙ bits_at 16 j (0 ∷ 0 ∷ []) lj;
+          bits = λ j lj. ap (λ (z : Stored). get_or z.bits j []) bits ∙ all_same 16 j (0 ∷ 0 ∷ []) [] lj;
+          latest = λ j lj. ap (λ (z : Stored). get_or z.latest j 0) bits ∙ all_same 16 j 0 0 lj;
+          said = λ j lj. ap (λ (z : Stored). get_or z.said j 0) bits ∙ all_same 16 j 2 0 lj;
+          long = (ap (λ (z : Stored). length z.latest) bits, ap (λ (z : Stored). length z.said) bits);
         }));
       }
 
@@ -106,9 +112,12 @@ module _ {T : Type 0} where
     abbrev v : Process (FourSlotSight T)
     v = first_process o n i
 
-    pub first_rest : (kept : List (List ℕ)) → i < n → n ≤ 16 → ((j : ℕ) → j < 16 → get_or kept j [] ≡ 0 ∷ 0 ∷ []) → IsAtRest o n v kept []
-    first_rest kept li most bits = record {
+    pub first_rest : (kept : Stored) → i < n → n ≤ 16 → ((j : ℕ) → j < 16 → get_or kept.bits j [] ≡ 0 ∷ 0 ∷ []) →
+        ((j : ℕ) → j < 16 → get_or kept.latest j 0 ≡ 0) → ((j : ℕ) → j < 16 → get_or kept.said j 0 ≡ 2) →
+        (length kept.latest ≡ 16) × (length kept.said ≡ 16) → IsAtRest o n v kept []
+    first_rest kept li most bits latest said long = record {
       inside = li;
+      long = (subst (λ z. n ≤ z) (sym long.0) most, subst (λ z. n ≤ z) (sym long.1) most);
       parts = upto_long (first_part o n i) 0 (n * n);
       held = refl;
       idle = λ k. first_any Idle o n i k refl refl tt;
@@ -129,6 +138,7 @@ module _ {T : Type 0} where
             opened = refl;
             newest = refl;
             bits = sym (bits j (omega arith));
+            shown = latest j (omega arith);
           };
       column = λ j lj ne.
           let k : ℕ = place n j i in
@@ -143,6 +153,7 @@ module _ {T : Type 0} where
             idle = refl;
             opened = refl;
             slots = ([], [], refl);
+            stored = said j (omega arith);
           };
     } where
       silent : (b : Bool) → receipt_for (cond b (Reader (first_reader o)) Spent) ≡ Spent
@@ -169,7 +180,7 @@ module _ {T : Type 0} where
       (IsSeat f s × (number_of s ≡ i)) × IsUnused (clock_of s) (times_of s) (writes_of s) (reads_of s)
   first_seat f n o i s opens many li most h =
       let is : known_by s ≡ first_process o n i = ap (λ z. process_of z.0) h.me in
-      let rest = first_rest o n i s.remembered li most h.remembered in (
+      let rest = first_rest o n i s.stored li most h.bits h.latest h.said h.long in (
         (
           record {
             table = h.table;
@@ -177,7 +188,7 @@ module _ {T : Type 0} where
             processes = h.processes ∙ sym many;
             one = ap (λ z. z.0) h.me ∙ ap (λ z. Has (z ∷ [])) (sym is);
             who = ap (λ z. z.who) is ∙ sym h.who;
-            rest = subst (λ (z : T × ℕ × Process (FourSlotSight T) × List (ℕ × T)). IsAtRest z.0 z.1 z.2 s.remembered z.3)
+            rest = subst (λ (z : T × ℕ × Process (FourSlotSight T) × List (ℕ × T)). IsAtRest z.0 z.1 z.2 s.stored z.3)
                 (λ k. (sym h.opening k, sym h.processes k, sym is k, (sym h.me k).1)) rest;
           },
           h.who,

@@ -1,25 +1,25 @@
 -- Between two calls: a call on one cell leaves what the process knows of each other cell, and the slots that its seat has of them.
-use Rattle.std.proofs.Common.{◌≡◌, ◌≢◌, ◌⊎◌, ℕ, zero, suc, ◌+◌, ◌*◌, ◌-◌, ◌<◌, ◌≤◌, List, [], ◌∷◌, ◌++◌, map, length, set, get_or, refl, sym, ap, ◌∙◌, subst, arith, ⊎_elim, inl, inr}
+use Rattle.std.proofs.Common.{◌≡◌, ◌≢◌, ℕ, ◌<◌, ◌≤◌, List, [], ◌∷◌, ◌++◌, length, get_or, refl, sym, ap, ◌∙◌, subst, arith, ⊎_elim}
 use Rattle.std.proofs.lemmas.Bool.{cases_eq}
 use Rattle.std.specs.Prelude.{Option, None, Some}
 use Rattle.fourslot_core.specs.declared.state.Slot.{Slot}
 use Rattle.fourslot_core.specs.declared.state.Stage.TheVariants as writer
 use Rattle.fourslot_core.specs.declared.state.ReaderStage.TheVariants as reader
-use Rattle.fourslot_core.specs.Events.{slot_number}
+use Rattle.fourslot_core.specs.Events.{bit_number, slot_number}
 use Rattle.cell_live.specs.Running.{last_or, held_slots}
-use Rattle.cell_live.specs.Sights.{writer_or, reader_or}
 use Rattle.cell_four_slot.specs.declared.notes.WriterNotes.{WriterNotes}
 use Rattle.cell_four_slot.specs.declared.notes.ReaderNotes.{ReaderNotes}
 use Rattle.cell_live.specs.declared.sight.Sight.TheVariants.{Spent, Writer, Reader}
-use Rattle.cell_four_slot.specs.Steps.{FourSlotSight, first_writer, first_reader, bit_words, slot_of_choice, receipt_for}
+use Rattle.cell_four_slot.specs.Steps.{FourSlotSight, bit_words, slot_of_choice, word_said, receipt_for}
 use Rattle.cell_four_slot.proofs.Slots.{slot_low}
+use Rattle.family_four_slot.specs.declared.family.Stored.{Stored}
 use Rattle.family_four_slot.specs.declared.notes.Process.{Process}
 use Rattle.family_four_slot.specs.Layouts.{shift}
-use Rattle.family_four_slot.specs.Places.{place, slot_at, four_slots, writer_of}
+use Rattle.family_four_slot.specs.Places.{place, slot_at, writer_of}
 use Rattle.family_four_slot.specs.Family.{of_cell, knows}
 use Rattle.family_four_slot.specs.FourSlots.{Idle}
 use Rattle.family_four_slot.specs.Words.{IsAtRest, IsRow, IsColumn, HasSlots}
-use Rattle.family_four_slot.proofs.Places.{place_in, place_apart, is_layout, writer_there}
+use Rattle.family_four_slot.proofs.Places.{place_apart, is_layout, writer_there}
 use Rattle.family_four_slot.proofs.Slices.{get_set_here, get_set_else, set_long}
 
 -- one cell's notes change, and nothing else of what is known of cells
@@ -28,6 +28,20 @@ pub record IsChanged {V : Type 0} (blank : V) (v u : Process V) (k : ℕ) (w : V
   pub long : length u.parts ≡ length v.parts
   pub here : of_cell blank k u.parts ≡ w
   pub others : (j : ℕ) → j ≢ k → of_cell blank j u.parts ≡ of_cell blank j v.parts
+
+-- a seat remembers what it stored last in the cell to process j, or in the one from it, and of the others what it did
+pub record IsNewRow (kept kept' : Stored) (j : ℕ) (bits : List ℕ) (latest : ℕ) : Type 0 where
+  pub here : (bits ≡ get_or kept'.bits j []) × (get_or kept'.latest j 0 ≡ latest)
+  pub others : (i : ℕ) → i ≢ j → (get_or kept'.bits i [] ≡ get_or kept.bits i []) × (get_or kept'.latest i 0 ≡ get_or kept.latest i 0)
+  pub long : length kept'.latest ≡ length kept.latest
+  pub said : kept'.said ≡ kept.said
+
+pub record IsNewColumn (kept kept' : Stored) (j said : ℕ) : Type 0 where
+  pub here : get_or kept'.said j 0 ≡ said
+  pub others : (i : ℕ) → i ≢ j → get_or kept'.said i 0 ≡ get_or kept.said i 0
+  pub long : length kept'.said ≡ length kept.said
+  pub bits : kept'.bits ≡ kept.bits
+  pub latest : kept'.latest ≡ kept.latest
 
 module _ {V : Type 0} (blank : V) where
   pub changed : (v : Process V) (k t : ℕ) (w : V) (held : List ℕ) → k < length v.parts → IsChanged blank v (knows blank v k w t held) k w
@@ -95,11 +109,11 @@ module _ {T : Type 0} (o : T) (n : ℕ) where
   V = FourSlotSight T
 
   -- a process at rest, after a write to process j
-  pub rest_write : (v u : Process V) (kept kept' : List (List ℕ)) (cs : List (ℕ × T)) (j : ℕ) (p : WriterNotes T) → j < n → j ≢ v.who →
+  pub rest_write : (v u : Process V) (kept kept' : Stored) (cs : List (ℕ × T)) (j : ℕ) (p : WriterNotes T) → j < n → j ≢ v.who →
       IsAtRest o n v kept cs → IsChanged Spent v u (place n v.who j) (Writer p) → p.stage ≡ writer.W5 → p.opening.value ≡ o →
-      p.finished.value ≡ last_or o p.written → bit_words p.remembered ≡ get_or kept' j [] →
-      ((i : ℕ) → i ≢ j → get_or kept' i [] ≡ get_or kept i []) → u.held ≡ held_slots cs → IsAtRest o n u kept' cs
-  rest_write v u kept kept' cs j p lj ne r c idle opened newest bit same held =
+      p.finished.value ≡ last_or o p.written → IsNewRow kept kept' j (bit_words p.remembered) (bit_number p.latest) →
+      u.held ≡ held_slots cs → IsAtRest o n u kept' cs
+  rest_write v u kept kept' cs j p lj ne r c idle opened newest kept_row held =
       let k : ℕ = place n v.who j in
       let who : u.who ≡ v.who = c.who in
       let mine : (i : ℕ) → i < n → i ≢ v.who → i ≢ j → place n v.who i ≢ k =
@@ -115,27 +129,41 @@ module _ {T : Type 0} (o : T) (n : ℕ) where
         quiet = λ i nw.
             let away : i ≢ k = λ e. nw (ap (writer_of n) e ∙ (writer_there n v.who j r.inside lj ne ∙ sym who)) in
             ap receipt_for (c.others i away) ∙ r.quiet i (λ e. nw (e ∙ sym who));
+        long = (
+          subst (λ z. n ≤ z) (sym kept_row.long) r.long.0,
+          subst (λ (zs : List ℕ). n ≤ length zs) (sym kept_row.said) r.long.1,
+        );
         row = λ i li nw.
             let other : i ≢ v.who = λ h. nw (h ∙ sym who) in
-            subst (λ z. IsRow o (of_cell Spent (place n z i) u.parts) (get_or kept' i [])) (sym who) (⊎_elim
-            (λ (e : i ≡ j). subst (λ z. IsRow o (of_cell Spent (place n v.who z) u.parts) (get_or kept' z [])) (sym e)
-            (record { notes = p; is = c.here; idle = idle; opened = opened; newest = newest; bits = bit }))
-            (λ (d : i ≢ j). subst (λ (z : V × List ℕ). IsRow o z.0 z.1) (λ h. (sym (c.others (place n v.who i) (mine i li other d)) h, sym (same i d) h))
+            subst (λ z. IsRow o (of_cell Spent (place n z i) u.parts) (get_or kept'.bits i []) (get_or kept'.latest i 0)) (sym who) (⊎_elim
+            (λ (e : i ≡ j). subst (λ z. IsRow o (of_cell Spent (place n v.who z) u.parts) (get_or kept'.bits z []) (get_or kept'.latest z 0)) (sym e)
+            (record {
+              notes = p;
+              is = c.here;
+              idle = idle;
+              opened = opened;
+              newest = newest;
+              bits = kept_row.here.0;
+              shown = kept_row.here.1;
+            }))
+            (λ (d : i ≢ j). subst (λ (z : V × List ℕ × ℕ). IsRow o z.0 z.1 z.2)
+            (λ h. (sym (c.others (place n v.who i) (mine i li other d)) h, sym (kept_row.others i d).0 h, sym (kept_row.others i d).1 h))
             (r.row i li other))
             (cases_eq i j));
         column = λ i li nw.
             let other : i ≢ v.who = λ h. nw (h ∙ sym who) in
-            subst (λ z. IsColumn o (place n i z) (of_cell Spent (place n i z) u.parts) cs) (sym who)
-            (subst (λ z. IsColumn o (place n i v.who) z cs) (sym (c.others (place n i v.who) (theirs i li other))) (r.column i li other));
+            subst (λ z. IsColumn o (place n i z) (of_cell Spent (place n i z) u.parts) (get_or kept'.said i 0) cs) (sym who)
+            (subst (λ (z : V × ℕ). IsColumn o (place n i v.who) z.0 z.1 cs)
+            (λ h. (sym (c.others (place n i v.who) (theirs i li other)) h, get_or (sym kept_row.said h) i 0)) (r.column i li other));
       }
 
   -- and after a read from process j
-  pub rest_read : (v u : Process V) (kept : List (List ℕ)) (before behind : List (ℕ × T)) (y : ℕ × T) (j : ℕ) (g h : ReaderNotes T) → j < n → j ≢ v.who →
+  pub rest_read : (v u : Process V) (kept kept' : Stored) (before behind : List (ℕ × T)) (y : ℕ × T) (j : ℕ) (g h : ReaderNotes T) → j < n → j ≢ v.who →
       IsAtRest o n v kept (before ++ (shift (slot_at (place n j v.who)) (slot_of_choice g.chosen g.at_hand.value) ++ behind)) →
       IsChanged Spent v u (place n j v.who) (Reader h) → h.stage ≡ reader.R5 → h.opening.value ≡ o →
-      HasSlots (place n j v.who) h (y ∷ (before ++ behind)) → u.held ≡ held_slots (y ∷ (before ++ behind)) →
-      IsAtRest o n u kept (y ∷ (before ++ behind))
-  rest_read v u kept before behind y j g h lj ne r c idle opened slots held =
+      HasSlots (place n j v.who) h (y ∷ (before ++ behind)) → IsNewColumn kept kept' j (word_said h.chosen) →
+      u.held ≡ held_slots (y ∷ (before ++ behind)) → IsAtRest o n u kept' (y ∷ (before ++ behind))
+  rest_read v u kept kept' before behind y j g h lj ne r c idle opened slots kept_column held =
       let k : ℕ = place n j v.who in
       let who : u.who ≡ v.who = c.who in
       let mine : (i : ℕ) → i < n → i ≢ v.who → place n v.who i ≢ k =
@@ -150,24 +178,31 @@ module _ {T : Type 0} (o : T) (n : ℕ) where
             (λ (d : i ≢ k). subst Idle (sym (c.others i d)) (r.idle i)) (cases_eq i k);
         quiet = λ i nw. ⊎_elim (λ (e : i ≡ k). ap receipt_for (ap (λ z. of_cell Spent z u.parts) e ∙ c.here))
             (λ (d : i ≢ k). ap receipt_for (c.others i d) ∙ r.quiet i (λ e. nw (e ∙ sym who))) (cases_eq i k);
+        long = (
+          subst (λ (zs : List ℕ). n ≤ length zs) (sym kept_column.latest) r.long.0,
+          subst (λ z. n ≤ z) (sym kept_column.long) r.long.1,
+        );
         row = λ i li nw.
             let other : i ≢ v.who = λ q. nw (q ∙ sym who) in
-            subst (λ z. IsRow o (of_cell Spent (place n z i) u.parts) (get_or kept i [])) (sym who)
-            (subst (λ z. IsRow o z (get_or kept i [])) (sym (c.others (place n v.who i) (mine i li other))) (r.row i li other));
+            subst (λ z. IsRow o (of_cell Spent (place n z i) u.parts) (get_or kept'.bits i []) (get_or kept'.latest i 0)) (sym who)
+            (subst (λ (z : V × List (List ℕ) × List ℕ). IsRow o z.0 (get_or z.1 i []) (get_or z.2 i 0))
+            (λ q. (sym (c.others (place n v.who i) (mine i li other)) q, sym kept_column.bits q, sym kept_column.latest q)) (r.row i li other));
         column = λ i li nw.
             let other : i ≢ v.who = λ q. nw (q ∙ sym who) in
-            subst (λ z. IsColumn o (place n i z) (of_cell Spent (place n i z) u.parts) (y ∷ (before ++ behind))) (sym who) (⊎_elim
-            (λ (e : i ≡ j). subst (λ z. IsColumn o (place n z v.who) (of_cell Spent (place n z v.who) u.parts) (y ∷ (before ++ behind))) (sym e)
-            (record { notes = h; is = c.here; idle = idle; opened = opened; slots = slots }))
+            subst (λ z. IsColumn o (place n i z) (of_cell Spent (place n i z) u.parts) (get_or kept'.said i 0) (y ∷ (before ++ behind))) (sym who) (⊎_elim
+            (λ (e : i ≡ j). subst (λ z. IsColumn o (place n z v.who) (of_cell Spent (place n z v.who) u.parts) (get_or kept'.said z 0) (y ∷ (before ++ behind)))
+            (sym e) (record { notes = h; is = c.here; idle = idle; opened = opened; slots = slots; stored = kept_column.here }))
             (λ (d : i ≢ j).
             let old = r.column i li other in
             let away = theirs i li other d in
-            subst (λ z. IsColumn o (place n i v.who) z (y ∷ (before ++ behind))) (sym (c.others (place n i v.who) away)) (record {
+            subst (λ (z : V × ℕ). IsColumn o (place n i v.who) z.0 z.1 (y ∷ (before ++ behind)))
+            (λ q. (sym (c.others (place n i v.who) away) q, sym (kept_column.others i d) q)) (record {
               notes = old.notes;
               is = old.is;
               idle = old.idle;
               opened = old.opened;
               slots = slots_stay n k (place n i v.who) g old.notes before behind y away old.slots;
+              stored = old.stored;
             }))
             (cases_eq i j));
       }

@@ -1,8 +1,7 @@
 -- What each step of a family tells: the family's rule allows it, and says what the seat then knows.
-use Rattle.std.proofs.Common.{◌≡◌, ◌≢◌, ◌⊎◌, ℕ, ◌+◌, ◌*◌, ◌<◌, ◌≤◌, Bool, List, [], ◌∷◌, ◌++◌, map, length, set, refl, sym, ap, ◌∙◌, subst, arith}
+use Rattle.std.proofs.Common.{◌≡◌, ℕ, ◌+◌, ◌<◌, ◌≤◌, Bool, List, [], ◌∷◌, ◌++◌, length, sym, ap, ◌∙◌, subst, arith}
 use mathlib.Core.Option.{none}
-use Rattle.atomic_table.specs.Table.{State, Me, Step, step, Allows}
-use Rattle.fourslot_core.specs.declared.state.Slot.{Slot}
+use Rattle.atomic_table.specs.Table.{State, Me, step, Allows}
 use Rattle.fourslot_core.specs.declared.state.Stage.TheVariants as writer
 use Rattle.fourslot_core.specs.declared.state.ReaderStage.TheVariants as reader
 use Rattle.fourslot_core.specs.Events.{bit_number, slot_number, slot_with}
@@ -12,8 +11,8 @@ use Rattle.cell_live.specs.declared.times.Known.{Known}
 use Rattle.cell_four_slot.specs.declared.notes.WriterNotes.{WriterNotes}
 use Rattle.cell_four_slot.specs.declared.notes.ReaderNotes.{ReaderNotes}
 use Rattle.cell_live.specs.declared.sight.Sight.TheVariants.{Spent, Writer, Reader}
-use Rattle.cell_four_slot.specs.Steps.{FourSlotSight, clock_of, begun_with, stored_by, finished_by, asked_by, said_by, got_by, slot_of_choice, HasAnswered}
-use Rattle.cell_four_slot.specs.Steps.{begins as cell_begins, stores as cell_stores, finishes as cell_finishes, asks as cell_asks, says as cell_says, takes as cell_takes}
+use Rattle.cell_four_slot.specs.Steps.{FourSlotSight, clock_of, begun_with, stored_by, finished_with, asked_by, said_with, got_by, slot_of_choice, HasAnswered}
+use Rattle.cell_four_slot.specs.Steps.{begins as cell_begins, stores as cell_stores, finishes_counting as cell_finishes, asks as cell_asks, says_counting as cell_says, takes as cell_takes}
 use Rattle.family_four_slot.specs.declared.notes.Process.{Process}
 use Rattle.family_four_slot.specs.declared.notes.View.{View}
 use Rattle.family_four_slot.specs.declared.notes.View.TheVariants.{Told, Has}
@@ -21,7 +20,7 @@ use Rattle.family_four_slot.specs.Layouts.{shift}
 use Rattle.family_four_slot.specs.Places.{four_slots, word_at, slot_at}
 use Rattle.family_four_slot.specs.Family.{of_cell, knows, Tells}
 use Rattle.family_four_slot.specs.FourSlots.{When, FourSlotFamily}
-use Rattle.family_four_slot.specs.Steps.{After, begins, stores, finishes, asks, says, takes}
+use Rattle.family_four_slot.specs.Steps.{After, begins, stores, finishes_counting, asks, says_counting, takes}
 use Rattle.family_four_slot.proofs.Places.{is_layout}
 use Rattle.family_four_slot.proofs.FourSlots.{family_begins, family_stores, family_finishes, family_asks, family_says, family_takes}
 
@@ -30,7 +29,7 @@ allows_more : {S V : Type 0} (holds : State S V → Type 0) (slots id : ℕ) (me
     ((n : ℕ) (m : Me S V) → a n m → b n m) → Allows holds slots id me i f a → Allows holds slots id me i f b
 allows_more holds slots id me i f a b more h s r e at small = let x = h s r e at small in (x.0, x.1, x.2, x.3, more _ _ x.4)
 
-has_one : {V : Type 0} (v u : Process V) → Has (v ∷ []) ≡ Has (u ∷ []) → v ≡ u
+pub has_one : {V : Type 0} (v u : Process V) → Has (v ∷ []) ≡ Has (u ∷ []) → v ≡ u
 has_one v u e = ap (only v) e where
   first : {V : Type 0} → Process V → List (Process V) → Process V
   first d [] = d
@@ -41,10 +40,10 @@ has_one v u e = ap (only v) e where
   only d (Has ps) = first d ps
 
 module _ {T : Type 0} where
-  writes_one : (p q : WriterNotes T) → ◌≡◌ {A = FourSlotSight T} (Writer p) (Writer q) → p ≡ q
+  pub writes_one : (p q : WriterNotes T) → ◌≡◌ {A = FourSlotSight T} (Writer p) (Writer q) → p ≡ q
   writes_one p q e = ap (writer_or p) e
 
-  reads_one : (p q : ReaderNotes T) → ◌≡◌ {A = FourSlotSight T} (Reader p) (Reader q) → p ≡ q
+  pub reads_one : (p q : ReaderNotes T) → ◌≡◌ {A = FourSlotSight T} (Reader p) (Reader q) → p ≡ q
   reads_one p q e = ap (reader_or p) e
 
   -- the notes after a step, by what it tells of the cell and of the slots
@@ -122,30 +121,30 @@ module _ {T : Type 0} (fits : T → Type 0) (rises : T → T → Type 0) (o : T)
         rest_of [] = []
         rest_of (x ∷ xs) = xs
 
-  pub finishes_ok : (slots id word k new : ℕ) (me : Me T (View W)) (v : Process W) (p : WriterNotes T) →
+  pub finishes_ok : (count : ℕ) → count ≤ 1 → (slots id word k new : ℕ) (me : Me T (View W)) (v : Process W) (p : WriterNotes T) →
       word ≡ word_at k 0 → k < (four_slots n).cells → k < length v.parts → me.0 ≡ Has (v ∷ []) → of_cell Spent k v.parts ≡ Writer p →
       v.held ≡ held_slots me.1 → p.stage ≡ writer.W4 → new ≡ bit_number p.slot.pair →
-      Allows F slots id me word (λ _. new) (λ _. finishes (step slots word new 0 none) me new)
-  finishes_ok slots id word k new me v p at lk has who is held stage to =
+      Allows F slots id me word (λ _. new) (λ _. finishes_counting count (step slots word new 0 none) me new)
+  finishes_ok count few slots id word k new me v p at lk has who is held stage to =
       let cs : List (ℕ × T) = me.1 in
       let told : ℕ → Me T (View W) → Type 0 =
-      Tells Spent slot_at k v [] cs (λ t _. When (cell_finishes (step 4 0 new 0 none) (of_cell Spent k v.parts, [])) t new) in
-      let more : (m : ℕ) (u : Me T (View W)) → told m u → finishes (step slots (word_at k 0) new 0 none) (Has (v ∷ []), cs) new u =
+      Tells Spent slot_at k v [] cs (λ t _. When (cell_finishes count (step 4 0 new 0 none) (of_cell Spent k v.parts, [])) t new) in
+      let more : (m : ℕ) (u : Me T (View W)) → told m u → finishes_counting count (step slots (word_at k 0) new 0 none) (Has (v ∷ []), cs) new u =
       (λ m u h k' v' q w e is'.
       let P : ℕ × Process W → Type 0 = λ z. of_cell Spent z.0 z.1.parts ≡ Writer q →
-      (t : ℕ) × (q.times.clock < t) × After z.1 z.0 (Writer (finished_by q t)) t cs u in
+      (t : ℕ) × (q.times.clock < t) × After z.1 z.0 (Writer (finished_with q count t)) t cs u in
       subst P (λ j. (same_cell k k' 0 0 (omega arith) (omega arith) w j, has_one v v' e j)) (λ known.
       let d = h.4.0 q known in
       let now : d.0 ≡ h.0 = sym (ap clock_of d.2) ∙ h.4.1 in (
         h.0,
         subst (λ z. q.times.clock < z) now d.1,
-        after v k h.0 h.1 (Writer (finished_by q h.0)) [] h.2 cs cs u h.3 (d.2 ∙ ap (λ z. Writer (finished_by q z)) now)
+        after v k h.0 h.1 (Writer (finished_with q count h.0)) [] h.2 cs cs u h.3 (d.2 ∙ ap (λ z. Writer (finished_with q count z)) now)
             (ap (λ zs. shift (slot_at k) zs ++ cs) d.3) h.5 h.6,
       )) is') in
-      let here : Allows F slots id (Has (v ∷ []), cs) (word_at k 0) (λ _. new) (λ _. finishes (step slots (word_at k 0) new 0 none) (Has (v ∷ []), cs) new) =
-      allows_more F slots id (Has (v ∷ []), cs) (word_at k 0) (λ _. new) told (λ _. finishes (step slots (word_at k 0) new 0 none) (Has (v ∷ []), cs) new)
-      more (family_finishes fits rises o n slots id k new v cs p lk has is held stage to) in
-      subst (λ (z : ℕ × View W). Allows F slots id (z.1, cs) z.0 (λ _. new) (λ _. finishes (step slots z.0 new 0 none) (z.1, cs) new))
+      let here : Allows F slots id (Has (v ∷ []), cs) (word_at k 0) (λ _. new) (λ _. finishes_counting count (step slots (word_at k 0) new 0 none) (Has (v ∷ []), cs) new) =
+      allows_more F slots id (Has (v ∷ []), cs) (word_at k 0) (λ _. new) told (λ _. finishes_counting count (step slots (word_at k 0) new 0 none) (Has (v ∷ []), cs) new)
+      more (family_finishes fits rises o n count few slots id k new v cs p lk has is held stage to) in
+      subst (λ (z : ℕ × View W). Allows F slots id (z.1, cs) z.0 (λ _. new) (λ _. finishes_counting count (step slots z.0 new 0 none) (z.1, cs) new))
       (λ i. (sym at i, sym who i)) here
 
   pub asks_ok : (slots id word k : ℕ) (me : Me T (View W)) (v : Process W) (g : ReaderNotes T) →
@@ -172,21 +171,21 @@ module _ {T : Type 0} (fits : T → Type 0) (rises : T → T → Type 0) (o : T)
       (family_asks fits rises o n slots id k v cs g lk has is held stage) in
       subst (λ (z : ℕ × View W). Allows F slots id (z.1, cs) z.0 (λ m. m) (asks (step slots z.0 0 0 none) (z.1, cs))) (λ i. (sym at i, sym who i)) here
 
-  pub says_ok : (slots id word k new : ℕ) (me : Me T (View W)) (v : Process W) (g : ReaderNotes T) (before behind : List (ℕ × T)) →
+  pub says_ok : (count : ℕ) → count ≤ 1 → (slots id word k new : ℕ) (me : Me T (View W)) (v : Process W) (g : ReaderNotes T) (before behind : List (ℕ × T)) →
       word ≡ word_at k 1 → k < (four_slots n).cells → k < length v.parts → me.0 ≡ Has (v ∷ []) → of_cell Spent k v.parts ≡ Reader g →
       me.1 ≡ before ++ (shift (slot_at k) (slot_of_choice g.chosen g.at_hand.value) ++ behind) → v.held ≡ held_slots me.1 →
       g.stage ≡ reader.R1 → new ≡ bit_number g.slot.pair →
-      Allows F slots id me word (λ _. new) (λ _. says (step slots word new 0 none) me new)
-  says_ok slots id word k new me v g before behind at lk has who is slots_are held stage to =
+      Allows F slots id me word (λ _. new) (λ _. says_counting count (step slots word new 0 none) me new)
+  says_ok count few slots id word k new me v g before behind at lk has who is slots_are held stage to =
       let cell_cs : List (ℕ × T) = slot_of_choice g.chosen g.at_hand.value in
       let mine : List (ℕ × T) = before ++ (shift (slot_at k) cell_cs ++ behind) in
       let told : ℕ → Me T (View W) → Type 0 =
-      Tells Spent slot_at k v before behind (λ t _. When (cell_says (step 4 1 new 0 none) (of_cell Spent k v.parts, cell_cs)) t new) in
-      let more : (m : ℕ) (u : Me T (View W)) → told m u → says (step slots (word_at k 1) new 0 none) (Has (v ∷ []), mine) new u =
+      Tells Spent slot_at k v before behind (λ t _. When (cell_says count (step 4 1 new 0 none) (of_cell Spent k v.parts, cell_cs)) t new) in
+      let more : (m : ℕ) (u : Me T (View W)) → told m u → says_counting count (step slots (word_at k 1) new 0 none) (Has (v ∷ []), mine) new u =
       (λ m u h k' v' q w e is'.
       let P : ℕ × Process W → Type 0 = λ z. of_cell Spent z.0 z.1.parts ≡ Reader q → (xs : List (ℕ × T)) × (ys : List (ℕ × T)) × (t : ℕ)
       × (mine ≡ xs ++ (shift (slot_at z.0) (slot_of_choice q.chosen q.at_hand.value) ++ ys)) × (q.times.clock < t)
-      × After z.1 z.0 (Reader (said_by q t)) t (xs ++ ys) u in
+      × After z.1 z.0 (Reader (said_with q count t)) t (xs ++ ys) u in
       subst P (λ j. (same_cell k k' 1 1 (omega arith) (omega arith) w j, has_one v v' e j)) (λ known.
       let both : g ≡ q = reads_one g q (sym is ∙ known) in
       let d = h.4.0 q known (ap (λ (z : ReaderNotes T). slot_of_choice z.chosen z.at_hand.value) both) in
@@ -196,13 +195,13 @@ module _ {T : Type 0} (fits : T → Type 0) (rises : T → T → Type 0) (o : T)
         h.0,
         ap (λ (z : ReaderNotes T). before ++ (shift (slot_at k) (slot_of_choice z.chosen z.at_hand.value) ++ behind)) both,
         subst (λ z. q.times.clock < z) now d.1,
-        after v k h.0 h.1 (Reader (said_by q h.0)) before h.2 behind (before ++ behind) u h.3 (d.2 ∙ ap (λ z. Reader (said_by q z)) now)
+        after v k h.0 h.1 (Reader (said_with q count h.0)) before h.2 behind (before ++ behind) u h.3 (d.2 ∙ ap (λ z. Reader (said_with q count z)) now)
             (ap (λ zs. before ++ (shift (slot_at k) zs ++ behind)) d.3) h.5 h.6,
       )) is') in
-      let here : Allows F slots id (Has (v ∷ []), mine) (word_at k 1) (λ _. new) (λ _. says (step slots (word_at k 1) new 0 none) (Has (v ∷ []), mine) new) =
-      allows_more F slots id (Has (v ∷ []), mine) (word_at k 1) (λ _. new) told (λ _. says (step slots (word_at k 1) new 0 none) (Has (v ∷ []), mine) new)
-      more (family_says fits rises o n slots id k new v before behind g lk has is (held ∙ ap held_slots slots_are) stage to) in
-      subst (λ (z : ℕ × Me T (View W)). Allows F slots id z.1 z.0 (λ _. new) (λ _. says (step slots z.0 new 0 none) z.1 new))
+      let here : Allows F slots id (Has (v ∷ []), mine) (word_at k 1) (λ _. new) (λ _. says_counting count (step slots (word_at k 1) new 0 none) (Has (v ∷ []), mine) new) =
+      allows_more F slots id (Has (v ∷ []), mine) (word_at k 1) (λ _. new) told (λ _. says_counting count (step slots (word_at k 1) new 0 none) (Has (v ∷ []), mine) new)
+      more (family_says fits rises o n count few slots id k new v before behind g lk has is (held ∙ ap held_slots slots_are) stage to) in
+      subst (λ (z : ℕ × Me T (View W)). Allows F slots id z.1 z.0 (λ _. new) (λ _. says_counting count (step slots z.0 new 0 none) z.1 new))
       (λ j. (sym at j, (sym who j, sym slots_are j))) here
 
   pub takes_ok : ((a : T) → rises a a) → ((a b c : T) → rises a b → rises b c → rises a c) → (slots id word k i : ℕ) (me : Me T (View W))

@@ -1,5 +1,5 @@
 -- The words of the contract, of the seats of a family of four-slot cells (this project's own).
-use Rattle.std.specs.Prelude.{◌≡◌, ◌≢◌, ℕ, ◌<◌, List, [], ◌∷◌, slice_get, Some, slice_index_or}
+use Rattle.std.specs.Prelude.{◌≡◌, ◌≢◌, ℕ, ◌<◌, List, [], ◌∷◌, length, slice_get, Some, slice_index, slice_index_or}
 use mathlib.Core.Option.{some}
 use lib.ListN.{get_elem?}
 use Rattle.atomic_table.specs.Seated.{TableId}
@@ -59,7 +59,7 @@ module _ {T : Type 0} where
     pub processes : s.processes ≡ processes_of f
     pub one : s.seat.inner.me.0 ≡ Has (known_by s ∷ [])
     pub who : (known_by s).who ≡ s.who
-    pub rest : IsAtRest s.spare s.processes (known_by s) s.remembered s.seat.inner.me.1
+    pub rest : IsAtRest s.spare s.processes (known_by s) s.stored s.seat.inner.me.1
 
   -- what a receipt tells, and the record that it names to process j
   abbrev pub told_in : FourSlotTold T → Receipt (FourSlotSight T)
@@ -94,7 +94,10 @@ module _ {T : Type 0} where
     pub processes : s.processes ≡ n
     pub who : s.who ≡ i
     pub me : s.seat.inner.me ≡ (Has (first_process o n i ∷ []), [])
-    pub remembered : (j : ℕ) → j < 16 → slice_index_or s.remembered j [] ≡ 0 ∷ 0 ∷ []
+    pub bits : (j : ℕ) → j < 16 → slice_index_or s.stored.bits j [] ≡ 0 ∷ 0 ∷ []
+    pub latest : (j : ℕ) → j < 16 → slice_index s.stored.latest j ≡ 0
+    pub said : (j : ℕ) → j < 16 → slice_index s.stored.said j ≡ 2
+    pub long : (length s.stored.latest ≡ 16) × (length s.stored.said ≡ 16)
 
   -- the seat has the processes of all of these
   abbrev pub HasAll : FamilySeat T → List (FourSlotSeat T) → Type 0

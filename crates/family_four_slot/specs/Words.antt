@@ -1,18 +1,16 @@
 -- What contracts see of a family of four-slot cells (this project's own).
-use Rattle.std.specs.Prelude.{◌≡◌, ◌≢◌, ℕ, ◌+◌, ◌*◌, ◌-◌, ◌<◌, ◌≤◌, nat_eq, cond, List, [], ◌∷◌, ◌++◌, length, slice_index_or, slice_index}
-use Rattle.atomic_table.specs.Table.{Me}
-use Rattle.fourslot_core.specs.declared.state.Slot.{Slot}
+use Rattle.std.specs.Prelude.{◌≡◌, ◌≢◌, ℕ, ◌*◌, ◌<◌, ◌≤◌, nat_eq, cond, List, [], ◌∷◌, ◌++◌, length, slice_index_or, slice_index}
 use Rattle.fourslot_core.specs.declared.state.Stage.TheVariants as writer
 use Rattle.fourslot_core.specs.declared.state.ReaderStage.TheVariants as reader
-use Rattle.fourslot_core.specs.Events.{slot_number}
-use Rattle.std.specs.declared.snapshot.Snapshot.{Snapshot}
+use Rattle.fourslot_core.specs.Events.{bit_number}
 use Rattle.cell_live.specs.Running.{last_or, held_slots}
-use Rattle.cell_live.specs.Sights.{writer_or, reader_or, receipt_or}
+use Rattle.cell_live.specs.Sights.{writer_or, reader_or}
 use Rattle.cell_four_slot.specs.declared.notes.WriterNotes.{WriterNotes}
 use Rattle.cell_four_slot.specs.declared.notes.ReaderNotes.{ReaderNotes}
 use Rattle.cell_live.specs.declared.sight.Sight.TheVariants.{Spent, Writer, Reader}
-use Rattle.cell_four_slot.specs.Steps.{FourSlotSight, first_writer, first_reader, bit_words, slot_of_choice, receipt_for}
+use Rattle.cell_four_slot.specs.Steps.{FourSlotSight, first_writer, first_reader, bit_words, slot_of_choice, word_said, receipt_for}
 use Rattle.family_live.specs.Accesses.{Writes, Reads}
+use Rattle.family_four_slot.specs.declared.family.Stored.{Stored}
 use Rattle.family_four_slot.specs.declared.notes.Process.{Process}
 use Rattle.family_four_slot.specs.declared.notes.Receipt.{Receipt}
 use Rattle.family_four_slot.specs.declared.notes.View.{View}
@@ -61,29 +59,34 @@ module _ {T : Type 0} where
       × (cs ≡ before ++ (shift (slot_at k) (slot_of_choice g.chosen g.at_hand.value) ++ behind))
 
 module _ {T : Type 0} (o : T) where
-  -- a cell that a process writes, between two calls: the pairs' bits are those that the seat remembers
-  pub record IsRow (part : FourSlotSight T) (remembered : List ℕ) : Type 0 where
+  -- a cell that a process writes, between two calls: the pairs' bits and the pair in `latest` are those that the seat remembers
+  pub record IsRow (part : FourSlotSight T) (remembered : List ℕ) (latest : ℕ) : Type 0 where
     pub notes : WriterNotes T
     pub is : part ≡ Writer notes
     pub idle : notes.stage ≡ writer.W5
     pub opened : notes.opening.value ≡ o
     pub newest : notes.finished.value ≡ last_or o notes.written
     pub bits : bit_words notes.remembered ≡ remembered
+    pub shown : latest ≡ bit_number notes.latest
 
-  -- and one that it reads
-  pub record IsColumn (k : ℕ) (part : FourSlotSight T) (cs : List (ℕ × T)) : Type 0 where
+  -- and one that it reads, of which the seat remembers what `reading` has
+  pub record IsColumn (k : ℕ) (part : FourSlotSight T) (said : ℕ) (cs : List (ℕ × T)) : Type 0 where
     pub notes : ReaderNotes T
     pub is : part ≡ Reader notes
     pub idle : notes.stage ≡ reader.R5
     pub opened : notes.opening.value ≡ o
     pub slots : HasSlots k notes cs
+    pub stored : said ≡ word_said notes.chosen
 
   -- a process of n between two calls. Of cells that it doesn't write it tells nothing
-  pub record IsAtRest (n : ℕ) (v : Process (FourSlotSight T)) (remembered : List (List ℕ)) (cs : List (ℕ × T)) : Type 0 where
+  pub record IsAtRest (n : ℕ) (v : Process (FourSlotSight T)) (kept : Stored) (cs : List (ℕ × T)) : Type 0 where
     pub inside : v.who < n
     pub parts : length v.parts ≡ n * n
     pub held : v.held ≡ held_slots cs
     pub idle : (k : ℕ) → Idle (of_cell Spent k v.parts)
     pub quiet : (k : ℕ) → writer_of n k ≢ v.who → receipt_for (of_cell Spent k v.parts) ≡ Spent
-    pub row : (j : ℕ) → j < n → j ≢ v.who → IsRow (of_cell Spent (place n v.who j) v.parts) (slice_index_or remembered j [])
-    pub column : (j : ℕ) → j < n → j ≢ v.who → IsColumn (place n j v.who) (of_cell Spent (place n j v.who) v.parts) cs
+    pub long : (n ≤ length kept.latest) × (n ≤ length kept.said)
+    pub row : (j : ℕ) → j < n → j ≢ v.who →
+        IsRow (of_cell Spent (place n v.who j) v.parts) (slice_index_or kept.bits j []) (slice_index kept.latest j)
+    pub column : (j : ℕ) → j < n → j ≢ v.who →
+        IsColumn (place n j v.who) (of_cell Spent (place n j v.who) v.parts) (slice_index kept.said j) cs

@@ -1,7 +1,10 @@
 //! The family of four-slot cells, and its calls.
-ghost use Rattle.std.specs.Prelude.{◌≡◌, ℕ, ◌<◌, List, [], ◌∷◌, IfOk, vec_len};
+ghost use Rattle.std.specs.Prelude.{◌≡◌, ◌≢◌, ℕ, ◌<◌, List, [], ◌∷◌, IfOk, vec_len};
 ghost use Rattle.history_core.specs.Schedules.{positions};
+ghost use Rattle.cell_live.specs.Running.{last_or};
 ghost use Rattle.family_live.specs.Ends.{Each, EachTwo, IsSchedule, IsAtomicCell};
+ghost use Rattle.family_live.specs.Rows.{IsWriteTo};
+ghost use Rattle.family_four_slot.specs.Places.{place};
 ghost use Rattle.family_four_slot.specs.FourSlots.{first_view};
 ghost use Rattle.family_four_slot.specs.declared.notes.View.TheVariants.{Has};
 ghost use Rattle.family_four_slot.specs.Seated.{known_by, IsFirst, HasAll};
@@ -16,10 +19,20 @@ use std::alloc::{AllocError, Global};
 use std::marker::Brand;
 use std::snapshot::Snapshot;
 
-/// Registers of four slots each, in one table. Each write and each read makes three control accesses, plain loads and stores.
+/// Registers of four slots each, in one table. Each write and each read makes three steps of the mechanism, by three control accesses or
+/// by two, plain loads and stores: the store of a pair is left out where its word has that pair already.
 #[derive(Drop)]
 pub struct FourSlotFamily<T: Lawful> {
     table: FamilyTable<T>,
+}
+
+/// What a process stored last in the words of its registers: in those to each process the pairs' bits and the pair in `latest`, and in
+/// those from each process the pair in `reading`, 2 where it has stored none.
+#[derive(Drop)]
+struct Stored {
+    bits: [[u64; 2]; 16],
+    latest: [u64; 16],
+    said: [u64; 16],
 }
 
 /// The right to write and to read as one of the processes. Of each register from which it has read it holds the slot of its last answer.
@@ -28,8 +41,7 @@ pub struct FourSlotSeat<T: Copy> {
     seat: FamilySeat<T>,
     processes: usize,
     who: usize,
-    /// The pairs' bits of the register to each process, as this one stored them last: their words.
-    remembered: [[u64; 2]; 16],
+    stored: Stored,
     /// The opening: the notes' default in proofs.
     spare: T,
 }
@@ -64,7 +76,11 @@ fn seats_of<T: Lawful>(
             seat,
             processes: n,
             who,
-            remembered: [[0, 0]; 16],
+            stored: Stored {
+                bits: [[0, 0]; 16],
+                latest: [0; 16],
+                said: [2; 16],
+            },
             spare: first,
         });
     }
@@ -87,7 +103,7 @@ fn gathered<T: Lawful>(table: &FamilyTable<T>, seats: Vec<FourSlotSeat<T>>) -> F
         seat,
         processes: _,
         who: _,
-        remembered: _,
+        stored: _,
         spare: _,
     } = last;
     let mut all = seat;
@@ -99,12 +115,37 @@ fn gathered<T: Lawful>(table: &FamilyTable<T>, seats: Vec<FourSlotSeat<T>>) -> F
             seat: other,
             processes: _,
             who: _,
-            remembered: _,
+            stored: _,
             spare: _,
         } = next;
         table.gather(&mut all, other);
     }
     all
+}
+
+impl<T: Lawful> FourSlotFamily<T> {
+    /// A write to the register of process `to`, which is this cell.
+    #[inline(always)]
+    fn write_at(&self, seat: &mut FourSlotSeat<T>, cell: usize, to: usize, item: &T)
+        requires own { IsSeat self.now seat.old }
+        requires other { (to < processes_of self.now) × (to ≢ number_of seat.old) }
+        requires at { cell ≡ place seat.old.processes seat.old.who to }
+        requires lawful { T.fits item.now × T.rises (last_or (opening_of self.now) (writes_of seat.old to).items) item.now }
+        ensures { IsWriteTo (IsSeat self.now) number_of clock_of times_of writes_of reads_of 3 item.now to seat.old seat.new }
+    {
+        let table = &self.table;
+        let named = Snapshot::of(item);
+        let reading = table.begin::<Brand>(&mut seat.seat, cell, named);
+        let pair = other_bit(reading);
+        let stored = bit_of(&seat.stored.bits[to], pair);
+        let index = other_bit(stored);
+        let slot = slot_of(pair, index);
+        table.fill(&mut seat.seat, cell, slot, item);
+        let shown = seat.stored.latest[to];
+        table.publish(&mut seat.seat, cell, pair, index, shown);
+        set_bit(&mut seat.stored.bits[to], pair, index);
+        seat.stored.latest[to] = pair;
+    }
 }
 
 impl<T: Lawful> Family<T> for FourSlotFamily<T> {
@@ -148,18 +189,19 @@ impl<T: Lawful> Family<T> for FourSlotFamily<T> {
 
     #[inline]
     fn write_from(&self, seat: &mut FourSlotSeat<T>, to: usize, item: &T) {
-        let table = &self.table;
-        let cell = place(seat.processes, seat.who, to);
-        let named = Snapshot::of(item);
-        let reading = table.begin::<Brand>(&mut seat.seat, cell, named);
-        let pair = other_bit(reading);
-        let stored = bit_of(&seat.remembered[to], pair);
-        let index = other_bit(stored);
-        let slot = slot_of(pair, index);
-        table.fill(&mut seat.seat, cell, slot, item);
-        table.store(&mut seat.seat, cell, pair, index);
-        table.finish(&mut seat.seat, cell, pair);
-        set_bit(&mut seat.remembered[to], pair, index);
+        self.write_at(seat, place(seat.processes, seat.who, to), to, item);
+    }
+
+    #[inline(always)]
+    fn write_all_from(&self, seat: &mut FourSlotSeat<T>, item: &T) {
+        let processes = seat.processes;
+        let who = seat.who;
+        for to in 0..who {
+            self.write_at(seat, place(processes, who, to), to, item);
+        }
+        for to in who + 1..processes {
+            self.write_at(seat, place(processes, who, to), to, item);
+        }
     }
 
     #[inline]
@@ -171,8 +213,7 @@ impl<T: Lawful> Family<T> for FourSlotFamily<T> {
     ) -> R {
         let table = &self.table;
         let cell = place(seat.processes, from, seat.who);
-        let latest = table.ask(&mut seat.seat, cell);
-        table.say(&mut seat.seat, cell, latest);
+        let latest = table.announce(&mut seat.seat, cell, &mut seat.stored.said[from]);
         let index = table.take(&mut seat.seat, cell, latest);
         let slot = slot_of(latest, index);
         table.lend(&mut seat.seat, cell, slot, look)

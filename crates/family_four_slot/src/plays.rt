@@ -1,7 +1,7 @@
 //! What each step tells, and what goes from seat to seat.
 ghost use Rattle.std.specs.Prelude.{List, []};
 ghost use Rattle.cell_four_slot.specs.Steps.{hears_of, receipt_for};
-ghost use Rattle.family_four_slot.specs.Steps.{begins, stores, finishes, asks, says, takes};
+ghost use Rattle.family_four_slot.specs.Steps.{begins, stores_on, finishes, asks_on, says, takes};
 ghost use Rattle.family_four_slot.specs.Seats.{all_but_first, first_of, no_process, all_of, told_by, learnt_by, joined, no_one};
 
 use crate::notes::FamilySight;
@@ -29,7 +29,7 @@ impl<T, K: Item<T>> Play<T, FamilySight<T>> for Begins<K> {
 pub(crate) struct Stores;
 
 impl<T> Play<T, FamilySight<T>> for Stores {
-    ghost then = { stores };
+    ghost then = { stores_on };
 }
 
 pub(crate) struct Finishes;
@@ -41,7 +41,7 @@ impl<T> Play<T, FamilySight<T>> for Finishes {
 pub(crate) struct Asks;
 
 impl<T> Play<T, FamilySight<T>> for Asks {
-    ghost then = { asks };
+    ghost then = { asks_on };
 }
 
 pub(crate) struct Says;

@@ -12,12 +12,12 @@ ghost use Rattle.cell_live.specs.Running.{last_or, held_slots};
 ghost use Rattle.cell_four_slot.specs.declared.notes.WriterNotes.{WriterNotes};
 ghost use Rattle.cell_four_slot.specs.declared.notes.ReaderNotes.{ReaderNotes};
 ghost use Rattle.cell_live.specs.declared.sight.Sight.TheVariants.{Writer, Reader, Spent};
-ghost use Rattle.cell_four_slot.specs.Steps.{FourSlotSight, slot_of_choice};
+ghost use Rattle.cell_four_slot.specs.Steps.{FourSlotSight, slot_of_choice, word_said};
 ghost use Rattle.family_four_slot.specs.declared.notes.Process.{Process};
 ghost use Rattle.family_four_slot.specs.Layouts.{shift};
 ghost use Rattle.family_four_slot.specs.Places.{four_slots, place, slot_at};
 ghost use Rattle.family_four_slot.specs.FourSlots.{first_view, Idle};
-ghost use Rattle.family_four_slot.specs.Steps.{begins, stores, finishes, asks, says, takes};
+ghost use Rattle.family_four_slot.specs.Steps.{begins, stores_on, publishes, finishes, asks_on, announces, says, takes};
 ghost use Rattle.family_four_slot.specs.Tables.{HasWriter, HasReader, IsEnded};
 ghost use Rattle.family_four_slot.specs.declared.notes.Receipt.{Receipt};
 ghost use Rattle.family_four_slot.specs.declared.notes.View.TheVariants.{Told, Has};
@@ -123,17 +123,42 @@ impl<T: Lawful> FamilyTable<T> {
             .load::<Begins<K>>(&mut seat.inner, base(cell) + 8)
     }
 
-    /// W4: stores the index in the pair's word, and gives the slot back.
+    /// W4 and W5. W5's store is left out where `latest` has the pair already, which is `shown`.
     #[inline]
-    pub(super) fn store(&self, seat: &mut FamilySeat<T>, cell: usize, pair: u64, index: u64)
+    pub(super) fn publish(
+        &self,
+        seat: &mut FamilySeat<T>,
+        cell: usize,
+        pair: u64,
+        index: u64,
+        shown: u64,
+    )
+        requires own { seat.old.inner.table_id ≡ self.now.inner.shared.table_id }
+        requires place { cell < (four_slots self.now.inner.shared.key.processes).cells }
+        requires filled { (v : Process (FourSlotSight T)) × (p : WriterNotes T) × (cs : List (ℕ × T)) × HasWriter seat.old.inner.me cell v p
+            × (seat.old.inner.me.1 ≡ (slot_at cell (slot_number p.slot), p.item.value) ∷ cs) × (p.stage ≡ W3)
+            × (pair ≡ bit_number p.slot.pair) × (index ≡ bit_number p.slot.index) × (shown ≡ bit_number p.latest) }
+        ensures own { seat.new.inner.table_id ≡ seat.old.inner.table_id }
+        ensures published { publishes cell seat.old.inner.me seat.new.inner.me }
+    {
+        self.store(seat, cell, pair, index);
+        if pair == shown {
+            return;
+        }
+        self.finish(seat, cell, pair);
+    }
+
+    /// W4: stores the index in the pair's word, and gives the slot back. This is W5 too where `latest` has the pair already.
+    #[inline]
+    fn store(&self, seat: &mut FamilySeat<T>, cell: usize, pair: u64, index: u64)
         requires own { seat.old.inner.table_id ≡ self.now.inner.shared.table_id }
         requires place { cell < (four_slots self.now.inner.shared.key.processes).cells }
         requires filled { (v : Process (FourSlotSight T)) × (p : WriterNotes T) × (cs : List (ℕ × T)) × HasWriter seat.old.inner.me cell v p
             × (seat.old.inner.me.1 ≡ (slot_at cell (slot_number p.slot), p.item.value) ∷ cs) × (p.stage ≡ W3)
             × (pair ≡ bit_number p.slot.pair) × (index ≡ bit_number p.slot.index) }
         ensures own { seat.new.inner.table_id ≡ seat.old.inner.table_id }
-        ensures stored { stores (step self.now.inner.shared.table_id.slots (16 * cell + 8 + (2 + pair)) index 0 none) seat.old.inner.me index
-            seat.new.inner.me }
+        ensures stored { stores_on (step self.now.inner.shared.table_id.slots (16 * cell + 8 + (2 + pair)) index 0 none)
+            seat.old.inner.me index seat.new.inner.me }
     {
         self.inner
             .shared
@@ -142,7 +167,7 @@ impl<T: Lawful> FamilyTable<T> {
 
     /// W5: stores the pair in `latest`.
     #[inline]
-    pub(super) fn finish(&self, seat: &mut FamilySeat<T>, cell: usize, pair: u64)
+    fn finish(&self, seat: &mut FamilySeat<T>, cell: usize, pair: u64)
         requires own { seat.old.inner.table_id ≡ self.now.inner.shared.table_id }
         requires place { cell < (four_slots self.now.inner.shared.key.processes).cells }
         requires stored { (v : Process (FourSlotSight T)) × (p : WriterNotes T) × HasWriter seat.old.inner.me cell v p × (p.stage ≡ W4)
@@ -155,21 +180,46 @@ impl<T: Lawful> FamilyTable<T> {
             .store::<Finishes>(&mut seat.inner, base(cell), pair);
     }
 
-    /// R1: loads `latest`.
+    /// R1 and R2. R2's store is left out where `reading` has the pair already. `said` is what it has.
     #[inline]
-    pub(super) fn ask(&self, seat: &mut FamilySeat<T>, cell: usize) -> u64
+    pub(super) fn announce(&self, seat: &mut FamilySeat<T>, cell: usize, said: &mut u64) -> u64
         requires own { seat.old.inner.table_id ≡ self.now.inner.shared.table_id }
         requires place { cell < (four_slots self.now.inner.shared.key.processes).cells }
-        requires idle { (v : Process (FourSlotSight T)) × (g : ReaderNotes T) × HasReader seat.old.inner.me cell v g × (g.stage ≡ R5) }
+        requires idle { (v : Process (FourSlotSight T)) × (g : ReaderNotes T) × (before : List (ℕ × T)) × (behind : List (ℕ × T))
+            × HasReader seat.old.inner.me cell v g
+            × (seat.old.inner.me.1 ≡ before ++ (shift (slot_at cell) (slot_of_choice g.chosen g.at_hand.value) ++ behind)) × (g.stage ≡ R5)
+            × (said.old ≡ word_said g.chosen) }
         ensures own { seat.new.inner.table_id ≡ seat.old.inner.table_id }
-        ensures asked { asks (step self.now.inner.shared.table_id.slots (16 * cell + 8) 0 0 none) seat.old.inner.me result seat.new.inner.me }
+        ensures announced { announces cell seat.old.inner.me result seat.new.inner.me }
+        ensures remembered { said.new ≡ result }
+    {
+        let pair = self.ask(seat, cell);
+        if pair == *said {
+            return pair;
+        }
+        self.say(seat, cell, pair);
+        *said = pair;
+        pair
+    }
+
+    /// R1: loads `latest`. This is R2 too where `reading` has the pair already.
+    #[inline]
+    fn ask(&self, seat: &mut FamilySeat<T>, cell: usize) -> u64
+        requires own { seat.old.inner.table_id ≡ self.now.inner.shared.table_id }
+        requires place { cell < (four_slots self.now.inner.shared.key.processes).cells }
+        requires idle { (v : Process (FourSlotSight T)) × (g : ReaderNotes T) × (before : List (ℕ × T)) × (behind : List (ℕ × T))
+            × HasReader seat.old.inner.me cell v g
+            × (seat.old.inner.me.1 ≡ before ++ (shift (slot_at cell) (slot_of_choice g.chosen g.at_hand.value) ++ behind)) × (g.stage ≡ R5) }
+        ensures own { seat.new.inner.table_id ≡ seat.old.inner.table_id }
+        ensures asked { asks_on (step self.now.inner.shared.table_id.slots (16 * cell + 8) 0 0 none) seat.old.inner.me result
+            seat.new.inner.me }
     {
         self.inner.shared.load::<Asks>(&mut seat.inner, base(cell))
     }
 
     /// R2: stores the pair in `reading`, and gives the slot of the read before back.
     #[inline]
-    pub(super) fn say(&self, seat: &mut FamilySeat<T>, cell: usize, pair: u64)
+    fn say(&self, seat: &mut FamilySeat<T>, cell: usize, pair: u64)
         requires own { seat.old.inner.table_id ≡ self.now.inner.shared.table_id }
         requires place { cell < (four_slots self.now.inner.shared.key.processes).cells }
         requires asked { (v : Process (FourSlotSight T)) × (g : ReaderNotes T) × (before : List (ℕ × T)) × (behind : List (ℕ × T))

@@ -1,10 +1,11 @@
 //! What a family promises.
-ghost use Rattle.std.specs.Prelude.{◌≡◌, ◌≢◌, ℕ, ◌<◌, ◌≤◌, List, [], ◌∷◌, ◌++◌, length, vec_len, IfOk};
+ghost use Rattle.std.specs.Prelude.{◌≡◌, ◌≢◌, ℕ, ◌-◌, ◌<◌, ◌≤◌, List, [], ◌∷◌, ◌++◌, length, vec_len, IfOk};
 ghost use Rattle.std.specs.Fn.{FnOnceTakesAt, FnOnceReturnsAt};
 ghost use Rattle.history_core.specs.Schedules.{positions};
 ghost use Rattle.cell_live.specs.Running.{IsAnswer, last_or};
 ghost use Rattle.family_live.specs.Accesses.{Writes, Reads, IsUnused, IsAccess, IsWrite, IsRead, IsHeardRead, Keeps, KeepsOthers};
 ghost use Rattle.family_live.specs.Ends.{Each, EachTwo, IsSchedule, IsAtomicCell};
+ghost use Rattle.family_live.specs.Rows.{InTurn, IsWriteTo};
 
 use cell_live::{Kept, Lawful};
 use std::alloc::{AllocError, Global};
@@ -24,7 +25,8 @@ pub trait Family<T: Lawful>: Sized + Drop {
 
     ghost processes: { Self → ℕ };
 
-    // The steps of the schedule that an access makes.
+    // The steps of the schedule that an access makes. They are those of the registers' mechanism: one load or store of memory may make
+    // several of them.
     ghost width: { ℕ };
 
     ghost some_steps: { 0 < width };
@@ -71,6 +73,15 @@ pub trait Family<T: Lawful>: Sized + Drop {
             (writes seat.old to).times (writes seat.new to).times }
         ensures written { IsWrite (writes seat.old to) (writes seat.new to) item.now }
         ensures others { KeepsOthers to (writes seat.old) (writes seat.new) × Keeps (reads seat.old) (reads seat.new) };
+
+    /// Shows the record to each other process, rising: the same as so many calls of `write_from`, in fewer instructions.
+    fn write_all_from(&self, seat: &mut Self::Seat, item: &T)
+        requires own { is_seat self.now seat.old }
+        requires lawful { T.fits item.now }
+        requires rises { (j : ℕ) → j < processes self.now → j ≢ who seat.old →
+            T.rises (last_or (opening self.now) (writes seat.old j).items) item.now }
+        ensures { InTurn (IsWriteTo (is_seat self.now) who clock times writes reads width item.now) (who seat.old) seat.old
+            (processes self.now - 1) seat.new };
 
     /// Lends one whole record of another process where it lies, so that nothing is copied: `look` is called once with it. It is a
     /// record that was written, and by its law it may stand after each that this process saw or was told of that one.

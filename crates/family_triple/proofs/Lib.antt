@@ -9,6 +9,7 @@ pub mod Parting
 pub mod Places
 pub mod Rests
 pub mod Rounds
+pub mod Rows
 pub mod Starts
 pub mod Steps
 pub mod Taking

@@ -167,6 +167,18 @@ impl<T: Lawful> Family<T> for TripleFamily<T> {
         seat.fills[to] = middle % 4;
     }
 
+    #[inline(always)]
+    fn write_all_from(&self, seat: &mut TripleSeat<T>, item: &T) {
+        let processes = seat.processes;
+        let who = seat.who;
+        for to in 0..who {
+            self.write_from(seat, to, item);
+        }
+        for to in who + 1..processes {
+            self.write_from(seat, to, item);
+        }
+    }
+
     #[inline]
     fn read_with<R, F: FnOnce(&T) -> R>(
         &self,

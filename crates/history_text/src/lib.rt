@@ -17,6 +17,7 @@ pub use document::CheckDocument;
 pub use document_refusals::{DocError, Key};
 pub use fields::{field, list_field, must, required, shaped};
 pub use history::{are_lawful, one_term, ops_in_range};
+pub use operation::{kind_of, optional_number};
 pub use ranges::{MAX_OPERATIONS, count_in_range, limit_in_range};
 pub use read::{is_kind, read_value};
 pub use shape::{Shape, items_in, list_of};

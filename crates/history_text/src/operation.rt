@@ -35,7 +35,8 @@ fn actor_of(value: &Value) -> Option<usize>
     place_in(value.get("who")?)
 }
 
-fn kind_of(value: &Value) -> Option<Kind>
+/// The kind that is named under its key.
+pub fn kind_of(value: &Value) -> Option<Kind>
     ensures { result ≡ option_and_then kind_named (option_and_then as_str (get (codes "kind") (view value.now))) }
 {
     kind_named(value.get("kind")?.as_str()?)
@@ -59,7 +60,7 @@ fn kind_named(name: &str) -> Option<Kind>
 }
 
 /// A number that may be missing, or null.
-fn optional_number(value: Option<&Value>) -> Option<Option<u64>>
+pub fn optional_number(value: Option<&Value>) -> Option<Option<u64>>
     ensures { result ≡ optional as_whole (option_map (λ v. view v.now) value.entry) }
 {
     match value {

@@ -25,6 +25,7 @@ IsLogFault log (fault.Document refusal) = ⊥
 IsLogFault log (fault.History (history.WritesTwice first second)) = StandsInTheWay log (WritesTwice first second)
 IsLogFault log (fault.History (history.WritesOpening place)) = StandsInTheWay log (WritesOpening place)
 IsLogFault log (fault.Schedule position) = ⊥
+IsLogFault log (fault.Lines why) = ⊥
 IsLogFault log fault.NoMemory = Unit {0}
 
 -- a log has one term, and its operations run forwards

@@ -101,6 +101,7 @@ AnswersCell schedule (Ok answer) =
     (r : CellReport Band) × IsCellReport schedule r × (scene : Scene) × ShowsCell schedule r scene × (answer ≡ drawn scene)
 AnswersCell schedule (Err (fault.Document refusal)) = ⊥
 AnswersCell schedule (Err (fault.History why)) = ⊥
+AnswersCell schedule (Err (fault.Lines why)) = ⊥
 AnswersCell schedule (Err (fault.Schedule position)) = IsFirstOverrun (cell_span schedule ∷ []) position
 AnswersCell schedule (Err fault.NoMemory) = ⊥
 
@@ -111,6 +112,7 @@ AnswersMatrix schedule (Ok answer) =
     × (scene : Scene) × ShowsMatrix r scene × (answer ≡ drawn scene)
 AnswersMatrix schedule (Err (fault.Document refusal)) = ⊥
 AnswersMatrix schedule (Err (fault.History why)) = ⊥
+AnswersMatrix schedule (Err (fault.Lines why)) = ⊥
 AnswersMatrix schedule (Err (fault.Schedule position)) = IsFirstOverrun (spans_of schedule.terms) position
 AnswersMatrix schedule (Err fault.NoMemory) = ⊥
 
@@ -121,6 +123,7 @@ AnswersBoard schedule (Ok answer) =
     × (scene : Scene) × ShowsBoard schedule r scene × (answer ≡ drawn scene)
 AnswersBoard schedule (Err (fault.Document refusal)) = ⊥
 AnswersBoard schedule (Err (fault.History why)) = ⊥
+AnswersBoard schedule (Err (fault.Lines why)) = ⊥
 AnswersBoard schedule (Err (fault.Schedule position)) = IsFirstOverrun (board_spans schedule.terms) position
 AnswersBoard schedule (Err fault.NoMemory) = ⊥
 

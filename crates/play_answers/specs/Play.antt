@@ -28,6 +28,7 @@ AnswersCell schedule (Ok answer) =
     (r : CellReport Band) × IsCellReport schedule r × (answer ≡ printed (report.Cell r) 0)
 AnswersCell schedule (Err (fault.Document refusal)) = ⊥
 AnswersCell schedule (Err (fault.History why)) = ⊥
+AnswersCell schedule (Err (fault.Lines why)) = ⊥
 AnswersCell schedule (Err (fault.Schedule position)) = IsFirstOverrun (cell_span schedule ∷ []) position
 AnswersCell schedule (Err fault.NoMemory) = ⊥
 
@@ -36,6 +37,7 @@ abbrev pub AnswersTerms : {Made : Type 0} → List (Span Band) → (Made → Typ
 AnswersTerms {Made} spans IsMade told (Ok answer) = (r : Made) × HasOperations spans × IsMade r × (answer ≡ printed (told r) 0)
 AnswersTerms spans IsMade told (Err (fault.Document refusal)) = ⊥
 AnswersTerms spans IsMade told (Err (fault.History why)) = ⊥
+AnswersTerms spans IsMade told (Err (fault.Lines why)) = ⊥
 AnswersTerms spans IsMade told (Err (fault.Schedule position)) = IsFirstOverrun spans position
 AnswersTerms spans IsMade told (Err fault.NoMemory) = ⊥
 

@@ -61,6 +61,7 @@
 #![warn(missing_docs)]
 
 mod boards;
+pub mod log;
 mod raw;
 
 pub use boards::{board, limited_board, triple_board, BoardError, Place, Since, Stamp, TagsEnded, GREATEST_LIMIT};

@@ -1,5 +1,6 @@
 -- A call, access by access. Only private functions cite this, which is this project's own; what a call promises stands in Passes.
 use Rattle.std.specs.Prelude.{◌≡◌, ◌⊎◌, Bool, IsTrue, ℕ, ◌-◌, ◌*◌, ◌<◌, ◌≤◌, List, [], ◌++◌, length, slice_get, Some}
+use Rattle.std.specs.Prelude.{true, false, if◌then◌else◌}
 use Rattle.cell_live.specs.declared.times.Times.{Times}
 use Rattle.cell_live.specs.Running.{last_or}
 use Rattle.family_live.specs.declared.family.Family.{Ghosts as FamilyWords}
@@ -69,4 +70,19 @@ module _ {V F S T : Type 0} (words : FamilyWords F (Posted V) S T) where
         × IsWrite (words.writes seat (other process e)) (words.writes seat' (other process e)) item
     pub unwritten : (e : ℕ) → count ≤ e → words.writes seat' (other process e) ≡ words.writes seat (other process e)
     pub last : (e : ℕ) (first : Posted V) → e < count → last_or first (words.writes seat' (other process e)).items ≡ item
+    pub reads : Keeps (words.reads seat) (words.reads seat')
+
+  -- the record was written to each of so many others; or nothing was, since it is the own record, which stands there
+  pub record HasRow (family : F) (process count : ℕ) (seat seat' : S) (own item : Posted V) : Type 0 where
+    pub of : words.is_seat family seat' × (words.who seat' ≡ words.who seat)
+    pub tells : Bool
+    pub steps : List ℕ
+    pub long : length steps ≡ (if tells then count * words.width else 0)
+    pub times : words.times seat' ≡ words.times seat ++ steps
+    pub span : IsSpan (words.clock seat) (words.clock seat') steps
+    pub writes : tells ≡ true → (e : ℕ) → e < count →
+        IsIntervalOf words.width steps e (words.writes seat (other process e)).times (words.writes seat' (other process e)).times
+        × IsWrite (words.writes seat (other process e)) (words.writes seat' (other process e)) item
+    pub unwritten : tells ≡ false → Keeps (words.writes seat) (words.writes seat') × (item ≡ own)
+    pub last : tells ≡ true → (e : ℕ) (first : Posted V) → e < count → last_or first (words.writes seat' (other process e)).items ≡ item
     pub reads : Keeps (words.reads seat) (words.reads seat')

@@ -1,5 +1,6 @@
--- Both are computed place by place.
+-- All are computed place by place.
 use Rattle.board_history.proofs.Instances.{is_fresh, is_stale}
+use Rattle.board_history.proofs.Silent.{is_silent, is_untold}
 use Rattle.board_history.proofs.laws.runs_of_two.Goals as goal
 
 pub returns-clause-fresh : goal.returns-clause-fresh
@@ -7,3 +8,9 @@ returns-clause-fresh c = is_fresh
 
 pub returns-clause-stale : goal.returns-clause-stale
 returns-clause-stale c = is_stale
+
+pub returns-clause-silent : goal.returns-clause-silent
+returns-clause-silent c = is_silent
+
+pub returns-clause-untold : goal.returns-clause-untold
+returns-clause-untold c = is_untold

@@ -1,8 +1,8 @@
 -- Each turn parts the next process off.
-use Rattle.std.proofs.Common.{◌≡◌, ◌+◌, ◌<◌, ◌∷◌, [], ap, ◌∙◌, refl, sym, subst, arith, replicate}
+use Rattle.std.proofs.Common.{◌+◌, ◌<◌, ap, ◌∙◌, refl, sym, subst, arith}
 use Rattle.family_four_slot.specs.declared.notes.View.TheVariants.{Has}
 use Rattle.family_four_slot.specs.FourSlots.{first_process}
-use Rattle.family_four_slot.proofs.Parting.{DealtTo, dealt_more, upto_next}
+use Rattle.family_four_slot.proofs.Parting.{DealtTo, dealt_more, upto_next, unstored}
 use Rattle.family_four_slot.proofs.family.seats_of.Goals as goal
 
 pub part-seat-requires-clause-some : goal.part-seat-requires-clause-some
@@ -24,7 +24,7 @@ loop-who-preserved g c =
             seat = c.part-seat.result;
             processes = c.args.n;
             who = c.loop-who.who;
-            remembered = replicate 16 (0 ∷ 0 ∷ []);
+            stored = unstored;
             spare = c.args.first;
           }) l h part.own.0 part.parted.0 part.own.1 part.parted.1 refl refl refl refl),
       c.push_reserved.ensures.capacity ∙ c.loop-who.invariant.1,

@@ -1,11 +1,12 @@
 -- The same as a read's, for both ends of a write: what is chosen is the item under the next stamp, or what was seen.
-use Rattle.std.proofs.Common.{◌≡◌, sym, ◌∙◌, ap, subst, inl, inr, arith, rules}
+use Rattle.std.proofs.Common.{◌≡◌, ◌-◌, sym, ◌∙◌, ap, subst, inl, inr, arith, rules}
 use Rattle.std.specs.Prelude.{IsTrue}
 use Rattle.history_core.specs.declared.history.Kind.TheVariants.{Write, Refused}
 use Rattle.stamps.specs.Stamps.{IsBelow}
 use Rattle.stamps.proofs.choices.Stamps.{at_most_below}
 use Rattle.atomic_board.specs.declared.record.Posted.{Posted}
 use Rattle.atomic_board.specs.Records.{or_item}
+use Rattle.atomic_board.proofs.Accessing.{row_told}
 use Rattle.atomic_board.proofs.Calling.{is_call, is_pass}
 use Rattle.atomic_board.proofs.Records.{rises_at_most}
 use Rattle.atomic_board.proofs.board.Board.write.Goals as goal
@@ -23,13 +24,15 @@ below_next g c = subst (λ s. IsBelow c.column.new.seen.stamp s) (sym c.in-Some.
 pub returns-in-Some-clause-pass : goal.returns-in-Some-clause-pass
 returns-in-Some-clause-pass g c =
     is_pass g.F.Family g.V.RecordLaw.obeys c.args.self.now c.args.pass.now c.requires.pass Write c.column.new.seen c.renew.new.self
-    c.column.new.seat c.row.new.seat c.column.ensures c.row.ensures
+    c.column.new.seat c.row.new.seat c.column.ensures (row_told g.F.Family c.args.self.now.family c.args.pass.now.process (c.args.self.now.processes - 1) c.column.new.seat c.row.new.seat
+    c.args.pass.now.own c.renew.new.self c.row.ensures)
     (subst (λ (z : Posted _). IsTrue (g.V.RecordLaw.obeys z.item)) (sym (chose_some g c)) c.requires.item)
 
 pub returns-in-None-clause-pass : goal.returns-in-None-clause-pass
 returns-in-None-clause-pass g c =
     is_pass g.F.Family g.V.RecordLaw.obeys c.args.self.now c.args.pass.now c.requires.pass Refused c.column.new.seen c.renew.new.self
-    c.column.new.seat c.row.new.seat c.column.ensures c.row.ensures
+    c.column.new.seat c.row.new.seat c.column.ensures (row_told g.F.Family c.args.self.now.family c.args.pass.now.process (c.args.self.now.processes - 1) c.column.new.seat c.row.new.seat
+    c.args.pass.now.own c.renew.new.self c.row.ensures)
     (subst (λ (z : Posted _). IsTrue (g.V.RecordLaw.obeys z.item)) (sym (chose_none g c)) c.column.ensures.lawful)
 
 pub returns-in-Some-clause-call : goal.returns-in-Some-clause-call
@@ -40,7 +43,8 @@ returns-in-Some-clause-call g c =
     let next = ap (λ (z : Posted _). z.stamp) chose ∙ c.in-Some.ensures.1 in (
       seen,
       is_call g.F.Family g.V.RecordLaw.obeys c.args.self.now c.args.pass.now c.requires.pass Write seen c.renew.new.self c.column.new.seat
-          c.row.new.seat c.column.ensures c.row.ensures
+          c.row.new.seat c.column.ensures (row_told g.F.Family c.args.self.now.family c.args.pass.now.process (c.args.self.now.processes - 1) c.column.new.seat c.row.new.seat
+          c.args.pass.now.own c.renew.new.self c.row.ensures)
           (inl (subst (λ (z : Posted _). IsBelow seen.stamp z.stamp) (sym chose) (below_next g c))) (λ place. (below, next)),
       (below, c.in-Some.ensures.1, chose),
     )
@@ -53,7 +57,8 @@ returns-in-None-clause-call g c =
     let item = ap (λ (z : Posted _). z.item) chose in (
       seen,
       is_call g.F.Family g.V.RecordLaw.obeys c.args.self.now c.args.pass.now c.requires.pass Refused seen c.renew.new.self c.column.new.seat
-          c.row.new.seat c.column.ensures c.row.ensures (inr (sym stamp, sym item)) (λ place. (c.in-None.ensures, stamp, item)),
+          c.row.new.seat c.column.ensures (row_told g.F.Family c.args.self.now.family c.args.pass.now.process (c.args.self.now.processes - 1) c.column.new.seat c.row.new.seat
+          c.args.pass.now.own c.renew.new.self c.row.ensures) (inr (sym stamp, sym item)) (λ place. (c.in-None.ensures, stamp, item)),
       (c.in-None.ensures, chose, chose),
     )
 

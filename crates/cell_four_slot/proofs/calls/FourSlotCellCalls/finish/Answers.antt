@@ -1,28 +1,20 @@
 -- The reader makes R1 and R2 and so gives its slot back; then its seat is joined into the writer's, where both lists meet.
-use Rattle.std.proofs.Common.{ap, ◌∙◌, refl, subst, sym}
+use Rattle.std.proofs.Common.{ap, ◌∙◌, subst, sym}
 use Rattle.fourslot_core.specs.declared.state.Stage.TheVariants as writer
 use Rattle.fourslot_core.specs.declared.state.ReaderStage.TheVariants as reader
 use Rattle.cell_four_slot.specs.Rule.{IsTimed}
 use Rattle.cell_four_slot.proofs.Timing.{timed_ends}
 use Rattle.cell_live.specs.Sights.{writer_or, reader_or}
-use Rattle.cell_four_slot.specs.Steps.{first_writer, first_reader, asked_by, said_by, whole_of}
+use Rattle.cell_four_slot.specs.Steps.{first_writer, first_reader, asked_by, said_with, whole_of}
 use Rattle.cell_four_slot.specs.declared.notes.WriterNotes.{WriterNotes}
 use Rattle.cell_four_slot.specs.declared.notes.ReaderNotes.{ReaderNotes}
 use Rattle.cell_four_slot.proofs.calls.FourSlotCellCalls.finish.Goals as goal
 
-pub ask-pair-requires-clause-idle : goal.ask-pair-requires-clause-idle
-ask-pair-requires-clause-idle g c =
+pub announce-requires-clause-idle : goal.announce-requires-clause-idle
+announce-requires-clause-idle g c =
     let get = c.args.get in
     let n : ReaderNotes g.row.T.Denot = reader_or (first_reader get.spare) get.seat.inner.me.0 in
-    (n, get.known, get.idle)
-
-pub say-requires-clause-asked : goal.say-requires-clause-asked
-say-requires-clause-asked g c =
-    let get = c.args.get in
-    let n : ReaderNotes g.row.T.Denot = reader_or (first_reader get.spare) get.seat.inner.me.0 in
-    let a = c.ask-pair.ensures.asked n get.known in
-    let n1 : ReaderNotes g.row.T.Denot = asked_by n a.0 a.2 in
-    (n1, (λ i. (a.4 i, (a.5 ∙ get.holds) i)), refl, a.1)
+    (n, (λ i. (get.known i, get.holds i)), get.idle, get.stored)
 
 pub end-requires-clause-writer : goal.end-requires-clause-writer
 end-requires-clause-writer g c =
@@ -34,24 +26,22 @@ pub end-requires-clause-reader : goal.end-requires-clause-reader
 end-requires-clause-reader g c =
     let get = c.args.get in
     let n : ReaderNotes g.row.T.Denot = reader_or (first_reader get.spare) get.seat.inner.me.0 in
-    let a = c.ask-pair.ensures.asked n get.known in
-    let n1 : ReaderNotes g.row.T.Denot = asked_by n a.0 a.2 in
-    let b = c.say.ensures.said n1 a.4 (a.5 ∙ get.holds) in
-    (said_by n1 b.0, (λ i. (b.2 i, b.3 i)))
+    let a = c.announce.ensures.announced n get.known get.holds in
+    (said_with (asked_by n a.0 a.2) a.4 a.3, (λ i. (a.9 i, a.10 i)))
 
 pub returns : goal.returns
 returns g c =
     let get = c.args.get in let n : ReaderNotes g.row.T.Denot = reader_or (first_reader get.spare) get.seat.inner.me.0 in
-    let a = c.ask-pair.ensures.asked n get.known in let n1 : ReaderNotes g.row.T.Denot = asked_by n a.0 a.2 in
-    let b = c.say.ensures.said n1 a.4 (a.5 ∙ get.holds) in let n2 : ReaderNotes g.row.T.Denot = said_by n1 b.0 in
+    let a = c.announce.ensures.announced n get.known get.holds in
+    let n2 : ReaderNotes g.row.T.Denot = said_with (asked_by n a.0 a.2) a.4 a.3 in
     let p : WriterNotes g.row.T.Denot = writer_or (first_writer c.args.put.spare) c.args.put.seat.inner.me.0 in
     let o : g.row.T.Denot = c.args.self.table.inner.shared.key in
-    let both = ap (λ m. m.0) c.end.ensures.joined ∙ (λ i. whole_of ((ap (λ m. m.0) c.args.put.known) i) (b.2 i)) in
+    let both = ap (λ m. m.0) c.end.ensures.joined ∙ (λ i. whole_of ((ap (λ m. m.0) c.args.put.known) i) (a.9 i)) in
     let h = c.close.ensures.timed p n2 both in
     let timed : IsTimed o p n2 h.0 writer.W5 reader.R2 h.1 h.2 = subst (λ z. IsTimed o p n2 h.0 z reader.R2 h.1 h.2) c.args.put.idle h.3 in
     record {
       settled = c.close.ensures.settled p n2 both;
-      atomic = timed_ends o p n a.0 a.2 b.0 h.0 h.1 h.2 timed;
+      atomic = timed_ends o p n a.0 a.2 a.3 a.4 h.0 h.1 h.2 timed;
       ended = timed.ended_writes ∙ sym timed.begun_writes;
       known = c.close.ensures.known p n2 both;
     }

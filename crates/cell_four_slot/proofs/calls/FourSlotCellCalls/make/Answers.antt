@@ -1,8 +1,9 @@
 -- The first seat has made no event, so the two seats that it is split into stand at the opening state.
 use Rattle.std.proofs.Common.{rules, ◌≡◌, [], sym, ap, ◌∙◌}
+use Rattle.fourslot_core.specs.Events.{bit_number}
 use Rattle.cell_live.specs.Running.{last_or}
 use Rattle.cell_live.specs.Sights.{writer_or, reader_or}
-use Rattle.cell_four_slot.specs.Steps.{first_writer, first_reader, slot_of_choice, bit_words}
+use Rattle.cell_four_slot.specs.Steps.{first_writer, first_reader, slot_of_choice, word_said, bit_words}
 use Rattle.cell_four_slot.specs.declared.notes.WriterNotes.{WriterNotes}
 use Rattle.cell_four_slot.specs.declared.notes.ReaderNotes.{ReaderNotes}
 use Rattle.cell_live.specs.declared.sight.Sight.TheVariants.{Writer, Reader}
@@ -19,6 +20,7 @@ invariant_of-result g c =
       known = is ∙ (λ i. (Writer (writer_or d (sym is i).0), []));
       idle = ap (λ m. (writer_or d m.0).stage) is;
       bits = ap (λ m. bit_words (writer_or d m.0).remembered) is;
+      shown = λ i. bit_number (writer_or d (sym is i).0).latest;
       newest = ap (λ m. (writer_or d m.0).finished.value) is
           ∙ sym (ap (λ m. last_or {T = g.row.T.Denot} (writer_or d m.0).opening.value (writer_or d m.0).written) is);
     }
@@ -32,4 +34,5 @@ invariant_of-result-2 g c =
       idle = ap (λ m. (reader_or d m.0).stage) is;
       holds = ap (λ m. m.1) is
           ∙ (λ i. slot_of_choice {T = g.row.T.Denot} (reader_or d (sym is i).0).chosen (reader_or d (sym is i).0).at_hand.value);
+      stored = λ i. word_said (reader_or d (sym is i).0).chosen;
     }

@@ -1,6 +1,7 @@
 -- The two views are made one.
 use Rattle.std.proofs.Common.{ap, arith}
 use Rattle.cell_four_slot.proofs.Keeps.{ends_ok}
+use Rattle.cell_four_slot.proofs.Spread.{spread_joins}
 use Rattle.cell_four_slot.proofs.table.FourSlotTable.end.Goals as goal
 
 pub join_seat-requires : goal.join_seat-requires
@@ -12,5 +13,5 @@ join_seat-requires g c =
       ap (λ m. m.1) u.1,
       (let s = c.args.self.now.sized in
           omega arith),
-      ends_ok g.T.Lawful.fits g.T.Lawful.rises _ _ _ _ _ t.0 u.0 t.1 (ap (λ m. m.0) u.1),
+      spread_joins g.T.Lawful.fits g.T.Lawful.rises _ _ _ _ _ _ _ (ends_ok g.T.Lawful.fits g.T.Lawful.rises _ _ _ _ _ t.0 u.0 t.1 (ap (λ m. m.0) u.1)),
     )

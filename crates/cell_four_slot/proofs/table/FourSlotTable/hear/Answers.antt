@@ -1,6 +1,7 @@
 -- The record of a receipt is shown already.
 use Rattle.std.proofs.Common.{ap, arith}
 use Rattle.cell_four_slot.proofs.Keeps.{hears_ok}
+use Rattle.cell_four_slot.proofs.Spread.{spread_joins}
 use Rattle.cell_four_slot.proofs.table.FourSlotTable.hear.Goals as goal
 
 pub join_seat-requires : goal.join_seat-requires
@@ -12,5 +13,5 @@ join_seat-requires g c =
       ap (λ m. m.1) u.1,
       (let s = c.args.self.now.sized in
           omega arith),
-      hears_ok g.T.Lawful.fits g.T.Lawful.rises _ _ _ _ _ t.0 u.0 t.1 (ap (λ m. m.0) u.1) t.2,
+      spread_joins g.T.Lawful.fits g.T.Lawful.rises _ _ _ _ _ _ _ (hears_ok g.T.Lawful.fits g.T.Lawful.rises _ _ _ _ _ t.0 u.0 t.1 (ap (λ m. m.0) u.1) t.2),
     )

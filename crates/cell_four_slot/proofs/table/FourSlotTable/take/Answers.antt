@@ -1,7 +1,7 @@
 -- The load of the pair's word takes the slot that it names.
 use Rattle.std.proofs.Common.{ap, arith}
 use Rattle.cell_four_slot.proofs.Slots.{bit_low}
-use Rattle.cell_four_slot.proofs.Keeps.{takes_ok}
+use Rattle.cell_four_slot.proofs.Spread.{takes_spread}
 use Rattle.cell_four_slot.proofs.table.FourSlotTable.take.Goals as goal
 
 pub load-requires : goal.load-requires
@@ -12,6 +12,6 @@ load-requires g c =
           let w = t.3 in
           let s = c.args.self.now.sized in
           omega arith),
-      takes_ok g.T.Lawful.fits g.T.Lawful.rises _ g.T.Lawful.reflexive g.T.Lawful.transitive _ _ _ t.0 _ (ap (λ m. m.0) t.1)
+      takes_spread g.T.Lawful.fits g.T.Lawful.rises _ g.T.Lawful.reflexive g.T.Lawful.transitive _ _ _ t.0 _ (ap (λ m. m.0) t.1)
           (ap (λ m. m.1) t.1) t.2 t.3,
     )

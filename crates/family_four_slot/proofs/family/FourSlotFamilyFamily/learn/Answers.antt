@@ -1,12 +1,12 @@
 -- The view of a seat after a receipt is that of its process, which has learnt it.
-use Rattle.std.proofs.Common.{◌≡◌, ◌≢◌, ◌<◌, ℕ, List, [], ◌∷◌, sym, ap, ◌∙◌, subst, refl}
+use Rattle.std.proofs.Common.{◌≡◌, ◌≢◌, ◌<◌, ℕ, [], ◌∷◌, sym, ap, ◌∙◌, subst, refl}
 use Rattle.cell_four_slot.specs.Steps.{FourSlotSight, hears_of}
 use Rattle.cell_live.specs.Running.{snap}
 use Rattle.cell_live.specs.declared.sight.Sight.TheVariants.{Spent, Told as Tells}
 use Rattle.family_live.specs.Accesses.{IsHeardRead, Keeps, KeepsOthers}
 use Rattle.family_four_slot.specs.declared.notes.Process.{Process}
 use Rattle.family_four_slot.specs.declared.notes.Receipt.{Receipt}
-use Rattle.family_four_slot.specs.declared.notes.View.TheVariants.{Told, Has}
+use Rattle.family_four_slot.specs.declared.notes.View.TheVariants.{Has}
 use Rattle.family_four_slot.specs.Family.{heard_by, of_cell}
 use Rattle.family_four_slot.specs.Places.{place, writer_of}
 use Rattle.family_four_slot.specs.Seats.{learnt_by}
@@ -25,7 +25,7 @@ returns-clause-own g c =
     let me : c.hear.new.seat.inner.me.0 ≡ Has (heard_by hears_of v r ∷ []) =
     ap (λ z. z.0) c.hear.ensures.joined ∙ (λ i. learnt_by hears_of (own.one i) ((ap (λ z. z.0) c.requires.own.1.one) i)) in (
       seat_after c.args.self.now s own (record s { seat = c.hear.new.seat }) (heard_by hears_of v r) s.seat.inner.me.1 c.hear.ensures.own refl refl refl me
-          (ap (λ z. z.1) c.hear.ensures.joined) refl (rest_heard s.spare s.processes v r s.remembered s.seat.inner.me.1 own.rest),
+          (ap (λ z. z.1) c.hear.ensures.joined) refl (rest_heard s.spare s.processes v r s.stored s.seat.inner.me.1 own.rest),
       refl,
     )
 
@@ -46,7 +46,7 @@ returns-clause-heard g c = λ away.
     (λ i. of_cell Spent (place (sym n i) t.from (own.who i)) r.parts) ∙ told.row s.who inside (λ e. away (sym e)) in
     subst (λ z. IsHeardRead (reads_from s.spare s.processes v t.from) (reads_from s.spare s.processes z t.from) (naming t s.who).item)
     (sym (ap process_of me))
-    (is_heard s.spare s.processes v r s.remembered s.seat.inner.me.1 own.rest t.from lf (naming t s.who) (λ e. away (e ∙ own.who)) row)
+    (is_heard s.spare s.processes v r s.stored s.seat.inner.me.1 own.rest t.from lf (naming t s.who) (λ e. away (e ∙ own.who)) row)
 
 pub returns-clause-others : goal.returns-clause-others
 returns-clause-others g c =
@@ -64,6 +64,6 @@ returns-clause-others g c =
     subst (λ z. (k : ℕ) → writer_of z k ≢ t.from → of_cell Spent k r.parts ≡ Spent) n told.elsewhere in
     subst (λ z. Keeps (writes_to s.spare s.processes v) (writes_to s.spare s.processes z)
     × KeepsOthers t.from (reads_from s.spare s.processes v) (reads_from s.spare s.processes z)) (sym (ap process_of me)) (
-      writes_stay s.spare s.processes v r s.remembered s.seat.inner.me.1 own.rest,
-      others_stay s.spare s.processes v r s.remembered s.seat.inner.me.1 own.rest t.from lf elsewhere,
+      writes_stay s.spare s.processes v r s.stored s.seat.inner.me.1 own.rest,
+      others_stay s.spare s.processes v r s.stored s.seat.inner.me.1 own.rest t.from lf elsewhere,
     )

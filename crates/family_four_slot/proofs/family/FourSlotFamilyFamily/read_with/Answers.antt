@@ -1,27 +1,24 @@
 -- The three steps take the slot that has the answer: one answer more, and each other cell as before.
-use Rattle.std.proofs.Common.{◌≡◌, ◌≢◌, ◌+◌, ◌*◌, ◌<◌, ℕ, Bool, List, [], ◌∷◌, ◌++◌, sym, ap, ◌∙◌, subst, refl, arith}
-use Rattle.std.specs.Fn.{FnOnceTakesAt, FnOnceReturnsAt}
+use Rattle.std.proofs.Common.{length, set, ◌≡◌, ◌+◌, ◌<◌, ℕ, Bool, List, ◌∷◌, ◌++◌, sym, ap, ◌∙◌, subst, refl}
 use Rattle.fourslot_core.specs.Events.{bit_number, slot_number, slot_with}
-use Rattle.cell_live.specs.Running.{held_slots, IsAnswer}
-use Rattle.cell_four_slot.specs.Steps.{asked_by, said_by, got_by, slot_of_choice, FourSlotSight}
+use Rattle.cell_live.specs.Running.{held_slots}
+use Rattle.cell_four_slot.specs.Steps.{asked_by, said_with, got_by, FourSlotSight}
 use Rattle.cell_four_slot.specs.declared.notes.ReaderNotes.{ReaderNotes}
 use Rattle.cell_live.specs.declared.sight.Sight.TheVariants.{Spent, Reader}
 use Rattle.cell_four_slot.proofs.Slots.{slot_low}
-use Rattle.family_live.specs.Accesses.{IsAccess, IsRead, Keeps, KeepsOthers, Reads}
 use Rattle.family_four_slot.specs.declared.notes.Process.{Process}
-use Rattle.family_four_slot.specs.declared.notes.View.TheVariants.{Has}
 use Rattle.family_four_slot.specs.Family.{knows}
-use Rattle.family_four_slot.specs.Layouts.{shift}
 use Rattle.family_four_slot.specs.Places.{slot_at}
-use Rattle.family_four_slot.specs.Seated.{known_by, reads_of, opening_of, IsSeat}
-use Rattle.family_four_slot.specs.Steps.{After}
-use Rattle.family_four_slot.specs.Words.{process_of, writes_to, reads_from, HasSlots, IsAtRest}
+use Rattle.family_four_slot.specs.Seated.{known_by}
+use Rattle.family_four_slot.specs.Steps.{After, has_asked}
+use Rattle.family_four_slot.specs.Words.{HasSlots}
+use Rattle.family_four_slot.proofs.Slices.{set_long}
 use Rattle.family_four_slot.proofs.Done.{has_read, is_answer}
-use Rattle.family_four_slot.proofs.Going.{first_word, pair_low, pair_word, reader_after, within, apart, column_at, column_place, column_inside, column_long, column_notes, column_reader, seat_after}
+use Rattle.family_four_slot.proofs.Going.{pair_low, pair_word, reader_after, column_at, column_place, column_inside, column_long, column_notes, column_reader}
 use Rattle.family_four_slot.proofs.family.FourSlotFamilyFamily.read_with.Goals as goal
 
-pub ask-latest-requires-clause-idle : goal.ask-latest-requires-clause-idle
-ask-latest-requires-clause-idle g c =
+pub announce-latest-requires-clause-idle : goal.announce-latest-requires-clause-idle
+announce-latest-requires-clause-idle g c =
     let f = c.args.self.now in
     let s = c.args.seat.now in
     let own = c.requires.own in
@@ -33,29 +30,8 @@ ask-latest-requires-clause-idle g c =
     let column = column_at f s own c.args.from other in
     let n0 : ReaderNotes g.row.T.Denot = column.notes in
     let long = column_long f s own c.args.from other cell at in
-    (v, n0, column_reader f s own c.args.from other cell at, column.idle)
-
-pub say-requires-clause-asked : goal.say-requires-clause-asked
-say-requires-clause-asked g c =
-    let f = c.args.self.now in
-    let s = c.args.seat.now in
-    let own = c.requires.own in
-    let other = c.requires.other in
-    let cell : ℕ = c.place-cell.result in
-    let at = c.place-cell.ensures in
-    let cs : List (ℕ × g.row.T.Denot) = s.seat.inner.me.1 in
-    let v : Process (FourSlotSight g.row.T.Denot) = known_by s in
-    let column = column_at f s own c.args.from other in
-    let n0 : ReaderNotes g.row.T.Denot = column.notes in
-    let long = column_long f s own c.args.from other cell at in
-    let t = c.ask-latest.ensures.asked cell v n0 (first_word cell) own.one (column_notes f s own c.args.from other cell at) in
-    let b : Bool = t.0 in
-    let n1 : ReaderNotes g.row.T.Denot = asked_by n0 b t.1 in
-    let a1 : After v cell (Reader n1) t.1 cs c.ask-latest.new.seat.inner.me = t.4 in
-    let v1 : Process (FourSlotSight g.row.T.Denot) = knows Spent v cell (Reader n1) t.1 (held_slots cs) in
-    let r1 = reader_after v cell t.1 n1 cs c.ask-latest.new.seat.inner.me long a1 in
     let column_there = subst (λ z. HasSlots z n0 cs) (sym (column_place f s own c.args.from other cell at)) column.slots in
-    (v1, n1, column_there.0, column_there.1, r1, a1.2 ∙ column_there.2, refl, t.2)
+    (v, n0, column_there.0, column_there.1, column_reader f s own c.args.from other cell at, column_there.2, column.idle, column.stored)
 
 pub take-index-requires-clause-said : goal.take-index-requires-clause-said
 take-index-requires-clause-said g c =
@@ -70,20 +46,18 @@ take-index-requires-clause-said g c =
     let column = column_at f s own c.args.from other in
     let n0 : ReaderNotes g.row.T.Denot = column.notes in
     let long = column_long f s own c.args.from other cell at in
-    let t = c.ask-latest.ensures.asked cell v n0 (first_word cell) own.one (column_notes f s own c.args.from other cell at) in
+    let t = c.announce-latest.ensures.announced v n0 own.one (column_notes f s own c.args.from other cell at) in
     let b : Bool = t.0 in
     let n1 : ReaderNotes g.row.T.Denot = asked_by n0 b t.1 in
-    let a1 : After v cell (Reader n1) t.1 cs c.ask-latest.new.seat.inner.me = t.4 in
-    let v1 : Process (FourSlotSight g.row.T.Denot) = knows Spent v cell (Reader n1) t.1 (held_slots cs) in
-    let r1 = reader_after v cell t.1 n1 cs c.ask-latest.new.seat.inner.me long a1 in
-    let u = c.say.ensures.said cell v1 n1 refl a1.1 r1.notes in
-    let before : List (ℕ × g.row.T.Denot) = u.0 in
-    let behind : List (ℕ × g.row.T.Denot) = u.1 in
-    let n2 : ReaderNotes g.row.T.Denot = said_by n1 u.2 in
-    let a2 : After v1 cell (Reader n2) u.2 (before ++ behind) c.say.new.seat.inner.me = u.5 in
-    let v2 : Process (FourSlotSight g.row.T.Denot) = knows Spent v1 cell (Reader n2) u.2 (held_slots (before ++ behind)) in
-    let r2 = reader_after v1 cell u.2 n2 (before ++ behind) c.say.new.seat.inner.me r1.process.has a2 in
-    (v2, n2, r2, refl, t.2)
+    let v1 : Process (FourSlotSight g.row.T.Denot) = has_asked v cell n0 b t.1 cs in
+    let has1 : cell < length v1.parts = subst (λ z. cell < z) (sym (set_long v.parts cell (Reader n1))) long in
+    let before : List (ℕ × g.row.T.Denot) = t.4 in
+    let behind : List (ℕ × g.row.T.Denot) = t.5 in
+    let n2 : ReaderNotes g.row.T.Denot = said_with n1 t.3 t.2 in
+    let a2 : After v1 cell (Reader n2) t.2 (before ++ behind) c.announce-latest.new.seat.inner.me = t.11 in
+    let v2 : Process (FourSlotSight g.row.T.Denot) = knows Spent v1 cell (Reader n2) t.2 (held_slots (before ++ behind)) in
+    let r2 = reader_after v1 cell t.2 n2 (before ++ behind) c.announce-latest.new.seat.inner.me has1 a2 in
+    (v2, n2, r2, refl, t.6)
 
 pub slot_of-slot-requires : goal.slot_of-slot-requires
 slot_of-slot-requires g c =
@@ -98,26 +72,24 @@ slot_of-slot-requires g c =
     let column = column_at f s own c.args.from other in
     let n0 : ReaderNotes g.row.T.Denot = column.notes in
     let long = column_long f s own c.args.from other cell at in
-    let t = c.ask-latest.ensures.asked cell v n0 (first_word cell) own.one (column_notes f s own c.args.from other cell at) in
+    let t = c.announce-latest.ensures.announced v n0 own.one (column_notes f s own c.args.from other cell at) in
     let b : Bool = t.0 in
     let n1 : ReaderNotes g.row.T.Denot = asked_by n0 b t.1 in
-    let a1 : After v cell (Reader n1) t.1 cs c.ask-latest.new.seat.inner.me = t.4 in
-    let v1 : Process (FourSlotSight g.row.T.Denot) = knows Spent v cell (Reader n1) t.1 (held_slots cs) in
-    let r1 = reader_after v cell t.1 n1 cs c.ask-latest.new.seat.inner.me long a1 in
-    let u = c.say.ensures.said cell v1 n1 refl a1.1 r1.notes in
-    let before : List (ℕ × g.row.T.Denot) = u.0 in
-    let behind : List (ℕ × g.row.T.Denot) = u.1 in
-    let n2 : ReaderNotes g.row.T.Denot = said_by n1 u.2 in
-    let a2 : After v1 cell (Reader n2) u.2 (before ++ behind) c.say.new.seat.inner.me = u.5 in
-    let v2 : Process (FourSlotSight g.row.T.Denot) = knows Spent v1 cell (Reader n2) u.2 (held_slots (before ++ behind)) in
-    let r2 = reader_after v1 cell u.2 n2 (before ++ behind) c.say.new.seat.inner.me r1.process.has a2 in
+    let v1 : Process (FourSlotSight g.row.T.Denot) = has_asked v cell n0 b t.1 cs in
+    let has1 : cell < length v1.parts = subst (λ z. cell < z) (sym (set_long v.parts cell (Reader n1))) long in
+    let before : List (ℕ × g.row.T.Denot) = t.4 in
+    let behind : List (ℕ × g.row.T.Denot) = t.5 in
+    let n2 : ReaderNotes g.row.T.Denot = said_with n1 t.3 t.2 in
+    let a2 : After v1 cell (Reader n2) t.2 (before ++ behind) c.announce-latest.new.seat.inner.me = t.11 in
+    let v2 : Process (FourSlotSight g.row.T.Denot) = knows Spent v1 cell (Reader n2) t.2 (held_slots (before ++ behind)) in
+    let r2 = reader_after v1 cell t.2 n2 (before ++ behind) c.announce-latest.new.seat.inner.me has1 a2 in
     let i2 : 2 + bit_number b < 4 = pair_low b in
-    let e = c.take-index.ensures.taken cell (2 + bit_number b) v2 n2 i2 (pair_word cell c.ask-latest.result b t.2) a2.1 r2.notes in
+    let e = c.take-index.ensures.taken cell (2 + bit_number b) v2 n2 i2 (pair_word cell c.announce-latest.result b t.6) a2.1 r2.notes in
     let bit : Bool = e.0 in
     let x : g.row.T.Denot = e.1 in
     let n3 : ReaderNotes g.row.T.Denot = got_by n2 bit x e.2 e.3 e.4 in
-    let a3 : After v2 cell (Reader n3) e.2 ((slot_at cell (slot_number (slot_with b bit)), x) ∷ c.say.new.seat.inner.me.1) c.take-index.new.seat.inner.me = e.7 in
-    (b, bit, t.2, e.5)
+    let a3 : After v2 cell (Reader n3) e.2 ((slot_at cell (slot_number (slot_with b bit)), x) ∷ c.announce-latest.new.seat.inner.me.1) c.take-index.new.seat.inner.me = e.7 in
+    (b, bit, t.6, e.5)
 
 pub lend-requires-clause-place : goal.lend-requires-clause-place
 lend-requires-clause-place g c =
@@ -132,26 +104,24 @@ lend-requires-clause-place g c =
     let column = column_at f s own c.args.from other in
     let n0 : ReaderNotes g.row.T.Denot = column.notes in
     let long = column_long f s own c.args.from other cell at in
-    let t = c.ask-latest.ensures.asked cell v n0 (first_word cell) own.one (column_notes f s own c.args.from other cell at) in
+    let t = c.announce-latest.ensures.announced v n0 own.one (column_notes f s own c.args.from other cell at) in
     let b : Bool = t.0 in
     let n1 : ReaderNotes g.row.T.Denot = asked_by n0 b t.1 in
-    let a1 : After v cell (Reader n1) t.1 cs c.ask-latest.new.seat.inner.me = t.4 in
-    let v1 : Process (FourSlotSight g.row.T.Denot) = knows Spent v cell (Reader n1) t.1 (held_slots cs) in
-    let r1 = reader_after v cell t.1 n1 cs c.ask-latest.new.seat.inner.me long a1 in
-    let u = c.say.ensures.said cell v1 n1 refl a1.1 r1.notes in
-    let before : List (ℕ × g.row.T.Denot) = u.0 in
-    let behind : List (ℕ × g.row.T.Denot) = u.1 in
-    let n2 : ReaderNotes g.row.T.Denot = said_by n1 u.2 in
-    let a2 : After v1 cell (Reader n2) u.2 (before ++ behind) c.say.new.seat.inner.me = u.5 in
-    let v2 : Process (FourSlotSight g.row.T.Denot) = knows Spent v1 cell (Reader n2) u.2 (held_slots (before ++ behind)) in
-    let r2 = reader_after v1 cell u.2 n2 (before ++ behind) c.say.new.seat.inner.me r1.process.has a2 in
+    let v1 : Process (FourSlotSight g.row.T.Denot) = has_asked v cell n0 b t.1 cs in
+    let has1 : cell < length v1.parts = subst (λ z. cell < z) (sym (set_long v.parts cell (Reader n1))) long in
+    let before : List (ℕ × g.row.T.Denot) = t.4 in
+    let behind : List (ℕ × g.row.T.Denot) = t.5 in
+    let n2 : ReaderNotes g.row.T.Denot = said_with n1 t.3 t.2 in
+    let a2 : After v1 cell (Reader n2) t.2 (before ++ behind) c.announce-latest.new.seat.inner.me = t.11 in
+    let v2 : Process (FourSlotSight g.row.T.Denot) = knows Spent v1 cell (Reader n2) t.2 (held_slots (before ++ behind)) in
+    let r2 = reader_after v1 cell t.2 n2 (before ++ behind) c.announce-latest.new.seat.inner.me has1 a2 in
     let i2 : 2 + bit_number b < 4 = pair_low b in
-    let e = c.take-index.ensures.taken cell (2 + bit_number b) v2 n2 i2 (pair_word cell c.ask-latest.result b t.2) a2.1 r2.notes in
+    let e = c.take-index.ensures.taken cell (2 + bit_number b) v2 n2 i2 (pair_word cell c.announce-latest.result b t.6) a2.1 r2.notes in
     let bit : Bool = e.0 in
     let x : g.row.T.Denot = e.1 in
     let n3 : ReaderNotes g.row.T.Denot = got_by n2 bit x e.2 e.3 e.4 in
-    let a3 : After v2 cell (Reader n3) e.2 ((slot_at cell (slot_number (slot_with b bit)), x) ∷ c.say.new.seat.inner.me.1) c.take-index.new.seat.inner.me = e.7 in
-    let slot : c.slot_of-slot.result ≡ slot_number (slot_with b bit) = c.slot_of-slot.ensures b bit t.2 e.5 in
+    let a3 : After v2 cell (Reader n3) e.2 ((slot_at cell (slot_number (slot_with b bit)), x) ∷ c.announce-latest.new.seat.inner.me.1) c.take-index.new.seat.inner.me = e.7 in
+    let slot : c.slot_of-slot.result ≡ slot_number (slot_with b bit) = c.slot_of-slot.ensures b bit t.6 e.5 in
     (column_inside f s own c.args.from other cell at, subst (λ z. z < 4) (sym slot) (slot_low (slot_with b bit)))
 
 pub lend-requires-clause-held : goal.lend-requires-clause-held
@@ -167,28 +137,26 @@ lend-requires-clause-held g c =
     let column = column_at f s own c.args.from other in
     let n0 : ReaderNotes g.row.T.Denot = column.notes in
     let long = column_long f s own c.args.from other cell at in
-    let t = c.ask-latest.ensures.asked cell v n0 (first_word cell) own.one (column_notes f s own c.args.from other cell at) in
+    let t = c.announce-latest.ensures.announced v n0 own.one (column_notes f s own c.args.from other cell at) in
     let b : Bool = t.0 in
     let n1 : ReaderNotes g.row.T.Denot = asked_by n0 b t.1 in
-    let a1 : After v cell (Reader n1) t.1 cs c.ask-latest.new.seat.inner.me = t.4 in
-    let v1 : Process (FourSlotSight g.row.T.Denot) = knows Spent v cell (Reader n1) t.1 (held_slots cs) in
-    let r1 = reader_after v cell t.1 n1 cs c.ask-latest.new.seat.inner.me long a1 in
-    let u = c.say.ensures.said cell v1 n1 refl a1.1 r1.notes in
-    let before : List (ℕ × g.row.T.Denot) = u.0 in
-    let behind : List (ℕ × g.row.T.Denot) = u.1 in
-    let n2 : ReaderNotes g.row.T.Denot = said_by n1 u.2 in
-    let a2 : After v1 cell (Reader n2) u.2 (before ++ behind) c.say.new.seat.inner.me = u.5 in
-    let v2 : Process (FourSlotSight g.row.T.Denot) = knows Spent v1 cell (Reader n2) u.2 (held_slots (before ++ behind)) in
-    let r2 = reader_after v1 cell u.2 n2 (before ++ behind) c.say.new.seat.inner.me r1.process.has a2 in
+    let v1 : Process (FourSlotSight g.row.T.Denot) = has_asked v cell n0 b t.1 cs in
+    let has1 : cell < length v1.parts = subst (λ z. cell < z) (sym (set_long v.parts cell (Reader n1))) long in
+    let before : List (ℕ × g.row.T.Denot) = t.4 in
+    let behind : List (ℕ × g.row.T.Denot) = t.5 in
+    let n2 : ReaderNotes g.row.T.Denot = said_with n1 t.3 t.2 in
+    let a2 : After v1 cell (Reader n2) t.2 (before ++ behind) c.announce-latest.new.seat.inner.me = t.11 in
+    let v2 : Process (FourSlotSight g.row.T.Denot) = knows Spent v1 cell (Reader n2) t.2 (held_slots (before ++ behind)) in
+    let r2 = reader_after v1 cell t.2 n2 (before ++ behind) c.announce-latest.new.seat.inner.me has1 a2 in
     let i2 : 2 + bit_number b < 4 = pair_low b in
-    let e = c.take-index.ensures.taken cell (2 + bit_number b) v2 n2 i2 (pair_word cell c.ask-latest.result b t.2) a2.1 r2.notes in
+    let e = c.take-index.ensures.taken cell (2 + bit_number b) v2 n2 i2 (pair_word cell c.announce-latest.result b t.6) a2.1 r2.notes in
     let bit : Bool = e.0 in
     let x : g.row.T.Denot = e.1 in
     let n3 : ReaderNotes g.row.T.Denot = got_by n2 bit x e.2 e.3 e.4 in
-    let a3 : After v2 cell (Reader n3) e.2 ((slot_at cell (slot_number (slot_with b bit)), x) ∷ c.say.new.seat.inner.me.1) c.take-index.new.seat.inner.me = e.7 in
-    let slot : c.slot_of-slot.result ≡ slot_number (slot_with b bit) = c.slot_of-slot.ensures b bit t.2 e.5 in
+    let a3 : After v2 cell (Reader n3) e.2 ((slot_at cell (slot_number (slot_with b bit)), x) ∷ c.announce-latest.new.seat.inner.me.1) c.take-index.new.seat.inner.me = e.7 in
+    let slot : c.slot_of-slot.result ≡ slot_number (slot_with b bit) = c.slot_of-slot.ensures b bit t.6 e.5 in
     let answer = is_answer f s own c.args.from other cell at g.T.Lawful.fits g.T.Lawful.rises x e.8 in
-    (x, c.say.new.seat.inner.me.1, a3.2 ∙ ap (λ z. (slot_at cell z, x) ∷ c.say.new.seat.inner.me.1) (sym slot), c.requires.callable x answer)
+    (x, c.announce-latest.new.seat.inner.me.1, a3.2 ∙ ap (λ z. (slot_at cell z, x) ∷ c.announce-latest.new.seat.inner.me.1) (sym slot), c.requires.callable x answer)
 
 pub returns : goal.returns
 returns g c =
@@ -203,33 +171,32 @@ returns g c =
     let column = column_at f s own c.args.from other in
     let n0 : ReaderNotes g.row.T.Denot = column.notes in
     let long = column_long f s own c.args.from other cell at in
-    let t = c.ask-latest.ensures.asked cell v n0 (first_word cell) own.one (column_notes f s own c.args.from other cell at) in
+    let t = c.announce-latest.ensures.announced v n0 own.one (column_notes f s own c.args.from other cell at) in
     let b : Bool = t.0 in
     let n1 : ReaderNotes g.row.T.Denot = asked_by n0 b t.1 in
-    let a1 : After v cell (Reader n1) t.1 cs c.ask-latest.new.seat.inner.me = t.4 in
-    let v1 : Process (FourSlotSight g.row.T.Denot) = knows Spent v cell (Reader n1) t.1 (held_slots cs) in
-    let r1 = reader_after v cell t.1 n1 cs c.ask-latest.new.seat.inner.me long a1 in
-    let u = c.say.ensures.said cell v1 n1 refl a1.1 r1.notes in
-    let before : List (ℕ × g.row.T.Denot) = u.0 in
-    let behind : List (ℕ × g.row.T.Denot) = u.1 in
-    let n2 : ReaderNotes g.row.T.Denot = said_by n1 u.2 in
-    let a2 : After v1 cell (Reader n2) u.2 (before ++ behind) c.say.new.seat.inner.me = u.5 in
-    let v2 : Process (FourSlotSight g.row.T.Denot) = knows Spent v1 cell (Reader n2) u.2 (held_slots (before ++ behind)) in
-    let r2 = reader_after v1 cell u.2 n2 (before ++ behind) c.say.new.seat.inner.me r1.process.has a2 in
+    let v1 : Process (FourSlotSight g.row.T.Denot) = has_asked v cell n0 b t.1 cs in
+    let has1 : cell < length v1.parts = subst (λ z. cell < z) (sym (set_long v.parts cell (Reader n1))) long in
+    let before : List (ℕ × g.row.T.Denot) = t.4 in
+    let behind : List (ℕ × g.row.T.Denot) = t.5 in
+    let n2 : ReaderNotes g.row.T.Denot = said_with n1 t.3 t.2 in
+    let a2 : After v1 cell (Reader n2) t.2 (before ++ behind) c.announce-latest.new.seat.inner.me = t.11 in
+    let v2 : Process (FourSlotSight g.row.T.Denot) = knows Spent v1 cell (Reader n2) t.2 (held_slots (before ++ behind)) in
+    let r2 = reader_after v1 cell t.2 n2 (before ++ behind) c.announce-latest.new.seat.inner.me has1 a2 in
     let i2 : 2 + bit_number b < 4 = pair_low b in
-    let e = c.take-index.ensures.taken cell (2 + bit_number b) v2 n2 i2 (pair_word cell c.ask-latest.result b t.2) a2.1 r2.notes in
+    let e = c.take-index.ensures.taken cell (2 + bit_number b) v2 n2 i2 (pair_word cell c.announce-latest.result b t.6) a2.1 r2.notes in
     let bit : Bool = e.0 in
     let x : g.row.T.Denot = e.1 in
     let n3 : ReaderNotes g.row.T.Denot = got_by n2 bit x e.2 e.3 e.4 in
-    let a3 : After v2 cell (Reader n3) e.2 ((slot_at cell (slot_number (slot_with b bit)), x) ∷ c.say.new.seat.inner.me.1) c.take-index.new.seat.inner.me = e.7 in
-    let slot : c.slot_of-slot.result ≡ slot_number (slot_with b bit) = c.slot_of-slot.ensures b bit t.2 e.5 in
+    let a3 : After v2 cell (Reader n3) e.2 ((slot_at cell (slot_number (slot_with b bit)), x) ∷ c.announce-latest.new.seat.inner.me.1) c.take-index.new.seat.inner.me = e.7 in
+    let slot : c.slot_of-slot.result ≡ slot_number (slot_with b bit) = c.slot_of-slot.ensures b bit t.6 e.5 in
     let answer = is_answer f s own c.args.from other cell at g.T.Lawful.fits g.T.Lawful.rises x e.8 in
-    let split : cs ≡ before ++ (shift (slot_at cell) (slot_of_choice n0.chosen n0.at_hand.value) ++ behind) = sym a1.2 ∙ u.3 in
     let same : c.lend.new.seat.inner.table_id ≡ s.seat.inner.table_id =
-    c.lend.ensures.own ∙ (c.take-index.ensures.own ∙ (c.say.ensures.own ∙ c.ask-latest.ensures.own)) in
-    let h = has_read f s own c.args.from other cell at b bit x t.1 u.2 e.2 e.3 e.4 (held_slots cs) (held_slots (before ++ behind)) before behind
-    c.say.new.seat.inner.me.1 (record s { seat = c.lend.new.seat }) a1.0 a2.0 a3.0 split a2.2 (ap (λ z. z.0) c.lend.ensures.same ∙ a3.1)
-    (ap (λ z. z.1) c.lend.ensures.same ∙ a3.2) same refl refl refl refl e.9 in
+    c.lend.ensures.own ∙ (c.take-index.ensures.own ∙ c.announce-latest.ensures.own) in
+    let h = has_read f s own c.args.from other cell at b bit x t.1 t.2 e.2 e.3 t.3 e.4 (held_slots cs) (held_slots (before ++ behind))
+    c.announce-latest.new.said before behind c.announce-latest.new.seat.inner.me.1
+    (record s { seat = c.lend.new.seat; stored = record s.stored { said = set s.stored.said c.args.from c.announce-latest.new.said } }) t.10 a2.0 a3.0 t.9 a2.2
+    (ap (λ z. z.0) c.lend.ensures.same ∙ a3.1) (ap (λ z. z.1) c.lend.ensures.same ∙ a3.2) same refl refl refl refl
+    (c.announce-latest.ensures.remembered ∙ t.6) e.9 in
     record {
       own = h.own;
       access = h.access;
@@ -237,7 +204,7 @@ returns g c =
         x,
         h.answer,
         answer,
-        c.lend.ensures.seen x c.say.new.seat.inner.me.1 (a3.2 ∙ ap (λ z. (slot_at cell z, x) ∷ c.say.new.seat.inner.me.1) (sym slot)),
+        c.lend.ensures.seen x c.announce-latest.new.seat.inner.me.1 (a3.2 ∙ ap (λ z. (slot_at cell z, x) ∷ c.announce-latest.new.seat.inner.me.1) (sym slot)),
       );
       others = h.others;
     }

@@ -1,11 +1,11 @@
--- The store of the index gives the slot back.
-use Rattle.std.proofs.Common.{refl, arith, ◌≡◌, ◌+◌, ◌*◌, ◌<◌, subst, sym, ap, ◌∙◌}
+-- The store of the index gives the slot back, and ends the write where `latest` has the pair.
+use Rattle.std.proofs.Common.{arith, ◌≡◌, ◌+◌, ◌*◌, subst, ap, ◌∙◌}
 use mathlib.Core.Option.{none}
 use Rattle.atomic_table.specs.Table.{step}
 use Rattle.cell_four_slot.proofs.Slots.{bit_low}
-use Rattle.family_four_slot.specs.Steps.{stores}
+use Rattle.family_four_slot.specs.Steps.{stores_on}
 use Rattle.family_four_slot.proofs.Places.{bit_word}
-use Rattle.family_four_slot.proofs.Told.{stores_ok}
+use Rattle.family_four_slot.proofs.Merged.{stores_on_ok}
 use Rattle.family_four_slot.proofs.table.FamilyTable.store.Goals as goal
 
 pub store-requires : goal.store-requires
@@ -19,12 +19,12 @@ store-requires g c =
     let pair = t.6 in (
       c.requires.own,
       omega arith,
-      stores_ok g.T.Lawful.fits g.T.Lawful.rises _ _ _ _ _ c.args.cell (2 + c.args.pair) _ _ t.0 t.1 t.2 (word ∙ bit_word c.args.cell c.args.pair) place
+      stores_on_ok g.T.Lawful.fits g.T.Lawful.rises _ _ _ _ _ c.args.cell (2 + c.args.pair) _ _ t.0 t.1 t.2 (word ∙ bit_word c.args.cell c.args.pair) place
           t.3.process.has t.3.process.one t.3.notes t.4 t.3.process.held t.5 (ap (λ z. 2 + z) pair) (omega arith) t.7,
     )
 
 pub returns-clause-stored : goal.returns-clause-stored
 returns-clause-stored g c =
     let b = c.base.ensures in
-    subst (λ z. stores (step c.args.self.now.inner.shared.table_id.slots z c.args.index 0 none) c.args.seat.now.inner.me c.args.index c.store.new.seat.me)
+    subst (λ z. stores_on (step c.args.self.now.inner.shared.table_id.slots z c.args.index 0 none) c.args.seat.now.inner.me c.args.index c.store.new.seat.me)
     (omega arith) c.store.ensures.2

@@ -1,0 +1,177 @@
+-- An access that makes two steps of the mechanism: it is the first step, and then the second one, whose store finds in its word what it
+-- would store. So the table after both is as after the first, but for the seat and its slots.
+use Rattle.std.proofs.Common.{◌≡◌, ◌≢◌, ℕ, ◌+◌, ◌<◌, ◌≤◌, Bool, List, [], ◌∷◌, ◌++◌, map, length, get_or, set, refl, sym, ap, ◌∙◌, subst, arith, ⊎_elim}
+use lib.Seq.{set-get_or}
+use lib.ListN.{get_elem?}
+use mathlib.Core.Option.{none, some}
+use Rattle.std.proofs.lemmas.Bool.{cases_eq}
+use Rattle.atomic_table.specs.Table.{State, Me, Act, chain, step, stepped, Valid, Allows, carried_after, homes_after}
+use Rattle.atomic_table.proofs.Lists.{at_map, at_longer, set_here}
+use Rattle.fourslot_core.specs.declared.state.Stage.TheVariants as writer
+use Rattle.fourslot_core.specs.declared.state.ReaderStage.TheVariants as reader
+use Rattle.fourslot_core.specs.Events.{bit_number, slot_number}
+use Rattle.cell_live.specs.Running.{held_slots}
+use Rattle.cell_live.specs.declared.sight.Sight.TheVariants.{Spent, Writer, Reader}
+use Rattle.cell_four_slot.specs.declared.notes.WriterNotes.{WriterNotes}
+use Rattle.cell_four_slot.specs.declared.notes.ReaderNotes.{ReaderNotes}
+use Rattle.cell_four_slot.specs.Steps.{FourSlotSight, stored_by, finished_with, asked_by, said_with, slot_of_choice, word_said}
+use Rattle.cell_four_slot.proofs.Keeps.{said_there, shown_there}
+use Rattle.cell_four_slot.proofs.Slots.{bit_low}
+use Rattle.family_four_slot.specs.declared.notes.Process.{Process}
+use Rattle.family_four_slot.specs.declared.notes.Receipt.{Receipt}
+use Rattle.family_four_slot.specs.declared.notes.View.{View}
+use Rattle.family_four_slot.specs.declared.notes.View.TheVariants.{Has}
+use Rattle.family_four_slot.specs.Layouts.{shift}
+use Rattle.family_four_slot.specs.Places.{four_slots, word_at, slot_at}
+use Rattle.family_four_slot.specs.Family.{of_cell, cell}
+use Rattle.family_four_slot.specs.FourSlots.{FourSlotFamily}
+use Rattle.family_four_slot.specs.Steps.{After, asks_on, stores_on, has_asked, has_stored}
+use Rattle.family_four_slot.proofs.Acts.{homes_long}
+use Rattle.family_four_slot.proofs.Places.{is_layout}
+use Rattle.family_four_slot.proofs.Slices.{get_set_here, get_set_else, set_long, set_twice, within}
+use Rattle.family_four_slot.proofs.Told.{has_one, writes_one, reads_one, asks_ok, says_ok, stores_ok, finishes_ok}
+
+module _ {S V : Type 0} (holds : State S V → Type 0) where
+  -- a step, and one that stores what is there
+  and_then : (s : State S V) (i j n m id : ℕ) (cs : List (ℕ × S)) (w w' : V) (a a' : Act S) →
+      holds (stepped (stepped s i n id cs w a) j m id (carried_after cs a) w' a') → get_or (set s.words i n) j 0 ≡ m →
+      holds (stepped s i n id cs w' (chain a a'))
+  and_then s i j n m id cs w w' a a' h e = subst holds (λ z. record {
+    words = (ap (set (set s.words i n) j) (sym e) ∙ set-get_or (set s.words i n) j 0) z;
+    homes = homes_after s.homes cs (chain a a');
+    views = set_twice s.views id w w' z;
+  }) h
+
+module _ {T : Type 0} (fits : T → Type 0) (rises : T → T → Type 0) (o : T) (n : ℕ) where
+  abbrev W : Type 0
+  W = FourSlotSight T
+
+  abbrev F : State T (View W) → Type 0
+  F = FourSlotFamily fits rises o n
+
+  same_cell : (k j i h : ℕ) → i < 4 → h < 4 → word_at k i ≡ word_at j h → k ≡ j
+  same_cell k j i h li lh e = ((is_layout n).word_apart k i j h li lh e).0
+
+  -- what a seat of one process has is known of the process
+  view_there : (s : State T (View W)) (r : F s) (id k : ℕ) (v : Process W) → get_elem? s.views id ≡ some (Has (v ∷ [])) →
+      get_elem? (map (λ (p : Process W). of_cell Spent k p.parts) r.processes ++ map (λ (q : Receipt W). of_cell Spent k q.parts) r.receipts) v.who
+      ≡ some (of_cell Spent k v.parts)
+  view_there s r id k v at =
+      let G : Process W → W = λ (p : Process W). of_cell Spent k p.parts in
+      at_longer (map G r.processes) (map (λ (q : Receipt W). of_cell Spent k q.parts) r.receipts) v.who (G v)
+      (at_map G r.processes v.who v (r.shows id (Has (v ∷ [])) at).0)
+
+  pub asks_on_ok : (slots id word k : ℕ) (me : Me T (View W)) (v : Process W) (g : ReaderNotes T) (before behind : List (ℕ × T)) →
+      word ≡ word_at k 0 → k < (four_slots n).cells → k < length v.parts → me.0 ≡ Has (v ∷ []) → of_cell Spent k v.parts ≡ Reader g →
+      me.1 ≡ before ++ (shift (slot_at k) (slot_of_choice g.chosen g.at_hand.value) ++ behind) → v.held ≡ held_slots me.1 →
+      g.stage ≡ reader.R5 → Allows F slots id me word (λ m. m) (asks_on (step slots word 0 0 none) me)
+  asks_on_ok slots id word k me v g before behind at lk has who is slots_are held stage s r long seen small =
+      let x = asks_ok fits rises o n slots id word k me v g at lk has who is held stage s r long seen small in
+      let found : ℕ = get_or s.words word 0 in
+      let Result : Type 0 = (w : View W) × (a : Act T) × Valid s.homes me.1 a × F (stepped s word found id me.1 w a)
+      × asks_on (step slots word 0 0 none) me found (w, carried_after me.1 a) in
+      let told : (m' : Me T (View W)) → ℕ → Process W → ReaderNotes T → Type 0 = λ m' j u q. (b : Bool) × (t : ℕ) × (found ≡ bit_number b) × (u.clock < t)
+      × (found ≢ word_said q.chosen → After u j (Reader (asked_by q b t)) t me.1 m')
+      × (found ≡ word_said q.chosen → (xs : List (ℕ × T)) × (ys : List (ℕ × T)) × (y : ℕ)
+      × (me.1 ≡ xs ++ (shift (slot_at j) (slot_of_choice q.chosen q.at_hand.value) ++ ys))
+      × After (has_asked u j q b t me.1) j (Reader (said_with (asked_by q b t) 0 y)) y (xs ++ ys) m') in
+      let tied : (m' : Me T (View W)) → told m' k v g → asks_on (step slots word 0 0 none) me found m' =
+      (λ m' h j u q at' who' is'. tie (told m') j u q (same_cell k j 0 0 (omega arith) (omega arith) (sym at ∙ at')) (has_one v u (sym who ∙ who')) is' h) in
+      let d = x.4 k v g at who is in
+      let b : Bool = d.0 in
+      let t : ℕ = d.1 in
+      let g1 : ReaderNotes T = asked_by g b t in
+      let v1 : Process W = has_asked v k g b t me.1 in
+      let a1 : Act T = x.1 in
+      let me1 : Me T (View W) = (x.0, carried_after me.1 a1) in
+      let s1 : State T (View W) = stepped s word found id me.1 x.0 a1 in
+      ⊎_elim {C = Result}
+      (λ (e : found ≡ word_said g.chosen).
+      let first : found ≡ get_or s.words (word_at k 0) 0 = ap (λ z. get_or s.words z 0) at in
+      let there : get_or s.words (word_at k 1) 0 ≡ get_or s.words (word_at k 0) 0 =
+      said_there fits rises o (cell Spent (four_slots n) k s.words s.homes r.processes r.receipts) (r.cells k lk).0 v.who g
+      (view_there s r id k v (seen ∙ ap some who) ∙ ap some is) stage (sym first ∙ e) in
+      let reading : get_or s1.words (word_at k 1) 0 ≡ bit_number b =
+      ap (λ zs. get_or zs (word_at k 1) 0) (set-get_or s.words word 0) ∙ (there ∙ (sym first ∙ d.2)) in
+      let low : bit_number b ≤ 1 = bit_low b in
+      let y = says_ok fits rises o n 0 (omega arith) slots id (word_at k 1) k (bit_number b) me1 v1 g1 before behind refl lk
+      (subst (λ z. k < z) (sym (set_long v.parts k (Reader g1))) has) d.4.1 (get_set_here v.parts k (Reader g1) Spent has) (d.4.2 ∙ slots_are)
+      (ap held_slots (sym d.4.2)) refl refl s1 x.3 (homes_long s.homes me.1 a1 ∙ long) (set_here s.views id x.0 (within s.views id me.0 seen))
+      (omega (arith, reading, low)) in
+      let z = y.4 k v1 g1 refl d.4.1 (get_set_here v.parts k (Reader g1) Spent has) in (
+        y.0,
+        chain a1 y.1,
+        (x.2, y.2),
+        and_then F s word (word_at k 1) found (bit_number b) id me.1 x.0 y.0 a1 y.1 y.3 reading,
+        tied (y.0, carried_after me.1 (chain a1 y.1))
+            (b, t, d.2, d.4.0, (λ ne. absurd (ne e)), (λ _. (z.0, z.1, z.2, sym d.4.2 ∙ z.3, z.5))),
+      ))
+      (λ (ne : found ≢ word_said g.chosen).
+      (x.0, a1, x.2, x.3, tied me1 (b, t, d.2, d.4.0, (λ _. d.4), (λ e. absurd (ne e)))))
+      (cases_eq found (word_said g.chosen)) where
+        tie : (P : ℕ → Process W → ReaderNotes T → Type 0) (j : ℕ) (u : Process W) (q : ReaderNotes T) → k ≡ j → v ≡ u →
+            of_cell Spent j u.parts ≡ Reader q → P k v g → P j u q
+        tie P j u q same_k same_v is' h =
+            let both : g ≡ q = reads_one g q (sym is ∙ ((λ i. of_cell Spent (same_k i) (same_v i).parts) ∙ is')) in
+            subst (λ (z : ℕ × Process W × ReaderNotes T). P z.0 z.1 z.2) (λ i. (same_k i, same_v i, both i)) h
+
+  pub stores_on_ok : (slots id word k i new : ℕ) (me : Me T (View W)) (v : Process W) (p : WriterNotes T) (cs : List (ℕ × T)) →
+      word ≡ word_at k i → k < (four_slots n).cells → k < length v.parts → me.0 ≡ Has (v ∷ []) → of_cell Spent k v.parts ≡ Writer p →
+      me.1 ≡ (slot_at k (slot_number p.slot), p.item.value) ∷ cs → v.held ≡ held_slots me.1 → p.stage ≡ writer.W3 →
+      i ≡ 2 + bit_number p.slot.pair → i < 4 → new ≡ bit_number p.slot.index →
+      Allows F slots id me word (λ _. new) (λ _. stores_on (step slots word new 0 none) me new)
+  stores_on_ok slots id word k i new me v p cs at lk has who is slots_are held stage place li to s r long seen small =
+      let x = stores_ok fits rises o n slots id word k i new me v p cs at lk has who is slots_are held stage place li to s r long seen small in
+      let Result : Type 0 = (w : View W) × (a : Act T) × Valid s.homes me.1 a × F (stepped s word new id me.1 w a)
+      × stores_on (step slots word new 0 none) me new (w, carried_after me.1 a) in
+      let told : (m' : Me T (View W)) → ℕ → Process W → WriterNotes T → List (ℕ × T) → Type 0 = λ m' j u q ds. (t : ℕ) × (u.clock < t)
+      × (bit_number q.slot.pair ≢ bit_number q.latest → After u j (Writer (stored_by q t)) t ds m')
+      × (bit_number q.slot.pair ≡ bit_number q.latest →
+      (y : ℕ) × After (has_stored u j q t ds) j (Writer (finished_with (stored_by q t) 0 y)) y ds m') in
+      let tied : (m' : Me T (View W)) → told m' k v p cs → stores_on (step slots word new 0 none) me new m' =
+      (λ m' h j i' u q ds li' at' who' is' held'.
+      tie (told m') j u q ds (same_cell k j i i' li li' (sym at ∙ at')) (has_one v u (sym who ∙ who')) is' (ap rest_of (sym slots_are ∙ held')) h) in
+      let d = x.4 k i v p cs li at who is slots_are in
+      let t : ℕ = d.0 in
+      let p1 : WriterNotes T = stored_by p t in
+      let v1 : Process W = has_stored v k p t cs in
+      let a1 : Act T = x.1 in
+      let me1 : Me T (View W) = (x.0, carried_after me.1 a1) in
+      let s1 : State T (View W) = stepped s word new id me.1 x.0 a1 in
+      ⊎_elim {C = Result}
+      (λ (e : bit_number p.slot.pair ≡ bit_number p.latest).
+      let low : bit_number p.slot.pair ≤ 1 = bit_low p.slot.pair in
+      let other : word_at k 0 ≢ word = λ h. let w = (is_layout n).word_apart k 0 k i (omega arith) li (h ∙ at) in
+      let z : 0 ≡ i = w.1 in absurd (omega arith) in
+      let latest : get_or s1.words (word_at k 0) 0 ≡ bit_number p.slot.pair = get_set_else s.words word (word_at k 0) new 0 other
+      ∙ (shown_there fits rises o (cell Spent (four_slots n) k s.words s.homes r.processes r.receipts) (r.cells k lk).0 v.who p
+      (view_there s r id k v (seen ∙ ap some who) ∙ ap some is) ∙ sym e) in
+      let y = finishes_ok fits rises o n 0 (omega arith) slots id (word_at k 0) k (bit_number p.slot.pair) me1 v1 p1 refl lk
+      (subst (λ z. k < z) (sym (set_long v.parts k (Writer p1))) has) d.2.1 (get_set_here v.parts k (Writer p1) Spent has)
+      (ap held_slots (sym d.2.2)) refl refl s1 x.3 (homes_long s.homes me.1 a1 ∙ long) (set_here s.views id x.0 (within s.views id me.0 seen))
+      (omega (arith, latest, low)) in
+      let z = y.4 k v1 p1 refl d.2.1 (get_set_here v.parts k (Writer p1) Spent has) in
+      let m2 : Me T (View W) = (y.0, carried_after me.1 (chain a1 y.1)) in (
+        y.0,
+        chain a1 y.1,
+        (x.2, y.2),
+        and_then F s word (word_at k 0) new (bit_number p.slot.pair) id me.1 x.0 y.0 a1 y.1 y.3 latest,
+        tied m2 (
+          t,
+          d.2.0,
+          (λ ne. absurd (ne e)),
+          (λ _. (z.0, subst (λ zs. After v1 k (Writer (finished_with p1 0 z.0)) z.0 zs m2) d.2.2 z.2)),
+        ),
+      ))
+      (λ (ne : bit_number p.slot.pair ≢ bit_number p.latest).
+      (x.0, a1, x.2, x.3, tied me1 (t, d.2.0, (λ _. d.2), (λ e. absurd (ne e)))))
+      (cases_eq (bit_number p.slot.pair) (bit_number p.latest)) where
+        rest_of : List (ℕ × T) → List (ℕ × T)
+        rest_of [] = []
+        rest_of (x ∷ xs) = xs
+
+        tie : (P : ℕ → Process W → WriterNotes T → List (ℕ × T) → Type 0) (j : ℕ) (u : Process W) (q : WriterNotes T) (ds : List (ℕ × T)) → k ≡ j → v ≡ u →
+            of_cell Spent j u.parts ≡ Writer q → cs ≡ ds → P k v p cs → P j u q ds
+        tie P j u q ds same_k same_v is' rest h =
+            let both : p ≡ q = writes_one p q (sym is ∙ ((λ i. of_cell Spent (same_k i) (same_v i).parts) ∙ is')) in
+            subst (λ (z : ℕ × Process W × WriterNotes T × List (ℕ × T)). P z.0 z.1 z.2 z.3) (λ i. (same_k i, same_v i, both i, rest i)) h
