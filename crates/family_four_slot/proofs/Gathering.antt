@@ -5,6 +5,10 @@ use mathlib.Core.Option.{some}
 use lib.ListN.{get_elem?}
 use Rattle.atomic_table.proofs.Lists.{at_longer}
 use Rattle.family_live.specs.Ends.{Each}
+use Rattle.cell_four_slot.specs.Steps.{FourSlotSight}
+use Rattle.family_four_slot.specs.declared.family.FourSlotSeat.{FourSlotSeat}
+use Rattle.family_four_slot.specs.declared.table.FamilySeat.{FamilySeat}
+use Rattle.family_four_slot.specs.Seats.{joined}
 use Rattle.family_four_slot.specs.declared.notes.Process.{Process}
 use Rattle.family_four_slot.specs.declared.notes.View.{View}
 use Rattle.family_four_slot.specs.declared.notes.View.TheVariants.{Has}
@@ -19,6 +23,14 @@ module _ {A : Type 0} where
     at P [] x (suc i) y each here e = absurd (none-some y e)
     at P (z ∷ zs) x zero y each here e = each 0 y e
     at P (z ∷ zs) x (suc i) y each here e = at (λ j. P (suc j)) zs x i y (λ j w h. each (suc j) w h) here e
+
+  -- of the first ones too
+  pub each_fewer : (P : ℕ → A → Type 0) (all xs : List A) (x : A) → all ≡ xs ++ x ∷ [] → Each P all → Each P xs
+  each_fewer P all xs x is each i y e = each i y (ap (λ zs. slice_get zs i) is ∙ front xs (x ∷ []) i y e) where
+    front : (xs ys : List A) (i : ℕ) (y : A) → slice_get xs i ≡ Some y → slice_get (xs ++ ys) i ≡ Some y
+    front [] ys i y e = absurd (none-some y e)
+    front (z ∷ zs) ys zero y e = e
+    front (z ∷ zs) ys (suc i) y e = front zs ys i y e
 
   -- the last one stands there
   pub stood : (seats before left done : List A) (s : A) → seats ≡ before ++ done → before ≡ left ++ s ∷ [] → slice_get seats (length left) ≡ Some s
@@ -73,3 +85,18 @@ module _ {A V : Type 0} (known : A → Process V) where
       (ps : List (Process V)) × (view ≡ Has ps) × ((i : ℕ) (s : A) → slice_get seats i ≡ Some s → (a : ℕ) × (get_elem? ps a ≡ some (known s)))
   gathered_all seats [] view h e = (h.ps, h.me, λ i s at. h.there s i (ap (λ z. slice_get z i) (sym h.of) ∙ at))
   gathered_all seats (x ∷ xs) view h e = absurd (omega (arith, e))
+
+module _ {T : Type 0} where
+  -- what one seat with no slots knows, before what another knows
+  pub joined_in : (m a b : View (FourSlotSight T) × List (ℕ × T)) (x : View (FourSlotSight T)) (p : Process (FourSlotSight T)) (ps : List (Process (FourSlotSight T))) →
+      m ≡ (joined a.0 b.0, a.1) → a ≡ (x, []) → x ≡ Has (p ∷ []) → b ≡ (Has ps, []) → m ≡ (Has (p ∷ ps), [])
+  joined_in m a b x p ps is from one more = is ∙ (λ i. (joined ((ap (λ z. z.0) from ∙ one) i) ((more i).0), (from i).1))
+
+  -- a seat that knew one process, which was taken off and put back, is as it was
+  pub put_again : (m a b last : View (FourSlotSight T) × List (ℕ × T)) (p : Process (FourSlotSight T)) →
+      m ≡ (joined a.0 b.0, a.1) → a ≡ (Has [], last.1) → b ≡ (Has (p ∷ []), []) → last.0 ≡ Has (p ∷ []) → m ≡ last
+  put_again m a b last p is from one was = is ∙ ((λ i. (joined ((from i).0) ((one i).0), (from i).1)) ∙ (λ i. (sym was i, last.1)))
+
+  pub same_seat : (s : FourSlotSeat T) (inner : FamilySeat T) → inner.inner.table_id ≡ s.seat.inner.table_id → inner.inner.id ≡ s.seat.inner.id →
+      inner.inner.me ≡ s.seat.inner.me → record s { seat = inner } ≡ s
+  same_seat s inner table id me = λ i. record s { seat = record inner { inner = record inner.inner { table_id = table i; id = id i; me = me i } } }

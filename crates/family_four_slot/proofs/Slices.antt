@@ -46,6 +46,20 @@ module _ {A : Type 0} where
   get_there (y ∷ ys) zero x d e = some-injective y x e
   get_there (y ∷ ys) (suc i) x d e = get_there ys i x d e
 
+  -- what stands at a place is put there again
+  pub set_there : (xs : List A) (i : ℕ) (x : A) → get_elem? xs i ≡ some x → set xs i x ≡ xs
+  set_there [] i x e = refl
+  set_there (y ∷ ys) zero x e = ap (λ z. z ∷ ys) (sym (some-injective y x e))
+  set_there (y ∷ ys) (suc i) x e = ap (λ zs. y ∷ zs) (set_there ys i x e)
+
+  pub set_found : (xs : List A) (i : ℕ) (d : A) → set xs i (get_or xs i d) ≡ xs
+  set_found [] i d = refl
+  set_found (x ∷ xs) zero d = refl
+  set_found (x ∷ xs) (suc i) d = ap (λ zs. x ∷ zs) (set_found xs i d)
+
+  pub same_one : (x y : A) → x ∷ [] ≡ y ∷ [] → x ≡ y
+  same_one x y e = ap (λ zs. get_or zs 0 x) e
+
   -- elements by their places
   pub gather_get : (f : ℕ → ℕ) (n i : ℕ) (d : A) (xs : List A) → i < n → get_or (gather f n d xs) i d ≡ get_or xs (f i) d
   gather_get f zero i d xs l = absurd (omega arith)

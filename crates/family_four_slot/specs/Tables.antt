@@ -7,7 +7,7 @@ use Rattle.fourslot_core.specs.declared.state.Stage.TheVariants as writer
 use Rattle.fourslot_core.specs.declared.state.ReaderStage.TheVariants as reader
 use Rattle.cell_live.specs.Intervals.{AreAtomic, AreFirst, HaveEnded}
 use Rattle.family_four_slot.specs.Places.{four_slots}
-use Rattle.atomic_table.specs.Table.{Me}
+use Rattle.atomic_table.specs.Table.{Me, Step}
 use Rattle.cell_live.specs.Running.{held_slots}
 use Rattle.cell_four_slot.specs.declared.notes.WriterNotes.{WriterNotes}
 use Rattle.cell_four_slot.specs.declared.notes.ReaderNotes.{ReaderNotes}
@@ -48,3 +48,7 @@ pub record IsEnded {T : Type 0} (n : ℕ) (o : T) (ps : List (Process (FourSlotS
   pub cells : (a b : ℕ) (p q : Process (FourSlotSight T)) → get_elem? ps a ≡ some p → get_elem? ps b ≡ some q → (k : ℕ) →
       k < (four_slots n).cells → (w : WriterNotes T) (g : ReaderNotes T) → of_cell Spent k p.parts ≡ Writer w → of_cell Spent k q.parts ≡ Reader g →
       w.stage ≡ writer.W5 → g.stage ≡ reader.R5 → IsDone o w g
+
+-- a step that changes nothing shows the calls of the processes that the seat has, in a family of so many that opened with this record
+abbrev pub shows : {T : Type 0} → List T → ℕ → Step T → Me T (View (FourSlotSight T)) → ℕ → Me T (View (FourSlotSight T)) → Type 0
+shows firsts n st m found m' = (m' ≡ m) × ((o : _) (ps : List (Process (FourSlotSight _))) → firsts ≡ o ∷ [] → m.0 ≡ Has ps → IsEnded n o ps)

@@ -1,5 +1,5 @@
 //! What a family promises.
-ghost use Rattle.std.specs.Prelude.{◌≡◌, ◌≢◌, ℕ, ◌-◌, ◌<◌, ◌≤◌, List, [], ◌∷◌, ◌++◌, length, vec_len, IfOk};
+ghost use Rattle.std.specs.Prelude.{◌≡◌, ◌≢◌, ℕ, ◌-◌, ◌<◌, ◌≤◌, List, [], ◌∷◌, ◌++◌, length, vec_len, vec_capacity, IfOk};
 ghost use Rattle.std.specs.Fn.{FnOnceTakesAt, FnOnceReturnsAt};
 ghost use Rattle.history_core.specs.Schedules.{positions};
 ghost use Rattle.cell_live.specs.Running.{IsAnswer, last_or};
@@ -115,6 +115,15 @@ pub trait Family<T: Lawful>: Sized + Drop {
         ensures heard { sender told ≢ who seat.old →
             IsHeardRead (reads seat.old (sender told)) (reads seat.new (sender told)) (named told (who seat.old)) }
         ensures others { Keeps (writes seat.old) (writes seat.new) × KeepsOthers (sender told) (reads seat.old) (reads seat.new) };
+
+    /// Shows what was done so far with all seats: it is one schedule, and the calls of each register are atomic by their intervals in its
+    /// time. Nothing changes.
+    fn show(&self, seats: &mut Vec<Self::Seat>)
+        requires { (vec_len seats.old ≡ processes self.now) × Each (λ i s. is_seat self.now s × (who s ≡ i)) seats.old.items }
+        ensures same { (seats.new.items ≡ seats.old.items) × (vec_capacity seats.new ≡ vec_capacity seats.old) }
+        ensures scheduled { (steps : List ℕ) × IsSchedule (processes self.now) steps
+            × Each (λ i s. times s ≡ positions 1 i steps) seats.old.items }
+        ensures atomic { EachTwo (λ i j s t. IsAtomicCell (opening self.now) (writes s j) (reads t i)) seats.old.items };
 
     /// Ends the family: all that was done is one schedule, and the calls of each register are atomic by their intervals in its time.
     fn finish(self, seats: Vec<Self::Seat>)
