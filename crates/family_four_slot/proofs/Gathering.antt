@@ -5,7 +5,6 @@ use mathlib.Core.Option.{some}
 use lib.ListN.{get_elem?}
 use Rattle.atomic_table.proofs.Lists.{at_longer}
 use Rattle.family_live.specs.Ends.{Each}
-use Rattle.cell_four_slot.specs.Steps.{FourSlotSight}
 use Rattle.family_four_slot.specs.declared.family.FourSlotSeat.{FourSlotSeat}
 use Rattle.family_four_slot.specs.declared.table.FamilySeat.{FamilySeat}
 use Rattle.family_four_slot.specs.Seats.{joined}
@@ -86,17 +85,18 @@ module _ {A V : Type 0} (known : A → Process V) where
   gathered_all seats [] view h e = (h.ps, h.me, λ i s at. h.there s i (ap (λ z. slice_get z i) (sym h.of) ∙ at))
   gathered_all seats (x ∷ xs) view h e = absurd (omega (arith, e))
 
-module _ {T : Type 0} where
+module _ {S V : Type 0} where
   -- what one seat with no slots knows, before what another knows
-  pub joined_in : (m a b : View (FourSlotSight T) × List (ℕ × T)) (x : View (FourSlotSight T)) (p : Process (FourSlotSight T)) (ps : List (Process (FourSlotSight T))) →
+  pub joined_in : (m a b : View V × List (ℕ × S)) (x : View V) (p : Process V) (ps : List (Process V)) →
       m ≡ (joined a.0 b.0, a.1) → a ≡ (x, []) → x ≡ Has (p ∷ []) → b ≡ (Has ps, []) → m ≡ (Has (p ∷ ps), [])
   joined_in m a b x p ps is from one more = is ∙ (λ i. (joined ((ap (λ z. z.0) from ∙ one) i) ((more i).0), (from i).1))
 
   -- a seat that knew one process, which was taken off and put back, is as it was
-  pub put_again : (m a b last : View (FourSlotSight T) × List (ℕ × T)) (p : Process (FourSlotSight T)) →
+  pub put_again : (m a b last : View V × List (ℕ × S)) (p : Process V) →
       m ≡ (joined a.0 b.0, a.1) → a ≡ (Has [], last.1) → b ≡ (Has (p ∷ []), []) → last.0 ≡ Has (p ∷ []) → m ≡ last
   put_again m a b last p is from one was = is ∙ ((λ i. (joined ((from i).0) ((one i).0), (from i).1)) ∙ (λ i. (sym was i, last.1)))
 
-  pub same_seat : (s : FourSlotSeat T) (inner : FamilySeat T) → inner.inner.table_id ≡ s.seat.inner.table_id → inner.inner.id ≡ s.seat.inner.id →
-      inner.inner.me ≡ s.seat.inner.me → record s { seat = inner } ≡ s
-  same_seat s inner table id me = λ i. record s { seat = record inner { inner = record inner.inner { table_id = table i; id = id i; me = me i } } }
+-- a seat whose token is as it was is as it was
+pub same_seat : {T : Type 0} (s : FourSlotSeat T) (inner : FamilySeat T) → inner.inner.table_id ≡ s.seat.inner.table_id →
+    inner.inner.id ≡ s.seat.inner.id → inner.inner.me ≡ s.seat.inner.me → record s { seat = inner } ≡ s
+same_seat s inner table id me = λ i. record s { seat = record inner { inner = record inner.inner { table_id = table i; id = id i; me = me i } } }

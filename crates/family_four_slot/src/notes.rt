@@ -1,6 +1,9 @@
 //! What the seats of a family know, and what its table is told once. No value of the first three types is made.
+ghost use Rattle.std.specs.Prelude.{ℕ, List, []};
+
 use cell_four_slot::FourSlotSight;
 use std::collections::LinkedList;
+use std::marker::Brand;
 
 /// What a process knows: its number, the last time of which it knows, the times of its steps, the slots that its seat has, and what
 /// it knows of each cell.
@@ -29,6 +32,19 @@ pub enum View<V> {
 pub struct Opened<T: Copy> {
     pub first: T,
     pub processes: usize,
+}
+
+/// What a family opened with, which a step that changes nothing shows together with all calls so far.
+pub trait Opening<T> {
+    ghost first: { List T };
+
+    ghost processes: { ℕ };
+}
+
+impl<T> Opening<T> for Brand {
+    ghost first = { [] };
+
+    ghost processes = { 0 };
 }
 
 /// What a seat of a family of four-slot cells knows.

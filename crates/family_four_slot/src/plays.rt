@@ -1,11 +1,11 @@
 //! What each step tells, and what goes from seat to seat.
-ghost use Rattle.std.specs.Prelude.{ℕ, List, []};
+ghost use Rattle.std.specs.Prelude.{List, []};
 ghost use Rattle.cell_four_slot.specs.Steps.{hears_of, receipt_for};
 ghost use Rattle.family_four_slot.specs.Steps.{begins, stores_on, finishes, asks_on, says, takes};
 ghost use Rattle.family_four_slot.specs.Tables.{shows};
 ghost use Rattle.family_four_slot.specs.Seats.{all_but_first, first_of, no_process, all_of, told_by, learnt_by, joined, no_one};
 
-use crate::notes::FamilySight;
+use crate::notes::{FamilySight, Opening};
 use atomic_table::{Join, Play, Split};
 use cell_live::Lawful;
 use std::marker::{Brand, PhantomData};
@@ -55,19 +55,6 @@ pub(crate) struct Takes;
 
 impl<T: Lawful> Play<T, FamilySight<T>> for Takes {
     ghost then = { takes T.fits T.rises };
-}
-
-/// What a family opened with, which a step that changes nothing shows together with all calls so far.
-pub(crate) trait Opening<T> {
-    ghost first: { List T };
-
-    ghost processes: { ℕ };
-}
-
-impl<T> Opening<T> for Brand {
-    ghost first = { [] };
-
-    ghost processes = { 0 };
 }
 
 /// Shows all calls so far.

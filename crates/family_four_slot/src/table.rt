@@ -26,9 +26,9 @@ ghost use Rattle.family_four_slot.specs.Seats.{all_but_first, all_of, first_of, 
 ghost use Rattle.cell_four_slot.specs.Steps.{hears_of, receipt_for};
 
 use crate::FamilyLaw;
-use crate::notes::{FamilySight, Opened};
+use crate::notes::{FamilySight, Opened, Opening};
 use crate::plays::{
-    All, Asks, Begins, Finishes, First, Gathers, Item, Learns, Opening, Says, Shows, Stores, Takes, Tells,
+    All, Asks, Begins, Finishes, First, Gathers, Item, Learns, Says, Shows, Stores, Takes, Tells,
 };
 use atomic_table::{Seat, Table};
 use cell_live::{Lawful, empty};

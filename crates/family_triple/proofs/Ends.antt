@@ -1,8 +1,8 @@
 -- What the last state of a family shows of the processes that a seat has: one schedule, and each cell's calls.
-use Rattle.std.proofs.Common.{◌≡◌, ℕ, List, map, sym, ap, ◌∙◌, subst}
+use Rattle.std.proofs.Common.{◌≡◌, ℕ, List, [], ◌∷◌, map, refl, sym, ap, ◌∙◌, subst}
 use mathlib.Core.Option.{some}
 use lib.ListN.{get_elem?}
-use Rattle.atomic_table.specs.Table.{State, Final, Seen}
+use Rattle.atomic_table.specs.Table.{State, Me, Step, Allows, keeps, Final, Seen}
 use Rattle.atomic_table.proofs.Lists.{at_map, at_longer}
 use Rattle.cell_triple.specs.declared.notes.WriterNotes.{WriterNotes}
 use Rattle.cell_triple.specs.declared.notes.ReaderNotes.{ReaderNotes}
@@ -16,9 +16,10 @@ use Rattle.family_four_slot.specs.declared.notes.View.{View}
 use Rattle.family_four_slot.specs.declared.notes.View.TheVariants.{Has}
 use Rattle.family_four_slot.specs.Family.{of_cell, cell, Shows}
 use Rattle.family_four_slot.proofs.Seats.{each_at}
+use Rattle.family_four_slot.proofs.Slices.{same_one, set_found, set_there}
 use Rattle.family_triple.specs.Places.{triples}
 use Rattle.family_triple.specs.Triples.{TripleFamily}
-use Rattle.family_triple.specs.Tables.{IsEnded, IsDone}
+use Rattle.family_triple.specs.Tables.{IsEnded, IsDone, shows}
 
 module _ {T : Type 0} (fits : T → Type 0) (rises : T → T → Type 0) (o : T) where
   abbrev V : Type 0
@@ -36,12 +37,10 @@ module _ {T : Type 0} (fits : T → Type 0) (rises : T → T → Type 0) (o : T)
         known = r.known;
       })
 
-  pub family_ends : (n id : ℕ) (x : View V) (ps : List (Process V)) (ws : List ℕ) (xs : List T) → x ≡ Has ps →
-      Final (Seen (TripleFamily fits rises o n) id x) ws xs → IsEnded n o ps
-  family_ends n id x ps ws xs is f =
-      let s : State T (View V) = f.0 in
-      let r = f.1.0 in
-      let known = subst (Shows r.processes r.receipts) is (r.shows id x f.1.1) in
+  pub family_shows : (n id : ℕ) (x : View V) (ps : List (Process V)) (s : State T (View V)) → TripleFamily fits rises o n s →
+      get_elem? s.views id ≡ some x → x ≡ Has ps → IsEnded n o ps
+  family_shows n id x ps s r seen is =
+      let known = subst (Shows r.processes r.receipts) is (r.shows id x seen) in
       let at : (a : ℕ) (p : Process V) → get_elem? ps a ≡ some p → get_elem? r.processes p.who ≡ some p =
       λ a p e. each_at (λ (q : Process V). get_elem? r.processes q.who ≡ some q) ps a p known e in
       record {
@@ -56,3 +55,19 @@ module _ {T : Type 0} (fits : T → Type 0) (rises : T → T → Type 0) (o : T)
             λ a' z h. at_longer (map G r.processes) told z.who (G z) (at_map G r.processes z.who z (at a' z h)) in
             cell_done c (r.cells k lk).0 p.who q.who w g (view a p d ∙ ap some is_writer) (view b q e ∙ ap some is_reader);
       }
+
+  pub family_ends : (n id : ℕ) (x : View V) (ps : List (Process V)) (ws : List ℕ) (xs : List T) → x ≡ Has ps →
+      Final (Seen (TripleFamily fits rises o n) id x) ws xs → IsEnded n o ps
+  family_ends n id x ps ws xs is f = family_shows n id x ps f.0 f.1.0 f.1.1 is
+
+  -- a load that keeps the view may show it
+  pub shows_ok : (n slots id word : ℕ) (me : Me T (View V)) (st : Step T) →
+      Allows (TripleFamily fits rises o n) slots id me word (λ z. z) (shows (o ∷ []) n st me)
+  shows_ok n slots id word me st = λ s r long at low. (
+    me.0,
+    keeps,
+    record {},
+    subst (λ (z : List ℕ × List (View V)). TripleFamily fits rises o n (record { words = z.0; homes = s.homes; views = z.1 }))
+        (λ i. (sym (set_found s.words word 0) i, sym (set_there s.views id me.0 at) i)) r,
+    (refl, λ o' ps e is. subst (λ z. IsEnded n z ps) (same_one o o' e) (family_shows n id me.0 ps s r at is)),
+  )

@@ -10,6 +10,7 @@ pub mod Places
 pub mod Rests
 pub mod Rounds
 pub mod Rows
+pub mod Showing
 pub mod Starts
 pub mod Steps
 pub mod Taking

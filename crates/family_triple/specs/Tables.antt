@@ -3,7 +3,7 @@ use Rattle.std.specs.Prelude.{◌≡◌, ℕ, ◌<◌, List, [], ◌∷◌, ◌+
 use mathlib.Core.Option.{some}
 use lib.ListN.{get_elem?}
 use Rattle.history_core.specs.Schedules.{positions}
-use Rattle.atomic_table.specs.Table.{Me}
+use Rattle.atomic_table.specs.Table.{Me, Step}
 use Rattle.cell_live.specs.Intervals.{AreAtomic, AreFirst, HaveEnded}
 use Rattle.cell_live.specs.Running.{held_slots}
 use Rattle.cell_triple.specs.declared.notes.WriterNotes.{WriterNotes}
@@ -50,3 +50,7 @@ pub record IsEnded {T : Type 0} (n : ℕ) (o : T) (ps : List (Process (TripleSig
   pub cells : (a b : ℕ) (p q : Process (TripleSight T)) → get_elem? ps a ≡ some p → get_elem? ps b ≡ some q → (k : ℕ) →
       k < (triples n).cells → (w : WriterNotes T) (g : ReaderNotes T) → of_cell Spent k p.parts ≡ Writer w → of_cell Spent k q.parts ≡ Reader g →
       IsDone o w g
+
+-- a step that changes nothing shows the calls of the processes that the seat has, in a family of so many that opened with this record
+abbrev pub shows : {T : Type 0} → List T → ℕ → Step T → Me T (View (TripleSight T)) → ℕ → Me T (View (TripleSight T)) → Type 0
+shows firsts n st m found m' = (m' ≡ m) × ((o : _) (ps : List (Process (TripleSight _))) → firsts ≡ o ∷ [] → m.0 ≡ Has ps → IsEnded n o ps)

@@ -1,10 +1,12 @@
 //! The family of triple buffers, and its calls.
-ghost use Rattle.std.specs.Prelude.{◌≡◌, ℕ, ◌≤◌, ◌<◌, List, [], ◌∷◌, IfOk, vec_len};
+ghost use Rattle.std.specs.Prelude.{◌≡◌, ℕ, ◌≤◌, ◌<◌, List, [], ◌∷◌, IfOk, vec_len, vec_capacity};
 ghost use Rattle.history_core.specs.Schedules.{positions};
 ghost use Rattle.family_live.specs.Ends.{Each, EachTwo, IsSchedule, IsAtomicCell};
 ghost use Rattle.family_four_slot.specs.declared.notes.View.TheVariants.{Has};
 ghost use Rattle.family_triple.specs.Triples.{first_view};
-ghost use Rattle.family_triple.specs.Seated.{known_by, IsFirst, HasAll};
+ghost use Rattle.family_triple.specs.Seated.{known_by, IsFirst, HasAll, HaveShown};
+ghost use Rattle.family_four_slot.specs.declared.notes.Process.{Process};
+ghost use Rattle.cell_triple.specs.Steps.{TripleSight};
 ghost use Rattle.family_triple.specs.Seated.{opening_of, processes_of, number_of, clock_of, times_of, writes_of, reads_of, IsSeat};
 ghost use Rattle.family_triple.specs.Seated.{sender_of, time_of, named_by, IsTold, one_step};
 
@@ -114,6 +116,35 @@ fn gathered<T: Lawful>(table: &FamilyTable<T>, seats: Vec<TripleSeat<T>>) -> Fam
     all
 }
 
+/// Shows what all seats have done so far, where `all` has what those that were taken out before know.
+fn shown<T: Lawful>(
+    table: &FamilyTable<T>,
+    seats: &mut Vec<TripleSeat<T>>,
+    all: FamilySeat<T>,
+) -> FamilySeat<T>
+    requires own { (all.inner.table_id ≡ table.now.inner.shared.table_id)
+        × Each (λ i s. s.seat.inner.table_id ≡ table.now.inner.shared.table_id) seats.old.items }
+    requires one { Each (λ i s. s.seat.inner.me.0 ≡ Has (known_by s ∷ [])) seats.old.items }
+    requires bare { (ps : List (Process (TripleSight T))) × (all.inner.me ≡ (Has ps, [])) }
+    ensures same { (seats.new.items ≡ seats.old.items) × (vec_capacity seats.new ≡ vec_capacity seats.old) }
+    ensures all { (result.inner.table_id ≡ all.inner.table_id) × (result.inner.me ≡ all.inner.me) }
+    ensures shown { (ps : List (Process (TripleSight T))) → all.inner.me ≡ (Has ps, []) →
+        HaveShown table.now.inner.shared.key.processes table.now.inner.shared.key.first ps seats.old.items }
+{
+    let mut all = all;
+    let Some(mut last) = seats.pop() else {
+        table.show(&mut all);
+        return all;
+    };
+    let mut next = table.lift(&mut last.seat);
+    table.put(&mut next, all);
+    let mut next = shown(table, seats, next);
+    let one = table.part(&mut next);
+    table.put(&mut last.seat, one);
+    seats.push_reserved(last);
+    next
+}
+
 impl<T: Lawful> Family<T> for TripleFamily<T> {
     type Seat = TripleSeat<T>;
 
@@ -216,6 +247,22 @@ impl<T: Lawful> Family<T> for TripleFamily<T> {
             spare: _,
         } = told;
         self.table.hear(&mut seat.seat, receipt);
+    }
+
+    fn show(&self, seats: &mut Vec<TripleSeat<T>>)
+        requires { (vec_len seats.old ≡ processes_of self.now) × Each (λ i s. IsSeat self.now s × (number_of s ≡ i)) seats.old.items }
+        ensures same { (seats.new.items ≡ seats.old.items) × (vec_capacity seats.new ≡ vec_capacity seats.old) }
+        ensures scheduled { (steps : List ℕ) × IsSchedule (processes_of self.now) steps
+            × Each (λ i s. times_of s ≡ positions 1 i steps) seats.old.items }
+        ensures atomic { EachTwo (λ i j s t. IsAtomicCell (opening_of self.now) (writes_of s j) (reads_of t i)) seats.old.items }
+    {
+        let Some(mut last) = seats.pop() else {
+            unreachable!();
+        };
+        let all = self.table.lift(&mut last.seat);
+        let all = shown(&self.table, seats, all);
+        self.table.put(&mut last.seat, all);
+        seats.push_reserved(last);
     }
 
     fn finish(self, seats: Vec<TripleSeat<T>>)

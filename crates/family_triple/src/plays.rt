@@ -1,11 +1,14 @@
 //! What each step tells, and what goes from seat to seat.
 ghost use Rattle.cell_triple.specs.Steps.{hears_of, receipt_for};
 ghost use Rattle.family_four_slot.specs.Seats.{all_but_first, first_of, no_process, all_of, told_by, learnt_by, joined, no_one};
+ghost use Rattle.family_triple.specs.Tables.{shows};
 ghost use Rattle.family_triple.specs.Steps.{put_takes, get_takes, publishes, looks, fetches};
 
 use crate::notes::FamilySight;
 use atomic_table::{Join, Play, Split};
 use cell_live::Lawful;
+use family_four_slot::notes::Opening;
+use std::marker::PhantomData;
 
 pub(crate) struct PutTakes;
 
@@ -35,6 +38,15 @@ pub(crate) struct Fetches;
 
 impl<T: Lawful> Play<T, FamilySight<T>> for Fetches {
     ghost then = { fetches T.fits T.rises };
+}
+
+/// Shows all calls so far.
+pub(crate) struct Shows<K> {
+    opening: PhantomData<K>,
+}
+
+impl<T, K: Opening<T>> Play<T, FamilySight<T>> for Shows<K> {
+    ghost then = { shows K.first K.processes };
 }
 
 /// The first process of a seat's goes to a seat of its own.

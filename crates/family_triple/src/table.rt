@@ -11,7 +11,7 @@ ghost use Rattle.cell_triple.specs.Steps.{TripleSight, hears_of, receipt_for};
 ghost use Rattle.family_four_slot.specs.declared.notes.Process.{Process};
 ghost use Rattle.family_four_slot.specs.declared.notes.Receipt.{Receipt};
 ghost use Rattle.family_four_slot.specs.declared.notes.View.TheVariants.{Told, Has};
-ghost use Rattle.family_four_slot.specs.Seats.{all_but_first, first_of, told_by, learnt_by, joined};
+ghost use Rattle.family_four_slot.specs.Seats.{all_but_first, all_of, first_of, no_process, told_by, learnt_by, joined};
 ghost use Rattle.family_triple.specs.Places.{triples, slot_at};
 ghost use Rattle.family_triple.specs.Triples.{first_view};
 ghost use Rattle.family_triple.specs.Steps.{put_takes, get_takes, publishes, looks, fetches};
@@ -20,12 +20,13 @@ ghost use Rattle.family_triple.specs.Tables.{HasWriter, HasReader, IsEnded};
 use crate::FamilyLaw;
 use crate::notes::FamilySight;
 use crate::plays::{
-    All, Fetches, First, Gathers, GetTakes, Learns, Looks, Publishes, PutTakes, Tells,
+    All, Fetches, First, Gathers, GetTakes, Learns, Looks, Publishes, PutTakes, Shows, Tells,
 };
 use atomic_table::{Seat, Table};
 use cell_live::{Lawful, empty};
-use family_four_slot::notes::Opened;
+use family_four_slot::notes::{Opened, Opening};
 use std::alloc::{AllocError, Global};
+use std::marker::Brand;
 
 /// The words and slots of all cells. Eight words that nobody stores to come first.
 #[derive(Drop)]
@@ -208,6 +209,34 @@ impl<T: Lawful> FamilyTable<T> {
             .join_seat::<Learns>(&mut seat.inner, receipt);
     }
 
+    /// Takes what a seat knows of processes off it. Its slots stay with it.
+    pub(super) fn lift(&self, seat: &mut FamilySeat<T>) -> FamilySeat<T>
+        requires own { seat.old.inner.table_id ≡ self.now.inner.shared.table_id }
+        requires some { (ps : List (Process (TripleSight T))) × (seat.old.inner.me.0 ≡ Has ps) }
+        ensures own { (seat.new.inner.table_id ≡ seat.old.inner.table_id) × (seat.new.inner.id ≡ seat.old.inner.id)
+            × (result.inner.table_id ≡ seat.old.inner.table_id) }
+        ensures lifted { (seat.new.inner.me ≡ (no_process seat.old.inner.me.0, seat.old.inner.me.1))
+            × (result.inner.me ≡ (all_of seat.old.inner.me.0, [])) }
+    {
+        let bare = self.inner.shared.split_seat::<All>(&mut seat.inner);
+        FamilySeat { inner: bare }
+    }
+
+    /// Joins what a seat with no slots knows of processes into another.
+    pub(super) fn put(&self, seat: &mut FamilySeat<T>, bare: FamilySeat<T>)
+        requires own { (seat.old.inner.table_id ≡ self.now.inner.shared.table_id)
+            × (bare.inner.table_id ≡ self.now.inner.shared.table_id) }
+        requires some { (ps : List (Process (TripleSight T))) × (seat.old.inner.me.0 ≡ Has ps) }
+        requires bare { (ps : List (Process (TripleSight T))) × (bare.inner.me ≡ (Has ps, [])) }
+        ensures own { (seat.new.inner.table_id ≡ seat.old.inner.table_id) × (seat.new.inner.id ≡ seat.old.inner.id) }
+        ensures joined { seat.new.inner.me ≡ (joined seat.old.inner.me.0 bare.inner.me.0, seat.old.inner.me.1) }
+    {
+        let FamilySeat { inner: bare } = bare;
+        self.inner
+            .shared
+            .join_seat::<Gathers>(&mut seat.inner, bare);
+    }
+
     /// Joins what another seat knows of processes into this one. The other's slots stay out.
     pub(super) fn gather(&self, seat: &mut FamilySeat<T>, other: FamilySeat<T>)
         requires own { (seat.old.inner.table_id ≡ self.now.inner.shared.table_id)
@@ -217,11 +246,32 @@ impl<T: Lawful> FamilyTable<T> {
         ensures own { seat.new.inner.table_id ≡ seat.old.inner.table_id }
         ensures joined { seat.new.inner.me ≡ (joined seat.old.inner.me.0 other.inner.me.0, seat.old.inner.me.1) }
     {
-        let FamilySeat { inner: mut other } = other;
-        let bare = self.inner.shared.split_seat::<All>(&mut other);
-        self.inner
-            .shared
-            .join_seat::<Gathers>(&mut seat.inner, bare);
+        let mut other = other;
+        let bare = self.lift(&mut other);
+        self.put(seat, bare);
+    }
+
+    /// A load that tells what the processes of a seat have done so far. Nothing changes.
+    fn load_calls<K: Opening<T>>(&self, seat: &mut FamilySeat<T>)
+        requires own { seat.old.inner.table_id ≡ self.now.inner.shared.table_id }
+        requires opening { (K.first ≡ self.now.inner.shared.key.first ∷ []) × (K.processes ≡ self.now.inner.shared.key.processes) }
+        ensures own { (seat.new.inner.table_id ≡ seat.old.inner.table_id) × (seat.new.inner.id ≡ seat.old.inner.id) }
+        ensures same { seat.new.inner.me ≡ seat.old.inner.me }
+        ensures shown { (ps : List (Process (TripleSight T))) → seat.old.inner.me.0 ≡ Has ps →
+            IsEnded self.now.inner.shared.key.processes self.now.inner.shared.key.first ps }
+    {
+        self.inner.shared.load::<Shows<K>>(&mut seat.inner, 0);
+    }
+
+    /// Shows what the processes of a seat have done so far. Nothing changes.
+    pub(super) fn show(&self, seat: &mut FamilySeat<T>)
+        requires own { seat.old.inner.table_id ≡ self.now.inner.shared.table_id }
+        ensures own { (seat.new.inner.table_id ≡ seat.old.inner.table_id) × (seat.new.inner.id ≡ seat.old.inner.id) }
+        ensures same { seat.new.inner.me ≡ seat.old.inner.me }
+        ensures shown { (ps : List (Process (TripleSight T))) → seat.old.inner.me.0 ≡ Has ps →
+            IsEnded self.now.inner.shared.key.processes self.now.inner.shared.key.first ps }
+    {
+        self.load_calls::<Brand>(seat);
     }
 
     /// Frees the table.
