@@ -3,6 +3,7 @@ mod Accessing
 mod Calling
 mod Ending
 pub mod Mapping
+mod Standing
 mod Whole
 mod Dealing
 mod Same

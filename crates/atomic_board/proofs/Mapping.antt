@@ -1,6 +1,8 @@
 -- A list is gone through from its end, and what its elements give is pushed: in the end that is turned round.
 use Rattle.std.proofs.Common.{◌≡◌, List, [], ◌∷◌, ◌++◌, length, map, reverse, refl, sym, ◌∙◌, ap, arith, append_assoc, append-nil}
-use Rattle.std.proofs.lemmas.List.{reverse-append}
+use Rattle.std.proofs.lemmas.List.{map-append, reverse-append}
+use Rattle.atomic_board.specs.declared.board.Pass.{Pass}
+use Rattle.atomic_board.specs.inner.Room.{in_order}
 
 -- a list of what was made so far from the last elements, last first
 pub record MappedFrom {A B : Type 0} (f : A → B) (whole left : List A) (made : List B) : Type 0 where
@@ -23,3 +25,18 @@ pub mapped_all : {A B : Type 0} (f : A → B) (whole left : List A) (made : List
     → reverse made ≡ map f whole
 mapped_all f whole [] made h e = h.are ∙ ap (map f) (sym h.of)
 mapped_all f whole (x ∷ xs) made h e = absurd (omega (arith, e))
+
+module _ {V F S T : Type 0} where
+  -- no pass is left
+  pub order_none : (passes : List (Pass V F S T)) (seats : List S) → length passes ≡ 0 → in_order passes seats ≡ reverse seats
+  order_none [] seats e = refl
+  order_none (p ∷ ps) seats e = absurd (omega (arith, e))
+
+  -- the last pass's seat is taken out
+  pub order_more : (passes left : List (Pass V F S T)) (seats : List S) (p : Pass V F S T) → passes ≡ left ++ p ∷ [] →
+      in_order left (seats ++ p.seat ∷ []) ≡ in_order passes seats
+  order_more passes left seats p e =
+      ap (λ z. map (λ q. q.seat) left ++ z) (reverse-append seats (p.seat ∷ []))
+      ∙ sym (append_assoc (map (λ q. q.seat) left) (p.seat ∷ []) (reverse seats))
+      ∙ ap (λ z. z ++ reverse seats) (sym (map-append (λ q. q.seat) left (p ∷ [])))
+      ∙ ap (λ z. in_order z seats) (sym e)

@@ -28,6 +28,10 @@ module _ {V F S T : Type 0} where
     pub greatest : (i : ℕ) (p : Pass V F S T) → slice_get passes i ≡ Some p → IsAtMost p.own.stamp last.stamp
     pub earliest : (i : ℕ) (p : Pass V F S T) → i < process → slice_get passes i ≡ Some p → IsBelow p.own.stamp last.stamp
 
+-- a pass but for the memory that it keeps for the board's end
+abbrev pub standing : {V F S T : Type 0} → Pass V F S T → ℕ × Posted V × S
+standing p = (p.process, p.own, p.seat)
+
 module _ {V F S T : Type 0} (words : FamilyWords F (Posted V) S T) where
   -- the passes of all processes, in their order
   pub record AllPasses (obeys : V → Bool) (board : Board V F S T) (passes : List (Pass V F S T)) : Type 0 where

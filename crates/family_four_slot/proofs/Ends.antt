@@ -1,8 +1,7 @@
 -- What the last state of a family shows of the processes that a seat has: one schedule, and each cell's calls.
-use Rattle.std.proofs.Common.{◌≡◌, ℕ, ◌+◌, ◌<◌, ◌≤◌, List, [], ◌∷◌, ◌++◌, map, length, slice_get, Some, refl, sym, ap, ◌∙◌, subst}
-use mathlib.Core.Option.{some, none}
+use Rattle.std.proofs.Common.{◌≡◌, ℕ, List, [], ◌∷◌, map, refl, sym, ap, ◌∙◌, subst}
+use mathlib.Core.Option.{some}
 use lib.ListN.{get_elem?}
-use Rattle.history_core.specs.Schedules.{positions}
 use Rattle.atomic_table.specs.Table.{State, Me, Step, Allows, keeps, Final, Seen}
 use Rattle.atomic_table.proofs.Lists.{at_map, at_longer}
 use Rattle.fourslot_core.specs.declared.state.Stage.{Stage}
@@ -10,11 +9,10 @@ use Rattle.fourslot_core.specs.declared.state.Stage.TheVariants as writer
 use Rattle.fourslot_core.specs.declared.state.ReaderStage.{ReaderStage}
 use Rattle.fourslot_core.specs.declared.state.ReaderStage.TheVariants as reader
 use Rattle.fourslot_core.specs.Invariant.{latest_slot}
-use Rattle.cell_live.specs.Intervals.{AreAtomic, AreFirst, HaveEnded}
 use Rattle.cell_four_slot.specs.declared.notes.WriterNotes.{WriterNotes}
 use Rattle.cell_four_slot.specs.declared.notes.ReaderNotes.{ReaderNotes}
 use Rattle.cell_live.specs.declared.sight.Sight.TheVariants.{Spent, Writer, Reader}
-use Rattle.cell_four_slot.specs.Rule.{FourSlotRule, IsTimed, Sees, number_in, named_slot}
+use Rattle.cell_four_slot.specs.Rule.{FourSlotRule, IsTimed, number_in, named_slot}
 use Rattle.cell_four_slot.specs.Steps.{FourSlotSight}
 use Rattle.cell_four_slot.proofs.Timing.{timed_atomic}
 use Rattle.family_four_slot.specs.declared.notes.Process.{Process}
@@ -23,7 +21,7 @@ use Rattle.family_four_slot.specs.declared.notes.View.{View}
 use Rattle.family_four_slot.specs.declared.notes.View.TheVariants.{Has}
 use Rattle.family_four_slot.specs.Places.{four_slots}
 use Rattle.family_four_slot.specs.Family.{of_cell, cell, Shows}
-use Rattle.family_four_slot.specs.FourSlots.{CellRule, FourSlotFamily}
+use Rattle.family_four_slot.specs.FourSlots.{FourSlotFamily}
 use Rattle.family_four_slot.specs.Tables.{IsEnded, IsDone, shows}
 use Rattle.family_four_slot.proofs.Seats.{each_at}
 use Rattle.family_four_slot.proofs.Slices.{same_one, set_found, set_there}

@@ -1,11 +1,11 @@
 -- The last seat is lent, the others with it, and what the one seat is shown is of all of them.
-use Rattle.std.proofs.Common.{◌≡◌, ℕ, ◌+◌, List, [], ◌∷◌, ◌++◌, append-nil, length, refl, sym, ap, ◌∙◌, subst}
+use Rattle.std.proofs.Common.{◌≡◌, ℕ, [], ◌∷◌, ◌++◌, append-nil, length, refl, sym, ◌∙◌, subst}
 use mathlib.Core.Option.{some}
 use lib.ListN.{get_elem?}
 use Rattle.family_live.specs.Ends.{Each}
 use Rattle.family_four_slot.specs.declared.family.FourSlotSeat.{FourSlotSeat}
 use Rattle.family_four_slot.specs.declared.notes.View.TheVariants.{Has}
-use Rattle.family_four_slot.specs.Seated.{known_by, processes_of, number_of, IsSeat}
+use Rattle.family_four_slot.specs.Seated.{known_by}
 use Rattle.family_four_slot.proofs.Gathering.{stood, each_more, each_fewer, put_again, same_seat}
 use Rattle.family_four_slot.proofs.Parting.{all_scheduled, all_atomic}
 use Rattle.family_four_slot.proofs.family.FourSlotFamilyFamily.show.Goals as goal
@@ -40,7 +40,7 @@ pub shown-all-requires-clause-one : goal.shown-all-requires-clause-one
 shown-all-requires-clause-one g c =
     let seats = c.args.seats.now.items in
     each_fewer (λ i s. s.seat.inner.me.0 ≡ Has (known_by s ∷ [])) seats c.pop.new.self.items c.in-Some.last c.in-Some.ensures.items
-        (λ i s e. (c.requires.1 i s e).0.one)
+    (λ i s e. (c.requires.1 i s e).0.one)
 
 pub shown-all-requires-clause-bare : goal.shown-all-requires-clause-bare
 shown-all-requires-clause-bare g c =
@@ -93,7 +93,7 @@ returns-clause-scheduled g c =
     let h = c.shown-all.ensures.shown (known_by last ∷ []) (c.lift-all.ensures.lifted.1 ∙ (λ i. (one i, []))) in
     let P = λ (i : ℕ) (s : FourSlotSeat g.row.T.Denot). (b : ℕ) × (get_elem? h.0 b ≡ some (known_by s)) in
     all_scheduled c.args.self.now seats c.requires.1 h.0
-        (subst (λ xs. Each P xs) (sym c.in-Some.ensures.items) (each_more P left last (λ i s e. h.3 i s e) (h.2 0 (known_by last) refl))) h.1
+    (subst (λ xs. Each P xs) (sym c.in-Some.ensures.items) (each_more P left last (λ i s e. h.3 i s e) (h.2 0 (known_by last) refl))) h.1
 
 pub returns-clause-atomic : goal.returns-clause-atomic
 returns-clause-atomic g c =
@@ -105,4 +105,4 @@ returns-clause-atomic g c =
     let h = c.shown-all.ensures.shown (known_by last ∷ []) (c.lift-all.ensures.lifted.1 ∙ (λ i. (one i, []))) in
     let P = λ (i : ℕ) (s : FourSlotSeat g.row.T.Denot). (b : ℕ) × (get_elem? h.0 b ≡ some (known_by s)) in
     all_atomic c.args.self.now seats c.requires.1 h.0
-        (subst (λ xs. Each P xs) (sym c.in-Some.ensures.items) (each_more P left last (λ i s e. h.3 i s e) (h.2 0 (known_by last) refl))) h.1
+    (subst (λ xs. Each P xs) (sym c.in-Some.ensures.items) (each_more P left last (λ i s e. h.3 i s e) (h.2 0 (known_by last) refl))) h.1

@@ -1,5 +1,5 @@
 -- All that a seat knows goes to one with no slots.
-use Rattle.std.proofs.Common.{◌≡◌, arith, ◌∷◌, subst, sym, ◌<◌}
+use Rattle.std.proofs.Common.{arith, subst, sym}
 use Rattle.atomic_table.specs.Table.{Splits}
 use Rattle.cell_live.specs.declared.sight.Sight.TheVariants.{Spent}
 use Rattle.family_four_slot.specs.Places.{four_slots}

@@ -1,5 +1,5 @@
 -- What a seat with no slots knows goes into another.
-use Rattle.std.proofs.Common.{◌≡◌, arith, ◌∷◌, subst, sym, ◌<◌, ap, ◌∙◌}
+use Rattle.std.proofs.Common.{arith, subst, sym, ap}
 use Rattle.atomic_table.specs.Table.{Joins}
 use Rattle.cell_live.specs.declared.sight.Sight.TheVariants.{Spent}
 use Rattle.cell_four_slot.specs.Steps.{FourSlotSight}

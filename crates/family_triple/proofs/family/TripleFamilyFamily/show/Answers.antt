@@ -1,11 +1,11 @@
 -- The last seat is lent, the others with it, and what the one seat is shown is of all of them.
-use Rattle.std.proofs.Common.{◌≡◌, ℕ, ◌+◌, List, [], ◌∷◌, ◌++◌, append-nil, length, refl, sym, ap, ◌∙◌, subst}
+use Rattle.std.proofs.Common.{◌≡◌, ℕ, [], ◌∷◌, ◌++◌, append-nil, length, refl, sym, ◌∙◌, subst}
 use mathlib.Core.Option.{some}
 use lib.ListN.{get_elem?}
 use Rattle.family_live.specs.Ends.{Each}
 use Rattle.family_triple.specs.declared.family.TripleSeat.{TripleSeat}
 use Rattle.family_four_slot.specs.declared.notes.View.TheVariants.{Has}
-use Rattle.family_triple.specs.Seated.{known_by, processes_of, number_of, IsSeat}
+use Rattle.family_triple.specs.Seated.{known_by}
 use Rattle.family_four_slot.proofs.Gathering.{stood, each_more, each_fewer, put_again}
 use Rattle.family_triple.proofs.Parting.{all_scheduled, all_atomic}
 use Rattle.family_triple.proofs.Showing.{same_seat}
@@ -41,7 +41,7 @@ pub shown-all-requires-clause-one : goal.shown-all-requires-clause-one
 shown-all-requires-clause-one g c =
     let seats = c.args.seats.now.items in
     each_fewer (λ i s. s.seat.inner.me.0 ≡ Has (known_by s ∷ [])) seats c.pop.new.self.items c.in-Some.last c.in-Some.ensures.items
-        (λ i s e. (c.requires.1 i s e).0.one)
+    (λ i s e. (c.requires.1 i s e).0.one)
 
 pub shown-all-requires-clause-bare : goal.shown-all-requires-clause-bare
 shown-all-requires-clause-bare g c =
@@ -94,7 +94,7 @@ returns-clause-scheduled g c =
     let h = c.shown-all.ensures.shown (known_by last ∷ []) (c.lift-all.ensures.lifted.1 ∙ (λ i. (one i, []))) in
     let P = λ (i : ℕ) (s : TripleSeat g.row.T.Denot). (b : ℕ) × (get_elem? h.0 b ≡ some (known_by s)) in
     all_scheduled c.args.self.now seats c.requires.1 h.0
-        (subst (λ xs. Each P xs) (sym c.in-Some.ensures.items) (each_more P left last (λ i s e. h.3 i s e) (h.2 0 (known_by last) refl))) h.1
+    (subst (λ xs. Each P xs) (sym c.in-Some.ensures.items) (each_more P left last (λ i s e. h.3 i s e) (h.2 0 (known_by last) refl))) h.1
 
 pub returns-clause-atomic : goal.returns-clause-atomic
 returns-clause-atomic g c =
@@ -106,4 +106,4 @@ returns-clause-atomic g c =
     let h = c.shown-all.ensures.shown (known_by last ∷ []) (c.lift-all.ensures.lifted.1 ∙ (λ i. (one i, []))) in
     let P = λ (i : ℕ) (s : TripleSeat g.row.T.Denot). (b : ℕ) × (get_elem? h.0 b ≡ some (known_by s)) in
     all_atomic c.args.self.now seats c.requires.1 h.0
-        (subst (λ xs. Each P xs) (sym c.in-Some.ensures.items) (each_more P left last (λ i s e. h.3 i s e) (h.2 0 (known_by last) refl))) h.1
+    (subst (λ xs. Each P xs) (sym c.in-Some.ensures.items) (each_more P left last (λ i s e. h.3 i s e) (h.2 0 (known_by last) refl))) h.1

@@ -1,6 +1,5 @@
 -- All that a seat knows goes to one with no slots, and from there into another.
-use Rattle.std.proofs.Common.{◌≡◌, ◌∷◌, [], ap, ◌∙◌, sym}
-use Rattle.family_four_slot.specs.declared.notes.View.TheVariants.{Has}
+use Rattle.std.proofs.Common.{[], ◌∙◌}
 use Rattle.family_triple.proofs.table.FamilyTable.gather.Goals as goal
 
 pub put-requires-clause-bare : goal.put-requires-clause-bare

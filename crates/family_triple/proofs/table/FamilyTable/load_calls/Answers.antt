@@ -1,5 +1,5 @@
 -- A load that keeps the view shows the calls so far.
-use Rattle.std.proofs.Common.{arith, ◌≡◌, ◌<◌, ℕ, List, refl, ap, ◌∷◌, [], sym, ◌∙◌, subst}
+use Rattle.std.proofs.Common.{arith, ℕ, List, sym, subst}
 use Rattle.atomic_table.specs.Table.{Allows, step}
 use mathlib.Core.Option.{none}
 use Rattle.family_triple.specs.Triples.{TripleFamily}
@@ -25,4 +25,4 @@ load-requires g c =
 pub returns-clause-shown : goal.returns-clause-shown
 returns-clause-shown g c = λ ps is.
     subst (λ z. IsEnded z c.args.self.now.inner.shared.key.first ps) c.requires.opening.1
-        (c.load.ensures.2.1 c.args.self.now.inner.shared.key.first ps c.requires.opening.0 is)
+    (c.load.ensures.2.1 c.args.self.now.inner.shared.key.first ps c.requires.opening.0 is)
