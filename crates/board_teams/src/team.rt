@@ -130,6 +130,14 @@ impl<F: Family<Posted<Band>>> Team<F> {
         Given::Posted(receipt.told())
     }
 
+    /// The greatest own record so far.
+    pub fn so_far(&mut self) -> Posted<Band>
+        requires { AllPasses ⟦<F as Family<Posted<Band>>>⟧ fits self.old.board self.old.passes.items }
+        ensures { AllPasses ⟦<F as Family<Posted<Band>>>⟧ fits self.new.board self.new.passes.items }
+    {
+        self.board.so_far(&mut self.passes)
+    }
+
     pub fn finish(self) -> Posted<Band>
         requires { AllPasses ⟦<F as Family<Posted<Band>>>⟧ fits self.board self.passes.items }
     {

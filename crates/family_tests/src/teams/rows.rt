@@ -177,6 +177,7 @@ fn steps_hold<F: Family<Posted<Band>>>(team: &mut Team<F>, steps: &[(Step, Given
     for line in steps {
         let (step, given) = *line;
         all = all & (team.answer(step) == given);
+        team.so_far();
     }
     all
 }
@@ -187,6 +188,7 @@ fn holds<F: Family<Posted<Band>>>(alloc: Global, row: &Row) -> Result<bool, Boar
     for term in row.terms {
         let mut team = opened::<F>(alloc, term, before)?;
         all = all & steps_hold(&mut team, term.steps);
+        all = all & (team.so_far() == term.last);
         let last = team.finish();
         all = all & (last == term.last);
         before = Some(last);
