@@ -68,8 +68,7 @@ def arrows(below, name):
 def subjects_below(rows):
     """By each subject, the other subjects that its crates stand on."""
     subject = {it: title for title, names in SUBJECTS.items() for it in names.split()}
-    found = {title: {subject[it] for name in names.split() for it in all_below(rows, name)} - {title} for title, names in SUBJECTS.items()}
-    return found
+    return {title: {subject[it] for name in names.split() for it in all_below(rows, name)} - {title} for title, names in SUBJECTS.items()}
 
 
 def described(name):
@@ -86,34 +85,40 @@ def described(name):
 
 def short(words):
     """The first sentence, up to a colon behind four words or more. A point behind one capital letter ends no sentence."""
-    sentence = re.match(r"(.*?[^A-Z])\.(?: |$)", words + " ")[1]
-    parts = sentence.split(": ")
+    sentence = re.match(r"(.*?[^A-Z])\.(?: |$)", words)
+    parts = (sentence[1] if sentence else words).split(": ")
     count = next((it for it in range(1, len(parts)) if len(" ".join(parts[:it]).split()) >= 4), len(parts))
     return ": ".join(parts[:count])
 
 
-def made():
-    """The map as it should be, and what stands in its way: crates without words at their head, or not in one subject."""
-    rows = stands_on()
-    listed = " ".join(SUBJECTS.values()).split()
-    faults = [f"tests/map.py has {it} in {listed.count(it)} subjects" for it in sorted({*rows, *listed}) if (it in rows) != (listed.count(it) == 1)]
-    if faults:
-        return "", faults
-    bare = [f"{it} has no words at its head" for it in rows if not described(it)]
-    if bare:
-        return "", bare
-    below = subjects_below(rows)
-    numbers = {it: f"s{at}" for at, it in enumerate(SUBJECTS)}
-    graph = [f"    {numbers[it]}[{it}] --> {' & '.join(numbers[low] for low in arrows(below, it))}" for it in SUBJECTS if below[it]]
-    graph = [f"    {numbers[it]}[{it}]" for it in SUBJECTS if not below[it]] + graph
-    lines = ["```mermaid", "graph TD", *graph, "```"]
+def graph_of(below):
+    """The graph of the subjects, an arrow to each that one stands on."""
+    numbers = {it: f"s{at}" for at, it in enumerate(below)}
+    arrow = lambda it: f" --> {' & '.join(numbers[low] for low in arrows(below, it))}" if below[it] else ""
+    return ["```mermaid", "graph TD", *[f"    {numbers[it]}[{it}]{arrow(it)}" for it in below], "```"]
+
+
+def made(rows):
+    """The map as it should be."""
+    lines = graph_of(subjects_below(rows))
     for title, names in SUBJECTS.items():
-        sorted_names = sorted(names.split(), key=lambda it: (height(rows, it), it))
         lines += ["", f"### {title}", ""]
-        for it in sorted_names:
+        for it in sorted(names.split(), key=lambda it: (height(rows, it), it)):
             words = f"- `{it}`: {short(described(it).removeprefix(f'`{it}`: '))}."
             lines += textwrap.wrap(words, 138, subsequent_indent="  ", break_on_hyphens=False)
-    return "\n".join(lines) + "\n", []
+    return "\n".join(lines) + "\n"
+
+
+def faults_of(rows):
+    """What stands in the way of a map: crates without words at their head or not in one subject, subjects that stand on one another."""
+    listed = " ".join(SUBJECTS.values()).split()
+    faults = [f"{it} has no words at its head" for it in rows if not described(it)]
+    faults += [f"tests/map.py has {it} in {listed.count(it)} subjects" for it in rows if listed.count(it) != 1]
+    faults += [f"tests/map.py has {it}, which is no crate" for it in listed if it not in rows]
+    if faults:
+        return faults
+    below = subjects_below(rows)
+    return [f"the crates of `{it}` and of `{low}` stand on one another" for it in below for low in below[it] if it in below[low]]
 
 
 def sources_of(name):
@@ -164,7 +169,9 @@ def main(words):
     if not mark:
         print("docs/MAP.md has lost its marks")
         return 1
-    wanted, faults = made()
+    rows = stands_on()
+    faults = faults_of(rows)
+    wanted = "" if faults else made(rows)
     if words == ["--write"] and not faults:
         with open(MAP, "w", encoding="utf-8") as file:
             file.write(before + MARKS[0] + wanted + MARKS[1] + after)
@@ -172,7 +179,7 @@ def main(words):
     faults += list(wrong_boundaries(text)) + list(wrong_copies())
     if rest != wanted + MARKS[1] + after:
         faults.append("docs/MAP.md isn't the map of the crates as they are: run python3 tests/map.py --write")
-    print("\n".join(faults or [f"the map has the {len(stands_on())} crates as they are"]))
+    print("\n".join(faults or [f"the map has the {len(rows)} crates as they are"]))
     return 1 if faults else 0
 
 
