@@ -70,6 +70,7 @@ test_in_c() {
             "$c" -std=c11 -D_GNU_SOURCE $strict -O2 $family c/tests/boards.c $wrapped $flags -o "$room/program"
     done
     wants='no record was torn'
+    run_here "examples/c/small.c ($c)" "$c" -std=c11 $strict -O2 examples/c/small.c $flags -o "$room/program"
     run_here "examples/c/tasks.c ($c)" "$c" -std=c11 $strict -O2 examples/c/tasks.c $flags -o "$room/program"
     run_here "examples/c/board.c ($c)" "$c" -std=c11 $strict -O2 examples/c/board.c $flags -o "$room/program"
     wants='a torn record'

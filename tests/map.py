@@ -1,21 +1,39 @@
-"""The map of the crates, made from crates.txt and from the lines at each crate's head.
+"""The map of the crates by subject, made from crates.txt and from the lines at each crate's head.
 
     map.py           compares docs/MAP.md with what is so, and says what differs: status 1
     map.py --write   writes it anew between its two marks
 
-The graph leaves out an arrow where a longer way leads to the same crate. In the table the crates come by their height, the number of
-crates on the longest way below them; the words are the first paragraph at the head of `lib.rt` or `main.rt`. The rows of the table
-`What crosses a boundary` have to name crates of which the upper stands on the lower, and what stands in a lower one. Where a page of docs/
-tells its reader to copy crates and to write a crates.txt, the two have to name the same crates, each on those that it stands on.
+The graph has the subjects, and leaves out an arrow if a longer way leads to the same one. Each crate is in one subject; in it the crates come
+by their height, the number of crates on the longest way below them. The words are the first sentence at the head of `lib.rt` or `main.rt`,
+up to its colon. The rows of the table `What crosses a boundary` have to name crates of which the upper stands on the lower, and what stands
+in a lower one. If a page of docs/ tells its reader to copy crates and to write a crates.txt, the two have to name the same crates, each on
+those that it stands on.
 """
 
 import os
 import re
 import sys
+import textwrap
 
 TOP = os.path.dirname(os.path.dirname(os.path.realpath(__file__)))
 MAP = f"{TOP}/docs/MAP.md"
 MARKS = "<!-- made by tests/map.py -->\n", "<!-- to here -->\n"
+SUBJECTS = {
+    "Histories and their orders": "history_core order_witnesses order_search history_thinning",
+    "The four-slot register": "fourslot_core fourslot_play",
+    "The matrix and the composed board": "stamps matrix_core matrix_play board_play",
+    "Running cells": "cell_live cell_four_slot cell_triple cell_receipts cell_uses",
+    "Running boards": "family_live family_four_slot family_triple board_history atomic_board board_tasks log_origins board_receipts "
+    "board_control board_uses",
+    "The library for C": "sides places cells_sides cells_c",
+    "Documents and printed lines": "streams document_refusals document_runs history_text log_text lines_tables lines_text lines_log "
+    "schedule_text report_text",
+    "The program fsr": "log_search lines_answers check_answers order_answers report_answers play_answers race_answers fsr_words fsr_answers "
+    "fsr_check fsr_order fsr",
+    "Pictures": "picture_shapes picture_visits picture_text picture_answers picture",
+    "Tests, soak and measurements": "library_tests run_tests board_teams family_tests growths headline_uses soak_findings soak_rounds soak_boards "
+    "soak cells_bench",
+}
 BOUNDARY = re.compile(r"^\| (.*?) to (.*?) \| (.*) \|$")
 
 
@@ -42,10 +60,15 @@ def height(rows, name):
     return max((height(rows, it) + 1 for it in rows[name] if it in rows), default=0)
 
 
-def arrows(rows, name):
-    """The crates that it stands on by no longer way."""
-    own = [it for it in rows[name] if it in rows]
-    return [it for it in own if not any(it in all_below(rows, other) for other in own)]
+def arrows(below, name):
+    """What it stands on by no longer way, where each name has all that is below it."""
+    return [it for it in below if it in below[name] and not any(it in below[other] for other in below[name])]
+
+
+def subjects_below(rows):
+    """By each subject, the other subjects that its crates stand on."""
+    subject = {it: title for title, names in SUBJECTS.items() for it in names.split()}
+    return {title: {subject[it] for name in names.split() for it in all_below(rows, name)} - {title} for title, names in SUBJECTS.items()}
 
 
 def described(name):
@@ -57,18 +80,45 @@ def described(name):
             if not line.startswith("//! "):
                 break
             words.append(line[4:].strip())
-    return " ".join(words).replace("|", "\\|")
+    return " ".join(words)
 
 
-def made():
-    """The map as it should be, and the crates that have no words at their head."""
-    rows = stands_on()
-    names = sorted(rows, key=lambda it: (height(rows, it), it))
-    words = {it: described(it) for it in names}
-    graph = [f"    {it} --> {lower}" for it in names for lower in arrows(rows, it)]
-    table = [f"| `{it}` | {words[it]} | {', '.join(f'`{lower}`' for lower in rows[it]) or 'nothing here'} |" for it in names]
-    lines = ["```mermaid", "graph TD", *graph, "```", "", "| Crate | Is | Stands on |", "|---|---|---|", *table]
-    return "\n".join(lines) + "\n", [it for it in names if not words[it]]
+def short(words):
+    """The first sentence, up to a colon behind four words or more. A point behind one capital letter ends no sentence."""
+    sentence = re.match(r"(.*?[^A-Z])\.(?: |$)", words)
+    parts = (sentence[1] if sentence else words).split(": ")
+    count = next((it for it in range(1, len(parts)) if len(" ".join(parts[:it]).split()) >= 4), len(parts))
+    return ": ".join(parts[:count])
+
+
+def graph_of(below):
+    """The graph of the subjects, an arrow to each that one stands on."""
+    numbers = {it: f"s{at}" for at, it in enumerate(below)}
+    arrow = lambda it: f" --> {' & '.join(numbers[low] for low in arrows(below, it))}" if below[it] else ""
+    return ["```mermaid", "graph TD", *[f"    {numbers[it]}[{it}]{arrow(it)}" for it in below], "```"]
+
+
+def made(rows):
+    """The map as it should be."""
+    lines = graph_of(subjects_below(rows))
+    for title, names in SUBJECTS.items():
+        lines += ["", f"### {title}", ""]
+        for it in sorted(names.split(), key=lambda it: (height(rows, it), it)):
+            words = f"- `{it}`: {short(described(it).removeprefix(f'`{it}`: '))}."
+            lines += textwrap.wrap(words, 138, subsequent_indent="  ", break_on_hyphens=False)
+    return "\n".join(lines) + "\n"
+
+
+def faults_of(rows):
+    """What stands in the way of a map: crates without words at their head or not in one subject, subjects that stand on one another."""
+    listed = " ".join(SUBJECTS.values()).split()
+    faults = [f"{it} has no words at its head" for it in rows if not described(it)]
+    faults += [f"tests/map.py has {it} in {listed.count(it)} subjects" for it in rows if listed.count(it) != 1]
+    faults += [f"tests/map.py has {it}, which is no crate" for it in listed if it not in rows]
+    if faults:
+        return faults
+    below = subjects_below(rows)
+    return [f"the crates of `{it}` and of `{low}` stand on one another" for it in below for low in below[it] if it in below[low]]
 
 
 def sources_of(name):
@@ -119,15 +169,17 @@ def main(words):
     if not mark:
         print("docs/MAP.md has lost its marks")
         return 1
-    wanted, bare = made()
-    if words == ["--write"]:
+    rows = stands_on()
+    faults = faults_of(rows)
+    wanted = "" if faults else made(rows)
+    if words == ["--write"] and not faults:
         with open(MAP, "w", encoding="utf-8") as file:
             file.write(before + MARKS[0] + wanted + MARKS[1] + after)
         return 0
-    faults = [f"{it} has no words at its head" for it in bare] + list(wrong_boundaries(text)) + list(wrong_copies())
+    faults += list(wrong_boundaries(text)) + list(wrong_copies())
     if rest != wanted + MARKS[1] + after:
         faults.append("docs/MAP.md isn't the map of the crates as they are: run python3 tests/map.py --write")
-    print("\n".join(faults or [f"the map has the {len(stands_on())} crates as they are"]))
+    print("\n".join(faults or [f"the map has the {len(rows)} crates as they are"]))
     return 1 if faults else 0
 
 

@@ -1,4 +1,4 @@
-"""What docs/ quotes from the code has to stand there.
+"""What README and docs/ quote from the code has to stand there.
 
     quotes.py [--count] FILE ..
 
@@ -105,7 +105,7 @@ def main():
         more, count = faults_of(document)
         faults += more + unlisted(document) + wrong_sums(document)
         quoted += count
-    print("\n".join([*faults, f"{quoted} quotations and counts stand in the sources as docs/ has them"][: len(faults) or 1]))
+    print("\n".join([*faults, f"{quoted} quotations and counts stand in the sources as the pages have them"][: len(faults) or 1]))
     return 1 if faults or not quoted else 0
 
 

@@ -20,6 +20,11 @@ if command -v cargo >/dev/null 2>&1; then
     else
         fail "rust/nidzaru: a control loop that is told to stop" "$(tail -n 1 "$room/said")"
     fi
+    if in_rust run --release --example small >"$room/said" 2>&1 && [ "$(tail -n 1 "$room/said")" = 'no record was torn' ]; then
+        pass "rust/nidzaru: a small program"
+    else
+        fail "rust/nidzaru: a small program" "$(tail -n 1 "$room/said")"
+    fi
     if PKG_CONFIG_PATH=/nowhere CARGO_TARGET_DIR=$room/target cargo build --offline --quiet --manifest-path "$room/rust/Cargo.toml" \
         >"$room/said" 2>&1 || ! grep -q 'install it by' "$room/said"; then
         fail "rust/nidzaru without the library" "it doesn't say how the library is installed"
