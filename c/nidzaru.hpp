@@ -95,6 +95,7 @@ template <class> inline constexpr bool never = false;
 // The right to write: one thread uses it at a time.
 template <class T, cell C = cell::four_slot> class writer : detail::side {
     using record = detail::record<T, C>;
+    static_assert(record::size > 0, "the library has records of this size");
 
   public:
     writer() = default;
@@ -132,6 +133,7 @@ template <class T, cell C = cell::four_slot> class writer : detail::side {
 // The right to read: one thread uses it at a time.
 template <class T, cell C = cell::four_slot> class reader : detail::side {
     using record = detail::record<T, C>;
+    static_assert(record::size > 0, "the library has records of this size");
 
   public:
     reader() = default;
@@ -219,10 +221,14 @@ template <class T, cell C> [[nodiscard]] sides<T, C> make([[maybe_unused]] const
 }
 
 // (with the namespace, since a record's own may have functions of these names)
-template <class T> [[nodiscard]] auto make(const T &first) { return nidzaru::make<T, cell::four_slot>(first); }
-template <class T> [[nodiscard]] auto make_triple(const T &first) { return nidzaru::make<T, cell::triple>(first); }
-template <class T> [[nodiscard]] auto try_make(const T &first) noexcept { return nidzaru::try_make<T, cell::four_slot>(first); }
-template <class T> [[nodiscard]] auto try_make_triple(const T &first) noexcept { return nidzaru::try_make<T, cell::triple>(first); }
+template <class T> [[nodiscard]] sides<T> make(const T &first) { return nidzaru::make<T, cell::four_slot>(first); }
+template <class T> [[nodiscard]] sides<T, cell::triple> make_triple(const T &first) { return nidzaru::make<T, cell::triple>(first); }
+template <class T> [[nodiscard]] std::optional<sides<T>> try_make(const T &first) noexcept {
+    return nidzaru::try_make<T, cell::four_slot>(first);
+}
+template <class T> [[nodiscard]] std::optional<sides<T, cell::triple>> try_make_triple(const T &first) noexcept {
+    return nidzaru::try_make<T, cell::triple>(first);
+}
 
 // The stamp of a record of a board: one stamp is one record, and the opening has 0.0.
 struct stamp : nidzaru_stamp {
@@ -261,6 +267,7 @@ struct board_making {
 // A place at a board, the right to write and to read as one of its tasks: one thread uses it at a time.
 template <class T, cell C = cell::four_slot> class place : detail::side {
     using record = detail::board_record<T, C>;
+    static_assert(record::size > 0, "the library has records of this size");
 
   public:
     place() = default;
