@@ -105,7 +105,7 @@ test_refusing() {
     echo made >"$room/wanted"
     refuse_growths GOOD
     catches "a block that isn't given back" "at request 2 it ended and had memory" refuse_growths KEEPS_FIRST
-    catches "a refusal that is told otherwise" "at request 1 it ended with status 0: memory" refuse_growths TELLS_OTHERWISE
+    catches "a refusal that is told otherwise" "at request 1 it ended with status 0" refuse_growths TELLS_OTHERWISE
     catches "a refusal that isn't told" "no request was refused" refuse_growths TELLS_NOTHING
     catches "a program that asks for no memory" "no request was refused" refuse_growths TAKES_NONE
     echo 'made more' >"$room/wanted"

@@ -222,9 +222,9 @@ else
 
     # The controls: another fault, another rule, a lawful order told as unlawful, a table with one wrong row or none, a program that
     # leaves the last byte unread, and one that refuses a part of a document for another reason.
-    catches "another fault" "document: range of ops" sees_long check 'document: kind' plain_check 10001 0 0
-    catches "another rule" "unlawful listing" sees_long check 'unlawful precedence' plain_check 0 10000 0
-    catches "a lawful order told as unlawful" "status 0 and 'lawful" sees_long check 'unlawful listing' cat examples/lawful.json
+    catches "another fault" "not 'document: kind' but status 3" sees_long check 'document: kind' plain_check 10001 0 0
+    catches "another rule" "not 'unlawful precedence' but status 1" sees_long check 'unlawful precedence' plain_check 0 10000 0
+    catches "a lawful order told as unlawful" "not 'unlawful listing' but status 0" sees_long check 'unlawful listing' cat examples/lawful.json
     printf '# a row\nunlawful listing | %s\n' "$(cat examples/lawful.json)" >"$room/table"
     catches "a table with a wrong row" "not 'unlawful listing' but status 0" table_of check "$room/table"
     sed -n 1p "$room/table" >"$room/empty"
@@ -233,7 +233,7 @@ else
     make_stub fsr <<'STUB'
 head -c 100 >/dev/null; echo lawful
 STUB
-    catches "a document that isn't read to its end" "status 0 and 'lawful" over_stubs sees_long check lawful cat examples/lawful.json
+    catches "a document that isn't read to its end" "not 'lawful' but status 0" over_stubs sees_long check lawful cat examples/lawful.json
     make_stub fsr <<'STUB'
 cat >/dev/null; echo 'fsr: document: kind' >&2; exit 3
 STUB

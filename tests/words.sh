@@ -132,10 +132,10 @@ done
 # The controls: words that are a command, another beginning, another first line, a status that isn't that of the program, and output
 # beside the line.
 catches "words that are a command" "status 0 and not 2" refuses_words "$room/err" a check
-catches "another beginning" "status 2: Reads a document" refuses_unread 'Writes a document' help
+catches "another beginning" "it ended with status 2" refuses_unread 'Writes a document' help
 catches "another first line" "Checks that an order" helps check "Checks that no order of a history is atomic"
 catches "a picture that is drawn" "status 0 and not 2" ends_picture a examples/lawful.json "$room/drawn" 2 "$no_words"
 make_stub picture <<'STUB'
 echo more; echo 'picture: read failed' >&2; exit 5
 STUB
-catches "output beside the line" "status 5 and not 5: more" over_stubs ends_picture a examples "$room/out" 5 "picture: read failed"
+catches "output beside the line" "status 5 and not 5" over_stubs ends_picture a examples "$room/out" 5 "picture: read failed"
