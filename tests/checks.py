@@ -23,13 +23,12 @@ TOOLS = {
     "tests/rust.sh": ("cargo",),
     "tests/recorder.sh": ("gcc", "g++", "clang", "clang++", "rustc", "cargo"),
     "tests/package.sh": ("musl-gcc", "cmake", "cargo", "lintian"),
-    "tests/stepper.sh": ("chromium",),
 }
 # The scripts that have no checks, and those that are run by hand alone.
 HELPERS = {"outcomes", "spent", "build", "library"}
 BY_HAND = {"roots"}
 TOLD = re.compile(r"(?m)^test: (\S+(?: ci)?): (\d+) checks$")
-ROW = re.compile(r"(?m)^\| `([^`]+)` \| (\d+) \|$")
+ROW = re.compile(r"(?m)^\| (\d+) \| `([^`]+)` \|$")
 SUMS = re.compile(r"(?m)^(\d+) crates, (\d+) wrong bodies ")
 HAD = re.compile(r"(?m)^Counted with (.*?), without (.*?):$")
 FUNCTION = re.compile(r"(?m)^(\w+)\(\) *\{")
@@ -52,7 +51,7 @@ def stated(top):
     sums, had = SUMS.search(before + after), HAD.search(table)
     if not sums or not had:
         sys.exit("docs/TESTING.md doesn't state how many crates and wrong bodies there are, or with which tools was counted")
-    numbers = {name: int(count) for name, count in ROW.findall(table)}
+    numbers = {name: int(count) for count, name in ROW.findall(table)}
     return {"rt ci": int(sums[1]), "tests/wrong_bodies.py": int(sums[2]), **numbers}, {*had[1].split(", ")}, {*had[2].split(", ")}
 
 
@@ -81,7 +80,8 @@ def wrong_numbers(top, counted, only):
 def run_by_test(top):
     """The scripts that `./test` runs in its shell or by themselves."""
     text = (top / "test").read_text(encoding="utf-8")
-    return [f"tests/{name}.sh" if name else script for name, script in RUN.findall(text.split("\nrun_all() {", 1)[1].split("\n}\n", 1)[0])]
+    calls = text.split("\nrun_all() {", 1)[1].split("\n}\n", 1)[0]
+    return [f"tests/{name}.sh" if name else script for name, script in RUN.findall(calls)]
 
 
 def unrun(top):
@@ -114,10 +114,10 @@ def defined_twice(top):
 def write(top, counted):
     before, table, after = split(top)
     here, lacked = tools_here()
-    numbers = {name: int(count) for name, count in ROW.findall(table)} | counted
+    numbers = {name: int(count) for count, name in ROW.findall(table)} | counted
     names = [it for it in run_by_test(top) if it in numbers]
-    rows = [f"| `{it}` | {numbers[it]} |" for it in names]
-    lines = [f"Counted with {', '.join(here)}, without {', '.join(lacked)}:", "", "| Script | Checks |", "|---|---|", *rows, ""]
+    rows = [f"| {numbers[it]} | `{it}` |" for it in names]
+    lines = [f"Counted with {', '.join(here) or 'none'}, without {', '.join(lacked) or 'none'}:", "", "| Checks | Script |", "|---|---|", *rows, ""]
     (top / "docs/TESTING.md").write_text(before + MARKS[0] + "\n".join(lines) + MARKS[1] + after, encoding="utf-8")
 
 

@@ -60,7 +60,7 @@ catches_in_tree() {
     title=$1 said=$2 file=$3 change=$4
     shift 4
     make_tree
-    sed "$change" "$file" >"$tree/$file"
+    cp "$file" "$tree/$file" && sed -i "$change" "$tree/$file"
     if cmp -s "$file" "$tree/$file"; then
         fail "planted: $title" "nothing was changed"
     elif (cd "$tree" && "$@") >"$room/caught" 2>&1; then
