@@ -18,3 +18,14 @@ for document in examples/*.json examples/*.jsonl tests/schedules/*.json tests/ra
     check | order) sees "$document, by fsr_$command" "fsr_$command" "$document" "${document%.json*}.txt" ;;
     esac
 done
+
+# The controls: the first document beside another's text, with a status that it hasn't, and with more on the other stream.
+catches "another document's text" "something else than examples/found_order.txt" \
+    sees a fsr examples/lawful.json examples/found_order.txt check
+cp examples/lawful.json "$room/other.json" && echo 1 >"$room/other.status"
+catches "another status" "status 0 and not 1" sees a fsr "$room/other.json" examples/lawful.txt check
+make_stub fsr <<'STUB'
+cat >/dev/null; cat examples/lawful.txt; echo more >&2
+STUB
+catches "a line more on standard error" "it printed more" over_stubs sees a fsr examples/lawful.json examples/lawful.txt check
+catches "a program that isn't there" "wasn't built" over_stubs sees a picture examples/lawful.json examples/lawful.txt

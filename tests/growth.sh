@@ -35,7 +35,7 @@ refuse_each() {
         request=$((request + 1))
         rm -f "$room/met" "$room/left"
         REFUSE=$request REFUSE_MARK=$room/met REFUSE_LEFT=$room/left LD_PRELOAD=$room/refuse.so \
-            "crates/$program/out/$program" "$@" <"$input" >"$room/out" 2>"$room/err"
+            "$built/$program/out/$program" "$@" <"$input" >"$room/out" 2>"$room/err"
         status=$?
         # What a thread of the C library was given stays with the library.
         if [ "$program" = growths ] && [ "$1" != run_tasks ] && [ "$1" != finish_lanes ] && [ -e "$room/left" ]; then
@@ -61,6 +61,55 @@ refuse_each() {
     else
         pass "$title ($((request - 1)) requests)"
     fi
+}
+
+# Makes a program that takes two blocks, gives back those that it got, and tells `made`, or `out of memory` if one is refused. It ends by
+# `_exit`, as the programs of the repository do.
+#   make_growths FLAG      with this fault, or GOOD
+make_growths() {
+    mkdir -p "$room/stubs/growths/out" && "$compiler" -D"$1" -x c - -o "$room/stubs/growths/out/growths" <<'GROWTHS'
+#include <stdlib.h>
+#include <string.h>
+#include <unistd.h>
+int main(void) {
+    const char *told = "made\n";
+#ifndef TAKES_NONE
+    char *volatile first = malloc(64);
+    char *volatile second = first ? malloc(64) : NULL;
+#ifndef TELLS_NOTHING
+    if (!second) told = "out of memory\n";
+#endif
+#ifdef TELLS_OTHERWISE
+    if (!second) told = "memory\n";
+#endif
+#ifdef KEEPS_FIRST
+    if (second)
+#endif
+        free(first);
+    free(second);
+#endif
+    _exit(write(1, told, strlen(told)) < 0);
+}
+GROWTHS
+}
+
+# Refuses each request of the program with this fault.
+refuse_growths() {
+    make_growths "$1" && over_stubs refuse_each growths /dev/null planted
+}
+
+# The controls: programs that keep memory when they are refused some, tell nothing of it or something else, or ask for none; another answer.
+test_refusing() {
+    wanted_status=0
+    : >"$room/wanted_line"
+    echo made >"$room/wanted"
+    refuse_growths GOOD
+    catches "a block that isn't given back" "at request 2 it ended and had memory" refuse_growths KEEPS_FIRST
+    catches "a refusal that is told otherwise" "at request 1 it ended with status 0" refuse_growths TELLS_OTHERWISE
+    catches "a refusal that isn't told" "no request was refused" refuse_growths TELLS_NOTHING
+    catches "a program that asks for no memory" "no request was refused" refuse_growths TAKES_NONE
+    echo 'made more' >"$room/wanted"
+    catches "another answer" "with ample memory it ended with status 0" refuse_growths GOOD
 }
 
 if [ -z "$compiler" ]; then
@@ -115,4 +164,5 @@ else
             fail "$title" "a refusal beyond the $alone requests of the first board is seen"
         fi
     done
+    test_refusing
 fi

@@ -5,10 +5,13 @@
 
 A section of the page has quotations, blocks that begin with ```LANGUAGE PATH, and a table behind the mark `<!-- reading set -->`. The
 reading set of the quotations are the definitions of the repository's `specs/` that they name, those that these name, and so on, and the
-types of `src/` among them; of each the lines with its comment are counted. What the kit defines isn't counted.
+types of `src/` among them; of each the lines with its comment are counted. What the kit defines isn't counted. The last row has a digest
+beside the sum: eight hex digits of the SHA-256 of these definitions, without comments, each with where its file takes their names from. So
+a definition that changes is seen where its lines stay as many.
 """
 
 import functools
+import hashlib
 import os
 import re
 import sys
@@ -22,6 +25,9 @@ HEAD = re.compile(r"^\s*(?:(?:abbrev|unfoldable|opaque|pub|record|data)\s+)+(\S+
 TYPE = r"^pub (?:struct|enum|trait) %s\b"
 # A name, also an operator with its places.
 WORD = re.compile(r"[^\s(){}\[\],;.:]+")
+COMMENT = re.compile(r"(--|//).*")
+# What a file takes from another, of the kit's too: the path, and the names in braces or another name for it.
+TAKEN = re.compile(r"^\s*(?:pub )?(?:ghost )?use ([\w.]+?)(?:\.\{(.*?)\}| as (\w+)|$)", re.S | re.M)
 
 
 @functools.lru_cache(maxsize=None)
@@ -147,7 +153,7 @@ def reading_set(quotes):
     found, waiting = {}, list(quotes)
     while waiting:
         path, lines = waiting.pop()
-        lines = [re.sub(r"(--|//).*", "", line) for line in lines]
+        lines = [COMMENT.sub("", line) for line in lines]
         places = [found_by(path, word) for word in sorted({word for line in lines for word in WORD.findall(line)})]
         if path.endswith(".rt"):
             members = sorted({pair for line in lines for pair in re.findall(r"\b([A-Z])\.(\w+)", line)})
@@ -159,25 +165,56 @@ def reading_set(quotes):
     return {path: names for path, names in found.items() if names}
 
 
+@functools.lru_cache(maxsize=None)
+def taken_by(path):
+    """By each name that a file takes from another, the place it comes from."""
+    found = {}
+    for place, names, alias in TAKEN.findall("\n".join(lines_of(path))):
+        for name in filter(None, (it.strip() for it in (names or f"* as {alias}").split(","))):
+            name, _, other = name.partition(" as ")
+            found[other or name] = f"{place}.{name}"
+    return found
+
+
+def normal_text(path, names):
+    """The definitions of these names in a file, without comments, and where it takes from what they name."""
+    texts = []
+    for name, numbers in sorted(names.items()):
+        lines = [COMMENT.sub("", lines_of(path)[it]).rstrip() for it in numbers]
+        texts.append("\n".join(filter(None, lines)))
+    words = {word for text in texts for word in WORD.findall(text)}
+    # (of an operator the parts between its places)
+    taken = sorted(f"{name} = {place}" for name, place in taken_by(path).items() if words.issuperset(filter(None, name.split("◌"))))
+    return "\n".join([path, *taken, *texts])
+
+
+def digest_of(found):
+    """Eight hex digits that change with any definition of a reading set."""
+    text = "\n\n".join(normal_text(path, names) for path, names in sorted(found.items()))
+    return hashlib.sha256(text.encode()).hexdigest()[:8]
+
+
 def table_of(quotes):
-    rows, total = [], 0
-    for path, names in sorted(reading_set(quotes).items()):
+    rows, total, found = [], 0, reading_set(quotes)
+    for path, names in sorted(found.items()):
         count = len({number for numbers in names.values() for number in numbers})
         total += count
         rows.append(f"| `{path}` | {', '.join(f'`{it}`' for it in sorted(names, key=str.lower))} | {count} |")
-    return "\n".join([MARK.strip(), "| Read in | The definitions | Lines |", "|---|---|---|", *rows, f"| in all | | **{total}** |", ""])
+    return "\n".join([MARK.strip(), "| Read in | The definitions | Lines |", "|---|---|---|", *rows, f"| in all, digest `{digest_of(found)}` | | **{total}** |", ""])
 
 
 def main(words):
     with open(PAGE, encoding="utf-8") as file:
         text = file.read()
     first, *sections = re.split(r"(?m)^(?=## )", text)
-    wanted = [first]
+    wanted, others = [first], []
     for section in sections:
         before, mark, after = section.partition(MARK)
         quotes = [(it[1], it[2].split("\n")) for it in QUOTE.finditer(before)]
         rest = after.split("\n\n", 1)[1] if "\n\n" in after else ""
         wanted.append(before + (table_of(quotes) + "\n" + rest if mark else ""))
+        if wanted[-1].rstrip("\n") != section.rstrip("\n"):
+            others.append(section.split("\n")[0].removeprefix("## "))
     wanted = "".join(wanted).rstrip("\n") + "\n"
     if words == ["--write"]:
         with open(PAGE, "w", encoding="utf-8") as file:
@@ -185,7 +222,7 @@ def main(words):
         return 0
     count = wanted.count(MARK)
     print(f"the reading sets of {count} headlines are as docs/HEADLINES.md has them" if wanted == text else
-          "docs/HEADLINES.md has other reading sets than its headlines: run python3 tests/headlines.py --write")
+          f"docs/HEADLINES.md has another reading set of {'; '.join(others)}: read it, and run python3 tests/headlines.py --write")
     return 0 if wanted == text and count else 1
 
 

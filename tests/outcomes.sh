@@ -10,9 +10,67 @@ fail() {
     failed=$((failed + 1))
 }
 
+# The control of a check: with a planted fault in what it looks at, the check has to fail, and say this.
+#   catches TITLE SAID CHECK WORDS..
+catches() {
+    control=$1 control_said=$2
+    shift 2
+    tally=$(
+        passed=0 failed=0
+        "$@" >"$room/caught" 2>&1
+        echo "$passed passed, $failed failed"
+    )
+    if [ "$tally" != '0 passed, 1 failed' ]; then
+        fail "planted: $control" "it isn't seen: $tally"
+    elif ! grep -q -e "$control_said" "$room/caught"; then
+        fail "planted: $control" "another reason: $(head -c 300 "$room/caught" | tr '\n' ' ')"
+    else
+        pass "planted: $control"
+    fi
+}
+
+# The folder with the crates and what is built of them.
+built=crates
+
 # Says whether the gate left a program that was built from the sources as they are.
 has_program() {
-    [ -x "crates/$1/out/$1" ]
+    [ -x "$built/$1/out/$1" ]
+}
+
+# Makes a program of this name that a check takes for the built one: it is the text on standard input, a script of the shell.
+make_stub() {
+    mkdir -p "$room/stubs/$1/out" && { echo '#!/bin/sh' && cat; } >"$room/stubs/$1/out/$1" && chmod +x "$room/stubs/$1/out/$1"
+}
+
+# Runs a check over these programs.
+over_stubs() {
+    built=$room/stubs
+    "$@"
+}
+
+# Makes a copy of the repository, without what is built, in which a fault is planted; of several calls the first makes it.
+make_tree() {
+    tree=$room/tree
+    [ -d "$tree" ] || { mkdir "$tree" && tar -c --exclude=./.git --exclude=./out --exclude='./crates/*/out' . | tar -x -C "$tree"; }
+}
+
+# Sees that a command fails over the copy where the text of one file was changed by a command of sed, and says this.
+#   catches_in_tree TITLE SAID FILE SED COMMAND..
+catches_in_tree() {
+    title=$1 said=$2 file=$3 change=$4
+    shift 4
+    make_tree
+    cp "$file" "$tree/$file" && sed -i "$change" "$tree/$file"
+    if cmp -s "$file" "$tree/$file"; then
+        fail "planted: $title" "nothing was changed"
+    elif (cd "$tree" && "$@") >"$room/caught" 2>&1; then
+        fail "planted: $title" "it isn't seen"
+    elif ! grep -q -e "$said" "$room/caught"; then
+        fail "planted: $title" "another reason: $(head -c 300 "$room/caught" | tr '\n' ' ')"
+    else
+        pass "planted: $title"
+    fi
+    cp "$file" "$tree/$file"
 }
 
 # Runs a program with these words on a document, and sees that it ends with the status that stands beside the document in
@@ -28,7 +86,7 @@ sees() {
     fi
     wanted_status=0
     [ -f "${document%.json*}.status" ] && wanted_status=$(cat "${document%.json*}.status")
-    "crates/$program/out/$program" "$@" <"$document" >"$room/out" 2>"$room/err"
+    "$built/$program/out/$program" "$@" <"$document" >"$room/out" 2>"$room/err"
     status=$?
     told=out other=err
     [ "$wanted_status" -ge 2 ] && told=err other=out

@@ -20,7 +20,26 @@ else
     fail "pictures are well-formed XML" "$(tail -n 1 "$room/out")"
 fi
 
-if [ -e "$room/refuse.so" ]; then
+# The controls: another document's picture, and pictures that aren't well-formed or lack a bar.
+catches "another picture" "something else than docs/pictures/cell.svg" sees a picture examples/lawful.json docs/pictures/cell.svg
+catches_picture() {
+    make_stub picture
+    if python3 tests/pictures.py "$room/stubs/picture/out/picture" examples/lawful.json >"$room/out" 2>&1 || ! grep -q "$2" "$room/out"; then
+        fail "planted: $1" "it isn't seen: $(tail -n 1 "$room/out")"
+    else
+        pass "planted: $1"
+    fi
+}
+catches_picture "a picture that isn't well-formed" ParseError <<'STUB'
+cat >/dev/null; echo '<svg xmlns="http://www.w3.org/2000/svg"><g></svg>'
+STUB
+catches_picture "a picture without bars" "not a bar for each operation" <<'STUB'
+cat >/dev/null; echo '<svg xmlns="http://www.w3.org/2000/svg"></svg>'
+STUB
+
+if [ ! -e "$room/refuse.so" ]; then
+    fail "pictures with memory refused" "there is no refuse.so; tests/growth.sh makes it"
+else
     : >"$room/wanted_line"
     for name in lawful found_order crossed cell matrix board; do
         crates/picture/out/picture <"examples/$name.json" >"$room/wanted" 2>/dev/null

@@ -36,7 +36,7 @@ race_of() {
         return
     fi
     race_document "$@" >"$room/race.json"
-    crates/fsr/out/fsr race <"$room/race.json" >"$room/out" 2>"$room/err"
+    "$built/fsr/out/fsr" race <"$room/race.json" >"$room/out" 2>"$room/err"
     status=$?
     if [ "$status" != 0 ] || [ -s "$room/err" ]; then
         fail "$title" "it ended with status $status: $(head -c 200 "$room/err")"
@@ -61,7 +61,7 @@ whole_document() {
         return
     fi
     wanted=${1:+fsr: document: $1}
-    crates/fsr/out/fsr race <"$room/race.json" >"$room/out" 2>"$room/err"
+    "$built/fsr/out/fsr" race <"$room/race.json" >"$room/out" 2>"$room/err"
     status=$?
     if [ "$(cat "$room/err")" != "$wanted" ]; then
         fail "$title" "it said '$(head -c 200 "$room/err")'"
@@ -135,3 +135,27 @@ reads_of 10000 'range of scripts'
 race_of 8 1250 50
 race_of 16 625 50
 race_of 2 5000 50
+
+# The controls: what a race of two tasks with four calls each may tell, limit 2, and with one word changed; and documents that are told
+# otherwise.
+race_told() {
+    printf 'task 0: %s writes, %s reads, %s refused\ntask 1: 1 writes, 2 reads, 1 refused\norigin: %s\n' "$@" >"$room/told"
+    title="a race that tells of $1 writes, $2 reads, $3 refused, $4"
+    if is_race_text "$room/told" 2 4 2; then
+        pass "$title"
+    else
+        fail "$title" "it isn't what a race may tell"
+    fi
+}
+
+race_told 1 2 1 sound
+catches "a read too few" "isn't what a race may tell" race_told 1 1 1 sound
+catches "a write too many" "isn't what a race may tell" race_told 2 2 1 sound
+catches "a tag that nobody used" "isn't what a race may tell" race_told 0 2 2 sound
+catches "an unsound origin" "isn't what a race may tell" race_told 1 2 1 'task 0, entry 0'
+catches "a race that is refused" "document: range of scripts" document_of '[2,1,3]' 9 '[[]]'
+catches "a race that isn't refused" "it said ''" document_of '[0,0,0]' 9 '[["read"],["read"]]' 'range of scripts'
+make_stub fsr <<'STUB'
+cat >/dev/null; echo 'task 0: 0 writes, 0 reads, 0 refused'; echo 'origin: task 0, entry 0'
+STUB
+catches "a race whose origin is unsound" "status 0, and it printed" over_stubs document_of '[1,1,3]' 1 '[[],[]]'

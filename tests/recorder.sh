@@ -95,6 +95,10 @@ plants() {
 }
 
 test_planted() {
+    "$room/recorded" seqlock "$operations" >"$room/log" 2>/dev/null
+    catches "a right log that is judged unlawful" "status 0" judges a '^unlawful' 1
+    "$room/recorded" torn "$operations" >"$room/log" 2>/dev/null
+    catches "a wrong log that is judged lawful" "status 1" judges a '^lawful$' 0
     "$room/recorded" seqlock "$operations" >"$room/right" 2>/dev/null
     plants old '^unlawful (stale|crossed) [0-9]' 1
     plants lost '^unlawful unwritten [0-9]' 1

@@ -9,7 +9,7 @@ ends() {
     program=$1
     shift
     {
-        "crates/$program/out/$program" "$@" >"$room/out" 2>"$room/err"
+        "$built/$program/out/$program" "$@" >"$room/out" 2>"$room/err"
         status=$?
         left=$(wc -c)
     } <"$room/document"
@@ -44,8 +44,10 @@ sees_told() {
     fi
 }
 
-# Each line of a table.
+# Each line of a table, tests/refusals/COMMAND.txt if none is named.
+#   table_of COMMAND [TABLE]
 table_of() {
+    table=${2:-tests/refusals/$1.txt}
     rows=0 missed=0
     while IFS= read -r row; do
         case $row in
@@ -57,11 +59,11 @@ table_of() {
             missed=$((missed + 1))
             fail "fsr $1, ${row#* | }" "not '${row%% | *}' but status $status and '$(head -c 200 "$room/out" "$room/err")'"
         fi
-    done <"tests/refusals/$1.txt"
+    done <"$table"
     if [ "$rows" = 0 ]; then
-        fail "tests/refusals/$1.txt" "it has no document"
+        fail "$table" "it has no document"
     elif [ "$missed" = 0 ]; then
-        pass "tests/refusals/$1.txt: $rows documents"
+        pass "$table: $rows documents"
     fi
 }
 
@@ -217,4 +219,23 @@ else
     sees_long play 'schedule: no operation left at step 19998' long_terms 9999 99999
     sees_long play 'document: range of terms' long_terms 9999 100000
     sees_long play 'document: range of terms' long_terms 10000 99999
+
+    # The controls: another fault, another rule, a lawful order told as unlawful, a table with one wrong row or none, a program that
+    # leaves the last byte unread, and one that refuses a part of a document for another reason.
+    catches "another fault" "not 'document: kind' but status 3" sees_long check 'document: kind' plain_check 10001 0 0
+    catches "another rule" "not 'unlawful precedence' but status 1" sees_long check 'unlawful precedence' plain_check 0 10000 0
+    catches "a lawful order told as unlawful" "not 'unlawful listing' but status 0" sees_long check 'unlawful listing' cat examples/lawful.json
+    printf '# a row\nunlawful listing | %s\n' "$(cat examples/lawful.json)" >"$room/table"
+    catches "a table with a wrong row" "not 'unlawful listing' but status 0" table_of check "$room/table"
+    sed -n 1p "$room/table" >"$room/empty"
+    catches "a table without a row" "it has no document" table_of check "$room/empty"
+    mkdir -p "$room/stubs/fsr_check/out" && cp "$built/fsr_check/out/fsr_check" "$room/stubs/fsr_check/out/"
+    make_stub fsr <<'STUB'
+head -c 100 >/dev/null; echo lawful
+STUB
+    catches "a document that isn't read to its end" "not 'lawful' but status 0" over_stubs sees_long check lawful cat examples/lawful.json
+    make_stub fsr <<'STUB'
+cat >/dev/null; echo 'fsr: document: kind' >&2; exit 3
+STUB
+    catches "parts of a document that are told as something else" "parts were told" over_stubs sees_parts
 fi

@@ -50,6 +50,13 @@ elif mkdir "$room/sizes" && python3 tests/sizes.py "$room/sizes" 2>"$room/err"; 
     done
     tells_reason "fsr order < the largest log without an order" "$room/sizes/crossed.json" "$room/sizes/crossed.txt"
     draws "picture < the largest log without an order" "$room/sizes/crossed.json" "$room/sizes/crossed.txt" 1
+    # The controls: the text of another document, a text that tells one operation more, and another reason.
+    catches "the text of another document" "something else than $room/sizes/board.txt" \
+        sees a fsr "$room/sizes/cell.json" "$room/sizes/board.txt" play
+    catches "the picture of another document" FAILED draws a "$room/sizes/cell.json" "$room/sizes/board.txt" 0
+    echo 'unlawful stale 1: 0' >"$room/other.txt"
+    catches "another reason" "it ended with status 1" tells_reason a "$room/sizes/crossed.json" "$room/other.txt"
+    catches "a log with an order where none is due" "it ended with status 0" tells_reason a "$room/sizes/log.json" "$room/sizes/crossed.txt"
 else
     fail "the largest documents" "$(tail -n 1 "$room/err")"
 fi

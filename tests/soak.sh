@@ -1,5 +1,5 @@
 # A minute of `./soak`, and `./soak planted`: each line tells as many writes as reads, and some; nothing is found in the cells and boards, and
-# the planted bug is.
+# the planted bug is. Words that are none, and numbers that aren't whole, are refused.
 
 # Whether a text has so many lines, each of as many writes as reads, which end so.
 is_soak_text() {
@@ -21,7 +21,7 @@ soak_of() {
         fail "$title" "soak wasn't built"
         return
     fi
-    crates/soak/out/soak $1 >"$room/out" 2>"$room/err" </dev/null
+    "$built/soak/out/soak" $1 >"$room/out" 2>"$room/err" </dev/null
     status=$?
     if [ "$status" != "$2" ] || [ -s "$room/err" ]; then
         fail "$title" "it ended with status $status: $(head -c 200 "$room/err") $(tail -n 1 "$room/out")"
@@ -33,4 +33,35 @@ soak_of() {
 }
 
 soak_of 'run 1' 0 24 '^nothing found$'
-soak_of planted 1 1 '^and a (torn|older) record$'
+soak_of planted 1 1 '^and (a torn|an older) record$'
+
+# The controls: another number of writes than of reads, none at all, a line too few, a finding in a cell, a planted bug that isn't found.
+told_by_soak() {
+    make_stub soak <<STUB
+echo '$1: $2 writes, $3 reads, $4'; exit $5
+STUB
+    over_stubs soak_of planted "$5" "${6:-1}" '^nothing found$'
+}
+
+told_by_soak planted 5 5 'nothing found' 0
+catches "a read too few" "it printed planted: 5 writes, 4 reads" told_by_soak planted 5 4 'nothing found' 0
+catches "no read" "it printed planted: 0 writes, 0 reads" told_by_soak planted 0 0 'nothing found' 0
+catches "a line too few" "it printed planted" told_by_soak planted 5 5 'nothing found' 0 2
+catches "a torn record" "it printed planted: 5 writes, 5 reads, and a torn record" told_by_soak planted 5 5 'and a torn record' 0
+catches "a planted bug that isn't found" "it ended with status 0" over_stubs soak_of planted 1 1 '^and'
+
+# Sees that ./soak refuses these words, with nothing run and nothing built.
+refuses_soak() {
+    title="./soak $1, refused"
+    env -i PATH=/usr/bin:/bin ./soak $1 >"$room/out" 2>"$room/err" </dev/null
+    status=$?
+    if [ "$status" = 2 ] && [ ! -s "$room/out" ] && grep -q '^usage: ./soak' "$room/err"; then
+        pass "$title"
+    else
+        fail "$title" "it ended with status $status: $(head -c 200 "$room/out" "$room/err")"
+    fi
+}
+
+for words in plantd run list 0 00 0.5 -1 1e9 '5 5' 'planted 1' 184467440737096; do
+    refuses_soak "$words"
+done

@@ -16,17 +16,34 @@ calls_in() {
     code_of "$1" | grep -oE "\\.shared\\.[a-z_]+(::<[A-Za-z<>]+>)?$words|slot_mut$words|Table::[a-z_]+$words|close[a-z_]*$words"
 }
 
-is_listed() {
+# The word `mod` in the code of a file: a module of table.rt could hold what no list names.
+modules_in() {
+    sed -e 's://.*::' "$1" | grep -nw mod
+}
+
+# Prints what is wrong with the calls of a file; its calls have to be those of the list in $room/listed.
+#   fault_in FILE [kinds]
+fault_in() {
     calls_in "$1" "$2" >"$room/calls"
-    title="the calls on the table in $1"
     if ! cmp -s "$room/calls" "$room/listed"; then
-        fail "$title" "$(diff "$room/listed" "$room/calls" | grep '^[<>]')"
+        echo "other calls: $(diff "$room/listed" "$room/calls" | grep '^[<>]')"
     elif [ "$(code_of "$1" | grep -oE '\bshared\b' | wc -l)" != "$(grep -cE 'shared|slot_mut' "$room/listed")" ]; then
-        fail "$title" "the table's shared part is named beside these calls"
+        echo "the shared part of the table is named beside these calls"
     elif code_of "$1" | grep -qE '(peek|fetch_|exchange|new_seat|unsafe|transmute)'; then
-        fail "$title" "a call that has no kind of step"
+        echo "a call that has no kind of step"
     elif sed -e 's://.*::' "$1" | grep -nwE 'while|loop|for|forever'; then
-        fail "$title" "a loop stands beside them"
+        echo "a loop stands beside them"
+    elif modules_in "$1"; then
+        echo "a module stands in it"
+    else
+        return 1
+    fi
+}
+
+is_listed() {
+    title="the calls on the table in $1"
+    if fault=$(fault_in "$1" "$2"); then
+        fail "$title" "$fault"
     else
         pass "$title"
     fi
@@ -112,16 +129,75 @@ LIST
 is_listed crates/family_triple/src/table.rt kinds
 
 # Elsewhere only what a rule and its kinds of step are made of is taken from `atomic_table`, and what a closed table leaves.
-title="no other file of the cells and of the families touches a table"
-find crates/cell_live/src crates/cell_four_slot/src crates/cell_triple/src crates/family_four_slot/src crates/family_triple/src -name '*.rt' ! -path '*/table.rt' ! -path '*/tests/*' ! -name tests.rt | sort >"$room/files"
-{
+tables='crates/cell_four_slot/src/table.rt crates/cell_triple/src/table.rt crates/family_four_slot/src/table.rt crates/family_triple/src/table.rt'
+tabled='cell_live cell_four_slot cell_triple family_four_slot family_triple'
+
+# Prints what touches a table in the tree of this folder, beside the files of $tables: they are left out by their whole paths.
+touches_in() {
+    for crate in $tabled; do
+        find "$1/crates/$crate/src" -name '*.rt'
+    done | sort >"$room/files"
     while read -r file; do
+        case " $tables " in
+        *" ${file#"$1"/} "*) continue ;;
+        esac
         code_of "$file" | grep -oE 'atomic_table[^;]*;' | grep -vxE 'atomic_table::(TableRule|Closed|Split|\{Join,Play,Split\});' | sed "s:^:$file\: :"
         code_of "$file" | grep -oE '\.inner\b|\.shared\b|slot_mut|split_seat|join_seat|(load|store|swap)[a-z_]*::<|peek|fetch_[a-z]+|[a-z_]*exchange[a-z_]*|[a-z_]+_new_seat|close_with|unsafe' | sed "s:^:$file\: :"
     done <"$room/files"
-} >"$room/out"
+}
+
+title="no other file of the cells and of the families touches a table"
+touches_in . >"$room/out"
 if [ -s "$room/out" ]; then
     fail "$title" "$(cat "$room/out")"
+elif [ "$(wc -l <"$room/files")" -le 4 ]; then
+    fail "$title" "there is none"
 else
     pass "$title"
 fi
+
+# The controls: with one line more each file has a fault, and this one is told.
+planted=$room/planted
+for crate in $tabled; do
+    mkdir -p "$planted/crates/$crate" && cp -r "crates/$crate/src" "$planted/crates/$crate/"
+done
+
+# Sees that a table.rt with this line more is refused, and why.
+#   is_planted LINE WHY
+is_planted() {
+    file=$planted/crates/family_triple/src/table.rt
+    { cat crates/family_triple/src/table.rt && echo "$1"; } >"$file"
+    fault=$(fault_in "$file" kinds)
+    case $fault in
+    *"$2"*) pass "planted in a table.rt: $1" ;;
+    *) fail "planted in a table.rt: $1" "${fault:-it isn't seen}" ;;
+    esac
+}
+
+is_planted 'fn more(t: &Table) -> u64 { t.shared.load::<Looks>(s, 0) }' '> .shared.load::<Looks>('
+is_planted 'fn more(t: &Table) -> &Shared { &t.shared }' 'the shared part of the table'
+is_planted 'fn more(t: &Table) -> u64 { t.peek(0) }' 'no kind of step'
+is_planted 'fn more() { loop {} }' 'a loop'
+is_planted 'mod more;' 'a module'
+cp crates/family_triple/src/table.rt "$planted/crates/family_triple/src/table.rt"
+
+# Sees that a table is found touched by a file of this path.
+touches_at() {
+    mkdir -p "$planted/${1%/*}" && echo 'fn more(t: &Table) -> u64 { t.peek(0) }' >>"$planted/$1"
+    if touches_in "$planted" | grep -qxF "$planted/$1: peek"; then
+        pass "planted in $1: it touches a table"
+    else
+        fail "planted in $1: it touches a table" "it isn't seen"
+    fi
+    rm "$planted/$1"
+}
+
+if [ -n "$(touches_in "$planted")" ]; then
+    fail "the copy as it is" "something touches a table"
+else
+    pass "the copy as it is: nothing touches a table"
+fi
+touches_at crates/cell_live/src/table.rt
+touches_at crates/family_four_slot/src/more/table.rt
+touches_at crates/cell_triple/src/tests/more.rt
+touches_at crates/cell_four_slot/src/tests.rt

@@ -9,3 +9,9 @@ elif timeout 300 python3 tests/stepper.py crates/growths/out/growths crates/fsr/
 else
     fail "docs/stepper.html" "$(tail -n 3 "$room/out")"
 fi
+
+# (planted: another state after the first step)
+if command -v python3 >/dev/null 2>&1 && has_program growths; then
+    catches_in_tree "another state in the table of docs/stepper.html" table docs/stepper.html \
+        '/id="table"/{n;s/ [0-9]*$/ 0/}' timeout 60 python3 tests/stepper.py "$PWD/crates/growths/out/growths"
+fi

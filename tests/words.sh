@@ -9,7 +9,7 @@ refuses_words() {
         fail "$title" "fsr wasn't built"
         return 1
     fi
-    crates/fsr/out/fsr "$@" <examples/lawful.json >"$room/out" 2>"$to"
+    "$built/fsr/out/fsr" "$@" <examples/lawful.json >"$room/out" 2>"$to"
     status=$?
     if [ "$status" != 2 ] || [ -s "$room/out" ]; then
         fail "$title" "it ended with status $status and not 2, or something stands on standard output"
@@ -42,7 +42,7 @@ refuses_unread() {
         fail "$title" "fsr wasn't built"
         return
     fi
-    crates/fsr/out/fsr "$@" <examples >"$room/out" 2>"$room/err"
+    "$built/fsr/out/fsr" "$@" <examples >"$room/out" 2>"$room/err"
     status=$?
     case $status:$(cat "$room/out"):$(cat "$room/err") in
     "2::$begins"*) pass "$title" ;;
@@ -70,7 +70,7 @@ helps() {
         fail "$title" "fsr wasn't built"
         return
     fi
-    crates/fsr/out/fsr "$1" --help </dev/null >"$room/out" 2>"$room/err"
+    "$built/fsr/out/fsr" "$1" --help </dev/null >"$room/out" 2>"$room/err"
     status=$?
     if [ "$status" != 2 ] || [ -s "$room/out" ]; then
         fail "$title" "it ended with status $status and not 2, or something stands on standard output"
@@ -96,7 +96,7 @@ ends_picture() {
         return
     fi
     : >"$room/out"
-    crates/picture/out/picture "$@" <"$input" >"$output" 2>"$room/err"
+    "$built/picture/out/picture" "$@" <"$input" >"$output" 2>"$room/err"
     status=$?
     if [ "$status" = "$wanted_status" ] && [ "$(cat "$room/err")" = "$line" ] && [ ! -s "$room/out" ]; then
         pass "$title"
@@ -120,7 +120,7 @@ fi
 mkdir -p "$room/bare/docs" "$room/bare/crates" && cp -r fsr picture soak crates.txt tests "$room/bare/" && cp docs/TESTING.md "$room/bare/docs/"
 for program in fsr picture soak; do
     title="./$program where it can't be built"
-    PATH=/usr/bin:/bin "$room/bare/$program" check >"$room/out" 2>"$room/err" </dev/null
+    PATH=/usr/bin:/bin "$room/bare/$program" 1 >"$room/out" 2>"$room/err" </dev/null
     status=$?
     if [ "$status" = 70 ] && [ ! -s "$room/out" ] && grep -q "can't be built" "$room/err"; then
         pass "$title"
@@ -128,3 +128,14 @@ for program in fsr picture soak; do
         fail "$title" "it ended with status $status: $(head -c 200 "$room/out" "$room/err")"
     fi
 done
+
+# The controls: words that are a command, another beginning, another first line, a status that isn't that of the program, and output
+# beside the line.
+catches "words that are a command" "status 0 and not 2" refuses_words "$room/err" a check
+catches "another beginning" "it ended with status 2" refuses_unread 'Writes a document' help
+catches "another first line" "Checks that an order" helps check "Checks that no order of a history is atomic"
+catches "a picture that is drawn" "status 0 and not 2" ends_picture a examples/lawful.json "$room/drawn" 2 "$no_words"
+make_stub picture <<'STUB'
+echo more; echo 'picture: read failed' >&2; exit 5
+STUB
+catches "output beside the line" "status 5 and not 5" over_stubs ends_picture a examples "$room/out" 5 "picture: read failed"

@@ -118,5 +118,12 @@ for pair in gcc,g++ clang,clang++; do
         sees_race "ThreadSanitizer: a record that changes while it is written is a race ($c)" change_shared "$room/watched" item
     fi
 done
+if [ -x "$room/watched" ]; then
+    # The controls: no race where one is due, one in another function, and a test that doesn't pass.
+    catches "no race" "no race, or another" sees_race a read_elsewhere "$room/watched" clean
+    catches "a race in another function" "no race, or another" sees_race a change_shared "$room/watched" other
+    catches "a test that doesn't pass" FAILED run a "$room/watched" other
+fi
+[ "$passed" -gt 0 ] || fail "what watches a program" "nothing is there"
 echo "$passed passed, $failed failed"
 [ "$failed" = 0 ]

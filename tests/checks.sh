@@ -1,0 +1,51 @@
+# The controls of tests/checks.py, which compares how many checks each script makes with docs/TESTING.md and looks at how they are run: a script
+# that wasn't run, one without a check or with another number, a line `run NAME` that is gone, a script that nobody runs, and two functions
+# of one name.
+
+# A run with just the numbers that docs/TESTING.md states.
+stated_numbers() {
+    sed -n 's/^\([0-9]*\) crates, \([0-9]*\) wrong bodies .*/rt ci \1\ntests\/wrong_bodies.py \2/p; s/^| \([0-9]*\) | `\([^`]*\)` |$/\2 \1/p' docs/TESTING.md
+}
+
+compares_numbers() {
+    python3 tests/checks.py --top "$PWD" "$room/numbers"
+}
+
+# Sees that a run is refused whose numbers were changed by a command of sed, and why.
+#   catches_number TITLE SAID SED
+catches_number() {
+    stated_numbers | sed "$3" >"$room/numbers"
+    if compares_numbers >"$room/out" 2>&1; then
+        fail "planted: $1" "it isn't seen"
+    elif ! grep -qx "$2" "$room/out"; then
+        fail "planted: $1" "another reason: $(cat "$room/out")"
+    else
+        pass "planted: $1"
+    fi
+}
+
+if ! command -v python3 >/dev/null 2>&1; then
+    fail "tests/checks.py" "there is no python3"
+else
+    stated_numbers >"$room/numbers"
+    if compares_numbers >"$room/out" 2>&1; then
+        pass "the numbers as they are stated: $(cat "$room/out")"
+    else
+        fail "the numbers as they are stated" "$(cat "$room/out")"
+    fi
+    catches_number "a script that wasn't run" "tests/sources.sh wasn't run" '/^tests\/sources.sh /d'
+    catches_number "a script without a check" "tests/races.sh made no check" 's/^\(tests\/races.sh\) .*/\1 0/'
+    catches_number "a check too few" "tests/release.sh made 3 checks, and docs/TESTING.md says 4" 's/^\(tests\/release.sh\) 4$/\1 3/'
+    catches_number "wrong bodies that weren't tried" "tests/wrong_bodies.py made 7 checks, and docs/TESTING.md says [0-9]*" \
+        's/^\(tests\/wrong_bodies.py\) .*/\1 7/'
+    catches_number "a script that isn't in the table" "tests/more.sh isn't in the table of docs/TESTING.md" '$a tests/more.sh 5'
+    stated_numbers >"$room/numbers"
+    for script in words growth; do
+        catches_in_tree "tests/$script.sh isn't run any more" "./test doesn't run tests/$script.sh" test "/^    run $script\$/d" \
+            python3 tests/checks.py --top . "$room/numbers"
+    done
+    catches_in_tree "a second function of a name" "sees() is defined in tests/outcomes.sh and tests/package.sh" tests/package.sh \
+        '$a sees() {\n    true\n}' python3 tests/checks.py --top . "$room/numbers"
+    catches_in_tree "the same in a file that a script reads" "version_of_header() is defined in tests/library.sh and tests/release.sh" \
+        tests/release.sh 's/^version_of_tree() {/version_of_header() {/' python3 tests/checks.py --top . "$room/numbers"
+fi
