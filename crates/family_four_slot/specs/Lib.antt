@@ -7,3 +7,4 @@ pub mod Seats
 pub mod Steps
 pub mod Tables
 pub mod Words
+pub mod Shown

@@ -18,7 +18,6 @@ use Rattle.family_four_slot.specs.declared.table.FamilySeat.{FamilySeat}
 use Rattle.family_four_slot.specs.declared.notes.Process.{Process}
 use Rattle.family_four_slot.specs.declared.notes.Receipt.{Receipt}
 use Rattle.family_four_slot.specs.declared.notes.View.TheVariants.{Told, Has}
-use Rattle.family_four_slot.specs.Tables.{IsEnded}
 use Rattle.family_four_slot.specs.Family.{of_cell}
 use Rattle.family_four_slot.specs.FourSlots.{first_process}
 use Rattle.family_four_slot.specs.Places.{place, writer_of}
@@ -99,12 +98,6 @@ module _ {T : Type 0} where
     pub latest : (j : ℕ) → j < 16 → slice_index s.stored.latest j ≡ 0
     pub said : (j : ℕ) → j < 16 → slice_index s.stored.said j ≡ 2
     pub long : (length s.stored.latest ≡ 16) × (length s.stored.said ≡ 16)
-
-  -- the calls so far are shown: those of processes that a seat has, and of those of these seats
-  abbrev pub HaveShown : ℕ → T → List (Process (FourSlotSight T)) → List (FourSlotSeat T) → Type 0
-  HaveShown n o ps seats = (qs : List (Process (FourSlotSight T))) × IsEnded n o qs
-      × ((a : ℕ) (p : Process (FourSlotSight T)) → get_elem? ps a ≡ some p → (b : ℕ) × (get_elem? qs b ≡ some p))
-      × ((i : ℕ) (s : FourSlotSeat T) → slice_get seats i ≡ Some s → (b : ℕ) × (get_elem? qs b ≡ some (known_by s)))
 
   -- the seat has the processes of all of these
   abbrev pub HasAll : FamilySeat T → List (FourSlotSeat T) → Type 0

@@ -5,3 +5,4 @@ pub mod Steps
 pub mod Tables
 pub mod Triples
 pub mod Words
+pub mod Shown

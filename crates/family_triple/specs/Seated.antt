@@ -21,7 +21,6 @@ use Rattle.family_triple.specs.declared.family.TripleFamily.{TripleFamily}
 use Rattle.family_triple.specs.declared.family.TripleSeat.{TripleSeat}
 use Rattle.family_triple.specs.declared.family.TripleTold.{TripleTold}
 use Rattle.family_triple.specs.declared.table.FamilySeat.{FamilySeat}
-use Rattle.family_triple.specs.Tables.{IsEnded}
 use Rattle.family_triple.specs.Words.{writes_to, reads_from, IsAtRest}
 
 pub one_step : 0 < 1
@@ -98,12 +97,6 @@ module _ {T : Type 0} where
     pub number : (known_by s).who ≡ i
     pub rest : IsAtRest o n (known_by s) s.fills s.reads s.seat.inner.me.1
     pub unused : IsUnused (known_by s).clock (known_by s).times (writes_to o n (known_by s)) (reads_from o n (known_by s))
-
-  -- the calls so far are shown: those of processes that a seat has, and of those of these seats
-  abbrev pub HaveShown : ℕ → T → List (Process (TripleSight T)) → List (TripleSeat T) → Type 0
-  HaveShown n o ps seats = (qs : List (Process (TripleSight T))) × IsEnded n o qs
-      × ((a : ℕ) (p : Process (TripleSight T)) → get_elem? ps a ≡ some p → (b : ℕ) × (get_elem? qs b ≡ some p))
-      × ((i : ℕ) (s : TripleSeat T) → slice_get seats i ≡ Some s → (b : ℕ) × (get_elem? qs b ≡ some (known_by s)))
 
   -- the seat has the processes of all of these
   abbrev pub HasAll : FamilySeat T → List (TripleSeat T) → Type 0
