@@ -119,13 +119,7 @@ fn gathered<T: Lawful>(table: &FamilyTable<T>, seats: Vec<TripleSeat<T>>) -> Fam
 impl<T: Lawful> TripleFamily<T> {
     /// A read of the register of process `from`, which is this cell.
     #[inline(always)]
-    fn read_at<L: Sees<T>>(
-        &self,
-        seat: &mut TripleSeat<T>,
-        cell: usize,
-        from: usize,
-        seen: &mut L,
-    )
+    fn read_at<L: Sees<T>>(&self, seat: &mut TripleSeat<T>, cell: usize, from: usize, seen: &mut L)
         requires own { IsSeat self.now seat.old }
         requires other { (from < processes_of self.now) × (from ≢ number_of seat.old) }
         requires at { cell ≡ place seat.old.processes from seat.old.who }

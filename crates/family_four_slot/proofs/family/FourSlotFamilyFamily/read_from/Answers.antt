@@ -1,5 +1,4 @@
 -- The register's cell is found, and the rest is the read there.
-use Rattle.std.proofs.Common.{rules}
 use Rattle.family_four_slot.proofs.family.FourSlotFamilyFamily.read_from.Goals as goal
 
 pub returns : goal.returns

@@ -1,5 +1,5 @@
 -- Each turn reads one more of the others.
-use Rattle.std.proofs.Common.{◌≡◌, ◌+◌, ◌-◌, ◌<◌, subst, arith, rules}
+use Rattle.std.proofs.Common.{◌≡◌, ◌+◌, ◌-◌, subst, arith}
 use Rattle.family_live.specs.Rows.InTurn.{no_call}
 use Rattle.family_live.proofs.Rows.{one_after, one_before}
 use Rattle.family_triple.specs.Seated.{processes_of}
