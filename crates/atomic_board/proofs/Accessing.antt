@@ -12,14 +12,14 @@ use Rattle.cell_live.specs.declared.times.Times.{Times}
 use Rattle.cell_live.specs.Running.{last_or}
 use Rattle.family_live.specs.declared.family.Family.{Ghosts as FamilyWords}
 use Rattle.family_live.specs.Accesses.{IsAccess, IsWrite, Keeps, KeepsOthers, Reads, Rises as Later, Writes}
-use Rattle.family_live.specs.Rows.{InTurn, IsWriteTo}
+use Rattle.family_live.specs.Rows.{InTurn, IsReadFrom, IsWriteTo}
 use Rattle.family_live.specs.Rows.InTurn.{no_call, one_more}
 use Rattle.matrix_core.specs.Lines.{other}
 use Rattle.matrix_core.proofs.lines.Others.{other_above, other_below}
 use Rattle.board_history.specs.Accesses.{IsInterval}
 use Rattle.board_history.proofs.Growing.{not_both}
 use Rattle.atomic_board.specs.declared.record.Posted.{Posted}
-use Rattle.atomic_board.specs.inner.Calls.{HasHeard, HasRead, HasRow, HasWritten, IsIntervalOf, IsSpan}
+use Rattle.atomic_board.specs.inner.Calls.{HasRead, HasRow, HasWritten, IsIntervalOf, IsSpan}
 use Rattle.atomic_board.specs.Passes.{IsAnswered}
 use Rattle.atomic_board.specs.Records.{greater, Rises, rises_on}
 use Rattle.atomic_board.proofs.Records.{greater_either, risen, rises_greater}
@@ -35,10 +35,6 @@ other_once i e r h = elim (cases_lt e i) [
     | inr gr ↦ let a = other_above i e ge in let b = other_above i r gr in omega arith
   ]
 ]
-
--- a process after this one, by its number among the others
-pub other_after : (i j : ℕ) → i < j → other i (j - 1) ≡ j
-other_after i j l = other_above i (j - 1) (omega arith) ∙ (let e : j - 1 + 1 ≡ j = omega arith in e)
 
 -- an access among more steps
 pub stays : (width : ℕ) (steps more : List ℕ) (access count : ℕ) (begins ends begins' ends' : List ℕ) → length steps ≡ count * width →
@@ -142,11 +138,16 @@ module _ {V F S T : Type 0} (words : FamilyWords F (Posted V) S T) where
     rises = inr (refl, refl);
   }
 
+  -- a read of one process, as the family has it
+  abbrev IsReadOf : (V → Bool) → F → ℕ → S × Posted V → S × Posted V → Type 0
+  IsReadOf obeys family = IsReadFrom (words.is_seat family) words.who words.clock words.times words.writes words.reads words.width
+      (words.opening family) (λ p. IsTrue (obeys p.item)) Rises (λ old item new. new ≡ greater old item)
+
   pub read_more : (obeys : V → Bool) (family : F) (process count : ℕ) (start now next : S) (own seen seen' : Posted V) →
-      HasRead words obeys family process count start now own seen → HasHeard words obeys family (other process count) now next seen seen' →
+      HasRead words obeys family process count start now own seen → IsReadOf obeys family (other process count) (now, seen) (next, seen') →
       HasRead words obeys family process (count + 1) start next own seen'
   read_more obeys family process count start now next own seen seen' r h = record {
-    of = (h.of.0, h.of.1 ∙ r.of.1);
+    of = (h.own.0, h.own.1 ∙ r.of.1);
     steps = r.steps ++ h.access.steps;
     long = longer words.width count r.steps h.access.steps r.long h.access.long;
     times = h.access.made ∙ ap (λ ts. ts ++ h.access.steps) r.times ∙ append_assoc (words.times start) r.steps h.access.steps;
@@ -161,7 +162,7 @@ module _ {V F S T : Type 0} (words : FamilyWords F (Posted V) S T) where
           let x = r.reads e answer was in
           subst (λ (z : Reads (Posted V)). IsIntervalOf words.width (r.steps ++ h.access.steps) e (words.reads start (other process e)).times z.times
           × IsAnswered obeys (words.opening family) (words.reads start (other process e)) z answer)
-          (sym (h.others (other process e) (λ s. let z = other_once process e count s in omega arith)))
+          (sym (h.others.0 (other process e) (λ s. let z = other_once process e count s in omega arith)))
           (stays words.width r.steps h.access.steps e count _ _ _ _ r.long l some x.0, x.1)
       | inr new ↦
           let at : e ≡ count = new.0 ∙ r.each in
@@ -173,19 +174,27 @@ module _ {V F S T : Type 0} (words : FamilyWords F (Posted V) S T) where
             newest words.width (words.clock now) (words.clock next) (words.times now) (words.times next) r.steps
                 (words.reads now (other process count)).times (words.reads next (other process count)).times count r.long h.access,
             subst (IsAnswered obeys (words.opening family) (words.reads now (other process count)) (words.reads next (other process count))) new.1
-                h.answered,
+                (record { read = h.read; running = h.may }),
           ))
     ];
-    unread = λ e l. h.others (other process e) (λ s. let z = other_once process e count s in omega arith) ∙ r.unread e (omega arith);
-    writes = λ j. h.writes j ∙ r.writes j;
-    sees = h.raised ∙ ap (λ z. greater z h.answer) r.sees ∙ sym (fold-append greater own r.answers (h.answer ∷ []));
-    lawful = subst (λ z. IsTrue (obeys z.item)) (sym h.raised) (greater_either obeys seen h.answer r.lawful h.answered.running.0);
-    rises = subst (λ z. Rises own z) (sym h.raised) (rises_on own seen (greater seen h.answer) r.rises (rises_greater seen h.answer));
+    unread = λ e l. h.others.0 (other process e) (λ s. let z = other_once process e count s in omega arith) ∙ r.unread e (omega arith);
+    writes = λ j. h.others.1 j ∙ r.writes j;
+    sees = h.saw ∙ ap (λ z. greater z h.answer) r.sees ∙ sym (fold-append greater own r.answers (h.answer ∷ []));
+    lawful = subst (λ z. IsTrue (obeys z.item)) (sym h.saw) (greater_either obeys seen h.answer r.lawful h.may.0);
+    rises = subst (λ z. Rises own z) (sym h.saw) (rises_on own seen (greater seen h.answer) r.rises (rises_greater seen h.answer));
   }
     where
       some : 0 < words.width
       some = some_steps words.width (words.clock now) (words.clock next) (words.times now) (words.times next)
           (words.reads now (other process count)).times (words.reads next (other process count)).times h.access
+
+  -- a column of the family is one of the board
+  pub column_read : (obeys : V → Bool) (family : F) (process : ℕ) (start : S) (own : Posted V) → words.is_seat family start → IsTrue (obeys own.item) →
+      (count : ℕ) (now : S × Posted V) → InTurn (IsReadOf obeys family) process (start, own) count now →
+      HasRead words obeys family process count start now.0 own now.1
+  column_read obeys family process start own is lawful _ _ no_call = nothing_read obeys family process start own is lawful
+  column_read obeys family process start own is lawful _ _ (one_more count now new r call) = read_more obeys family process count start now.0 new.0
+      own now.1 new.1 (column_read obeys family process start own is lawful count now r) call
 
   last_of : (first : Posted V) (items : List (Posted V)) (item : Posted V) → last_or first (items ++ item ∷ []) ≡ item
   last_of first [] item = refl

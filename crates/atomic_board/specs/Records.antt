@@ -23,10 +23,6 @@ greater a b = if is_below a.stamp b.stamp then b else a
 abbrev pub greatest : {V : Type 0} → Posted V → List (Posted V) → Posted V
 greatest own answers = fold greater own answers
 
--- the record, where its stamp is above that one
-abbrev pub above : {V : Type 0} → Stamp → Posted V → Option (Posted V)
-above s p = if is_below s p.stamp then Some p else None
-
 -- the item under this stamp, or the record where there is none
 abbrev pub or_item : {V : Type 0} → Posted V → Option Stamp → V → Posted V
 or_item seen None item = seen

@@ -1,42 +1,18 @@
 //! Reading and writing.
 ghost use Rattle.std.specs.Prelude.{◌≡◌, ◌≢◌, ◌+◌, ◌-◌, ◌*◌, ◌<◌, length, IfErr, IfOk, IsTrue};
-ghost use Rattle.atomic_board.specs.inner.Calls.{HasHeard, HasRead, HasRow, HasWritten, IsOf};
+ghost use Rattle.atomic_board.specs.inner.Calls.{HasRead, HasRow, HasWritten, IsOf};
 ghost use Rattle.cell_live.specs.Running.{last_or};
 ghost use Rattle.history_core.specs.declared.history.Kind.TheVariants.{Read};
 ghost use Rattle.atomic_board.specs.Passes.{Chooses, IsCall, IsKnown, IsPass, kind_of};
 ghost use Rattle.stamps.specs.Stamps.{IsBelow};
-ghost use Rattle.atomic_board.specs.Records.{above, Rises};
+ghost use Rattle.atomic_board.specs.Records.{Rises};
 
 use crate::board::{Board, Pass, TagsEnded};
 use crate::record::{Posted, RecordLaw};
 use family_live::Family;
 use stamps::Stamp;
 
-/// Reads what one process shows, and copies it where it is greater.
-#[inline]
-fn hear<V: RecordLaw, F: Family<Posted<V>>>(
-    family: &F,
-    seat: &mut F::Seat,
-    from: usize,
-    seen: &mut Posted<V>,
-)
-    requires own { F.is_seat family.now seat.old }
-    requires other { (from < F.processes family.now) × (from ≢ F.who seat.old) }
-    ensures { HasHeard ⟦<F as Family<Posted<V>>>⟧ V.obeys family.now from seat.old seat.new seen.old seen.new }
-{
-    let stamp = seen.stamp;
-    let newer = family.read_with(
-        seat,
-        from,
-        |answer|
-            ensures { result ≡ above stamp answer.now }
-        { answer.above(stamp) },
-    );
-    seen.take(newer);
-}
-
-/// Reads what each other process shows, rising, and raises `seen` to the greatest. Those before and those after the process are a loop
-/// each, so that no turn asks which process is next.
+/// Reads what each other process shows, rising, and raises `seen` to the greatest.
 #[inline(always)]
 fn column<V: RecordLaw, F: Family<Posted<V>>>(
     family: &F,
@@ -49,12 +25,7 @@ fn column<V: RecordLaw, F: Family<Posted<V>>>(
     requires lawful { IsTrue (V.obeys seen.old.item) }
     ensures { HasRead ⟦<F as Family<Posted<V>>>⟧ V.obeys family.now process (processes - 1) seat.old seat.new seen.old seen.new }
 {
-    for from in 0..process {
-        hear(family, seat, from, seen);
-    }
-    for from in process + 1..processes {
-        hear(family, seat, from, seen);
-    }
+    family.read_all_from(seat, seen);
 }
 
 /// Writes the record to each other process, rising.

@@ -73,7 +73,7 @@ fn shown<V: RecordLaw, F: Family<Posted<V>>>(
 {
     let Some(pass) = passes.pop() else {
         seats.reverse();
-        family.show(seats);
+        family.so_far(seats);
         seats.reverse();
         return;
     };

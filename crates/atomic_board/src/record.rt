@@ -2,6 +2,7 @@
 ghost use Rattle.std.specs.Prelude.{◌≡◌, Bool, IsTrue};
 
 use cell_live::{Kept, Lawful};
+use family_live::Sees;
 use history_core::Band;
 use stamps::Stamp;
 
@@ -24,29 +25,7 @@ pub struct Posted<V> {
 
 impl<V: Copy> Posted<V> {
     ghost use Rattle.atomic_board.specs.declared.record.Posted.{Posted};
-    ghost use Rattle.atomic_board.specs.Records.{above, greater, or_item};
-
-    /// This record, where its stamp is above that one.
-    #[inline]
-    pub(crate) fn above(&self, stamp: Stamp) -> Option<Posted<V>>
-        ensures { result ≡ above stamp self.now }
-    {
-        if stamp < self.stamp {
-            Some(*self)
-        } else {
-            None
-        }
-    }
-
-    /// Becomes the other, where there is one: the greater of this record and one that was looked at for its stamp.
-    #[inline]
-    pub(crate) fn take(&mut self, newer: Option<Posted<V>>)
-        ensures { (a : Posted V) → newer ≡ above self.old.stamp a → self.new ≡ greater self.old a }
-    {
-        if let Some(newer) = newer {
-            *self = newer;
-        }
-    }
+    ghost use Rattle.atomic_board.specs.Records.{greater, or_item};
 
     /// Takes the other where its stamp is greater.
     #[inline]
@@ -90,6 +69,18 @@ impl<V: RecordLaw> Lawful for Posted<V> {
     ghost reflexive = { rises_itself };
 
     ghost transitive = { rises_on };
+}
+
+/// Of the records that it sees it becomes the greatest.
+impl<V: RecordLaw> Sees<Posted<V>> for Posted<V> {
+    ghost use Rattle.atomic_board.specs.Records.{greater};
+
+    ghost sees = { λ old item new. new ≡ greater old item };
+
+    #[inline]
+    fn see(&mut self, item: &Posted<V>) {
+        self.raise(item);
+    }
 }
 
 impl<V: RecordLaw + Send + Sync> Kept for Posted<V> {}

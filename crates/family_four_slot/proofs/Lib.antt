@@ -1,6 +1,7 @@
 pub mod Acts
 pub mod Calls
 pub mod Cells
+pub mod Columns
 pub mod Done
 pub mod Ends
 pub mod FourSlots

@@ -9,6 +9,13 @@ use Rattle.family_four_slot.specs.declared.family.FourSlotSeat.{FourSlotSeat}
 use Rattle.family_four_slot.specs.Places.{place}
 use Rattle.family_four_slot.specs.Seated.{opening_of, processes_of, number_of, clock_of, times_of, writes_of, reads_of, IsSeat}
 
+module _ {T : Type 0} (f : FourSlotFamily T) (start : FourSlotSeat T) where
+  pub row_room : IsSeat f start → (start.processes ≤ 16) × (start.who < start.processes)
+  row_room own =
+      let few : processes_of f ≤ 16 = f.table.some.1 in
+      let same : start.processes ≡ processes_of f = own.processes in
+      (omega arith, subst (λ z. z < start.processes) own.who own.rest.inside)
+
 module _ {T : Type 0} (f : FourSlotFamily T) (item : T) (start : FourSlotSeat T) where
   -- the record was written to so many of the others
   abbrev pub Row : ℕ → FourSlotSeat T → Type 0
@@ -23,12 +30,6 @@ module _ {T : Type 0} (f : FourSlotFamily T) (item : T) (start : FourSlotSeat T)
       let is = row_seat count now own r in
       let n : start.processes ≡ now.processes = own.processes ∙ sym is.0.processes in
       at ∙ ap (λ z. place z start.who to) n ∙ ap (λ z. place now.processes z to) (sym is.1)
-
-  pub row_room : IsSeat f start → (start.processes ≤ 16) × (start.who < start.processes)
-  row_room own =
-      let few : processes_of f ≤ 16 = f.table.some.1 in
-      let same : start.processes ≡ processes_of f = own.processes in
-      (omega arith, subst (λ z. z < start.processes) own.who own.rest.inside)
 
   pub row_before : (Rises : T → T → Type 0) (now : FourSlotSeat T) (to : ℕ) → Row to now → to < start.who →
       Rises (last_or (opening_of f) (writes_of start to).items) item → Rises (last_or (opening_of f) (writes_of now to).items) item

@@ -3,7 +3,7 @@ ghost use Rattle.std.specs.Prelude.{◌≡◌, ◌≢◌, ℕ, ◌<◌, List, []
 ghost use Rattle.history_core.specs.Schedules.{positions};
 ghost use Rattle.cell_live.specs.Running.{last_or};
 ghost use Rattle.family_live.specs.Ends.{Each, EachTwo, IsSchedule, IsAtomicCell};
-ghost use Rattle.family_live.specs.Rows.{IsWriteTo};
+ghost use Rattle.family_live.specs.Rows.{IsReadFrom, IsWriteTo};
 ghost use Rattle.family_four_slot.specs.Places.{place};
 ghost use Rattle.family_four_slot.specs.FourSlots.{first_view};
 ghost use Rattle.family_four_slot.specs.declared.notes.View.TheVariants.{Has};
@@ -17,7 +17,7 @@ ghost use Rattle.family_four_slot.specs.Seated.{sender_of, time_of, named_by, Is
 use crate::table::{FamilySeat, FamilyTable, place};
 use cell_four_slot::{bit_of, other_bit, set_bit, slot_of};
 use cell_live::{Kept, Lawful};
-use family_live::{Family, SharedFamily};
+use family_live::{Family, Sees, SharedFamily};
 use std::alloc::{AllocError, Global};
 use std::marker::Brand;
 use std::snapshot::Snapshot;
@@ -143,7 +143,7 @@ fn shown<T: Lawful>(
 {
     let mut all = all;
     let Some(mut last) = seats.pop() else {
-        table.show(&mut all);
+        table.so_far(&mut all);
         return all;
     };
     let mut next = table.lift(&mut last.seat);
@@ -177,6 +177,28 @@ impl<T: Lawful> FourSlotFamily<T> {
         table.publish(&mut seat.seat, cell, pair, index, shown);
         set_bit(&mut seat.stored.bits[to], pair, index);
         seat.stored.latest[to] = pair;
+    }
+
+    /// A read of the register of process `from`, which is this cell.
+    #[inline(always)]
+    fn read_at<L: Sees<T>>(
+        &self,
+        seat: &mut FourSlotSeat<T>,
+        cell: usize,
+        from: usize,
+        seen: &mut L,
+    )
+        requires own { IsSeat self.now seat.old }
+        requires other { (from < processes_of self.now) × (from ≢ number_of seat.old) }
+        requires at { cell ≡ place seat.old.processes from seat.old.who }
+        ensures { IsReadFrom (IsSeat self.now) number_of clock_of times_of writes_of reads_of 3 (opening_of self.now) T.fits T.rises L.sees from
+            (seat.old, seen.old) (seat.new, seen.new) }
+    {
+        let table = &self.table;
+        let latest = table.announce(&mut seat.seat, cell, &mut seat.stored.said[from]);
+        let index = table.take(&mut seat.seat, cell, latest);
+        let slot = slot_of(latest, index);
+        table.show(&mut seat.seat, cell, slot, seen);
     }
 }
 
@@ -237,18 +259,20 @@ impl<T: Lawful> Family<T> for FourSlotFamily<T> {
     }
 
     #[inline]
-    fn read_with<R, F: FnOnce(&T) -> R>(
-        &self,
-        seat: &mut FourSlotSeat<T>,
-        from: usize,
-        look: F,
-    ) -> R {
-        let table = &self.table;
-        let cell = place(seat.processes, from, seat.who);
-        let latest = table.announce(&mut seat.seat, cell, &mut seat.stored.said[from]);
-        let index = table.take(&mut seat.seat, cell, latest);
-        let slot = slot_of(latest, index);
-        table.lend(&mut seat.seat, cell, slot, look)
+    fn read_from<L: Sees<T>>(&self, seat: &mut FourSlotSeat<T>, from: usize, seen: &mut L) {
+        self.read_at(seat, place(seat.processes, from, seat.who), from, seen);
+    }
+
+    #[inline(always)]
+    fn read_all_from<L: Sees<T>>(&self, seat: &mut FourSlotSeat<T>, seen: &mut L) {
+        let processes = seat.processes;
+        let who = seat.who;
+        for from in 0..who {
+            self.read_at(seat, place(processes, from, who), from, seen);
+        }
+        for from in who + 1..processes {
+            self.read_at(seat, place(processes, from, who), from, seen);
+        }
     }
 
     fn tell(&self, seat: &mut FourSlotSeat<T>) -> FourSlotTold<T> {
@@ -271,7 +295,7 @@ impl<T: Lawful> Family<T> for FourSlotFamily<T> {
         self.table.hear(&mut seat.seat, receipt);
     }
 
-    fn show(&self, seats: &mut Vec<FourSlotSeat<T>>)
+    fn so_far(&self, seats: &mut Vec<FourSlotSeat<T>>)
         requires { (vec_len seats.old ≡ processes_of self.now) × Each (λ i s. IsSeat self.now s × (number_of s ≡ i)) seats.old.items }
         ensures same { (seats.new.items ≡ seats.old.items) × (vec_capacity seats.new ≡ vec_capacity seats.old) }
         ensures scheduled { (steps : List ℕ) × IsSchedule (processes_of self.now) steps

@@ -1,7 +1,6 @@
 //! The table of a family of four-slot cells and every step on it. No other module can reach the table: what stands here is all that can
 //! be done with it.
 ghost use Rattle.std.specs.Prelude.{◌≡◌, ◌≢◌, ℕ, ◌+◌, ◌*◌, ◌-◌, ◌<◌, ◌≤◌, List, [], ◌∷◌, ◌++◌, length, IfOk};
-ghost use Rattle.std.specs.Fn.{FnOnceTakesAt, FnOnceReturnsAt};
 ghost use mathlib.Core.Option.{none};
 ghost use Rattle.std.specs.declared.snapshot.Snapshot.{Snapshot};
 ghost use Rattle.atomic_table.specs.Table.{step};
@@ -32,6 +31,7 @@ use crate::plays::{
 };
 use atomic_table::{Seat, Table};
 use cell_live::{Lawful, empty};
+use family_live::Sees;
 use std::alloc::{AllocError, Global};
 use std::marker::Brand;
 use std::snapshot::Snapshot;
@@ -344,7 +344,7 @@ impl<T: Lawful> FamilyTable<T> {
     }
 
     /// Shows what the processes of a seat have done so far. Nothing changes.
-    pub(super) fn show(&self, seat: &mut FamilySeat<T>)
+    pub(super) fn so_far(&self, seat: &mut FamilySeat<T>)
         requires own { seat.old.inner.table_id ≡ self.now.inner.shared.table_id }
         ensures own { (seat.new.inner.table_id ≡ seat.old.inner.table_id) × (seat.new.inner.id ≡ seat.old.inner.id) }
         ensures same { seat.new.inner.me ≡ seat.old.inner.me }
@@ -379,25 +379,23 @@ impl<T: Lawful> FamilyTable<T> {
         *seat.inner.slot_mut(&self.inner.shared, at) = *item;
     }
 
-    /// R4 and R5: lends the record where it lies.
+    /// R4 and R5: shows the record where it lies.
     #[inline]
-    pub(super) fn lend<R, F: FnOnce(&T) -> R>(
+    pub(super) fn show<L: Sees<T>>(
         &self,
         seat: &mut FamilySeat<T>,
         cell: usize,
         slot: usize,
-        look: F,
-    ) -> R
+        seen: &mut L,
+    )
         requires own { seat.old.inner.table_id ≡ self.now.inner.shared.table_id }
         requires place { (cell < (four_slots self.now.inner.shared.key.processes).cells) × (slot < 4) }
-        requires held { (x : T) × (cs : List (ℕ × T)) × (seat.old.inner.me.1 ≡ (slot_at cell slot, x) ∷ cs)
-            × FnOnceTakesAt F.FnOnce look x }
+        requires held { (x : T) × (cs : List (ℕ × T)) × (seat.old.inner.me.1 ≡ (slot_at cell slot, x) ∷ cs) }
         ensures own { seat.new.inner.table_id ≡ seat.old.inner.table_id }
         ensures same { seat.new.inner.me ≡ seat.old.inner.me }
-        ensures seen { (item : T) (cs : List (ℕ × T)) → seat.old.inner.me.1 ≡ (slot_at cell slot, item) ∷ cs →
-            FnOnceReturnsAt F.FnOnce look item result }
+        ensures shown { (item : T) (cs : List (ℕ × T)) → seat.old.inner.me.1 ≡ (slot_at cell slot, item) ∷ cs → L.sees seen.old item seen.new }
     {
         let at = slot_place(cell, slot);
-        look(&*seat.inner.slot_mut(&self.inner.shared, at))
+        seen.see(&*seat.inner.slot_mut(&self.inner.shared, at));
     }
 }

@@ -1,4 +1,4 @@
--- One call more of a row: a process before the own one has its own number among the others, and one after it one less. And what a
+-- One call more of a row or a column: a process before the own one has its own number among the others, and one after it one less. And what a
 -- row that isn't whole leaves to its next call.
 use Rattle.std.proofs.Common.{◌≡◌, ◌≢◌, true, false, ℕ, ◌+◌, ◌-◌, ◌<◌, ◌≤◌, List, refl, sym, ◌∙◌, subst, arith, inl, inr}
 use Rattle.std.specs.Prelude.{nat_lt}
@@ -6,7 +6,7 @@ use Rattle.std.proofs.lemmas.Bool.{cases_lt}
 use Rattle.std.proofs.lemmas.Bool.Decides.{nat_tests}
 use Rattle.history_core.specs.Others.{other}
 use Rattle.family_live.specs.Accesses.{Reads, Writes}
-use Rattle.family_live.specs.Rows.{InTurn, IsWriteTo}
+use Rattle.family_live.specs.Rows.{InTurn, IsReadFrom, IsWriteTo}
 use Rattle.family_live.specs.Rows.InTurn.{no_call, one_more}
 
 below : (i k : ℕ) → k < i → other i k ≡ k
@@ -35,12 +35,27 @@ module _ {S : Type 0} (Call : ℕ → S → S → Type 0) (process : ℕ) (old n
   one_after r l call = subst (λ z. InTurn Call process old z new) (let e : at - 1 + 1 ≡ at + 1 - 1 = omega arith in e)
       (one_more (at - 1) now new r (subst (λ z. Call z now new) (sym (after process at l)) call))
 
+-- the seat stays that of its process
+module _ {S : Type 0} (Call : ℕ → S → S → Type 0) (is_seat : S → Type 0) (who : S → ℕ)
+    (keeps : (at : ℕ) (old new : S) → Call at old new → is_seat new × (who new ≡ who old)) (process : ℕ) (start : S) where
+  pub stays_own : (count : ℕ) (now : S) → InTurn Call process start count now → is_seat start → is_seat now × (who now ≡ who start)
+  stays_own _ _ no_call is = (is, refl)
+  stays_own _ _ (one_more count now new r call) is =
+      let own = keeps (other process count) now new call in (own.0, own.1 ∙ (stays_own count now r is).1)
+
+module _ {S L T : Type 0} (is_seat : S → Type 0) (who clock : S → ℕ) (times : S → List ℕ) (writes : S → ℕ → Writes T) (reads : S → ℕ → Reads T)
+    (width : ℕ) (opening : T) (fits : T → Type 0) (rises : T → T → Type 0) (sees : L → T → L → Type 0) (process : ℕ) (start : S × L) where
+  pub column_own : (count : ℕ) (now : S × L) →
+      InTurn (IsReadFrom is_seat who clock times writes reads width opening fits rises sees) process start count now →
+      is_seat start.0 → is_seat now.0 × (who now.0 ≡ who start.0)
+  column_own = stays_own (IsReadFrom is_seat who clock times writes reads width opening fits rises sees) (λ z. is_seat z.0) (λ z. who z.0)
+      (λ at old new call. call.own) process start
+
 module _ {S T : Type 0} (is_seat : S → Type 0) (who clock : S → ℕ) (times : S → List ℕ) (writes : S → ℕ → Writes T) (reads : S → ℕ → Reads T)
     (width : ℕ) (item : T) (process : ℕ) (start : S) where
   pub row_own : (count : ℕ) (now : S) → InTurn (IsWriteTo is_seat who clock times writes reads width item) process start count now →
       is_seat start → is_seat now × (who now ≡ who start)
-  row_own _ _ no_call is = (is, refl)
-  row_own _ _ (one_more count now new r call) is = (call.own.0, call.own.1 ∙ (row_own count now r is).1)
+  row_own = stays_own (IsWriteTo is_seat who clock times writes reads width item) is_seat who (λ at old new call. call.own) process start
 
   untouched : (e count : ℕ) (now : S) → InTurn (IsWriteTo is_seat who clock times writes reads width item) process start count now → count ≤ e →
       writes now (other process e) ≡ writes start (other process e)

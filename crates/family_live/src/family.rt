@@ -1,14 +1,23 @@
 //! What a family promises.
 ghost use Rattle.std.specs.Prelude.{◌≡◌, ◌≢◌, ℕ, ◌-◌, ◌<◌, ◌≤◌, List, [], ◌∷◌, ◌++◌, length, vec_len, vec_capacity, IfOk};
-ghost use Rattle.std.specs.Fn.{FnOnceTakesAt, FnOnceReturnsAt};
 ghost use Rattle.history_core.specs.Schedules.{positions};
-ghost use Rattle.cell_live.specs.Running.{IsAnswer, last_or};
-ghost use Rattle.family_live.specs.Accesses.{Writes, Reads, IsUnused, IsAccess, IsWrite, IsRead, IsHeardRead, Keeps, KeepsOthers};
+ghost use Rattle.cell_live.specs.Running.{last_or};
+ghost use Rattle.family_live.specs.Accesses.{Writes, Reads, IsUnused, IsAccess, IsWrite, IsHeardRead, Keeps, KeepsOthers};
 ghost use Rattle.family_live.specs.Ends.{Each, EachTwo, IsSchedule, IsAtomicCell};
-ghost use Rattle.family_live.specs.Rows.{InTurn, IsWriteTo};
+ghost use Rattle.family_live.specs.Rows.{InTurn, IsReadFrom, IsWriteTo};
 
 use cell_live::{Kept, Lawful};
 use std::alloc::{AllocError, Global};
+
+/// What sees records, one after the other.
+pub trait Sees<T> {
+    // What it becomes by a record that it sees.
+    ghost sees: { Self → T → Self → Type 0 };
+
+    /// Sees one record more, where it lies.
+    fn see(&mut self, item: &T)
+        ensures { sees self.old item.now self.new };
+}
 
 /// The calls of a family: registers of one writer and one reader each, from each of 2 to 16 processes to each other one.
 ///
@@ -83,20 +92,19 @@ pub trait Family<T: Lawful>: Sized + Drop {
         ensures { InTurn (IsWriteTo (is_seat self.now) who clock times writes reads width item.now) (who seat.old) seat.old
             (processes self.now - 1) seat.new };
 
-    /// Lends one whole record of another process where it lies, so that nothing is copied: `look` is called once with it. It is a
-    /// record that was written, and by its law it may stand after each that this process saw or was told of that one.
-    fn read_with<R, F: FnOnce(&T) -> R>(&self, seat: &mut Self::Seat, from: usize, look: F) -> R
+    /// Shows one whole record of another process where it lies, so that nothing is copied. It is a record that was written, and by its law
+    /// it may stand after each that this process saw or was told of that one.
+    fn read_from<L: Sees<T>>(&self, seat: &mut Self::Seat, from: usize, seen: &mut L)
         requires own { is_seat self.now seat.old }
         requires other { (from < processes self.now) × (from ≢ who seat.old) }
-        requires callable { (x : T) → IsAnswer T.fits T.rises (opening self.now) (reads seat.old from).answers (reads seat.old from).told x →
-            FnOnceTakesAt F.FnOnce look x }
-        ensures own { is_seat self.now seat.new × (who seat.new ≡ who seat.old) }
-        ensures access { IsAccess width (clock seat.old) (clock seat.new) (times seat.old) (times seat.new)
-            (reads seat.old from).times (reads seat.new from).times }
-        ensures answer { (x : T) × IsRead (opening self.now) (reads seat.old from) (reads seat.new from) x
-            × IsAnswer T.fits T.rises (opening self.now) (reads seat.old from).answers (reads seat.old from).told x
-            × FnOnceReturnsAt F.FnOnce look x result }
-        ensures others { KeepsOthers from (reads seat.old) (reads seat.new) × Keeps (writes seat.old) (writes seat.new) };
+        ensures { IsReadFrom (is_seat self.now) who clock times writes reads width (opening self.now) T.fits T.rises L.sees from
+            (seat.old, seen.old) (seat.new, seen.new) };
+
+    /// Shows one record of each other process, rising: the same as so many calls of `read_from`, in fewer instructions.
+    fn read_all_from<L: Sees<T>>(&self, seat: &mut Self::Seat, seen: &mut L)
+        requires own { is_seat self.now seat.old }
+        ensures { InTurn (IsReadFrom (is_seat self.now) who clock times writes reads width (opening self.now) T.fits T.rises L.sees) (who seat.old)
+            (seat.old, seen.old) (processes self.now - 1) (seat.new, seen.new) };
 
     /// Gives a receipt for all that the process has written.
     fn tell(&self, seat: &mut Self::Seat) -> Self::Told
@@ -118,7 +126,7 @@ pub trait Family<T: Lawful>: Sized + Drop {
 
     /// Shows what was done so far with all seats: it is one schedule, and the calls of each register are atomic by their intervals in its
     /// time. Nothing changes.
-    fn show(&self, seats: &mut Vec<Self::Seat>)
+    fn so_far(&self, seats: &mut Vec<Self::Seat>)
         requires { (vec_len seats.old ≡ processes self.now) × Each (λ i s. is_seat self.now s × (who s ≡ i)) seats.old.items }
         ensures same { (seats.new.items ≡ seats.old.items) × (vec_capacity seats.new ≡ vec_capacity seats.old) }
         ensures scheduled { (steps : List ℕ) × IsSchedule (processes self.now) steps

@@ -8,4 +8,4 @@
 
 mod family;
 
-pub use family::{Family, SharedFamily};
+pub use family::{Family, Sees, SharedFamily};

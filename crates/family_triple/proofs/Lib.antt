@@ -1,6 +1,7 @@
 pub mod Acts
 pub mod Calls
 pub mod Cells
+pub mod Columns
 pub mod Ends
 pub mod Going
 pub mod Learning

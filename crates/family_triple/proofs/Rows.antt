@@ -8,6 +8,13 @@ use Rattle.family_triple.specs.declared.family.TripleFamily.{TripleFamily}
 use Rattle.family_triple.specs.declared.family.TripleSeat.{TripleSeat}
 use Rattle.family_triple.specs.Seated.{opening_of, processes_of, number_of, clock_of, times_of, writes_of, reads_of, IsSeat}
 
+module _ {T : Type 0} (f : TripleFamily T) (start : TripleSeat T) where
+  pub row_room : IsSeat f start → (start.processes ≤ 16) × (start.who < start.processes)
+  row_room own =
+      let few : processes_of f ≤ 16 = f.table.some.1 in
+      let same : start.processes ≡ processes_of f = own.processes in
+      (omega arith, subst (λ z. z < start.processes) own.who own.rest.inside)
+
 module _ {T : Type 0} (f : TripleFamily T) (item : T) (start : TripleSeat T) where
   -- the record was written to so many of the others
   abbrev pub Row : ℕ → TripleSeat T → Type 0
@@ -15,12 +22,6 @@ module _ {T : Type 0} (f : TripleFamily T) (item : T) (start : TripleSeat T) whe
 
   pub row_seat : (count : ℕ) (now : TripleSeat T) → IsSeat f start → Row count now → IsSeat f now × (number_of now ≡ number_of start)
   row_seat count now own r = row_own (IsSeat f) number_of clock_of times_of writes_of reads_of 1 item (number_of start) start count now r own
-
-  pub row_room : IsSeat f start → (start.processes ≤ 16) × (start.who < start.processes)
-  row_room own =
-      let few : processes_of f ≤ 16 = f.table.some.1 in
-      let same : start.processes ≡ processes_of f = own.processes in
-      (omega arith, subst (λ z. z < start.processes) own.who own.rest.inside)
 
   pub row_before : (Rises : T → T → Type 0) (now : TripleSeat T) (to : ℕ) → Row to now → to < start.who →
       Rises (last_or (opening_of f) (writes_of start to).items) item → Rises (last_or (opening_of f) (writes_of now to).items) item

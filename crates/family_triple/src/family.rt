@@ -1,7 +1,9 @@
 //! The family of triple buffers, and its calls.
-ghost use Rattle.std.specs.Prelude.{◌≡◌, ℕ, ◌≤◌, ◌<◌, List, [], ◌∷◌, IfOk, vec_len, vec_capacity};
+ghost use Rattle.std.specs.Prelude.{◌≡◌, ◌≢◌, ℕ, ◌≤◌, ◌<◌, List, [], ◌∷◌, IfOk, vec_len, vec_capacity};
 ghost use Rattle.history_core.specs.Schedules.{positions};
 ghost use Rattle.family_live.specs.Ends.{Each, EachTwo, IsSchedule, IsAtomicCell};
+ghost use Rattle.family_live.specs.Rows.{IsReadFrom};
+ghost use Rattle.family_four_slot.specs.Places.{place};
 ghost use Rattle.family_four_slot.specs.declared.notes.View.TheVariants.{Has};
 ghost use Rattle.family_triple.specs.Triples.{first_view};
 ghost use Rattle.family_triple.specs.Seated.{known_by, IsFirst, HasAll};
@@ -15,7 +17,7 @@ use crate::slots::{among, newest, take_slots, turn_by};
 use crate::table::{FamilySeat, FamilyTable, slot_place};
 use cell_live::{Kept, Lawful};
 use family_four_slot::place;
-use family_live::{Family, SharedFamily};
+use family_live::{Family, Sees, SharedFamily};
 use std::alloc::{AllocError, Global};
 
 /// Registers of a triple buffer each, in one table. A write makes one control access, a swap, and a read one or two.
@@ -134,7 +136,7 @@ fn shown<T: Lawful>(
 {
     let mut all = all;
     let Some(mut last) = seats.pop() else {
-        table.show(&mut all);
+        table.so_far(&mut all);
         return all;
     };
     let mut next = table.lift(&mut last.seat);
@@ -144,6 +146,27 @@ fn shown<T: Lawful>(
     table.put(&mut last.seat, one);
     seats.push_reserved(last);
     next
+}
+
+impl<T: Lawful> TripleFamily<T> {
+    /// A read of the register of process `from`, which is this cell.
+    #[inline(always)]
+    fn read_at<L: Sees<T>>(&self, seat: &mut TripleSeat<T>, cell: usize, from: usize, seen: &mut L)
+        requires own { IsSeat self.now seat.old }
+        requires other { (from < processes_of self.now) × (from ≢ number_of seat.old) }
+        requires at { cell ≡ place seat.old.processes from seat.old.who }
+        ensures { IsReadFrom (IsSeat self.now) number_of clock_of times_of writes_of reads_of 1 (opening_of self.now) T.fits T.rises L.sees from
+            (seat.old, seen.old) (seat.new, seen.new) }
+    {
+        let table = &self.table;
+        let others = seat.processes - 1;
+        let before = others + among(seat.who, from);
+        turn_by(table, &mut seat.seat, before);
+        let slot = newest(table, &mut seat.seat, cell, seat.reads[from]);
+        seat.reads[from] = slot;
+        table.show(&mut seat.seat, slot_place(cell, slot), seen);
+        turn_by(table, &mut seat.seat, 2 * others - before);
+    }
 }
 
 impl<T: Lawful> Family<T> for TripleFamily<T> {
@@ -212,22 +235,20 @@ impl<T: Lawful> Family<T> for TripleFamily<T> {
     }
 
     #[inline]
-    fn read_with<R, F: FnOnce(&T) -> R>(
-        &self,
-        seat: &mut TripleSeat<T>,
-        from: usize,
-        look: F,
-    ) -> R {
-        let table = &self.table;
-        let cell = place(seat.processes, from, seat.who);
-        let others = seat.processes - 1;
-        let before = others + among(seat.who, from);
-        turn_by(table, &mut seat.seat, before);
-        let slot = newest(table, &mut seat.seat, cell, seat.reads[from]);
-        seat.reads[from] = slot;
-        let answer = table.lend(&mut seat.seat, slot_place(cell, slot), look);
-        turn_by(table, &mut seat.seat, 2 * others - before);
-        answer
+    fn read_from<L: Sees<T>>(&self, seat: &mut TripleSeat<T>, from: usize, seen: &mut L) {
+        self.read_at(seat, place(seat.processes, from, seat.who), from, seen);
+    }
+
+    #[inline(always)]
+    fn read_all_from<L: Sees<T>>(&self, seat: &mut TripleSeat<T>, seen: &mut L) {
+        let processes = seat.processes;
+        let who = seat.who;
+        for from in 0..who {
+            self.read_at(seat, place(processes, from, who), from, seen);
+        }
+        for from in who + 1..processes {
+            self.read_at(seat, place(processes, from, who), from, seen);
+        }
     }
 
     fn tell(&self, seat: &mut TripleSeat<T>) -> TripleTold<T> {
@@ -250,7 +271,7 @@ impl<T: Lawful> Family<T> for TripleFamily<T> {
         self.table.hear(&mut seat.seat, receipt);
     }
 
-    fn show(&self, seats: &mut Vec<TripleSeat<T>>)
+    fn so_far(&self, seats: &mut Vec<TripleSeat<T>>)
         requires { (vec_len seats.old ≡ processes_of self.now) × Each (λ i s. IsSeat self.now s × (number_of s ≡ i)) seats.old.items }
         ensures same { (seats.new.items ≡ seats.old.items) × (vec_capacity seats.new ≡ vec_capacity seats.old) }
         ensures scheduled { (steps : List ℕ) × IsSchedule (processes_of self.now) steps

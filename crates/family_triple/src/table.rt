@@ -1,7 +1,6 @@
 //! The table of a family of triple buffers and every step on it. No other module can reach the table: what stands here is all that can be
 //! done with it.
 ghost use Rattle.std.specs.Prelude.{◌≡◌, ℕ, ◌+◌, ◌*◌, ◌-◌, ◌<◌, ◌≤◌, List, [], ◌∷◌, IfOk};
-ghost use Rattle.std.specs.Fn.{FnOnceTakesAt, FnOnceReturnsAt};
 ghost use mathlib.Core.Option.{none};
 ghost use Rattle.atomic_table.specs.Table.{step, turned};
 ghost use Rattle.cell_live.specs.Running.{last_or};
@@ -25,6 +24,7 @@ use crate::plays::{
 use atomic_table::{Seat, Table};
 use cell_live::{Lawful, empty};
 use family_four_slot::notes::{Opened, Opening};
+use family_live::Sees;
 use std::alloc::{AllocError, Global};
 use std::marker::Brand;
 
@@ -264,7 +264,7 @@ impl<T: Lawful> FamilyTable<T> {
     }
 
     /// Shows what the processes of a seat have done so far. Nothing changes.
-    pub(super) fn show(&self, seat: &mut FamilySeat<T>)
+    pub(super) fn so_far(&self, seat: &mut FamilySeat<T>)
         requires own { seat.old.inner.table_id ≡ self.now.inner.shared.table_id }
         ensures own { (seat.new.inner.table_id ≡ seat.old.inner.table_id) × (seat.new.inner.id ≡ seat.old.inner.id) }
         ensures same { seat.new.inner.me ≡ seat.old.inner.me }
@@ -297,20 +297,15 @@ impl<T: Lawful> FamilyTable<T> {
         *seat.inner.slot_mut(&self.inner.shared, slot) = *item;
     }
 
-    /// Lends the record where it lies.
+    /// Shows the record where it lies.
     #[inline]
-    pub(super) fn lend<R, F: FnOnce(&T) -> R>(
-        &self,
-        seat: &mut FamilySeat<T>,
-        slot: usize,
-        look: F,
-    ) -> R
+    pub(super) fn show<L: Sees<T>>(&self, seat: &mut FamilySeat<T>, slot: usize, seen: &mut L)
         requires own { seat.old.inner.table_id ≡ self.now.inner.shared.table_id }
-        requires held { (x : T) × (cs : List (ℕ × T)) × (seat.old.inner.me.1 ≡ (slot, x) ∷ cs) × FnOnceTakesAt F.FnOnce look x }
+        requires held { (x : T) × (cs : List (ℕ × T)) × (seat.old.inner.me.1 ≡ (slot, x) ∷ cs) }
         ensures own { seat.new.inner.table_id ≡ seat.old.inner.table_id }
         ensures same { seat.new.inner.me ≡ seat.old.inner.me }
-        ensures seen { (item : T) (cs : List (ℕ × T)) → seat.old.inner.me.1 ≡ (slot, item) ∷ cs → FnOnceReturnsAt F.FnOnce look item result }
+        ensures shown { (item : T) (cs : List (ℕ × T)) → seat.old.inner.me.1 ≡ (slot, item) ∷ cs → L.sees seen.old item seen.new }
     {
-        look(&*seat.inner.slot_mut(&self.inner.shared, slot))
+        seen.see(&*seat.inner.slot_mut(&self.inner.shared, slot));
     }
 }

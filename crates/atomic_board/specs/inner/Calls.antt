@@ -4,12 +4,12 @@ use Rattle.std.specs.Prelude.{true, false, if◌then◌else◌}
 use Rattle.cell_live.specs.declared.times.Times.{Times}
 use Rattle.cell_live.specs.Running.{last_or}
 use Rattle.family_live.specs.declared.family.Family.{Ghosts as FamilyWords}
-use Rattle.family_live.specs.Accesses.{IsAccess, IsWrite, Keeps, KeepsOthers}
+use Rattle.family_live.specs.Accesses.{IsWrite, Keeps}
 use Rattle.matrix_core.specs.Lines.{other}
 use Rattle.board_history.specs.Accesses.{IsInterval}
 use Rattle.atomic_board.specs.declared.record.Posted.{Posted}
 use Rattle.atomic_board.specs.Passes.{IsAnswered}
-use Rattle.atomic_board.specs.Records.{greater, greatest, Rises}
+use Rattle.atomic_board.specs.Records.{greatest, Rises}
 
 -- these steps are later than the first time, and the last of them is at the second; or there are none
 abbrev pub IsSpan : ℕ → ℕ → List ℕ → Type 0
@@ -28,17 +28,6 @@ module _ {V F S T : Type 0} (words : FamilyWords F (Posted V) S T) where
     pub inside : process < processes
     pub seat : words.is_seat family pass
     pub who : words.who pass ≡ process
-
-  -- one register was read: one access more, one answer more, and what was seen is raised to it
-  pub record HasHeard (obeys : V → Bool) (family : F) (from : ℕ) (seat seat' : S) (seen seen' : Posted V) : Type 0 where
-    pub of : words.is_seat family seat' × (words.who seat' ≡ words.who seat)
-    pub access : IsAccess words.width (words.clock seat) (words.clock seat') (words.times seat) (words.times seat')
-        (words.reads seat from).times (words.reads seat' from).times
-    pub answer : Posted V
-    pub answered : IsAnswered obeys (words.opening family) (words.reads seat from) (words.reads seat' from) answer
-    pub others : KeepsOthers from (words.reads seat) (words.reads seat')
-    pub writes : Keeps (words.writes seat) (words.writes seat')
-    pub raised : seen' ≡ greater seen answer
 
   -- the first of the others were read, each once
   pub record HasRead (obeys : V → Bool) (family : F) (process count : ℕ) (seat seat' : S) (seen seen' : Posted V) : Type 0 where

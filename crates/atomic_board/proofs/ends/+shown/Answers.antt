@@ -5,8 +5,8 @@ use Rattle.atomic_board.specs.inner.Room.{in_order}
 use Rattle.atomic_board.proofs.Mapping.{order_none, order_more}
 use Rattle.atomic_board.proofs.ends.+shown.Goals as goal
 
-pub show-requires : goal.show-requires
-show-requires g t c =
+pub so_far-requires : goal.so_far-requires
+so_far-requires g t c =
     let none : length c.args.passes.now.items ≡ 0 = let e = c.in_default.ensures.cases in omega (arith, e.0) in
     let is = c.reverse.ensures.items ∙ sym (order_none c.args.passes.now.items c.args.seats.now.items none) in
     let n : length c.reverse.new.self.items ≡ g.F.Family.processes c.args.family.now = ap length is ∙ c.requires.all in (
@@ -19,7 +19,7 @@ returns-in_default-clause-atomic g t c =
     let none : length c.args.passes.now.items ≡ 0 = let e = c.in_default.ensures.cases in omega (arith, e.0) in
     let is = c.reverse.ensures.items ∙ sym (order_none c.args.passes.now.items c.args.seats.now.items none) in
     subst (λ xs. EachTwo (λ i j s t. IsAtomicCell (g.F.Family.opening c.args.family.now) (g.F.Family.writes s j) (g.F.Family.reads t i)) xs) is
-    c.show.ensures.atomic
+    c.so_far.ensures.atomic
 
 pub shown-requires : goal.shown-requires
 shown-requires g t c κs within =

@@ -37,7 +37,7 @@ returns g c =
 
 pub place-requires : goal.place-requires
 place-requires g c =
-    let room = row_room c.args.self.now c.args.item.now c.args.seat.now c.requires.own in
+    let room = row_room c.args.self.now c.args.seat.now c.requires.own in
     (room.0, room.1, omega (arith, room.1, c.loop-to-test.true))
 
 pub write_at-requires-clause-own : goal.write_at-requires-clause-own
@@ -46,7 +46,7 @@ write_at-requires-clause-own g c =
 
 pub write_at-requires-clause-other : goal.write_at-requires-clause-other
 write_at-requires-clause-other g c =
-    let room = row_room c.args.self.now c.args.item.now c.args.seat.now c.requires.own in
+    let room = row_room c.args.self.now c.args.seat.now c.requires.own in
     let here = row_seat c.args.self.now c.args.item.now c.args.seat.now c.loop-to.to c.loop-to.seat c.requires.own c.loop-to.invariant in
     let who : c.loop-to.seat.who ≡ c.args.seat.now.who = here.1 in
     let same : c.args.seat.now.processes ≡ processes_of c.args.self.now = c.requires.own.processes in (
@@ -61,7 +61,7 @@ write_at-requires-clause-at g c =
 
 pub write_at-requires-clause-lawful : goal.write_at-requires-clause-lawful
 write_at-requires-clause-lawful g c =
-    let room = row_room c.args.self.now c.args.item.now c.args.seat.now c.requires.own in
+    let room = row_room c.args.self.now c.args.seat.now c.requires.own in
     let same : c.args.seat.now.processes ≡ processes_of c.args.self.now = c.requires.own.processes in
     let l = c.loop-to-test.true in (
       c.requires.lawful,
@@ -72,7 +72,7 @@ write_at-requires-clause-lawful g c =
 
 pub place-requires-in-loop-to-2 : goal.place-requires-in-loop-to-2
 place-requires-in-loop-to-2 g c =
-    let room = row_room c.args.self.now c.args.item.now c.args.seat.now c.requires.own in (room.0, room.1, c.loop-to-2-test.true)
+    let room = row_room c.args.self.now c.args.seat.now c.requires.own in (room.0, room.1, c.loop-to-2-test.true)
 
 pub write_at-requires-in-loop-to-2-clause-own : goal.write_at-requires-in-loop-to-2-clause-own
 write_at-requires-in-loop-to-2-clause-own g c =

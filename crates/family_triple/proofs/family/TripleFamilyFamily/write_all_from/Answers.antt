@@ -47,7 +47,7 @@ write_from-requires-clause-own g c =
 
 pub write_from-requires-clause-other : goal.write_from-requires-clause-other
 write_from-requires-clause-other g c =
-    let room = row_room c.args.self.now c.args.item.now c.args.seat.now c.requires.own in
+    let room = row_room c.args.self.now c.args.seat.now c.requires.own in
     let here = row_seat c.args.self.now c.args.item.now c.args.seat.now c.loop-to.to c.loop-to.seat c.requires.own c.loop-to.invariant in
     let who : c.loop-to.seat.who ≡ c.args.seat.now.who = here.1 in
     let same : c.args.seat.now.processes ≡ processes_of c.args.self.now = c.requires.own.processes in (
@@ -57,7 +57,7 @@ write_from-requires-clause-other g c =
 
 pub write_from-requires-clause-lawful : goal.write_from-requires-clause-lawful
 write_from-requires-clause-lawful g c =
-    let room = row_room c.args.self.now c.args.item.now c.args.seat.now c.requires.own in
+    let room = row_room c.args.self.now c.args.seat.now c.requires.own in
     let same : c.args.seat.now.processes ≡ processes_of c.args.self.now = c.requires.own.processes in
     let l = c.loop-to-test.true in (
       c.requires.lawful,

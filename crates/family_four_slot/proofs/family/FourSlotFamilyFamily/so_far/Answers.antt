@@ -3,13 +3,12 @@ use Rattle.std.proofs.Common.{◌≡◌, ℕ, [], ◌∷◌, ◌++◌, append-ni
 use mathlib.Core.Option.{some}
 use lib.ListN.{get_elem?}
 use Rattle.family_live.specs.Ends.{Each}
-use Rattle.family_triple.specs.declared.family.TripleSeat.{TripleSeat}
+use Rattle.family_four_slot.specs.declared.family.FourSlotSeat.{FourSlotSeat}
 use Rattle.family_four_slot.specs.declared.notes.View.TheVariants.{Has}
-use Rattle.family_triple.specs.Seated.{known_by}
-use Rattle.family_four_slot.proofs.Gathering.{stood, each_more, each_fewer, put_again}
-use Rattle.family_triple.proofs.Parting.{all_scheduled, all_atomic}
-use Rattle.family_triple.proofs.Showing.{same_seat}
-use Rattle.family_triple.proofs.family.TripleFamilyFamily.show.Goals as goal
+use Rattle.family_four_slot.specs.Seated.{known_by}
+use Rattle.family_four_slot.proofs.Gathering.{stood, each_more, each_fewer, put_again, same_seat}
+use Rattle.family_four_slot.proofs.Parting.{all_scheduled, all_atomic}
+use Rattle.family_four_slot.proofs.family.FourSlotFamilyFamily.so_far.Goals as goal
 
 pub lift-all-requires-clause-own : goal.lift-all-requires-clause-own
 lift-all-requires-clause-own g c =
@@ -92,7 +91,7 @@ returns-clause-scheduled g c =
     let at = stood seats seats left [] last (sym (append-nil seats)) c.in-Some.ensures.items in
     let one = (c.requires.1 (length left) last at).0.one in
     let h = c.shown-all.ensures.shown (known_by last ∷ []) (c.lift-all.ensures.lifted.1 ∙ (λ i. (one i, []))) in
-    let P = λ (i : ℕ) (s : TripleSeat g.row.T.Denot). (b : ℕ) × (get_elem? h.0 b ≡ some (known_by s)) in
+    let P = λ (i : ℕ) (s : FourSlotSeat g.row.T.Denot). (b : ℕ) × (get_elem? h.0 b ≡ some (known_by s)) in
     all_scheduled c.args.self.now seats c.requires.1 h.0
     (subst (λ xs. Each P xs) (sym c.in-Some.ensures.items) (each_more P left last (λ i s e. h.3 i s e) (h.2 0 (known_by last) refl))) h.1
 
@@ -104,6 +103,6 @@ returns-clause-atomic g c =
     let at = stood seats seats left [] last (sym (append-nil seats)) c.in-Some.ensures.items in
     let one = (c.requires.1 (length left) last at).0.one in
     let h = c.shown-all.ensures.shown (known_by last ∷ []) (c.lift-all.ensures.lifted.1 ∙ (λ i. (one i, []))) in
-    let P = λ (i : ℕ) (s : TripleSeat g.row.T.Denot). (b : ℕ) × (get_elem? h.0 b ≡ some (known_by s)) in
+    let P = λ (i : ℕ) (s : FourSlotSeat g.row.T.Denot). (b : ℕ) × (get_elem? h.0 b ≡ some (known_by s)) in
     all_atomic c.args.self.now seats c.requires.1 h.0
     (subst (λ xs. Each P xs) (sym c.in-Some.ensures.items) (each_more P left last (λ i s e. h.3 i s e) (h.2 0 (known_by last) refl))) h.1

@@ -15,7 +15,7 @@ use Rattle.family_four_slot.specs.Words.{HasSlots}
 use Rattle.family_four_slot.proofs.Slices.{set_long}
 use Rattle.family_four_slot.proofs.Done.{has_read, is_answer}
 use Rattle.family_four_slot.proofs.Going.{pair_low, pair_word, reader_after, column_at, column_place, column_inside, column_long, column_notes, column_reader}
-use Rattle.family_four_slot.proofs.family.FourSlotFamilyFamily.read_with.Goals as goal
+use Rattle.family_four_slot.proofs.family.FourSlotFamily.read_at.Goals as goal
 
 pub announce-latest-requires-clause-idle : goal.announce-latest-requires-clause-idle
 announce-latest-requires-clause-idle g c =
@@ -23,8 +23,8 @@ announce-latest-requires-clause-idle g c =
     let s = c.args.seat.now in
     let own = c.requires.own in
     let other = c.requires.other in
-    let cell : ℕ = c.place-cell.result in
-    let at = c.place-cell.ensures in
+    let cell : ℕ = c.args.cell in
+    let at = c.requires.at in
     let cs : List (ℕ × g.row.T.Denot) = s.seat.inner.me.1 in
     let v : Process (FourSlotSight g.row.T.Denot) = known_by s in
     let column = column_at f s own c.args.from other in
@@ -39,8 +39,8 @@ take-index-requires-clause-said g c =
     let s = c.args.seat.now in
     let own = c.requires.own in
     let other = c.requires.other in
-    let cell : ℕ = c.place-cell.result in
-    let at = c.place-cell.ensures in
+    let cell : ℕ = c.args.cell in
+    let at = c.requires.at in
     let cs : List (ℕ × g.row.T.Denot) = s.seat.inner.me.1 in
     let v : Process (FourSlotSight g.row.T.Denot) = known_by s in
     let column = column_at f s own c.args.from other in
@@ -65,8 +65,8 @@ slot_of-slot-requires g c =
     let s = c.args.seat.now in
     let own = c.requires.own in
     let other = c.requires.other in
-    let cell : ℕ = c.place-cell.result in
-    let at = c.place-cell.ensures in
+    let cell : ℕ = c.args.cell in
+    let at = c.requires.at in
     let cs : List (ℕ × g.row.T.Denot) = s.seat.inner.me.1 in
     let v : Process (FourSlotSight g.row.T.Denot) = known_by s in
     let column = column_at f s own c.args.from other in
@@ -91,14 +91,14 @@ slot_of-slot-requires g c =
     let a3 : After v2 cell (Reader n3) e.2 ((slot_at cell (slot_number (slot_with b bit)), x) ∷ c.announce-latest.new.seat.inner.me.1) c.take-index.new.seat.inner.me = e.7 in
     (b, bit, t.6, e.5)
 
-pub lend-requires-clause-place : goal.lend-requires-clause-place
-lend-requires-clause-place g c =
+pub show-requires-clause-place : goal.show-requires-clause-place
+show-requires-clause-place g c =
     let f = c.args.self.now in
     let s = c.args.seat.now in
     let own = c.requires.own in
     let other = c.requires.other in
-    let cell : ℕ = c.place-cell.result in
-    let at = c.place-cell.ensures in
+    let cell : ℕ = c.args.cell in
+    let at = c.requires.at in
     let cs : List (ℕ × g.row.T.Denot) = s.seat.inner.me.1 in
     let v : Process (FourSlotSight g.row.T.Denot) = known_by s in
     let column = column_at f s own c.args.from other in
@@ -124,14 +124,14 @@ lend-requires-clause-place g c =
     let slot : c.slot_of-slot.result ≡ slot_number (slot_with b bit) = c.slot_of-slot.ensures b bit t.6 e.5 in
     (column_inside f s own c.args.from other cell at, subst (λ z. z < 4) (sym slot) (slot_low (slot_with b bit)))
 
-pub lend-requires-clause-held : goal.lend-requires-clause-held
-lend-requires-clause-held g c =
+pub show-requires-clause-held : goal.show-requires-clause-held
+show-requires-clause-held g c =
     let f = c.args.self.now in
     let s = c.args.seat.now in
     let own = c.requires.own in
     let other = c.requires.other in
-    let cell : ℕ = c.place-cell.result in
-    let at = c.place-cell.ensures in
+    let cell : ℕ = c.args.cell in
+    let at = c.requires.at in
     let cs : List (ℕ × g.row.T.Denot) = s.seat.inner.me.1 in
     let v : Process (FourSlotSight g.row.T.Denot) = known_by s in
     let column = column_at f s own c.args.from other in
@@ -155,8 +155,7 @@ lend-requires-clause-held g c =
     let n3 : ReaderNotes g.row.T.Denot = got_by n2 bit x e.2 e.3 e.4 in
     let a3 : After v2 cell (Reader n3) e.2 ((slot_at cell (slot_number (slot_with b bit)), x) ∷ c.announce-latest.new.seat.inner.me.1) c.take-index.new.seat.inner.me = e.7 in
     let slot : c.slot_of-slot.result ≡ slot_number (slot_with b bit) = c.slot_of-slot.ensures b bit t.6 e.5 in
-    let answer = is_answer f s own c.args.from other cell at g.T.Lawful.fits g.T.Lawful.rises x e.8 in
-    (x, c.announce-latest.new.seat.inner.me.1, a3.2 ∙ ap (λ z. (slot_at cell z, x) ∷ c.announce-latest.new.seat.inner.me.1) (sym slot), c.requires.callable x answer)
+    (x, c.announce-latest.new.seat.inner.me.1, a3.2 ∙ ap (λ z. (slot_at cell z, x) ∷ c.announce-latest.new.seat.inner.me.1) (sym slot))
 
 pub returns : goal.returns
 returns g c =
@@ -164,8 +163,8 @@ returns g c =
     let s = c.args.seat.now in
     let own = c.requires.own in
     let other = c.requires.other in
-    let cell : ℕ = c.place-cell.result in
-    let at = c.place-cell.ensures in
+    let cell : ℕ = c.args.cell in
+    let at = c.requires.at in
     let cs : List (ℕ × g.row.T.Denot) = s.seat.inner.me.1 in
     let v : Process (FourSlotSight g.row.T.Denot) = known_by s in
     let column = column_at f s own c.args.from other in
@@ -190,21 +189,19 @@ returns g c =
     let a3 : After v2 cell (Reader n3) e.2 ((slot_at cell (slot_number (slot_with b bit)), x) ∷ c.announce-latest.new.seat.inner.me.1) c.take-index.new.seat.inner.me = e.7 in
     let slot : c.slot_of-slot.result ≡ slot_number (slot_with b bit) = c.slot_of-slot.ensures b bit t.6 e.5 in
     let answer = is_answer f s own c.args.from other cell at g.T.Lawful.fits g.T.Lawful.rises x e.8 in
-    let same : c.lend.new.seat.inner.table_id ≡ s.seat.inner.table_id =
-    c.lend.ensures.own ∙ (c.take-index.ensures.own ∙ c.announce-latest.ensures.own) in
+    let same : c.show.new.seat.inner.table_id ≡ s.seat.inner.table_id =
+    c.show.ensures.own ∙ (c.take-index.ensures.own ∙ c.announce-latest.ensures.own) in
     let h = has_read f s own c.args.from other cell at b bit x t.1 t.2 e.2 e.3 t.3 e.4 (held_slots cs) (held_slots (before ++ behind))
     c.announce-latest.new.said before behind c.announce-latest.new.seat.inner.me.1
-    (record s { seat = c.lend.new.seat; stored = record s.stored { said = set s.stored.said c.args.from c.announce-latest.new.said } }) t.10 a2.0 a3.0 t.9 a2.2
-    (ap (λ z. z.0) c.lend.ensures.same ∙ a3.1) (ap (λ z. z.1) c.lend.ensures.same ∙ a3.2) same refl refl refl refl
+    (record s { seat = c.show.new.seat; stored = record s.stored { said = set s.stored.said c.args.from c.announce-latest.new.said } }) t.10 a2.0 a3.0 t.9 a2.2
+    (ap (λ z. z.0) c.show.ensures.same ∙ a3.1) (ap (λ z. z.1) c.show.ensures.same ∙ a3.2) same refl refl refl refl
     (c.announce-latest.ensures.remembered ∙ t.6) e.9 in
     record {
       own = h.own;
       access = h.access;
-      answer = (
-        x,
-        h.answer,
-        answer,
-        c.lend.ensures.seen x c.announce-latest.new.seat.inner.me.1 (a3.2 ∙ ap (λ z. (slot_at cell z, x) ∷ c.announce-latest.new.seat.inner.me.1) (sym slot)),
-      );
+      answer = x;
+      read = h.answer;
+      may = answer;
+      saw = c.show.ensures.shown x c.announce-latest.new.seat.inner.me.1 (a3.2 ∙ ap (λ z. (slot_at cell z, x) ∷ c.announce-latest.new.seat.inner.me.1) (sym slot));
       others = h.others;
     }

@@ -7,7 +7,7 @@ use Rattle.family_triple.specs.Tables.{HasReader}
 use Rattle.family_triple.proofs.Going.{column_at, column_inside, column_long, column_notes, column_slot, is_answer, has_read}
 use Rattle.family_triple.proofs.Rounds.{few_cells, replaced, behind_long, turned_front, turned_back}
 use Rattle.family_triple.proofs.Turns.{split_at}
-use Rattle.family_triple.proofs.family.TripleFamilyFamily.read_with.Goals as goal
+use Rattle.family_triple.proofs.family.TripleFamily.read_at.Goals as goal
 
 pub newest-slot-requires-clause-idle : goal.newest-slot-requires-clause-idle
 newest-slot-requires-clause-idle g c =
@@ -15,8 +15,8 @@ newest-slot-requires-clause-idle g c =
     let s = c.args.seat.now in
     let own = c.requires.own in
     let other = c.requires.other in
-    let cell : ℕ = c.place-cell.result in
-    let at = c.place-cell.ensures in
+    let cell : ℕ = c.args.cell in
+    let at = c.requires.at in
     let column = column_at f s own c.args.from other in
     let q : ReaderNotes g.row.T.Denot = column.notes in
     let place : ℕ = (s.processes - 1) + among s.who c.args.from in
@@ -44,8 +44,8 @@ slot_place-requires g c =
     let s = c.args.seat.now in
     let own = c.requires.own in
     let other = c.requires.other in
-    let cell : ℕ = c.place-cell.result in
-    let at = c.place-cell.ensures in
+    let cell : ℕ = c.args.cell in
+    let at = c.requires.at in
     let column = column_at f s own c.args.from other in
     let q : ReaderNotes g.row.T.Denot = column.notes in
     let place : ℕ = (s.processes - 1) + among s.who c.args.from in
@@ -68,14 +68,14 @@ slot_place-requires g c =
     let looked = c.newest-slot.ensures.looked (known_by s) q (back ++ front) reader slots column.low (sym column.numbered) in
     (few_cells f.table.inner.shared.key.processes cell f.table.some.1 (column_inside f s own c.args.from other cell at), looked.took.2)
 
-pub lend-answer-requires-clause-held : goal.lend-answer-requires-clause-held
-lend-answer-requires-clause-held g c =
+pub show-requires-clause-held : goal.show-requires-clause-held
+show-requires-clause-held g c =
     let f = c.args.self.now in
     let s = c.args.seat.now in
     let own = c.requires.own in
     let other = c.requires.other in
-    let cell : ℕ = c.place-cell.result in
-    let at = c.place-cell.ensures in
+    let cell : ℕ = c.args.cell in
+    let at = c.requires.at in
     let column = column_at f s own c.args.from other in
     let q : ReaderNotes g.row.T.Denot = column.notes in
     let place : ℕ = (s.processes - 1) + among s.who c.args.from in
@@ -96,10 +96,9 @@ lend-answer-requires-clause-held g c =
       notes = column_notes f s own c.args.from other cell at;
     } in
     let looked = c.newest-slot.ensures.looked (known_by s) q (back ++ front) reader slots column.low (sym column.numbered) in
-    let answer = is_answer f s own c.args.from other cell at g.T.Lawful.fits g.T.Lawful.rises looked.answer looked.may in
     let there : c.newest-slot.new.seat.inner.me.1 ≡ (c.slot_place.result, looked.answer) ∷ (back ++ front) =
     looked.slots ∙ ap (λ z. (z, looked.answer) ∷ (back ++ front)) (sym c.slot_place.ensures) in
-    (looked.answer, back ++ front, there, c.requires.callable looked.answer answer)
+    (looked.answer, back ++ front, there)
 
 pub returns : goal.returns
 returns g c =
@@ -107,8 +106,8 @@ returns g c =
     let s = c.args.seat.now in
     let own = c.requires.own in
     let other = c.requires.other in
-    let cell : ℕ = c.place-cell.result in
-    let at = c.place-cell.ensures in
+    let cell : ℕ = c.args.cell in
+    let at = c.requires.at in
     let column = column_at f s own c.args.from other in
     let q : ReaderNotes g.row.T.Denot = column.notes in
     let place : ℕ = (s.processes - 1) + among s.who c.args.from in
@@ -137,18 +136,21 @@ returns g c =
     let few : c.args.from < 16 = omega (arith, other.0, f.table.some.1) in
     let behind : length (y ∷ back) ≡ 2 * (s.processes - 1) - before =
     behind_long s.seat.inner.me.1 front back (slot_at cell q.slot, q.at_hand.value) y before (2 * (s.processes - 1)) cut.2 turns own.rest.many in
-    let last = c.turn_by-2.ensures.turned (y ∷ back) front (ap (λ z. z.1) c.lend-answer.ensures.same ∙ looked.slots) behind in
+    let last = c.turn_by-2.ensures.turned (y ∷ back) front (ap (λ z. z.1) c.show.ensures.same ∙ looked.slots) behind in
     let is : c.turn_by-2.new.seat.inner.me.1 ≡ front ++ y ∷ back = ap (λ z. z.1) last in
     let same : c.turn_by-2.new.seat.inner.table_id ≡ s.seat.inner.table_id =
-    c.turn_by-2.ensures.own ∙ (c.lend-answer.ensures.own ∙ (c.newest-slot.ensures.own ∙ c.turn_by.ensures.own)) in
+    c.turn_by-2.ensures.own ∙ (c.show.ensures.own ∙ (c.newest-slot.ensures.own ∙ c.turn_by.ensures.own)) in
     let h = has_read f s own c.args.from other cell at few g.T.Lawful.fits g.T.Lawful.rises (back ++ front) c.newest-slot.new.seat.inner.me slot
     (record s { seat = c.turn_by-2.new.seat; reads = set s.reads c.args.from slot }) looked
-    (ap (λ z. z.0) last ∙ ap (λ z. z.0) c.lend-answer.ensures.same)
+    (ap (λ z. z.0) last ∙ ap (λ z. z.0) c.show.ensures.same)
     (replaced s.seat.inner.me.1 c.turn_by-2.new.seat.inner.me.1 front back (slot_at cell q.slot, q.at_hand.value) y place cut.2 is cut.3)
     (turned_back front back y c.turn_by-2.new.seat.inner.me.1 is) same refl refl refl refl refl in
     record {
       own = h.own;
       access = h.access;
-      answer = (looked.answer, h.answer, answer, c.lend-answer.ensures.seen looked.answer (back ++ front) there);
+      answer = looked.answer;
+      read = h.answer;
+      may = answer;
+      saw = c.show.ensures.shown looked.answer (back ++ front) there;
       others = h.others;
     }

@@ -1,0 +1,5 @@
+-- The register's cell is found, and the rest is the read there.
+use Rattle.family_four_slot.proofs.family.FourSlotFamilyFamily.read_from.Goals as goal
+
+pub returns : goal.returns
+returns g c = c.read_at.ensures
