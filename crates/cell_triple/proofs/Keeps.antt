@@ -151,7 +151,7 @@ module _ {T : Type 0} (fits : T → Type 0) (rises : T → T → Type 0) (o : T)
                 (λ j d other e. others_put o r.put p' r.get r.now t r.writer r.writer r.reader j (λ same. other (same ∙ sym own)) on
                 (λ y. stands_more y (o ∷ r.put.written) (x ∷ []))
                 (λ h k.
-                let m : ℕ = length p'.written in
+                let m : ℕ = length (r.put.written ++ x ∷ []) in
                 let long = length-append r.put.written (x ∷ []) in
                 let grows : length r.put.written ≤ m = omega arith in
                 heeded_ended h p'.written (begun_at r.put.times t) t m m (le_refl m)
