@@ -26,7 +26,7 @@ use Rattle.fourslot_core.specs.Freshness.{IsBegun}
 use Rattle.fourslot_core.proofs.events.Keeping.{opening_is_sound}
 use Rattle.fourslot_core.specs.Interleaving.Leads.{Stays}
 use Rattle.cell_live.specs.Running.{last_or, Settled, IsAnswer, snap}
-use Rattle.cell_live.specs.Intervals.{begun_at, passed_at, ended_at, known_as, AreFirst, AreHeeded, IsHeeded, IsNextAnswer}
+use Rattle.cell_live.specs.Intervals.{known_as, AreFirst, AreHeeded, IsHeeded, IsNextAnswer}
 use Rattle.cell_live.specs.Acts.{HasOne, Proper}
 use Rattle.cell_live.specs.declared.times.Dated.{Dated}
 use Rattle.cell_live.specs.declared.times.Known.{Known}
@@ -955,7 +955,7 @@ module _ {T : Type 0} (fits : T → Type 0) (rises : T → T → Type 0) (o : T)
   pub parts_ok : (id : ℕ) (v : V) (p : WriterNotes T) (g : ReaderNotes T) → v ≡ Both p g → Splits Rule id v (writer_part v) (reader_part v)
   parts_ok id v p g e = subst (λ (z : V). Splits Rule id z (writer_part z) (reader_part z)) (sym e) (parts id p g)
 
-  tells : (id : ℕ) (p : WriterNotes T) → p.stage ≡ writer.W5 → 
+  tells : (id : ℕ) (p : WriterNotes T) → p.stage ≡ writer.W5 →
       Splits Rule id (Writer p) (Writer p) (Told (snap (told_by p)))
   tells id p idle s r at = let known = r.each_seat id (Writer p) at in let m : ℕ = shown_number r in let c : Core T = r.core in
       let idle' : c.writer ≡ writer.W5 = r.in_views.writer_at ∙ (ap (λ (z : WriterNotes T). z.stage) (sym known.0) ∙ idle) in
