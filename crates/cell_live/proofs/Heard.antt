@@ -46,6 +46,9 @@ heard_last o written answers numbers writes reads last earlier heard old n item 
     let is : n ≡ suc k = omega arith in
     same_Some answer item (sym source ∙ (ap (slice_get (o ∷ (written ++ item ∷ []))) is ∙ get_last written item k refl))
 
+pub learnt_last : {A : Type 0} (xs ys : List A) (y : A) → ys ≡ xs ++ y ∷ [] → slice_get ys (length xs) ≡ Some y
+learnt_last xs ys y e = ap (λ z. slice_get z (length xs)) e ∙ get_last xs y (length xs) refl
+
 -- An answer after a receipt was learnt, by its own number. The cell may go on.
 module _ {T : Type 0} (opening answer : T) (heard : List (Known T)) (k : ℕ) (old new : Known T) (before after : List ℕ) (answers : List T)
     (reads : Times) (all : AreHeeded heard new (last_or 0 after)) (h : IsNextAnswer opening old new before after answers reads answer) where
