@@ -26,7 +26,7 @@ use Rattle.fourslot_core.specs.Freshness.{IsBegun}
 use Rattle.fourslot_core.proofs.events.Keeping.{opening_is_sound}
 use Rattle.fourslot_core.specs.Interleaving.Leads.{Stays}
 use Rattle.cell_live.specs.Running.{last_or, Settled, IsAnswer, snap}
-use Rattle.cell_live.specs.Intervals.{heard_at, AreFirst, IsNextAnswer}
+use Rattle.cell_live.specs.Intervals.{known_as, AreFirst, AreHeeded, IsHeeded, IsNextAnswer}
 use Rattle.cell_live.specs.Acts.{HasOne, Proper}
 use Rattle.cell_live.specs.declared.times.Dated.{Dated}
 use Rattle.cell_live.specs.declared.times.Known.{Known}
@@ -34,12 +34,11 @@ use Rattle.cell_four_slot.specs.declared.notes.WriterNotes.{WriterNotes}
 use Rattle.cell_four_slot.specs.declared.notes.ReaderNotes.{ReaderNotes}
 use Rattle.cell_four_slot.specs.Steps.{FourSlotSight}
 use Rattle.cell_live.specs.declared.sight.Sight.TheVariants.{Spent, Told, Writer, Reader, Both}
-use Rattle.cell_four_slot.specs.Rule.{number_in, named_slot, StandsBy, InTable, IsNumbered, IsSettled, IsTimed, Sees, FourSlotRule}
+use Rattle.cell_four_slot.specs.Rule.{number_in, named_slot, finished_number, StandsBy, InTable, IsNumbered, IsSettled, IsTimed, Sees, FourSlotRule}
 use Rattle.cell_live.specs.Sights.{writer_part, reader_part, writer_or, reader_or}
 use Rattle.cell_four_slot.specs.Steps.{begun_with, begins, stored_by, stores, finishes_counting, finishes, asked_by, asks, slot_of_choice}
 use Rattle.cell_four_slot.specs.Steps.{finished_with, stores_on, said_with, word_said, asks_counting, says_counting, got_by, takes as takes_slot, first_writer, first_reader, first_sight}
-use Rattle.cell_four_slot.specs.Steps.{receipt_for, hears_of, whole_of, clock_of, HasAnswered}
-use Rattle.cell_live.specs.Intervals.{dated_at}
+use Rattle.cell_four_slot.specs.Steps.{receipt_for, told_by, heard_by, hears_of, whole_of, clock_of, HasAnswered}
 use Rattle.cell_live.proofs.ListLaws.{all_snoc, rising_snoc, settled_more, seats_stay}
 use Rattle.cell_four_slot.proofs.Clear.{free_slot, begun, read_on, word_latest, word_reading, word_bit, free_at_home, table_begins}
 use Rattle.cell_four_slot.proofs.Clear.{table_stores, table_finishes, table_asks, table_says, named_at_home, table_reads}
@@ -48,7 +47,8 @@ use Rattle.cell_four_slot.proofs.Fresh.{shown_same, latest_grows, shown_grows, s
 use Rattle.cell_four_slot.proofs.Fresh.{settled_asks, settled_says, settled_reads, answers_at, free_unnamed, number_grows}
 use Rattle.cell_four_slot.proofs.Fresh.{finished_shown, number_below}
 use Rattle.cell_four_slot.proofs.Slots.{bit_low, number_else, number_bound}
-use Rattle.cell_live.proofs.Timing.{as_slice, first_begun, first_passed, first_ended, first_all}
+use Rattle.cell_live.proofs.Timing.{as_slice, first_begun, first_passed, first_ended, first_all, heeded_begun, heeded_passed, heeded_ended}
+use Rattle.cell_live.proofs.Timing.{heeded_all}
 use Rattle.cell_four_slot.proofs.Timing.{timed_begins, timed_stores, timed_finishes, timed_asks, timed_says, timed_takes}
 use Rattle.cell_four_slot.proofs.Timing.{timed_hears, timed_starts, timed_atomic}
 use Rattle.cell_four_slot.proofs.Events.{leads_begins, leads_stores, leads_finishes, leads_asks, leads_says, leads_reads, sound_begins}
@@ -56,18 +56,19 @@ use Rattle.cell_four_slot.proofs.Events.{sound_stores, sound_finishes, sound_ask
 
 module _ {T : Type 0} where
   sight_put : (o : T) (p p' : WriterNotes T) (g : ReaderNotes T) (n n' t t' w w' r j : ℕ) → j ≢ w → t ≤ t' →
-      ((x : T) → StandsBy n (o ∷ p.written) x → StandsBy n' (o ∷ p'.written) x) → (v : FourSlotSight T) →
+      ((x : T) → StandsBy n (o ∷ p.written) x → StandsBy n' (o ∷ p'.written) x) →
+      ((h : Known T) → IsHeeded h (known_as p.written p.times) n → IsHeeded h (known_as p'.written p'.times) n') → (v : FourSlotSight T) →
       Sees o p g n t w r j v → Sees o p' g n' t' w' r j v
-  sight_put o p p' g n n' t t' w w' r j other le more Spent k = tt
-  sight_put o p p' g n n' t t' w w' r j other le more (Told x) k = (more x.value.item k.0, le_trans k.1 le)
-  sight_put o p p' g n n' t t' w w' r j other le more (Writer q) k = absurd (other k.1)
-  sight_put o p p' g n n' t t' w w' r j other le more (Reader h) k = k
-  sight_put o p p' g n n' t t' w w' r j other le more (Both q h) k = absurd (other k.2)
+  sight_put o p p' g n n' t t' w w' r j other le more heed Spent k = tt
+  sight_put o p p' g n n' t t' w w' r j other le more heed (Told x) k = (more x.value.item k.0, le_trans k.1 le, heed x.value.writes k.2)
+  sight_put o p p' g n n' t t' w w' r j other le more heed (Writer q) k = absurd (other k.1)
+  sight_put o p p' g n n' t t' w w' r j other le more heed (Reader h) k = k
+  sight_put o p p' g n n' t t' w w' r j other le more heed (Both q h) k = absurd (other k.2)
 
   sight_get : (o : T) (p : WriterNotes T) (g g' : ReaderNotes T) (n t t' w r r' j : ℕ) → j ≢ r → t ≤ t' → (v : FourSlotSight T) →
       Sees o p g n t w r j v → Sees o p g' n t' w r' j v
   sight_get o p g g' n t t' w r r' j other le Spent k = tt
-  sight_get o p g g' n t t' w r r' j other le (Told x) k = (k.0, le_trans k.1 le)
+  sight_get o p g g' n t t' w r r' j other le (Told x) k = (k.0, le_trans k.1 le, k.2)
   sight_get o p g g' n t t' w r r' j other le (Writer q) k = k
   sight_get o p g g' n t t' w r r' j other le (Reader h) k = absurd (other k.1)
   sight_get o p g g' n t t' w r r' j other le (Both q h) k = absurd (other k.3)
@@ -214,8 +215,8 @@ module _ {T : Type 0} (fits : T → Type 0) (rises : T → T → Type 0) (o : T)
             known = first_begun g.known p.written p.times x t r.known;
             each_seat = seats_stay (Sees o p' g shown' t r.writer r.reader) s.views id w (refl, own)
                 (λ j v other e. sight_put o p p' g (shown_number r) shown' r.now t r.writer r.writer r.reader j (λ z. other (z ∙ sym own)) on
-                (λ z st. subst (λ n. StandsBy n (o ∷ p'.written) z) steady (stands_longer o p.written (x ∷ []) (shown_number r) z st)) v
-                (r.each_seat j v e));
+                (λ z st. subst (λ n. StandsBy n (o ∷ p'.written) z) steady (stands_longer o p.written (x ∷ []) (shown_number r) z st))
+                (λ h. heeded_begun h p.written p.times x t (shown_number r) shown' (le_of_eq steady)) v (r.each_seat j v e));
           },
           le_refl t,
         ),
@@ -296,7 +297,8 @@ module _ {T : Type 0} (fits : T → Type 0) (rises : T → T → Type 0) (o : T)
             known = first_passed g.known p.written p.times t r.known;
             each_seat = seats_stay (Sees o p' g shown' t r.writer r.reader) s.views id w (refl, own)
                 (λ j v other e. sight_put o p p' g (shown_number r) shown' r.now t r.writer r.writer r.reader j (λ z. other (z ∙ sym own)) on
-                (λ z st. stands_more o p.written (shown_number r) shown' grows z st) v (r.each_seat j v e));
+                (λ z st. stands_more o p.written (shown_number r) shown' grows z st)
+                (λ h. heeded_passed h p.written p.times t (shown_number r) shown' grows) v (r.each_seat j v e));
           },
           le_refl t,
         ),
@@ -386,7 +388,9 @@ module _ {T : Type 0} (fits : T → Type 0) (rises : T → T → Type 0) (o : T)
             known = first_ended g.known p.written p1.times t (first_passed g.known p.written p.times t r.known);
             each_seat = seats_stay (Sees o p' g shown' t r.writer r.reader) s.views id w (refl, own)
                 (λ j v other e. sight_put o p p' g (shown_number r) shown' r.now t r.writer r.writer r.reader j (λ z. other (z ∙ sym own)) on
-                (λ z st. stands_more o p.written (shown_number r) shown' grows z st) v (r.each_seat j v e));
+                (λ z st. stands_more o p.written (shown_number r) shown' grows z st)
+                (λ h k. heeded_ended h p.written p1.times t shown1 shown' grows2
+                (heeded_passed h p.written p.times t (shown_number r) shown1 grows1 k)) v (r.each_seat j v e));
           },
           le_refl t,
         ),
@@ -489,7 +493,8 @@ module _ {T : Type 0} (fits : T → Type 0) (rises : T → T → Type 0) (o : T)
             known = first_ended g.known p.written p.times t r.known;
             each_seat = seats_stay (Sees o p' g shown' t r.writer r.reader) s.views id w (refl, own)
                 (λ j v other e. sight_put o p p' g (shown_number r) shown' r.now t r.writer r.writer r.reader j (λ z. other (z ∙ sym own)) on
-                (λ z st. stands_more o p.written (shown_number r) shown' grows z st) v (r.each_seat j v e));
+                (λ z st. stands_more o p.written (shown_number r) shown' grows z st)
+                (λ h. heeded_ended h p.written p.times t (shown_number r) shown' grows) v (r.each_seat j v e));
           },
           le_refl t,
         ),
@@ -879,6 +884,7 @@ module _ {T : Type 0} (fits : T → Type 0) (rises : T → T → Type 0) (o : T)
             subst (λ (z : ReaderNotes T). IsAnswer fits rises z.opening.value z.answers z.told x) also
                 (subst (λ (z : T). IsAnswer fits rises z g.answers g.told x) (sym r.openings.1) answer),
             subst (λ (z : ReaderNotes T). HasAnswered z (got_by z b x t n writes) x) also answered,
+            subst (λ (z : ReaderNotes T). AreHeeded z.heard writes n) also (r.timed.pair_heeded (subst IsBegun (sym said) tt)),
           ),
         )
 
@@ -922,7 +928,7 @@ module _ {T : Type 0} (fits : T → Type 0) (rises : T → T → Type 0) (o : T)
   others_alone s r w q j a b v k =
       let n : ℕ = shown_number r in
       sight_get o r.put r.get r.get n r.now r.now w r.reader q j b (le_refl r.now) v
-      (sight_put o r.put r.put r.get n n r.now r.now r.writer w r.reader j a (le_refl r.now) (λ x h. h) v k)
+      (sight_put o r.put r.put r.get n n r.now r.now r.writer w r.reader j a (le_refl r.now) (λ x h. h) (λ x h. h) v k)
 
   place_in : (vs : List V) (w : V) (v : V) (j : ℕ) → get_elem? (vs ++ w ∷ []) j ≡ some v →
       ((j < length vs) × (get_elem? vs j ≡ some v)) ⊎ ((j ≡ length vs) × (w ≡ v))
@@ -949,7 +955,8 @@ module _ {T : Type 0} (fits : T → Type 0) (rises : T → T → Type 0) (o : T)
   pub parts_ok : (id : ℕ) (v : V) (p : WriterNotes T) (g : ReaderNotes T) → v ≡ Both p g → Splits Rule id v (writer_part v) (reader_part v)
   parts_ok id v p g e = subst (λ (z : V). Splits Rule id z (writer_part z) (reader_part z)) (sym e) (parts id p g)
 
-  tells : (id : ℕ) (p : WriterNotes T) → p.stage ≡ writer.W5 → Splits Rule id (Writer p) (Writer p) (Told (snap (dated_at p.finished.value p.times.clock)))
+  tells : (id : ℕ) (p : WriterNotes T) → p.stage ≡ writer.W5 →
+      Splits Rule id (Writer p) (Writer p) (Told (snap (told_by p)))
   tells id p idle s r at = let known = r.each_seat id (Writer p) at in let m : ℕ = shown_number r in let c : Core T = r.core in
       let idle' : c.writer ≡ writer.W5 = r.in_views.writer_at ∙ (ap (λ (z : WriterNotes T). z.stage) (sym known.0) ∙ idle) in
       let finished : get_elem? (o ∷ r.put.written) m ≡ some r.put.finished.value =
@@ -960,24 +967,30 @@ module _ {T : Type 0} (fits : T → Type 0) (rises : T → T → Type 0) (o : T)
         finished ∙ ap (λ (z : WriterNotes T). some z.finished.value) (sym known.0),
       ) in
       let by : p.times.clock ≤ r.now = subst (λ (z : WriterNotes T). z.times.clock ≤ r.now) (sym known.0) r.timed.put_clock in
-      let named : V = Told (snap (dated_at p.finished.value p.times.clock)) in
+      let number : m ≡ length r.put.written = r.numbered.latest (λ z. absurd (subst IsStored idle' z))
+      ∙ ap (λ (z : Stage). finished_number z (length r.put.written)) idle' in
+      let told : IsHeeded (told_by p).writes (known_as r.put.written r.put.times) m =
+      subst (λ (z : WriterNotes T). IsHeeded (told_by z).writes (known_as r.put.written r.put.times) m) (sym known.0)
+      (heeded_all r.put.written r.put.times m (le_of_eq (sym number))) in
+      let named : V = Told (snap (told_by p)) in
       reseated s r r.writer r.reader _ (λ j v e. ⊎_elim
       (λ (t : get_elem? (set s.views id (Writer p)) j ≡ some v).
       seats_stay (Sees o r.put r.get m r.now r.writer r.reader) s.views id (Writer p) known (λ i d _ f. r.each_seat i d f) j v t)
-      (λ (t : named ≡ v). subst (λ (z : V). Sees o r.put r.get m r.now r.writer r.reader j z) t (last, by))
+      (λ (t : named ≡ v). subst (λ (z : V). Sees o r.put r.get m r.now r.writer r.reader j z) t (last, by, told))
       (at_snoc (set s.views id (Writer p)) named v j e))
 
   pub tells_ok : (id : ℕ) (v : V) (p : WriterNotes T) → v ≡ Writer p → p.stage ≡ writer.W5 → Splits Rule id v v (receipt_for v)
   tells_ok id v p e idle = subst (λ (z : V). Splits Rule id z z (receipt_for z)) (sym e) (tells id p idle)
 
   hears : (id other : ℕ) (g : ReaderNotes T) (x : Snapshot (Dated T)) → g.stage ≡ reader.R5 →
-      Joins Rule id (Reader g) other (Told x) (Reader (record g { told = g.told ++ x.value.item ∷ []; times = heard_at g.times x.value.time })) Spent
+      Joins Rule id (Reader g) other (Told x) (Reader (heard_by g x.value)) Spent
   hears id other g x idle s r at apart there =
       let known = r.each_seat id (Reader g) at in
-      let both' : V = Reader (record g { told = g.told ++ x.value.item ∷ []; times = heard_at g.times x.value.time }) in
-      let g' : ReaderNotes T = record r.get { told = r.get.told ++ x.value.item ∷ []; times = heard_at r.get.times x.value.time } in let m : ℕ = shown_number r in
+      let both' : V = Reader (heard_by g x.value) in
+      let g' : ReaderNotes T = heard_by r.get x.value in let m : ℕ = shown_number r in
       let idle' : r.core.reader ≡ reader.R5 = r.in_views.reader_at ∙ (ap (λ (z : ReaderNotes T). z.stage) (sym known.0) ∙ idle) in
-      let stands : StandsBy m (o ∷ r.put.written) x.value.item × (x.value.time ≤ r.now) = ⊎_elim (λ (t : (other ≡ id) × (both' ≡ Told x)). absurd (apart t.0))
+      let stands : StandsBy m (o ∷ r.put.written) x.value.item × (x.value.time ≤ r.now)
+      × IsHeeded x.value.writes (known_as r.put.written r.put.times) m = ⊎_elim (λ (t : (other ≡ id) × (both' ≡ Told x)). absurd (apart t.0))
       (λ (t : (other ≢ id) × (get_elem? s.views other ≡ some (Told x))). r.each_seat other (Told x) t.1)
       (at_set s.views id other both' (Told x) there) in
       let up = r.settled.to_latest in
@@ -1011,17 +1024,10 @@ module _ {T : Type 0} (fits : T → Type 0) (rises : T → T → Type 0) (o : T)
         lawful = r.lawful;
         leads = r.leads;
         now = r.now;
-        timed = timed_hears o r.put r.get r.now x.value.time (r.get.told ++ x.value.item ∷ []) m (pair_number r) r.core.writer r.core.reader
-            stands.1 r.timed;
+        timed = timed_hears o r.put r.get r.now x.value m (pair_number r) r.core.writer r.core.reader stands.1 stands.2 idle' r.timed;
         known = r.known;
         each_seat = seats_stay (Sees o r.put g' m r.now r.writer r.reader) (set s.views id both') other Spent tt
-            (λ j d _ e. seats_stay (Sees o r.put g' m r.now r.writer r.reader) s.views id both' (
-              (λ i. record (known.0 i) {
-                told = (known.0 i).told ++ x.value.item ∷ [];
-                times = heard_at (known.0 i).times x.value.time;
-              }),
-              known.1,
-            )
+            (λ j d _ e. seats_stay (Sees o r.put g' m r.now r.writer r.reader) s.views id both' ((λ i. heard_by (known.0 i) x.value), known.1)
             (λ k d' apart' f.
             sight_get o r.put r.get g' m r.now r.now r.writer r.reader r.reader k (λ z. apart' (z ∙ sym known.1)) (le_refl r.now) d' (r.each_seat k d' f)) j d e);
       }

@@ -8,15 +8,18 @@ use Rattle.fourslot_core.specs.declared.state.Stage.{Stage}
 use Rattle.fourslot_core.specs.declared.state.Stage.TheVariants as writer
 use Rattle.fourslot_core.specs.declared.state.ReaderStage.{ReaderStage}
 use Rattle.fourslot_core.specs.declared.state.ReaderStage.TheVariants as reader
+use Rattle.fourslot_core.specs.Freshness.{IsBegun}
 use Rattle.fourslot_core.proofs.Pushed.{get_before, get_within}
-use Rattle.cell_live.specs.Intervals.{At, heard_at, intervals, AreAtomic}
+use Rattle.cell_live.specs.Intervals.{At, begun_at, passed_at, ended_at, intervals, known_as, AreAtomic, IsHeeded}
 use Rattle.fourslot_core.specs.ReadNumbers.{IsReadOf}
+use Rattle.cell_live.specs.declared.times.Dated.{Dated}
 use Rattle.cell_live.specs.declared.times.Known.{Known}
 use Rattle.cell_four_slot.specs.declared.notes.WriterNotes.{WriterNotes}
 use Rattle.cell_four_slot.specs.declared.notes.ReaderNotes.{ReaderNotes}
 use Rattle.cell_four_slot.specs.Rule.{finished_number, begun_number, IsTimed}
-use Rattle.cell_four_slot.specs.Steps.{begun_with, stored_by, finished_with, asked_by, said_with, got_by, first_writer, first_reader}
+use Rattle.cell_four_slot.specs.Steps.{begun_with, stored_by, finished_with, asked_by, said_with, got_by, heard_by, first_writer, first_reader}
 use Rattle.cell_live.proofs.Timing.{late_up, late_ended, begun_longer, turn_begun, turn_ended, by_passed, by_begun, by_ended, read_of}
+use Rattle.cell_live.proofs.Timing.{heeded_begun, heeded_passed, heeded_ended, each_heeded, one_heeded}
 use Rattle.cell_live.proofs.Timing.{late_asked, late_more, begun_more, most_more, rising_more, source_more}
 
 module _ {T : Type 0} (o : T) where
@@ -52,6 +55,10 @@ module _ {T : Type 0} (o : T) where
         to_latest = λ m n at. le_trans (h.to_latest m n at) grows;
         to_pair = λ u m n at. le_trans (h.to_pair u m n at) keeps;
         pending = λ u c at. late_up p.times.ends c pair pair' keeps (h.pending u c at);
+        heeded = each_heeded (known_as p.written p.times) (known_as (p.written ++ x ∷ []) (begun_at p.times t)) shown shown'
+            (λ z. heeded_begun z p.written p.times x t shown shown' grows) g.heard h.heeded;
+        pair_heeded = λ u. each_heeded (known_as p.written p.times) (known_as (p.written ++ x ∷ []) (begun_at p.times t)) pair pair'
+            (λ z. heeded_begun z p.written p.times x t pair pair' keeps) g.heard (h.pair_heeded u);
       }
 
   -- W4
@@ -81,6 +88,10 @@ module _ {T : Type 0} (o : T) where
         to_latest = λ m n at. le_trans (h.to_latest m n at) grows;
         to_pair = λ u m n at. le_trans (h.to_pair u m n at) keeps;
         pending = λ u c at. late_up p.times.ends c pair pair' keeps (h.pending u c at);
+        heeded = each_heeded (known_as p.written p.times) (known_as p.written (passed_at p.times t)) shown shown'
+            (λ z. heeded_passed z p.written p.times t shown shown' grows) g.heard h.heeded;
+        pair_heeded = λ u. each_heeded (known_as p.written p.times) (known_as p.written (passed_at p.times t)) pair pair'
+            (λ z. heeded_passed z p.written p.times t pair pair' keeps) g.heard (h.pair_heeded u);
       }
 
   -- W5, at the time of W4 or later
@@ -117,6 +128,10 @@ module _ {T : Type 0} (o : T) where
         to_latest = λ m n at. le_trans (h.to_latest m n at) grows;
         to_pair = h.to_pair;
         pending = λ u c at. late_ended p.times.ends c pair t (before (length g.answers) c at) (h.pending u c at);
+        heeded = each_heeded (known_as p.written p.times) (known_as p.written (ended_at p.times t)) shown shown'
+            (λ z. heeded_ended z p.written p.times t shown shown' grows) g.heard h.heeded;
+        pair_heeded = λ u. each_heeded (known_as p.written p.times) (known_as p.written (ended_at p.times t)) pair pair
+            (λ z. heeded_ended z p.written p.times t pair pair (le_refl pair)) g.heard (h.pair_heeded u);
       }
 
   -- R1: what the read will be told is what is shown now, which is no less than the number of finished writes
@@ -153,6 +168,8 @@ module _ {T : Type 0} (o : T) where
         to_pair = λ _. h.to_latest;
         pending = λ _ c at k e there before. let l : k < length p.times.ends = slice_get_within p.times.ends k e there in
             let s : k < shown = omega arith in s;
+        heeded = h.heeded;
+        pair_heeded = λ _. h.heeded;
       }
 
   -- R2, at the time of R1 or later
@@ -181,6 +198,8 @@ module _ {T : Type 0} (o : T) where
         to_latest = h.to_latest;
         to_pair = λ _. h.to_pair tt;
         pending = λ _. h.pending tt;
+        heeded = h.heeded;
+        pair_heeded = λ _. h.pair_heeded tt;
       }
 
   -- R3: the answer has the number `pair`
@@ -222,18 +241,20 @@ module _ {T : Type 0} (o : T) where
         to_latest = most_more g.numbers pair shown low h.to_latest;
         to_pair = λ u. absurd u;
         pending = λ u. absurd u;
+        heeded = h.heeded;
+        pair_heeded = λ u. absurd u;
       }
 
-  -- a receipt is taken in
-  pub timed_hears : (p : WriterNotes T) (g : ReaderNotes T) (now t : ℕ) (told : List T) (shown pair : ℕ) (w : Stage) (r : ReaderStage) →
-      t ≤ now → IsTimed o p g now w r shown pair →
-      IsTimed o p (record g { told = told; times = heard_at g.times t }) now w r shown pair
-  timed_hears p g now t told shown pair w r before h =
+  -- a receipt is taken in, between two reads
+  pub timed_hears : (p : WriterNotes T) (g : ReaderNotes T) (now : ℕ) (x : Dated T) (shown pair : ℕ) (w : Stage) (r : ReaderStage) →
+      x.time ≤ now → IsHeeded x.writes (known_as p.written p.times) shown → r ≡ reader.R5 → IsTimed o p g now w r shown pair →
+      IsTimed o p (heard_by g x) now w r shown pair
+  timed_hears p g now x shown pair w r before told idle h =
       record {
         put_clock = h.put_clock;
         get_clock = max-le h.get_clock before;
         put_by = h.put_by;
-        get_by = by_passed g.times (max g.times.clock t) (le-max_left g.times.clock t) h.get_by;
+        get_by = by_passed g.times (max g.times.clock x.time) (le-max_left g.times.clock x.time) h.get_by;
         put_turn = h.put_turn;
         get_turn = h.get_turn;
         begun_writes = h.begun_writes;
@@ -248,6 +269,8 @@ module _ {T : Type 0} (o : T) where
         to_latest = h.to_latest;
         to_pair = h.to_pair;
         pending = h.pending;
+        heeded = one_heeded (known_as p.written p.times) shown g.heard x.writes h.heeded told;
+        pair_heeded = λ u. absurd (subst IsBegun idle u);
       }
 
   -- at the start there are no calls
@@ -271,6 +294,8 @@ module _ {T : Type 0} (o : T) where
     to_latest = λ m n at. absurd (none-some n at);
     to_pair = λ u. absurd u;
     pending = λ u. absurd u;
+    heeded = λ k d l. absurd (omega arith);
+    pair_heeded = λ u. absurd u;
   }
 
   -- at any moment a read with a number is one of a board's cells

@@ -21,7 +21,7 @@ use Rattle.fourslot_core.specs.Invariant.{IsUnderWay, HasSlot, IsStored, IsKept,
 use Rattle.fourslot_core.specs.Freshness.{IsBegun}
 use Rattle.fourslot_core.specs.Interleaving.{Leads}
 use Rattle.cell_live.specs.Running.{Settled, Rising}
-use Rattle.cell_live.specs.Intervals.{At, InTurn, IsBy, IsLate, HasBegun, AreFirst}
+use Rattle.cell_live.specs.Intervals.{At, InTurn, IsBy, IsLate, HasBegun, AreFirst, AreHeeded, IsHeeded, known_as}
 use Rattle.cell_four_slot.specs.declared.notes.WriterNotes.{WriterNotes}
 use Rattle.cell_four_slot.specs.declared.notes.ReaderNotes.{ReaderNotes}
 use Rattle.cell_four_slot.specs.Steps.{FourSlotSight}
@@ -146,12 +146,16 @@ module _ {T : Type 0} where
     pub to_pair : IsBegun r → (m n : ℕ) → At g.numbers m n → n ≤ pair
     -- what the read in progress will be told is late enough already
     pub pending : IsBegun r → (b : ℕ) → At g.times.begins (length g.answers) b → IsLate p.times.ends b pair
+    -- what each receipt told is heeded by what the next read can be told
+    pub heeded : AreHeeded g.heard (known_as p.written p.times) shown
+    pub pair_heeded : IsBegun r → AreHeeded g.heard (known_as p.written p.times) pair
 
   -- What a seat knows. `shown` is the number of the record in the slot that `latest` and its bit name.
   module _ (o : T) (p : WriterNotes T) (g : ReaderNotes T) (shown now writer reader seat : ℕ) where
     abbrev pub Sees : FourSlotSight T → Type 0
     Sees Spent = Unit {0}
     Sees (Told x) = StandsBy shown (o ∷ p.written) x.value.item × (x.value.time ≤ now)
+        × IsHeeded x.value.writes (known_as p.written p.times) shown
     Sees (Writer q) = (q ≡ p) × (seat ≡ writer)
     Sees (Reader h) = (h ≡ g) × (seat ≡ reader)
     Sees (Both q h) = (q ≡ p) × (h ≡ g) × (seat ≡ writer) × (seat ≡ reader)

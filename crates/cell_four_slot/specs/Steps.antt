@@ -9,7 +9,7 @@ use Rattle.fourslot_core.specs.declared.event.WriteEvent.TheVariants.{W1, W2, W3
 use Rattle.fourslot_core.specs.declared.event.ReadEvent.TheVariants.{R1, R2, R3, R4, R5}
 use Rattle.fourslot_core.specs.Events.{side, with_side, slot_with, bit_number, slot_number, both}
 use Rattle.cell_live.specs.Running.{IsAnswer, snap}
-use Rattle.cell_live.specs.Intervals.{begun_at, passed_at, ended_at, heard_at, no_times, none_known, dated_at, IsNextAnswer}
+use Rattle.cell_live.specs.Intervals.{begun_at, passed_at, ended_at, heard_at, no_times, none_known, dated_at, known_as, AreHeeded, IsNextAnswer}
 use Rattle.cell_live.specs.declared.times.Dated.{Dated}
 use Rattle.cell_live.specs.declared.times.Known.{Known}
 use Rattle.cell_four_slot.specs.declared.notes.WriterNotes.{WriterNotes}
@@ -183,12 +183,13 @@ module _ {T : Type 0} where
   abbrev pub HasAnswered : ReaderNotes T → ReaderNotes T → T → Type 0
   HasAnswered g h x = IsNextAnswer g.opening.value g.known h.known g.numbers h.numbers h.answers h.times x
 
-  -- the load of the pair's bit, with which the seat takes the slot. What it has is the answer.
+  -- the load of the pair's bit, with which the seat takes the slot. What it has is the answer, which heeds each receipt that was learnt.
   abbrev pub takes : (T → Type 0) → (T → T → Type 0) → Step T → Sat T → ℕ → Sat T → Type 0
   takes fits rises st m n m' = (g : ReaderNotes T) → m.0 ≡ Reader g
       → (b : Bool) × (x : T) × (n ≡ bit_number b) × (t : ℕ) × (k : ℕ) × (writes : Known T) × (g.times.clock < t)
       × (m'.0 ≡ Reader (got_by g b x t k writes)) × (m'.1 ≡ (slot_number (slot_with g.slot.pair b), x) ∷ [])
       × IsAnswer fits rises g.opening.value g.answers g.told x × HasAnswered g (got_by g b x t k writes) x
+      × AreHeeded g.heard writes k
 
   -- the views at the start, those that are parted off and those that are taken in
   abbrev pub first_writer : T → WriterNotes T
@@ -221,18 +222,25 @@ module _ {T : Type 0} where
     times = no_times;
     numbers = [];
     known = none_known;
+    heard = [];
   }
 
   abbrev pub first_sight : T → FourSlotSight T
   first_sight o = Both (first_writer o) (first_reader o)
 
   -- what is parted off for a receipt, and what is taken in
+  abbrev pub told_by : WriterNotes T → Dated T
+  told_by p = dated_at p.finished.value (known_as p.written p.times)
+
   abbrev pub receipt_for : FourSlotSight T → FourSlotSight T
-  receipt_for (Writer p) = Told (snap (dated_at p.finished.value p.times.clock))
+  receipt_for (Writer p) = Told (snap (told_by p))
   receipt_for v = Spent
 
+  abbrev pub heard_by : ReaderNotes T → Dated T → ReaderNotes T
+  heard_by g x = record g { told = g.told ++ x.item ∷ []; times = heard_at g.times x.time; heard = g.heard ++ x.writes ∷ [] }
+
   abbrev pub hears_of : FourSlotSight T → FourSlotSight T → FourSlotSight T
-  hears_of (Reader g) (Told x) = Reader (record g { told = g.told ++ x.value.item ∷ []; times = heard_at g.times x.value.time })
+  hears_of (Reader g) (Told x) = Reader (heard_by g x.value)
   hears_of v w = v
 
   abbrev pub whole_of : FourSlotSight T → FourSlotSight T → FourSlotSight T

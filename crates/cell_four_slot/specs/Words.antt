@@ -4,8 +4,8 @@ use Rattle.fourslot_core.specs.Events.{slot_number, bit_number}
 use Rattle.fourslot_core.specs.declared.event.WriteEvent.{WriteEvent}
 use Rattle.fourslot_core.specs.declared.event.ReadEvent.{ReadEvent}
 use Rattle.fourslot_core.specs.declared.event.ReadEvent.TheVariants.{R1, R2, R3, R4, R5}
-use Rattle.cell_live.specs.Running.{Name, IsName, IsAnswer, snap}
-use Rattle.cell_live.specs.Intervals.{IsNextCall, IsNextAnswer}
+use Rattle.cell_live.specs.Running.{Name, IsName, IsAnswer, last_or, snap}
+use Rattle.cell_live.specs.Intervals.{AreHeeded, IsNextCall, IsNextAnswer}
 use Rattle.cell_live.specs.declared.times.Times.{Times}
 use Rattle.cell_live.specs.declared.times.Known.{Known}
 use Rattle.cell_live.specs.Sights.{writer_or, reader_or, receipt_or}
@@ -53,11 +53,15 @@ module _ {T : Type 0} where
   abbrev pub named_by : FourSlotTold T → T
   named_by t = (receipt_or (dated t.spare) t.seat.inner.me.0).item
 
-  -- a time at which that record was written
+  -- a time at which that record was written, and all the writes up to then
   abbrev pub time_of : FourSlotTold T → ℕ
   time_of t = (receipt_or (dated t.spare) t.seat.inner.me.0).time
 
-  -- the calls made with a pass, in the table's time; the numbers of the answers; and the writes of which a reader knows
+  abbrev pub writes_of : FourSlotTold T → Known T
+  writes_of t = (receipt_or (dated t.spare) t.seat.inner.me.0).writes
+
+  -- the calls made with a pass, in the table's time; the numbers of the answers; the writes of which a reader knows; and those of which
+  -- receipts told it
   abbrev pub put_times : FourSlotPut T → Times
   put_times p = (put_notes p).times
 
@@ -69,6 +73,9 @@ module _ {T : Type 0} where
 
   abbrev pub known_to : FourSlotGet T → Known T
   known_to g = (get_notes g).known
+
+  abbrev pub heard_by : FourSlotGet T → List (Known T)
+  heard_by g = (get_notes g).heard
 
   -- the events made with a pass, and the count of its control accesses
   abbrev pub write_events : FourSlotPut T → List (WriteEvent T)
@@ -116,3 +123,4 @@ module _ {T : Type 0} where
     pub chosen : chosen_slot h ≡ slot
     pub timed : IsNextCall (get_times g) (get_times h)
     pub numbered : IsNextAnswer (opening_of c) (known_to g) (known_to h) (numbers_of g) (numbers_of h) (answers_of h) (get_times h) (at_hand_of h)
+    pub heeds : (heard_by h ≡ heard_by g) × AreHeeded (heard_by h) (known_to h) (last_or 0 (numbers_of h))

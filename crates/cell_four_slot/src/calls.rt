@@ -4,11 +4,13 @@ ghost use Rattle.std.specs.Fn.{FnOnceTakesAt, FnOnceReturnsAt};
 ghost use Rattle.fourslot_core.specs.declared.event.WriteEvent.TheVariants.{W1, W2, W3, W4, W5};
 ghost use Rattle.fourslot_core.specs.declared.event.ReadEvent.TheVariants.{R1, R2, R3, R4, R5};
 ghost use Rattle.cell_live.specs.Running.{last_or, IsAnswer, Settled, snap};
-ghost use Rattle.cell_live.specs.Intervals.{AreAtomic, AreFirst, HaveEnded, IsHeard, IsNextAnswer, IsNextCall, no_times, none_known};
+ghost use Rattle.cell_live.specs.Intervals.{AreAtomic, AreFirst, AreHeeded, HaveEnded, IsHeard, IsNextAnswer, IsNextCall};
+ghost use Rattle.cell_live.specs.Intervals.{known_as, no_times, none_known};
 ghost use Rattle.cell_four_slot.specs.Words.{opening_of, is_put_of, is_get_of, is_told_of, written_by, answers_of, at_hand_of};
 ghost use Rattle.cell_four_slot.specs.Words.{told_to, named_by, write_events, read_events, writer_accesses, reader_accesses};
 ghost use Rattle.cell_four_slot.specs.Words.{pair_said, pair_shown};
 ghost use Rattle.cell_four_slot.specs.Words.{chosen_slot, held_by, HasChosen, put_times, get_times, numbers_of, known_to, time_of};
+ghost use Rattle.cell_four_slot.specs.Words.{heard_by, writes_of};
 
 use crate::bits::{bit_of, other_bit, set_bit, slot_of, word_of};
 use crate::cell::{FourSlotCell, FourSlotGet, FourSlotPut, FourSlotTold};
@@ -99,6 +101,10 @@ impl<T: Lawful> Calls<T> for FourSlotCell<T> {
 
     ghost time_of = { time_of };
 
+    ghost writes_of = { writes_of };
+
+    ghost heard = { heard_by };
+
     fn make(alloc: Global, first: T) -> Result<(Self, FourSlotPut<T>, FourSlotGet<T>), AllocError>
         requires { T.fits first }
         ensures own { IfOk result (λ r. (opening_of r.0 ≡ first) × is_put_of r.0 r.1 × is_get_of r.0 r.2) }
@@ -107,6 +113,7 @@ impl<T: Lawful> Calls<T> for FourSlotCell<T> {
         ensures events { IfOk result (λ r. (write_events r.1 ≡ []) × (read_events r.2 ≡ [])) }
         ensures timeless { IfOk result (λ r. (put_times r.1 ≡ no_times) × (get_times r.2 ≡ no_times) × (numbers_of r.2 ≡ [])
             × (known_to r.2 ≡ none_known)) }
+        ensures unheard { IfOk result (λ r. heard_by r.2 ≡ []) }
     {
         let (table, mut put) = FourSlotTable::new(alloc, first)?;
         let get = table.part(&mut put);
@@ -173,6 +180,7 @@ impl<T: Lawful> Calls<T> for FourSlotCell<T> {
         ensures timed { IsNextCall (get_times get.old) (get_times get.new) }
         ensures numbered { IsNextAnswer (opening_of self.now) (known_to get.old) (known_to get.new) (numbers_of get.old) (numbers_of get.new)
             (answers_of get.new) (get_times get.new) result }
+        ensures heeds { (heard_by get.new ≡ heard_by get.old) × AreHeeded (heard_by get.new) (known_to get.new) (last_or 0 (numbers_of get.new)) }
     {
         let slot = choose(self, get);
         self.table.copy(&mut get.seat, slot)
@@ -195,6 +203,7 @@ impl<T: Lawful> Calls<T> for FourSlotCell<T> {
         ensures timed { IsNextCall (get_times get.old) (get_times get.new) }
         ensures numbered { IsNextAnswer (opening_of self.now) (known_to get.old) (known_to get.new) (numbers_of get.old) (numbers_of get.new)
             (answers_of get.new) (get_times get.new) (at_hand_of get.new) }
+        ensures heeds { (heard_by get.new ≡ heard_by get.old) × AreHeeded (heard_by get.new) (known_to get.new) (last_or 0 (numbers_of get.new)) }
         ensures looked { FnOnceReturnsAt F.FnOnce look (at_hand_of get.new) result }
     {
         let slot = choose(self, get);
@@ -208,6 +217,7 @@ impl<T: Lawful> Calls<T> for FourSlotCell<T> {
         ensures named { named_by result ≡ last_or (opening_of self.now) (written_by put.old) }
         ensures events { write_events put.new ≡ write_events put.old }
         ensures timed { (put_times put.new ≡ put_times put.old) × (time_of result ≡ (put_times put.old).clock) }
+        ensures tells { writes_of result ≡ known_as (written_by put.old) (put_times put.old) }
     {
         let seat = self.table.tell(&mut put.seat);
         FourSlotTold {
@@ -224,6 +234,7 @@ impl<T: Lawful> Calls<T> for FourSlotCell<T> {
         ensures events { (read_events get.new ≡ read_events get.old) × (held_by get.new ≡ held_by get.old) }
         ensures timed { IsHeard (get_times get.old) (get_times get.new) (time_of receipt) }
         ensures numbers { (numbers_of get.new ≡ numbers_of get.old) × (known_to get.new ≡ known_to get.old) }
+        ensures heard { heard_by get.new ≡ heard_by get.old ++ writes_of receipt ∷ [] }
     {
         let FourSlotTold { seat, spare: _ } = receipt;
         self.table.hear(&mut get.seat, seat);

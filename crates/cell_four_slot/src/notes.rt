@@ -50,6 +50,8 @@ pub struct ReaderNotes<T> {
     pub numbers: LinkedList<u64>,
     /// The writes that had begun when the last read ended.
     pub known: Known<T>,
+    /// The writes of which each receipt told.
+    pub heard: LinkedList<Known<T>>,
 }
 
 /// What a seat of this cell knows.

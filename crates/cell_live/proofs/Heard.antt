@@ -2,7 +2,13 @@
 use Rattle.std.proofs.Common.{◌≡◌, ℕ, suc, ◌+◌, ◌<◌, ◌≤◌, List, [], ◌∷◌, ◌++◌, length, slice_get, Some, refl, sym, ap, ◌∙◌, arith, length-append}
 use Rattle.std.proofs.lemmas.Option.{slice_get_within, same_Some}
 use Rattle.fourslot_core.proofs.Pushed.{get_last, to_before}
-use Rattle.cell_live.specs.Intervals.{AreAtomic, HaveEnded, IsNextCall, IsHeard}
+use Rattle.std.proofs.Common.{subst}
+use Rattle.std.proofs.lemmas.List.Elements.{All-get_or}
+use Rattle.std.proofs.lemmas.Option.{get_or_from_slice_get}
+use Rattle.cell_live.proofs.ListLaws.{last_snoc}
+use Rattle.cell_live.specs.Intervals.{AreAtomic, AreHeeded, HaveEnded, IsHeard, IsHeeded, IsNextAnswer, IsNextCall, IsNoOlder, known_as}
+use Rattle.cell_live.specs.Running.{last_or}
+use Rattle.cell_live.specs.declared.times.Known.{Known}
 use Rattle.cell_live.specs.declared.times.Times.{Times}
 
 -- what a read after a receipt gives: `k` is the number of records written before, and the receipt names the next one
@@ -39,3 +45,19 @@ heard_last o written answers numbers writes reads last earlier heard old n item 
     let inside : n < length (o ∷ (written ++ item ∷ [])) = slice_get_within (o ∷ (written ++ item ∷ [])) n answer source in
     let is : n ≡ suc k = omega arith in
     same_Some answer item (sym source ∙ (ap (slice_get (o ∷ (written ++ item ∷ []))) is ∙ get_last written item k refl))
+
+pub learnt_last : {A : Type 0} (xs ys : List A) (y : A) → ys ≡ xs ++ y ∷ [] → slice_get ys (length xs) ≡ Some y
+learnt_last xs ys y e = ap (λ z. slice_get z (length xs)) e ∙ get_last xs y (length xs) refl
+
+-- An answer after a receipt was learnt, by its own number. The cell may go on.
+module _ {T : Type 0} (opening answer : T) (heard : List (Known T)) (k : ℕ) (old new : Known T) (before after : List ℕ) (answers : List T)
+    (reads : Times) (all : AreHeeded heard new (last_or 0 after)) (h : IsNextAnswer opening old new before after answers reads answer) where
+  pub heeds_one : (told : Known T) → slice_get heard k ≡ Some told → IsHeeded told new h.number
+  heeds_one told at =
+      let n : last_or 0 after ≡ h.number = ap (last_or 0) h.numbers ∙ last_snoc 0 before h.number in
+      subst (IsHeeded told new) n (subst (λ z. IsHeeded z new (last_or 0 after)) (get_or_from_slice_get heard k told told at)
+      (All-get_or (λ z. IsHeeded z new (last_or 0 after)) heard k told (slice_get_within heard k told at) all))
+
+  pub no_older : (written : List T) (writes : Times) → slice_get heard k ≡ Some (known_as written writes) → IsNoOlder opening written answer
+  no_older written writes at = let is = heeds_one (known_as written writes) at in
+      (is.first.items.0, h.number, is.later, subst (λ z. slice_get (opening ∷ z) h.number ≡ Some answer) is.first.items.1 h.source)

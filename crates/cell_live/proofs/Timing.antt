@@ -5,8 +5,9 @@ use mathlib.Core.Option.{some, some-injective, some-ne-none}
 use lib.ListN.{get_elem?}
 use Rattle.std.proofs.lemmas.Option.{slice_get_within, same_Some}
 use Rattle.fourslot_core.proofs.Pushed.{get_before, get_cases, get_within, of_before, to_before}
-use Rattle.cell_live.specs.Intervals.{At, begun_at, passed_at, ended_at, InTurn, IsBy, IsLate, HasBegun, IsBeginning, AreFirst}
+use Rattle.cell_live.specs.Intervals.{At, begun_at, passed_at, ended_at, InTurn, IsBy, IsLate, HasBegun, IsBeginning, AreFirst, AreHeeded, IsHeeded, known_as}
 use Rattle.fourslot_core.specs.ReadNumbers.{IsReadOf}
+use Rattle.cell_live.proofs.ListLaws.{all_each, all_snoc}
 use Rattle.cell_live.specs.declared.times.Times.{Times}
 use Rattle.cell_live.specs.declared.times.Known.{Known}
 
@@ -177,3 +178,27 @@ module _ {T : Type 0} where
 
   pub first_all : (written : List T) (s : Times) → AreFirst (record { items = written; times = s }) written s
   first_all written s = record { items = same written; begins = same s.begins; ends = same s.ends }
+
+  -- what a receipt told stays heeded through the writer's steps, where the number doesn't fall; and at rest all that was written is
+  pub heeded_begun : (h : Known T) (written : List T) (s : Times) (x : T) (t n m : ℕ) → n ≤ m → IsHeeded h (known_as written s) n →
+      IsHeeded h (known_as (written ++ x ∷ []) (begun_at s t)) m
+  heeded_begun h written s x t n m le is = record { first = first_begun h written s x t is.first; later = le_trans is.later le }
+
+  pub heeded_passed : (h : Known T) (written : List T) (s : Times) (t n m : ℕ) → n ≤ m → IsHeeded h (known_as written s) n →
+      IsHeeded h (known_as written (passed_at s t)) m
+  heeded_passed h written s t n m le is = record { first = first_passed h written s t is.first; later = le_trans is.later le }
+
+  pub heeded_ended : (h : Known T) (written : List T) (s : Times) (t n m : ℕ) → n ≤ m → IsHeeded h (known_as written s) n →
+      IsHeeded h (known_as written (ended_at s t)) m
+  heeded_ended h written s t n m le is = record { first = first_ended h written s t is.first; later = le_trans is.later le }
+
+  pub heeded_all : (written : List T) (s : Times) (n : ℕ) → length written ≤ n → IsHeeded (known_as written s) (known_as written s) n
+  heeded_all written s n le = record { first = first_all written s; later = le }
+
+  pub each_heeded : (old new : Known T) (n m : ℕ) → ((h : Known T) → IsHeeded h old n → IsHeeded h new m) → (heard : List (Known T)) →
+      AreHeeded heard old n → AreHeeded heard new m
+  each_heeded old new n m f heard all = all_each (λ h. IsHeeded h old n) (λ h. IsHeeded h new m) f heard all
+
+  pub one_heeded : (known : Known T) (n : ℕ) (heard : List (Known T)) (h : Known T) → AreHeeded heard known n → IsHeeded h known n →
+      AreHeeded (heard ++ h ∷ []) known n
+  one_heeded known n heard h all is = all_snoc (λ h. IsHeeded h known n) heard h all is

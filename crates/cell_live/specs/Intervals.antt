@@ -1,7 +1,7 @@
 -- The calls of a cell as intervals of the table's time, in which each step on a word has a time of its own. Operations as
 -- intervals and their precedence are L. Lamport's, On Interprocess Communication, Parts I and II, Distributed Computing 1, 1986;
 -- numbers of reads are this project's own.
-use Rattle.std.specs.Prelude.{◌≡◌, ℕ, ◌+◌, ◌<◌, ◌≤◌, max, List, [], ◌∷◌, ◌++◌, length, slice_get, Some}
+use Rattle.std.specs.Prelude.{◌≡◌, ℕ, ◌+◌, ◌<◌, ◌≤◌, max, List, [], ◌∷◌, ◌++◌, length, All, slice_get, Some}
 use Rattle.fourslot_core.specs.ReadNumbers.{Intervals, IsReadOf}
 use Rattle.cell_live.specs.declared.times.Times.{Times}
 use Rattle.cell_live.specs.declared.times.Known.{Known}
@@ -17,12 +17,16 @@ no_times = record { begins = []; ends = []; clock = 0 }
 abbrev pub none_known : {T : Type 0} → Known T
 none_known = record { items = []; times = no_times }
 
+-- these records, written at these times
+abbrev pub known_as : {T : Type 0} → List T → Times → Known T
+known_as written writes = record { items = written; times = writes }
+
 -- what a receipt names, and its default
-abbrev pub dated_at : {T : Type 0} → T → ℕ → Dated T
-dated_at x t = record { item = x; time = t }
+abbrev pub dated_at : {T : Type 0} → T → Known T → Dated T
+dated_at x writes = record { item = x; time = writes.times.clock; writes = writes }
 
 abbrev pub dated : {T : Type 0} → T → Dated T
-dated x = dated_at x 0
+dated x = dated_at x none_known
 
 -- after a step at time t, with which a call begins, goes on or ends; and after a receipt with a time
 abbrev pub begun_at : Times → ℕ → Times
@@ -108,6 +112,20 @@ pub record AreFirst {T : Type 0} (known : Known T) (written : List T) (writes : 
   pub items : IsBeginning known.items written
   pub begins : IsBeginning known.times.begins writes.begins
   pub ends : IsBeginning known.times.ends writes.ends
+
+-- *Heeded*: the writes known begin with those of which a receipt told, and the answer's number is no less than that of the last of these
+pub record IsHeeded {T : Type 0} (told known : Known T) (number : ℕ) : Type 0 where
+  pub first : AreFirst told known.items known.times
+  pub later : length told.items ≤ number
+
+-- what each receipt told is heeded
+abbrev pub AreHeeded : {T : Type 0} → List (Known T) → Known T → ℕ → Type 0
+AreHeeded heard known number = All (λ told. IsHeeded told known number) heard
+
+-- *No older*: the answer stands in the list of the opening, these records and more, at no earlier place than the last of these
+abbrev pub IsNoOlder : {T : Type 0} → T → List T → T → Type 0
+IsNoOlder {T} opening written answer =
+    (more : List T) × (n : ℕ) × (length written ≤ n) × (slice_get (opening ∷ (written ++ more)) n ≡ Some answer)
 
 -- *The next answer*: one number more, and the answer is the record with this number of the writes known, where the opening has
 -- number 0. What was known is still, and with the writes known all answers are atomic by their intervals

@@ -14,8 +14,9 @@ pub struct Known<T> {
     pub times: Times,
 }
 
-/// What a receipt names: a record, and a time at which it was written.
+/// What a receipt names: a record, a time at which it was written, and all the writes up to then.
 pub struct Dated<T> {
     pub item: T,
     pub time: u64,
+    pub writes: Known<T>,
 }

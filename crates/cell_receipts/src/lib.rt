@@ -3,6 +3,7 @@
 #![tactic(auto)]
 
 ghost use Rattle.std.specs.Prelude.{◌≡◌};
+ghost use Rattle.cell_live.specs.Intervals.{IsNoOlder};
 ghost use Rattle.cell_live.specs.Running.{last_or};
 
 use cell_live::{Calls, Lawful};
@@ -21,4 +22,19 @@ pub fn heard<T: Lawful, C: Calls<T>>(cell: C, put: C::Put, get: C::Get, item: T)
     let answer = cell.read(&mut get);
     cell.finish(put, get);
     answer
+}
+
+/// Tells of all that was written, learns of it, and reads twice. The cell goes on, and yet both answers were really written: each is the last
+/// record of that time, or one written after it.
+pub fn followed<T: Lawful, C: Calls<T>>(cell: &C, put: &mut C::Put, get: &mut C::Get) -> (T, T)
+    requires { C.is_put cell.now put.old × C.is_get cell.now get.old }
+    ensures own { C.is_put cell.now put.new × C.is_get cell.now get.new }
+    ensures first { IsNoOlder (C.opening cell.now) (C.written put.old) result.0 }
+    ensures second { IsNoOlder (C.opening cell.now) (C.written put.old) result.1 }
+{
+    let receipt = cell.tell(put);
+    cell.learn(get, receipt);
+    let first = cell.read(get);
+    let second = cell.read(get);
+    (first, second)
 }

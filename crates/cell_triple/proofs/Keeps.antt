@@ -14,36 +14,38 @@ use Rattle.cell_triple.specs.Steps.{TripleSight}
 use Rattle.cell_live.specs.declared.sight.Sight.TheVariants.{Spent, Told, Writer, Reader, Both}
 use Rattle.cell_live.specs.Acts.{ProperAll}
 use Rattle.cell_live.specs.Running.{last_or, Settled, Stands, Rising, IsAnswer, snap}
-use Rattle.cell_live.specs.Intervals.{IsNextAnswer, AreFirst, dated_at}
+use Rattle.cell_live.specs.Intervals.{IsNextAnswer, AreFirst, AreHeeded, IsHeeded, begun_at, known_as}
 use Rattle.cell_live.specs.declared.times.Dated.{Dated}
 use Rattle.cell_live.specs.declared.times.Known.{Known}
 use Rattle.cell_triple.specs.Rule.{IsCounted, IsTimed, Sees, TripleRule}
 use Rattle.cell_live.specs.Sights.{writer_or, reader_or, writer_part, reader_part}
 use Rattle.cell_triple.specs.Steps.{first_writer, first_reader, first_sight, put_took, get_took, put_swapped, published, answered}
-use Rattle.cell_triple.specs.Steps.{clock_of, looked, looked_by, asked_by, fetched, get_swapped, receipt_for, hears_of, heard_by, whole_of}
+use Rattle.cell_triple.specs.Steps.{clock_of, looked, looked_by, asked_by, fetched, get_swapped, receipt_for, told_by, hears_of, heard_by, whole_of}
 use Rattle.cell_triple.specs.Steps.{HasAnswered, MayAnswer}
 use Rattle.cell_live.proofs.ListLaws.{last_here, last_snoc, settled_more, settled_last, last_stands, stands_more, stands_last, all_each, all_snoc}
 use Rattle.cell_live.proofs.ListLaws.{rising_snoc, last_fits, last_rises, stands_below, seats_stay}
-use Rattle.cell_live.proofs.Timing.{first_begun, first_ended, first_all}
+use Rattle.cell_live.proofs.Timing.{first_begun, first_ended, first_all, heeded_all, heeded_begun, heeded_ended}
 use Rattle.cell_triple.proofs.Timing.{timed_puts, timed_looks, timed_asks, timed_fetched, timed_answers, timed_hears, timed_put_taken}
 use Rattle.cell_triple.proofs.Timing.{timed_get_taken, timed_starts, timed_atomic}
 
 module _ {T : Type 0} where
   -- what other seats know, where the writer's notes change
   others_put : (o : T) (p p' : WriterNotes T) (g : ReaderNotes T) (t t' w w' r j : ℕ) → j ≢ w → t ≤ t' →
-      ((x : T) → Stands x (o ∷ p.written) → Stands x (o ∷ p'.written)) → (v : TripleSight T) → Sees o p g t w r j v →
+      ((x : T) → Stands x (o ∷ p.written) → Stands x (o ∷ p'.written)) →
+      ((h : Known T) → IsHeeded h (known_as p.written p.times) (length p.written) →
+      IsHeeded h (known_as p'.written p'.times) (length p'.written)) → (v : TripleSight T) → Sees o p g t w r j v →
       Sees o p' g t' w' r j v
-  others_put o p p' g t t' w w' r j other le more Spent k = tt
-  others_put o p p' g t t' w w' r j other le more (Told x) k = (more x.value.item k.0, le_trans k.1 le)
-  others_put o p p' g t t' w w' r j other le more (Writer q) k = absurd (other k.1)
-  others_put o p p' g t t' w w' r j other le more (Reader h) k = k
-  others_put o p p' g t t' w w' r j other le more (Both q h) k = absurd (other k.2)
+  others_put o p p' g t t' w w' r j other le more heed Spent k = tt
+  others_put o p p' g t t' w w' r j other le more heed (Told x) k = (more x.value.item k.0, le_trans k.1 le, heed x.value.writes k.2)
+  others_put o p p' g t t' w w' r j other le more heed (Writer q) k = absurd (other k.1)
+  others_put o p p' g t t' w w' r j other le more heed (Reader h) k = k
+  others_put o p p' g t t' w w' r j other le more heed (Both q h) k = absurd (other k.2)
 
   -- and where the reader's change
   others_get : (o : T) (p : WriterNotes T) (g g' : ReaderNotes T) (t t' w r r' j : ℕ) → j ≢ r → t ≤ t' → (v : TripleSight T) →
       Sees o p g t w r j v → Sees o p g' t' w r' j v
   others_get o p g g' t t' w r r' j other le Spent k = tt
-  others_get o p g g' t t' w r r' j other le (Told x) k = (k.0, le_trans k.1 le)
+  others_get o p g g' t t' w r r' j other le (Told x) k = (k.0, le_trans k.1 le, k.2)
   others_get o p g g' t t' w r r' j other le (Writer q) k = k
   others_get o p g g' t t' w r r' j other le (Reader h) k = absurd (other k.1)
   others_get o p g g' t t' w r r' j other le (Both q h) k = absurd (other k.3)
@@ -147,7 +149,13 @@ module _ {T : Type 0} (fits : T → Type 0) (rises : T → T → Type 0) (o : T)
             known = first_ended r.get.known p'.written _ t (first_begun r.get.known r.put.written r.put.times x t r.known);
             each_seat = seats_stay (Sees o p' r.get t r.writer r.reader) s.views id w (refl, own)
                 (λ j d other e. others_put o r.put p' r.get r.now t r.writer r.writer r.reader j (λ same. other (same ∙ sym own)) on
-                (λ y. stands_more y (o ∷ r.put.written) (x ∷ [])) d (r.each_seat j d e));
+                (λ y. stands_more y (o ∷ r.put.written) (x ∷ []))
+                (λ h k.
+                let m : ℕ = length (r.put.written ++ x ∷ []) in
+                let long = length-append r.put.written (x ∷ []) in
+                let grows : length r.put.written ≤ m = omega arith in
+                heeded_ended h p'.written (begun_at r.put.times t) t m m (le_refl m)
+                (heeded_begun h r.put.written r.put.times x t (length r.put.written) m grows k)) d (r.each_seat j d e));
           },
           le_refl t,
         ),
@@ -226,7 +234,7 @@ module _ {T : Type 0} (fits : T → Type 0) (rises : T → T → Type 0) (o : T)
             known = r.known;
             each_seat = seats_stay (Sees o p' r.get r.now r.writer r.reader) s.views id w (refl, own)
                 (λ j d other e. others_put o p p' r.get r.now r.now r.writer r.writer r.reader j (λ same. other (same ∙ sym own))
-                (le_refl r.now) (λ y h. h) d (r.each_seat j d e));
+                (le_refl r.now) (λ y h. h) (λ y h. h) d (r.each_seat j d e));
           },
           le_refl r.now,
         ),
@@ -463,6 +471,7 @@ module _ {T : Type 0} (fits : T → Type 0) (rises : T → T → Type 0) (o : T)
                   (subst (MayAnswer fits rises g) (sym last) (answers_at s r)),
               subst (λ (z : ReaderNotes T). HasAnswered z (answered (looked_by z n) z.at_hand.value t k (all_known r)) z.at_hand.value)
                   also (has_answered s r t (looked_by g n) g.at_hand.value last timed r.openings.1 refl refl),
+              subst (λ (z : ReaderNotes T). AreHeeded z.heard (all_known r) k) also r.timed.heeded,
             ),
           ),
           refl,
@@ -574,6 +583,7 @@ module _ {T : Type 0} (fits : T → Type 0) (rises : T → T → Type 0) (o : T)
             subst (λ (z : ReaderNotes T). MayAnswer fits rises z y) also right,
             subst (λ (z : ReaderNotes T). HasAnswered z (answered (fetched z m y) y t number (all_known r)) y) also
                 (has_answered s r t (fetched g m y) y last timed r.openings.1 refl refl),
+            subst (λ (z : ReaderNotes T). AreHeeded z.heard (all_known r) number) also r.timed.heeded,
           ),
           refl,
         )
@@ -614,7 +624,7 @@ module _ {T : Type 0} (fits : T → Type 0) (rises : T → T → Type 0) (o : T)
   others_alone : (s : St) (r : Rule s) (writer' reader' j : ℕ) → j ≢ r.writer → j ≢ r.reader → (v : V) →
       Sees o r.put r.get r.now r.writer r.reader j v → Sees o r.put r.get r.now writer' reader' j v
   others_alone s r w q j a b v k = others_get o r.put r.get r.get r.now r.now w r.reader q j b (le_refl r.now) v
-      (others_put o r.put r.put r.get r.now r.now r.writer w r.reader j a (le_refl r.now) (λ x h. h) v k)
+      (others_put o r.put r.put r.get r.now r.now r.writer w r.reader j a (le_refl r.now) (λ x h. h) (λ x h. h) v k)
 
   place_in : (vs : List V) (w : V) (v : V) (j : ℕ) → get_elem? (vs ++ w ∷ []) j ≡ some v →
       ((j < length vs) × (get_elem? vs j ≡ some v)) ⊎ ((j ≡ length vs) × (w ≡ v))
@@ -637,17 +647,20 @@ module _ {T : Type 0} (fits : T → Type 0) (rises : T → T → Type 0) (o : T)
       (place_in (set s.views id (Writer p)) (Reader g) v j e))
 
   pub tells : (id : ℕ) (p : WriterNotes T) →
-      Splits Rule id (Writer p) (Writer p) (Told (snap (dated_at (last_or p.opening.value p.written) p.times.clock)))
+      Splits Rule id (Writer p) (Writer p) (Told (snap (told_by p)))
   tells id p s r at = let known = r.each_seat id (Writer p) at in let x : T = last_or p.opening.value p.written in
       let same : x ≡ last_or o r.put.written =
       (λ i. last_or (known.0 i).opening.value (known.0 i).written) ∙ ap (λ (z : T). last_or z r.put.written) r.openings.0 in
       let by : p.times.clock ≤ r.now = subst (λ (z : WriterNotes T). z.times.clock ≤ r.now) (sym known.0) r.timed.put_clock in
-      let named : V = Told (snap (dated_at x p.times.clock)) in
+      let told : IsHeeded (told_by p).writes (known_as r.put.written r.put.times) (length r.put.written) =
+      subst (λ (z : WriterNotes T). IsHeeded (told_by z).writes (known_as r.put.written r.put.times) (length r.put.written)) (sym known.0)
+      (heeded_all r.put.written r.put.times (length r.put.written) (le_refl (length r.put.written))) in
+      let named : V = Told (snap (told_by p)) in
       reseated s r r.writer r.reader _ (λ j v e. ⊎_elim
       (λ (t : get_elem? (set s.views id (Writer p)) j ≡ some v).
       seats_stay (Sees o r.put r.get r.now r.writer r.reader) s.views id (Writer p) known (λ i d _ f. r.each_seat i d f) j v t)
       (λ (t : named ≡ v). subst (λ (z : V). Sees o r.put r.get r.now r.writer r.reader j z) t
-      (subst (λ (z : T). Stands z (o ∷ r.put.written)) (sym same) (stands_last o r.put.written), by))
+      (subst (λ (z : T). Stands z (o ∷ r.put.written)) (sym same) (stands_last o r.put.written), by, told))
       (at_snoc (set s.views id (Writer p)) named v j e))
 
   -- at the end the writer's notes leave its seat
@@ -657,7 +670,7 @@ module _ {T : Type 0} (fits : T → Type 0) (rises : T → T → Type 0) (o : T)
       (λ (t : (j < n) × (get_elem? (set s.views id Spent) j ≡ some v)). ⊎_elim
       (λ (u : (j ≡ id) × (Spent ≡ v)). subst (λ (z : V). Sees o r.put r.get r.now n r.reader j z) u.1 tt)
       (λ (u : (j ≢ id) × (get_elem? s.views j ≡ some v)).
-      others_put o r.put r.put r.get r.now r.now r.writer n r.reader j (λ z. u.0 (z ∙ sym known.1)) (le_refl r.now) (λ _ h. h) v
+      others_put o r.put r.put r.get r.now r.now r.writer n r.reader j (λ z. u.0 (z ∙ sym known.1)) (le_refl r.now) (λ _ h. h) (λ _ h. h) v
       (r.each_seat j v u.1))
       (at_set s.views id j Spent v t.1))
       (λ (t : (j ≡ n) × (Writer p ≡ v)). subst (λ (z : V). Sees o r.put r.get r.now n r.reader j z) t.1 (known.0, t.0))
@@ -669,7 +682,8 @@ module _ {T : Type 0} (fits : T → Type 0) (rises : T → T → Type 0) (o : T)
       let known = r.each_seat id (Reader g) at in
       let both : V = Reader (heard_by g x.value) in
       let g' : ReaderNotes T = heard_by r.get x.value in
-      let stands : Stands x.value.item (o ∷ r.put.written) × (x.value.time ≤ r.now) =
+      let stands : Stands x.value.item (o ∷ r.put.written) × (x.value.time ≤ r.now)
+      × IsHeeded x.value.writes (known_as r.put.written r.put.times) (length r.put.written) =
       ⊎_elim (λ (t : (other ≡ id) × (both ≡ Told x)). absurd (apart t.0))
       (λ (t : (other ≢ id) × (get_elem? s.views other ≡ some (Told x))). r.each_seat other (Told x) t.1)
       (at_set s.views id other both (Told x) there) in
@@ -701,7 +715,7 @@ module _ {T : Type 0} (fits : T → Type 0) (rises : T → T → Type 0) (o : T)
         settled = (r.settled.0, all_snoc (λ y. Stands y (o ∷ r.put.written)) r.get.told x.value.item r.settled.1 stands.0);
         counted = record { swapped = r.counted.swapped; loaded = r.counted.loaded };
         now = r.now;
-        timed = timed_hears o r.put r.get r.now x.value stands.1 r.timed;
+        timed = timed_hears o r.put r.get r.now x.value stands.1 stands.2 r.timed;
         known = r.known;
         each_seat = seats_stay (Sees o r.put g' r.now r.writer r.reader) (set s.views id both) other Spent tt
             (λ j d _ e. seats_stay (Sees o r.put g' r.now r.writer r.reader) s.views id both

@@ -5,7 +5,7 @@ use Rattle.std.proofs.Common.{length-append, le_refl, le_trans}
 use native.Mathlib.Nat.{le-max_left, max-le}
 use Rattle.std.proofs.lemmas.Option.{slice_get_within, none-some}
 use Rattle.fourslot_core.proofs.Pushed.{get_before, get_within}
-use Rattle.cell_live.specs.Intervals.{At, begun_at, intervals, AreAtomic}
+use Rattle.cell_live.specs.Intervals.{At, begun_at, ended_at, intervals, known_as, AreAtomic, IsHeeded}
 use Rattle.fourslot_core.specs.ReadNumbers.{IsReadOf}
 use Rattle.cell_live.specs.declared.times.Dated.{Dated}
 use Rattle.cell_live.specs.declared.times.Known.{Known}
@@ -14,6 +14,7 @@ use Rattle.cell_triple.specs.declared.notes.ReaderNotes.{ReaderNotes}
 use Rattle.cell_triple.specs.Rule.{IsTimed}
 use Rattle.cell_triple.specs.Steps.{published, looked_by, asked_by, fetched, answered, heard_by, first_writer, first_reader}
 use Rattle.cell_live.proofs.Timing.{late_ended, begun_longer, turn_begun, turn_ended, within_pushed, by_passed, by_begun, by_ended, read_of}
+use Rattle.cell_live.proofs.Timing.{heeded_begun, heeded_ended, each_heeded, one_heeded}
 use Rattle.cell_live.proofs.Timing.{late_asked, late_more, begun_more, most_more, rising_more, source_more}
 
 module _ {T : Type 0} (o : T) where
@@ -53,6 +54,12 @@ module _ {T : Type 0} (o : T) where
         rising = h.rising;
         to_last = λ m n at. let l : n ≤ length p.written = h.to_last m n at in
             let z : n ≤ length (p.written ++ x ∷ []) = omega arith in z;
+        heeded =
+            let m : ℕ = length (p.written ++ x ∷ []) in
+            let grows : length p.written ≤ m = omega arith in
+            each_heeded (known_as p.written p.times) (known_as (p.written ++ x ∷ []) (ended_at (begun_at p.times t) t)) (length p.written) m
+            (λ z k. heeded_ended z (p.written ++ x ∷ []) (begun_at p.times t) t m m (le_refl m)
+            (heeded_begun z p.written p.times x t (length p.written) m grows k)) g.heard h.heeded;
       }
 
   -- the reader's load changes no times by itself, and no more does what it found
@@ -75,6 +82,7 @@ module _ {T : Type 0} (o : T) where
     begun = h.begun;
     rising = h.rising;
     to_last = h.to_last;
+    heeded = h.heeded;
   }
 
   pub timed_asks : (p : WriterNotes T) (g : ReaderNotes T) (now found : ℕ) → IsTimed o p g now →
@@ -96,6 +104,7 @@ module _ {T : Type 0} (o : T) where
     begun = h.begun;
     rising = h.rising;
     to_last = h.to_last;
+    heeded = h.heeded;
   }
 
   -- the reader's swap takes a slot
@@ -118,6 +127,7 @@ module _ {T : Type 0} (o : T) where
     begun = h.begun;
     rising = h.rising;
     to_last = h.to_last;
+    heeded = h.heeded;
   }
 
   -- the step that decides a read is the whole read, and its answer is the record written last
@@ -166,12 +176,13 @@ module _ {T : Type 0} (o : T) where
             (f.0, f.1, (let l : f.0 ≤ p.times.clock = h.put_by.begun k f.0 f.1 in let z : f.0 < t = omega arith in z)));
         rising = rising_more g.numbers n h.to_last h.rising;
         to_last = most_more g.numbers n n (le_refl n) h.to_last;
+        heeded = h.heeded;
       }
 
   -- a receipt is taken in
-  pub timed_hears : (p : WriterNotes T) (g : ReaderNotes T) (now : ℕ) (x : Dated T) → x.time ≤ now → IsTimed o p g now →
-      IsTimed o p (heard_by g x) now
-  timed_hears p g now x before h = record {
+  pub timed_hears : (p : WriterNotes T) (g : ReaderNotes T) (now : ℕ) (x : Dated T) → x.time ≤ now →
+      IsHeeded x.writes (known_as p.written p.times) (length p.written) → IsTimed o p g now → IsTimed o p (heard_by g x) now
+  timed_hears p g now x before told h = record {
     put_clock = h.put_clock;
     get_clock = max-le h.get_clock before;
     put_by = h.put_by;
@@ -188,6 +199,7 @@ module _ {T : Type 0} (o : T) where
     begun = h.begun;
     rising = h.rising;
     to_last = h.to_last;
+    heeded = one_heeded (known_as p.written p.times) (length p.written) g.heard x.writes h.heeded told;
   }
 
   -- a first slot is taken, before any call
@@ -209,6 +221,7 @@ module _ {T : Type 0} (o : T) where
     begun = h.begun;
     rising = h.rising;
     to_last = h.to_last;
+    heeded = h.heeded;
   }
 
   pub timed_get_taken : (p : WriterNotes T) (g : ReaderNotes T) (now : ℕ) → IsTimed o p g now → IsTimed o p (record g { has = 1 }) now
@@ -229,6 +242,7 @@ module _ {T : Type 0} (o : T) where
     begun = h.begun;
     rising = h.rising;
     to_last = h.to_last;
+    heeded = h.heeded;
   }
 
   -- at the start there are no calls
@@ -250,6 +264,7 @@ module _ {T : Type 0} (o : T) where
     begun = λ m n e at there. absurd (none-some n at);
     rising = λ i j a b at there le. absurd (none-some a at);
     to_last = λ m n at. absurd (none-some n at);
+    heeded = λ k d l. absurd (omega arith);
   }
 
   -- at any moment a read with a number has what is known of it

@@ -5,7 +5,7 @@ use mathlib.Core.Option.{some, Option as Opt}
 use lib.ListN.{get_elem?}
 use Rattle.atomic_table.specs.Table.{State}
 use Rattle.cell_live.specs.Running.{last_or, Settled, Stands, Rising}
-use Rattle.cell_live.specs.Intervals.{At, InTurn, IsBy, IsLate, HasBegun, AreFirst}
+use Rattle.cell_live.specs.Intervals.{At, InTurn, IsBy, IsLate, HasBegun, AreFirst, AreHeeded, IsHeeded, known_as}
 use Rattle.cell_triple.specs.declared.notes.WriterNotes.{WriterNotes}
 use Rattle.cell_triple.specs.declared.notes.ReaderNotes.{ReaderNotes}
 use Rattle.cell_triple.specs.Steps.{TripleSight}
@@ -62,12 +62,15 @@ module _ {T : Type 0} where
     pub begun : (m n e : ℕ) → At g.numbers m n → At g.times.ends m e → HasBegun p.times.begins e n
     pub rising : (i j a b : ℕ) → At g.numbers i a → At g.numbers j b → i ≤ j → a ≤ b
     pub to_last : (m n : ℕ) → At g.numbers m n → n ≤ length p.written
+    -- what each receipt told is heeded by an answer with the number of the last write
+    pub heeded : AreHeeded g.heard (known_as p.written p.times) (length p.written)
 
   -- what a seat's view says, where the writer's notes are p and the reader's g
   module _ (o : T) (p : WriterNotes T) (g : ReaderNotes T) (now writer reader seat : ℕ) where
     abbrev pub Sees : TripleSight T → Type 0
     Sees Spent = Unit {0}
     Sees (Told x) = Stands x.value.item (o ∷ p.written) × (x.value.time ≤ now)
+        × IsHeeded x.value.writes (known_as p.written p.times) (length p.written)
     Sees (Writer q) = (q ≡ p) × (seat ≡ writer)
     Sees (Reader h) = (h ≡ g) × (seat ≡ reader)
     Sees (Both q h) = (q ≡ p) × (h ≡ g) × (seat ≡ writer) × (seat ≡ reader)

@@ -2,7 +2,7 @@
 use Rattle.std.specs.Prelude.{◌≡◌, ℕ, ◌+◌, ◌%◌, ◌<◌, ◌≤◌, max, [], ◌∷◌, ◌++◌}
 use Rattle.atomic_table.specs.Table.{Me, Step}
 use Rattle.cell_live.specs.Running.{last_or, IsAnswer, snap}
-use Rattle.cell_live.specs.Intervals.{made_at, heard_at, no_times, none_known, dated_at, IsNextAnswer}
+use Rattle.cell_live.specs.Intervals.{made_at, heard_at, no_times, none_known, dated_at, known_as, AreHeeded, IsNextAnswer}
 use Rattle.cell_live.specs.declared.times.Dated.{Dated}
 use Rattle.cell_live.specs.declared.times.Known.{Known}
 use Rattle.cell_triple.specs.declared.notes.WriterNotes.{WriterNotes}
@@ -70,14 +70,15 @@ module _ {T : Type 0} where
         → (m'.1 ≡ m.1) × (4 ≤ n → m'.0 ≡ Reader (asked_by g n))
         × (n < 4 → (t : ℕ) × (k : ℕ) × (writes : Known T) × (g.times.clock < t)
         × (m'.0 ≡ Reader (answered (looked_by g n) g.at_hand.value t k writes))
-        × MayAnswer g g.at_hand.value × HasAnswered g (answered (looked_by g n) g.at_hand.value t k writes) g.at_hand.value)
+        × MayAnswer g g.at_hand.value × HasAnswered g (answered (looked_by g n) g.at_hand.value t k writes) g.at_hand.value
+        × AreHeeded g.heard writes k)
 
     -- the reader's swap takes the middle, which is the answer
     abbrev pub get_swapped : Step T → Sat T → ℕ → Sat T → Type 0
     get_swapped st m n m' = (g : ReaderNotes T) (x : T) → m.0 ≡ Reader g → m.1 ≡ (g.slot, x) ∷ [] → g.asked ≡ 1
         → (y : T) × (n % 4 < 3) × (t : ℕ) × (k : ℕ) × (writes : Known T) × (g.times.clock < t)
         × (m'.0 ≡ Reader (answered (fetched g (n % 4) y) y t k writes)) × (m'.1 ≡ (n % 4, y) ∷ []) × MayAnswer g y
-        × HasAnswered g (answered (fetched g (n % 4) y) y t k writes) y
+        × HasAnswered g (answered (fetched g (n % 4) y) y t k writes) y × AreHeeded g.heard writes k
 
   -- the views at the start: the writer has slot 0 and the reader slot 2
   abbrev pub first_writer : T → WriterNotes T
@@ -98,18 +99,22 @@ module _ {T : Type 0} where
     times = no_times;
     numbers = [];
     known = none_known;
+    heard = [];
   }
 
   abbrev pub first_sight : T → TripleSight T
   first_sight o = Both (first_writer o) (first_reader o)
 
   -- what is parted off for a receipt, and what is taken in
+  abbrev pub told_by : WriterNotes T → Dated T
+  told_by p = dated_at (last_or p.opening.value p.written) (known_as p.written p.times)
+
   abbrev pub receipt_for : TripleSight T → TripleSight T
-  receipt_for (Writer p) = Told (snap (dated_at (last_or p.opening.value p.written) p.times.clock))
+  receipt_for (Writer p) = Told (snap (told_by p))
   receipt_for v = Spent
 
   abbrev pub heard_by : ReaderNotes T → Dated T → ReaderNotes T
-  heard_by g x = record g { told = g.told ++ x.item ∷ []; times = heard_at g.times x.time }
+  heard_by g x = record g { told = g.told ++ x.item ∷ []; times = heard_at g.times x.time; heard = g.heard ++ x.writes ∷ [] }
 
   abbrev pub hears_of : TripleSight T → TripleSight T → TripleSight T
   hears_of (Reader g) (Told x) = Reader (heard_by g x.value)

@@ -1,7 +1,7 @@
 -- The words of the contract, of the passes of a triple buffer (this project's own).
 use Rattle.std.specs.Prelude.{◌≡◌, ℕ, ◌+◌, ◌<◌, ◌≤◌, List, [], ◌∷◌, ◌++◌}
-use Rattle.cell_live.specs.Running.{Name, IsName, IsAnswer}
-use Rattle.cell_live.specs.Intervals.{IsNextCall, IsNextAnswer}
+use Rattle.cell_live.specs.Running.{Name, IsName, IsAnswer, last_or}
+use Rattle.cell_live.specs.Intervals.{AreHeeded, IsNextCall, IsNextAnswer}
 use Rattle.cell_live.specs.declared.times.Times.{Times}
 use Rattle.cell_live.specs.declared.times.Known.{Known}
 use Rattle.cell_live.specs.Sights.{writer_or, reader_or, receipt_or}
@@ -53,11 +53,15 @@ module _ {T : Type 0} where
   abbrev pub named_by : TripleTold T → T
   named_by t = (receipt_or (dated t.spare) t.seat.inner.me.0).item
 
-  -- a time at which that record was written
+  -- a time at which that record was written, and all the writes up to then
   abbrev pub time_of : TripleTold T → ℕ
   time_of t = (receipt_or (dated t.spare) t.seat.inner.me.0).time
 
-  -- the calls made with a pass, in the table's time; the numbers of the answers; and the writes of which a reader knows
+  abbrev pub writes_of : TripleTold T → Known T
+  writes_of t = (receipt_or (dated t.spare) t.seat.inner.me.0).writes
+
+  -- the calls made with a pass, in the table's time; the numbers of the answers; the writes of which a reader knows; and those of which
+  -- receipts told it
   abbrev pub put_times : TriplePut T → Times
   put_times p = (put_notes p).times
 
@@ -69,6 +73,9 @@ module _ {T : Type 0} where
 
   abbrev pub known_to : TripleGet T → Known T
   known_to g = (get_notes g).known
+
+  abbrev pub heard_by : TripleGet T → List (Known T)
+  heard_by g = (get_notes g).heard
 
   abbrev pub swaps_of_put : TriplePut T → ℕ
   swaps_of_put p = (put_notes p).swaps
@@ -99,3 +106,4 @@ module _ {T : Type 0} where
     pub accesses : loads_of h + swaps_of h ≤ loads_of g + swaps_of g + 3
     pub timed : IsNextCall (get_times g) (get_times h)
     pub numbered : IsNextAnswer (opening_of c) (known_to g) (known_to h) (numbers_of g) (numbers_of h) (answers_of h) (get_times h) (at_hand_of h)
+    pub heeds : (heard_by h ≡ heard_by g) × AreHeeded (heard_by h) (known_to h) (last_or 0 (numbers_of h))

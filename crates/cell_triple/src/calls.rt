@@ -4,8 +4,8 @@ ghost use Rattle.std.specs.Fn.{FnOnceTakesAt, FnOnceReturnsAt};
 ghost use Rattle.cell_live.specs.Running.{last_or, IsAnswer};
 ghost use Rattle.cell_triple.specs.Words.{opening_of, is_put_of, is_get_of, is_told_of, written_by, answers_of, at_hand_of, told_to};
 ghost use Rattle.cell_triple.specs.Words.{named_by, swaps_of_put, loads_of, swaps_of, held_by, found_by, HasLooked};
-ghost use Rattle.cell_triple.specs.Words.{put_times, get_times, numbers_of, known_to, time_of};
-ghost use Rattle.cell_live.specs.Intervals.{IsNextAnswer, IsNextCall};
+ghost use Rattle.cell_triple.specs.Words.{put_times, get_times, numbers_of, known_to, time_of, heard_by, writes_of};
+ghost use Rattle.cell_live.specs.Intervals.{AreHeeded, IsNextAnswer, IsNextCall};
 
 use crate::cell::{TripleCell, TripleGet, TriplePut, TripleTold};
 use crate::table::TripleTable;
@@ -83,6 +83,10 @@ impl<T: Lawful> Calls<T> for TripleCell<T> {
 
     ghost time_of = { time_of };
 
+    ghost writes_of = { writes_of };
+
+    ghost heard = { heard_by };
+
     fn make(alloc: Global, first: T) -> Result<(Self, TriplePut<T>, TripleGet<T>), AllocError> {
         let (table, mut put) = TripleTable::new(alloc, first)?;
         let mut get = table.part(&mut put);
@@ -146,6 +150,7 @@ impl<T: Lawful> Calls<T> for TripleCell<T> {
         ensures timed { IsNextCall (get_times get.old) (get_times get.new) }
         ensures numbered { IsNextAnswer (opening_of self.now) (known_to get.old) (known_to get.new) (numbers_of get.old) (numbers_of get.new)
             (answers_of get.new) (get_times get.new) result }
+        ensures heeds { (heard_by get.new ≡ heard_by get.old) × AreHeeded (heard_by get.new) (known_to get.new) (last_or 0 (numbers_of get.new)) }
     {
         refresh(self, get);
         self.table.copy(&mut get.seat, get.slot)
@@ -168,6 +173,7 @@ impl<T: Lawful> Calls<T> for TripleCell<T> {
         ensures timed { IsNextCall (get_times get.old) (get_times get.new) }
         ensures numbered { IsNextAnswer (opening_of self.now) (known_to get.old) (known_to get.new) (numbers_of get.old) (numbers_of get.new)
             (answers_of get.new) (get_times get.new) (at_hand_of get.new) }
+        ensures heeds { (heard_by get.new ≡ heard_by get.old) × AreHeeded (heard_by get.new) (known_to get.new) (last_or 0 (numbers_of get.new)) }
         ensures looked { FnOnceReturnsAt F.FnOnce look (at_hand_of get.new) result }
     {
         refresh(self, get);

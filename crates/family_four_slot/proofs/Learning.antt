@@ -8,8 +8,7 @@ use Rattle.cell_live.specs.declared.times.Dated.{Dated}
 use Rattle.cell_four_slot.specs.declared.notes.WriterNotes.{WriterNotes}
 use Rattle.cell_four_slot.specs.declared.notes.ReaderNotes.{ReaderNotes}
 use Rattle.cell_live.specs.declared.sight.Sight.TheVariants.{Spent, Told, Writer, Reader, Both}
-use Rattle.cell_live.specs.Intervals.{heard_at}
-use Rattle.cell_four_slot.specs.Steps.{FourSlotSight, first_writer, first_reader, receipt_for, hears_of, word_said}
+use Rattle.cell_four_slot.specs.Steps.{FourSlotSight, first_writer, first_reader, receipt_for, heard_by as cell_heard, hears_of, word_said}
 use Rattle.family_live.specs.Accesses.{IsHeardRead, Keeps, KeepsOthers, Reads}
 use Rattle.family_four_slot.specs.declared.family.Stored.{Stored}
 use Rattle.family_four_slot.specs.declared.notes.Process.{Process}
@@ -72,7 +71,7 @@ module _ {T : Type 0} where
   column_heard : (o : T) (k : ℕ) (g : ReaderNotes T) (y : FourSlotSight T) (said : ℕ) (cs : List (ℕ × T)) → g.stage ≡ reader.R5 → g.opening.value ≡ o →
       HasSlots k g cs → said ≡ word_said g.chosen → IsColumn o k (hears_of (Reader g) y) said cs
   column_heard o k g (Told x) said cs i p s w = record {
-    notes = record g { told = g.told ++ x.value.item ∷ []; times = heard_at g.times x.value.time };
+    notes = cell_heard g x.value;
     is = refl;
     idle = i;
     opened = p;
@@ -167,7 +166,7 @@ module _ {T : Type 0} where
           let k : ℕ = place n from v.who in
           let column = rest.column from lf ne in
           let g : ReaderNotes T = column.notes in
-          let h : ReaderNotes T = record g { told = g.told ++ x.item ∷ []; times = heard_at g.times x.time } in
+          let h : ReaderNotes T = cell_heard g x in
           let now : of_cell Spent k u.parts ≡ Reader h = part k ∙ (λ i. hears_of (column.is i) (told i)) in
           let before = sees_reads o n v v.who from g ne refl column.is in
           let after = sees_reads o n u v.who from h ne refl now in

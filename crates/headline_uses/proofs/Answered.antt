@@ -90,7 +90,7 @@ goes_on [] ys k x e = absurd (none-some x e)
 goes_on (z ∷ xs) ys zero x e = e
 goes_on (z ∷ xs) ys (suc k) x e = goes_on xs ys k x e
 
-begins_it : {A : Type 0} (xs ys : List A) → IsBeginning xs ys → (k : ℕ) (x : A) → slice_get xs k ≡ Some x → slice_get ys k ≡ Some x
+pub begins_it : {A : Type 0} (xs ys : List A) → IsBeginning xs ys → (k : ℕ) (x : A) → slice_get xs k ≡ Some x → slice_get ys k ≡ Some x
 begins_it xs ys h k x e = subst (λ z. slice_get z k ≡ Some x) (sym h.1) (goes_on xs h.0 k x e)
 
 last_at : (xs : List ℕ) (x b : ℕ) → At (xs ++ x ∷ []) (length xs) b → x ≡ b

@@ -4,4 +4,5 @@ mod Ordered
 mod Ended
 mod Calls
 mod Answered
+mod Heeded
 mod Reported

@@ -5,7 +5,7 @@ use Rattle.history_core.specs.declared.history.Kind.TheVariants.{Write, Read}
 use Rattle.cell_live.specs.declared.times.Times.{Times}
 use Rattle.cell_live.specs.declared.times.Known.{Known}
 use Rattle.cell_live.specs.Histories.{AreOps}
-use Rattle.cell_live.specs.Intervals.{AreAtomic, AreFirst, At, HaveEnded, IsNextAnswer, IsNextCall}
+use Rattle.cell_live.specs.Intervals.{AreAtomic, AreFirst, AreHeeded, At, HaveEnded, IsNextAnswer, IsNextCall, IsNoOlder, known_as}
 use Rattle.cell_live.specs.Running.{IsAnswer, last_or, Settled}
 
 -- one call from the first time to the second, and two
@@ -56,6 +56,21 @@ module _ (T : Type 0) where
       × ((k t : ℕ) → At old.times.begins k t → At new.times.begins k t)
       × ((k t : ℕ) → At old.times.ends k t → At new.times.ends k t)
       × (length answers ≡ length before + 1)
+
+  -- a read after the receipt of a pass that had written these records gives one that was written, no older than the last of these, and the
+  -- writes known have their intervals
+  abbrev pub AnswersTheWriter : Type 0
+  AnswersTheWriter = (opening : T) (written : List T) (writes : Times) (heard : List (Known T)) (k : ℕ) (old new : Known T) (before after : List ℕ)
+      (answers : List T) (reads : Times) (answer : T) → slice_get heard k ≡ Some (known_as written writes) →
+      AreHeeded heard new (last_or 0 after) → IsNextAnswer opening old new before after answers reads answer →
+      IsNoOlder opening written answer × ((j t : ℕ) → At writes.begins j t → At new.times.begins j t) × ((j t : ℕ) → At writes.ends j t → At new.times.ends j t)
+
+  -- of a pass that had written x and then y the answer is y, if no write more is known; and no answer stands before y alone
+  abbrev pub AnswersNothingStale : Type 0
+  AnswersNothingStale = (opening x y : T) (writes : Times) (heard : List (Known T)) (k : ℕ) (old new : Known T) (before after : List ℕ)
+      (answers : List T) (reads : Times) (answer : T) → slice_get heard k ≡ Some (known_as (x ∷ y ∷ []) writes) →
+      AreHeeded heard new (last_or 0 after) → IsNextAnswer opening old new before after answers reads answer →
+      (length new.items ≡ 2 → answer ≡ y) × (((j : ℕ) → slice_get new.items j ≡ Some answer → j < 1) → ⊥)
 
   -- write k and read m are operations of the history, with their intervals and their records
   abbrev pub AreInTheHistory : Type 0

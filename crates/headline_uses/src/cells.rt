@@ -1,5 +1,6 @@
 //! What the calls of a running cell say, one by one and all together when it ends.
 ghost use Rattle.headline_uses.specs.Cells.{AnswersAKnownWrite, AreCounted, AreInTheHistory, GoInTurn, NeverGoesBack, ObeysTheLaw};
+ghost use Rattle.headline_uses.specs.Cells.{AnswersNothingStale, AnswersTheWriter};
 ghost use Rattle.headline_uses.specs.Cells.{ReadsNoOlder, ReadsTheOpening, ReadsTheWrite, TakesItsTime};
 
 use cell_live::Lawful;
@@ -25,4 +26,10 @@ pub fn next_answers_show<T: Lawful>()
     ensures known { AnswersAKnownWrite T }
     ensures lawful { ObeysTheLaw T.fits T.rises }
     ensures timed { TakesItsTime }
+{}
+
+/// An answer after a receipt was learnt was really written, and is no older than what the receipt names. The cell goes on.
+pub fn heeded_answers_show<T>()
+    ensures written { AnswersTheWriter T }
+    ensures fresh { AnswersNothingStale T }
 {}

@@ -2,8 +2,9 @@
 -- may be the answer.
 use Rattle.std.proofs.Common.{rules, arith, ◌≡◌, ◌+◌, ◌∷◌, ◌++◌, [], sym, ap, ◌∙◌, subst, refl, ◌≤◌, le_trans, le_of_lt}
 use Rattle.fourslot_core.specs.Events.{slot_with, bit_number, slot_number}
-use Rattle.cell_live.specs.Running.{IsAnswer, snap}
-use Rattle.cell_live.specs.Intervals.{IsNextCall, IsNextAnswer}
+use Rattle.cell_live.specs.Running.{IsAnswer, last_or, snap}
+use Rattle.cell_live.specs.Intervals.{AreHeeded, IsNextCall, IsNextAnswer}
+use Rattle.cell_live.proofs.ListLaws.{last_snoc}
 use Rattle.cell_live.specs.Sights.{reader_or}
 use Rattle.cell_four_slot.specs.Steps.{first_reader, asked_by, said_with, got_by, slot_of_choice, word_said}
 use Rattle.cell_four_slot.specs.declared.notes.ReaderNotes.{ReaderNotes}
@@ -86,4 +87,9 @@ returns g c =
       timed = subst (λ z. IsNextCall n.times (reader_or d z).times) (sym v) next;
       numbered = subst (λ (z : g.row.T.Denot × ReaderNotes g.row.T.Denot). IsNextAnswer z.0 n.known z.1.known n.numbers z.1.numbers
           z.1.answers z.1.times z.1.at_hand.value) (λ i. ((c.requires i).opening, reader_or d (sym v i))) t.10;
+      heeds = (
+        ap (λ z. (reader_or d z).heard) v,
+        subst (λ (z : ReaderNotes g.row.T.Denot). AreHeeded z.heard z.known (last_or 0 z.numbers)) (λ i. reader_or d (sym v i))
+            (subst (AreHeeded n.heard t.5) (sym (last_snoc 0 n.numbers t.4)) t.11),
+      );
     }

@@ -1,9 +1,10 @@
 -- The load tells the notes whether the word had the mark: without it the answer is at hand, with it the swap brings it.
 use Rattle.std.proofs.Common.{rules, arith, ◌≡◌, ◌+◌, ◌%◌, ◌∷◌, ◌++◌, [], sym, ap, ◌∙◌, subst, refl, le_refl}
-use Rattle.cell_live.specs.Running.{IsAnswer}
+use Rattle.cell_live.specs.Running.{IsAnswer, last_or}
 use Rattle.cell_live.specs.Sights.{reader_or}
 use Rattle.cell_triple.specs.Steps.{first_reader, asked_by}
-use Rattle.cell_live.specs.Intervals.{IsNextCall, IsNextAnswer}
+use Rattle.cell_live.specs.Intervals.{AreHeeded, IsNextCall, IsNextAnswer}
+use Rattle.cell_live.proofs.ListLaws.{last_snoc}
 use Rattle.cell_triple.specs.declared.notes.ReaderNotes.{ReaderNotes}
 use Rattle.cell_live.specs.declared.sight.Sight.TheVariants.{Reader}
 use Rattle.cell_triple.proofs.calls.refresh.Goals as goal
@@ -56,6 +57,11 @@ returns-then-found-lt4 g c =
           (record { begin = u.0; end = u.0; after = u.3; forwards = le_refl u.0; begins = refl; ends = refl; clock = refl });
       numbered = subst (λ (z : g.row.T.Denot × ReaderNotes g.row.T.Denot). IsNextAnswer z.0 n.known z.1.known n.numbers z.1.numbers
           z.1.answers z.1.times z.1.at_hand.value) (λ i. ((c.requires i).opening, reader_or d (sym v i))) u.6;
+      heeds = (
+        ap (λ z. (reader_or d z).heard) v,
+        subst (λ (z : ReaderNotes g.row.T.Denot). AreHeeded z.heard z.known (last_or 0 z.numbers)) (λ i. reader_or d (sym v i))
+            (subst (AreHeeded n.heard u.2) (sym (last_snoc 0 n.numbers u.1)) u.7),
+      );
     }
 
 pub fetch-taken-requires-clause-marked : goal.fetch-taken-requires-clause-marked
@@ -116,4 +122,9 @@ returns g c =
           (record { begin = u.2; end = u.2; after = u.5; forwards = le_refl u.2; begins = refl; ends = refl; clock = refl });
       numbered = subst (λ (z : g.row.T.Denot × ReaderNotes g.row.T.Denot). IsNextAnswer z.0 n.known z.1.known n.numbers z.1.numbers
           z.1.answers z.1.times z.1.at_hand.value) (λ i. ((c.requires i).opening, reader_or d (sym v i))) u.9;
+      heeds = (
+        ap (λ z. (reader_or d z).heard) v,
+        subst (λ (z : ReaderNotes g.row.T.Denot). AreHeeded z.heard z.known (last_or 0 z.numbers)) (λ i. reader_or d (sym v i))
+            (subst (AreHeeded n.heard u.4) (sym (last_snoc 0 n.numbers u.3)) u.10),
+      );
     }

@@ -2,11 +2,11 @@
 use Rattle.std.proofs.Common.{◌≡◌, ◌++◌, ◌∷◌, [], ap, sym, ◌∙◌, subst, refl}
 use native.Mathlib.Nat.{le-max_left, le-max_right}
 use Rattle.cell_live.specs.Running.{snap}
-use Rattle.cell_live.specs.Intervals.{IsHeard, heard_at}
+use Rattle.cell_live.specs.Intervals.{IsHeard}
 use Rattle.cell_live.specs.declared.times.Dated.{Dated}
 use Rattle.cell_live.specs.declared.sight.Sight.TheVariants.{Reader}
 use Rattle.cell_live.specs.Sights.{reader_or, receipt_or}
-use Rattle.cell_four_slot.specs.Steps.{first_reader, hears_of}
+use Rattle.cell_four_slot.specs.Steps.{first_reader, heard_by, hears_of}
 use Rattle.cell_live.specs.Intervals.{dated}
 use Rattle.cell_four_slot.specs.declared.notes.ReaderNotes.{ReaderNotes}
 use Rattle.cell_four_slot.proofs.calls.FourSlotCellCalls.learn.Goals as goal
@@ -30,7 +30,7 @@ returns-clause-timed g c =
     let d : ReaderNotes g.row.T.Denot = first_reader get.spare in
     let n : ReaderNotes g.row.T.Denot = reader_or d get.seat.inner.me.0 in
     let x : Dated g.row.T.Denot = receipt_or (dated receipt.spare) receipt.seat.inner.me.0 in
-    let after : ReaderNotes g.row.T.Denot = record n { told = n.told ++ x.item ∷ []; times = heard_at n.times x.time } in
+    let after : ReaderNotes g.row.T.Denot = heard_by n x in
     let e : c.hear.new.seat.inner.me.0 ≡ Reader after =
     ap (λ m. m.0) c.hear.ensures.joined ∙ (λ i. hears_of (get.known i) ((ap (λ m. m.0) receipt.known) i)) in
     let heard : IsHeard n.times after.times x.time =

@@ -2,8 +2,8 @@
 use Rattle.std.proofs.Common.{◌≡◌, ap, sym, ◌∙◌, []}
 use Rattle.cell_live.specs.Running.{last_or, snap}
 use Rattle.cell_live.specs.Sights.{receipt_or, writer_or}
-use Rattle.cell_four_slot.specs.Steps.{receipt_for, first_writer}
-use Rattle.cell_live.specs.Intervals.{dated, dated_at}
+use Rattle.cell_four_slot.specs.Steps.{receipt_for, told_by, first_writer}
+use Rattle.cell_live.specs.Intervals.{dated}
 use Rattle.cell_four_slot.specs.declared.notes.WriterNotes.{WriterNotes}
 use Rattle.cell_live.specs.declared.sight.Sight.TheVariants.{Told}
 use Rattle.cell_four_slot.proofs.calls.FourSlotCellCalls.tell.Goals as goal
@@ -18,7 +18,7 @@ pub invariant_of-result : goal.invariant_of-result
 invariant_of-result g c =
     let put = c.args.put.now in
     let p : WriterNotes g.row.T.Denot = writer_or (first_writer put.spare) put.seat.inner.me.0 in
-    let e : c.tell-seat.result.inner.me ≡ (Told (snap (dated_at p.finished.value p.times.clock)), []) =
+    let e : c.tell-seat.result.inner.me ≡ (Told (snap (told_by p)), []) =
     c.tell-seat.ensures.parted.1 ∙ (λ i. (receipt_for ((ap (λ m. m.0) put.known) i), [])) in
     record { known = e ∙ (λ i. (Told (snap (receipt_or (dated put.spare) (sym e i).0)), [])) }
 
@@ -26,7 +26,7 @@ pub returns-clause-named : goal.returns-clause-named
 returns-clause-named g c =
     let put = c.args.put.now in
     let p : WriterNotes g.row.T.Denot = writer_or (first_writer put.spare) put.seat.inner.me.0 in
-    let e : c.tell-seat.result.inner.me ≡ (Told (snap (dated_at p.finished.value p.times.clock)), []) =
+    let e : c.tell-seat.result.inner.me ≡ (Told (snap (told_by p)), []) =
     c.tell-seat.ensures.parted.1 ∙ (λ i. (receipt_for ((ap (λ m. m.0) put.known) i), [])) in
     ap (λ m. (receipt_or (dated put.spare) m.0).item) e ∙ (put.newest ∙ ap (λ n. last_or {T = g.row.T.Denot} n.opening p.written) c.requires)
 
@@ -35,6 +35,14 @@ returns-clause-timed g c =
     let put = c.args.put.now in
     let d : WriterNotes g.row.T.Denot = first_writer put.spare in
     let p : WriterNotes g.row.T.Denot = writer_or d put.seat.inner.me.0 in
-    let e : c.tell-seat.result.inner.me ≡ (Told (snap (dated_at p.finished.value p.times.clock)), []) =
+    let e : c.tell-seat.result.inner.me ≡ (Told (snap (told_by p)), []) =
     c.tell-seat.ensures.parted.1 ∙ (λ i. (receipt_for ((ap (λ m. m.0) put.known) i), [])) in
     (ap (λ m. (writer_or d m.0).times) c.tell-seat.ensures.parted.0, ap (λ m. (receipt_or (dated put.spare) m.0).time) e)
+
+pub returns-clause-tells : goal.returns-clause-tells
+returns-clause-tells g c =
+    let put = c.args.put.now in
+    let p : WriterNotes g.row.T.Denot = writer_or (first_writer put.spare) put.seat.inner.me.0 in
+    let e : c.tell-seat.result.inner.me ≡ (Told (snap (told_by p)), []) =
+    c.tell-seat.ensures.parted.1 ∙ (λ i. (receipt_for ((ap (λ m. m.0) put.known) i), [])) in
+    ap (λ m. (receipt_or (dated put.spare) m.0).writes) e
