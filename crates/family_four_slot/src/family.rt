@@ -151,9 +151,8 @@ impl<T: Lawful> FourSlotFamily<T> {
         let index = other_bit(stored);
         let slot = slot_of(pair, index);
         table.fill(&mut seat.seat, cell, slot, item);
-        table.publish(&mut seat.seat, cell, pair, index, shown.latest);
         set_bit(&mut shown.bits, pair, index);
-        shown.latest = pair;
+        table.publish(&mut seat.seat, cell, pair, index, &mut shown.latest);
     }
 
     /// A read of the register of process `from`, which is this cell.
