@@ -11,6 +11,7 @@ use Rattle.cell_live.proofs.ListLaws.{last_snoc}
 use Rattle.family_live.specs.Accesses.{IsAccess, IsRead, IsWrite, Keeps, KeepsOthers, Reads}
 use Rattle.family_four_slot.specs.declared.family.FourSlotFamily.{FourSlotFamily}
 use Rattle.family_four_slot.specs.declared.family.FourSlotSeat.{FourSlotSeat}
+use Rattle.family_four_slot.specs.declared.family.Shown.{Shown}
 use Rattle.family_four_slot.specs.declared.family.Stored.{Stored}
 use Rattle.family_four_slot.specs.declared.notes.Process.{Process}
 use Rattle.family_four_slot.specs.declared.notes.View.TheVariants.{Has}
@@ -18,9 +19,9 @@ use Rattle.family_four_slot.specs.Family.{knows}
 use Rattle.family_four_slot.specs.Layouts.{shift}
 use Rattle.family_four_slot.specs.Places.{place, slot_at}
 use Rattle.family_four_slot.specs.Seated.{known_by, opening_of, processes_of, number_of, clock_of, times_of, writes_of, reads_of, IsSeat}
-use Rattle.family_four_slot.specs.Words.{process_of, writes_to, reads_from, IsAtRest}
+use Rattle.family_four_slot.specs.Words.{none_shown, process_of, writes_to, reads_from, IsAtRest}
 use Rattle.family_four_slot.proofs.Calls.{a_write, a_read, sees_reads}
-use Rattle.family_four_slot.proofs.Going.{there, within, apart, row_at, row_place, row_notes, column_at, column_place, column_notes, seat_after}
+use Rattle.family_four_slot.proofs.Going.{within, apart, row_at, row_place, row_notes, column_at, column_place, column_notes, seat_after}
 use Rattle.family_four_slot.proofs.Slices.{get_set_here, get_set_else, set_long}
 use Rattle.family_four_slot.proofs.Rests.{IsNewRow, IsNewColumn}
 
@@ -55,7 +56,7 @@ module _ {T : Type 0} where
       pub wrote : (bits : List ℕ) (pair : ℕ) (cs : List (ℕ × T)) (s' : FourSlotSeat T) → (known_by s).clock < a → a < c → c < d →
           cs ≡ s.seat.inner.me.1 → s'.seat.inner.me.0 ≡ Has (after_write (held_slots cs) ∷ []) → s'.seat.inner.me.1 ≡ cs →
           s'.seat.inner.table_id ≡ s.seat.inner.table_id → s'.spare ≡ s.spare → s'.processes ≡ s.processes → s'.who ≡ s.who →
-          s'.stored ≡ record s.stored { bits = set s.stored.bits j bits; latest = set s.stored.latest j pair } →
+          s'.stored ≡ record s.stored { shown = set s.stored.shown j (record { bits = bits; latest = pair }) } →
           bit_words q2.remembered ≡ bits → pair ≡ bit_number (not b) → Wrote f s s' j x
       wrote bits pair cs s' la lc ld same me slots table spare processes who kept is_bits is_pair =
           let o : T = s.spare in
@@ -63,17 +64,15 @@ module _ {T : Type 0} where
           let v : Process (FourSlotSight T) = known_by s in
           let row = row_at f s own j other in
           let old : Stored = s.stored in
-          let new : Stored = record old { bits = set old.bits j bits; latest = set old.latest j pair } in
-          let size = there old.bits j (bit_number p.remembered.zero) (bit_number p.remembered.one ∷ []) row.bits in
-          let many : n ≤ length old.latest = own.rest.long.0 in
+          let shown : Shown = record { bits = bits; latest = pair } in
+          let new : Stored = record old { shown = set old.shown j shown } in
+          let many : n ≤ length old.shown = own.rest.long.0 in
           let low : j < n = within f s own j other in
           let kept_row : IsNewRow old new j (bit_words q2.remembered) (bit_number (not b)) = record {
-            here = (
-              is_bits ∙ sym (get_set_here old.bits j bits [] size),
-              get_set_here old.latest j pair 0 (let z : j < length old.latest = omega arith in z) ∙ is_pair,
-            );
-            others = λ i ne. (get_set_else old.bits j i bits [] ne, get_set_else old.latest j i pair 0 ne);
-            long = set_long old.latest j pair;
+            here = let e = get_set_here old.shown j shown none_shown (let z : j < length old.shown = omega arith in z) in
+                (is_bits ∙ sym (ap (λ (z : Shown). z.bits) e), ap (λ (z : Shown). z.latest) e ∙ is_pair);
+            others = λ i ne. get_set_else old.shown j i shown none_shown ne;
+            long = set_long old.shown j shown;
             said = refl;
           } in
           let did = a_write o n v old new s.seat.inner.me.1 j p b x a c d count h1 h2 cell (row_place f s own j other cell at)
@@ -143,8 +142,7 @@ module _ {T : Type 0} where
               here = get_set_here old.said j pair 0 (let z : j < length old.said = omega arith in z) ∙ is_pair;
               others = λ i ne. get_set_else old.said j i pair 0 ne;
               long = set_long old.said j pair;
-              bits = refl;
-              latest = refl;
+              shown = refl;
             } in
             let did = a_read o n v old new before behind j g b x a c d number count bit writes h1 h2 cell (column_place f s own j other cell at)
             (within f s own j other) (apart f s own j other) (subst (λ zs. IsAtRest o n v old zs) split own.rest)

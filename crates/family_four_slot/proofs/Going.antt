@@ -18,7 +18,7 @@ use Rattle.family_four_slot.specs.Places.{place, four_slots, word_at}
 use Rattle.family_four_slot.specs.Seated.{known_by, processes_of, number_of, writes_of, IsSeat}
 use Rattle.family_four_slot.specs.Steps.{After}
 use Rattle.family_four_slot.specs.Tables.{HasProcess, HasWriter, HasReader}
-use Rattle.family_four_slot.specs.Words.{process_of, IsAtRest, IsRow, IsColumn}
+use Rattle.family_four_slot.specs.Words.{process_of, shown_to, IsAtRest, IsRow, IsColumn}
 use Rattle.family_four_slot.proofs.Calls.{sees_writes}
 use Rattle.family_four_slot.proofs.Places.{place_in, bit_word}
 use Rattle.family_four_slot.proofs.Slices.{get_set_here, set_long}
@@ -71,8 +71,8 @@ module _ {T : Type 0} where
     pub apart : j ≢ (known_by s).who
     apart = λ e. other.1 (e ∙ own.who)
 
-    abbrev pub row_at : IsRow s.spare (of_cell Spent (place s.processes (known_by s).who j) (known_by s).parts) (get_or s.stored.bits j [])
-        (get_or s.stored.latest j 0)
+    abbrev pub row_at : IsRow s.spare (of_cell Spent (place s.processes (known_by s).who j) (known_by s).parts) (shown_to s.stored j).bits
+        (shown_to s.stored j).latest
     row_at = own.rest.row j within apart
 
     abbrev pub column_at : IsColumn s.spare (place s.processes j (known_by s).who) (of_cell Spent (place s.processes j (known_by s).who) (known_by s).parts)

@@ -16,6 +16,7 @@ use Rattle.family_live.specs.Ends.{Each, EachTwo, IsSchedule, IsAtomicCell}
 use Rattle.family_four_slot.specs.declared.family.FourSlotFamily.{FourSlotFamily}
 use Rattle.family_four_slot.specs.declared.family.FourSlotSeat.{FourSlotSeat}
 use Rattle.family_four_slot.specs.declared.table.FamilySeat.{FamilySeat}
+use Rattle.family_four_slot.specs.declared.family.Shown.{Shown}
 use Rattle.family_four_slot.specs.declared.family.Stored.{Stored}
 use Rattle.family_four_slot.specs.declared.notes.Process.{Process}
 use Rattle.family_four_slot.specs.declared.notes.View.TheVariants.{Has}
@@ -25,7 +26,7 @@ use Rattle.family_four_slot.specs.Places.{place, writer_of, reader_of}
 use Rattle.family_four_slot.specs.Seats.{all_but_first, first_of}
 use Rattle.family_four_slot.specs.Seated.{known_by, opening_of, processes_of, number_of, clock_of, times_of, writes_of, reads_of, IsSeat, IsFirst}
 use Rattle.family_four_slot.specs.Tables.{IsEnded}
-use Rattle.family_four_slot.specs.Words.{process_of, writes_to, reads_from, IsAtRest}
+use Rattle.family_four_slot.specs.Words.{none_shown, process_of, shown_to, writes_to, reads_from, IsAtRest}
 use Rattle.family_four_slot.proofs.Calls.{sees_writes, sees_reads}
 use Rattle.family_four_slot.proofs.Frames.{same_number}
 use Rattle.family_four_slot.proofs.Gathering.{each_more}
@@ -44,7 +45,7 @@ all_same (suc m) (suc j) x d l = all_same m j x d (omega arith)
 
 -- what a process remembers that has stored nothing
 abbrev pub unstored : Stored
-unstored = record { bits = replicate 16 (0 ∷ 0 ∷ []); latest = replicate 16 0; said = replicate 16 2 }
+unstored = record { shown = replicate 16 (record { bits = 0 ∷ 0 ∷ []; latest = 0 }); said = replicate 16 2 }
 
 module _ {T : Type 0} where
   -- the seats of the first processes were parted off
@@ -72,10 +73,9 @@ module _ {T : Type 0} where
           processes = many;
           who = number;
           me = my ∙ ap (λ z. (first_of z.0, [])) now;
-          bits = λ j lj. ap (λ (z : Stored). get_or z.bits j []) bits ∙ all_same 16 j (0 ∷ 0 ∷ []) [] lj;
-          latest = λ j lj. ap (λ (z : Stored). get_or z.latest j 0) bits ∙ all_same 16 j 0 0 lj;
+          shown = λ j lj. ap (λ z. shown_to z j) bits ∙ all_same 16 j (record { bits = 0 ∷ 0 ∷ []; latest = 0 }) none_shown lj;
           said = λ j lj. ap (λ (z : Stored). get_or z.said j 0) bits ∙ all_same 16 j 2 0 lj;
-          long = (ap (λ (z : Stored). length z.latest) bits, ap (λ (z : Stored). length z.said) bits);
+          long = (ap (λ (z : Stored). length z.shown) bits, ap (λ (z : Stored). length z.said) bits);
         }));
       }
 
@@ -112,10 +112,10 @@ module _ {T : Type 0} where
     abbrev v : Process (FourSlotSight T)
     v = first_process o n i
 
-    pub first_rest : (kept : Stored) → i < n → n ≤ 16 → ((j : ℕ) → j < 16 → get_or kept.bits j [] ≡ 0 ∷ 0 ∷ []) →
-        ((j : ℕ) → j < 16 → get_or kept.latest j 0 ≡ 0) → ((j : ℕ) → j < 16 → get_or kept.said j 0 ≡ 2) →
-        (length kept.latest ≡ 16) × (length kept.said ≡ 16) → IsAtRest o n v kept []
-    first_rest kept li most bits latest said long = record {
+    pub first_rest : (kept : Stored) → i < n → n ≤ 16 → ((j : ℕ) → j < 16 → shown_to kept j ≡ record { bits = 0 ∷ 0 ∷ []; latest = 0 }) →
+        ((j : ℕ) → j < 16 → get_or kept.said j 0 ≡ 2) →
+        (length kept.shown ≡ 16) × (length kept.said ≡ 16) → IsAtRest o n v kept []
+    first_rest kept li most shown said long = record {
       inside = li;
       long = (subst (λ z. n ≤ z) (sym long.0) most, subst (λ z. n ≤ z) (sym long.1) most);
       parts = upto_long (first_part o n i) 0 (n * n);
@@ -137,8 +137,8 @@ module _ {T : Type 0} where
             idle = refl;
             opened = refl;
             newest = refl;
-            bits = sym (bits j (omega arith));
-            shown = latest j (omega arith);
+            bits = sym (ap (λ (z : Shown). z.bits) (shown j (omega arith)));
+            shown = ap (λ (z : Shown). z.latest) (shown j (omega arith));
           };
       column = λ j lj ne.
           let k : ℕ = place n j i in
@@ -180,7 +180,7 @@ module _ {T : Type 0} where
       (IsSeat f s × (number_of s ≡ i)) × IsUnused (clock_of s) (times_of s) (writes_of s) (reads_of s)
   first_seat f n o i s opens many li most h =
       let is : known_by s ≡ first_process o n i = ap (λ z. process_of z.0) h.me in
-      let rest = first_rest o n i s.stored li most h.bits h.latest h.said h.long in (
+      let rest = first_rest o n i s.stored li most h.shown h.said h.long in (
         (
           record {
             table = h.table;

@@ -18,7 +18,8 @@ use Rattle.family_four_slot.specs.Layouts.{shift}
 use Rattle.family_four_slot.specs.Places.{place, slot_at, writer_of}
 use Rattle.family_four_slot.specs.Family.{of_cell, knows}
 use Rattle.family_four_slot.specs.FourSlots.{Idle}
-use Rattle.family_four_slot.specs.Words.{IsAtRest, IsRow, IsColumn, HasSlots}
+use Rattle.family_four_slot.specs.declared.family.Shown.{Shown}
+use Rattle.family_four_slot.specs.Words.{none_shown, shown_to, IsAtRest, IsRow, IsColumn, HasSlots}
 use Rattle.family_four_slot.proofs.Places.{place_apart, is_layout, writer_there}
 use Rattle.family_four_slot.proofs.Slices.{get_set_here, get_set_else, set_long}
 
@@ -31,17 +32,16 @@ pub record IsChanged {V : Type 0} (blank : V) (v u : Process V) (k : ℕ) (w : V
 
 -- a seat remembers what it stored last in the cell to process j, or in the one from it, and of the others what it did
 pub record IsNewRow (kept kept' : Stored) (j : ℕ) (bits : List ℕ) (latest : ℕ) : Type 0 where
-  pub here : (bits ≡ get_or kept'.bits j []) × (get_or kept'.latest j 0 ≡ latest)
-  pub others : (i : ℕ) → i ≢ j → (get_or kept'.bits i [] ≡ get_or kept.bits i []) × (get_or kept'.latest i 0 ≡ get_or kept.latest i 0)
-  pub long : length kept'.latest ≡ length kept.latest
+  pub here : (bits ≡ (shown_to kept' j).bits) × ((shown_to kept' j).latest ≡ latest)
+  pub others : (i : ℕ) → i ≢ j → shown_to kept' i ≡ shown_to kept i
+  pub long : length kept'.shown ≡ length kept.shown
   pub said : kept'.said ≡ kept.said
 
 pub record IsNewColumn (kept kept' : Stored) (j said : ℕ) : Type 0 where
   pub here : get_or kept'.said j 0 ≡ said
   pub others : (i : ℕ) → i ≢ j → get_or kept'.said i 0 ≡ get_or kept.said i 0
   pub long : length kept'.said ≡ length kept.said
-  pub bits : kept'.bits ≡ kept.bits
-  pub latest : kept'.latest ≡ kept.latest
+  pub shown : kept'.shown ≡ kept.shown
 
 module _ {V : Type 0} (blank : V) where
   pub changed : (v : Process V) (k t : ℕ) (w : V) (held : List ℕ) → k < length v.parts → IsChanged blank v (knows blank v k w t held) k w
@@ -135,8 +135,8 @@ module _ {T : Type 0} (o : T) (n : ℕ) where
         );
         row = λ i li nw.
             let other : i ≢ v.who = λ h. nw (h ∙ sym who) in
-            subst (λ z. IsRow o (of_cell Spent (place n z i) u.parts) (get_or kept'.bits i []) (get_or kept'.latest i 0)) (sym who) (⊎_elim
-            (λ (e : i ≡ j). subst (λ z. IsRow o (of_cell Spent (place n v.who z) u.parts) (get_or kept'.bits z []) (get_or kept'.latest z 0)) (sym e)
+            subst (λ z. IsRow o (of_cell Spent (place n z i) u.parts) (shown_to kept' i).bits (shown_to kept' i).latest) (sym who) (⊎_elim
+            (λ (e : i ≡ j). subst (λ z. IsRow o (of_cell Spent (place n v.who z) u.parts) (shown_to kept' z).bits (shown_to kept' z).latest) (sym e)
             (record {
               notes = p;
               is = c.here;
@@ -146,8 +146,8 @@ module _ {T : Type 0} (o : T) (n : ℕ) where
               bits = kept_row.here.0;
               shown = kept_row.here.1;
             }))
-            (λ (d : i ≢ j). subst (λ (z : V × List ℕ × ℕ). IsRow o z.0 z.1 z.2)
-            (λ h. (sym (c.others (place n v.who i) (mine i li other d)) h, sym (kept_row.others i d).0 h, sym (kept_row.others i d).1 h))
+            (λ (d : i ≢ j). subst (λ (z : V × Shown). IsRow o z.0 z.1.bits z.1.latest)
+            (λ h. (sym (c.others (place n v.who i) (mine i li other d)) h, sym (kept_row.others i d) h))
             (r.row i li other))
             (cases_eq i j));
         column = λ i li nw.
@@ -179,14 +179,14 @@ module _ {T : Type 0} (o : T) (n : ℕ) where
         quiet = λ i nw. ⊎_elim (λ (e : i ≡ k). ap receipt_for (ap (λ z. of_cell Spent z u.parts) e ∙ c.here))
             (λ (d : i ≢ k). ap receipt_for (c.others i d) ∙ r.quiet i (λ e. nw (e ∙ sym who))) (cases_eq i k);
         long = (
-          subst (λ (zs : List ℕ). n ≤ length zs) (sym kept_column.latest) r.long.0,
+          subst (λ (zs : List Shown). n ≤ length zs) (sym kept_column.shown) r.long.0,
           subst (λ z. n ≤ z) (sym kept_column.long) r.long.1,
         );
         row = λ i li nw.
             let other : i ≢ v.who = λ q. nw (q ∙ sym who) in
-            subst (λ z. IsRow o (of_cell Spent (place n z i) u.parts) (get_or kept'.bits i []) (get_or kept'.latest i 0)) (sym who)
-            (subst (λ (z : V × List (List ℕ) × List ℕ). IsRow o z.0 (get_or z.1 i []) (get_or z.2 i 0))
-            (λ q. (sym (c.others (place n v.who i) (mine i li other)) q, sym kept_column.bits q, sym kept_column.latest q)) (r.row i li other));
+            subst (λ z. IsRow o (of_cell Spent (place n z i) u.parts) (shown_to kept' i).bits (shown_to kept' i).latest) (sym who)
+            (subst (λ (z : V × List Shown). IsRow o z.0 (get_or z.1 i none_shown).bits (get_or z.1 i none_shown).latest)
+            (λ q. (sym (c.others (place n v.who i) (mine i li other)) q, sym kept_column.shown q)) (r.row i li other));
         column = λ i li nw.
             let other : i ≢ v.who = λ q. nw (q ∙ sym who) in
             subst (λ z. IsColumn o (place n i z) (of_cell Spent (place n i z) u.parts) (get_or kept'.said i 0) (y ∷ (before ++ behind))) (sym who) (⊎_elim

@@ -1,5 +1,5 @@
 -- The words of the contract, of the seats of a family of four-slot cells (this project's own).
-use Rattle.std.specs.Prelude.{◌≡◌, ◌≢◌, ℕ, ◌<◌, List, [], ◌∷◌, length, slice_get, Some, slice_index, slice_index_or}
+use Rattle.std.specs.Prelude.{◌≡◌, ◌≢◌, ℕ, ◌<◌, List, [], ◌∷◌, length, slice_get, Some, slice_index}
 use mathlib.Core.Option.{some}
 use lib.ListN.{get_elem?}
 use Rattle.atomic_table.specs.Seated.{TableId}
@@ -21,7 +21,7 @@ use Rattle.family_four_slot.specs.declared.notes.View.TheVariants.{Told, Has}
 use Rattle.family_four_slot.specs.Family.{of_cell}
 use Rattle.family_four_slot.specs.FourSlots.{first_process}
 use Rattle.family_four_slot.specs.Places.{place, writer_of}
-use Rattle.family_four_slot.specs.Words.{process_of, receipt_in, writes_to, reads_from, IsAtRest}
+use Rattle.family_four_slot.specs.Words.{process_of, receipt_in, writes_to, reads_from, shown_to, IsAtRest}
 
 pub three_steps : 0 < 3
 three_steps = omega arith
@@ -94,10 +94,9 @@ module _ {T : Type 0} where
     pub processes : s.processes ≡ n
     pub who : s.who ≡ i
     pub me : s.seat.inner.me ≡ (Has (first_process o n i ∷ []), [])
-    pub bits : (j : ℕ) → j < 16 → slice_index_or s.stored.bits j [] ≡ 0 ∷ 0 ∷ []
-    pub latest : (j : ℕ) → j < 16 → slice_index s.stored.latest j ≡ 0
+    pub shown : (j : ℕ) → j < 16 → shown_to s.stored j ≡ record { bits = 0 ∷ 0 ∷ []; latest = 0 }
     pub said : (j : ℕ) → j < 16 → slice_index s.stored.said j ≡ 2
-    pub long : (length s.stored.latest ≡ 16) × (length s.stored.said ≡ 16)
+    pub long : (length s.stored.shown ≡ 16) × (length s.stored.said ≡ 16)
 
   -- the seat has the processes of all of these
   abbrev pub HasAll : FamilySeat T → List (FourSlotSeat T) → Type 0

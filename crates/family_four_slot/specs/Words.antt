@@ -10,6 +10,7 @@ use Rattle.cell_four_slot.specs.declared.notes.ReaderNotes.{ReaderNotes}
 use Rattle.cell_live.specs.declared.sight.Sight.TheVariants.{Spent, Writer, Reader}
 use Rattle.cell_four_slot.specs.Steps.{FourSlotSight, first_writer, first_reader, bit_words, slot_of_choice, word_said, receipt_for}
 use Rattle.family_live.specs.Accesses.{Writes, Reads}
+use Rattle.family_four_slot.specs.declared.family.Shown.{Shown}
 use Rattle.family_four_slot.specs.declared.family.Stored.{Stored}
 use Rattle.family_four_slot.specs.declared.notes.Process.{Process}
 use Rattle.family_four_slot.specs.declared.notes.Receipt.{Receipt}
@@ -58,6 +59,13 @@ module _ {T : Type 0} where
   HasSlots k g cs = (before : List (ℕ × T)) × (behind : List (ℕ × T))
       × (cs ≡ before ++ (shift (slot_at k) (slot_of_choice g.chosen g.at_hand.value) ++ behind))
 
+-- what was stored last in the register to a process
+abbrev pub none_shown : Shown
+none_shown = record { bits = []; latest = 0 }
+
+abbrev pub shown_to : Stored → ℕ → Shown
+shown_to kept j = slice_index_or kept.shown j none_shown
+
 module _ {T : Type 0} (o : T) where
   -- a cell that a process writes, between two calls: the pairs' bits and the pair in `latest` are those that the seat remembers
   pub record IsRow (part : FourSlotSight T) (remembered : List ℕ) (latest : ℕ) : Type 0 where
@@ -85,8 +93,8 @@ module _ {T : Type 0} (o : T) where
     pub held : v.held ≡ held_slots cs
     pub idle : (k : ℕ) → Idle (of_cell Spent k v.parts)
     pub quiet : (k : ℕ) → writer_of n k ≢ v.who → receipt_for (of_cell Spent k v.parts) ≡ Spent
-    pub long : (n ≤ length kept.latest) × (n ≤ length kept.said)
+    pub long : (n ≤ length kept.shown) × (n ≤ length kept.said)
     pub row : (j : ℕ) → j < n → j ≢ v.who →
-        IsRow (of_cell Spent (place n v.who j) v.parts) (slice_index_or kept.bits j []) (slice_index kept.latest j)
+        IsRow (of_cell Spent (place n v.who j) v.parts) (shown_to kept j).bits (shown_to kept j).latest
     pub column : (j : ℕ) → j < n → j ≢ v.who →
         IsColumn (place n j v.who) (of_cell Spent (place n j v.who) v.parts) (slice_index kept.said j) cs

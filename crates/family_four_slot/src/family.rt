@@ -29,12 +29,19 @@ pub struct FourSlotFamily<T: Lawful> {
     table: FamilyTable<T>,
 }
 
-/// What a process stored last in the words of its registers: in those to each process the pairs' bits and the pair in `latest`, and in
-/// those from each process the pair in `reading`, 2 where it has stored none.
+/// What a process stored last in the words of a register that it writes: the pairs' bits and the pair in `latest`. They lie side by side,
+/// so that a row has one running place for both.
+#[derive(Clone, Copy)]
+struct Shown {
+    bits: [u64; 2],
+    latest: u64,
+}
+
+/// What a process stored last in the words of its registers, by the other process: in those that it writes, and in those that it reads
+/// the pair in `reading`, 2 where it has stored none.
 #[derive(Drop)]
 struct Stored {
-    bits: [[u64; 2]; 16],
-    latest: [u64; 16],
+    shown: [Shown; 16],
     said: [u64; 16],
 }
 
@@ -80,8 +87,10 @@ fn seats_of<T: Lawful>(
             processes: n,
             who,
             stored: Stored {
-                bits: [[0, 0]; 16],
-                latest: [0; 16],
+                shown: [Shown {
+                    bits: [0, 0],
+                    latest: 0,
+                }; 16],
                 said: [2; 16],
             },
             spare: first,
@@ -169,14 +178,13 @@ impl<T: Lawful> FourSlotFamily<T> {
         let named = Snapshot::of(item);
         let reading = table.begin::<Brand>(&mut seat.seat, cell, named);
         let pair = other_bit(reading);
-        let stored = bit_of(&seat.stored.bits[to], pair);
+        let shown = &mut seat.stored.shown[to];
+        let stored = bit_of(&shown.bits, pair);
         let index = other_bit(stored);
         let slot = slot_of(pair, index);
         table.fill(&mut seat.seat, cell, slot, item);
-        let shown = seat.stored.latest[to];
-        table.publish(&mut seat.seat, cell, pair, index, shown);
-        set_bit(&mut seat.stored.bits[to], pair, index);
-        seat.stored.latest[to] = pair;
+        set_bit(&mut shown.bits, pair, index);
+        table.publish(&mut seat.seat, cell, pair, index, &mut shown.latest);
     }
 
     /// A read of the register of process `from`, which is this cell.

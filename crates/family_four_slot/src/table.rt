@@ -124,7 +124,7 @@ impl<T: Lawful> FamilyTable<T> {
             .load::<Begins<K>>(&mut seat.inner, base(cell) + 8)
     }
 
-    /// W4 and W5. W5's store is left out where `latest` has the pair already, which is `shown`.
+    /// W4 and W5. W5's store is left out where `latest` has the pair already. `shown` is what it has.
     #[inline]
     pub(super) fn publish(
         &self,
@@ -132,20 +132,22 @@ impl<T: Lawful> FamilyTable<T> {
         cell: usize,
         pair: u64,
         index: u64,
-        shown: u64,
+        shown: &mut u64,
     )
         requires own { seat.old.inner.table_id ≡ self.now.inner.shared.table_id }
         requires place { cell < (four_slots self.now.inner.shared.key.processes).cells }
         requires filled { (v : Process (FourSlotSight T)) × (p : WriterNotes T) × (cs : List (ℕ × T)) × HasWriter seat.old.inner.me cell v p
             × (seat.old.inner.me.1 ≡ (slot_at cell (slot_number p.slot), p.item.value) ∷ cs) × (p.stage ≡ W3)
-            × (pair ≡ bit_number p.slot.pair) × (index ≡ bit_number p.slot.index) × (shown ≡ bit_number p.latest) }
+            × (pair ≡ bit_number p.slot.pair) × (index ≡ bit_number p.slot.index) × (shown.old ≡ bit_number p.latest) }
         ensures own { seat.new.inner.table_id ≡ seat.old.inner.table_id }
         ensures published { publishes cell seat.old.inner.me seat.new.inner.me }
+        ensures remembered { shown.new ≡ pair }
     {
         self.store(seat, cell, pair, index);
-        if pair == shown {
+        if pair == *shown {
             return;
         }
+        *shown = pair;
         self.finish(seat, cell, pair);
     }
 

@@ -220,9 +220,8 @@ returns g c =
     let same : c.publish.new.seat.inner.table_id ≡ s.seat.inner.table_id =
     c.publish.ensures.own ∙ (c.fill.ensures.own ∙ c.begin-reading.ensures.own) in
     let kept = record s.stored {
-      bits = set s.stored.bits c.args.to c.set_bit.new.bits;
-      latest = set s.stored.latest c.args.to c.other_bit-pair.result;
+      shown = set s.stored.shown c.args.to (record { bits = c.set_bit.new.bits; latest = c.publish.new.shown });
     } in
-    let h = wrote f s own c.args.to other cell at b item t.2 u.0 u.1 u.2 h1 (held_slots s.seat.inner.me.1) c.set_bit.new.bits c.other_bit-pair.result
-    s.seat.inner.me.1 (record s { seat = c.publish.new.seat; stored = kept }) t.5.0 u.5 u.6.0 refl u.6.1 u.6.2 same refl refl refl refl bits pair in
+    let h = wrote f s own c.args.to other cell at b item t.2 u.0 u.1 u.2 h1 (held_slots s.seat.inner.me.1) c.set_bit.new.bits c.publish.new.shown
+    s.seat.inner.me.1 (record s { seat = c.publish.new.seat; stored = kept }) t.5.0 u.5 u.6.0 refl u.6.1 u.6.2 same refl refl refl refl bits (c.publish.ensures.remembered ∙ pair) in
     record { own = h.own; access = h.access; written = h.written; others = h.others }
