@@ -136,7 +136,7 @@ fn gathered<T: Lawful>(table: &FamilyTable<T>, seats: Vec<FourSlotSeat<T>>) -> F
 }
 
 /// Shows what all seats have done so far, where `all` has what those that were taken out before know.
-fn shown<T: Lawful>(
+fn show_all<T: Lawful>(
     table: &FamilyTable<T>,
     seats: &mut Vec<FourSlotSeat<T>>,
     all: FamilySeat<T>,
@@ -157,7 +157,7 @@ fn shown<T: Lawful>(
     };
     let mut next = table.lift(&mut last.seat);
     table.put(&mut next, all);
-    let mut next = shown(table, seats, next);
+    let mut next = show_all(table, seats, next);
     let one = table.part(&mut next);
     table.put(&mut last.seat, one);
     seats.push_reserved(last);
@@ -314,7 +314,7 @@ impl<T: Lawful> Family<T> for FourSlotFamily<T> {
             unreachable!();
         };
         let all = self.table.lift(&mut last.seat);
-        let all = shown(&self.table, seats, all);
+        let all = show_all(&self.table, seats, all);
         self.table.put(&mut last.seat, all);
         seats.push_reserved(last);
     }

@@ -25,8 +25,8 @@ lift-all-requires-clause-some g c =
     let at = stood seats seats left [] last (sym (append-nil seats)) c.in-Some.ensures.items in
     (known_by last ∷ [], (c.requires.1 (length left) last at).0.one)
 
-pub shown-all-requires-clause-own : goal.shown-all-requires-clause-own
-shown-all-requires-clause-own g c =
+pub show_all-all-requires-clause-own : goal.show_all-all-requires-clause-own
+show_all-all-requires-clause-own g c =
     let seats = c.args.seats.now.items in
     let left = c.pop.new.self.items in
     let last = c.in-Some.last in
@@ -36,14 +36,14 @@ shown-all-requires-clause-own g c =
           (λ i s e. (c.requires.1 i s e).0.table),
     )
 
-pub shown-all-requires-clause-one : goal.shown-all-requires-clause-one
-shown-all-requires-clause-one g c =
+pub show_all-all-requires-clause-one : goal.show_all-all-requires-clause-one
+show_all-all-requires-clause-one g c =
     let seats = c.args.seats.now.items in
     each_fewer (λ i s. s.seat.inner.me.0 ≡ Has (known_by s ∷ [])) seats c.pop.new.self.items c.in-Some.last c.in-Some.ensures.items
     (λ i s e. (c.requires.1 i s e).0.one)
 
-pub shown-all-requires-clause-bare : goal.shown-all-requires-clause-bare
-shown-all-requires-clause-bare g c =
+pub show_all-all-requires-clause-bare : goal.show_all-all-requires-clause-bare
+show_all-all-requires-clause-bare g c =
     let seats = c.args.seats.now.items in
     let left = c.pop.new.self.items in
     let last = c.in-Some.last in
@@ -58,7 +58,7 @@ put-requires-clause-own g c =
     let last = c.in-Some.last in
     let at = stood seats seats left [] last (sym (append-nil seats)) c.in-Some.ensures.items in
     let table = (c.requires.1 (length left) last at).0.table in
-    (c.lift-all.ensures.own.0 ∙ table, c.shown-all.ensures.all.0 ∙ (c.lift-all.ensures.own.2 ∙ table))
+    (c.lift-all.ensures.own.0 ∙ table, c.show_all-all.ensures.all.0 ∙ (c.lift-all.ensures.own.2 ∙ table))
 
 pub put-requires-clause-bare : goal.put-requires-clause-bare
 put-requires-clause-bare g c =
@@ -67,7 +67,7 @@ put-requires-clause-bare g c =
     let last = c.in-Some.last in
     let at = stood seats seats left [] last (sym (append-nil seats)) c.in-Some.ensures.items in
     let one = (c.requires.1 (length left) last at).0.one in
-    (known_by last ∷ [], c.shown-all.ensures.all.1 ∙ (c.lift-all.ensures.lifted.1 ∙ (λ i. (one i, []))))
+    (known_by last ∷ [], c.show_all-all.ensures.all.1 ∙ (c.lift-all.ensures.lifted.1 ∙ (λ i. (one i, []))))
 
 pub returns-clause-same : goal.returns-clause-same
 returns-clause-same g c =
@@ -77,10 +77,10 @@ returns-clause-same g c =
     let at = stood seats seats left [] last (sym (append-nil seats)) c.in-Some.ensures.items in
     let one = (c.requires.1 (length left) last at).0.one in
     let me = put_again _ _ _ _ _ c.put.ensures.joined c.lift-all.ensures.lifted.0
-    (c.shown-all.ensures.all.1 ∙ (c.lift-all.ensures.lifted.1 ∙ (λ i. (one i, [])))) one in
+    (c.show_all-all.ensures.all.1 ∙ (c.lift-all.ensures.lifted.1 ∙ (λ i. (one i, [])))) one in
     let again = same_seat last c.put.new.seat (c.put.ensures.own.0 ∙ c.lift-all.ensures.own.0) (c.put.ensures.own.1 ∙ c.lift-all.ensures.own.1) me in (
-      c.push_reserved.ensures.items ∙ ((λ i. c.shown-all.ensures.same.0 i ++ again i ∷ []) ∙ sym c.in-Some.ensures.items),
-      c.push_reserved.ensures.capacity ∙ (c.shown-all.ensures.same.1 ∙ c.pop.ensures.capacity),
+      c.push_reserved.ensures.items ∙ ((λ i. c.show_all-all.ensures.same.0 i ++ again i ∷ []) ∙ sym c.in-Some.ensures.items),
+      c.push_reserved.ensures.capacity ∙ (c.show_all-all.ensures.same.1 ∙ c.pop.ensures.capacity),
     )
 
 pub returns-clause-scheduled : goal.returns-clause-scheduled
@@ -90,7 +90,7 @@ returns-clause-scheduled g c =
     let last = c.in-Some.last in
     let at = stood seats seats left [] last (sym (append-nil seats)) c.in-Some.ensures.items in
     let one = (c.requires.1 (length left) last at).0.one in
-    let h = c.shown-all.ensures.shown (known_by last ∷ []) (c.lift-all.ensures.lifted.1 ∙ (λ i. (one i, []))) in
+    let h = c.show_all-all.ensures.shown (known_by last ∷ []) (c.lift-all.ensures.lifted.1 ∙ (λ i. (one i, []))) in
     let P = λ (i : ℕ) (s : FourSlotSeat g.row.T.Denot). (b : ℕ) × (get_elem? h.0 b ≡ some (known_by s)) in
     all_scheduled c.args.self.now seats c.requires.1 h.0
     (subst (λ xs. Each P xs) (sym c.in-Some.ensures.items) (each_more P left last (λ i s e. h.3 i s e) (h.2 0 (known_by last) refl))) h.1
@@ -102,7 +102,7 @@ returns-clause-atomic g c =
     let last = c.in-Some.last in
     let at = stood seats seats left [] last (sym (append-nil seats)) c.in-Some.ensures.items in
     let one = (c.requires.1 (length left) last at).0.one in
-    let h = c.shown-all.ensures.shown (known_by last ∷ []) (c.lift-all.ensures.lifted.1 ∙ (λ i. (one i, []))) in
+    let h = c.show_all-all.ensures.shown (known_by last ∷ []) (c.lift-all.ensures.lifted.1 ∙ (λ i. (one i, []))) in
     let P = λ (i : ℕ) (s : FourSlotSeat g.row.T.Denot). (b : ℕ) × (get_elem? h.0 b ≡ some (known_by s)) in
     all_atomic c.args.self.now seats c.requires.1 h.0
     (subst (λ xs. Each P xs) (sym c.in-Some.ensures.items) (each_more P left last (λ i s e. h.3 i s e) (h.2 0 (known_by last) refl))) h.1

@@ -9,7 +9,7 @@ use Rattle.family_four_slot.specs.Seats.{all_but_first, first_of}
 use Rattle.family_triple.specs.Seated.{known_by}
 use Rattle.family_four_slot.proofs.Gathering.{stood, each_more, each_fewer, joined_in, put_again}
 use Rattle.family_triple.proofs.Showing.{same_seat}
-use Rattle.family_triple.proofs.family.+shown.Goals as goal
+use Rattle.family_triple.proofs.family.+show_all.Goals as goal
 
 pub lift-next-requires-clause-own : goal.lift-next-requires-clause-own
 lift-next-requires-clause-own g t c =
@@ -40,8 +40,8 @@ put-requires-clause-some g t c =
     let at = stood seats seats left [] last (sym (append-nil seats)) c.in-Some.ensures.items in
     (known_by last ∷ [], ap (λ m. m.0) c.lift-next.ensures.lifted.1 ∙ c.requires.one (length left) last at)
 
-pub shown-next-requires : goal.shown-next-requires
-shown-next-requires g t c κs within =
+pub show_all-next-requires : goal.show_all-next-requires
+show_all-next-requires g t c κs within =
     let left = c.pop.new.self.items in
     let seats = c.args.seats.now.items in
     let last = c.in-Some.last in
@@ -70,7 +70,7 @@ part-one-requires-clause-own g t c =
     let seats = c.args.seats.now.items in
     let last = c.in-Some.last in
     let at = stood seats seats left [] last (sym (append-nil seats)) c.in-Some.ensures.items in
-    c.shown-next.ensures.all.0 ∙ (c.put.ensures.own.0 ∙ (c.lift-next.ensures.own.2 ∙ c.requires.own.1 (length left) last at))
+    c.show_all-next.ensures.all.0 ∙ (c.put.ensures.own.0 ∙ (c.lift-next.ensures.own.2 ∙ c.requires.own.1 (length left) last at))
 
 pub part-one-requires-clause-some : goal.part-one-requires-clause-some
 part-one-requires-clause-some g t c =
@@ -81,7 +81,7 @@ part-one-requires-clause-some g t c =
     let ps = c.requires.bare in (
       known_by last,
       ps.0,
-      ap (λ m. m.0) (c.shown-next.ensures.all.1
+      ap (λ m. m.0) (c.show_all-next.ensures.all.1
           ∙ joined_in _ _ _ _ _ _ c.put.ensures.joined c.lift-next.ensures.lifted.1 (c.requires.one (length left) last at) ps.1),
     )
 
@@ -93,7 +93,7 @@ put-requires-2-clause-own g t c =
     let at = stood seats seats left [] last (sym (append-nil seats)) c.in-Some.ensures.items in
     let own = c.requires.own.1 (length left) last at in (
       c.lift-next.ensures.own.0 ∙ own,
-      c.part-one.ensures.own.1 ∙ (c.shown-next.ensures.all.0 ∙ (c.put.ensures.own.0 ∙ (c.lift-next.ensures.own.2 ∙ own))),
+      c.part-one.ensures.own.1 ∙ (c.show_all-next.ensures.all.0 ∙ (c.put.ensures.own.0 ∙ (c.lift-next.ensures.own.2 ∙ own))),
     )
 
 pub returns-clause-same : goal.returns-clause-same
@@ -104,11 +104,11 @@ returns-clause-same g t c =
     let at = stood seats seats left [] last (sym (append-nil seats)) c.in-Some.ensures.items in
     let one = c.requires.one (length left) last at in
     let ps = c.requires.bare in
-    let whole = c.shown-next.ensures.all.1 ∙ joined_in _ _ _ _ _ _ c.put.ensures.joined c.lift-next.ensures.lifted.1 one ps.1 in
+    let whole = c.show_all-next.ensures.all.1 ∙ joined_in _ _ _ _ _ _ c.put.ensures.joined c.lift-next.ensures.lifted.1 one ps.1 in
     let me = put_again _ _ _ _ _ c.put-2.ensures.joined c.lift-next.ensures.lifted.0 (c.part-one.ensures.parted.1 ∙ (λ i. (first_of ((whole i).0), []))) one in
     let again = same_seat last c.put-2.new.seat (c.put-2.ensures.own.0 ∙ c.lift-next.ensures.own.0) (c.put-2.ensures.own.1 ∙ c.lift-next.ensures.own.1) me in (
-      c.push_reserved.ensures.items ∙ ((λ i. c.shown-next.ensures.same.0 i ++ again i ∷ []) ∙ sym c.in-Some.ensures.items),
-      c.push_reserved.ensures.capacity ∙ (c.shown-next.ensures.same.1 ∙ c.pop.ensures.capacity),
+      c.push_reserved.ensures.items ∙ ((λ i. c.show_all-next.ensures.same.0 i ++ again i ∷ []) ∙ sym c.in-Some.ensures.items),
+      c.push_reserved.ensures.capacity ∙ (c.show_all-next.ensures.same.1 ∙ c.pop.ensures.capacity),
     )
 
 pub returns-clause-all : goal.returns-clause-all
@@ -118,9 +118,9 @@ returns-clause-all g t c =
     let last = c.in-Some.last in
     let at = stood seats seats left [] last (sym (append-nil seats)) c.in-Some.ensures.items in
     let ps = c.requires.bare in
-    let whole = c.shown-next.ensures.all.1
+    let whole = c.show_all-next.ensures.all.1
     ∙ joined_in _ _ _ _ _ _ c.put.ensures.joined c.lift-next.ensures.lifted.1 (c.requires.one (length left) last at) ps.1 in (
-      c.part-one.ensures.own.0 ∙ (c.shown-next.ensures.all.0 ∙ (c.put.ensures.own.0 ∙ (c.lift-next.ensures.own.2
+      c.part-one.ensures.own.0 ∙ (c.show_all-next.ensures.all.0 ∙ (c.put.ensures.own.0 ∙ (c.lift-next.ensures.own.2
           ∙ (c.requires.own.1 (length left) last at ∙ sym c.requires.own.0)))),
       c.part-one.ensures.parted.0 ∙ ((λ i. (all_but_first ((whole i).0), (whole i).1)) ∙ sym ps.1),
     )
@@ -131,7 +131,7 @@ returns-clause-shown g t c = λ ps is.
     let seats = c.args.seats.now.items in
     let last = c.in-Some.last in
     let at = stood seats seats left [] last (sym (append-nil seats)) c.in-Some.ensures.items in
-    let h = c.shown-next.ensures.shown (known_by last ∷ ps)
+    let h = c.show_all-next.ensures.shown (known_by last ∷ ps)
     (joined_in _ _ _ _ _ _ c.put.ensures.joined c.lift-next.ensures.lifted.1 (c.requires.one (length left) last at) is) in
     let P = λ (i : ℕ) (s : TripleSeat g.row.T.Denot). (b : ℕ) × (get_elem? h.0 b ≡ some (known_by s)) in (
       h.0,
