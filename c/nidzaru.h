@@ -53,7 +53,7 @@
     ((size) <= 8 ? 8 : (size) <= 24 ? 24 : (size) <= 64 ? 64 : (size) <= 128 ? 128                                    \
      : (size) <= 256 ? 256 : (size) <= 1024 ? 1024 : 4096)
 
-/* Records that are as large as the library's and aligned to 8 are passed where they lie, others through a copy that the
+/* Records that are as large as the library's and aligned to 8 or more are passed where they lie, others through a copy that the
  * compiler lays out with zeros behind it. ThreadSanitizer sees what a copy reads and writes, so there each record has one. */
 #define NIDZARU_PASSES(size, alignment) (!NIDZARU_WATCHED && (size) == NIDZARU_SIZE(size) && (alignment) >= 8)
 
@@ -309,7 +309,6 @@ NIDZARU_CHECKED int nidzaru_move(nidzaru_handle *to, nidzaru_handle *from) {
 #define NIDZARU_FUNCTIONS(name, type, triple)                                                                         \
     NIDZARU_ASSERT(NIDZARU_COPIES(type), "a record of a register is trivially copyable");                             \
     NIDZARU_ASSERT(sizeof(type) <= 4096, "a record of a register has at most 4096 bytes");                            \
-    NIDZARU_ASSERT(NIDZARU_ALIGNMENT(type) <= 8, "a record of a register is aligned to at most 8 bytes");             \
     typedef struct {                                                                                                  \
         nidzaru_handle handle;                                                                                        \
     } name##_writer;                                                                                                  \
@@ -501,7 +500,6 @@ NIDZARU_INLINE int nidzaru_sized_board_end(int triple, size_t size, nidzaru_hand
 #define NIDZARU_BOARD_FUNCTIONS(name, type, triple)                                                                   \
     NIDZARU_ASSERT(NIDZARU_COPIES(type), "a record of a board is trivially copyable");                                \
     NIDZARU_ASSERT(sizeof(type) <= 4096, "a record of a board has at most 4096 bytes");                               \
-    NIDZARU_ASSERT(NIDZARU_ALIGNMENT(type) <= 8, "a record of a board is aligned to at most 8 bytes");                \
     typedef struct {                                                                                                  \
         nidzaru_handle handle;                                                                                        \
     } name##_place;                                                                                                   \

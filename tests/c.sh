@@ -65,6 +65,7 @@ test_in_c() {
     run_here "c/tests/test.c ($c)" "$c" -std=c11 -D_GNU_SOURCE $strict -O2 c/tests/test.c $flags -o "$room/program"
     run_here "c/tests/edges.c ($c)" "$c" -std=c11 $strict -O1 c/tests/edges.c $wrapped $flags -o "$room/program"
     run_here "c/tests/board_edges.c ($c)" "$c" -std=c11 $strict -O1 c/tests/board_edges.c $wrapped $flags -o "$room/program"
+    run_here "c/tests/aligned.c ($c)" "$c" -std=c11 $strict -O2 c/tests/aligned.c $flags -o "$room/program"
     for family in '' -DTRIPLE; do
         run_here "c/tests/boards.c $family($c)" \
             "$c" -std=c11 -D_GNU_SOURCE $strict -O2 $family c/tests/boards.c $wrapped $flags -o "$room/program"
@@ -80,10 +81,6 @@ test_in_c() {
         struct large { char bytes[4097]; };
         NIDZARU_REGISTER(larges, struct large);'
     refuse "a record of 4,097 bytes ($c)" "$c" -std=c11 -x c $cflags
-    wants='at most 8 bytes' text='#include <nidzaru.h>
-        struct wide { _Alignas(16) char bytes[16]; };
-        NIDZARU_REGISTER(wides, struct wide);'
-    refuse "a record aligned to 16 ($c)" "$c" -std=c11 -x c $cflags
     wants='at most 4096 bytes' text='#include <nidzaru.h>
         struct large { char bytes[4097]; };
         NIDZARU_BOARD(larges, struct large);'
@@ -103,6 +100,7 @@ test_in_cpp() {
     for year in 17 20; do
         run_here "c/tests/boards.cpp ($cpp, C++$year)" "$cpp" -std=c++$year $strict -O2 c/tests/boards.cpp $flags -o "$room/program"
     done
+    run_here "c/tests/aligned.cpp ($cpp)" "$cpp" -std=c++17 $strict -O2 c/tests/aligned.cpp $flags -o "$room/program"
     run_here "c/tests/bare.cpp, without exceptions ($cpp)" \
         "$cpp" -std=c++17 $strict -O2 -fno-exceptions -fno-rtti c/tests/bare.cpp $flags -o "$room/program"
     wants='no record was torn'

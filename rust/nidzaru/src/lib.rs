@@ -47,7 +47,7 @@
 //!
 //! # Records
 //!
-//! A record is of a type that is `Copy`, `Send` and `'static`, of at most 4,096 bytes and aligned to at most 8; others are
+//! A record is of a type that is `Copy`, `Send` and `'static`, of at most 4,096 bytes, whatever its alignment; others are
 //! refused when the program is compiled. What the writing thread did before a write comes before what the reading thread does
 //! once it has read that write's number or a greater one; nothing is ordered the other way round. The same holds along a board,
 //! from a write to a read that gives its record.
@@ -138,7 +138,6 @@ struct Known<T, M>(PhantomData<(T, M)>);
 impl<T: Copy + Send + 'static, M: Mechanism> Known<T, M> {
     const CALLS: &'static Calls = {
         assert!(size_of::<T>() <= 4096, "a record of a register has at most 4096 bytes");
-        assert!(align_of::<T>() <= 8, "a record of a register is aligned to at most 8 bytes");
         raw::calls_for(size_of::<T>(), M::TRIPLE)
     };
 }
@@ -152,17 +151,10 @@ impl<T: Copy + Send + 'static, M: Mechanism> Known<T, M> {
 /// # Ok::<(), Box<dyn std::error::Error>>(())
 /// ```
 ///
-/// Records that are too large, aligned to more than 8 bytes, or not `Copy` don't compile:
+/// Records that are too large or not `Copy` don't compile:
 ///
 /// ```compile_fail
 /// let both = nidzaru::register([0u8; 4097]);
-/// ```
-///
-/// ```compile_fail
-/// #[repr(align(16))]
-/// #[derive(Clone, Copy)]
-/// struct Wide([u8; 16]);
-/// let both = nidzaru::register(Wide([0; 16]));
 /// ```
 ///
 /// ```compile_fail
