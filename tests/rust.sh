@@ -6,6 +6,28 @@ in_rust() {
     PKG_CONFIG_PATH=$installed/lib/pkgconfig CARGO_TARGET_DIR=$room/target cargo "$@" --offline --quiet --manifest-path "$room/rust/Cargo.toml"
 }
 
+# The oldest compiler that Cargo.toml names builds and tests the crate, where it is installed. Else clippy, where it is there, looks for
+# what is newer in the standard library.
+test_oldest_rust() {
+    oldest=$(awk -F'"' '/^rust-version/ { print $2 }' rust/nidzaru/Cargo.toml)
+    name="rust/nidzaru: Rust $oldest"
+    if cargo "+$oldest" --version >/dev/null 2>&1; then
+        PKG_CONFIG_PATH=$installed/lib/pkgconfig CARGO_TARGET_DIR=$room/oldest cargo "+$oldest" test --offline --quiet \
+            --manifest-path "$room/rust/Cargo.toml" >"$room/said" 2>&1
+    elif cargo clippy --version >/dev/null 2>&1; then
+        name="$name, by clippy"
+        PKG_CONFIG_PATH=$installed/lib/pkgconfig CARGO_TARGET_DIR=$room/oldest cargo clippy --offline --quiet --all-targets \
+            --manifest-path "$room/rust/Cargo.toml" -- -A clippy::all -D clippy::incompatible_msrv >"$room/said" 2>&1
+    else
+        return 0
+    fi
+    if [ $? = 0 ]; then
+        pass "$name"
+    else
+        fail "$name" "$(grep -m 3 '^error' "$room/said" | tr '\n' ' ')"
+    fi
+}
+
 if command -v cargo >/dev/null 2>&1; then
     cp -r rust/nidzaru "$room/rust"
     if in_rust test --release >"$room/said" 2>&1; then
@@ -26,4 +48,19 @@ if command -v cargo >/dev/null 2>&1; then
     else
         pass "rust/nidzaru without the library"
     fi
+    if PKG_CONFIG_PATH=/nowhere CARGO_TARGET_DIR=$room/target cargo doc --offline --quiet --no-deps --manifest-path "$room/rust/Cargo.toml" \
+        >"$room/said" 2>&1 && [ -s "$room/target/doc/nidzaru/fn.register_over.html" ] && [ ! -s "$room/said" ]; then
+        pass "rust/nidzaru: documents without the library"
+    else
+        fail "rust/nidzaru: documents without the library" "$(head -n 3 "$room/said" | tr '\n' ' ')"
+    fi
+    # (the library is as it is: what pkg-config says of it is another)
+    mkdir -p "$room/older" && sed "s/^Version: .*/Version: 2.0.9/" "$installed/lib/pkgconfig/nidzaru.pc" >"$room/older/nidzaru.pc"
+    if PKG_CONFIG_PATH=$room/older CARGO_TARGET_DIR=$room/target cargo build --offline --quiet --manifest-path "$room/rust/Cargo.toml" \
+        >"$room/said" 2>&1 || ! grep -q 'is of version 2.0.9, and this crate needs' "$room/said"; then
+        fail "rust/nidzaru over an older library" "it isn't told"
+    else
+        pass "rust/nidzaru over an older library"
+    fi
+    test_oldest_rust
 fi
