@@ -262,8 +262,11 @@ def faults(page, folder, compilers):
             yield f"it isn't taken: {text}"
         elif wants is not None and number not in lines:
             yield f"it is taken: {text}"
-        elif wants is not None and not re.search(wants, told):
-            yield f"it is refused for another reason: {text}"
+    for wanted in sorted({wants for _, wants in rows if wants}):
+        due = sum(wants == wanted for _, wants in rows)
+        count = len(re.findall(rf"(?:error|warning): .*(?:{wanted})", told))
+        if count < due:
+            yield f"{due} rows are to be refused for this reason, and {count} are: {wanted}"
     if all(wants is None for _, wants in rows) and told:
         yield "the compiler says: " + " ".join(told.split("\n")[:3])
 

@@ -54,7 +54,7 @@
 //! let names = [String::from("idle"), String::from("busy")];
 //! let (mut writer, mut reader) = nidzaru::register(names[0].as_str())?;
 //! std::thread::scope(|threads| {
-//!     threads.spawn(move || writer.write(&names[1].as_str()).unwrap()).join().unwrap();
+//!     threads.spawn(|| writer.write(&names[1].as_str()).unwrap()).join().unwrap();
 //!     assert_eq!(reader.latest(), "busy");
 //! });
 //! # Ok::<(), Box<dyn std::error::Error>>(())
