@@ -150,7 +150,7 @@ HEADER = [
     ("a record that is passed unseen", "(!NIDZARU_WATCHED && (size) == NIDZARU_SIZE(size)", "((size) == NIDZARU_SIZE(size)", "seen item"),
     ("a read that counts as unfilled", "NIDZARU_FILLED(item, size); NIDZARU_FILLED(&given, sizeof given); *number = given;", "NIDZARU_FILLED(&given, sizeof given); *number = given;", "filled"),
     ("a look that counts as unfilled", "if (!status) NIDZARU_FILLED(number, sizeof *number);", "", "filled"),
-    ("read_since that counts as unfilled", "NIDZARU_FILLED(item, size); NIDZARU_FILLED(stamp, sizeof *stamp);", "NIDZARU_FILLED(item, size);", "filled"),
+    ("a board's read that counts as unfilled", "NIDZARU_FILLED(item, size); NIDZARU_FILLED(&given, sizeof given); *stamp = given;", "NIDZARU_FILLED(&given, sizeof given); *stamp = given;", "filled"),
 ]
 
 
