@@ -6,25 +6,38 @@ in_rust() {
     PKG_CONFIG_PATH=$installed/lib/pkgconfig CARGO_TARGET_DIR=$room/target cargo "$@" --offline --quiet --manifest-path "$room/rust/Cargo.toml"
 }
 
-# The oldest compiler that Cargo.toml names builds and tests the crate, where it is installed. Else clippy, where it is there, looks for
-# what is newer in the standard library.
+# Looks for what is newer in the standard library than Rust $1, as the crate's oldest compiler.
+is_as_old() {
+    rm -rf "$room/old" && cp -r rust/nidzaru "$room/old" && sed -i "s/^rust-version = .*/rust-version = \"$1\"/" "$room/old/Cargo.toml" \
+        && PKG_CONFIG_PATH=$installed/lib/pkgconfig CARGO_TARGET_DIR=$room/oldest cargo clippy --offline --quiet --all-targets \
+            --manifest-path "$room/old/Cargo.toml" -- -A clippy::all -D clippy::incompatible_msrv >"$room/said" 2>&1
+}
+
+# The oldest compiler that Cargo.toml names builds and tests the crate, where it is installed, and clippy, where it is there, finds nothing
+# newer than it. Clippy has to find something newer than an older one.
 test_oldest_rust() {
     oldest=$(awk -F'"' '/^rust-version/ { print $2 }' rust/nidzaru/Cargo.toml)
     name="rust/nidzaru: Rust $oldest"
-    if cargo "+$oldest" --version >/dev/null 2>&1; then
-        PKG_CONFIG_PATH=$installed/lib/pkgconfig CARGO_TARGET_DIR=$room/oldest cargo "+$oldest" test --offline --quiet \
-            --manifest-path "$room/rust/Cargo.toml" >"$room/said" 2>&1
-    elif cargo clippy --version >/dev/null 2>&1; then
-        name="$name, by clippy"
-        PKG_CONFIG_PATH=$installed/lib/pkgconfig CARGO_TARGET_DIR=$room/oldest cargo clippy --offline --quiet --all-targets \
-            --manifest-path "$room/rust/Cargo.toml" -- -A clippy::all -D clippy::incompatible_msrv >"$room/said" 2>&1
+    if grep -q "Rust, from $oldest on" docs/LANGUAGES.md; then
+        pass "$name is the page's"
     else
-        return 0
+        fail "$name is the page's" "it has another"
     fi
-    if [ $? = 0 ]; then
-        pass "$name"
+    if cargo "+$oldest" --version >/dev/null 2>&1; then
+        if PKG_CONFIG_PATH=$installed/lib/pkgconfig CARGO_TARGET_DIR=$room/oldest cargo "+$oldest" test --offline --quiet \
+            --manifest-path "$room/rust/Cargo.toml" >"$room/said" 2>&1; then
+            pass "$name"
+        else
+            fail "$name" "$(grep -m 3 '^error' "$room/said" | tr '\n' ' ')"
+        fi
+    fi
+    cargo clippy --version >/dev/null 2>&1 || return 0
+    if ! is_as_old "$oldest"; then
+        fail "$name, by clippy" "$(grep -m 3 '^error' "$room/said" | tr '\n' ' ')"
+    elif is_as_old 1.75 || ! grep -q 'current MSRV' "$room/said"; then
+        fail "$name, by clippy" "it finds nothing that is newer than 1.75"
     else
-        fail "$name" "$(grep -m 3 '^error' "$room/said" | tr '\n' ' ')"
+        pass "$name, by clippy"
     fi
 }
 
