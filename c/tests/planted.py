@@ -167,7 +167,7 @@ CLASSES = [
     ("any record of a class", "static_assert(std::is_trivially_copyable<T>::value", "static_assert(true", "refused records c++"),
     *[(f"a {kind} that goes without an end", f"~{kind}() {{ end(); }}", f"~{kind}() {{}}", "objects") for kind in ("writer", "reader", "place")],
     *[(f"an assigned {kind} without an end", member(kind), member(kind).replace("end();", ""), "objects") for kind in ("writer", "reader", "place")],
-    ("a copyable side", "side(const side &) = delete;", "side(const side &from) { take(const_cast<side &>(from)); }", "objects", "readers move"),
+    ("a copyable reader", "reader(reader &&) = default;", "reader(reader &&) = default; reader(const reader &from) : side(), last(from.last) { take(const_cast<reader &>(from)); }", "objects", "readers move"),
     *[(f"an assigned {kind} without what it saw", member(kind) + " last = from.last;", member(kind), test)
       for kind, test in (("reader", "test.cpp"), ("place", "objects"))],
     ("empty places where memory is refused", "if (status) throw std::bad_alloc();", "", "objects"),
@@ -175,7 +175,7 @@ CLASSES = [
     ("a limit taken for want of memory", "if (status == NIDZARU_LIMIT) throw std::invalid_argument", "if (status == NIDZARU_NULL) throw std::invalid_argument", "objects"),
     ("a board of classes with a limit", "make_board([[maybe_unused]] const T &first, [[maybe_unused]] std::uint64_t limit = NIDZARU_UNLIMITED)", "make_board([[maybe_unused]] const T &first, [[maybe_unused]] std::uint64_t limit = 1000000)", "passed"),
     ("the last stamp of read_since", "least, copy.words, &last); if (!status || status == NIDZARU_OLDER) { detail::give(std::addressof(item), copy.words); given = last;", "least, copy.words, &given); if (!status || status == NIDZARU_OLDER) { detail::give(std::addressof(item), copy.words);", "objects"),
-    ("the last stamp of latest", "nidzaru_sized_board_read(record::triple, record::size, &handle, copy.words, &last)) return std::nullopt;", "nidzaru_sized_board_read(record::triple, record::size, &handle, copy.words, &given)) return std::nullopt;", "objects"),
+    ("the last stamp of latest", "if (nidzaru_sized_board_read(record::triple, record::size, &handle, copy.words, &last)) return std::nullopt;", "stamp given; if (nidzaru_sized_board_read(record::triple, record::size, &handle, copy.words, &given)) return std::nullopt;", "objects"),
     ("a number from the record", "&handle, copy.words, &last); if (!status) detail::give(std::addressof(item), copy.words); } if (!status) number = last;", "&handle, copy.words, &number); if (!status) detail::give(std::addressof(item), copy.words); } if (!status) last = number;", "objects"),
     ("a class's old news", "return !look(number) && number > last;", "return !look(number) && number >= last;", "objects"),
     ("a place's old news", "return last > before ? item", "return last >= before ? item", "objects"),
