@@ -10,6 +10,7 @@
  *   limits_write(&writer, &item)                       the writing thread: shows the record to the reader
  *   limits_read(&reader, &item, &number)               the reading thread: one whole record, and its number
  *   limits_look(&reader, &number)                      the reading thread: the number that a read would give, without the record
+ *   limits_news(&reader, &item, &number)               the same as a read where there is a greater number than this one, else nothing
  *   limits_end_writer(&writer), limits_end_reader(&reader)   in any order, each from its own thread
  *
  * No write and no read waits, tries again or takes memory. The opening is number 0, and each write has the next number. A
@@ -17,6 +18,7 @@
  * what lies between them was missed. NIDZARU_REGISTER takes the four-slot cell, NIDZARU_TRIPLE_REGISTER the triple buffer.
  *
  * Each call on a register answers 0 where it did what it says. Where it answers another of the numbers below it has changed nothing.
+ * `nidzaru_status_text` has a line for each.
  *
  * What the caller owes and nothing checks stands in docs/C.md, "What C owes". */
 #ifndef NIDZARU_H
@@ -36,16 +38,23 @@
 /* The compiler warns where the status of such a call isn't looked at. */
 #define NIDZARU_CHECKED __attribute__((warn_unused_result)) NIDZARU_INLINE
 
-/* Whether the program is compiled for ThreadSanitizer, which doesn't see inside the library. */
+/* Whether the program is compiled for ThreadSanitizer or MemorySanitizer, which don't see inside the library. */
 #ifdef __SANITIZE_THREAD__
 #define NIDZARU_WATCHED 1
 #elif defined(__has_feature)
 #if __has_feature(thread_sanitizer)
 #define NIDZARU_WATCHED 1
 #endif
+#if __has_feature(memory_sanitizer)
+#define NIDZARU_FILLED(at, size) __msan_unpoison(at, size)
+#define NIDZARU_FILLS 1
+#endif
 #endif
 #ifndef NIDZARU_WATCHED
 #define NIDZARU_WATCHED 0
+#endif
+#ifndef NIDZARU_FILLED
+#define NIDZARU_FILLED(at, size) ((void)0)
 #endif
 
 /* The size of the library's records that a record of this size goes into. */
@@ -58,15 +67,32 @@
 #define NIDZARU_PASSES(size, alignment) (!NIDZARU_WATCHED && (size) == NIDZARU_SIZE(size) && (alignment) >= 8)
 
 #ifdef __cplusplus
+#define NIDZARU_TO(type, value) static_cast<type>(value)
+#define NIDZARU_NOWHERE nullptr
 #define NIDZARU_ASSERT(holds, text) static_assert(holds, text)
 #define NIDZARU_ALIGNMENT(type) alignof(type)
 #define NIDZARU_COPIES(type) __is_trivially_copyable(type)
+#define NIDZARU_PLAIN(type) nidzaru::detail::plain<type>::value
 #define NIDZARU_IN_PLACE(type) (NIDZARU_PASSES(sizeof(type), alignof(type)) && !nidzaru::detail::shares_tail<type>::value)
 #define NIDZARU_GIVE(item, record) nidzaru::detail::give(item, record)
 
 extern "C++" {
 namespace nidzaru {
 namespace detail {
+
+/* Whether a `T` is neither const nor volatile. */
+template <class T> struct plain {
+    enum { value = true };
+};
+template <class T> struct plain<const T> {
+    enum { value = false };
+};
+template <class T> struct plain<volatile T> {
+    enum { value = false };
+};
+template <class T> struct plain<const volatile T> {
+    enum { value = false };
+};
 
 /* Whether the last bytes of a `T` may belong to another object: to what derives from it, or to a neighbour that overlaps it. */
 template <class T, bool derivable> struct probe {
@@ -105,9 +131,12 @@ template <class T> void give(T *item, const void *record) { giving<T, !shares_ta
 
 extern "C" {
 #else
+#define NIDZARU_TO(type, value) ((type)(value))
+#define NIDZARU_NOWHERE 0
 #define NIDZARU_ASSERT(holds, text) _Static_assert(holds, text)
 #define NIDZARU_ALIGNMENT(type) _Alignof(type)
 #define NIDZARU_COPIES(type) 1
+#define NIDZARU_PLAIN(type) (_Generic((type *)0, const type *: 0, default: 1) && _Generic((type *)0, volatile type *: 0, default: 1))
 #define NIDZARU_IN_PLACE(type) NIDZARU_PASSES(sizeof(type), _Alignof(type))
 #define NIDZARU_GIVE(item, record) memcpy(item, record, sizeof *(item))
 #endif
@@ -115,7 +144,7 @@ extern "C" {
 enum nidzaru_status {
     NIDZARU_DONE = 0,
     NIDZARU_NO_MEMORY = 1,  /* make: memory was refused */
-    NIDZARU_IN_USE = 2,     /* make, nidzaru_move: a handle that is to get a side has one already */
+    NIDZARU_IN_USE = 2,     /* make, a move: a handle that is to get a side has one already */
     NIDZARU_ENDED = 3,      /* the handle has no side: it was ended, or never made */
     NIDZARU_WORN_OUT = 4,   /* write: all 2^64 - 1 numbers are used, or a board's tags have ended */
     NIDZARU_OTHER_SIDE = 5, /* the handle has another side, or a side of another cell or size */
@@ -123,8 +152,28 @@ enum nidzaru_status {
     NIDZARU_COPIED = 7,     /* the handle isn't where its side was put: it was copied */
     NIDZARU_PROCESSES = 8,  /* make of a board: it has 2 to 16 places */
     NIDZARU_LIMIT = 9,      /* make of a board: a limit is at least 1 and below 2^64 - 1 */
-    NIDZARU_OLDER = 10      /* read_since: the answer, which is given, has a smaller stamp */
+    NIDZARU_OLDER = 10,     /* read_since: the answer, which is given, has a smaller stamp */
+    NIDZARU_NO_NEWS = 11    /* news: no record is newer than the caller's */
 };
+
+/* What a status means, in a few words. */
+NIDZARU_INLINE const char *nidzaru_status_text(int status) {
+    switch (status) {
+    case NIDZARU_DONE: return "done";
+    case NIDZARU_NO_MEMORY: return "memory was refused";
+    case NIDZARU_IN_USE: return "a handle that is to get a side has one already";
+    case NIDZARU_ENDED: return "the handle has no side";
+    case NIDZARU_WORN_OUT: return "the numbers or tags are used up";
+    case NIDZARU_OTHER_SIDE: return "the handle has another side, or a side of another cell or size";
+    case NIDZARU_NULL: return "a null pointer was passed";
+    case NIDZARU_COPIED: return "the handle was copied";
+    case NIDZARU_PROCESSES: return "a board has 2 to 16 places";
+    case NIDZARU_LIMIT: return "a board's limit is at least 1 and below 2^64 - 1";
+    case NIDZARU_OLDER: return "the record is older than the stamp";
+    case NIDZARU_NO_NEWS: return "there is no news";
+    default: return "no status of this library";
+    }
+}
 
 /* What the library has of a side. Nothing else reads or writes it. */
 typedef struct {
@@ -140,13 +189,32 @@ typedef struct {
     void *order;
 } nidzaru_handle;
 
+/* So far the handles of two threads lie from one another: a call stores into its handle, and no other one's may lie in the same
+ * line of the cache. */
+#define NIDZARU_APART 64
+
 /* What a handle begins as: zeros. */
-#define NIDZARU_EMPTY {{{0, 0}, 0, 0}}
+#define NIDZARU_EMPTY {{{0, NIDZARU_NOWHERE}, NIDZARU_NOWHERE, NIDZARU_NOWHERE}, {0}}
 
 NIDZARU_ASSERT(sizeof(void *) == 8, "the library is built for pointers of 8 bytes");
 
 /* The library's version, as NIDZARU_VERSION is counted. */
 uint32_t nidzaru_version(void);
+
+/* A library has such a name for each release from 2.1 on whose calls it has. What makes a register or a board asks for this header's,
+ * so an older library doesn't link with it. */
+#define NIDZARU_SINCE_(major, minor) nidzaru_since_##major##_##minor
+#define NIDZARU_SINCE(major, minor) NIDZARU_SINCE_(major, minor)
+extern const char NIDZARU_SINCE(NIDZARU_VERSION_MAJOR, NIDZARU_VERSION_MINOR)[];
+
+NIDZARU_INLINE void nidzaru_ask_for_release(void) {
+    __asm__ volatile("" : : "r"(NIDZARU_SINCE(NIDZARU_VERSION_MAJOR, NIDZARU_VERSION_MINOR)));
+}
+
+#ifdef NIDZARU_FILLS
+/* MemorySanitizer is told that what the library gives is filled. */
+void __msan_unpoison(const volatile void *at, size_t size);
+#endif
 
 /* The library's own calls: for each cell and size of record the same six. */
 #define NIDZARU_DECLARE(cell)                                                                                         \
@@ -200,7 +268,8 @@ NIDZARU_INLINE void nidzaru_heed(void) {
 
 /* A call with this handle begins. Two at once are a race, which the store shows. */
 NIDZARU_INLINE void nidzaru_begin(nidzaru_handle *handle) {
-    *(void *volatile *)&handle->order = handle->order;
+    void *volatile *order = &handle->order;
+    *order = handle->order;
     nidzaru_ignore();
 }
 
@@ -212,7 +281,7 @@ NIDZARU_INLINE void nidzaru_see(nidzaru_handle *reader) {
     if (reader->order) __tsan_acquire(reader->order);
 }
 #else
-#define nidzaru_new_order() 0
+#define nidzaru_new_order() NIDZARU_NOWHERE
 #define nidzaru_ignore() ((void)0)
 #define nidzaru_heed() ((void)0)
 #define nidzaru_begin(handle) ((void)0)
@@ -233,15 +302,19 @@ NIDZARU_INLINE void nidzaru_see(nidzaru_handle *reader) {
 
 NIDZARU_CHECKED int nidzaru_sized_make(int triple, size_t size, const void *first, nidzaru_handle *w, nidzaru_handle *r) {
     uint32_t status;
+    nidzaru_ask_for_release();
     nidzaru_ignore();
     status = NIDZARU_PICK(triple, size, make, (first, &w->side, &r->side));
     nidzaru_heed();
+    NIDZARU_FILLED(&status, sizeof status);
     if (!status) {
+        NIDZARU_FILLED(&w->side, sizeof w->side);
+        NIDZARU_FILLED(&r->side, sizeof r->side);
         w->home = w;
         r->home = r;
         w->order = r->order = nidzaru_new_order();
     }
-    return (int)status;
+    return NIDZARU_TO(int, status);
 }
 
 NIDZARU_CHECKED int nidzaru_sized_write(int triple, size_t size, nidzaru_handle *w, const void *item) {
@@ -250,16 +323,25 @@ NIDZARU_CHECKED int nidzaru_sized_write(int triple, size_t size, nidzaru_handle 
     nidzaru_show(w);
     status = NIDZARU_PICK(triple, size, write, (&w->side, item));
     nidzaru_heed();
-    return (int)status;
+    NIDZARU_FILLED(&status, sizeof status);
+    return NIDZARU_TO(int, status);
 }
 
+/* (what the number is given to may lie in the record, so the call gets a local one) */
 NIDZARU_CHECKED int nidzaru_sized_read(int triple, size_t size, nidzaru_handle *r, void *item, uint64_t *number) {
+    uint64_t given = 0;
     uint32_t status;
     nidzaru_begin(r);
-    status = NIDZARU_PICK(triple, size, read, (&r->side, item, number));
+    status = NIDZARU_PICK(triple, size, read, (&r->side, item, &given));
     nidzaru_see(r);
     nidzaru_heed();
-    return (int)status;
+    NIDZARU_FILLED(&status, sizeof status);
+    if (!status) {
+        NIDZARU_FILLED(item, size);
+        NIDZARU_FILLED(&given, sizeof given);
+        *number = given;
+    }
+    return NIDZARU_TO(int, status);
 }
 
 NIDZARU_CHECKED int nidzaru_sized_look(int triple, size_t size, nidzaru_handle *r, uint64_t *number) {
@@ -268,7 +350,9 @@ NIDZARU_CHECKED int nidzaru_sized_look(int triple, size_t size, nidzaru_handle *
     status = NIDZARU_PICK(triple, size, look, (&r->side, number));
     nidzaru_see(r);
     nidzaru_heed();
-    return (int)status;
+    NIDZARU_FILLED(&status, sizeof status);
+    if (!status) NIDZARU_FILLED(number, sizeof *number);
+    return NIDZARU_TO(int, status);
 }
 
 NIDZARU_INLINE int nidzaru_sized_end_writer(int triple, size_t size, nidzaru_handle *w) {
@@ -276,7 +360,8 @@ NIDZARU_INLINE int nidzaru_sized_end_writer(int triple, size_t size, nidzaru_han
     nidzaru_begin(w);
     status = NIDZARU_PICK(triple, size, end_writer, (&w->side));
     nidzaru_heed();
-    return (int)status;
+    NIDZARU_FILLED(&status, sizeof status);
+    return NIDZARU_TO(int, status);
 }
 
 NIDZARU_INLINE int nidzaru_sized_end_reader(int triple, size_t size, nidzaru_handle *r) {
@@ -284,93 +369,118 @@ NIDZARU_INLINE int nidzaru_sized_end_reader(int triple, size_t size, nidzaru_han
     nidzaru_begin(r);
     status = NIDZARU_PICK(triple, size, end_reader, (&r->side));
     nidzaru_heed();
-    return (int)status;
+    NIDZARU_FILLED(&status, sizeof status);
+    return NIDZARU_TO(int, status);
 }
 #undef NIDZARU_PICK
 
 NIDZARU_INLINE int nidzaru_is_copied(const nidzaru_handle *handle) {
-    return handle->side.live && handle->home != (const void *)handle;
+    return handle->side.live && handle->home != handle;
 }
 
-/* Takes the side to another handle, as nidzaru_move(&to.handle, &from.handle), and leaves the first one empty. NIDZARU_IN_USE where the
- * other one has a side, NIDZARU_COPIED where the first one is a copy. An empty handle is moved as such. */
-NIDZARU_CHECKED int nidzaru_move(nidzaru_handle *to, nidzaru_handle *from) {
-    if (!to || !from) return NIDZARU_NULL;
+/* Takes what one handle has to another one of its type, and leaves it empty. */
+NIDZARU_CHECKED int nidzaru_move_handle(nidzaru_handle *to, nidzaru_handle *from) {
     if (to->side.live) return NIDZARU_IN_USE;
     if (nidzaru_is_copied(from)) return NIDZARU_COPIED;
     to->side = from->side;
     to->home = to;
     to->order = from->order;
     from->side.live = 0;
-    from->side.at = 0;
+    from->side.at = NIDZARU_NOWHERE;
     return NIDZARU_DONE;
 }
 
-#define NIDZARU_FUNCTIONS(name, type, triple)                                                                         \
-    NIDZARU_ASSERT(NIDZARU_COPIES(type), "a record of a register is trivially copyable");                             \
-    NIDZARU_ASSERT(sizeof(type) <= 4096, "a record of a register has at most 4096 bytes");                            \
-    typedef struct {                                                                                                  \
-        nidzaru_handle handle;                                                                                        \
-    } name##_writer;                                                                                                  \
-    typedef struct {                                                                                                  \
-        nidzaru_handle handle;                                                                                        \
-    } name##_reader;                                                                                                  \
-    /* Makes a register that holds `first` as number 0, and puts its sides into two empty handles. */                 \
-    NIDZARU_CHECKED int name##_make(const type *first, name##_writer *writer, name##_reader *reader) {                \
-        uint64_t record[NIDZARU_SIZE(sizeof(type)) / 8] = {0};                                                        \
-        if (!first || !writer || !reader) return NIDZARU_NULL;                                                        \
-        memcpy(record, (const void *)first, sizeof(type));                                                            \
-        return nidzaru_sized_make(triple, sizeof record, record, &writer->handle, &reader->handle);                   \
-    }                                                                                                                 \
-    /* Shows the record to the reader, under the next number. What this thread did before comes before what the       \
-     * reading thread does once it has read this number, or a greater one. */                                         \
-    NIDZARU_CHECKED int name##_write(name##_writer *writer, const type *item) {                                       \
-        if (!writer || !item) return NIDZARU_NULL;                                                                    \
-        if (nidzaru_is_copied(&writer->handle)) return NIDZARU_COPIED;                                                \
-        if (NIDZARU_PASSES(sizeof(type), NIDZARU_ALIGNMENT(type))) {                                                  \
-            return nidzaru_sized_write(triple, sizeof(type), &writer->handle, (const void *)item);                    \
-        } else {                                                                                                      \
-            uint64_t record[NIDZARU_SIZE(sizeof(type)) / 8] = {0};                                                    \
-            memcpy(record, (const void *)item, sizeof(type));                                                         \
-            return nidzaru_sized_write(triple, sizeof record, &writer->handle, record);                               \
-        }                                                                                                             \
-    }                                                                                                                 \
-    /* Gives one whole record and its number, which is not below that of any read or look before. */                  \
-    NIDZARU_CHECKED int name##_read(name##_reader *reader, type *item, uint64_t *number) {                            \
-        if (!reader || !item || !number) return NIDZARU_NULL;                                                         \
-        if (nidzaru_is_copied(&reader->handle)) return NIDZARU_COPIED;                                                \
-        if (NIDZARU_IN_PLACE(type)) {                                                                                 \
-            return nidzaru_sized_read(triple, sizeof(type), &reader->handle, (void *)item, number);                   \
-        } else {                                                                                                      \
-            uint64_t record[NIDZARU_SIZE(sizeof(type)) / 8] = {0};                                                    \
-            int status = nidzaru_sized_read(triple, sizeof record, &reader->handle, record, number);                  \
-            if (!status) NIDZARU_GIVE(item, record);                                                                  \
-            return status;                                                                                            \
-        }                                                                                                             \
-    }                                                                                                                 \
-    /* Gives the number that a read would give, without the record: there is news where it is greater than the last   \
-     * one. No later read gives a number below it. */                                                                 \
-    NIDZARU_CHECKED int name##_look(name##_reader *reader, uint64_t *number) {                                        \
-        if (!reader || !number) return NIDZARU_NULL;                                                                  \
-        if (nidzaru_is_copied(&reader->handle)) return NIDZARU_COPIED;                                                \
-        return nidzaru_sized_look(triple, NIDZARU_SIZE(sizeof(type)), &reader->handle, number);                       \
-    }                                                                                                                 \
-    /* Ends the writing side. The reader keeps the last record; the second end of the two frees the register. */      \
-    NIDZARU_INLINE int name##_end_writer(name##_writer *writer) {                                                     \
-        if (!writer) return NIDZARU_NULL;                                                                             \
-        if (nidzaru_is_copied(&writer->handle)) return NIDZARU_COPIED;                                                \
-        return nidzaru_sized_end_writer(triple, NIDZARU_SIZE(sizeof(type)), &writer->handle);                         \
-    }                                                                                                                 \
-    /* Ends the reading side. Writes go on; the second end of the two frees the register. */                          \
-    NIDZARU_INLINE int name##_end_reader(name##_reader *reader) {                                                     \
-        if (!reader) return NIDZARU_NULL;                                                                             \
-        if (nidzaru_is_copied(&reader->handle)) return NIDZARU_COPIED;                                                \
-        return nidzaru_sized_end_reader(triple, NIDZARU_SIZE(sizeof(type)), &reader->handle);                         \
-    }                                                                                                                 \
+#define NIDZARU_FUNCTIONS(name, type, triple)                                                                          \
+    NIDZARU_ASSERT(NIDZARU_PLAIN(type), "a record of a register is neither const nor volatile");                       \
+    NIDZARU_ASSERT(NIDZARU_COPIES(type), "a record of a register is trivially copyable");                              \
+    NIDZARU_ASSERT(sizeof(type) <= 4096, "a record of a register has at most 4096 bytes");                             \
+    /* (below stands this name alone: a type may be called as an argument is) */                                       \
+    typedef type name##_record;                                                                                        \
+    typedef struct {                                                                                                   \
+        nidzaru_handle handle;                                                                                         \
+        char apart[NIDZARU_APART];                                                                                     \
+    } name##_writer;                                                                                                   \
+    typedef struct {                                                                                                   \
+        nidzaru_handle handle;                                                                                         \
+        char apart[NIDZARU_APART];                                                                                     \
+    } name##_reader;                                                                                                   \
+    /* Makes a register that holds `first` as number 0, and puts its sides into two empty handles. */                  \
+    NIDZARU_CHECKED int name##_make(const name##_record *first, name##_writer *writer, name##_reader *reader) {        \
+        uint64_t words[NIDZARU_SIZE(sizeof(name##_record)) / 8] = {0};                                                 \
+        if (!first || !writer || !reader) return NIDZARU_NULL;                                                         \
+        memcpy(words, NIDZARU_TO(const void *, first), sizeof(name##_record));                                         \
+        return nidzaru_sized_make(triple, sizeof words, words, &writer->handle, &reader->handle);                      \
+    }                                                                                                                  \
+    /* Shows the record to the reader, under the next number. What this thread did before comes before what the        \
+     * reading thread does once it has read this number, or a greater one. */                                          \
+    NIDZARU_CHECKED int name##_write(name##_writer *writer, const name##_record *item) {                               \
+        if (!writer || !item) return NIDZARU_NULL;                                                                     \
+        if (nidzaru_is_copied(&writer->handle)) return NIDZARU_COPIED;                                                 \
+        if (NIDZARU_PASSES(sizeof(name##_record), NIDZARU_ALIGNMENT(name##_record))) {                                 \
+            return nidzaru_sized_write(triple, sizeof(name##_record), &writer->handle, NIDZARU_TO(const void *, item)); \
+        } else {                                                                                                       \
+            uint64_t words[NIDZARU_SIZE(sizeof(name##_record)) / 8] = {0};                                             \
+            memcpy(words, NIDZARU_TO(const void *, item), sizeof(name##_record));                                      \
+            return nidzaru_sized_write(triple, sizeof words, &writer->handle, words);                                  \
+        }                                                                                                              \
+    }                                                                                                                  \
+    /* Gives one whole record, and then its number, which is not below that of any read or look before. */             \
+    NIDZARU_CHECKED int name##_read(name##_reader *reader, name##_record *item, uint64_t *number) {                    \
+        if (!reader || !item || !number) return NIDZARU_NULL;                                                          \
+        if (nidzaru_is_copied(&reader->handle)) return NIDZARU_COPIED;                                                 \
+        if (NIDZARU_IN_PLACE(name##_record)) {                                                                         \
+            return nidzaru_sized_read(triple, sizeof(name##_record), &reader->handle, NIDZARU_TO(void *, item), number); \
+        } else {                                                                                                       \
+            uint64_t words[NIDZARU_SIZE(sizeof(name##_record)) / 8] = {0}, given = 0;                                  \
+            int status = nidzaru_sized_read(triple, sizeof words, &reader->handle, words, &given);                     \
+            if (status) return status;                                                                                 \
+            NIDZARU_GIVE(item, words);                                                                                 \
+            *number = given;                                                                                           \
+            return NIDZARU_DONE;                                                                                       \
+        }                                                                                                              \
+    }                                                                                                                  \
+    /* Gives the number that a read would give, without the record: there is news where it is greater than the last    \
+     * one. No later read gives a number below it. */                                                                  \
+    NIDZARU_CHECKED int name##_look(name##_reader *reader, uint64_t *number) {                                         \
+        if (!reader || !number) return NIDZARU_NULL;                                                                   \
+        if (nidzaru_is_copied(&reader->handle)) return NIDZARU_COPIED;                                                 \
+        return nidzaru_sized_look(triple, NIDZARU_SIZE(sizeof(name##_record)), &reader->handle, number);               \
+    }                                                                                                                  \
+    /* Reads as NAME_read does, if there is a record with a greater number than the one that stands there. Else        \
+     * NIDZARU_NO_NEWS, and no record is copied. */                                                                    \
+    NIDZARU_CHECKED int name##_news(name##_reader *reader, name##_record *item, uint64_t *number) {                    \
+        uint64_t seen = 0;                                                                                             \
+        int status;                                                                                                    \
+        if (!reader || !item || !number) return NIDZARU_NULL;                                                          \
+        status = name##_look(reader, &seen);                                                                           \
+        if (status) return status;                                                                                     \
+        return seen > *number ? name##_read(reader, item, number) : NIDZARU_NO_NEWS;                                   \
+    }                                                                                                                  \
+    /* Takes the writing side to another handle, which has none, and leaves the first one empty. NIDZARU_IN_USE where the \
+     * other one has a side, NIDZARU_COPIED where the first one is a copy. An empty handle is moved as such. */        \
+    NIDZARU_CHECKED int name##_move_writer(name##_writer *to, name##_writer *from) {                                   \
+        return to && from ? nidzaru_move_handle(&to->handle, &from->handle) : NIDZARU_NULL;                            \
+    }                                                                                                                  \
+    /* The same of the reading side. */                                                                                \
+    NIDZARU_CHECKED int name##_move_reader(name##_reader *to, name##_reader *from) {                                   \
+        return to && from ? nidzaru_move_handle(&to->handle, &from->handle) : NIDZARU_NULL;                            \
+    }                                                                                                                  \
+    /* Ends the writing side. The reader keeps the last record; the second end of the two frees the register. */       \
+    NIDZARU_INLINE int name##_end_writer(name##_writer *writer) {                                                      \
+        if (!writer) return NIDZARU_NULL;                                                                              \
+        if (nidzaru_is_copied(&writer->handle)) return NIDZARU_COPIED;                                                 \
+        return nidzaru_sized_end_writer(triple, NIDZARU_SIZE(sizeof(name##_record)), &writer->handle);                 \
+    }                                                                                                                  \
+    /* Ends the reading side. Writes go on; the second end of the two frees the register. */                           \
+    NIDZARU_INLINE int name##_end_reader(name##_reader *reader) {                                                      \
+        if (!reader) return NIDZARU_NULL;                                                                              \
+        if (nidzaru_is_copied(&reader->handle)) return NIDZARU_COPIED;                                                 \
+        return nidzaru_sized_end_reader(triple, NIDZARU_SIZE(sizeof(name##_record)), &reader->handle);                 \
+    }                                                                                                                  \
     NIDZARU_ASSERT(1, "takes a semicolon")
 
-/* The types NAME_writer and NAME_reader and the functions NAME_make, NAME_write, NAME_read, NAME_look, NAME_end_writer and
- * NAME_end_reader, for records of this type. */
+/* The types NAME_writer and NAME_reader and the functions NAME_make, NAME_write, NAME_read, NAME_look, NAME_news,
+ * NAME_move_writer, NAME_move_reader, NAME_end_writer and NAME_end_reader, for records of this type. */
 #define NIDZARU_REGISTER(name, type) NIDZARU_FUNCTIONS(name, type, 0)
 #define NIDZARU_TRIPLE_REGISTER(name, type) NIDZARU_FUNCTIONS(name, type, 1)
 
@@ -383,15 +493,16 @@ NIDZARU_CHECKED int nidzaru_move(nidzaru_handle *to, nidzaru_handle *from) {
  *   plans_write(&places[0], &item, &stamp)             puts the record there, and gives its stamp
  *   plans_read(&places[1], &item, &stamp)              one whole record, and its stamp
  *   plans_read_since(&places[1], least, &item, &stamp) the same, and NIDZARU_OLDER where its stamp is smaller than this one
+ *   plans_news(&places[1], &item, &stamp)              the same as a read where there is a greater stamp than this one, else nothing
  *   plans_end(&places[2])                              in any order, each from its own thread
  *
  * No call waits, tries again or takes memory, but `make`. One stamp is one record; the opening has the stamp 0.0. Of two stamps the
  * one with the greater tag is the later one, of equal tags the one with the greater writer. What a place reads is never older than
- * what it wrote or read before. A place goes to the struct of its thread by `nidzaru_move`. NIDZARU_BOARD takes four-slot cells,
+ * what it wrote or read before. A place goes to the struct of its thread by `plans_move`. NIDZARU_BOARD takes four-slot cells,
  * NIDZARU_TRIPLE_BOARD triple buffers.
  *
- * With NIDZARU_WORN_OUT and NIDZARU_OLDER the place has made a call of its board all the same. With any other status but 0
- * nothing has changed. */
+ * With NIDZARU_WORN_OUT, NIDZARU_OLDER and NIDZARU_NO_NEWS the place has made a call of its board all the same. With any other
+ * status but 0 nothing has changed. */
 typedef struct {
     uint64_t tag, writer;
 } nidzaru_stamp;
@@ -399,6 +510,11 @@ typedef struct {
 /* Whether the first stamp is the smaller one. */
 NIDZARU_INLINE int nidzaru_stamp_is_below(nidzaru_stamp a, nidzaru_stamp b) {
     return a.tag < b.tag || (a.tag == b.tag && a.writer < b.writer);
+}
+
+/* Which of two stamps is the smaller one: below 0 the first, above 0 the second, and 0 where they are the same. */
+NIDZARU_INLINE int nidzaru_stamp_compare(nidzaru_stamp a, nidzaru_stamp b) {
+    return nidzaru_stamp_is_below(b, a) - nidzaru_stamp_is_below(a, b);
 }
 
 /* The greatest limit: no program gets there. */
@@ -440,17 +556,20 @@ NIDZARU_DECLARE_BOARD(triple_board_4096)
 /* Makes a board with a place for each handle. They must be empty. */
 NIDZARU_CHECKED int nidzaru_sized_board_make(int triple, size_t size, const void *first, uint64_t limit, nidzaru_handle *const *places,
                                              size_t count) {
-    nidzaru_side sides[16] = {{0, 0}};
+    nidzaru_side sides[16] = {{0, NIDZARU_NOWHERE}};
     uint32_t status;
     size_t i;
     void *order;
+    nidzaru_ask_for_release();
     if (count < 2 || count > 16) return NIDZARU_PROCESSES;
     for (i = 0; i < count; i++)
         if (places[i]->side.live) return NIDZARU_IN_USE;
     nidzaru_ignore();
     status = NIDZARU_BOARD_PICK(triple, size, make, (first, limit, sides, count));
     nidzaru_heed();
-    if (status) return (int)status;
+    NIDZARU_FILLED(&status, sizeof status);
+    if (status) return NIDZARU_TO(int, status);
+    NIDZARU_FILLED(sides, sizeof sides);
     order = nidzaru_new_order();
     for (i = 0; i < count; i++) {
         places[i]->side = sides[i];
@@ -460,22 +579,34 @@ NIDZARU_CHECKED int nidzaru_sized_board_make(int triple, size_t size, const void
     return NIDZARU_DONE;
 }
 
+/* (what the stamp is given to may lie in the record, so each call gets a local one) */
 NIDZARU_CHECKED int nidzaru_sized_board_write(int triple, size_t size, nidzaru_handle *place, const void *item, nidzaru_stamp *stamp) {
+    nidzaru_stamp given = {0, 0};
     uint32_t status;
     nidzaru_begin(place);
     nidzaru_show(place);
-    status = NIDZARU_BOARD_PICK(triple, size, write, (&place->side, item, stamp));
+    status = NIDZARU_BOARD_PICK(triple, size, write, (&place->side, item, &given));
     nidzaru_heed();
-    return (int)status;
+    NIDZARU_FILLED(&status, sizeof status);
+    NIDZARU_FILLED(&given, sizeof given);
+    if (!status) *stamp = given;
+    return NIDZARU_TO(int, status);
 }
 
 NIDZARU_CHECKED int nidzaru_sized_board_read(int triple, size_t size, nidzaru_handle *place, void *item, nidzaru_stamp *stamp) {
+    nidzaru_stamp given = {0, 0};
     uint32_t status;
     nidzaru_begin(place);
-    status = NIDZARU_BOARD_PICK(triple, size, read, (&place->side, item, stamp));
+    status = NIDZARU_BOARD_PICK(triple, size, read, (&place->side, item, &given));
     nidzaru_see(place);
     nidzaru_heed();
-    return (int)status;
+    NIDZARU_FILLED(&status, sizeof status);
+    if (!status) {
+        NIDZARU_FILLED(item, size);
+        NIDZARU_FILLED(&given, sizeof given);
+        *stamp = given;
+    }
+    return NIDZARU_TO(int, status);
 }
 
 NIDZARU_CHECKED int nidzaru_sized_board_read_since(int triple, size_t size, nidzaru_handle *place, nidzaru_stamp least, void *item,
@@ -485,7 +616,12 @@ NIDZARU_CHECKED int nidzaru_sized_board_read_since(int triple, size_t size, nidz
     status = NIDZARU_BOARD_PICK(triple, size, read_since, (&place->side, &least, item, stamp));
     nidzaru_see(place);
     nidzaru_heed();
-    return (int)status;
+    NIDZARU_FILLED(&status, sizeof status);
+    if (!status || status == NIDZARU_OLDER) {
+        NIDZARU_FILLED(item, size);
+        NIDZARU_FILLED(stamp, sizeof *stamp);
+    }
+    return NIDZARU_TO(int, status);
 }
 
 NIDZARU_INLINE int nidzaru_sized_board_end(int triple, size_t size, nidzaru_handle *place) {
@@ -493,75 +629,105 @@ NIDZARU_INLINE int nidzaru_sized_board_end(int triple, size_t size, nidzaru_hand
     nidzaru_begin(place);
     status = NIDZARU_BOARD_PICK(triple, size, end, (&place->side));
     nidzaru_heed();
-    return (int)status;
+    NIDZARU_FILLED(&status, sizeof status);
+    return NIDZARU_TO(int, status);
 }
 #undef NIDZARU_BOARD_PICK
 
-#define NIDZARU_BOARD_FUNCTIONS(name, type, triple)                                                                   \
-    NIDZARU_ASSERT(NIDZARU_COPIES(type), "a record of a board is trivially copyable");                                \
-    NIDZARU_ASSERT(sizeof(type) <= 4096, "a record of a board has at most 4096 bytes");                               \
-    typedef struct {                                                                                                  \
-        nidzaru_handle handle;                                                                                        \
-    } name##_place;                                                                                                   \
+#define NIDZARU_BOARD_FUNCTIONS(name, type, triple)                                                                    \
+    NIDZARU_ASSERT(NIDZARU_PLAIN(type), "a record of a board is neither const nor volatile");                          \
+    NIDZARU_ASSERT(NIDZARU_COPIES(type), "a record of a board is trivially copyable");                                 \
+    NIDZARU_ASSERT(sizeof(type) <= 4096, "a record of a board has at most 4096 bytes");                                \
+    typedef type name##_record;                                                                                        \
+    typedef struct {                                                                                                   \
+        nidzaru_handle handle;                                                                                         \
+        char apart[NIDZARU_APART];                                                                                     \
+    } name##_place;                                                                                                    \
     /* Makes a board that holds `first`, and puts its 2 to 16 places into empty handles. Its tags end at the limit. */ \
-    NIDZARU_CHECKED int name##_make_limited(const type *first, uint64_t limit, name##_place *places, size_t count) {  \
-        uint64_t record[NIDZARU_BOARD_SIZE(sizeof(type)) / 8] = {0};                                                  \
-        nidzaru_handle *handles[16] = {0};                                                                            \
-        size_t i;                                                                                                     \
-        if (!first || !places) return NIDZARU_NULL;                                                                   \
-        for (i = 0; i < count && i < 16; i++) handles[i] = &places[i].handle;                                         \
-        memcpy(record, (const void *)first, sizeof(type));                                                            \
-        return nidzaru_sized_board_make(triple, sizeof record, record, limit, handles, count);                        \
-    }                                                                                                                 \
-    /* The same, with tags that no program uses up. */                                                                \
-    NIDZARU_CHECKED int name##_make(const type *first, name##_place *places, size_t count) {                          \
-        return name##_make_limited(first, NIDZARU_UNLIMITED, places, count);                                          \
-    }                                                                                                                 \
-    /* Puts the record under the next stamp above all that this place sees, and gives the stamp. */                   \
-    NIDZARU_CHECKED int name##_write(name##_place *place, const type *item, nidzaru_stamp *stamp) {                   \
-        if (!place || !item || !stamp) return NIDZARU_NULL;                                                           \
-        if (nidzaru_is_copied(&place->handle)) return NIDZARU_COPIED;                                                 \
-        if (NIDZARU_BOARD_PASSES(sizeof(type), NIDZARU_ALIGNMENT(type))) {                                            \
-            return nidzaru_sized_board_write(triple, sizeof(type), &place->handle, (const void *)item, stamp);        \
-        } else {                                                                                                      \
-            uint64_t record[NIDZARU_BOARD_SIZE(sizeof(type)) / 8] = {0};                                              \
-            memcpy(record, (const void *)item, sizeof(type));                                                         \
-            return nidzaru_sized_board_write(triple, sizeof record, &place->handle, record, stamp);                   \
-        }                                                                                                             \
-    }                                                                                                                 \
-    /* Gives one whole record and its stamp, which is never below that of any call of this place before. */           \
-    NIDZARU_CHECKED int name##_read(name##_place *place, type *item, nidzaru_stamp *stamp) {                          \
-        if (!place || !item || !stamp) return NIDZARU_NULL;                                                           \
-        if (nidzaru_is_copied(&place->handle)) return NIDZARU_COPIED;                                                 \
-        if (NIDZARU_BOARD_IN_PLACE(type)) {                                                                           \
-            return nidzaru_sized_board_read(triple, sizeof(type), &place->handle, (void *)item, stamp);               \
-        } else {                                                                                                      \
-            uint64_t record[NIDZARU_BOARD_SIZE(sizeof(type)) / 8] = {0};                                              \
-            int status = nidzaru_sized_board_read(triple, sizeof record, &place->handle, record, stamp);              \
-            if (!status) NIDZARU_GIVE(item, record);                                                                  \
-            return status;                                                                                            \
-        }                                                                                                             \
-    }                                                                                                                 \
-    /* The same; NIDZARU_OLDER where the answer, which is given, has a smaller stamp than this one. */                \
-    NIDZARU_CHECKED int name##_read_since(name##_place *place, nidzaru_stamp least, type *item, nidzaru_stamp *stamp) { \
-        uint64_t record[NIDZARU_BOARD_SIZE(sizeof(type)) / 8] = {0};                                                  \
-        int status;                                                                                                   \
-        if (!place || !item || !stamp) return NIDZARU_NULL;                                                           \
-        if (nidzaru_is_copied(&place->handle)) return NIDZARU_COPIED;                                                 \
-        status = nidzaru_sized_board_read_since(triple, sizeof record, &place->handle, least, record, stamp);         \
-        if (!status || status == NIDZARU_OLDER) NIDZARU_GIVE(item, record);                                           \
-        return status;                                                                                                \
-    }                                                                                                                 \
-    /* Ends the place. The others go on, and keep the last record; the last end frees the board. */                   \
-    NIDZARU_INLINE int name##_end(name##_place *place) {                                                              \
-        if (!place) return NIDZARU_NULL;                                                                              \
-        if (nidzaru_is_copied(&place->handle)) return NIDZARU_COPIED;                                                 \
-        return nidzaru_sized_board_end(triple, NIDZARU_BOARD_SIZE(sizeof(type)), &place->handle);                     \
-    }                                                                                                                 \
+    NIDZARU_CHECKED int name##_make_limited(const name##_record *first, uint64_t limit, name##_place *places, size_t count) { \
+        uint64_t words[NIDZARU_BOARD_SIZE(sizeof(name##_record)) / 8] = {0};                                           \
+        nidzaru_handle *handles[16] = {NIDZARU_NOWHERE};                                                               \
+        size_t i;                                                                                                      \
+        if (!first || !places) return NIDZARU_NULL;                                                                    \
+        for (i = 0; i < count && i < 16; i++) handles[i] = &places[i].handle;                                          \
+        memcpy(words, NIDZARU_TO(const void *, first), sizeof(name##_record));                                         \
+        return nidzaru_sized_board_make(triple, sizeof words, words, limit, handles, count);                           \
+    }                                                                                                                  \
+    /* The same, with tags that no program uses up. */                                                                 \
+    NIDZARU_CHECKED int name##_make(const name##_record *first, name##_place *places, size_t count) {                  \
+        return name##_make_limited(first, NIDZARU_UNLIMITED, places, count);                                           \
+    }                                                                                                                  \
+    /* Puts the record under the next stamp above all that this place sees, and gives the stamp. */                    \
+    NIDZARU_CHECKED int name##_write(name##_place *place, const name##_record *item, nidzaru_stamp *stamp) {           \
+        if (!place || !item || !stamp) return NIDZARU_NULL;                                                            \
+        if (nidzaru_is_copied(&place->handle)) return NIDZARU_COPIED;                                                  \
+        if (NIDZARU_BOARD_PASSES(sizeof(name##_record), NIDZARU_ALIGNMENT(name##_record))) {                           \
+            return nidzaru_sized_board_write(triple, sizeof(name##_record), &place->handle, NIDZARU_TO(const void *, item), stamp); \
+        } else {                                                                                                       \
+            uint64_t words[NIDZARU_BOARD_SIZE(sizeof(name##_record)) / 8] = {0};                                       \
+            memcpy(words, NIDZARU_TO(const void *, item), sizeof(name##_record));                                      \
+            return nidzaru_sized_board_write(triple, sizeof words, &place->handle, words, stamp);                      \
+        }                                                                                                              \
+    }                                                                                                                  \
+    /* Gives one whole record, and then its stamp, which is never below that of any call of this place before. */      \
+    NIDZARU_CHECKED int name##_read(name##_place *place, name##_record *item, nidzaru_stamp *stamp) {                  \
+        if (!place || !item || !stamp) return NIDZARU_NULL;                                                            \
+        if (nidzaru_is_copied(&place->handle)) return NIDZARU_COPIED;                                                  \
+        if (NIDZARU_BOARD_IN_PLACE(name##_record)) {                                                                   \
+            return nidzaru_sized_board_read(triple, sizeof(name##_record), &place->handle, NIDZARU_TO(void *, item), stamp); \
+        } else {                                                                                                       \
+            uint64_t words[NIDZARU_BOARD_SIZE(sizeof(name##_record)) / 8] = {0};                                       \
+            nidzaru_stamp given = {0, 0};                                                                              \
+            int status = nidzaru_sized_board_read(triple, sizeof words, &place->handle, words, &given);                \
+            if (status) return status;                                                                                 \
+            NIDZARU_GIVE(item, words);                                                                                 \
+            *stamp = given;                                                                                            \
+            return NIDZARU_DONE;                                                                                       \
+        }                                                                                                              \
+    }                                                                                                                  \
+    /* The same; NIDZARU_OLDER where the answer, which is given, has a smaller stamp than this one. */                 \
+    NIDZARU_CHECKED int name##_read_since(name##_place *place, nidzaru_stamp least, name##_record *item, nidzaru_stamp *stamp) { \
+        uint64_t words[NIDZARU_BOARD_SIZE(sizeof(name##_record)) / 8] = {0};                                           \
+        nidzaru_stamp given = {0, 0};                                                                                  \
+        int status;                                                                                                    \
+        if (!place || !item || !stamp) return NIDZARU_NULL;                                                            \
+        if (nidzaru_is_copied(&place->handle)) return NIDZARU_COPIED;                                                  \
+        status = nidzaru_sized_board_read_since(triple, sizeof words, &place->handle, least, words, &given);           \
+        if (status && status != NIDZARU_OLDER) return status;                                                          \
+        NIDZARU_GIVE(item, words);                                                                                     \
+        *stamp = given;                                                                                                \
+        return status;                                                                                                 \
+    }                                                                                                                  \
+    /* Reads as NAME_read does, if there is a record with a greater stamp than the one that stands there. Else         \
+     * NIDZARU_NO_NEWS, and nothing is given. A place's own write is no news where its stamp stands there. */          \
+    NIDZARU_CHECKED int name##_news(name##_place *place, name##_record *item, nidzaru_stamp *stamp) {                  \
+        uint64_t words[NIDZARU_BOARD_SIZE(sizeof(name##_record)) / 8] = {0};                                           \
+        nidzaru_stamp given = {0, 0};                                                                                  \
+        int status;                                                                                                    \
+        if (!place || !item || !stamp) return NIDZARU_NULL;                                                            \
+        if (nidzaru_is_copied(&place->handle)) return NIDZARU_COPIED;                                                  \
+        status = nidzaru_sized_board_read(triple, sizeof words, &place->handle, words, &given);                        \
+        if (status) return status;                                                                                     \
+        if (!nidzaru_stamp_is_below(*stamp, given)) return NIDZARU_NO_NEWS;                                            \
+        NIDZARU_GIVE(item, words);                                                                                     \
+        *stamp = given;                                                                                                \
+        return NIDZARU_DONE;                                                                                           \
+    }                                                                                                                  \
+    /* Takes the place to another handle, which has none, and leaves the first one empty. NIDZARU_IN_USE where the other \
+     * one has a place, NIDZARU_COPIED where the first one is a copy. An empty handle is moved as such. */             \
+    NIDZARU_CHECKED int name##_move(name##_place *to, name##_place *from) {                                            \
+        return to && from ? nidzaru_move_handle(&to->handle, &from->handle) : NIDZARU_NULL;                            \
+    }                                                                                                                  \
+    /* Ends the place. The others go on, and keep the last record; the last end frees the board. */                    \
+    NIDZARU_INLINE int name##_end(name##_place *place) {                                                               \
+        if (!place) return NIDZARU_NULL;                                                                               \
+        if (nidzaru_is_copied(&place->handle)) return NIDZARU_COPIED;                                                  \
+        return nidzaru_sized_board_end(triple, NIDZARU_BOARD_SIZE(sizeof(name##_record)), &place->handle);             \
+    }                                                                                                                  \
     NIDZARU_ASSERT(1, "takes a semicolon")
 
-/* The type NAME_place and the functions NAME_make, NAME_make_limited, NAME_write, NAME_read, NAME_read_since and NAME_end, for records
- * of this type. */
+/* The type NAME_place and the functions NAME_make, NAME_make_limited, NAME_write, NAME_read, NAME_read_since, NAME_news, NAME_move and
+ * NAME_end, for records of this type. */
 #define NIDZARU_BOARD(name, type) NIDZARU_BOARD_FUNCTIONS(name, type, 0)
 #define NIDZARU_TRIPLE_BOARD(name, type) NIDZARU_BOARD_FUNCTIONS(name, type, 1)
 

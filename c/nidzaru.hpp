@@ -6,18 +6,25 @@
 //   reader.read(item, number)                                    one whole record, and its number
 //   reader.latest()                                              one whole record, if there is a side
 //   reader.has_news()                                            whether `latest` would give another record than the last one
+//   reader.news()                                                one whole record, if it is another one than the last
 //
 //   auto places = nidzaru::make_board<3>(plan{})                 the three places of a board that holds this plan
 //   places[0].write(item, stamp)                                 puts the record there, and gives its stamp
 //   places[1].read(item, stamp), places[1].latest()              one whole record, and its stamp
 //   places[1].read_since(least, item, stamp)                     the same, and NIDZARU_OLDER where its stamp is smaller
+//   places[1].news()                                             one whole record, if its stamp is greater than the last one
 //
-// The record's type is trivially copyable, of at most 4096 bytes, and may be aligned to 16, 32, 64 and more.
+// `if (writer)`, `if (reader)` and `if (places[0])` ask whether there is a side.
+//
+// The record's type is neither const nor volatile, trivially copyable, and of at most 4096 bytes. It may be aligned to 16, 32, 64 and more.
 #ifndef NIDZARU_HPP
 #define NIDZARU_HPP
 #include "nidzaru.h"
 
 #include <array>
+#if defined(__cpp_impl_three_way_comparison) && __has_include(<compare>)
+#include <compare>
+#endif
 #include <cstdint>
 #include <cstring>
 #include <memory>
@@ -41,13 +48,14 @@ namespace detail {
 
 // How a `T` lies in a record of the library, of this size.
 template <class T, cell C, std::size_t bytes = NIDZARU_SIZE(sizeof(T))> struct record {
+    static_assert(NIDZARU_PLAIN(T), "a record of a register or board is neither const nor volatile");
     static_assert(std::is_trivially_copyable<T>::value, "a record of a register or board is trivially copyable");
     static_assert(!std::is_array<T>::value, "a record of a register or board is no array: std::array may be one");
     static_assert(sizeof(T) <= 4096, "a record of a register or board has at most 4096 bytes");
     static constexpr std::size_t size = bytes;
     static constexpr bool passes = !NIDZARU_WATCHED && sizeof(T) == bytes && alignof(T) >= 8;
     static constexpr bool in_place = passes && !shares_tail<T>::value;
-    static constexpr int triple = C == cell::triple;
+    static constexpr int triple = C == cell::triple ? 1 : 0;
     std::uint64_t words[size / 8] = {};
 
     record() = default;
@@ -59,13 +67,24 @@ class side {
   public:
     side() = default;
     side(side &&from) noexcept { take(from); }
+    side(const side &) = delete;
+    side &operator=(const side &) = delete;
+
+    // Whether there is a side.
+    [[nodiscard]] explicit operator bool() const noexcept { return handle.side.live != 0; }
 
   protected:
+    ~side() = default;
     // (the handle is empty, and the other one is where it was made, so that no move is refused)
     void take(side &from) noexcept {
-        if (nidzaru_move(&handle, &from.handle)) handle.side.live = 0;
+        if (nidzaru_move_handle(&handle, &from.handle)) handle.side.live = 0;
     }
     nidzaru_handle handle = {{0, nullptr}, nullptr, nullptr};
+};
+
+// What keeps the handles of two threads in different lines of the cache.
+struct distance {
+    char apart[NIDZARU_APART] = {};
 };
 
 template <class> inline constexpr bool never = false;
@@ -75,10 +94,12 @@ template <class> inline constexpr bool never = false;
 // The right to write: one thread uses it at a time.
 template <class T, cell C = cell::four_slot> class writer : detail::side {
     using record = detail::record<T, C>;
+    static_assert(record::size > 0, "the library has records of this size");
 
   public:
     writer() = default;
     writer(writer &&) = default;
+    using detail::side::operator bool;
     writer &operator=(writer &&from) noexcept {
         if (this != std::addressof(from)) {
             end();
@@ -103,15 +124,20 @@ template <class T, cell C = cell::four_slot> class writer : detail::side {
     int end() noexcept { return nidzaru_sized_end_writer(record::triple, record::size, &handle); }
 
     template <class U, cell D> friend std::optional<sides<U, D>> try_make(const U &first) noexcept;
+
+  private:
+    [[maybe_unused]] detail::distance distance = {};
 };
 
 // The right to read: one thread uses it at a time.
 template <class T, cell C = cell::four_slot> class reader : detail::side {
     using record = detail::record<T, C>;
+    static_assert(record::size > 0, "the library has records of this size");
 
   public:
     reader() = default;
     reader(reader &&) = default;
+    using detail::side::operator bool;
     reader &operator=(reader &&from) noexcept {
         if (this != std::addressof(from)) {
             end();
@@ -122,31 +148,32 @@ template <class T, cell C = cell::four_slot> class reader : detail::side {
     }
     ~reader() { end(); }
 
-    // Gives one whole record with its number, which is never below the last one. The record is copied to where `item` lies, and
+    // Gives one whole record, and then its number, which is never below the last one. The record is copied to where `item` lies, and
     // nothing beside it is written, whatever keeps something in its tail.
     [[nodiscard]] int read(T &item, std::uint64_t &number) noexcept {
         static_assert(record::in_place || std::is_copy_assignable<T>::value,
                       "a read into a record assigns it: where it can't be assigned there is latest()");
         int status;
         if constexpr (record::in_place) {
-            status = nidzaru_sized_read(record::triple, record::size, &handle, std::addressof(item), &number);
+            status = nidzaru_sized_read(record::triple, record::size, &handle, std::addressof(item), &last);
         } else {
             record copy;
-            status = nidzaru_sized_read(record::triple, record::size, &handle, copy.words, &number);
+            status = nidzaru_sized_read(record::triple, record::size, &handle, copy.words, &last);
             if (!status) detail::give(std::addressof(item), copy.words);
         }
-        if (!status) last = number;
+        if (!status) number = last;
         return status;
     }
 
     // One whole record, whose number is `number()` then. Nothing where there is no side.
     [[nodiscard]] std::optional<T> latest() noexcept {
         record copy;
-        std::uint64_t number;
-        if (nidzaru_sized_read(record::triple, record::size, &handle, copy.words, &number)) return std::nullopt;
-        last = number;
+        if (nidzaru_sized_read(record::triple, record::size, &handle, copy.words, &last)) return std::nullopt;
         return std::optional<T>(std::in_place, detail::unmade<T>(copy.words).value);
     }
+
+    // One whole record, if it has a greater number than the last one. Nothing is copied where there is none.
+    [[nodiscard]] std::optional<T> news() noexcept { return has_news() ? latest() : std::nullopt; }
 
     // Gives the number that a read would give, without the record. No later read gives a number below it.
     [[nodiscard]] int look(std::uint64_t &number) noexcept {
@@ -155,7 +182,7 @@ template <class T, cell C = cell::four_slot> class reader : detail::side {
 
     // Whether a read would give a greater number than the last read: than 0, the opening's, where there was none.
     [[nodiscard]] bool has_news() noexcept {
-        std::uint64_t number;
+        std::uint64_t number = 0;
         return !look(number) && number > last;
     }
 
@@ -169,6 +196,7 @@ template <class T, cell C = cell::four_slot> class reader : detail::side {
 
   private:
     std::uint64_t last = 0;
+    [[maybe_unused]] detail::distance distance = {};
 };
 
 // Both sides of a new register that holds `first` as number 0. Nothing where memory is refused.
@@ -183,7 +211,7 @@ template <class T, cell C> std::optional<sides<T, C>> try_make(const T &first) n
 // The same, and std::bad_alloc is thrown where memory is refused. A program without exceptions takes `try_make`.
 template <class T, cell C> [[nodiscard]] sides<T, C> make([[maybe_unused]] const T &first) {
 #ifdef __cpp_exceptions
-    auto both = try_make<T, C>(first);
+    auto both = nidzaru::try_make<T, C>(first);
     if (!both) throw std::bad_alloc();
     return std::move(*both);
 #else
@@ -191,20 +219,33 @@ template <class T, cell C> [[nodiscard]] sides<T, C> make([[maybe_unused]] const
 #endif
 }
 
-template <class T> [[nodiscard]] auto make(const T &first) { return make<T, cell::four_slot>(first); }
-template <class T> [[nodiscard]] auto make_triple(const T &first) { return make<T, cell::triple>(first); }
-template <class T> [[nodiscard]] auto try_make(const T &first) noexcept { return try_make<T, cell::four_slot>(first); }
-template <class T> [[nodiscard]] auto try_make_triple(const T &first) noexcept { return try_make<T, cell::triple>(first); }
+// (with the namespace, since a record's own may have functions of these names)
+template <class T> [[nodiscard]] sides<T> make(const T &first) { return nidzaru::make<T, cell::four_slot>(first); }
+template <class T> [[nodiscard]] sides<T, cell::triple> make_triple(const T &first) { return nidzaru::make<T, cell::triple>(first); }
+template <class T> [[nodiscard]] std::optional<sides<T>> try_make(const T &first) noexcept {
+    return nidzaru::try_make<T, cell::four_slot>(first);
+}
+template <class T> [[nodiscard]] std::optional<sides<T, cell::triple>> try_make_triple(const T &first) noexcept {
+    return nidzaru::try_make<T, cell::triple>(first);
+}
 
 // The stamp of a record of a board: one stamp is one record, and the opening has 0.0.
 struct stamp : nidzaru_stamp {
-    stamp() noexcept : nidzaru_stamp{0, 0} {}
-    friend bool operator==(const stamp &a, const stamp &b) noexcept { return a.tag == b.tag && a.writer == b.writer; }
-    friend bool operator!=(const stamp &a, const stamp &b) noexcept { return !(a == b); }
-    friend bool operator<(const stamp &a, const stamp &b) noexcept { return nidzaru_stamp_is_below(a, b); }
-    friend bool operator>(const stamp &a, const stamp &b) noexcept { return b < a; }
-    friend bool operator<=(const stamp &a, const stamp &b) noexcept { return !(b < a); }
-    friend bool operator>=(const stamp &a, const stamp &b) noexcept { return !(a < b); }
+    constexpr stamp() noexcept : nidzaru_stamp{0, 0} {}
+    constexpr stamp(std::uint64_t its_tag, std::uint64_t its_writer) noexcept : nidzaru_stamp{its_tag, its_writer} {}
+    friend bool operator==(const stamp &a, const stamp &b) noexcept { return nidzaru_stamp_compare(a, b) == 0; }
+#ifdef __cpp_lib_three_way_comparison
+    friend std::strong_ordering operator<=>(const stamp &a, const stamp &b) noexcept {
+        const int order = nidzaru_stamp_compare(a, b), same = 0;
+        return order <=> same;
+    }
+#else
+    friend bool operator!=(const stamp &a, const stamp &b) noexcept { return nidzaru_stamp_compare(a, b) != 0; }
+    friend bool operator<(const stamp &a, const stamp &b) noexcept { return nidzaru_stamp_compare(a, b) < 0; }
+    friend bool operator>(const stamp &a, const stamp &b) noexcept { return nidzaru_stamp_compare(a, b) > 0; }
+    friend bool operator<=(const stamp &a, const stamp &b) noexcept { return nidzaru_stamp_compare(a, b) <= 0; }
+    friend bool operator>=(const stamp &a, const stamp &b) noexcept { return nidzaru_stamp_compare(a, b) >= 0; }
+#endif
 };
 
 template <class T, cell C> class place;
@@ -225,10 +266,12 @@ struct board_making {
 // A place at a board, the right to write and to read as one of its tasks: one thread uses it at a time.
 template <class T, cell C = cell::four_slot> class place : detail::side {
     using record = detail::board_record<T, C>;
+    static_assert(record::size > 0, "the library has records of this size");
 
   public:
     place() = default;
     place(place &&) = default;
+    using detail::side::operator bool;
     place &operator=(place &&from) noexcept {
         if (this != std::addressof(from)) {
             end();
@@ -243,28 +286,28 @@ template <class T, cell C = cell::four_slot> class place : detail::side {
     [[nodiscard]] int write(const T &item, stamp &given) noexcept {
         int status;
         if constexpr (record::passes) {
-            status = nidzaru_sized_board_write(record::triple, record::size, &handle, std::addressof(item), &given);
+            status = nidzaru_sized_board_write(record::triple, record::size, &handle, std::addressof(item), &last);
         } else {
             record copy(item);
-            status = nidzaru_sized_board_write(record::triple, record::size, &handle, copy.words, &given);
+            status = nidzaru_sized_board_write(record::triple, record::size, &handle, copy.words, &last);
         }
-        if (!status) last = given;
+        if (!status) given = last;
         return status;
     }
 
-    // Gives one whole record with its stamp, which is never below that of any call of this place before.
+    // Gives one whole record, and then its stamp, which is never below that of any call of this place before.
     [[nodiscard]] int read(T &item, stamp &given) noexcept {
         static_assert(record::in_place || std::is_copy_assignable<T>::value,
                       "a read into a record assigns it: where it can't be assigned there is latest()");
         int status;
         if constexpr (record::in_place) {
-            status = nidzaru_sized_board_read(record::triple, record::size, &handle, std::addressof(item), &given);
+            status = nidzaru_sized_board_read(record::triple, record::size, &handle, std::addressof(item), &last);
         } else {
             record copy;
-            status = nidzaru_sized_board_read(record::triple, record::size, &handle, copy.words, &given);
+            status = nidzaru_sized_board_read(record::triple, record::size, &handle, copy.words, &last);
             if (!status) detail::give(std::addressof(item), copy.words);
         }
-        if (!status) last = given;
+        if (!status) given = last;
         return status;
     }
 
@@ -272,10 +315,10 @@ template <class T, cell C = cell::four_slot> class place : detail::side {
     [[nodiscard]] int read_since(const stamp &least, T &item, stamp &given) noexcept {
         static_assert(std::is_copy_assignable<T>::value, "a read into a record assigns it");
         record copy;
-        int status = nidzaru_sized_board_read_since(record::triple, record::size, &handle, least, copy.words, &given);
+        int status = nidzaru_sized_board_read_since(record::triple, record::size, &handle, least, copy.words, &last);
         if (!status || status == NIDZARU_OLDER) {
             detail::give(std::addressof(item), copy.words);
-            last = given;
+            given = last;
         }
         return status;
     }
@@ -283,10 +326,22 @@ template <class T, cell C = cell::four_slot> class place : detail::side {
     // One whole record, whose stamp is `last_stamp()` then. Nothing where there is no place.
     [[nodiscard]] std::optional<T> latest() noexcept {
         record copy;
-        stamp given;
-        if (nidzaru_sized_board_read(record::triple, record::size, &handle, copy.words, &given)) return std::nullopt;
-        last = given;
+        if (nidzaru_sized_board_read(record::triple, record::size, &handle, copy.words, &last)) return std::nullopt;
         return std::optional<T>(std::in_place, detail::unmade<T>(copy.words).value);
+    }
+
+    // Whether a read would give a greater stamp than that of the record that was written or read last. This is a call of the board.
+    [[nodiscard]] bool has_news() noexcept {
+        record copy;
+        stamp given;
+        return !nidzaru_sized_board_read(record::triple, record::size, &handle, copy.words, &given) && given > last;
+    }
+
+    // One whole record, if it has a greater stamp than the one that was written or read last.
+    [[nodiscard]] std::optional<T> news() noexcept {
+        const stamp before = last;
+        auto item = latest();
+        return last > before ? item : std::nullopt;
     }
 
     // The stamp of the record that was written or read last.
@@ -297,7 +352,8 @@ template <class T, cell C = cell::four_slot> class place : detail::side {
 
   private:
     friend struct detail::board_making;
-    stamp last;
+    stamp last = {};
+    [[maybe_unused]] detail::distance distance = {};
 };
 
 template <class T, std::size_t N, cell C>
@@ -305,7 +361,7 @@ int detail::board_making::make(const T &first, std::uint64_t limit, places<T, N,
     static_assert(2 <= N && N <= 16, "a board has 2 to 16 places");
     using record = detail::board_record<T, C>;
     record copy(first);
-    nidzaru_handle *handles[N];
+    nidzaru_handle *handles[N] = {};
     for (std::size_t i = 0; i < N; i++) handles[i] = &made[i].handle;
     return nidzaru_sized_board_make(record::triple, record::size, copy.words, limit, handles, N);
 }

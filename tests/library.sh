@@ -32,12 +32,21 @@ build_over_gate() {
     ) </dev/null >&2
 }
 
+# A name for each release whose calls the library has, nidzaru_since_2_1 and on up to $version: a header asks for its own, so that no
+# older library links with it.
+releases() {
+    echo "$version" | awk -F. '{
+        for (minor = 1; minor <= $2; minor++) printf ".globl nidzaru_since_%d_%d\nnidzaru_since_%d_%d:\n", $1, minor, $1, minor
+    }'
+}
+
 # Makes of the library's objects in this folder one whose only names for others are the library's own calls. They are hidden, so
 # that a shared object with the library inside exports none of them, and two such objects in a process don't mix their libraries.
 join_objects() {
     # (in this order the bytes are the same everywhere)
     export LC_ALL=C
-    {
+    releases >releases.s && {
+        cat releases.s && sed -n 's/^\.globl /.hidden /p' releases.s
         nm -g --defined-only ./*.o | awk '$3 ~ /^nidzaru_/ { print ".hidden " $3 }'
         echo '.section .note.GNU-stack,"",@progbits'
     } >hidden.s && as hidden.s -o hidden.o && ld -r -o joined ./*.o && objcopy --wildcard --keep-global-symbol='nidzaru_*' joined nidzaru
@@ -51,7 +60,7 @@ make_library() {
     is_newest "$here/out/libcells_c.a" || (. "$top/tests/build.sh" && build cells_c) </dev/null >&2 || return 1
     unpacked=$(mktemp -d) || return 1
     (
-        cd "$unpacked" || exit 1
+        version=$(version_of_header) && cd "$unpacked" || exit 1
         ar x "$here/out/libcells_c.a" && ar x "$kit/c/liblibc_c.a" && join_objects && mv nidzaru nidzaru.o && rm -f "$1" \
             && ar rcsD "$1" nidzaru.o
     )

@@ -148,8 +148,8 @@ static void threads(size_t n) {
     for (size_t i = 0; i < n; i++) {
         tasks[i].me = i, tasks[i].count = n;
         pthread_mutex_init(&tasks[i].telling, 0);
-        check(!nidzaru_move(&tasks[i].place.handle, &places[i].handle) && !nidzaru_move(&tasks[i].odd.handle, &odd[i].handle)
-            && !nidzaru_move(&tasks[i].large.handle, &large[i].handle), "move");
+        check(!smalls_move(&tasks[i].place, &places[i]) && !odds_move(&tasks[i].odd, &odd[i])
+            && !larges_move(&tasks[i].large, &large[i]), "move");
     }
     for (size_t i = 0; i < n; i++) pthread_create(&of[i], 0, run, &tasks[i]);
     for (size_t i = 0; i < n; i++) pthread_join(of[i], 0);

@@ -3,6 +3,8 @@
 #include <stdlib.h>
 
 uint32_t nidzaru_version(void) { return 0; }
+extern const char nidzaru_since_2_1[];
+const char nidzaru_since_2_1[1] = {0};
 
 typedef struct {
     uint64_t live;

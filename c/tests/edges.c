@@ -148,16 +148,19 @@ enum { GUARD = 64 };
             if (k % 3 == 0) name##_lives(&w, &r, k, (uint64_t)k, "the record just written");                                  \
         }                                                                                                                     \
         check(asked == took && blocks == alive, #name, "a write, a read or a look took memory");                              \
-        check(nidzaru_move(0, &w.handle) == NIDZARU_NULL && nidzaru_move(&moved_w.handle, 0) == NIDZARU_NULL, #name, "a null move"); \
-        check(nidzaru_move(&w.handle, &r.handle) == NIDZARU_IN_USE && nidzaru_move(&w.handle, &w.handle) == NIDZARU_IN_USE,   \
-              #name, "a move into a live handle");                                                                            \
-        check(nidzaru_move(&moved_w.handle, &copied_w.handle) == NIDZARU_COPIED && !moved_w.handle.side.live, #name,          \
+        check(name##_move_writer(0, &w) == NIDZARU_NULL && name##_move_writer(&moved_w, 0) == NIDZARU_NULL, #name, "a null move");\
+        check(name##_move_reader(0, &r) == NIDZARU_NULL && name##_move_reader(&moved_r, 0) == NIDZARU_NULL, #name, "a null move");\
+        check(name##_move_writer(&copied_w, &w) == NIDZARU_IN_USE && name##_move_writer(&w, &w) == NIDZARU_IN_USE             \
+                  && name##_move_reader(&copied_r, &r) == NIDZARU_IN_USE && name##_move_reader(&r, &r) == NIDZARU_IN_USE, #name,\
+              "a move into a live handle");                                                                                   \
+        check(name##_move_writer(&moved_w, &copied_w) == NIDZARU_COPIED && !moved_w.handle.side.live                          \
+                  && name##_move_reader(&moved_r, &copied_r) == NIDZARU_COPIED && !moved_r.handle.side.live, #name,           \
               "a move of a copied handle");                                                                                   \
         name##_lives(&w, &r, 20, 20, "after refused moves");                                                                  \
-        check(!nidzaru_move(&moved_w.handle, &w.handle) && !nidzaru_move(&moved_r.handle, &r.handle), #name, "a move");       \
+        check(!name##_move_writer(&moved_w, &w) && !name##_move_reader(&moved_r, &r), #name, "a move");                       \
         name##_refuses(&w, &r, NIDZARU_ENDED, "handles that were moved from");                                                \
         name##_lives(&moved_w, &moved_r, 20, 20, "handles that were moved to");                                               \
-        check(!nidzaru_move(&w2.handle, &w.handle) && !w2.handle.side.live, #name, "a move of an empty handle");              \
+        check(!name##_move_writer(&w2, &w) && !w2.handle.side.live, #name, "a move of an empty handle");                      \
         check(!name##_make(&item.x, &w, &r), #name, "make in handles that were moved from");                                  \
         check(!name##_end_writer(&w) && !name##_end_reader(&r) && blocks == alive, #name, "their ends");                      \
         took = asked;                                                                                                         \

@@ -1,7 +1,8 @@
 #!/bin/sh
 # Runs the tests of the library for C under what watches a program: valgrind (no error, no block left), the sanitizers of addresses
-# and of undefined behaviour, and ThreadSanitizer, which must be silent over the tests and must see three races. Each on the C side,
-# with gcc and clang, where it is there. The last line is the sums. usage: c/tests/sanitize.sh [WRITES [LIBRARY]]
+# and of undefined behaviour, MemorySanitizer, which must be silent over the tests and must see one use of memory that nothing filled, and
+# ThreadSanitizer, which must be silent over the tests and must see four races. Each on the C side, with gcc and clang, where it is there.
+# The last line is the sums. usage: c/tests/sanitize.sh [WRITES [LIBRARY]]
 cd "$(dirname -- "$(readlink -f -- "$0")")/../.." || exit 1
 top=.
 writes=${1:-2000}
@@ -13,6 +14,9 @@ passed=0 failed=0
 library=${2:-$room/libnidzaru.a}
 [ -n "$2" ] || make_library "$library" || exit 1
 wrapped='-Wl,--wrap=malloc,--wrap=realloc,--wrap=free'
+paused='-Wl,--wrap=nidzaru_8_write,--wrap=nidzaru_8_read,--wrap=nidzaru_8_look'
+paused=$paused,--wrap=nidzaru_board_24_write,--wrap=nidzaru_board_24_read,--wrap=nidzaru_board_24_read_since
+tests='test edges calls triple_calls boards triple_boards board_edges test_cpp boards_cpp'
 
 # Runs a program whose last line must be 'passed'.
 run() {
@@ -37,15 +41,36 @@ sees_race() {
     fi
 }
 
+# Runs a program in which MemorySanitizer must see a use of memory that nothing has filled.
+sees_unfilled() {
+    name=$1
+    shift
+    if MSAN_OPTIONS=exitcode=66 "$@" >"$room/said" 2>&1; [ $? = 66 ] && grep -q 'use-of-uninitialized-value' "$room/said"; then
+        pass "$name"
+    else
+        fail "$name" "nothing, or something else: $(head -n 5 "$room/said" | tr '\n' ' ')"
+    fi
+}
+
+# Compiles a test in C with these flags: NAME SOURCE FLAGS..
+in_c() {
+    name=$1 source=$2
+    shift 2
+    "$c" -std=c11 -D_GNU_SOURCE -g -O1 -pthread $flags "$@" -I c "c/tests/$source" "$library" -o "$room/$name"
+}
+
+in_cpp() {
+    name=$1 source=$2
+    shift 2
+    "$cpp" -std=c++17 -g -O1 -pthread $flags "$@" -I c "c/tests/$source" "$library" -o "$room/$name"
+}
+
 # Compiles the tests in C and C++ with these flags.
 compile() {
     flags=$1
-    "$c" -std=c11 -D_GNU_SOURCE -g -O1 -pthread $flags -I c c/tests/test.c "$library" -o "$room/test" \
-        && "$c" -std=c11 -D_GNU_SOURCE -g -O1 -pthread $flags -I c c/tests/edges.c "$library" $wrapped -o "$room/edges" \
-        && "$c" -std=c11 -D_GNU_SOURCE -g -O1 -pthread $flags -I c c/tests/boards.c "$library" $wrapped -o "$room/boards" \
-        && "$c" -std=c11 -D_GNU_SOURCE -g -O1 -pthread $flags -DTRIPLE -I c c/tests/boards.c "$library" $wrapped -o "$room/triple_boards" \
-        && "$c" -std=c11 -g -O1 $flags -I c c/tests/board_edges.c "$library" $wrapped -o "$room/board_edges" \
-        && "$cpp" -std=c++17 -g -O1 -pthread $flags -I c c/tests/test.cpp "$library" $wrapped -o "$room/test_cpp"
+    in_c test test.c && in_c edges edges.c $wrapped && in_c calls calls.c $wrapped && in_c triple_calls calls.c -DTRIPLE $wrapped \
+        && in_c boards boards.c $wrapped && in_c triple_boards boards.c -DTRIPLE $wrapped && in_c board_edges board_edges.c $wrapped \
+        && in_cpp test_cpp test.cpp $wrapped && in_cpp boards_cpp boards.cpp $wrapped
 }
 
 # Whether this compiler has these sanitizers.
@@ -57,7 +82,7 @@ has() {
 c=gcc cpp=g++
 if command -v valgrind >/dev/null 2>&1 && has ''; then
     compile '' || exit 1
-    for test in test edges boards triple_boards board_edges test_cpp; do
+    for test in $tests; do
         run "$test under valgrind" valgrind -q --error-exitcode=9 --leak-check=full --fair-sched=yes "$room/$test" "$writes"
     done
 fi
@@ -65,16 +90,28 @@ for pair in gcc,g++ clang,clang++; do
     c=${pair%,*} cpp=${pair#*,}
     if has '-fsanitize=address,undefined'; then
         compile '-fsanitize=address,undefined -fno-sanitize-recover=all' || exit 1
-        for test in test edges boards triple_boards board_edges test_cpp; do
+        for test in $tests; do
             run "$test with the sanitizers of addresses and undefined behaviour ($c)" "$room/$test" "$writes"
         done
     fi
+    # (at -O0: a test over all sizes takes minutes to compile with more)
+    if has '-fsanitize=memory'; then
+        flags='-O0 -fsanitize=memory'
+        in_c calls calls.c $wrapped && in_c boards boards.c $wrapped && in_c filled filled.c || exit 1
+        for test in calls boards; do
+            run "$test with MemorySanitizer ($c)" "$room/$test" "$writes"
+        done
+        run "what the library fills, with MemorySanitizer ($c)" "$room/filled" clean
+        sees_unfilled "MemorySanitizer: what a refused read leaves unfilled ($c)" "$room/filled" refused
+    fi
     if has '-fsanitize=thread'; then
         compile '-fsanitize=thread' || exit 1
-        "$c" -std=c11 -D_GNU_SOURCE -g -O1 -pthread -fsanitize=thread -I c c/tests/watched.c "$library" -o "$room/watched" || exit 1
-        for test in test edges boards triple_boards board_edges test_cpp; do
+        in_c watched watched.c && in_c pairs pairs.c $paused || exit 1
+        for test in $tests; do
             run "$test with ThreadSanitizer ($c)" "$room/$test" "$writes"
         done
+        run "what one call orders, with ThreadSanitizer ($c)" "$room/pairs" clean
+        sees_race "ThreadSanitizer: a pair without its call is a race ($c)" load "$room/pairs" unread
         run "what records point to, with ThreadSanitizer ($c)" "$room/watched" clean
         sees_race "ThreadSanitizer: what another register tells is a race ($c)" read_elsewhere "$room/watched" other
         sees_race "ThreadSanitizer: one handle in two threads is a race ($c)" nidzaru_begin "$room/watched" twice

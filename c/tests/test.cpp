@@ -1,49 +1,13 @@
 // The C++ classes: two threads, moves, ends, small and unaligned records, and objects that go in any order; records of odd types; the
 // functions of the macro in C++; refused memory. Link with --wrap=malloc,--wrap=realloc,--wrap=free.
+#include "memory.hpp"
 #include "nidzaru.hpp"
 
-#include <atomic>
-#include <cstdio>
 #include <cstdlib>
 #include <memory>
 #include <thread>
 
-// Memory: the request whose number is `refuse` fails.
-extern "C" {
-void *__real_malloc(std::size_t size);
-void *__real_realloc(void *old, std::size_t size);
-void __real_free(void *old);
-static std::atomic<long> asked, blocks;
-static long refuse = -1;
-void *__wrap_malloc(std::size_t size);
-void *__wrap_realloc(void *old, std::size_t size);
-void __wrap_free(void *old);
-
-void *__wrap_malloc(std::size_t size) {
-    if (++asked == refuse) return nullptr;
-    void *made = __real_malloc(size);
-    blocks += made != nullptr;
-    return made;
-}
-
-void *__wrap_realloc(void *old, std::size_t size) { return ++asked == refuse ? nullptr : __real_realloc(old, size); }
-
-void __wrap_free(void *old) {
-    blocks -= old != nullptr;
-    __real_free(old);
-}
-}
-
 namespace {
-
-int failed = 0;
-
-void check(bool holds, const char *what) {
-    if (!holds) {
-        failed++;
-        std::printf("FAILED: %s\n", what);
-    }
-}
 
 struct small {
     float x, y;

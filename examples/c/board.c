@@ -129,7 +129,7 @@ int main(void) {
         return 1;
     }
     for (int k = 0; k < TASKS; k++)
-        if (nidzaru_move(&tasks[k].place.handle, &places[k].handle)) return 1;
+        if (commands_move(&tasks[k].place, &places[k])) return 1;
     for (int k = 0; k < TASKS; k++)
         if (pthread_create(&of[k], 0, runs[k], &tasks[k])) return 1;
     for (int k = 0; k < TASKS; k++) pthread_join(of[k], 0);

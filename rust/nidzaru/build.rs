@@ -2,7 +2,7 @@
 
 use std::env;
 use std::path::Path;
-use std::process::{exit, Command};
+use std::process::Command;
 
 /// What pkg-config prints for this word.
 fn ask(word: &str) -> Result<String, String> {
@@ -56,8 +56,9 @@ fn main() {
     }
     println!("cargo:rerun-if-changed=build.rs");
     if let Err(why) = link() {
-        eprintln!("the library nidzaru isn't found: {why}");
-        eprintln!("install it by `./install PREFIX` of its repository or its package, and set PKG_CONFIG_PATH=PREFIX/lib/pkgconfig");
-        exit(1);
+        // (the crate tells it when it is compiled: its documents are made without the library)
+        let install = "install it by `./install PREFIX` of its repository or its package, and set PKG_CONFIG_PATH=PREFIX/lib/pkgconfig";
+        println!("cargo:rustc-cfg=nidzaru_missing");
+        println!("cargo:rustc-env=NIDZARU_MISSING=the library nidzaru isn't found: {}; {install}", why.replace('\n', " "));
     }
 }

@@ -19,8 +19,20 @@ pub struct Stamp {
 }
 
 impl Stamp {
+    /// The stamp with this tag and writer.
+    pub const fn new(tag: u64, writer: u64) -> Stamp {
+        Stamp { tag, writer }
+    }
+
     fn of(mark: Mark) -> Stamp {
         Stamp { tag: mark.tag, writer: mark.writer }
+    }
+}
+
+/// The tag and the writer, as `12.3`.
+impl fmt::Display for Stamp {
+    fn fmt(&self, to: &mut fmt::Formatter<'_>) -> fmt::Result {
+        write!(to, "{}.{}", self.tag, self.writer)
     }
 }
 
@@ -63,7 +75,7 @@ impl std::error::Error for TagsEnded {}
 /// What is known of a record of a board when the program is compiled.
 struct Known<T, M>(PhantomData<(T, M)>);
 
-impl<T: Copy + Send + 'static, M: Mechanism> Known<T, M> {
+impl<T: Copy + Send, M: Mechanism> Known<T, M> {
     const CALLS: &'static BoardCalls = {
         assert!(size_of::<T>() <= 4096, "a record of a board has at most 4096 bytes");
         raw::board_calls_for(size_of::<T>(), M::TRIPLE)
@@ -108,15 +120,22 @@ impl<T: Copy + Send + 'static, M: Mechanism> Known<T, M> {
 ///
 /// Records that are too large or not `Copy` don't compile:
 ///
-/// ```compile_fail
+/// ```compile_fail,E0080
 /// let places = nidzaru::board(2, [0u8; 4097]);
 /// ```
 ///
-/// ```compile_fail
+/// ```compile_fail,E0277
 /// let places = nidzaru::board(2, String::new());
 /// ```
-pub fn board<T: Copy + Send + 'static>(n: usize, first: T) -> Result<Vec<Place<T>>, BoardError> {
-    open(n, GREATEST_LIMIT, first)
+///
+/// Nor do records that may not go to another thread:
+///
+/// ```compile_fail,E0277
+/// let shared = std::cell::Cell::new(1);
+/// let places = nidzaru::board(2, &shared);
+/// ```
+pub fn board<T: Copy + Send>(n: usize, first: T) -> Result<Vec<Place<T>>, BoardError> {
+    board_over(n, first)
 }
 
 /// A board over triple buffers that holds `first`, as its `n` places.
@@ -127,8 +146,20 @@ pub fn board<T: Copy + Send + 'static>(n: usize, first: T) -> Result<Vec<Place<T
 /// assert_eq!((places[1].read(), places[1].stamp()), (2.5, stamp));
 /// # Ok::<(), Box<dyn std::error::Error>>(())
 /// ```
-pub fn triple_board<T: Copy + Send + 'static>(n: usize, first: T) -> Result<Vec<Place<T, Triple>>, BoardError> {
-    open(n, GREATEST_LIMIT, first)
+pub fn triple_board<T: Copy + Send>(n: usize, first: T) -> Result<Vec<Place<T, Triple>>, BoardError> {
+    board_over(n, first)
+}
+
+/// A board over a mechanism that the caller, or what becomes of the places, names.
+///
+/// ```
+/// let mut places = nidzaru::board_over::<_, nidzaru::Triple>(2, 'a')?;
+/// places[0].write(&'b')?;
+/// assert_eq!(places[1].read(), 'b');
+/// # Ok::<(), Box<dyn std::error::Error>>(())
+/// ```
+pub fn board_over<T: Copy + Send, M: Mechanism>(n: usize, first: T) -> Result<Vec<Place<T, M>>, BoardError> {
+    limited_board(n, GREATEST_LIMIT, first)
 }
 
 /// A board in whichever mechanism, whose tags end at a limit: of one place's writes so many are done, and the next is refused.
@@ -140,11 +171,7 @@ pub fn triple_board<T: Copy + Send + 'static>(n: usize, first: T) -> Result<Vec<
 /// assert_eq!(places[1].read(), 'b');
 /// # Ok::<(), Box<dyn std::error::Error>>(())
 /// ```
-pub fn limited_board<T: Copy + Send + 'static, M: Mechanism>(n: usize, limit: u64, first: T) -> Result<Vec<Place<T, M>>, BoardError> {
-    open(n, limit, first)
-}
-
-fn open<T: Copy + Send + 'static, M: Mechanism>(n: usize, limit: u64, first: T) -> Result<Vec<Place<T, M>>, BoardError> {
+pub fn limited_board<T: Copy + Send, M: Mechanism>(n: usize, limit: u64, first: T) -> Result<Vec<Place<T, M>>, BoardError> {
     let raws = raw::open_board(Known::<T, M>::CALLS, n, limit, &first).map_err(|why| match why {
         NoBoard::Places => BoardError::Places,
         NoBoard::Limit => BoardError::Limit,
@@ -168,19 +195,38 @@ pub enum Since<T> {
 /// The right to write and to read as one of a board's tasks. It may go to another thread, and one thread uses it at a time. The others
 /// go on, and keep the last record, when it goes.
 ///
-/// It can't be shared:
+/// It can't be shared, nor copied:
 ///
-/// ```compile_fail
+/// ```compile_fail,E0277
 /// fn shared<T: Sync>(_: T) {}
 /// shared(nidzaru::board(2, 1.5).unwrap().pop());
 /// ```
-pub struct Place<T: Copy + Send + 'static, M: Mechanism = FourSlot> {
+///
+/// ```compile_fail,E0599
+/// let places = nidzaru::board(2, 1.5).unwrap();
+/// let other = places[0].clone();
+/// ```
+///
+/// It takes and gives records of just one lifetime:
+///
+/// ```compile_fail
+/// fn narrow<'a>(place: nidzaru::Place<&'static str>) -> nidzaru::Place<&'a str> {
+///     place
+/// }
+/// ```
+///
+/// ```compile_fail
+/// fn widen<'a>(place: nidzaru::Place<&'a str>) -> nidzaru::Place<&'static str> {
+///     place
+/// }
+/// ```
+pub struct Place<T: Copy + Send, M: Mechanism = FourSlot> {
     raw: BoardPlace,
     last: Stamp,
     of: PhantomData<(fn(T) -> T, M)>,
 }
 
-impl<T: Copy + Send + 'static, M: Mechanism> Place<T, M> {
+impl<T: Copy + Send, M: Mechanism> Place<T, M> {
     /// Puts the record under the next stamp above all that this place sees, and gives the stamp.
     #[inline]
     pub fn write(&mut self, item: &T) -> Result<Stamp, TagsEnded> {
@@ -197,7 +243,36 @@ impl<T: Copy + Send + 'static, M: Mechanism> Place<T, M> {
         item
     }
 
-    /// The same, and whether its stamp is at least this one, which another task may have told.
+    /// The same into place; gives the stamp.
+    #[inline]
+    pub fn read_into(&mut self, item: &mut T) -> Stamp {
+        self.last = Stamp::of(raw::read_place_into(Known::<T, M>::CALLS, &mut self.raw, item));
+        self.last
+    }
+
+    /// One whole record, if its stamp is greater than that of the record that was written or read last. This is a call of the board.
+    ///
+    /// ```
+    /// let mut places = nidzaru::board(2, 1)?;
+    /// assert_eq!(places[1].news(), None);
+    /// places[0].write(&2)?;
+    /// assert_eq!((places[0].news(), places[1].news(), places[1].news()), (None, Some(2), None));
+    /// # Ok::<(), Box<dyn std::error::Error>>(())
+    /// ```
+    #[inline]
+    pub fn news(&mut self) -> Option<T> {
+        let before = self.last;
+        let item = self.read();
+        (self.last > before).then_some(item)
+    }
+
+    /// Whether [`news`](Place::news) would give a record. This is a call of the board, too.
+    #[inline]
+    pub fn has_news(&mut self) -> bool {
+        Stamp::of(raw::read_place::<T>(Known::<T, M>::CALLS, &mut self.raw).1) > self.last
+    }
+
+    /// The same as [`read`](Place::read), and whether its stamp is at least this one, which another task may have told.
     ///
     /// ```
     /// use nidzaru::Since;
@@ -225,7 +300,7 @@ impl<T: Copy + Send + 'static, M: Mechanism> Place<T, M> {
     }
 }
 
-impl<T: Copy + Send + 'static, M: Mechanism> fmt::Debug for Place<T, M> {
+impl<T: Copy + Send, M: Mechanism> fmt::Debug for Place<T, M> {
     fn fmt(&self, to: &mut fmt::Formatter<'_>) -> fmt::Result {
         to.debug_struct("Place").field("stamp", &self.last).finish_non_exhaustive()
     }

@@ -33,7 +33,7 @@
 //!
 //! The crate links the static library that `./install PREFIX` of its repository installs. Its build script asks the program
 //! `pkg-config` where that is: each command of cargo needs `PKG_CONFIG_PATH=PREFIX/lib/pkgconfig` in its environment, where `PREFIX`
-//! is an absolute path without blanks.
+//! is an absolute path without blanks. `cargo doc -p nidzaru` needs no library.
 //!
 //! # Numbers
 //!
@@ -47,8 +47,20 @@
 //!
 //! # Records
 //!
-//! A record is of a type that is `Copy`, `Send` and `'static`, of at most 4,096 bytes, whatever its alignment; others are
-//! refused when the program is compiled. What the writing thread did before a write comes before what the reading thread does
+//! A record is of a type that is `Copy` and `Send`, of at most 4,096 bytes, whatever its alignment; others are refused when the
+//! program is compiled. It may borrow, as what threads of a [`std::thread::scope`] share may:
+//!
+//! ```
+//! let names = [String::from("idle"), String::from("busy")];
+//! let (mut writer, mut reader) = nidzaru::register(names[0].as_str())?;
+//! std::thread::scope(|threads| {
+//!     threads.spawn(|| writer.write(&names[1].as_str()).unwrap()).join().unwrap();
+//!     assert_eq!(reader.latest(), "busy");
+//! });
+//! # Ok::<(), Box<dyn std::error::Error>>(())
+//! ```
+//!
+//! What the writing thread did before a write comes before what the reading thread does
 //! once it has read that write's number or a greater one; nothing is ordered the other way round. The same holds along a board,
 //! from a write to a read that gives its record.
 //!
@@ -60,11 +72,14 @@
 #![deny(unsafe_code)]
 #![warn(missing_docs)]
 
+#[cfg(all(nidzaru_missing, not(doc)))]
+compile_error!(env!("NIDZARU_MISSING"));
+
 mod boards;
 pub mod log;
 mod raw;
 
-pub use boards::{board, limited_board, triple_board, BoardError, Place, Since, Stamp, TagsEnded, GREATEST_LIMIT};
+pub use boards::{board, board_over, limited_board, triple_board, BoardError, Place, Since, Stamp, TagsEnded, GREATEST_LIMIT};
 
 use raw::{Calls, ReadingSide, WritingSide};
 use std::fmt;
@@ -129,13 +144,22 @@ impl Mechanism for Triple {
     const TRIPLE: bool = true;
 }
 
+/// No other mechanism can be added:
+///
+/// ```compile_fail,E0277
+/// enum Mine {}
+/// impl nidzaru::Mechanism for Mine {}
+/// ```
+#[cfg(doctest)]
+struct IsSealed;
+
 /// Both sides of a register.
 pub type Sides<T, M = FourSlot> = (Writer<T, M>, Reader<T, M>);
 
 /// What is known of a record when the program is compiled.
 struct Known<T, M>(PhantomData<(T, M)>);
 
-impl<T: Copy + Send + 'static, M: Mechanism> Known<T, M> {
+impl<T: Copy + Send, M: Mechanism> Known<T, M> {
     const CALLS: &'static Calls = {
         assert!(size_of::<T>() <= 4096, "a record of a register has at most 4096 bytes");
         raw::calls_for(size_of::<T>(), M::TRIPLE)
@@ -153,15 +177,22 @@ impl<T: Copy + Send + 'static, M: Mechanism> Known<T, M> {
 ///
 /// Records that are too large or not `Copy` don't compile:
 ///
-/// ```compile_fail
+/// ```compile_fail,E0080
 /// let both = nidzaru::register([0u8; 4097]);
 /// ```
 ///
-/// ```compile_fail
+/// ```compile_fail,E0277
 /// let both = nidzaru::register(String::new());
 /// ```
-pub fn register<T: Copy + Send + 'static>(first: T) -> Result<Sides<T>, OutOfMemory> {
-    open(first)
+///
+/// Nor do records that may not go to another thread:
+///
+/// ```compile_fail,E0277
+/// let shared = std::cell::Cell::new(1);
+/// let both = nidzaru::register(&shared);
+/// ```
+pub fn register<T: Copy + Send>(first: T) -> Result<Sides<T>, OutOfMemory> {
+    register_over(first)
 }
 
 /// A triple buffer that holds `first` as number 0, as its two sides.
@@ -172,11 +203,22 @@ pub fn register<T: Copy + Send + 'static>(first: T) -> Result<Sides<T>, OutOfMem
 /// assert_eq!((reader.latest(), reader.number()), (2.5, 1));
 /// # Ok::<(), Box<dyn std::error::Error>>(())
 /// ```
-pub fn triple_register<T: Copy + Send + 'static>(first: T) -> Result<Sides<T, Triple>, OutOfMemory> {
-    open(first)
+pub fn triple_register<T: Copy + Send>(first: T) -> Result<Sides<T, Triple>, OutOfMemory> {
+    register_over(first)
 }
 
-fn open<T: Copy + Send + 'static, M: Mechanism>(first: T) -> Result<Sides<T, M>, OutOfMemory> {
+/// A register over a mechanism that the caller, or what becomes of the sides, names.
+///
+/// ```
+/// fn publish<M: nidzaru::Mechanism>() -> Result<i32, Box<dyn std::error::Error>> {
+///     let (mut writer, mut reader) = nidzaru::register_over::<_, M>(1)?;
+///     writer.write(&2)?;
+///     Ok(reader.latest())
+/// }
+/// assert_eq!((publish::<nidzaru::FourSlot>()?, publish::<nidzaru::Triple>()?), (2, 2));
+/// # Ok::<(), Box<dyn std::error::Error>>(())
+/// ```
+pub fn register_over<T: Copy + Send, M: Mechanism>(first: T) -> Result<Sides<T, M>, OutOfMemory> {
     let (writes, reads) = raw::open(Known::<T, M>::CALLS, &first).ok_or(OutOfMemory)?;
     let writer = Writer { side: writes, of: PhantomData };
     Ok((writer, Reader { side: reads, last: 0, of: PhantomData }))
@@ -185,19 +227,38 @@ fn open<T: Copy + Send + 'static, M: Mechanism>(first: T) -> Result<Sides<T, M>,
 /// The right to write. It may go to another thread, and one thread uses it at a time. The reader keeps the last record when it
 /// goes.
 ///
-/// It can't be shared:
+/// It can't be shared, nor copied:
 ///
-/// ```compile_fail
+/// ```compile_fail,E0277
 /// fn shared<T: Sync>(_: T) {}
 /// let (writer, _reader) = nidzaru::register(1.5).unwrap();
 /// shared(writer);
 /// ```
-pub struct Writer<T: Copy + Send + 'static, M: Mechanism = FourSlot> {
+///
+/// ```compile_fail,E0599
+/// let (writer, _reader) = nidzaru::register(1.5).unwrap();
+/// let other = writer.clone();
+/// ```
+///
+/// One that takes records of every lifetime isn't one that takes shorter ones: these could be read when they are gone.
+///
+/// ```
+/// fn narrow<'a>(writer: nidzaru::Writer<&'a str>) -> nidzaru::Writer<&'static str> {
+///     writer
+/// }
+/// ```
+///
+/// ```compile_fail
+/// fn widen<'a>(writer: nidzaru::Writer<&'static str>) -> nidzaru::Writer<&'a str> {
+///     writer
+/// }
+/// ```
+pub struct Writer<T: Copy + Send, M: Mechanism = FourSlot> {
     side: WritingSide,
     of: PhantomData<(fn(T), M)>,
 }
 
-impl<T: Copy + Send + 'static, M: Mechanism> Writer<T, M> {
+impl<T: Copy + Send, M: Mechanism> Writer<T, M> {
     /// Shows the record to the reader, under the next number. The error comes after 2^64 - 1 writes.
     #[inline]
     pub fn write(&mut self, item: &T) -> Result<(), WornOut> {
@@ -207,20 +268,50 @@ impl<T: Copy + Send + 'static, M: Mechanism> Writer<T, M> {
 
 /// The right to read. It may go to another thread, and one thread uses it at a time. Writes go on when it goes.
 ///
-/// It can't be shared:
+/// It can't be shared, nor copied:
 ///
-/// ```compile_fail
+/// ```compile_fail,E0277
 /// fn shared<T: Sync>(_: T) {}
 /// let (_writer, reader) = nidzaru::register(1.5).unwrap();
 /// shared(reader);
 /// ```
-pub struct Reader<T: Copy + Send + 'static, M: Mechanism = FourSlot> {
+///
+/// ```compile_fail,E0599
+/// let (_writer, reader) = nidzaru::register(1.5).unwrap();
+/// let other = reader.clone();
+/// ```
+///
+/// One that gives records of every lifetime gives shorter ones too, and not the other way round:
+///
+/// ```
+/// fn narrow<'a>(reader: nidzaru::Reader<&'static str>) -> nidzaru::Reader<&'a str> {
+///     reader
+/// }
+/// ```
+///
+/// ```compile_fail
+/// fn widen<'a>(reader: nidzaru::Reader<&'a str>) -> nidzaru::Reader<&'static str> {
+///     reader
+/// }
+/// ```
+///
+/// What is read doesn't outlive what it borrows:
+///
+/// ```compile_fail,E0597
+/// let seen = {
+///     let name = String::from("gone");
+///     let (_writer, mut reader) = nidzaru::register(name.as_str()).unwrap();
+///     reader.latest()
+/// };
+/// println!("{seen}");
+/// ```
+pub struct Reader<T: Copy + Send, M: Mechanism = FourSlot> {
     side: ReadingSide,
     last: u64,
     of: PhantomData<(fn() -> T, M)>,
 }
 
-impl<T: Copy + Send + 'static, M: Mechanism> Reader<T, M> {
+impl<T: Copy + Send, M: Mechanism> Reader<T, M> {
     /// One whole record, whose number is [`number`](Reader::number) then.
     #[inline]
     pub fn latest(&mut self) -> T {
@@ -271,13 +362,13 @@ impl<T: Copy + Send + 'static, M: Mechanism> Reader<T, M> {
     }
 }
 
-impl<T: Copy + Send + 'static, M: Mechanism> fmt::Debug for Writer<T, M> {
+impl<T: Copy + Send, M: Mechanism> fmt::Debug for Writer<T, M> {
     fn fmt(&self, to: &mut fmt::Formatter<'_>) -> fmt::Result {
         to.debug_struct("Writer").finish_non_exhaustive()
     }
 }
 
-impl<T: Copy + Send + 'static, M: Mechanism> fmt::Debug for Reader<T, M> {
+impl<T: Copy + Send, M: Mechanism> fmt::Debug for Reader<T, M> {
     fn fmt(&self, to: &mut fmt::Formatter<'_>) -> fmt::Result {
         to.debug_struct("Reader").field("number", &self.last).finish_non_exhaustive()
     }

@@ -11,7 +11,8 @@
 //!    the record has padding: they are copied and never looked at, on either side.
 //! 4. *The record that comes back is a `T`.* The library gives a record that was written into this register or board, whole, or its opening:
 //!    bytes that were copied from a `T`, and a `Copy` type may be had again from its bytes. `T` is `Send`, so it may come in another
-//!    thread.
+//!    thread. What `T` borrows lives as long as the sides and places, whose types name it: a writer takes no `T` of a shorter lifetime,
+//!    and a reader gives none of a longer one.
 //! 5. *The calls are those of the record's size.* They are chosen by `size_of::<T>()` at [`open`] and at each call, in one way.
 //! 6. *No call from a signal handler or a forked child of a process with threads, and one allocator*: this is left to the program, as
 //!    it is for its own use of std's allocator.
@@ -96,6 +97,16 @@ calls!(TRIPLE_4096, 4096, "triple_4096");
 
 extern "C" {
     fn nidzaru_version() -> u32;
+
+    /// A name that a library has if it isn't older than this crate. Nothing is read of it.
+    #[link_name = concat!("nidzaru_since_", env!("CARGO_PKG_VERSION_MAJOR"), "_", env!("CARGO_PKG_VERSION_MINOR"))]
+    static SINCE: u8;
+}
+
+/// Asks for a library that isn't older than this crate: no other is linked.
+fn ask_for_release() {
+    // The address alone is taken.
+    std::hint::black_box(&raw const SINCE);
 }
 
 pub fn version() -> u32 {
@@ -144,7 +155,7 @@ impl Drop for WritingSide {
     fn drop(&mut self) {
         // The side is live, and is not used again.
         let status = unsafe { (self.end)(&mut self.side) };
-        debug_assert_eq!(status, DONE);
+        assert_eq!(status, DONE, "the side is live");
     }
 }
 
@@ -152,7 +163,7 @@ impl Drop for ReadingSide {
     fn drop(&mut self) {
         // As above.
         let status = unsafe { (self.end)(&mut self.side) };
-        debug_assert_eq!(status, DONE);
+        assert_eq!(status, DONE, "the side is live");
     }
 }
 
@@ -208,6 +219,7 @@ macro_rules! by_size {
 
 /// Both sides of a new register. None where memory is refused.
 pub fn open<T: Copy>(calls: &'static Calls, first: &T) -> Option<(WritingSide, ReadingSide)> {
+    ask_for_release();
     by_size!(calls, open_by, (calls, first))
 }
 
@@ -380,7 +392,7 @@ impl Drop for BoardPlace {
     fn drop(&mut self) {
         // The place is live, and is not used again.
         let status = unsafe { (self.end)(&mut self.side) };
-        debug_assert_eq!(status, DONE);
+        assert_eq!(status, DONE, "the side is live");
     }
 }
 
@@ -400,6 +412,7 @@ pub fn open_board<T: Copy>(calls: &'static BoardCalls, n: usize, limit: u64, fir
     let mut places = Vec::new();
     places.try_reserve_exact(n).map_err(|_| NoBoard::Memory)?;
     let mut sides = [const { Side::EMPTY }; 16];
+    ask_for_release();
     by_size!(calls, open_board_by, (calls, &mut sides[..n], limit, first))?;
     places.extend(sides.into_iter().take(n).map(|side| BoardPlace { side, end: calls.end }));
     Ok(places)
@@ -460,6 +473,21 @@ fn read_place_by<T: Copy, const N: usize>(calls: &BoardCalls, place: &mut BoardP
     must_be_done(unsafe { (calls.read)(&mut place.side, words.as_mut_ptr(), &mut stamp) });
     // They begin with the bytes of a `T`.
     (unsafe { ptr::read_unaligned(words.as_ptr().cast::<T>()) }, stamp)
+}
+
+/// Reads a record into place, and gives its stamp.
+#[inline]
+pub fn read_place_into<T: Copy>(calls: &'static BoardCalls, place: &mut BoardPlace, item: &mut T) -> Mark {
+    if passes::<T>(calls.size) {
+        let mut stamp = Mark::default();
+        // The item is as large and aligned as the library's record, and gets the bytes of a `T`.
+        must_be_done(unsafe { (calls.read)(&mut place.side, ptr::from_mut(item).cast(), &mut stamp) });
+        stamp
+    } else {
+        let (record, stamp) = read_place(calls, place);
+        *item = record;
+        stamp
+    }
 }
 
 /// Reads a record and its stamp, and says whether the stamp is at least this one.

@@ -1,13 +1,13 @@
 //! Boards: each call at the edges of the library's sizes, what it refuses, and threads at full speed.
 
 use nidzaru::{
-    board, limited_board, triple_board, BoardError, FourSlot, Mechanism, Place, Since, Stamp, TagsEnded, Triple, GREATEST_LIMIT,
+    board, board_over, limited_board, triple_board, BoardError, FourSlot, Mechanism, Place, Since, Stamp, TagsEnded, Triple, GREATEST_LIMIT,
 };
 use std::fmt::Debug;
 use std::sync::{Arc, Mutex};
 use std::thread;
 
-fn calls<T: Copy + Send + PartialEq + Debug + 'static, M: Mechanism>(made: Result<Vec<Place<T, M>>, BoardError>, first: T, next: T) {
+fn calls<T: Copy + Send + PartialEq + Debug, M: Mechanism>(made: Result<Vec<Place<T, M>>, BoardError>, first: T, next: T) {
     let mut places = made.unwrap();
     let n = places.len();
     assert_eq!((places[n - 1].read(), places[n - 1].stamp()), (first, Stamp::default()));
@@ -17,6 +17,13 @@ fn calls<T: Copy + Send + PartialEq + Debug + 'static, M: Mechanism>(made: Resul
     let later = Stamp { tag: 1, writer: 2 };
     assert!(told < later);
     assert_eq!((places[0].read_since(later), places[0].stamp()), (Since::Older(next), told));
+    assert!(!places[0].has_news() && places[0].news().is_none() && !places[1].has_news() && places[1].news().is_none());
+    if n > 2 {
+        assert!(places[2].has_news() && places[2].has_news() && places[2].stamp() == Stamp::default());
+        assert_eq!((places[2].news(), places[2].stamp(), places[2].news()), (Some(next), told, None));
+    }
+    let mut item = first;
+    assert_eq!((places[0].read_into(&mut item), item, places[0].stamp()), (told, next, told));
     drop(places.remove(1));
     assert_eq!(places[0].read(), next);
     assert_eq!(places[0].write(&first), Ok(Stamp { tag: 2, writer: 0 }));
@@ -59,6 +66,29 @@ fn tags_end_at_the_limit() {
     assert!(places[0].write(&1).is_ok() && places[1].write(&2).is_ok());
     assert_eq!(places[0].write(&3), Err(TagsEnded));
     assert_eq!((places[0].read(), places[1].read()), (2, 2));
+}
+
+#[test]
+fn boards_without_a_limit() {
+    fn unlimited<M: Mechanism>(places: Result<Vec<Place<u8, M>>, BoardError>) {
+        let mut places = places.unwrap();
+        for n in 1..=1_100_000 {
+            assert_eq!(places[0].write(&1), Ok(Stamp::new(n, 0)));
+        }
+    }
+    assert_eq!(GREATEST_LIMIT, 18_446_744_073_709_551_614);
+    unlimited(board(2, 0));
+    unlimited(triple_board(2, 0));
+    unlimited(board_over::<_, FourSlot>(2, 0));
+}
+
+#[test]
+fn stamps_are_in_order_and_printed() {
+    let in_order = [(0, 0), (0, 1), (1, 0), (1, 15), (2, 0), (u64::MAX, 0)].map(|(tag, writer)| Stamp::new(tag, writer));
+    assert!(in_order.is_sorted() && in_order.windows(2).all(|two| two[0] < two[1] && two[1] > two[0]));
+    assert_eq!(in_order.iter().max(), Some(&in_order[5]));
+    assert_eq!((Stamp::new(12, 3).to_string(), Stamp::default().to_string()), ("12.3".into(), "0.0".into()));
+    assert_eq!((Stamp::new(12, 3).tag, Stamp::new(12, 3).writer), (12, 3));
 }
 
 /// The tasks of a board write and read at once, and each reads what another one told.

@@ -1,6 +1,9 @@
 //! Each call once, at the edges of the library's sizes, and what it refuses.
 
-use nidzaru::{board, library_version, register, triple_board, triple_register, BoardError, Mechanism, OutOfMemory, Place, Sides, WornOut};
+use nidzaru::{
+    board, board_over, library_version, register, register_over, triple_board, triple_register, BoardError, FourSlot, Mechanism,
+    OutOfMemory, Place, Sides, Triple, WornOut,
+};
 use std::cell::Cell;
 use std::ffi::c_void;
 
@@ -8,11 +11,14 @@ thread_local! {
     /// The requests for memory that this thread has made, and the one of them that is refused.
     static ASKED: Cell<u64> = const { Cell::new(0) };
     static REFUSED: Cell<u64> = const { Cell::new(u64::MAX) };
+    /// The blocks that this thread has taken, without those that it has given back.
+    static BLOCKS: Cell<i64> = const { Cell::new(0) };
 }
 
 extern "C" {
     fn __libc_malloc(size: usize) -> *mut c_void;
     fn __libc_realloc(old: *mut c_void, size: usize) -> *mut c_void;
+    fn __libc_free(old: *mut c_void);
 }
 
 fn is_refused() -> bool {
@@ -27,6 +33,7 @@ extern "C" fn malloc(size: usize) -> *mut c_void {
     if is_refused() {
         return std::ptr::null_mut();
     }
+    BLOCKS.set(BLOCKS.get() + 1);
     // The C library's own function, with what it was to get.
     unsafe { __libc_malloc(size) }
 }
@@ -36,11 +43,19 @@ extern "C" fn realloc(old: *mut c_void, size: usize) -> *mut c_void {
     if is_refused() {
         return std::ptr::null_mut();
     }
+    BLOCKS.set(BLOCKS.get() + i64::from(old.is_null()));
     // As above.
     unsafe { __libc_realloc(old, size) }
 }
 
-fn calls<T: Copy + Send + PartialEq + std::fmt::Debug + 'static, M: Mechanism>(made: Result<Sides<T, M>, OutOfMemory>, first: T, next: T) {
+#[no_mangle]
+extern "C" fn free(old: *mut c_void) {
+    BLOCKS.set(BLOCKS.get() - i64::from(!old.is_null()));
+    // As above.
+    unsafe { __libc_free(old) }
+}
+
+fn calls<T: Copy + Send + PartialEq + std::fmt::Debug, M: Mechanism>(made: Result<Sides<T, M>, OutOfMemory>, first: T, next: T) {
     let (mut writer, mut reader) = made.unwrap();
     assert!(!reader.has_news() && reader.news().is_none() && reader.look() == 0);
     assert_eq!((reader.latest(), reader.number()), (first, 0));
@@ -94,13 +109,17 @@ fn requests_for_memory_are_refused_in_turn() {
         for at in 1.. {
             ASKED.set(0);
             REFUSED.set(at);
+            let had = BLOCKS.get();
             let made = make();
             REFUSED.set(u64::MAX);
             if ASKED.get() < at {
                 assert!(made.is_ok() && at > 4, "no request was refused");
+                drop(made);
+                assert_eq!(BLOCKS.get(), had, "blocks that are left");
                 return;
             }
             assert_eq!(made.err(), Some(OutOfMemory));
+            assert_eq!(BLOCKS.get(), had, "blocks of a register that wasn't made");
         }
     }
     refuse(|| register([1; 3]));
@@ -109,17 +128,44 @@ fn requests_for_memory_are_refused_in_turn() {
         for at in 1.. {
             ASKED.set(0);
             REFUSED.set(at);
+            let had = BLOCKS.get();
             let made = make();
             REFUSED.set(u64::MAX);
             if ASKED.get() < at {
                 assert!(made.is_ok() && at > 8, "no request was refused");
+                drop(made);
+                assert_eq!(BLOCKS.get(), had, "blocks that are left");
                 return;
             }
             assert_eq!(made.err(), Some(BoardError::OutOfMemory));
+            assert_eq!(BLOCKS.get(), had, "blocks of a board that wasn't made");
         }
     }
     refuse_board(|| board(3, [1; 3]));
     refuse_board(|| triple_board(3, [1; 3]));
+}
+
+#[test]
+fn what_goes_gives_back_its_memory() {
+    fn goes<M: Mechanism>() {
+        let had = BLOCKS.get();
+        let (writer, mut reader) = register_over::<_, M>([1u8; 100]).unwrap();
+        let both = BLOCKS.get();
+        assert!(both > had);
+        drop(writer);
+        assert!(BLOCKS.get() < both && BLOCKS.get() > had, "a side that goes gives back what is its own");
+        assert_eq!(reader.latest(), [1; 100]);
+        drop(reader);
+        assert_eq!(BLOCKS.get(), had, "blocks of a register");
+        let mut places = board_over::<_, M>(3, [1u8; 100]).unwrap();
+        let all = BLOCKS.get();
+        drop(places.pop());
+        assert!(BLOCKS.get() < all && BLOCKS.get() > had, "a place that goes gives back what is its own");
+        drop(places);
+        assert_eq!(BLOCKS.get(), had, "blocks of a board");
+    }
+    goes::<FourSlot>();
+    goes::<Triple>();
 }
 
 #[test]
@@ -145,4 +191,31 @@ fn sides_may_go_to_another_thread() {
     let (writer, mut reader) = (may_go(writer), may_go(reader));
     std::thread::spawn(move || drop(writer)).join().unwrap();
     assert_eq!(reader.latest(), 1.5);
+}
+
+#[test]
+fn records_may_borrow() {
+    fn borrow<M: Mechanism>() {
+        let names: Vec<String> = (0..1000).map(|n| n.to_string()).collect();
+        let (mut writer, mut reader) = register_over::<_, M>(names[0].as_str()).unwrap();
+        let mut places = board_over::<_, M>(2, &names[0]).unwrap();
+        let mut place = places.pop().unwrap();
+        std::thread::scope(|threads| {
+            threads.spawn(|| {
+                for name in &names[1..] {
+                    writer.write(&name.as_str()).unwrap();
+                    place.write(&name).unwrap();
+                }
+            });
+            threads.spawn(|| {
+                while reader.number() < 999 {
+                    assert_eq!(reader.latest(), names[reader.number() as usize]);
+                    assert_eq!(*places[0].read(), places[0].stamp().tag.to_string());
+                }
+            });
+        });
+        assert_eq!((reader.latest(), places[0].read().as_str()), ("999", "999"));
+    }
+    borrow::<FourSlot>();
+    borrow::<Triple>();
 }

@@ -1,0 +1,62 @@
+/* Under MemorySanitizer, which doesn't see inside the library: what each call gives counts as filled, and what a refused call leaves
+ * doesn't. usage: filled clean      nothing is to be reported
+ *                 filled refused    one use of what nothing has filled, which is to be reported */
+#include "nidzaru.h"
+#include <stdio.h>
+
+struct whole { uint64_t words[3]; };
+struct part { uint32_t words[5]; };
+NIDZARU_REGISTER(wholes, struct whole);
+NIDZARU_TRIPLE_REGISTER(parts, struct part);
+NIDZARU_BOARD(whole_boards, struct whole);
+NIDZARU_TRIPLE_BOARD(part_boards, struct part);
+
+/* A branch on each byte. */
+static int sum(const void *bytes, size_t count) {
+    int odd = 0;
+    for (size_t k = 0; k < count; k++)
+        if (((const unsigned char *)bytes)[k] % 2) odd++;
+    return odd;
+}
+
+#define REGISTER(name, type)                                                                                          \
+    static int name##_filled(int refused) {                                                                           \
+        name##_writer w = NIDZARU_EMPTY;                                                                              \
+        name##_reader r = NIDZARU_EMPTY;                                                                              \
+        type first = {{1, 2, 3}}, x, y;                                                                               \
+        uint64_t n, m, o = 0;                                                                                         \
+        int odd = 0;                                                                                                  \
+        if (name##_make(&first, &w, &r) || name##_write(&w, &first)) return -1;                                       \
+        if (refused && name##_end_reader(&r)) return -1;                                                              \
+        if (name##_look(&r, &m) != refused * NIDZARU_ENDED) return -1;                                                \
+        if (name##_read(&r, &x, &n) != refused * NIDZARU_ENDED) return -1;                                            \
+        odd += sum(&x, sizeof x) + sum(&n, sizeof n) + sum(&m, sizeof m);                                             \
+        if (name##_news(&r, &y, &o)) return -1;                                                                       \
+        odd += sum(&y, sizeof y) + sum(&o, sizeof o) + sum(&r.handle, sizeof r.handle) + sum(&w.handle, sizeof w.handle); \
+        return name##_end_writer(&w) || name##_end_reader(&r) ? -1 : odd;                                             \
+    }
+REGISTER(wholes, struct whole)
+REGISTER(parts, struct part)
+
+#define BOARD(name, type)                                                                                             \
+    static int name##_filled(void) {                                                                                  \
+        name##_place p[2] = {NIDZARU_EMPTY, NIDZARU_EMPTY};                                                           \
+        type first = {{1, 2, 3}}, x, y, z;                                                                            \
+        nidzaru_stamp s, t, u, v = {0, 0};                                                                            \
+        int odd = 0;                                                                                                  \
+        if (name##_make(&first, p, 2) || name##_write(&p[0], &first, &s) || name##_read(&p[1], &x, &t)) return -1;    \
+        odd += sum(&s, sizeof s) + sum(&t, sizeof t) + sum(&x, sizeof x);                                             \
+        if (name##_read_since(&p[1], s, &y, &u) || name##_news(&p[1], &z, &v)) return -1;                             \
+        odd += sum(&u, sizeof u) + sum(&v, sizeof v) + sum(&y, sizeof y) + sum(&z, sizeof z);                         \
+        return name##_end(&p[0]) || name##_end(&p[1]) ? -1 : odd + sum(p, sizeof p);                                  \
+    }
+BOARD(whole_boards, struct whole)
+BOARD(part_boards, struct part)
+
+int main(int count, char **words) {
+    int wrong = count != 2;
+    if (!wrong && !strcmp(words[1], "refused")) wrong = wholes_filled(1) >= 0;
+    else wrong |= wholes_filled(0) < 0 || parts_filled(0) < 0 || whole_boards_filled() < 0 || part_boards_filled() < 0;
+    puts(wrong ? "FAILED" : "passed");
+    return wrong;
+}
