@@ -57,7 +57,7 @@ static int is_filled(const void *item, size_t size, unsigned char from) {
     static void test_##name(void) {                                                                                   \
         static name items[3], given;                                                                                  \
         static name##s_place places[2];                                                                               \
-        nidzaru_stamp stamp, seen;                                                                                    \
+        nidzaru_stamp stamp = {0, 0}, seen = {0, 0};                                                                  \
         int i;                                                                                                        \
         fill(&given, sizeof given, 1);                                                                                \
         check(!name##s_make(&given, places, 2), #name, "make");                                                       \
