@@ -78,8 +78,6 @@ def before_read(handle, call, arguments):
 HEADER = [
     ("a larger record of a register", 'sizeof(type) <= 4096, "a record of a register', 'sizeof(type) <= 8192, "a record of a register', "refused records c"),
     ("a larger record of a board", 'sizeof(type) <= 4096, "a record of a board', 'sizeof(type) <= 8192, "a record of a board', "refused records c"),
-    ("a wider record of a register", '<= 8, "a record of a register is aligned', '<= 16, "a record of a register is aligned', "refused records c"),
-    ("a wider record of a board", '<= 8, "a record of a board is aligned', '<= 16, "a record of a board is aligned', "refused records c"),
     ("any record of a register", 'NIDZARU_COPIES(type), "a record of a register', '1, "a record of a register', "refused macros c++"),
     ("any record of a board", 'NIDZARU_COPIES(type), "a record of a board', '1, "a record of a board', "refused macros c++"),
     ("a volatile record of a register", 'NIDZARU_PLAIN(type), "a record of a register', '1, "a record of a register', "refused records c"),
@@ -206,7 +204,7 @@ CRATE = [
     ("old news of a register", LIB, "self.look() > self.last", "self.look() >= self.last", "test calls"),
     ("a number that is forgotten", LIB, "self.last = raw::read_into(Known::<T, M>::CALLS, &mut self.side, item); self.last", "raw::read_into(Known::<T, M>::CALLS, &mut self.side, item)", "test calls"),
     ("stamps by their writers", BOARDS, "/// Each write has a greater tag than all that its place saw. pub tag: u64, /// The place that wrote, by its number in the board. pub writer: u64,", "/// w pub writer: u64, /// t pub tag: u64,".replace("/// w", "/// The writer.\n").replace("/// t", "/// The tag.\n"), "test boards"),
-    ("records of 4 where they lie", RAW, "align_of::<T>() == 8", "align_of::<T>() >= 4", "lib"),
+    ("records of 4 where they lie", RAW, "align_of::<T>() >= 8", "align_of::<T>() >= 4", "lib"),
     ("25 bytes in 24", RAW, "(0..=24, false) => &FOUR_SLOT_BOARD_24, (25..=256, false)", "(0..=25, false) => &FOUR_SLOT_BOARD_24, (26..=256, false)", "lib"),
 ]
 
