@@ -62,7 +62,7 @@
     ((size) <= 8 ? 8 : (size) <= 24 ? 24 : (size) <= 64 ? 64 : (size) <= 128 ? 128                                    \
      : (size) <= 256 ? 256 : (size) <= 1024 ? 1024 : 4096)
 
-/* Records that are as large as the library's and aligned to 8 are passed where they lie, others through a copy that the
+/* Records that are as large as the library's and aligned to 8 or more are passed where they lie, others through a copy that the
  * compiler lays out with zeros behind it. ThreadSanitizer sees what a copy reads and writes, so there each record has one. */
 #define NIDZARU_PASSES(size, alignment) (!NIDZARU_WATCHED && (size) == NIDZARU_SIZE(size) && (alignment) >= 8)
 
@@ -394,7 +394,6 @@ NIDZARU_CHECKED int nidzaru_move_handle(nidzaru_handle *to, nidzaru_handle *from
     NIDZARU_ASSERT(NIDZARU_PLAIN(type), "a record of a register is neither const nor volatile");                       \
     NIDZARU_ASSERT(NIDZARU_COPIES(type), "a record of a register is trivially copyable");                              \
     NIDZARU_ASSERT(sizeof(type) <= 4096, "a record of a register has at most 4096 bytes");                             \
-    NIDZARU_ASSERT(NIDZARU_ALIGNMENT(type) <= 8, "a record of a register is aligned to at most 8 bytes");              \
     /* (below stands this name alone: a type may be called as an argument is) */                                       \
     typedef type name##_record;                                                                                        \
     typedef struct {                                                                                                   \
@@ -639,7 +638,6 @@ NIDZARU_INLINE int nidzaru_sized_board_end(int triple, size_t size, nidzaru_hand
     NIDZARU_ASSERT(NIDZARU_PLAIN(type), "a record of a board is neither const nor volatile");                          \
     NIDZARU_ASSERT(NIDZARU_COPIES(type), "a record of a board is trivially copyable");                                 \
     NIDZARU_ASSERT(sizeof(type) <= 4096, "a record of a board has at most 4096 bytes");                                \
-    NIDZARU_ASSERT(NIDZARU_ALIGNMENT(type) <= 8, "a record of a board is aligned to at most 8 bytes");                 \
     typedef type name##_record;                                                                                        \
     typedef struct {                                                                                                   \
         nidzaru_handle handle;                                                                                         \

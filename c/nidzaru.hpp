@@ -16,7 +16,7 @@
 //
 // `if (writer)`, `if (reader)` and `if (places[0])` ask whether there is a side.
 //
-// The record's type is neither const nor volatile, trivially copyable, of at most 4096 bytes, and aligned to at most 8.
+// The record's type is neither const nor volatile, trivially copyable, and of at most 4096 bytes. It may be aligned to 16, 32, 64 and more.
 #ifndef NIDZARU_HPP
 #define NIDZARU_HPP
 #include "nidzaru.h"
@@ -52,7 +52,6 @@ template <class T, cell C, std::size_t bytes = NIDZARU_SIZE(sizeof(T))> struct r
     static_assert(std::is_trivially_copyable<T>::value, "a record of a register or board is trivially copyable");
     static_assert(!std::is_array<T>::value, "a record of a register or board is no array: std::array may be one");
     static_assert(sizeof(T) <= 4096, "a record of a register or board has at most 4096 bytes");
-    static_assert(alignof(T) <= 8, "a record of a register or board is aligned to at most 8 bytes");
     static constexpr std::size_t size = bytes;
     static constexpr bool passes = !NIDZARU_WATCHED && sizeof(T) == bytes && alignof(T) >= 8;
     static constexpr bool in_place = passes && !shares_tail<T>::value;

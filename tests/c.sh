@@ -1,9 +1,13 @@
 # The static library for C and C++: installed into a fresh folder, with each C compiler that is there its tests and its
-# examples, a control that isn't a register, and records that no register can have.
+# examples, a control that isn't a register, what the headers refuse, and wrong headers, which the tests must refuse.
 
 . tests/library.sh
 installed=$room/installed
 wrapped='-Wl,--wrap=malloc,--wrap=realloc,--wrap=free'
+between=
+for cell in 24 triple_24 board_24 triple_board_24; do
+    between="$between -Wl,--wrap=nidzaru_${cell}_make,--wrap=nidzaru_${cell}_write"
+done
 strict='-Wall -Wextra -Wpedantic -Werror -pthread'
 
 # Runs what a command builds: its last line must be $wants.
@@ -32,16 +36,22 @@ run_control() {
     fi
 }
 
-# A program that must not compile, for this reason.
-refuse() {
-    name=$1
-    shift
-    if printf '%s\n' "$text" | "$@" -c - -o /dev/null >"$room/built" 2>&1; then
-        fail "$name" "it compiles"
-    elif grep -q "$wants" "$room/built"; then
-        pass "$name"
+# Takes over what a script says, one line each and the sums last.
+take_over() {
+    sed '$d' "$room/told"
+    take_counts "$room/told" "$1"
+}
+
+# A header of the next release, which asks for a name that the library doesn't have, doesn't link with it.
+test_release() {
+    minor=$(awk '/^#define NIDZARU_VERSION_MINOR/ { print $3 }' c/nidzaru.h)
+    mkdir -p "$room/next" && sed "s/^#define NIDZARU_VERSION_MINOR .*/#define NIDZARU_VERSION_MINOR $((minor + 1))/" c/nidzaru.h >"$room/next/nidzaru.h"
+    if "$c" -std=c11 -O2 -I "$room/next" examples/c/tasks.c -pthread $flags -o "$room/program" >"$room/built" 2>&1; then
+        fail "a header of the next release ($c)" "it links with this library"
+    elif grep -q "nidzaru_since_[0-9]*_$((minor + 1))" "$room/built"; then
+        pass "a header of the next release ($c)"
     else
-        fail "$name" "$(head -n 3 "$room/built" | tr '\n' ' ')"
+        fail "a header of the next release ($c)" "$(head -n 3 "$room/built" | tr '\n' ' ')"
     fi
 }
 
@@ -64,7 +74,11 @@ test_in_c() {
     wants=passed
     run_here "c/tests/test.c ($c)" "$c" -std=c11 -D_GNU_SOURCE $strict -O2 c/tests/test.c $flags -o "$room/program"
     run_here "c/tests/edges.c ($c)" "$c" -std=c11 $strict -O1 c/tests/edges.c $wrapped $flags -o "$room/program"
+    for family in '' -DTRIPLE; do
+        run_here "c/tests/calls.c $family($c)" "$c" -std=c11 $strict -O2 $family c/tests/calls.c $wrapped $flags -o "$room/program"
+    done
     run_here "c/tests/board_edges.c ($c)" "$c" -std=c11 $strict -O1 c/tests/board_edges.c $wrapped $flags -o "$room/program"
+    run_here "c/tests/aligned.c ($c)" "$c" -std=c11 $strict -O2 c/tests/aligned.c $flags -o "$room/program"
     for family in '' -DTRIPLE; do
         run_here "c/tests/boards.c $family($c)" \
             "$c" -std=c11 -D_GNU_SOURCE $strict -O2 $family c/tests/boards.c $wrapped $flags -o "$room/program"
@@ -78,22 +92,7 @@ test_in_c() {
         "$c" -std=c11 -D_GNU_SOURCE $strict -O2 -I c c/tests/test.c c/tests/control.c -o "$room/program"
     test_shared_object
     test_controls
-    wants='at most 4096 bytes' text='#include <nidzaru.h>
-        struct large { char bytes[4097]; };
-        NIDZARU_REGISTER(larges, struct large);'
-    refuse "a record of 4,097 bytes ($c)" "$c" -std=c11 -x c $cflags
-    wants='at most 8 bytes' text='#include <nidzaru.h>
-        struct wide { _Alignas(16) char bytes[16]; };
-        NIDZARU_REGISTER(wides, struct wide);'
-    refuse "a record aligned to 16 ($c)" "$c" -std=c11 -x c $cflags
-    wants='at most 4096 bytes' text='#include <nidzaru.h>
-        struct large { char bytes[4097]; };
-        NIDZARU_BOARD(larges, struct large);'
-    refuse "a record of a board of 4,097 bytes ($c)" "$c" -std=c11 -x c $cflags
-    wants='unused.result' text='#include <nidzaru.h>
-        NIDZARU_REGISTER(doubles, double);
-        void show(doubles_writer *writer, double item) { doubles_write(writer, &item); }'
-    refuse "a status that nobody looks at ($c)" "$c" -std=c11 -Werror -x c $cflags
+    test_release
 }
 
 # The controls: a program that says something else, a right library where a wrong one is due, a text that compiles, and one that doesn't for
@@ -125,32 +124,15 @@ test_in_cpp() {
             "$cpp" -std=c++$year $strict -O2 c/tests/test.cpp $wrapped $flags -o "$room/program"
     done
     for year in 17 20; do
-        run_here "c/tests/boards.cpp ($cpp, C++$year)" "$cpp" -std=c++$year $strict -O2 c/tests/boards.cpp $flags -o "$room/program"
+        run_here "c/tests/boards.cpp ($cpp, C++$year)" \
+            "$cpp" -std=c++$year $strict -O2 c/tests/boards.cpp $wrapped $flags -o "$room/program"
+        run_here "c/tests/passed.cpp ($cpp, C++$year)" "$cpp" -std=c++$year $strict -O2 c/tests/passed.cpp $between $flags -o "$room/program"
     done
+    run_here "c/tests/aligned.cpp ($cpp)" "$cpp" -std=c++17 $strict -O2 c/tests/aligned.cpp $flags -o "$room/program"
     run_here "c/tests/bare.cpp, without exceptions ($cpp)" \
         "$cpp" -std=c++17 $strict -O2 -fno-exceptions -fno-rtti c/tests/bare.cpp $flags -o "$room/program"
     wants='no record was torn'
     run_here "examples/c/tasks.cpp ($cpp)" "$cpp" -std=c++17 $strict -O2 examples/c/tasks.cpp $flags -o "$room/program"
-    wants='trivially copyable' text='#include <nidzaru.hpp>
-        #include <string>
-        auto both = nidzaru::make(std::string("text"));'
-    refuse "a record that isn't trivially copyable ($cpp)" "$cpp" -std=c++17 -x c++ $cflags
-    wants='trivially copyable' text='#include <nidzaru.h>
-        #include <string>
-        NIDZARU_REGISTER(texts, std::string);'
-    refuse "the same through the macro ($cpp)" "$cpp" -std=c++17 -x c++ $cflags
-    wants='there is try_make' text='#include <nidzaru.hpp>
-        auto both = nidzaru::make(1.5);'
-    refuse "make without exceptions ($cpp)" "$cpp" -std=c++17 -fno-exceptions -x c++ $cflags
-    wants='unused.result\|nodiscard' text='#include <nidzaru.hpp>
-        void show(nidzaru::writer<double> &writer) { writer.write(1.5); }'
-    refuse "a status that nobody looks at ($cpp)" "$cpp" -std=c++17 -Werror -x c++ $cflags
-    wants='2 to 16 places' text='#include <nidzaru.hpp>
-        auto places = nidzaru::make_board<17>(1.5);'
-    refuse "a board of 17 places ($cpp)" "$cpp" -std=c++17 -x c++ $cflags
-    wants='deleted' text='#include <nidzaru.hpp>
-        void copy(nidzaru::writer<double> &writer) { auto other = writer; }'
-    refuse "a copy of a side ($cpp)" "$cpp" -std=c++17 -x c++ $cflags
 }
 
 # What is installed says where it lies by its own place, and DESTDIR goes before the prefix.
@@ -212,11 +194,15 @@ if ! ./install "$installed" >"$room/installing" 2>&1; then
 else
     pass "install"
     flags=$(PKG_CONFIG_PATH=$installed/lib/pkgconfig pkg-config --cflags --libs nidzaru)
-    cflags=$(PKG_CONFIG_PATH=$installed/lib/pkgconfig pkg-config --cflags nidzaru)
     for pair in gcc,g++ clang,clang++; do
         c=${pair%,*} cpp=${pair#*,}
         ! command -v "$c" >/dev/null 2>&1 || test_in_c
-        ! command -v "$cpp" >/dev/null 2>&1 || test_in_cpp
+        command -v "$cpp" >/dev/null 2>&1 || continue
+        test_in_cpp
+        python3 c/tests/refused.py c "$c" "$cpp" >"$room/told" 2>&1
+        take_over "c/tests/refused.py"
     done
     test_packages
+    python3 c/tests/planted.py "$installed/lib/libnidzaru.a" >"$room/told" 2>&1
+    take_over "c/tests/planted.py"
 fi

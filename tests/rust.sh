@@ -6,6 +6,41 @@ in_rust() {
     PKG_CONFIG_PATH=$installed/lib/pkgconfig CARGO_TARGET_DIR=$room/target cargo "$@" --offline --quiet --manifest-path "$room/rust/Cargo.toml"
 }
 
+# Looks for what is newer in the standard library than Rust $1, as the crate's oldest compiler.
+is_as_old() {
+    rm -rf "$room/old" && cp -r rust/nidzaru "$room/old" && sed -i "s/^rust-version = .*/rust-version = \"$1\"/" "$room/old/Cargo.toml" \
+        && PKG_CONFIG_PATH=$installed/lib/pkgconfig CARGO_TARGET_DIR=$room/oldest cargo clippy --offline --quiet --all-targets \
+            --manifest-path "$room/old/Cargo.toml" -- -A clippy::all -D clippy::incompatible_msrv >"$room/said" 2>&1
+}
+
+# The oldest compiler that Cargo.toml names builds and tests the crate, where it is installed, and clippy, where it is there, finds nothing
+# newer than it. Clippy has to find something newer than an older one.
+test_oldest_rust() {
+    oldest=$(awk -F'"' '/^rust-version/ { print $2 }' rust/nidzaru/Cargo.toml)
+    name="rust/nidzaru: Rust $oldest"
+    if grep -q "Rust, from $oldest on" docs/LANGUAGES.md; then
+        pass "$name is the page's"
+    else
+        fail "$name is the page's" "it has another"
+    fi
+    if cargo "+$oldest" --version >/dev/null 2>&1; then
+        if PKG_CONFIG_PATH=$installed/lib/pkgconfig CARGO_TARGET_DIR=$room/oldest cargo "+$oldest" test --offline --quiet \
+            --manifest-path "$room/rust/Cargo.toml" >"$room/said" 2>&1; then
+            pass "$name"
+        else
+            fail "$name" "$(grep -m 3 '^error' "$room/said" | tr '\n' ' ')"
+        fi
+    fi
+    cargo clippy --version >/dev/null 2>&1 || return 0
+    if ! is_as_old "$oldest"; then
+        fail "$name, by clippy" "$(grep -m 3 '^error' "$room/said" | tr '\n' ' ')"
+    elif is_as_old 1.75 || ! grep -q 'current MSRV' "$room/said"; then
+        fail "$name, by clippy" "it finds nothing that is newer than 1.75"
+    else
+        pass "$name, by clippy"
+    fi
+}
+
 if command -v cargo >/dev/null 2>&1 && [ -z "${installed:-}" ]; then
     fail "rust/nidzaru" "no library is installed; tests/c.sh does that"
 elif command -v cargo >/dev/null 2>&1; then
@@ -41,4 +76,19 @@ elif command -v cargo >/dev/null 2>&1; then
     else
         pass "rust/nidzaru without the library"
     fi
+    if PKG_CONFIG_PATH=/nowhere CARGO_TARGET_DIR=$room/target cargo doc --offline --quiet --no-deps --manifest-path "$room/rust/Cargo.toml" \
+        >"$room/said" 2>&1 && [ -s "$room/target/doc/nidzaru/fn.register_over.html" ] && [ ! -s "$room/said" ]; then
+        pass "rust/nidzaru: documents without the library"
+    else
+        fail "rust/nidzaru: documents without the library" "$(head -n 3 "$room/said" | tr '\n' ' ')"
+    fi
+    # (the library is as it is: what pkg-config says of it is another)
+    mkdir -p "$room/older" && sed "s/^Version: .*/Version: 2.0.9/" "$installed/lib/pkgconfig/nidzaru.pc" >"$room/older/nidzaru.pc"
+    if PKG_CONFIG_PATH=$room/older CARGO_TARGET_DIR=$room/target cargo build --offline --quiet --manifest-path "$room/rust/Cargo.toml" \
+        >"$room/said" 2>&1 || ! grep -q 'is of version 2.0.9, and this crate needs' "$room/said"; then
+        fail "rust/nidzaru over an older library" "it isn't told"
+    else
+        pass "rust/nidzaru over an older library"
+    fi
+    test_oldest_rust
 fi

@@ -6,6 +6,7 @@ ghost use Rattle.cell_triple.specs.Words.{opening_of, is_put_of, is_get_of, is_t
 ghost use Rattle.cell_triple.specs.Words.{named_by, swaps_of_put, loads_of, swaps_of, held_by, found_by, HasLooked};
 ghost use Rattle.cell_triple.specs.Words.{put_times, get_times, numbers_of, known_to, time_of, heard_by, writes_of};
 ghost use Rattle.cell_live.specs.Intervals.{AreHeeded, IsNextAnswer, IsNextCall};
+ghost use Rattle.cell_triple.specs.Words.{get_notes};
 
 use crate::cell::{TripleCell, TripleGet, TriplePut, TripleTold};
 use crate::table::TripleTable;
@@ -41,6 +42,20 @@ impl<T: Lawful> TripleCell<T> {
         self.table.fill(&mut put.seat, put.slot, parts);
         let found = self.table.publish(&mut put.seat, put.slot as u64 + 4);
         put.slot = (found % 4) as usize;
+    }
+
+    /// Lends the last answer again, where it lies. No write goes into the slot that a pass holds, so until the next read it is the same
+    /// record. Makes no access.
+    #[inline]
+    pub fn look_again<R, F: FnOnce(&T) -> R>(&self, get: &mut TripleGet<T>, see: F) -> R
+        requires own { is_get_of self.now get.old }
+        requires callable { FnOnceTakesAt F.FnOnce see (at_hand_of get.old) }
+        ensures own { is_get_of self.now get.new }
+        // The pass holds the same slot, and has made no access.
+        ensures same { (held_by get.new ≡ held_by get.old) × (get_notes get.new ≡ get_notes get.old) }
+        ensures looked { FnOnceReturnsAt F.FnOnce see (at_hand_of get.old) result }
+    {
+        self.table.lend(&mut get.seat, get.slot, see)
     }
 }
 

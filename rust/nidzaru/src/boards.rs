@@ -78,7 +78,6 @@ struct Known<T, M>(PhantomData<(T, M)>);
 impl<T: Copy + Send, M: Mechanism> Known<T, M> {
     const CALLS: &'static BoardCalls = {
         assert!(size_of::<T>() <= 4096, "a record of a board has at most 4096 bytes");
-        assert!(align_of::<T>() <= 8, "a record of a board is aligned to at most 8 bytes");
         raw::board_calls_for(size_of::<T>(), M::TRIPLE)
     };
 }
@@ -119,17 +118,10 @@ impl<T: Copy + Send, M: Mechanism> Known<T, M> {
 /// # Ok::<(), Box<dyn std::error::Error>>(())
 /// ```
 ///
-/// Records that are too large, aligned to more than 8 bytes, or not `Copy` don't compile:
+/// Records that are too large or not `Copy` don't compile:
 ///
 /// ```compile_fail,E0080
 /// let places = nidzaru::board(2, [0u8; 4097]);
-/// ```
-///
-/// ```compile_fail,E0080
-/// #[repr(align(16))]
-/// #[derive(Clone, Copy)]
-/// struct Wide([u8; 16]);
-/// let places = nidzaru::board(2, Wide([0; 16]));
 /// ```
 ///
 /// ```compile_fail,E0277

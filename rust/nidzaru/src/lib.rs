@@ -47,14 +47,14 @@
 //!
 //! # Records
 //!
-//! A record is of a type that is `Copy` and `Send`, of at most 4,096 bytes and aligned to at most 8; others are refused when the
+//! A record is of a type that is `Copy` and `Send`, of at most 4,096 bytes, whatever its alignment; others are refused when the
 //! program is compiled. It may borrow, as what threads of a [`std::thread::scope`] share may:
 //!
 //! ```
 //! let names = [String::from("idle"), String::from("busy")];
 //! let (mut writer, mut reader) = nidzaru::register(names[0].as_str())?;
 //! std::thread::scope(|threads| {
-//!     threads.spawn(move || writer.write(&names[1].as_str()).unwrap()).join().unwrap();
+//!     threads.spawn(|| writer.write(&names[1].as_str()).unwrap()).join().unwrap();
 //!     assert_eq!(reader.latest(), "busy");
 //! });
 //! # Ok::<(), Box<dyn std::error::Error>>(())
@@ -162,7 +162,6 @@ struct Known<T, M>(PhantomData<(T, M)>);
 impl<T: Copy + Send, M: Mechanism> Known<T, M> {
     const CALLS: &'static Calls = {
         assert!(size_of::<T>() <= 4096, "a record of a register has at most 4096 bytes");
-        assert!(align_of::<T>() <= 8, "a record of a register is aligned to at most 8 bytes");
         raw::calls_for(size_of::<T>(), M::TRIPLE)
     };
 }
@@ -176,17 +175,10 @@ impl<T: Copy + Send, M: Mechanism> Known<T, M> {
 /// # Ok::<(), Box<dyn std::error::Error>>(())
 /// ```
 ///
-/// Records that are too large, aligned to more than 8 bytes, or not `Copy` don't compile:
+/// Records that are too large or not `Copy` don't compile:
 ///
 /// ```compile_fail,E0080
 /// let both = nidzaru::register([0u8; 4097]);
-/// ```
-///
-/// ```compile_fail,E0080
-/// #[repr(align(16))]
-/// #[derive(Clone, Copy)]
-/// struct Wide([u8; 16]);
-/// let both = nidzaru::register(Wide([0; 16]));
 /// ```
 ///
 /// ```compile_fail,E0277

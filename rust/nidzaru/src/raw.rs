@@ -169,7 +169,7 @@ impl Drop for ReadingSide {
 
 /// Whether a `T` is passed where it lies, to calls over records of this size.
 const fn passes<T>(size: usize) -> bool {
-    size_of::<T>() == size && align_of::<T>() == 8
+    size_of::<T>() == size && align_of::<T>() >= 8
 }
 
 /// A record of the library with a smaller one in front.
@@ -542,7 +542,10 @@ mod tests {
 
     #[test]
     fn what_passes_is_as_large_and_aligned_as_the_librarys_record() {
+        #[repr(align(64))]
+        struct Wide([u64; 8]);
         assert!(passes::<[u64; 3]>(24));
+        assert!(passes::<Wide>(64));
         assert!(!passes::<[u32; 6]>(24));
         assert!(!passes::<[u64; 2]>(24));
     }

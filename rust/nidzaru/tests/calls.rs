@@ -1,8 +1,8 @@
 //! Each call once, at the edges of the library's sizes, and what it refuses.
 
 use nidzaru::{
-    board, board_over, library_version, register, register_over, triple_board, triple_register, BoardError, FourSlot, Mechanism, OutOfMemory,
-    Place, Sides, Triple, WornOut,
+    board, board_over, library_version, register, register_over, triple_board, triple_register, BoardError, FourSlot, Mechanism,
+    OutOfMemory, Place, Sides, Triple, WornOut,
 };
 use std::cell::Cell;
 use std::ffi::c_void;

@@ -71,3 +71,23 @@ fn sums_in_place(rt: HostRuntime) -> Result<(), Fail> {
     );
     Ok(())
 }
+
+/// The sums of a record that was read, of what its reader holds once another one is written, and of the next read.
+fn sums_again(alloc: Global) -> Result<[u64; 3], AllocError> {
+    let (cell, mut put, mut get) = TripleCell::make(alloc, Page::counting_from(0))?;
+    let first = cell.read_with(&mut get, |page| page.sum());
+    cell.write_from(&mut put, &Page::counting_from(1));
+    let again = cell.look_again(&mut get, |page| page.sum());
+    let last = cell.read_with(&mut get, |page| page.sum());
+    cell.finish(put, get);
+    Ok([first, again, last])
+}
+
+#[test]
+fn held_in_place(rt: HostRuntime) -> Result<(), Fail> {
+    assert!(rt;
+        sums_again(rt.alloc())? == [130_816, 130_816, 131_328],
+        "no write goes into the reader's slot"
+    );
+    Ok(())
+}
