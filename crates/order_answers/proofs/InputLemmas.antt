@@ -1,10 +1,10 @@
 -- What was taken behind the front, and the front, are the input as it is to be taken.
-use Rattle.std.proofs.Common.{◌≡◌, ◌⊎◌, ⊎_elim, inl, inr, ◌<◌, ◌≤◌, ℕ, List, [], ◌++◌, length, Option, Result, Ok, Err, Vec, true, false, refl, arith, sym, ◌∙◌, subst}
+use Rattle.std.proofs.Common.{◌≡◌, ◌⊎◌, inl, inr, ◌<◌, ℕ, List, ◌++◌, length, Option, Result, Ok, Err, Vec, true, false, refl, arith, sym, ◌∙◌, subst}
 use Rattle.std.proofs.KnownBytes.{Consumes-trans}
 use Rattle.std.specs.declared.alloc.Global.{Global}
-use Rattle.std.specs.Io.KnownBytes.{Consumes, IsAtEnd}
+use Rattle.std.specs.Io.KnownBytes.{Consumes}
 use Rattle.streams.specs.Transfer.{most_taken}
-use Rattle.document_runs.specs.Run.{IsWhole, never, TakesBytes, TakesDocument, TakesRest}
+use Rattle.document_runs.specs.Run.{IsWhole, never, TakesBytes, TakesDocument}
 use Rattle.lines_answers.specs.Kinds.{are_lines, max_header}
 use Rattle.lines_answers.proofs.FrontLemmas.{front_decides}
 use Rattle.order_answers.specs.inner.Inputs.{IsLeft, IsLong, TakesBehind}

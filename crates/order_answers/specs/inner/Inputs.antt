@@ -1,7 +1,6 @@
 -- How the input of `order` is taken behind its front. Only private functions cite this, which is this project's own.
-use Rattle.std.specs.Prelude.{◌≡◌, ◌<◌, ◌≤◌, ◌⊎◌, ℕ, true, false, List, [], length, Option, Result, Ok, Err, Vec}
+use Rattle.std.specs.Prelude.{◌≡◌, ◌<◌, ◌≤◌, ◌⊎◌, ℕ, true, false, List, length, Option, Result, Ok, Err, Vec}
 use Rattle.std.specs.declared.alloc.Global.{Global}
-use Rattle.std.specs.Io.KnownBytes.{Consumes}
 use Rattle.streams.specs.Transfer.{most_taken}
 use Rattle.document_runs.specs.Run.{TakesRest}
 use Rattle.lines_answers.specs.Kinds.{are_lines}
