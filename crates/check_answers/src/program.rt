@@ -1,6 +1,6 @@
 ghost use Rattle.std.specs.Prelude.{◌≤◌, ◌+◌};
 ghost use Rattle.check_answers.specs.Check.{IsCheckAnswer};
-ghost use Rattle.document_runs.specs.Run.{Fails, IsToldBy, Runs};
+ghost use Rattle.document_runs.specs.Run.{Fails, IsToldBy, never, Runs};
 ghost use Rattle.streams.specs.Stream.{HasRoom};
 
 use crate::verdict::check;
@@ -30,7 +30,7 @@ pub fn run<I: Source, O: Sink, E: Sink>(
     requires input { HasRoom (I.failed input.old) }
     requires out { HasRoom (O.failed out.old) }
     requires faults { HasRoom (E.failed faults.old) }
-    ensures runs { Runs (IsToldBy IsCheckAnswer) (I.remaining input.old) (I.remaining input.new)
+    ensures runs { Runs (IsToldBy IsCheckAnswer) never (I.remaining input.old) (I.remaining input.new)
         (O.contents out.old) (O.contents out.new) result }
     ensures fails { Fails (I.failed input.old) (I.failed input.new) (O.failed out.old)
         (O.failed out.new) result }

@@ -1,9 +1,9 @@
 -- What a run over a document does to its streams (this project's own).
-use Rattle.std.specs.Prelude.{◌≡◌, ◌≢◌, ◌≤◌, ◌<◌, ◌+◌, ◌⊎◌, ◌↔◌, ℕ, List, [], length, Option, Result, Ok, Err, Vec}
+use Rattle.std.specs.Prelude.{◌≡◌, ◌≢◌, ◌≤◌, ◌<◌, ◌+◌, ◌++◌, ◌⊎◌, ◌↔◌, ℕ, Bool, false, List, [], length, Option, Result, Ok, Err, Vec}
 use Rattle.std.specs.declared.alloc.Global.{Global}
 use Rattle.std.specs.Io.{StartsWith}
-use Rattle.std.specs.Io.KnownBytes.{Consumes, Appends}
-use Rattle.streams.specs.Transfer.{IsWhole, TakesBytes, most_taken}
+use Rattle.std.specs.Io.KnownBytes.{Consumes, Appends, IsAtEnd}
+use Rattle.streams.specs.Transfer.{most_taken}
 use Rattle.document_runs.specs.declared.fault.Answer.{Answer}
 use Rattle.document_runs.specs.declared.fault.Fault.{Fault}
 use Rattle.document_runs.specs.declared.fault.Fault.TheVariants.{Document, History, Lines, Schedule, NoMemory}
@@ -32,21 +32,34 @@ IsToldBy IsReply bytes told = (reply : Result Answer Fault) × IsReply bytes rep
 abbrev pub IsFront : (List ℕ → Answer → Type 0) → List ℕ → List ℕ → Type 0
 IsFront IsOutcome taken sent = (told : Answer) × IsOutcome taken told × StartsWith told.text sent
 
--- A run ended with this status, in which such an outcome comes of the input. in_old and in_new are the bytes that were left of the
--- input before and after, out_old and out_new those that had gone out.
-pub record Runs (IsOutcome : List ℕ → Answer → Type 0) (in_old in_new out_old out_new : Option (List ℕ)) (status : ℕ) : Type 0 where
+-- no input is without a bound: the longest document, and one byte more, is taken at most
+abbrev pub never : List ℕ → Bool
+never taken = false
+
+-- These bytes were taken, and no more than a run takes, unless they are of a kind without a bound.
+abbrev pub TakesBytes : (List ℕ → Bool) → Option (List ℕ) → Option (List ℕ) → List ℕ → Type 0
+TakesBytes is_unbounded old new taken = Consumes old new taken × (is_unbounded taken ≡ false → length taken ≤ most_taken)
+
+-- the input was taken to its end, or, where it has a bound, up to that
+abbrev pub IsWhole : (List ℕ → Bool) → List ℕ → Option (List ℕ) → Type 0
+IsWhole is_unbounded taken left = IsAtEnd left ⊎ ((is_unbounded taken ≡ false) × (length taken ≡ most_taken))
+
+-- A run ended with this status, in which such an outcome comes of the input, which is taken to its end where it is of a kind without a
+-- bound. in_old and in_new are the bytes that were left of the input before and after, out_old and out_new those that had gone out.
+pub record Runs (IsOutcome : List ℕ → Answer → Type 0) (is_unbounded : List ℕ → Bool) (in_old in_new out_old out_new : Option (List ℕ))
+    (status : ℕ) : Type 0 where
   pub taken : List ℕ
   pub sent : List ℕ
   pub takes : Consumes in_old in_new taken
-  pub at_most : length taken ≤ most_taken
+  pub at_most : is_unbounded taken ≡ false → length taken ≤ most_taken
   pub sends : Appends out_old out_new sent
   -- what went out is a front of the text for the whole input, also after a failed write
-  pub front : (sent ≡ []) ⊎ (IsFront IsOutcome taken sent × IsWhole taken in_new)
+  pub front : (sent ≡ []) ⊎ (IsFront IsOutcome taken sent × IsWhole is_unbounded taken in_new)
   -- with statuses 2 to 4 nothing goes out
   pub silent : 2 ≤ status → status ≤ 4 → sent ≡ []
   -- but for want of memory and failed streams, the text goes out whole, with its status
   pub told : status ≢ 4 → status ≢ 5 → IsOutcome taken (record { text = sent; status = status })
-  pub whole : status ≢ 2 → status ≢ 4 → status ≢ 5 → IsWhole taken in_new
+  pub whole : status ≢ 2 → status ≢ 4 → status ≢ 5 → IsWhole is_unbounded taken in_new
 
 -- The failures of the input and of the output before and after: status 5 is answered exactly where one more was counted, and
 -- both together count one more at most.
@@ -57,9 +70,14 @@ pub record Fails (in_old in_new out_old out_new status : ℕ) : Type 0 where
 -- ---- the parts of a run
 
 -- the input was taken whole, or as far as it was before the run ended
-abbrev pub TakesDocument : Option (List ℕ) → Option (List ℕ) → Result (Vec ℕ Global) ℕ → Type 0
-TakesDocument old new (Ok v) = TakesBytes old new v.items × IsWhole v.items new
-TakesDocument old new (Err status) = (taken : List ℕ) × TakesBytes old new taken
+abbrev pub TakesDocument : (List ℕ → Bool) → Option (List ℕ) → Option (List ℕ) → Result (Vec ℕ Global) ℕ → Type 0
+TakesDocument is_unbounded old new (Ok v) = TakesBytes is_unbounded old new v.items × IsWhole is_unbounded v.items new
+TakesDocument is_unbounded old new (Err status) = (taken : List ℕ) × TakesBytes is_unbounded old new taken
+
+-- the rest of the input was taken, and stands behind what had been taken; or some of it was
+abbrev pub TakesRest : Option (List ℕ) → Option (List ℕ) → List ℕ → Result (Vec ℕ Global) ℕ → Type 0
+TakesRest old new before (Ok v) = (taken : List ℕ) × Consumes old new taken × (v.items ≡ before ++ taken) × IsAtEnd new
+TakesRest old new before (Err status) = (taken : List ℕ) × Consumes old new taken
 
 -- the status is 5 where a read failed, and else that of want of memory
 abbrev pub CountsTaking : ℕ → ℕ → Result (Vec ℕ Global) ℕ → Type 0

@@ -1,6 +1,6 @@
 ghost use Rattle.std.specs.Prelude.{◌≤◌, ◌+◌, ℕ, List, Result};
 ghost use Rattle.document_runs.specs.Answers.{Gives, HasLowStatus};
-ghost use Rattle.document_runs.specs.Run.{Fails, IsToldBy, Runs};
+ghost use Rattle.document_runs.specs.Run.{Fails, IsToldBy, never, Runs};
 ghost use Rattle.document_runs.specs.declared.fault.Answer.{Answer};
 ghost use Rattle.document_runs.specs.declared.fault.Fault.{Fault};
 ghost use Rattle.streams.specs.Stream.{HasRoom};
@@ -34,7 +34,7 @@ pub fn run_command<C: Command, I: Source, O: Sink, E: Sink>(
     requires input { HasRoom (I.failed input.old) }
     requires out { HasRoom (O.failed out.old) }
     requires faults { HasRoom (E.failed faults.old) }
-    ensures runs { Runs (IsToldBy (C.is_reply command.now)) (I.remaining input.old) (I.remaining input.new)
+    ensures runs { Runs (IsToldBy (C.is_reply command.now)) never (I.remaining input.old) (I.remaining input.new)
         (O.contents out.old) (O.contents out.new) result }
     ensures fails { Fails (I.failed input.old) (I.failed input.new) (O.failed out.old)
         (O.failed out.new) result }

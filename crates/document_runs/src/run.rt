@@ -1,10 +1,10 @@
 ghost use Rattle.std.specs.Prelude.{◌≡◌, ◌≤◌, ◌+◌, ◌⊎◌};
-ghost use Rattle.document_runs.specs.Run.{CountsTaking, fault_status, GivesAnswer, TakesDocument, TellsUnlessTaken};
+ghost use Rattle.document_runs.specs.Run.{CountsTaking, fault_status, GivesAnswer, never, TakesDocument, TakesRest, TellsUnlessTaken};
 ghost use Rattle.streams.specs.Stream.{HasRoom};
 
 use crate::{Answer, Fault};
 use std::alloc::Global;
-use streams::{InputFault, Sink, Source, read_input, tell, write_text};
+use streams::{InputFault, Sink, Source, read_input, read_rest, tell, write_text};
 
 /// The name of a program, and the lines that it tells where a stream fails or memory runs out.
 #[derive(Clone, Copy, Debug)]
@@ -23,7 +23,7 @@ pub const FSR: Program = Program {
     no_memory: "fsr: out of memory\n",
 };
 
-/// Reads the input whole, or tells why it was not read and gives the status that the run ends with.
+/// Reads the input whole, or as far as a run reads a document; or tells why it was not read and gives the status that the run ends with.
 pub fn take_document<I: Source, E: Sink>(
     alloc: Global,
     program: &Program,
@@ -32,7 +32,7 @@ pub fn take_document<I: Source, E: Sink>(
 ) -> Result<Vec<u8>, u8>
     requires input { HasRoom (I.failed input.old) }
     requires faults { HasRoom (E.failed faults.old) }
-    ensures taken { TakesDocument (I.remaining input.old) (I.remaining input.new) result }
+    ensures taken { TakesDocument never (I.remaining input.old) (I.remaining input.new) result }
     ensures counts { CountsTaking (I.failed input.old) (I.failed input.new) result }
     ensures faults { TellsUnlessTaken (E.failed faults.old) (E.failed faults.new) result }
 {
@@ -46,6 +46,35 @@ pub fn take_document<I: Source, E: Sink>(
             tell(faults, program.no_memory);
             Err(4)
         }
+    }
+}
+
+/// Reads what is left of the input, behind a front of it, or tells why it was not read and gives the status that the run ends with.
+pub fn take_rest<I: Source, E: Sink>(
+    program: &Program,
+    front: Vec<u8>,
+    input: &mut I,
+    faults: &mut E,
+) -> Result<Vec<u8>, u8>
+    requires input { HasRoom (I.failed input.old) }
+    requires faults { HasRoom (E.failed faults.old) }
+    ensures taken { TakesRest (I.remaining input.old) (I.remaining input.new) front.items result }
+    ensures counts { CountsTaking (I.failed input.old) (I.failed input.new) result }
+    ensures faults { TellsUnlessTaken (E.failed faults.old) (E.failed faults.new) result }
+{
+    let mut bytes = front;
+    match read_rest(input, &mut bytes) {
+        Ok(()) => Ok(bytes),
+        Err(fault) => match fault {
+            InputFault::Failed => {
+                tell(faults, program.read_failed);
+                Err(5)
+            }
+            InputFault::NoMemory => {
+                tell(faults, program.no_memory);
+                Err(4)
+            }
+        },
     }
 }
 

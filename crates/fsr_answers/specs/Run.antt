@@ -1,8 +1,10 @@
 -- What comes of the words and the input of `fsr` (this project's own).
-use Rattle.std.specs.Prelude.{◌≡◌, ℕ, List, Option, Some, None}
-use Rattle.document_runs.specs.Run.{IsToldBy, nothing_asked}
+use Rattle.std.specs.Prelude.{◌≡◌, ℕ, List, Bool, Option, Some, None}
+use Rattle.document_runs.specs.Run.{IsToldBy, never, nothing_asked}
 use Rattle.document_runs.specs.declared.fault.Answer.{Answer}
 use Rattle.fsr_words.specs.declared.command.Want.{Want}
+use Rattle.fsr_words.specs.declared.command.Want.TheVariants as want
+use Rattle.lines_answers.specs.Kinds.{are_lines}
 use Rattle.history_core.specs.declared.band.Band.{Band}
 use Rattle.family_live.specs.declared.family.Family.{Ghosts as FamilyWords}
 use Rattle.atomic_board.specs.declared.record.Posted.{Posted}
@@ -12,3 +14,11 @@ use Rattle.fsr_answers.specs.Answers.{IsAnswer}
 abbrev pub IsOutcome : {F S T : Type 0} → FamilyWords F (Posted Band) S T → Option Want → List ℕ → Answer → Type 0
 IsOutcome family None bytes told = told ≡ nothing_asked
 IsOutcome family (Some want) bytes told = IsToldBy (IsAnswer family want) bytes told
+
+-- whether an input has no bound: a log in lines, whose order is wanted
+abbrev pub is_unbounded : Option Want → List ℕ → Bool
+is_unbounded (Some want.Order) = are_lines
+is_unbounded (Some want.Check) = never
+is_unbounded (Some want.Play) = never
+is_unbounded (Some want.Race) = never
+is_unbounded None = never

@@ -1,8 +1,8 @@
 ghost use Rattle.std.specs.Prelude.{◌≡◌, ◌≤◌, ◌+◌, Some, map};
 ghost use Rattle.document_runs.specs.Answers.{Gives};
-ghost use Rattle.document_runs.specs.Run.{Fails, Runs};
+ghost use Rattle.document_runs.specs.Run.{CountsTaking, Fails, Runs, TakesDocument, TellsUnlessTaken};
 ghost use Rattle.fsr_answers.specs.Answers.{IsAnswer};
-ghost use Rattle.fsr_answers.specs.Run.{IsOutcome};
+ghost use Rattle.fsr_answers.specs.Run.{is_unbounded, IsOutcome};
 ghost use Rattle.fsr_words.specs.Command.{command_of};
 ghost use Rattle.streams.specs.Stream.{HasRoom};
 
@@ -12,7 +12,7 @@ use document_runs::{Answer, FSR, Fault, give_answer, take_document};
 use family_live::{Family, SharedFamily};
 use fsr_words::{Want, command_of, tell_refusal};
 use history_core::Band;
-use order_answers::order;
+use order_answers::{order, take_log};
 use play_answers::play;
 use race_answers::run_race;
 use std::alloc::Global;
@@ -57,8 +57,9 @@ where
     requires input { HasRoom (I.failed input.old) }
     requires out { HasRoom (O.failed out.old) }
     requires faults { HasRoom (E.failed faults.old) }
-    ensures runs { Runs (IsOutcome ⟦<F as Family<Posted<Band>>>⟧ (command_of (map S.text words.now))) (I.remaining input.old)
-        (I.remaining input.new) (O.contents out.old) (O.contents out.new) result }
+    ensures runs { Runs (IsOutcome ⟦<F as Family<Posted<Band>>>⟧ (command_of (map S.text words.now)))
+        (is_unbounded (command_of (map S.text words.now))) (I.remaining input.old) (I.remaining input.new)
+        (O.contents out.old) (O.contents out.new) result }
     ensures fails { Fails (I.failed input.old) (I.failed input.new) (O.failed out.old)
         (O.failed out.new) result }
     ensures faults { E.failed faults.new ≤ E.failed faults.old + 1 }
@@ -83,17 +84,37 @@ where
     requires input { HasRoom (I.failed input.old) }
     requires out { HasRoom (O.failed out.old) }
     requires faults { HasRoom (E.failed faults.old) }
-    ensures runs { Runs (IsOutcome ⟦<F as Family<Posted<Band>>>⟧ (Some want)) (I.remaining input.old) (I.remaining input.new)
+    ensures runs { Runs (IsOutcome ⟦<F as Family<Posted<Band>>>⟧ (Some want)) (is_unbounded (Some want)) (I.remaining input.old) (I.remaining input.new)
         (O.contents out.old) (O.contents out.new) result }
     ensures fails { Fails (I.failed input.old) (I.failed input.new) (O.failed out.old)
         (O.failed out.new) result }
     ensures faults { E.failed faults.new ≤ E.failed faults.old + 1 }
 {
-    match take_document(alloc, &FSR, input, faults) {
+    match take_input(alloc, want, input, faults) {
         Ok(bytes) => {
             let reply = answer::<F, R>(rt, alloc, want, bytes.as_slice());
             give_answer(alloc, &FSR, reply, out, faults)
         }
         Err(status) => status,
+    }
+}
+
+/// Takes the input of a command: a log in lines to its end, and any other document as far as a run reads one. Or tells why it was not read
+/// and gives the status that the run ends with.
+fn take_input<I: Source, E: Sink>(
+    alloc: Global,
+    want: Want,
+    input: &mut I,
+    faults: &mut E,
+) -> Result<Vec<u8>, u8>
+    requires input { HasRoom (I.failed input.old) }
+    requires faults { HasRoom (E.failed faults.old) }
+    ensures taken { TakesDocument (is_unbounded (Some want)) (I.remaining input.old) (I.remaining input.new) result }
+    ensures counts { CountsTaking (I.failed input.old) (I.failed input.new) result }
+    ensures faults { TellsUnlessTaken (E.failed faults.old) (E.failed faults.new) result }
+{
+    match want {
+        Want::Order => take_log(alloc, input, faults),
+        Want::Check | Want::Play | Want::Race => take_document(alloc, &FSR, input, faults),
     }
 }

@@ -2,7 +2,7 @@
 use Rattle.std.specs.Prelude.{ℕ, List, [], ◌∷◌, length, codes, Bool, false, nat_le, ◌&&◌, Result, Ok, Err}
 use Rattle.serde_json.specs.Data.{Data}
 use Rattle.document_refusals.specs.declared.refusal.DocError.{DocError}
-use Rattle.history_text.specs.Document.{is_kind, max_bytes, value_of}
+use Rattle.history_text.specs.Document.{is_kind, value_of}
 use Rattle.lines_tables.specs.Splits.{lines_of}
 
 -- a header has at most so many bytes
@@ -20,6 +20,6 @@ abbrev pub begin_so : List (List ℕ) → Bool
 begin_so [] = false
 begin_so (first ∷ lines) = is_header first
 
--- the document isn't too long, and its first line is a header of kind `lines`
+-- the first line is a header of kind `lines`
 abbrev pub are_lines : List ℕ → Bool
-are_lines bytes = nat_le (length bytes) max_bytes && begin_so (lines_of bytes)
+are_lines bytes = begin_so (lines_of bytes)

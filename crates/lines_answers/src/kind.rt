@@ -1,8 +1,7 @@
 //! Which documents are logs in lines.
 ghost use Rattle.std.specs.Prelude.{◌≡◌, IfOk};
 ghost use Rattle.history_text.specs.Document.{value_of};
-ghost use Rattle.lines_answers.specs.Kinds.{are_lines, begin_so, is_header, says_lines};
-ghost use Rattle.lines_tables.specs.Splits.{lines_of};
+ghost use Rattle.lines_answers.specs.Kinds.{are_lines, is_header, says_lines};
 
 use history_text::{DocError, is_kind, read_value};
 use lines_tables::split_line;
@@ -11,22 +10,9 @@ use std::alloc::{AllocError, Global};
 /// The greatest number of bytes of a header.
 const MAX_HEADER: usize = 4096;
 
-/// The greatest number of bytes of a document.
-const MAX_DOCUMENT: usize = 1_048_576;
-
-/// Whether the document isn't too long, and its first line is a header of kind `lines`.
+/// Whether the first line of a document is a header of kind `lines`.
 pub fn are_lines(alloc: Global, bytes: &[u8]) -> Result<bool, AllocError>
     ensures { IfOk result (λ are. are ≡ are_lines bytes.now) }
-{
-    if bytes.len() <= MAX_DOCUMENT {
-        begin_so(alloc, bytes)
-    } else {
-        Ok(false)
-    }
-}
-
-fn begin_so(alloc: Global, bytes: &[u8]) -> Result<bool, AllocError>
-    ensures { IfOk result (λ are. are ≡ begin_so (lines_of bytes.now)) }
 {
     match split_line(bytes) {
         Some((first, _)) => is_header(alloc, first),

@@ -1,23 +1,14 @@
 ghost use Rattle.std.specs.Prelude.{◌≤◌, ◌+◌};
 ghost use Rattle.document_runs.specs.Run.{Fails, IsToldBy, Runs};
+ghost use Rattle.lines_answers.specs.Kinds.{are_lines};
 ghost use Rattle.order_answers.specs.Order.{IsOrderAnswer};
 ghost use Rattle.streams.specs.Stream.{HasRoom};
 
+use crate::input::take_log;
 use crate::search::order;
-use document_runs::{Answer, Command, FSR, Fault, run_command};
+use document_runs::{FSR, give_answer};
 use std::alloc::Global;
 use streams::{Sink, Source};
-
-/// The command `order`.
-struct Order;
-
-impl Command for Order {
-    ghost is_reply = { λ _ bytes reply. IsOrderAnswer bytes reply };
-
-    fn reply(&self, alloc: Global, bytes: &[u8]) -> Result<Answer, Fault> {
-        order(alloc, bytes)
-    }
-}
 
 /// Runs `fsr order` over its streams, and gives the status that it ends with. The text goes to `out`, and what is to be told besides
 /// goes to `faults`, whose failures change no status.
@@ -30,11 +21,17 @@ pub fn run<I: Source, O: Sink, E: Sink>(
     requires input { HasRoom (I.failed input.old) }
     requires out { HasRoom (O.failed out.old) }
     requires faults { HasRoom (E.failed faults.old) }
-    ensures runs { Runs (IsToldBy IsOrderAnswer) (I.remaining input.old) (I.remaining input.new)
+    ensures runs { Runs (IsToldBy IsOrderAnswer) are_lines (I.remaining input.old) (I.remaining input.new)
         (O.contents out.old) (O.contents out.new) result }
     ensures fails { Fails (I.failed input.old) (I.failed input.new) (O.failed out.old)
         (O.failed out.new) result }
     ensures faults { E.failed faults.new ≤ E.failed faults.old + 1 }
 {
-    run_command(alloc, &FSR, &Order, input, out, faults)
+    match take_log(alloc, input, faults) {
+        Ok(bytes) => {
+            let reply = order(alloc, bytes.as_slice());
+            give_answer(alloc, &FSR, reply, out, faults)
+        }
+        Err(status) => status,
+    }
 }

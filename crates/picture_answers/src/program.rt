@@ -1,5 +1,5 @@
 ghost use Rattle.std.specs.Prelude.{◌≡◌, ◌≤◌, ◌+◌, true};
-ghost use Rattle.document_runs.specs.Run.{Fails, Runs};
+ghost use Rattle.document_runs.specs.Run.{Fails, never, Runs};
 ghost use Rattle.picture_answers.specs.Run.{IsOutcome};
 ghost use Rattle.streams.specs.Stream.{HasRoom};
 
@@ -31,7 +31,7 @@ pub fn run<I: Source, O: Sink, E: Sink>(
     requires input { HasRoom (I.failed input.old) }
     requires out { HasRoom (O.failed out.old) }
     requires faults { HasRoom (E.failed faults.old) }
-    ensures runs { Runs (IsOutcome asked) (I.remaining input.old)
+    ensures runs { Runs (IsOutcome asked) never (I.remaining input.old)
         (I.remaining input.new) (O.contents out.old) (O.contents out.new) result }
     ensures fails { Fails (I.failed input.old) (I.failed input.new) (O.failed out.old)
         (O.failed out.new) result }
@@ -53,7 +53,7 @@ fn run_picture<I: Source, O: Sink, E: Sink>(
     requires input { HasRoom (I.failed input.old) }
     requires out { HasRoom (O.failed out.old) }
     requires faults { HasRoom (E.failed faults.old) }
-    ensures runs { Runs (IsOutcome true) (I.remaining input.old) (I.remaining input.new)
+    ensures runs { Runs (IsOutcome true) never (I.remaining input.old) (I.remaining input.new)
         (O.contents out.old) (O.contents out.new) result }
     ensures fails { Fails (I.failed input.old) (I.failed input.new) (O.failed out.old)
         (O.failed out.new) result }

@@ -1,5 +1,5 @@
 -- What reading the input and telling a line do (this project's own).
-use Rattle.std.specs.Prelude.{◌≡◌, ◌≤◌, ◌+◌, ◌++◌, ◌⊎◌, ℕ, List, length, Option, Result, Ok, Err, Vec}
+use Rattle.std.specs.Prelude.{◌≡◌, ◌≤◌, ◌+◌, ◌++◌, ◌⊎◌, ℕ, List, length, Option, Result, Ok, Err, Vec, ⊤}
 use Rattle.std.specs.declared.alloc.Global.{Global}
 use Rattle.std.specs.Io.{StartsWith}
 use Rattle.std.specs.Io.KnownBytes.{Appends, Consumes, IsAtEnd}
@@ -27,14 +27,28 @@ CountsFailure old new (Ok x) = new ≡ old
 CountsFailure old new (Err Failed) = new ≡ old + 1
 CountsFailure old new (Err NoMemory) = new ≡ old
 
+-- What was left was taken and added, to the end of the input; or some of it was taken.
+abbrev pub TakesRest : Option (List ℕ) → Option (List ℕ) → List ℕ → List ℕ → Result ⊤ InputFault → Type 0
+TakesRest old new before after (Ok u) = (taken : List ℕ) × Consumes old new taken × (after ≡ before ++ taken) × IsAtEnd new
+TakesRest old new before after (Err e) = (taken : List ℕ) × Consumes old new taken
+
+-- Bytes were taken and added, up to the end or until there were so many; or they were taken, and what had come before stays within the
+-- bound with them.
+abbrev pub TakesUpTo : ℕ → Option (List ℕ) → Option (List ℕ) → List ℕ → List ℕ → Result ⊤ InputFault → Type 0
+TakesUpTo most old new before after (Ok u) =
+    (taken : List ℕ) × Consumes old new taken × (after ≡ before ++ taken) × ((most ≤ length after) ⊎ IsAtEnd new)
+    × (length before ≤ most → length after ≤ most)
+TakesUpTo most old new before after (Err e) =
+    (taken : List ℕ) × Consumes old new taken × (length before ≤ most → length before + length taken ≤ most)
+
 -- A piece was taken and added, which is empty at the end alone; or it was taken, and what had come before stays within the
 -- bound with it.
-abbrev pub TakesMore : Option (List ℕ) → Option (List ℕ) → List ℕ → List ℕ → Result ℕ InputFault → Type 0
-TakesMore old new before after (Ok n) =
-    (taken : List ℕ) × Consumes old new taken × (after ≡ before ++ taken) × (length after ≤ most_taken)
+abbrev pub TakesMore : ℕ → Option (List ℕ) → Option (List ℕ) → List ℕ → List ℕ → Result ℕ InputFault → Type 0
+TakesMore most old new before after (Ok n) =
+    (taken : List ℕ) × Consumes old new taken × (after ≡ before ++ taken) × (length after ≤ most)
     × (length taken ≡ n) × (n ≡ 0 → IsAtEnd new)
-TakesMore old new before after (Err e) =
-    (taken : List ℕ) × Consumes old new taken × (length before + length taken ≤ most_taken)
+TakesMore most old new before after (Err e) =
+    (taken : List ℕ) × Consumes old new taken × (length before + length taken ≤ most)
 
 -- the line went out, or the stream failed after a front of it
 abbrev pub Tells : Option (List ℕ) → Option (List ℕ) → ℕ → ℕ → List ℕ → Type 0

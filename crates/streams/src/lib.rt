@@ -5,4 +5,4 @@ mod stream;
 mod transfer;
 
 pub use stream::{Failed, Over, Sink, Source};
-pub use transfer::{InputFault, read_input, tell, write_text};
+pub use transfer::{InputFault, read_input, read_rest, tell, write_text};

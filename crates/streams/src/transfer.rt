@@ -1,8 +1,8 @@
-ghost use Rattle.std.specs.Prelude.{◌≡◌, ◌<◌, ◌≤◌, ◌+◌, List, ℕ, length, OnOk, OnErr};
+ghost use Rattle.std.specs.Prelude.{◌≡◌, ◌<◌, ◌≤◌, ◌+◌, [], List, ℕ, length, OnOk, OnErr};
 ghost use Rattle.std.specs.Io.{StartsWith};
 ghost use Rattle.std.specs.Io.KnownBytes.{Appends};
 ghost use Rattle.streams.specs.Stream.{Counts, HasRoom};
-ghost use Rattle.streams.specs.Transfer.{CountsFailure, most_taken, Takes, TakesMore, Tells};
+ghost use Rattle.streams.specs.Transfer.{CountsFailure, Takes, TakesMore, TakesRest, TakesUpTo, Tells};
 
 use crate::stream::{Failed, Sink, Source};
 use std::alloc::{AllocError, Global};
@@ -20,32 +20,62 @@ pub enum InputFault {
     NoMemory,
 }
 
-/// Reads the input to its end, or as far as a run reads.
+/// Reads the input to its end, or as far as a run reads a document.
 pub fn read_input<I: Source>(alloc: Global, input: &mut I) -> Result<Vec<u8>, InputFault>
     requires { HasRoom (I.failed input.old) }
     ensures taken { Takes (I.remaining input.old) (I.remaining input.new) result }
     ensures counts { CountsFailure (I.failed input.old) (I.failed input.new) result }
 {
     let mut bytes = Vec::new(alloc);
-    'input: while bytes.len() < MOST_TAKEN {
-        match take_more(input, &mut bytes) {
+    match read_up_to(input, &mut bytes, MOST_TAKEN) {
+        Ok(()) => Ok(bytes),
+        Err(fault) => Err(fault),
+    }
+}
+
+/// Reads what is left of the input, to its end, and adds it to the bytes.
+pub fn read_rest<I: Source>(input: &mut I, bytes: &mut Vec<u8>) -> Result<(), InputFault>
+    requires { HasRoom (I.failed input.old) }
+    ensures taken { TakesRest (I.remaining input.old) (I.remaining input.new) bytes.old.items bytes.new.items result }
+    ensures counts { CountsFailure (I.failed input.old) (I.failed input.new) result }
+{
+    match read_up_to(input, bytes, usize::MAX) {
+        Ok(()) if bytes.len() < usize::MAX => Ok(()),
+        Ok(()) => Err(InputFault::NoMemory),
+        Err(fault) => Err(fault),
+    }
+}
+
+/// Adds the next bytes of the input, up to its end or until there are so many.
+fn read_up_to<I: Source>(input: &mut I, bytes: &mut Vec<u8>, most: usize) -> Result<(), InputFault>
+    requires { HasRoom (I.failed input.old) }
+    ensures taken { TakesUpTo most (I.remaining input.old) (I.remaining input.new) bytes.old.items bytes.new.items result }
+    ensures counts { CountsFailure (I.failed input.old) (I.failed input.new) result }
+{
+    'input: while bytes.len() < most {
+        match take_more(input, bytes, most) {
             Ok(0) => break,
             Ok(_) => {}
             Err(fault) => return Err(fault),
         }
     }
-    Ok(bytes)
+    Ok(())
 }
 
-/// Takes the next piece of the input, and adds it to the bytes. The count is 0 at the end alone.
-fn take_more<I: Source>(input: &mut I, bytes: &mut Vec<u8>) -> Result<usize, InputFault>
+/// Takes the next piece of the input, and adds it to the bytes, of which there are no more than so many then. The count is 0 at the end
+/// alone.
+fn take_more<I: Source>(
+    input: &mut I,
+    bytes: &mut Vec<u8>,
+    most: usize,
+) -> Result<usize, InputFault>
     requires room { HasRoom (I.failed input.old) }
-    requires short { length bytes.old.items < most_taken }
-    ensures more { TakesMore (I.remaining input.old) (I.remaining input.new) bytes.old.items bytes.new.items result }
+    requires short { length bytes.old.items < most }
+    ensures more { TakesMore most (I.remaining input.old) (I.remaining input.new) bytes.old.items bytes.new.items result }
     ensures counts { CountsFailure (I.failed input.old) (I.failed input.new) result }
 {
     let mut chunk = [0u8; CHUNK];
-    let room = (MOST_TAKEN - bytes.len()).min(CHUNK);
+    let room = (most - bytes.len()).min(CHUNK);
     match input.take(&mut chunk[..room]) {
         Ok(count) => match bytes.extend_from_slice(&chunk[..count]) {
             Ok(()) => Ok(count),

@@ -1,13 +1,13 @@
 -- A run that is given words besides its name is asked for nothing that it does.
 use Rattle.std.proofs.Common.{◌≡◌, Bool, false, refl, subst, sym}
 use Rattle.document_runs.proofs.RunLemmas.{ends_unasked}
-use Rattle.document_runs.specs.Run.{Runs}
+use Rattle.document_runs.specs.Run.{never, Runs}
 use Rattle.picture_answers.specs.Run.{IsOutcome}
 use Rattle.picture_answers.proofs.program.run.Goals as goal
 
 pub returns-then-not-asked-clause-runs : goal.returns-then-not-asked-clause-runs
 returns-then-not-asked-clause-runs g c =
-    let P : Bool → Type 0 = λ asked. Runs (IsOutcome asked) (g.I.Source.remaining c.args.input.now) (g.I.Source.remaining c.args.input.now)
+    let P : Bool → Type 0 = λ asked. Runs (IsOutcome asked) never (g.I.Source.remaining c.args.input.now) (g.I.Source.remaining c.args.input.now)
     (g.O.Sink.contents c.args.out.now) (g.O.Sink.contents c.args.out.now) 2 in
     let unasked : c.args.asked ≡ false = c.if-not-asked.true in
-    subst P (sym unasked) (ends_unasked (IsOutcome false) _ _ refl)
+    subst P (sym unasked) (ends_unasked (IsOutcome false) never _ _ refl)
