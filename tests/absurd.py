@@ -243,7 +243,10 @@ def try_all(edits, named):
             print(f"{end}{f' by {where}' if end == 'refused' else ''}: {edit}", flush=True)
             through += [edit] if end == "through" else []
             ill += [edit] if end == "ill-typed" else []
-            put_built(place, [it for it in rows if edit.crate in below(rows, it) and any(it in below(rows, top) for top in crates)])
+            if edit is not edits[-1]:
+                # (above the crate that refuses it nothing was built)
+                tops = [where] if where else crates
+                put_built(place, [it for it in rows if edit.crate in below(rows, it) and any(it in below(rows, top) for top in tops)])
     return through, ill
 
 
