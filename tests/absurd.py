@@ -218,12 +218,13 @@ def judge(place, edit, crates):
         for crate in crates:
             words = [sys.executable, place / "tests/build.py", crate]
             done = subprocess.run(words, stdin=subprocess.DEVNULL, stdout=subprocess.PIPE, stderr=subprocess.STDOUT, text=True, errors="replace")
-            if done.returncode:
-                own = f"specs/{edit.path.split('/specs/', 1)[1]}"
-                logs = [it.read_text(errors="replace") for it in place.glob("crates/*/out/build.log")]
-                is_ill = any(re.search(rf"(?m)^(?:\./)?{re.escape(own)}:\d+:\d+: error", it) for it in [done.stdout, *logs])
-                named = re.findall(r"(?m)^build: (\w+) (?:isn't|is not|wasn't|failed|couldn't)", done.stdout)
-                return "ill-typed" if is_ill else "refused", named[0] if named else crate
+            refused = re.search(r"(?m)^build: (\w+) isn't proved and built", done.stdout)
+            if not refused and done.returncode:
+                sys.exit(f"absurd: {crate} can't be built in the copy: {done.stdout[-600:]}")
+            if refused:
+                log = (place / "crates" / refused[1] / "out/build.log").read_text(errors="replace")
+                own = re.escape(edit.path.removeprefix(f"crates/{refused[1]}/"))
+                return "ill-typed" if re.search(rf"(?m)^(?:\./)?{own}:\d+:\d+: error", log) else "refused", refused[1]
         return "through", ""
     finally:
         shutil.copy2(TOP / edit.path, place / edit.path)
@@ -242,7 +243,10 @@ def try_all(edits, named):
             print(f"{end}{f' by {where}' if end == 'refused' else ''}: {edit}", flush=True)
             through += [edit] if end == "through" else []
             ill += [edit] if end == "ill-typed" else []
-            put_built(place, [it for it in rows if edit.crate in below(rows, it) and any(it in below(rows, top) for top in crates)])
+            if edit is not edits[-1]:
+                # (above the crate that refuses it nothing was built)
+                tops = [where] if where else crates
+                put_built(place, [it for it in rows if edit.crate in below(rows, it) and any(it in below(rows, top) for top in tops)])
     return through, ill
 
 

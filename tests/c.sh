@@ -91,30 +91,7 @@ test_in_c() {
     run_control "c/tests/test.c over a plain buffer ($c)" \
         "$c" -std=c11 -D_GNU_SOURCE $strict -O2 -I c c/tests/test.c c/tests/control.c -o "$room/program"
     test_shared_object
-    test_controls
     test_release
-}
-
-# The controls: a program that says something else, a right library where a wrong one is due, a text that compiles, and one that doesn't for
-# another reason.
-test_controls() {
-    catches_build "another last line" "no record was torn" run_here 'a record was torn' "$c" -std=c11 -O2 examples/c/tasks.c $flags -pthread
-    catches_build "a program that isn't built" "it wasn't built" run_here 'no record was torn' "$c" -std=c11 -DNIDZARU_REGISTER examples/c/tasks.c
-    catches_build "a register where a plain buffer is due" "it took a plain buffer" run_control 'a torn record' \
-        "$c" -std=c11 -D_GNU_SOURCE -O2 c/tests/test.c $flags -pthread
-    text='int main(void) { return 0; }'
-    catches_build "a text that compiles" "it compiles" refuse 'at most 4096 bytes' "$c" -std=c11 -x c
-    text='int main(void) { return none; }'
-    catches_build "a text that is refused for another reason" none refuse 'at most 4096 bytes' "$c" -std=c11 -x c
-}
-
-# A control of one of these functions, with what it wants.
-#   catches_build TITLE SAID FUNCTION WANTED COMMAND..
-catches_build() {
-    planted=$1 planted_said=$2 function=$3 wants=$4
-    shift 4
-    [ "$function" = refuse ] || set -- "$@" -o "$room/program"
-    catches "$planted ($c)" "$planted_said" "$function" a "$@"
 }
 
 test_in_cpp() {
@@ -203,6 +180,10 @@ else
         take_over "c/tests/refused.py"
     done
     test_packages
+    c/tests/sanitize.sh 500 "$installed/lib/libnidzaru.a" >"$room/watched" 2>&1
+    sed '$d' "$room/watched"
+    take_counts "$room/watched" "c/tests/sanitize.sh"
     python3 c/tests/planted.py "$installed/lib/libnidzaru.a" >"$room/told" 2>&1
     take_over "c/tests/planted.py"
+    . tests/rust.sh
 fi

@@ -18,14 +18,15 @@ from pathlib import Path
 MARKS = "<!-- counted by tests/checks.py -->\n", "<!-- to here -->\n"
 # What scripts do without where it isn't there.
 TOOLS = {
-    "tests/c.sh": ("gcc", "g++", "clang", "clang++", "cmake"),
-    "c/tests/sanitize.sh": ("valgrind", "gcc", "g++", "clang", "clang++"),
-    "tests/rust.sh": ("cargo",),
+    "tests/c.sh": ("gcc", "g++", "clang", "clang++", "cmake", "valgrind", "cargo"),
+    "tests/c_controls.sh": ("gcc", "cargo"),
     "tests/recorder.sh": ("gcc", "g++", "clang", "clang++", "rustc", "cargo"),
     "tests/package.sh": ("musl-gcc", "cmake", "cargo", "lintian"),
 }
 # The scripts that have no checks, and those that are run by hand alone.
 HELPERS = {"outcomes", "spent", "build", "library"}
+# Those that another script reads.
+PARTS = {"rust"}
 BY_HAND = {"roots"}
 TOLD = re.compile(r"(?m)^test: (\S+(?: ci)?): (\d+) checks$")
 ROW = re.compile(r"(?m)^\| (\d+) \| `([^`]+)` \|$")
@@ -88,7 +89,7 @@ def unrun(top):
     """The scripts of tests/ that nothing runs."""
     run = run_by_test(top)
     for path in sorted((top / "tests").glob("*.sh")):
-        if path.stem not in HELPERS | BY_HAND and f"tests/{path.name}" not in run:
+        if path.stem not in HELPERS | BY_HAND | PARTS and f"tests/{path.name}" not in run:
             yield f"./test doesn't run tests/{path.name}"
 
 

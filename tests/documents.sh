@@ -11,7 +11,7 @@ compare_documents() {
 
 # The same, counted as a test with this title.
 compares() {
-    if compare_documents crates/fsr/out/fsr "$2" "$3" "$4"; then
+    if compare_documents "$built/fsr/out/fsr" "$2" "$3" "$4"; then
         pass "$1: $(tail -n 1 "$room/out")"
     else
         fail "$1" "$(cat "$room/out")"
@@ -26,7 +26,7 @@ differs() {
     title="planted: $1"
     cat >"$room/wrong_fsr" <<STUB
 #!/bin/sh
-crates/fsr/out/fsr "\$@" >"$room/right" 2>"$room/right_line"
+"$built/fsr/out/fsr" "\$@" >"$room/right" 2>"$room/right_line"
 status=\$?
 sed '$3' "$room/right"
 cat "$room/right_line" >&2

@@ -9,10 +9,9 @@ for what in map numbers; do
     fi
 done
 
-# The controls: a crate that stands on another one, a wrong body more, and an example less.
+# The controls: a graph that isn't that of the crates, and another number of wrong bodies.
 if command -v python3 >/dev/null 2>&1; then
-    catches_in_tree "a crate that stands on one more" "isn't the map of the crates" crates.txt 's/^fsr_check: /fsr_check: order_search /' \
-        python3 tests/map.py
+    catches_in_tree "another graph of the crates" "isn't the map of the crates" docs/MAP.md 's/^graph TD/graph LR/' python3 tests/map.py
     catches_in_tree "another number of wrong bodies" "other numbers than there are" docs/TESTING.md \
         's/^\([0-9]* crates, \)[0-9]* wrong bodies/\1400 wrong bodies/' python3 tests/numbers.py
 fi

@@ -8,6 +8,7 @@ import glob
 import os
 import re
 import sys
+import textwrap
 
 TOP = os.path.dirname(os.path.dirname(os.path.realpath(__file__)))
 PAGE = f"{TOP}/docs/TESTING.md"
@@ -25,6 +26,12 @@ def text_of(path):
         return file.read()
 
 
+def told(what, counts):
+    """The counts by crate, but for those of none."""
+    said = ", ".join(f"`{it}` {counts[it]}" for it in sorted(counts) if counts[it])
+    return textwrap.wrap(f"{what} by crate: {said}.", 138, break_on_hyphens=False)
+
+
 def counted():
     crates = re.findall(r"(?m)^(\w+)[^#\n]*:", text_of(f"{TOP}/crates.txt"))
     bodies = {it: len(glob.glob(f"{TOP}/crates/{it}/must-fail/*.edit")) for it in crates}
@@ -37,9 +44,9 @@ def counted():
         f"{len(glob.glob(f'{TOP}/examples/*.json'))} examples; {len([it for it in refused if it and it[0] != '#'])} documents at the bounds of "
         f"refusals and rules;\n{random:,} random documents and {logs:,} random logs against a plain reference.",
         "",
-        "| Crate | Wrong bodies | Tests |",
-        "|---|---|---|",
-        *[f"| `{it}` | {bodies[it] or ''} | {tests[it] or ''} |" for it in sorted(crates) if bodies[it] or tests[it]],
+        *told("Wrong bodies", bodies),
+        "",
+        *told("Test functions", tests),
         "",
         "Beside the crates, each file compared with what a built program prints:",
         "",

@@ -21,7 +21,7 @@ else
 fi
 
 # The controls: another document's picture, and pictures that aren't well-formed or lack a bar.
-catches "another picture" "something else than docs/pictures/cell.svg" sees a picture examples/lawful.json docs/pictures/cell.svg
+catches "another picture" "something else than docs/pictures/unlawful.svg" sees a picture examples/lawful.json docs/pictures/unlawful.svg
 catches_picture() {
     make_stub picture
     if python3 tests/pictures.py "$room/stubs/picture/out/picture" examples/lawful.json >"$room/out" 2>&1 || ! grep -q "$2" "$room/out"; then

@@ -35,7 +35,7 @@ awk 'BEGIN { for (k = 0; k < 901; k++) print "word" }' >"$room/long.md"
 catches "a front page of 901 words" "it has 901 words" is_short "$room/long.md"
 
 # The controls: another word in a quotation, another count of lines, a changed definition in the reading set of a headline with as many lines,
-# a link that leads nowhere, and a front page that is too long.
+# and links that lead nowhere.
 if command -v python3 >/dev/null 2>&1; then
     catches_in_tree "another word in a quotation" "docs/HEADLINES.md:.* isn't in crates/history_core/src/check.rt" docs/HEADLINES.md \
         '0,/pub fn check_order</s//pub fn check_orders</' python3 tests/quotes.py docs/HEADLINES.md

@@ -225,7 +225,7 @@ else
     catches "another fault" "not 'document: kind' but status 3" sees_long check 'document: kind' plain_check 10001 0 0
     catches "another rule" "not 'unlawful precedence' but status 1" sees_long check 'unlawful precedence' plain_check 0 10000 0
     catches "a lawful order told as unlawful" "not 'unlawful listing' but status 0" sees_long check 'unlawful listing' cat examples/lawful.json
-    printf '# a row\nunlawful listing | %s\n' "$(cat examples/lawful.json)" >"$room/table"
+    printf '# a row\nunlawful listing | %s\n' "$(tr -d '\n' <examples/lawful.json)" >"$room/table"
     catches "a table with a wrong row" "not 'unlawful listing' but status 0" table_of check "$room/table"
     sed -n 1p "$room/table" >"$room/empty"
     catches "a table without a row" "it has no document" table_of check "$room/empty"

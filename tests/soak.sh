@@ -14,9 +14,10 @@ is_soak_text() {
         END { exit wrong || NR != lines }' "$1"
 }
 
-# Runs the soak with these words, and looks at what it tells.
+# Runs the soak with these words, and looks at what it tells and that it takes so many seconds.
+#   soak_of WORDS STATUS LINES END [SECONDS]
 soak_of() {
-    title="the soak: $1"
+    title="the soak: $1" soak_began=$(date +%s)
     if ! has_program soak; then
         fail "$title" "soak wasn't built"
         return
@@ -27,12 +28,14 @@ soak_of() {
         fail "$title" "it ended with status $status: $(head -c 200 "$room/err") $(tail -n 1 "$room/out")"
     elif ! is_soak_text "$room/out" "$3" "$4"; then
         fail "$title" "it printed $(cat "$room/out")"
+    elif [ $(($(date +%s) - soak_began)) -lt "${5:-0}" ]; then
+        fail "$title" "it took less than $5 seconds"
     else
         pass "$title"
     fi
 }
 
-soak_of 'run 1' 0 24 '^nothing found$'
+soak_of 'run 1' 0 24 '^nothing found$' 50
 soak_of planted 1 1 '^and (a torn|an older) record$'
 
 # The controls: another number of writes than of reads, none at all, a line too few, a finding in a cell, a planted bug that isn't found.
@@ -40,13 +43,14 @@ told_by_soak() {
     make_stub soak <<STUB
 echo '$1: $2 writes, $3 reads, $4'; exit $5
 STUB
-    over_stubs soak_of planted "$5" "${6:-1}" '^nothing found$'
+    over_stubs soak_of planted "$5" "${6:-1}" '^nothing found$' "${7:-0}"
 }
 
 told_by_soak planted 5 5 'nothing found' 0
 catches "a read too few" "it printed planted: 5 writes, 4 reads" told_by_soak planted 5 4 'nothing found' 0
 catches "no read" "it printed planted: 0 writes, 0 reads" told_by_soak planted 0 0 'nothing found' 0
 catches "a line too few" "it printed planted" told_by_soak planted 5 5 'nothing found' 0 2
+catches "a soak that ends at once" "it took less than 50 seconds" told_by_soak planted 5 5 'nothing found' 0 1 50
 catches "a torn record" "it printed planted: 5 writes, 5 reads, and a torn record" told_by_soak planted 5 5 'and a torn record' 0
 catches "a planted bug that isn't found" "it ended with status 0" over_stubs soak_of planted 1 1 '^and'
 

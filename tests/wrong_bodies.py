@@ -1,6 +1,7 @@
 """Tries the wrong bodies of the crates: the prover has to refuse each of them, at the function that it spoils.
 
     tests/wrong_bodies.py [--proved] [--edits FOLDER] [CRATE ..]
+    tests/wrong_bodies.py --said FILE ..
 
 A wrong body is an edit crates/NAME/must-fail/*.edit, as `rt must-fail` takes it. A line `function: PATH` in it names each function that it
 spoils, by its path below the crate. `rt must-fail` makes a check of the whole crate for each edit. Here a check tries edits of different
@@ -10,8 +11,11 @@ tried one after the other.
 
 First the functions of a crate, as they are, have to be proved in the same way; `--proved` says that the gate has just done so. An edit is
 refused where the prover then names a goal of its function that it did not prove, or an error in that function's proof that is more than a
-name that is gone. That the function calls one that is refused doesn't count. An edit that a check with others leaves open is tried once
-more alone.
+name that is gone. An error that only tells of declarations that depend on another one is followed to that one's own error. That the function
+calls one that is refused doesn't count. An edit that a check with others leaves open is tried once more alone.
+
+With --said the judge is tried on what the prover said of some edits once: a file's first lines are `crate:`, `function:` and `refused: yes` or
+`no`, as it has to judge, and behind an empty line stands what was said.
 
 The libraries below a crate have to be built. With --edits the wrong bodies of a crate are those in FOLDER/NAME. RT_JOBS=N allots N processors
 in place of all that there are. The last line is the sums.
@@ -32,8 +36,14 @@ SOURCES = ("src", "specs", "proofs")
 # What the prover says of a function, and of a place in a file.
 VERDICT = re.compile(r"(?m)^fn (\S+): (.*)$")
 OPEN_GOALS = re.compile(r"`search` did not prove (`[^`]+`(?:, `[^`]+`)*)")
-ERROR = re.compile(r"(?m)^(?:\./)?(proofs/\S+)/\w+\.antt:\d+:\d+: (error: .*)$")
-GONE_NAME = re.compile(r"has no field|is not in scope|has no `|was not admitted")
+MESSAGE = re.compile(r"(?:\./)?((?:src|specs|proofs)/\S+?)\.(?:antt|rt):\d+:\d+: (\w+): (.*)$")
+# What begins a line that goes on with no message.
+OTHER = re.compile(r"(?:fn|logic|statements|library|crate|rattle) |(?:note|help|by-macro)\b|only=")
+# How an error begins, without what it quotes, that tells of a name that is gone.
+GONE_NAME = re.compile(r"^(?:`x`: )?.{,60}?(?:has no field|has no module|has no `x`|is not in scope|was not admitted|not found|is no module|there is no module)")
+DEPENDS = re.compile(r"declarations? that depends? on `([^`]+)`, which was rejected")
+QUOTED = re.compile(r"`[^`]*`")
+DECLARED = re.compile(r"`([^`]+)`:")
 ALL_PROVED = re.compile(r"(?m)^only=(\d+) proved=\1$")
 
 
@@ -119,6 +129,60 @@ def read_crates():
     return crates
 
 
+def errors_in(said):
+    """The errors that the prover tells: of each the file without its ending, and its text, with the lines on which it goes on."""
+    errors, is_open = [], False
+    for line in said.splitlines():
+        message = MESSAGE.match(line)
+        if message:
+            is_open = message[2] == "error"
+            if is_open:
+                errors.append((message[1], message[3]))
+        elif not line.strip() or OTHER.match(line):
+            is_open = False
+        elif is_open:
+            where, told = errors[-1]
+            errors[-1] = where, f"{told} {line.strip()}"
+    return [(where, " ".join(told.split())) for where, told in errors]
+
+
+def is_gone_name(told):
+    return bool(GONE_NAME.match(QUOTED.sub("`x`", told)))
+
+
+def declared_by(told):
+    """The declaration that an error is of, without its module."""
+    declared = DECLARED.match(told)
+    return declared[1].rpartition(".")[2] if declared else None
+
+
+def roots_of(told, errors, passed=()):
+    """The errors that an error leads to: itself, or those of the declaration that it tells to have been rejected."""
+    depends = DEPENDS.search(told)
+    if not depends:
+        return [told]
+    name = depends[1].rpartition(".")[2]
+    own = [it for _, it in errors if it not in (told, *passed) and declared_by(it) == name]
+    return [root for it in own for root in roots_of(it, errors, (*passed, told))]
+
+
+def refusal(crate, said, functions):
+    """Where and why the prover refuses these functions of a crate, by what it says of each itself. None where it says nothing of one."""
+    verdicts, told, reasons = dict(VERDICT.findall(said)), errors_in(said), []
+    for function in functions:
+        verdict = verdicts.get(f"{crate}::{function}", "")
+        goals = OPEN_GOALS.search(verdict)
+        folder = f"proofs/{function.replace('::', '/')}"
+        errors = [root for where, it in told if where.rpartition("/")[0] == folder for root in roots_of(it, told) if not is_gone_name(root)]
+        if verdict.startswith("no proof") and goals:
+            reasons.append(f"{function} has no proof of {goals[1]}")
+        elif verdict.startswith("not proved") and errors:
+            reasons.append(f"{function}: {errors[0]}")
+        else:
+            return None
+    return "; ".join(reasons)
+
+
 class Room:
     """A copy of a crate in which its wrong bodies are tried, each check over what those before it proved."""
 
@@ -145,23 +209,6 @@ class Room:
         self.seconds += used.ru_utime + used.ru_stime
         return said
 
-    def refusal(self, said, edit):
-        """Where and why the prover refuses the functions that an edit spoils, by what it says of each itself. None where it says nothing of one."""
-        verdicts = dict(VERDICT.findall(said))
-        reasons = []
-        for function in edit.functions:
-            verdict = verdicts.get(f"{self.crate.name}::{function}", "")
-            goals = OPEN_GOALS.search(verdict)
-            folder = f"proofs/{function.replace('::', '/')}"
-            errors = [told for where, told in ERROR.findall(said) if where == folder and not GONE_NAME.search(told)]
-            if verdict.startswith("no proof") and goals:
-                reasons.append(f"{function} has no proof of {goals[1]}")
-            elif verdict.startswith("not proved") and errors:
-                reasons.append(f"{function}: {errors[0]}")
-            else:
-                return None
-        return "; ".join(reasons)
-
     def first_together(self, edits):
         """The edits that the next check can try, the first of these among them, with the texts that they make."""
         first, *rest = edits
@@ -182,10 +229,11 @@ class Room:
             left = [it for it in left if it not in chosen]
             said = self.check([it for edit in chosen for it in edit.functions], texts)
             for edit in chosen:
-                refused[edit.name] = self.refusal(said, edit)
+                refused[edit.name] = refusal(self.crate.name, said, edit.functions)
             alone += [it for it in chosen if not refused[it.name] and len(chosen) > 1]
         for edit in alone:
-            refused[edit.name] = self.refusal(self.check(edit.functions, edit.made_in(self.crate.folder, {})), edit)
+            said = self.check(edit.functions, edit.made_in(self.crate.folder, {}))
+            refused[edit.name] = refusal(self.crate.name, said, edit.functions)
         return refused
 
 
@@ -217,12 +265,29 @@ def judge(crate, paths, kit, is_proved):
     return passed, tried - passed
 
 
+def judge_said(paths):
+    """Judges what the prover said once, and counts the files of which it judges as they say, and the others."""
+    counts = [0, 0]
+    for path in paths:
+        head, _, said = Path(path).read_text(encoding="utf-8").partition("\n\n")
+        words = dict(line.split(": ", 1) for line in head.splitlines())
+        reason = refusal(words["crate"], said, [words["function"]])
+        is_right = {"yes": True, "no": False}[words["refused"]] == bool(reason)
+        counts[not is_right] += 1
+        print(f"{path}: {reason or 'not refused'}{'' if is_right else ': WRONG'}")
+    print(f"{counts[0]} passed, {counts[1]} failed")
+    return 1 if counts[1] or not counts[0] else 0
+
+
 def main():
     parser = argparse.ArgumentParser()
     parser.add_argument("--proved", action="store_true")
+    parser.add_argument("--said", action="store_true")
     parser.add_argument("--edits", type=Path)
     parser.add_argument("names", nargs="*", metavar="CRATE")
     asked = parser.parse_args()
+    if asked.said:
+        return judge_said(asked.names)
     crates = read_crates()
     unknown = [it for it in asked.names if it not in crates]
     if unknown:
