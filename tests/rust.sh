@@ -81,4 +81,12 @@ if command -v cargo >/dev/null 2>&1; then
         pass "rust/nidzaru over an older library"
     fi
     test_oldest_rust
+    # (the numbers of the errors of examples that don't compile are looked at by the nightly compiler alone)
+    if cargo +nightly --version >/dev/null 2>&1; then
+        if in_rust +nightly test --doc >"$room/said" 2>&1; then
+            pass "rust/nidzaru: the errors of examples that don't compile"
+        else
+            fail "rust/nidzaru: the errors of examples that don't compile" "$(grep -m 3 'FAILED\|error codes' "$room/said" | tr '\n' ' ')"
+        fi
+    fi
 fi

@@ -148,7 +148,9 @@ impl Mechanism for Triple {
 ///
 /// ```compile_fail,E0277
 /// enum Mine {}
-/// impl nidzaru::Mechanism for Mine {}
+/// impl nidzaru::Mechanism for Mine {
+///     const TRIPLE: bool = false;
+/// }
 /// ```
 #[cfg(doctest)]
 struct IsSealed;
