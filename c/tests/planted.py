@@ -406,7 +406,7 @@ CRATE = [
         "/// w pub writer: u64, /// t pub tag: u64,".replace("/// w", "/// The writer.\n").replace("/// t", "/// The tag.\n"),
         "test boards",
     ),
-    ("records of 4 where they lie", RAW, "align_of::<T>() == 8", "align_of::<T>() >= 4", "lib"),
+    ("records of 4 where they lie", RAW, "align_of::<T>() >= 8", "align_of::<T>() >= 4", "lib"),
     (
         "25 bytes in 24",
         RAW,
