@@ -1,13 +1,15 @@
-"""Puts an absurd premise before each conjunct of the headlines' definitions in turn, and sees whether a proof breaks. By hand: it takes hours.
+"""Puts an absurd premise before each conjunct of the headlines' definitions in turn, and sees whether a proof breaks. By hand: it takes
+hours.
 
     absurd.py [--headline N] [--definition NAME] [--crates A,B] [--max N] [--list]
 
-A definition could be hollowed out where nobody looks: `0 < 0 →` before a part of it makes that part say nothing. The definitions are those of
-the reading sets of docs/HEADLINES.md that are propositions: records, of which each field's type is taken, and abbreviations, of which each
-equation is. A conjunct is what stands between two × behind the last arrow, also in a λ. The edit is made in a copy; the definition's crate is
-proved there, then each of --crates that stands on it, then headline_uses if it does, with whatever stands between. A proof that breaks on the
-way refuses the edit. An edit with which the crate's own specs/ aren't well typed, of a field that is data for instance, says nothing and is told
-as such. The edits that get through are printed at the end. Status 1 if there is one, 2 if nothing could be tried.
+A definition could be hollowed out where nobody looks: `0 < 0 →` before a part of it makes that part say nothing. The definitions are
+those of the reading sets of docs/HEADLINES.md that are propositions: records, of which each field's type is taken, and abbreviations, of
+which each equation is. A conjunct is what stands between two × behind the last arrow, also in a λ. The edit is made in a copy; the
+definition's crate is proved there, then each of --crates that stands on it, then headline_uses if it does, with whatever stands between.
+A proof that breaks on the way refuses the edit. An edit with which the crate's own specs/ aren't well typed, of a field that is data for
+instance, says nothing and is told as such. The edits that get through are printed at the end. Status 1 if there is one, 2 if nothing
+could be tried.
 
 --list prints the edits and tries none. RT_JOBS=N allots N processors. The crates have to be proved and built before (`rt all check`).
 """
@@ -109,8 +111,8 @@ def depth_of(line):
 
 
 def propositions(lines):
-    """The stretches of a definition's text that are propositions: the types of a record's fields, the right sides of an abbreviation's equations.
-    Each is a first line, a column and a last line, which is the first that stands no deeper."""
+    """The stretches of a definition's text that are propositions: the types of a record's fields, the right sides of an abbreviation's
+    equations. Each is a first line, a column and a last line, which is the first that stands no deeper."""
     def end_of(at):
         last = at + 1
         while last < len(lines) and lines[last].strip() and depth_of(lines[last]) > depth_of(lines[at]):
@@ -217,7 +219,8 @@ def judge(place, edit, crates):
     try:
         for crate in crates:
             words = [sys.executable, place / "tests/build.py", crate]
-            done = subprocess.run(words, stdin=subprocess.DEVNULL, stdout=subprocess.PIPE, stderr=subprocess.STDOUT, text=True, errors="replace")
+            how = {"stdin": subprocess.DEVNULL, "stdout": subprocess.PIPE, "stderr": subprocess.STDOUT, "text": True, "errors": "replace"}
+            done = subprocess.run(words, check=False, **how)
             refused = re.search(r"(?m)^build: (\w+) isn't proved and built", done.stdout)
             if not refused and done.returncode:
                 sys.exit(f"absurd: {crate} can't be built in the copy: {done.stdout[-600:]}")

@@ -1,6 +1,6 @@
-# The controls of the wrong bodies. What the prover said of some edits once, whole or with other breaks of its lines, is judged as each file says.
-# Edits that change nothing, spoil another function than they name, or only make a proof name what isn't there (a goal, a field, a lemma on
-# which other parts depend) don't count as refused.
+# The controls of the wrong bodies. What the prover said of some edits once, whole or with other breaks of its lines, is judged as each
+# file says. Edits that change nothing, spoil another function than they name, or only make a proof name what isn't there (a goal, a
+# field, a lemma on which other parts depend) don't count as refused.
 if ! command -v python3 >/dev/null 2>&1; then
     fail "the judge of wrong bodies" "there is no python3"
 else

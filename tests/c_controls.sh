@@ -13,7 +13,8 @@ if [ -z "${flags:-}" ]; then
     fail "the controls of tests/c.sh" "no library is installed; tests/c.sh does that"
 elif command -v gcc >/dev/null 2>&1; then
     catches_program "another last line" FAILED run_here 'a record was torn' gcc -std=c11 -O2 examples/c/tasks.c $flags -pthread
-    catches_program "a program that isn't built" "it wasn't built" run_here 'no record was torn' gcc -std=c11 -DNIDZARU_REGISTER examples/c/tasks.c
+    catches_program "a program that isn't built" "it wasn't built" run_here 'no record was torn' \
+        gcc -std=c11 -DNIDZARU_REGISTER examples/c/tasks.c
     catches_program "a register where a plain buffer is due" "it took a plain buffer" run_control 'a torn record' \
         gcc -std=c11 -D_GNU_SOURCE -O2 c/tests/test.c $flags -pthread
 fi

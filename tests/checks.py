@@ -5,8 +5,8 @@
     checks.py --write LOG          writes into the table the numbers that the text of a run of `./test` tells
 
 COUNTED has lines `SCRIPT NUMBER`. The gate's number is that of the crates and that of tests/wrong_bodies.py that of the wrong bodies, as
-tests/numbers.py counts them. The table's numbers stand for a machine with the tools that are named above it. On one that has others the scripts
-that use these aren't compared; a script without any check fails everywhere. --top FOLDER takes another tree.
+tests/numbers.py counts them. The table's numbers stand for a machine with the tools that are named above it. On one that has others the
+scripts that use these aren't compared; a script without any check fails everywhere. --top FOLDER takes another tree.
 """
 
 import argparse
@@ -118,7 +118,8 @@ def write(top, counted):
     numbers = {name: int(count) for count, name in ROW.findall(table)} | counted
     names = [it for it in run_by_test(top) if it in numbers]
     rows = [f"| {numbers[it]} | `{it}` |" for it in names]
-    lines = [f"Counted with {', '.join(here) or 'none'}, without {', '.join(lacked) or 'none'}:", "", "| Checks | Script |", "|---|---|", *rows, ""]
+    told = f"Counted with {', '.join(here) or 'none'}, without {', '.join(lacked) or 'none'}:"
+    lines = [told, "", "| Checks | Script |", "|---|---|", *rows, ""]
     (top / "docs/TESTING.md").write_text(before + MARKS[0] + "\n".join(lines) + MARKS[1] + after, encoding="utf-8")
 
 

@@ -1,10 +1,11 @@
-# The controls of tests/checks.py, which compares how many checks each script makes with docs/TESTING.md and looks at how they are run: a script
-# that wasn't run, one without a check or with another number, a line `run NAME` that is gone, a script that nobody runs, and two functions
-# of one name.
+# The controls of tests/checks.py, which compares how many checks each script makes with docs/TESTING.md and looks at how they are run: a
+# script that wasn't run, one without a check or with another number, a line `run NAME` that is gone, a script that nobody runs, and two
+# functions of one name.
 
 # A run with just the numbers that docs/TESTING.md states.
 stated_numbers() {
-    sed -n 's/^\([0-9]*\) crates, \([0-9]*\) wrong bodies .*/rt ci \1\ntests\/wrong_bodies.py \2/p; s/^| \([0-9]*\) | `\([^`]*\)` |$/\2 \1/p' docs/TESTING.md
+    sed -n -e 's/^\([0-9]*\) crates, \([0-9]*\) wrong bodies .*/rt ci \1\ntests\/wrong_bodies.py \2/p' \
+        -e 's/^| \([0-9]*\) | `\([^`]*\)` |$/\2 \1/p' docs/TESTING.md
 }
 
 compares_numbers() {

@@ -200,7 +200,8 @@ def table_of(quotes):
         count = len({number for numbers in names.values() for number in numbers})
         total += count
         rows.append(f"| `{path}` | {', '.join(f'`{it}`' for it in sorted(names, key=str.lower))} | {count} |")
-    return "\n".join([MARK.strip(), "| Read in | The definitions | Lines |", "|---|---|---|", *rows, f"| in all, digest `{digest_of(found)}` | | **{total}** |", ""])
+    sums = f"| in all, digest `{digest_of(found)}` | | **{total}** |"
+    return "\n".join([MARK.strip(), "| Read in | The definitions | Lines |", "|---|---|---|", *rows, sums, ""])
 
 
 def main(words):

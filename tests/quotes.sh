@@ -47,7 +47,8 @@ if command -v python3 >/dev/null 2>&1; then
         python3 tests/headlines.py
     catches_in_tree "a name taken from elsewhere" "another reading set of 1. A verdict is right; 2" crates/history_core/specs/Orders.antt \
         's/^use Rattle.std.specs.List.{count_by/use Rattle.std.specs.Lists.{count_by/' python3 tests/headlines.py
-    catches_in_tree "a link to no file" "there is no CHANGES.md" README.md '0,/](CHANGELOG.md/s//](CHANGES.md/' python3 tests/links.py README.md
+    catches_in_tree "a link to no file" "there is no CHANGES.md" README.md '0,/](CHANGELOG.md/s//](CHANGES.md/' \
+        python3 tests/links.py README.md
     catches_in_tree "a link to no heading" "has no heading what-it-cost" README.md '0,/](docs\/WHY.md/s//](docs\/TESTING.md#what-it-cost/' \
         python3 tests/links.py README.md
 fi

@@ -1,5 +1,5 @@
-# A minute of `./soak`, and `./soak planted`: each line tells as many writes as reads, and some; nothing is found in the cells and boards, and
-# the planted bug is. Words that are none, and numbers that aren't whole, are refused.
+# A minute of `./soak`, and `./soak planted`: each line tells as many writes as reads, and some; nothing is found in the cells and boards,
+# and the planted bug is. Words that are none, and numbers that aren't whole, are refused.
 
 # Whether a text has so many lines, each of as many writes as reads, which end so.
 is_soak_text() {

@@ -3,22 +3,22 @@
     tests/wrong_bodies.py [--proved] [--edits FOLDER] [CRATE ..]
     tests/wrong_bodies.py --said FILE ..
 
-A wrong body is an edit crates/NAME/must-fail/*.edit, as `rt must-fail` takes it. A line `function: PATH` in it names each function that it
-spoils, by its path below the crate. `rt must-fail` makes a check of the whole crate for each edit. Here a check tries edits of different
-functions together, and proves these functions alone: a function is proved by the contracts of those that it calls, so what the prover
-says of its own goals doesn't depend on what else is spoilt. Edits that spoil several functions, and those that change one place, are
-tried one after the other.
+A wrong body is an edit crates/NAME/must-fail/*.edit, as `rt must-fail` takes it. A line `function: PATH` in it names each function that
+it spoils, by its path below the crate. `rt must-fail` makes a check of the whole crate for each edit. Here a check tries edits of
+different functions together, and proves these functions alone: a function is proved by the contracts of those that it calls, so what the
+prover says of its own goals doesn't depend on what else is spoilt. Edits that spoil several functions, and those that change one place,
+are tried one after the other.
 
 First the functions of a crate, as they are, have to be proved in the same way; `--proved` says that the gate has just done so. An edit is
 refused where the prover then names a goal of its function that it did not prove, or an error in that function's proof that is more than a
-name that is gone. An error that only tells of declarations that depend on another one is followed to that one's own error. That the function
-calls one that is refused doesn't count. An edit that a check with others leaves open is tried once more alone.
+name that is gone. An error that only tells of declarations that depend on another one is followed to that one's own error. That the
+function calls one that is refused doesn't count. An edit that a check with others leaves open is tried once more alone.
 
-With --said the judge is tried on what the prover said of some edits once: a file's first lines are `crate:`, `function:` and `refused: yes` or
-`no`, as it has to judge, and behind an empty line stands what was said.
+With --said the judge is tried on what the prover said of some edits once: a file's first lines are `crate:`, `function:` and `refused:
+yes` or `no`, as it has to judge, and behind an empty line stands what was said.
 
-The libraries below a crate have to be built. With --edits the wrong bodies of a crate are those in FOLDER/NAME. RT_JOBS=N allots N processors
-in place of all that there are. The last line is the sums.
+The libraries below a crate have to be built. With --edits the wrong bodies of a crate are those in FOLDER/NAME. RT_JOBS=N allots N
+processors in place of all that there are. The last line is the sums.
 """
 
 import argparse
@@ -40,7 +40,8 @@ MESSAGE = re.compile(r"(?:\./)?((?:src|specs|proofs)/\S+?)\.(?:antt|rt):\d+:\d+:
 # What begins a line that goes on with no message.
 OTHER = re.compile(r"(?:fn|logic|statements|library|crate|rattle) |(?:note|help|by-macro)\b|only=")
 # How an error begins, without what it quotes, that tells of a name that is gone.
-GONE_NAME = re.compile(r"^(?:`x`: )?.{,60}?(?:has no field|has no module|has no `x`|is not in scope|was not admitted|not found|is no module|there is no module)")
+GONE = "has no field|has no module|has no `x`|is not in scope|was not admitted|not found|is no module|there is no module"
+GONE_NAME = re.compile(rf"^(?:`x`: )?.{{,60}}?(?:{GONE})")
 DEPENDS = re.compile(r"declarations? that depends? on `([^`]+)`, which was rejected")
 QUOTED = re.compile(r"`[^`]*`")
 DECLARED = re.compile(r"`([^`]+)`:")
