@@ -93,7 +93,7 @@ static void look_at(struct task *me, const struct small *s, nidzaru_stamp stamp,
 /* The largest record, written and read. */
 static void run_large(struct task *me, uint64_t x, nidzaru_stamp *last) {
     struct large l;
-    nidzaru_stamp stamp;
+    nidzaru_stamp stamp = {0, 0};
     for (uint64_t k = 0; k < 512; k++) l.words[k] = x + k;
     me->wrong += larges_write(&me->large, &l, &stamp) != 0 || stamp.writer != me->me;
     me->fell += !nidzaru_stamp_is_below(*last, stamp);
@@ -104,7 +104,7 @@ static void run_large(struct task *me, uint64_t x, nidzaru_stamp *last) {
 
 static void *run(void *shared) {
     struct task *me = shared;
-    nidzaru_stamp last = {0, 0}, stamp, odd_last = {0, 0}, large_last = {0, 0};
+    nidzaru_stamp last = {0, 0}, stamp = {0, 0}, odd_last = {0, 0}, large_last = {0, 0};
     pthread_barrier_wait(&start);
     for (uint64_t i = 1; i <= calls; i++) {
         uint64_t x = me->me * 1000000007u + i;
@@ -230,7 +230,7 @@ static void refusals(void) {
     for (size_t n = 2; n <= 4; n += 2)
         for (refuse = 1;; refuse++) {
             smalls_place p[4] = {NIDZARU_EMPTY, NIDZARU_EMPTY, NIDZARU_EMPTY, NIDZARU_EMPTY};
-            nidzaru_stamp stamp;
+            nidzaru_stamp stamp = {0, 0};
             long before = blocks, took;
             int status;
             asked = 0;
