@@ -102,6 +102,7 @@ Table::new(
 .shared.join_seat::<Learns>(
 .shared.split_seat::<All>(
 .shared.join_seat::<Gathers>(
+.shared.load::<Shows<K>>(
 close(
 close_with(
 slot_mut(
@@ -121,6 +122,7 @@ Table::new(
 .shared.join_seat::<Learns>(
 .shared.split_seat::<All>(
 .shared.join_seat::<Gathers>(
+.shared.load::<Shows<K>>(
 close(
 close_with(
 slot_mut(
