@@ -46,6 +46,9 @@ make_stub() {
 over_stubs() {
     built=$room/stubs
     "$@"
+    stubbed=$?
+    built=crates
+    return $stubbed
 }
 
 # Makes a copy of the repository, without what is built, in which a fault is planted; of several calls the first makes it.
