@@ -59,6 +59,8 @@ fn main() {
         // (the crate tells it when it is compiled: its documents are made without the library)
         let install = "install it by `./install PREFIX` of its repository or its package, and set PKG_CONFIG_PATH=PREFIX/lib/pkgconfig";
         println!("cargo:rustc-cfg=nidzaru_missing");
+        // (cargo asks again at the next build, since this file is never there)
+        println!("cargo:rerun-if-changed=a-library-that-is-installed-later");
         println!("cargo:rustc-env=NIDZARU_MISSING=the library nidzaru isn't found: {}; {install}", why.replace('\n', " "));
     }
 }
