@@ -103,3 +103,12 @@ sees() {
         pass "$title"
     fi
 }
+
+# The command that takes a document: of examples/ by the table there. The races of tests/races/ have one outcome, whoever runs first.
+command_for() {
+    case $1 in
+    examples/*) awk -F'|' -v name="\`${1#examples/}\`" '{ gsub(/ /, "", $2) } $2 == name { gsub(/ /, "", $3); print $3 }' examples/README.md ;;
+    tests/races/*) echo race ;;
+    *) echo play ;;
+    esac
+}
