@@ -1,7 +1,7 @@
 """The exports of the library for C, made from two texts: for each cell and size of record the same six calls, and for each family and
 size of a board's record the same five.
 
-    exports.py write     writes crates/cells_c/src/exports.rt and exports/
+    exports.py write     writes crates/c_exports/src/exports.rt and exports/
     exports.py check     compares them, and what c/nidzaru.h declares and c/tests/control.c has, with the text below
 """
 
@@ -10,7 +10,7 @@ import re
 import sys
 
 TOP = os.path.dirname(os.path.dirname(os.path.realpath(__file__)))
-EXPORTS = os.path.join(TOP, "crates/cells_c/src/exports")
+EXPORTS = os.path.join(TOP, "crates/c_exports/src/exports")
 SIZES = (8, 24, 64, 128, 256, 1024, 4096)
 BOARD_SIZES = (24, 256, 4096)
 CELLS = {
@@ -28,13 +28,13 @@ HEAD = """//! The exports: for each cell and size a make, a write, a read, a loo
 """
 
 TEXT = """//! {words} with records of {bytes} bytes.
-ghost use Rattle.sides.specs.{specs}.{{IsMade, HasWritten, HasRead}};
-ghost use Rattle.sides.specs.Handles.{{IsMake, IsWrite, IsRead, IsLook, IsEnd}};
-ghost use Rattle.cells_sides.specs.Held.{{held}};
-ghost use Rattle.cells_sides.specs.declared.side.Side.TheVariants.{{Of{size}}};
-ghost use Rattle.cells_sides.specs.declared.side.Party.TheVariants.{{{party}Writes, {party}Reads}};
+ghost use Rattle.c_registers.specs.{specs}.{{IsMade, HasWritten, HasRead}};
+ghost use Rattle.c_registers.specs.Handles.{{IsMake, IsWrite, IsRead, IsLook, IsEnd}};
+ghost use Rattle.c_handles.specs.Held.{{held}};
+ghost use Rattle.c_handles.specs.declared.side.Side.TheVariants.{{Of{size}}};
+ghost use Rattle.c_handles.specs.declared.side.Party.TheVariants.{{{party}Writes, {party}Reads}};
 
-use cells_sides::{{{names}}};
+use c_handles::{{{names}}};
 use std::alloc::Global;
 
 #[unsafe(no_mangle)]
@@ -94,13 +94,13 @@ pub extern "C" fn nidzaru_{prefix}{size}_end_reader(alloc: Global, reader: &mut 
 
 
 BOARD_TEXT = """//! {words} with records of {bytes} bytes.
-ghost use Rattle.sides.specs.Handles.{{IsEnd}};
-ghost use Rattle.places.specs.Places.{{IsBoardMake, IsBoardWrite, IsBoardRead, IsBoardReadSince}};
-ghost use Rattle.cells_sides.specs.Held.{{held, live_of, side_of}};
-ghost use Rattle.cells_sides.specs.declared.side.Side.TheVariants.{{{variant}{size}}};
+ghost use Rattle.c_registers.specs.Handles.{{IsEnd}};
+ghost use Rattle.c_boards.specs.Places.{{IsBoardMake, IsBoardWrite, IsBoardRead, IsBoardReadSince}};
+ghost use Rattle.c_handles.specs.Held.{{held, live_of, side_of}};
+ghost use Rattle.c_handles.specs.declared.side.Side.TheVariants.{{{variant}{size}}};
 
-use cells_sides::{{{names}}};
-use places::{{Mark, Posts}};
+use c_handles::{{{names}}};
+use c_boards::{{Mark, Posts}};
 use std::alloc::Global;
 
 #[unsafe(no_mangle)]
@@ -178,7 +178,7 @@ def board_export(size, family):
 
 
 def exports():
-    """The files by their names below crates/cells_c/src."""
+    """The files by their names below crates/c_exports/src."""
     files = {
         f"exports/{name}_{size}.rt": export(size, cell)
         for name, cell in CELLS.items()
@@ -212,9 +212,9 @@ def faults():
     for name, text in files.items():
         path = os.path.join(source, name)
         if not os.path.exists(path) or words(read(path)) != words(text):
-            yield f"crates/cells_c/src/{name} isn't the text of c/exports.py"
+            yield f"crates/c_exports/src/{name} isn't the text of c/exports.py"
     there = {f"exports/{name}" for name in os.listdir(EXPORTS)} - {"exports/version.rt"}
-    yield from (f"crates/cells_c/src/{name} is made by nothing" for name in sorted(there - set(files)))
+    yield from (f"crates/c_exports/src/{name} is made by nothing" for name in sorted(there - set(files)))
     cells = [f"{cell['prefix']}{size}" for cell in CELLS.values() for size in SIZES]
     if re.findall(r"^NIDZARU_DECLARE\((\w+)\)", read(TOP, "c/nidzaru.h"), re.M) != cells:
         yield "c/nidzaru.h declares other cells"

@@ -17,7 +17,7 @@ import sys
 
 TOP = os.path.dirname(os.path.dirname(os.path.realpath(__file__)))
 OWN_LICENCE = "MIT OR Apache-2.0"
-ROOTS = {"library": ("cells_c",), "programs": ("fsr", "picture")}
+ROOTS = {"library": ("c_exports",), "programs": ("fsr", "picture")}
 # The licences that the kit's folders of these ports name in README.md and in their files; a kit's crate that isn't here names none.
 KIT_LICENCES = {
     "clap": "MIT OR Apache-2.0",

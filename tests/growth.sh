@@ -1,6 +1,6 @@
 # Refused growth: each request for memory of a program is refused in turn by a malloc that is loaded before the C library's
 # (refuse.c), until a run meets no refusal. Each run ends as with ample memory, or says that there is no memory and prints
-# nothing besides. `growths` gives back all memory that it took, however its call ended.
+# nothing besides. `test_growths` gives back all memory that it took, however its call ended.
 
 compiler=
 for name in "${CC:-cc}" gcc clang; do
@@ -10,12 +10,12 @@ for name in "${CC:-cc}" gcc clang; do
     fi
 done
 
-# Whether a run ended as one without memory does: `fsr` by its status and the line on standard error, `growths` by its answer.
+# Whether a run ended as one without memory does: `fsr` by its status and the line on standard error, `test_growths` by its answer.
 is_refusal() {
     case $1 in
     fsr) [ "$status" = 4 ] && [ ! -s "$room/out" ] && [ "$(cat "$room/err")" = "fsr: out of memory" ] ;;
     picture) [ "$status" = 4 ] && [ ! -s "$room/out" ] && [ "$(cat "$room/err")" = "picture: out of memory" ] ;;
-    growths) [ "$status" = 0 ] && [ "$(cat "$room/out")" = "out of memory" ] && [ ! -s "$room/err" ] ;;
+    test_growths) [ "$status" = 0 ] && [ "$(cat "$room/out")" = "out of memory" ] && [ ! -s "$room/err" ] ;;
     esac
 }
 
@@ -38,7 +38,7 @@ refuse_each() {
             "$built/$program/out/$program" "$@" <"$input" >"$room/out" 2>"$room/err"
         status=$?
         # What a thread of the C library was given stays with the library.
-        if [ "$program" = growths ] && [ "$1" != run_tasks ] && [ "$1" != finish_lanes ] && [ -e "$room/left" ]; then
+        if [ "$program" = test_growths ] && [ "$1" != run_tasks ] && [ "$1" != finish_lanes ] && [ -e "$room/left" ]; then
             fail "$title" "at request $request it ended and had memory that it didn't give back"
             return
         fi
@@ -67,7 +67,7 @@ refuse_each() {
 # `_exit`, as the programs of the repository do.
 #   make_growths FLAG      with this fault, or GOOD
 make_growths() {
-    mkdir -p "$room/stubs/growths/out" && "$compiler" -D"$1" -x c - -o "$room/stubs/growths/out/growths" <<'GROWTHS'
+    mkdir -p "$room/stubs/test_growths/out" && "$compiler" -D"$1" -x c - -o "$room/stubs/test_growths/out/test_growths" <<'GROWTHS'
 #include <stdlib.h>
 #include <string.h>
 #include <unistd.h>
@@ -95,7 +95,7 @@ GROWTHS
 
 # Refuses each request of the program with this fault.
 refuse_growths() {
-    make_growths "$1" && over_stubs refuse_each growths /dev/null planted
+    make_growths "$1" && over_stubs refuse_each test_growths /dev/null planted
 }
 
 # The controls: programs that keep memory when they are refused some, tell nothing of it or something else, or ask for none; another answer.
@@ -142,7 +142,7 @@ else
         name=${wanted##*/}
         name=${name%.txt}
         cp "$wanted" "$room/wanted"
-        refuse_each growths /dev/null "${name%.*}" "${name#*.}"
+        refuse_each test_growths /dev/null "${name%.*}" "${name#*.}"
         echo "$((request - 1))" >"$room/requests.$name"
         echo "$refusals" >"$room/refusals.$name"
     done

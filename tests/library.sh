@@ -1,7 +1,7 @@
 # What `install` and the tests of the static library share. They name the folder at the top in $top.
 
-library_crates='history_core fourslot_core stamps matrix_core board_history cell_live cell_four_slot cell_triple family_live
-    family_four_slot family_triple atomic_board sides places cells_sides cells_c'
+library_crates='history_core four_slot_core stamps matrix_core board_history cell_live cell_four_slot cell_triple family_live
+    family_four_slot family_triple board_live c_registers c_boards c_handles c_exports'
 
 # Whether this is there and no source that the library is made of is newer.
 is_newest() {
@@ -18,7 +18,7 @@ is_newest() {
 # keeps the statements of a crate, without the stamp by which `rt lib` knows what it built itself. As with the gate's programs,
 # nothing is built unless the crate's own code is proved over these statements.
 build_over_gate() {
-    here=$(CDPATH= cd -- "$top/crates/cells_c" && pwd) && kit=$(dirname -- "$(rt doc)") || return 1
+    here=$(CDPATH= cd -- "$top/crates/c_exports" && pwd) && kit=$(dirname -- "$(rt doc)") || return 1
     set --
     for crate in ${library_crates% *}; do
         made=${here%/*}/$crate/out/rlib
@@ -26,9 +26,9 @@ build_over_gate() {
         set -- "$@" --extern "$crate=$made/$crate.rlib" -L "dependency=$made"
     done
     (
-        cd "$here" && mkdir -p out && "$kit/bin/rattle" build --crate-name cells_c --crate-type staticlib src/lib.rt "$@" --links cells_c= \
+        cd "$here" && mkdir -p out && "$kit/bin/rattle" build --crate-name c_exports --crate-type staticlib src/lib.rt "$@" --links c_exports= \
             --extern "std=$kit/rlibs/std.rlib" -L "dependency=$kit/rlibs" --antt-project "$kit/rattle/logic/antt-project.json" \
-            --logic-built "$kit/logic_built" --toolchain "$kit/toolchain" --backend llvm --jobs 1 -o out/libcells_c.a
+            --logic-built "$kit/logic_built" --toolchain "$kit/toolchain" --backend llvm --jobs 1 -o out/libc_exports.a
     ) </dev/null >&2
 }
 
@@ -55,13 +55,13 @@ join_objects() {
 # Proves and builds the library for C, where it isn't built, and puts it into the file that is named, an absolute path, with the
 # toolchain's one object that it needs: what takes memory from the C library.
 make_library() {
-    here=$(CDPATH= cd -- "$top/crates/cells_c" && pwd) || return 1
+    here=$(CDPATH= cd -- "$top/crates/c_exports" && pwd) || return 1
     kit=$(dirname -- "$(rt doc)") || return 1
-    is_newest "$here/out/libcells_c.a" || (. "$top/tests/build.sh" && build cells_c) </dev/null >&2 || return 1
+    is_newest "$here/out/libc_exports.a" || (. "$top/tests/build.sh" && build c_exports) </dev/null >&2 || return 1
     unpacked=$(mktemp -d) || return 1
     (
         version=$(version_of_header) && cd "$unpacked" || exit 1
-        ar x "$here/out/libcells_c.a" && ar x "$kit/c/liblibc_c.a" && join_objects && mv nidzaru nidzaru.o && rm -f "$1" \
+        ar x "$here/out/libc_exports.a" && ar x "$kit/c/liblibc_c.a" && join_objects && mv nidzaru nidzaru.o && rm -f "$1" \
             && ar rcsD "$1" nidzaru.o
     )
     made=$?

@@ -19,20 +19,20 @@ TOP = os.path.dirname(os.path.dirname(os.path.realpath(__file__)))
 MAP = f"{TOP}/docs/MAP.md"
 MARKS = "<!-- made by tests/map.py -->\n", "<!-- to here -->\n"
 SUBJECTS = {
-    "Histories and their orders": "history_core order_witnesses order_search history_thinning",
-    "The four-slot register": "fourslot_core fourslot_play",
-    "The matrix and the composed board": "stamps matrix_core matrix_play board_play",
+    "Histories and their orders": "history_core history_witnesses history_search history_thinning",
+    "The four-slot register, played": "four_slot_core four_slot_play",
+    "The matrix and the composed board, played": "stamps matrix_core matrix_play matrix_board_play",
     "Running cells": "cell_live cell_four_slot cell_triple cell_receipts cell_uses",
-    "Running boards": "family_live family_four_slot family_triple board_history atomic_board board_tasks log_origins board_receipts "
-    "board_control board_uses",
-    "The library for C": "sides places cells_sides cells_c",
-    "Documents and printed lines": "streams document_refusals document_runs history_text log_text lines_tables lines_text lines_log "
+    "Families: running registers in one time": "family_live family_four_slot family_triple",
+    "Running boards": "board_history board_live board_tasks board_origins board_receipts board_control board_uses",
+    "The library for C": "c_registers c_boards c_handles c_exports",
+    "Documents and printed lines": "fsr_streams fsr_refusals fsr_runs history_text log_text lines_tables lines_text lines_log "
     "schedule_text report_text",
-    "The program fsr": "log_search lines_answers check_answers order_answers report_answers play_answers race_answers fsr_words fsr_answers "
-    "fsr_check fsr_order fsr",
+    "The program fsr": "log_search lines_answers fsr_words fsr_check_answers fsr_order_answers fsr_report_answers fsr_play_answers "
+    "fsr_race_answers fsr_answers fsr_check fsr_order fsr",
     "Pictures": "picture_shapes picture_visits picture_text picture_answers picture",
-    "Tests, soak and measurements": "library_tests run_tests board_teams family_tests growths headline_uses soak_findings soak_rounds soak_boards "
-    "soak cells_bench",
+    "Tests and measurements": "test_libraries test_runs test_families board_teams test_growths headline_uses cells_bench",
+    "The soak": "soak_findings soak_rounds soak_boards soak",
 }
 BOUNDARY = re.compile(r"^\| (.*?) to (.*?) \| (.*) \|$")
 

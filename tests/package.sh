@@ -54,7 +54,7 @@ copy_tree() {
 
 # What is built of the tree, for a copy of it: so nothing is built there.
 put_built() {
-    for built in cells_c/out/libcells_c.a fsr/out/fsr picture/out/picture; do
+    for built in c_exports/out/libc_exports.a fsr/out/fsr picture/out/picture; do
         mkdir -p "$1/crates/${built%/*}" && cp "crates/$built" "$1/crates/$built" || return 1
     done
 }
@@ -91,7 +91,7 @@ with_change() {
 }
 
 with_another_logic() {
-    library=$packages/one/crates/cells_c/out/libcells_c.a
+    library=$packages/one/crates/c_exports/out/libc_exports.a
     cp "$library" "$packages/kept.a" && objcopy --remove-section=.comment "$library" && "$packages/one/package"
     said=$?
     cp "$packages/kept.a" "$library"
@@ -128,7 +128,7 @@ is_one_library() {
 }
 
 is_listed_with_licence() {
-    for part in nidzaru-cells_c nidzaru-sides kit-std kit-atomic_table kit-heap.pic.o; do
+    for part in nidzaru-c_exports nidzaru-sides kit-std kit-atomic_table kit-heap.pic.o; do
         grep -A 6 -x "PackageName: $part" "$made/nidzaru-$version.spdx" | grep -q '^PackageLicenseConcluded: .' \
             || { echo "$part" && return 1; }
     done
@@ -370,7 +370,7 @@ unpacked=$packages/nidzaru-$version-x86_64-linux
 examples=$unpacked/share/doc/nidzaru/examples/c
 made=$packages/one/out/packages
 number=$(echo "$version" | awk -F. '{ print $1 * 10000 + $2 * 100 + $3 }')
-if ! is_newest crates/cells_c/out/libcells_c.a || ! has_program fsr || ! has_program picture; then
+if ! is_newest crates/c_exports/out/libc_exports.a || ! has_program fsr || ! has_program picture; then
     fail "packages" "the library or a program wasn't built"
 else
     check "a PATH with nothing of the toolchain" fill_clean_path

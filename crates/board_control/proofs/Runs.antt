@@ -7,13 +7,13 @@ use Rattle.family_live.specs.declared.family.Family.{Ghosts as FamilyWords}
 use Rattle.stamps.specs.declared.stamp.Stamp.{Stamp}
 use Rattle.stamps.specs.Choices.{IsAtMost}
 use Rattle.board_history.specs.BoardRuns.{Called}
-use Rattle.atomic_board.specs.declared.board.Board.{Board}
-use Rattle.atomic_board.specs.declared.board.Pass.{Pass}
-use Rattle.atomic_board.specs.declared.board.TagsEnded.{TagsEnded}
-use Rattle.atomic_board.specs.declared.receipts.Receipt.{Receipt}
-use Rattle.atomic_board.specs.declared.record.Posted.{Posted}
-use Rattle.atomic_board.specs.Passes.{Chooses, HasMade, IsCall, IsPass, kind_of}
-use Rattle.atomic_board.specs.Receipts.{HasLearnt}
+use Rattle.board_live.specs.declared.board.Board.{Board}
+use Rattle.board_live.specs.declared.board.Pass.{Pass}
+use Rattle.board_live.specs.declared.board.TagsEnded.{TagsEnded}
+use Rattle.board_live.specs.declared.receipts.Receipt.{Receipt}
+use Rattle.board_live.specs.declared.record.Posted.{Posted}
+use Rattle.board_live.specs.Passes.{Chooses, HasMade, IsCall, IsPass, kind_of}
+use Rattle.board_live.specs.Receipts.{HasLearnt}
 use Rattle.board_control.specs.declared.control.Control.{Control}
 use Rattle.board_control.specs.Turns.{call_of, command_of, Drives, HasRead, HasRun, HasSteered, in_order, no_read, no_turn, one_more, one_read, Reads}
 use Rattle.board_control.specs.Turns.{TakesTurn, Turns, with_turn}

@@ -6,11 +6,11 @@ use Rattle.history_core.specs.declared.history.Kind.TheVariants.{Read, Write}
 use Rattle.family_live.specs.declared.family.Family.{Ghosts as FamilyWords}
 use Rattle.stamps.specs.Stamps.{first_stamp}
 use Rattle.board_history.specs.BoardRuns.{Called}
-use Rattle.atomic_board.specs.declared.board.Board.{Board}
-use Rattle.atomic_board.specs.declared.board.Pass.{Pass}
-use Rattle.atomic_board.specs.declared.record.Posted.{Posted}
-use Rattle.atomic_board.specs.Ends.{AllPasses, did_by, HaveAtomicOrder}
-use Rattle.atomic_board.specs.Passes.{HasMade, IsPass}
+use Rattle.board_live.specs.declared.board.Board.{Board}
+use Rattle.board_live.specs.declared.board.Pass.{Pass}
+use Rattle.board_live.specs.declared.record.Posted.{Posted}
+use Rattle.board_live.specs.Ends.{AllPasses, did_by, HaveAtomicOrder}
+use Rattle.board_live.specs.Passes.{HasMade, IsPass}
 use Rattle.board_control.specs.declared.control.Control.{Control}
 use Rattle.board_control.specs.Turns.{AreDealt, Drives, HasControlled, HasCrossed, HasRun, HasSteered, in_order, IsFresh, Publishes, SetsLimits}
 use Rattle.board_control.proofs.Runs.{of_reads, of_turns}

@@ -6,13 +6,13 @@ use Rattle.family_live.specs.declared.family.Family.{Ghosts as FamilyWords}
 use Rattle.stamps.specs.declared.stamp.Stamp.{Stamp}
 use Rattle.stamps.specs.Stamps.{first_stamp}
 use Rattle.board_history.specs.BoardRuns.{Called, Did}
-use Rattle.atomic_board.specs.declared.board.Board.{Board}
-use Rattle.atomic_board.specs.declared.board.Pass.{Pass}
-use Rattle.atomic_board.specs.declared.board.TagsEnded.{TagsEnded}
-use Rattle.atomic_board.specs.declared.record.Posted.{Posted}
-use Rattle.atomic_board.specs.Ends.{IsAtomicRun}
-use Rattle.atomic_board.specs.Passes.{Chooses, HasMade, IsCall, IsPass, kind_of}
-use Rattle.atomic_board.specs.Records.{stamped}
+use Rattle.board_live.specs.declared.board.Board.{Board}
+use Rattle.board_live.specs.declared.board.Pass.{Pass}
+use Rattle.board_live.specs.declared.board.TagsEnded.{TagsEnded}
+use Rattle.board_live.specs.declared.record.Posted.{Posted}
+use Rattle.board_live.specs.Ends.{IsAtomicRun}
+use Rattle.board_live.specs.Passes.{Chooses, HasMade, IsCall, IsPass, kind_of}
+use Rattle.board_live.specs.Records.{stamped}
 use Rattle.board_control.specs.declared.control.Control.{Control}
 
 -- the limits are in order

@@ -3,7 +3,7 @@ use crate::calls::steer;
 use crate::control::Control;
 use crate::receipts::ends_in_order;
 use crate::turns::{STEERING, is_refused, share};
-use atomic_board::{Board, BoardError, Posted};
+use board_live::{Board, BoardError, Posted};
 use family_live::Family;
 use std::alloc::{AllocError, Global};
 

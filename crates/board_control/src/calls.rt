@@ -1,12 +1,12 @@
 //! A turn of each task.
 ghost use Rattle.std.specs.Prelude.{◌≡◌, ◌≢◌, ◌≤◌, IfOk};
-ghost use Rattle.atomic_board.specs.Passes.{IsPass};
-ghost use Rattle.atomic_board.specs.Receipts.{IsReceipt};
+ghost use Rattle.board_live.specs.Passes.{IsPass};
+ghost use Rattle.board_live.specs.Receipts.{IsReceipt};
 ghost use Rattle.board_control.specs.Turns.{Reads, TakesTurn, command_of, in_order, with_limits, with_reading};
 ghost use Rattle.stamps.specs.Choices.{IsAtMost};
 
 use crate::control::Control;
-use atomic_board::{Board, Pass, Posted, Receipt, TagsEnded};
+use board_live::{Board, Pass, Posted, Receipt, TagsEnded};
 use family_live::Family;
 use stamps::Stamp;
 

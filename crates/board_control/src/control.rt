@@ -2,7 +2,7 @@
 ghost use Rattle.std.specs.Prelude.{◌≡◌, ◌≤◌};
 ghost use Rattle.board_control.specs.Turns.{command_of, in_order};
 
-use atomic_board::RecordLaw;
+use board_live::RecordLaw;
 
 /// What the tasks share.
 #[derive(Clone, Copy, Debug, PartialEq, Eq)]

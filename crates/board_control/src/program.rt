@@ -1,14 +1,14 @@
 //! The control program: its tasks are started in threads, told to stop, and ended with the board that they share.
 ghost use Rattle.std.specs.Prelude.{◌≡◌, IfOk, IfSome, [], ◌∷◌};
 ghost use Rattle.std.specs.Arc.{arc_value};
-ghost use Rattle.atomic_board.specs.Ends.{AllPasses, HaveAtomicOrder};
-ghost use Rattle.atomic_board.specs.Passes.{IsPass};
+ghost use Rattle.board_live.specs.Ends.{AllPasses, HaveAtomicOrder};
+ghost use Rattle.board_live.specs.Passes.{IsPass};
 ghost use Rattle.board_control.specs.Turns.{AreDealt, HasControlled, in_order};
 
 use crate::control::Control;
 use crate::tasks::{LimitsTask, Motor, ReadingsTask, Shared, SteeringTask};
 use crate::threads::{Done, start};
-use atomic_board::{Board, Pass, Posted};
+use board_live::{Board, Pass, Posted};
 use family_live::{Family, SharedFamily};
 use history_core::MAX_LIMIT;
 use std::alloc::{AllocError, Global};

@@ -1,13 +1,13 @@
 //! Three tasks that run until they are told to stop: one sets limits, one publishes a reading, one steers a motor.
 ghost use Rattle.std.specs.Prelude.{◌≡◌, ◌≤◌, ℕ};
 ghost use Rattle.std.specs.Arc.{arc_value};
-ghost use Rattle.atomic_board.specs.Passes.{IsPass};
+ghost use Rattle.board_live.specs.Passes.{IsPass};
 ghost use Rattle.board_control.specs.Turns.{HasRun, HasSteered, Publishes, SetsLimits, in_order};
 
 use crate::calls::{publish, set_limits, steer};
 use crate::control::Control;
 use crate::threads::Task;
-use atomic_board::{Board, Pass, Posted};
+use board_live::{Board, Pass, Posted};
 use family_live::Family;
 use std::alloc::Global;
 use std::sync::atomic::{AtomicBool, AtomicU64, Ordering};

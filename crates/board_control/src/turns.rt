@@ -1,12 +1,12 @@
 //! The tasks call in turn, with the passes of a board of three.
 ghost use Rattle.std.specs.Prelude.{◌≡◌, IfOk, length};
-ghost use Rattle.atomic_board.specs.Ends.{AllPasses};
-ghost use Rattle.atomic_board.specs.Receipts.{IsReceipt};
+ghost use Rattle.board_live.specs.Ends.{AllPasses};
+ghost use Rattle.board_live.specs.Receipts.{IsReceipt};
 ghost use Rattle.board_control.specs.Turns.{in_order};
 
 use crate::calls::{publish, publish_and_tell, set_limits, steer_when_told};
 use crate::control::Control;
-use atomic_board::{Board, Pass, Posted, Receipt, TagsEnded};
+use board_live::{Board, Pass, Posted, Receipt, TagsEnded};
 use family_live::Family;
 use stamps::Stamp;
 

@@ -8,8 +8,8 @@ use Rattle.std.proofs.lemmas.Option.{same_Some, slice_get_within}
 use Rattle.history_core.specs.declared.history.Op.{Op}
 use Rattle.history_core.specs.Orders.{IsAtomicOrder, Precedes, RefusesLawfully}
 use Rattle.history_core.proofs.Played.{later_operation}
-use Rattle.fourslot_core.specs.ReadNumbers.{IsReadOf}
-use Rattle.fourslot_core.proofs.Pushed.{of_before, to_before}
+use Rattle.four_slot_core.specs.ReadNumbers.{IsReadOf}
+use Rattle.four_slot_core.proofs.Pushed.{of_before, to_before}
 use Rattle.stamps.specs.declared.stamp.Stamp.{Stamp}
 use Rattle.stamps.specs.declared.stamp.Stamped.{Stamped}
 use Rattle.stamps.specs.Choices.{AllChoose, Choice, Chooses, ChoosesByKind, HasChoices, IsAtMost, IsChoiceOf, IsEarlier, IsFrom, IsIn}

@@ -10,7 +10,7 @@ use Rattle.stamps.specs.declared.stamp.Stamped.{Stamped}
 use Rattle.matrix_core.specs.Lines.{other}
 use Rattle.stamps.specs.Choices.{ChoosesByKind}
 use Rattle.matrix_core.specs.CellAnswers.{greatest}
-use Rattle.fourslot_core.specs.ReadNumbers.{Intervals, IsReadOf}
+use Rattle.four_slot_core.specs.ReadNumbers.{Intervals, IsReadOf}
 
 -- the intervals of accesses that began and ended at these times
 abbrev pub intervals : List ℕ → List ℕ → Intervals

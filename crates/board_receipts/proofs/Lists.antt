@@ -5,11 +5,11 @@ use Rattle.history_core.specs.declared.history.Kind.TheVariants.{Read}
 use Rattle.family_live.specs.declared.family.Family.{Ghosts as FamilyWords}
 use Rattle.stamps.specs.Stamps.{IsBelow}
 use Rattle.board_history.specs.BoardRuns.{Called}
-use Rattle.atomic_board.specs.declared.board.Board.{Board}
-use Rattle.atomic_board.specs.declared.board.Pass.{Pass}
-use Rattle.atomic_board.specs.declared.record.Posted.{Posted}
-use Rattle.atomic_board.specs.Ends.{AllPasses, did_by, HaveAtomicOrder}
-use Rattle.atomic_board.specs.Passes.{HasMade, IsPass}
+use Rattle.board_live.specs.declared.board.Board.{Board}
+use Rattle.board_live.specs.declared.board.Pass.{Pass}
+use Rattle.board_live.specs.declared.record.Posted.{Posted}
+use Rattle.board_live.specs.Ends.{AllPasses, did_by, HaveAtomicOrder}
+use Rattle.board_live.specs.Passes.{HasMade, IsPass}
 use Rattle.board_receipts.proofs.Orders.{heeds, the_item}
 
 module _ {V F S T : Type 0} (words : FamilyWords F (Posted V) S T) (board : Board V F S T) where

@@ -1,10 +1,10 @@
 -- Passes with which nothing was done yet (this project's own).
 use Rattle.std.specs.Prelude.{◌≡◌, Bool, ℕ, []}
 use Rattle.family_live.specs.declared.family.Family.{Ghosts as FamilyWords}
-use Rattle.atomic_board.specs.declared.board.Board.{Board}
-use Rattle.atomic_board.specs.declared.board.Pass.{Pass}
-use Rattle.atomic_board.specs.declared.record.Posted.{Posted}
-use Rattle.atomic_board.specs.Passes.{HasMade, IsPass}
+use Rattle.board_live.specs.declared.board.Board.{Board}
+use Rattle.board_live.specs.declared.board.Pass.{Pass}
+use Rattle.board_live.specs.declared.record.Posted.{Posted}
+use Rattle.board_live.specs.Passes.{HasMade, IsPass}
 
 module _ {V F S T : Type 0} (family : FamilyWords F (Posted V) S T) where
   -- a pass of this process with which no call was made yet

@@ -4,11 +4,11 @@ use Rattle.family_live.specs.declared.family.Family.{Ghosts as FamilyWords}
 use Rattle.history_core.specs.declared.history.Kind.TheVariants.{Read, Write}
 use Rattle.stamps.specs.declared.stamp.Stamp.{Stamp}
 use Rattle.board_history.specs.BoardRuns.{Called}
-use Rattle.atomic_board.specs.declared.board.Board.{Board}
-use Rattle.atomic_board.specs.declared.board.Pass.{Pass}
-use Rattle.atomic_board.specs.declared.record.Posted.{Posted}
-use Rattle.atomic_board.specs.Passes.{HasMade}
-use Rattle.atomic_board.specs.Records.{stamped}
+use Rattle.board_live.specs.declared.board.Board.{Board}
+use Rattle.board_live.specs.declared.board.Pass.{Pass}
+use Rattle.board_live.specs.declared.record.Posted.{Posted}
+use Rattle.board_live.specs.Passes.{HasMade}
+use Rattle.board_live.specs.Records.{stamped}
 
 module _ {V F S T : Type 0} (family : FamilyWords F (Posted V) S T) where
   -- no call was made with the pass

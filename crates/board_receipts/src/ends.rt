@@ -1,10 +1,10 @@
 //! A board whose tasks end: what their answers are worth.
 ghost use Rattle.std.specs.Prelude.{◌≡◌, [], IfOk, IfSome, IsTrue};
-ghost use Rattle.atomic_board.specs.Records.{Rises};
+ghost use Rattle.board_live.specs.Records.{Rises};
 ghost use Rattle.board_receipts.specs.Ends.{IsFresh};
 
 use crate::passing::pass_on;
-use atomic_board::{Board, Pass, Posted, RecordLaw};
+use board_live::{Board, Pass, Posted, RecordLaw};
 use family_live::Family;
 use stamps::Stamp;
 use std::alloc::{AllocError, Global};

@@ -1,9 +1,9 @@
 //! A board whose tasks don't end: what three processes know of each other's calls at once.
 ghost use Rattle.std.specs.Prelude.{◌≡◌, IfSome, IsTrue};
-ghost use Rattle.atomic_board.specs.Passes.{IsPass};
+ghost use Rattle.board_live.specs.Passes.{IsPass};
 ghost use Rattle.board_receipts.specs.Passing.{HasHeard, HasMadeNone};
 
-use atomic_board::{Board, Pass, Posted, RecordLaw};
+use board_live::{Board, Pass, Posted, RecordLaw};
 use family_live::Family;
 use stamps::Stamp;
 

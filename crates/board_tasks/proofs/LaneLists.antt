@@ -6,12 +6,12 @@ use Rattle.std.proofs.lemmas.Option.{same_Some, none-some}
 use Rattle.std.proofs.lemmas.List.{reverse-append}
 use Rattle.history_core.specs.declared.wish.Wish.{Wish}
 use Rattle.family_live.specs.declared.family.Family.{Ghosts as FamilyWords}
-use Rattle.atomic_board.specs.declared.board.Board.{Board}
-use Rattle.atomic_board.specs.declared.board.Pass.{Pass}
-use Rattle.atomic_board.specs.declared.record.Posted.{Posted}
+use Rattle.board_live.specs.declared.board.Board.{Board}
+use Rattle.board_live.specs.declared.board.Pass.{Pass}
+use Rattle.board_live.specs.declared.record.Posted.{Posted}
 use Rattle.board_tasks.specs.declared.lane.Lane.{Lane}
-use Rattle.atomic_board.specs.Passes.{IsPass}
-use Rattle.atomic_board.specs.Ends.{AllPasses}
+use Rattle.board_live.specs.Passes.{IsPass}
+use Rattle.board_live.specs.Ends.{AllPasses}
 use Rattle.matrix_core.proofs.lists.Elements.{get_exists}
 use Rattle.board_tasks.specs.Jobs.{AllReady}
 use Rattle.board_tasks.specs.Lanes.{AreLanes, IsLane, IsNewLane}

@@ -11,13 +11,13 @@ use Rattle.history_core.specs.declared.wish.Wish.TheVariants.{Write, Read}
 use Rattle.stamps.specs.Stamps.{IsBelow}
 use Rattle.stamps.specs.declared.stamp.Stamp.{Stamp}
 use Rattle.family_live.specs.declared.family.Family.{Ghosts as FamilyWords}
-use Rattle.atomic_board.specs.declared.board.Board.{Board}
-use Rattle.atomic_board.specs.declared.board.Pass.{Pass}
-use Rattle.atomic_board.specs.declared.record.Posted.{Posted}
+use Rattle.board_live.specs.declared.board.Board.{Board}
+use Rattle.board_live.specs.declared.board.Pass.{Pass}
+use Rattle.board_live.specs.declared.record.Posted.{Posted}
 use Rattle.board_tasks.specs.declared.lane.Reply.{Reply}
 use Rattle.board_tasks.specs.declared.lane.Reply.TheVariants.{Written, Seen, Ended}
 use Rattle.board_tasks.specs.declared.lane.Entry.{Entry}
-use Rattle.atomic_board.specs.Records.{Rises, rises_on}
+use Rattle.board_live.specs.Records.{Rises, rises_on}
 use Rattle.board_tasks.specs.Logs.{IsLog, is_at_most, stamp_of}
 use Rattle.board_tasks.specs.Tasks.{IsEntry, Replies, AreCalls}
 

@@ -24,11 +24,11 @@ use Rattle.board_history.specs.BoardRuns.{Called, Did}
 use Rattle.board_history.specs.OneRegister.{AreOfOne as CallsOfOne, IsOneOrder, Named, Takes as CallTakes}
 use Rattle.board_history.proofs.Registers.{one_order}
 use Rattle.family_live.specs.declared.family.Family.{Ghosts as FamilyWords}
-use Rattle.atomic_board.specs.declared.board.Board.{Board}
-use Rattle.atomic_board.specs.declared.board.Pass.{Pass}
-use Rattle.atomic_board.specs.declared.record.Posted.{Posted}
-use Rattle.atomic_board.specs.Ends.{did_at, did_by}
-use Rattle.atomic_board.specs.Records.{stamped}
+use Rattle.board_live.specs.declared.board.Board.{Board}
+use Rattle.board_live.specs.declared.board.Pass.{Pass}
+use Rattle.board_live.specs.declared.record.Posted.{Posted}
+use Rattle.board_live.specs.Ends.{did_at, did_by}
+use Rattle.board_live.specs.Records.{stamped}
 use Rattle.board_tasks.specs.declared.lane.Entry.{Entry}
 use Rattle.board_tasks.specs.declared.lane.Lane.{Lane}
 use Rattle.board_tasks.specs.declared.lane.Reply.{Reply}

@@ -2,11 +2,11 @@
 use Rattle.std.proofs.Common.{◌≡◌, Bool, ℕ, ◌+◌, ◌<◌, ◌≤◌, List, [], ◌∷◌, ◌++◌, length, length-append, append_assoc, refl, ◌∙◌, ap, arith, ◌⊎◌}
 use Rattle.std.proofs.Common.{subst, ⊎_elim}
 use Rattle.family_live.specs.declared.family.Family.{Ghosts as FamilyWords}
-use Rattle.atomic_board.specs.declared.board.Board.{Board}
-use Rattle.atomic_board.specs.declared.record.Posted.{Posted}
+use Rattle.board_live.specs.declared.board.Board.{Board}
+use Rattle.board_live.specs.declared.record.Posted.{Posted}
 use Rattle.board_tasks.specs.declared.lane.Entry.{Entry}
 use Rattle.board_tasks.specs.declared.lane.Lane.{Lane}
-use Rattle.atomic_board.specs.Passes.{IsPass}
+use Rattle.board_live.specs.Passes.{IsPass}
 use Rattle.board_tasks.specs.Lanes.{IsLane}
 use Rattle.board_tasks.specs.Tasks.{IsEntry, AreCalls, Ran}
 use Rattle.board_tasks.proofs.LogLaws.{calls_more}

@@ -1,7 +1,7 @@
 -- A lane for each pass of a board (this project's own).
 use Rattle.std.specs.Prelude.{◌≡◌, ◌≤◌, All, Bool, List, [], ◌∷◌, length, vec_capacity}
 use Rattle.history_core.specs.declared.wish.Wish.{Wish}
-use Rattle.atomic_board.specs.declared.board.Pass.{Pass}
+use Rattle.board_live.specs.declared.board.Pass.{Pass}
 use Rattle.board_tasks.specs.declared.lane.Lane.{Lane}
 use Rattle.board_tasks.specs.Logs.{IsLog, Obeys}
 

@@ -5,12 +5,12 @@ use Rattle.history_core.specs.declared.wish.Wish.TheVariants.{Write, Read}
 use Rattle.family_live.specs.declared.family.Family.{Ghosts as FamilyWords}
 use Rattle.stamps.specs.declared.stamp.Stamped.{Stamped}
 use Rattle.board_history.specs.BoardRuns.{Called}
-use Rattle.atomic_board.specs.declared.board.Board.{Board}
-use Rattle.atomic_board.specs.declared.board.Pass.{Pass}
-use Rattle.atomic_board.specs.declared.record.Posted.{Posted}
-use Rattle.atomic_board.specs.Ends.{did_by, IsAtomicRun}
-use Rattle.atomic_board.specs.Passes.{HasMade, IsPass}
-use Rattle.atomic_board.specs.Records.{stamped}
+use Rattle.board_live.specs.declared.board.Board.{Board}
+use Rattle.board_live.specs.declared.board.Pass.{Pass}
+use Rattle.board_live.specs.declared.record.Posted.{Posted}
+use Rattle.board_live.specs.Ends.{did_by, IsAtomicRun}
+use Rattle.board_live.specs.Passes.{HasMade, IsPass}
+use Rattle.board_live.specs.Records.{stamped}
 use Rattle.board_tasks.specs.declared.lane.Entry.{Entry}
 use Rattle.board_tasks.specs.declared.lane.Lane.{Lane}
 use Rattle.board_tasks.specs.declared.lane.Reply.{Reply}

@@ -1,7 +1,7 @@
 //! What a task runs: a script of wishes with one pass, and the log of what was answered.
 ghost use Rattle.std.specs.Prelude.{◌≡◌};
 
-use atomic_board::{Pass, Posted, RecordLaw};
+use board_live::{Pass, Posted, RecordLaw};
 use family_live::Family;
 use history_core::Wish;
 use stamps::Stamp;

@@ -1,13 +1,13 @@
 //! Lanes for all passes of a board, and the passes of lanes.
 ghost use Rattle.std.specs.Prelude.{◌≡◌, All, IfOk, length, map};
-ghost use Rattle.atomic_board.specs.Ends.{IsGreatest};
+ghost use Rattle.board_live.specs.Ends.{IsGreatest};
 ghost use Rattle.board_tasks.specs.LogOrders.{LogsInOrder};
 ghost use Rattle.board_tasks.specs.Lanes.{AreLanes};
 ghost use Rattle.board_tasks.specs.Logs.{Obeys};
 ghost use Rattle.board_tasks.specs.Worked.{AreAtomic, HaveWorked, logs_of};
 
 use crate::lane::{Entry, Lane};
-use atomic_board::{Board, Pass, Posted, RecordLaw};
+use board_live::{Board, Pass, Posted, RecordLaw};
 use family_live::Family;
 use history_core::{Items, Wish};
 use std::alloc::{AllocError, Global};

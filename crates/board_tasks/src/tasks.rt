@@ -1,5 +1,5 @@
 //! Tasks over a board, each in a thread of its own.
-ghost use Rattle.atomic_board.specs.Passes.{IsPass};
+ghost use Rattle.board_live.specs.Passes.{IsPass};
 ghost use Rattle.board_tasks.specs.Lanes.{IsLane};
 ghost use Rattle.board_tasks.specs.Jobs.{AllReady, EachStep};
 ghost use Rattle.board_tasks.specs.Tasks.{Permitted, Ran};
@@ -7,7 +7,7 @@ ghost use Rattle.board_tasks.specs.Tasks.{Permitted, Ran};
 use crate::gate::Gate;
 use crate::jobs::{Job, run_each};
 use crate::lane::{Lane, run_lane};
-use atomic_board::{Board, Posted, RecordLaw};
+use board_live::{Board, Posted, RecordLaw};
 use family_live::{Family, SharedFamily};
 use std::thread::Threads;
 

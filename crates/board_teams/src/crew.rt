@@ -3,12 +3,12 @@
 ghost use Rattle.std.specs.Prelude.{◌≡◌, All, IfOk, IsTrue, length};
 ghost use Rattle.history_core.specs.Band.{fits};
 ghost use Rattle.stamps.specs.Stamps.{first_stamp};
-ghost use Rattle.atomic_board.specs.Deals.{IsNew};
+ghost use Rattle.board_live.specs.Deals.{IsNew};
 ghost use Rattle.board_tasks.specs.Lanes.{AreLanes};
 ghost use Rattle.board_tasks.specs.Logs.{Obeys};
 ghost use Rattle.board_tasks.specs.Worked.{HaveWorked};
 
-use atomic_board::{Board, Posted};
+use board_live::{Board, Posted};
 use board_tasks::{Gate, Lane, make_lanes, run_tasks};
 use family_live::{Family, SharedFamily};
 use history_core::{Band, Items, Wish};

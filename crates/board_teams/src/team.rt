@@ -1,9 +1,9 @@
 //! Boards in one thread, with the passes of all processes in one hand.
 ghost use Rattle.std.specs.Prelude.{IfOk};
 ghost use Rattle.history_core.specs.Band.{fits};
-ghost use Rattle.atomic_board.specs.Ends.{AllPasses};
+ghost use Rattle.board_live.specs.Ends.{AllPasses};
 
-use atomic_board::{Board, BoardError, Pass, Posted, RecordLaw, TagsEnded};
+use board_live::{Board, BoardError, Pass, Posted, RecordLaw, TagsEnded};
 use family_live::Family;
 use history_core::Band;
 use stamps::Stamp;

@@ -1,8 +1,8 @@
 //! Three tasks share a reading and its limits on a board: one sets limits, one publishes, one steers.
 #![tactic(auto)]
 
-use atomic_board::Posted;
 use board_control::{Control, Counted, last_of_two, run, two_boards};
+use board_live::Posted;
 use family_four_slot::FourSlotFamily;
 use std::io;
 

@@ -7,14 +7,14 @@ use mathlib.Core.Option.{some, none, Option as Opt}
 use lib.ListN.{get_elem?}
 use Rattle.atomic_table.specs.Table.{put_back}
 use Rattle.atomic_table.proofs.Lists.{set_here, set_else}
-use Rattle.fourslot_core.specs.declared.state.Sides.{Sides}
-use Rattle.fourslot_core.specs.declared.state.Slot.{Slot}
-use Rattle.fourslot_core.specs.declared.state.State.{State as Core}
-use Rattle.fourslot_core.specs.declared.state.Stage.TheVariants as writer
-use Rattle.fourslot_core.specs.declared.state.ReaderStage.TheVariants as reader
-use Rattle.fourslot_core.specs.Events.{side, with_side, record_in, slot_with, bit_number, slot_number, after_write, after_read}
-use Rattle.fourslot_core.specs.Invariant.{HasSlot, IsKept, IsSound}
-use Rattle.fourslot_core.proofs.events.TwoSides.{not_same, record_same, record_other}
+use Rattle.four_slot_core.specs.declared.state.Sides.{Sides}
+use Rattle.four_slot_core.specs.declared.state.Slot.{Slot}
+use Rattle.four_slot_core.specs.declared.state.State.{State as Core}
+use Rattle.four_slot_core.specs.declared.state.Stage.TheVariants as writer
+use Rattle.four_slot_core.specs.declared.state.ReaderStage.TheVariants as reader
+use Rattle.four_slot_core.specs.Events.{side, with_side, record_in, slot_with, bit_number, slot_number, after_write, after_read}
+use Rattle.four_slot_core.specs.Invariant.{HasSlot, IsKept, IsSound}
+use Rattle.four_slot_core.proofs.events.TwoSides.{not_same, record_same, record_other}
 use Rattle.cell_four_slot.specs.Rule.{InTable, HeldByWriter, HeldByReader, named_slot}
 use Rattle.cell_four_slot.specs.Steps.{slot_of_choice}
 use Rattle.cell_four_slot.proofs.Slots.{slot_low, number_of_slot, same_or_not, not_named}

@@ -2,21 +2,21 @@
 -- before with these events made.
 use Rattle.std.proofs.Common.{◌≤◌, ◌≡◌, ◌≢◌, ⊎_elim, ℕ, ◌+◌, arith, Bool, false, ◌&&◌, if◌then◌else◌, List, [], ◌∷◌, ◌++◌, sym, refl, ap, subst}
 use Rattle.std.proofs.lemmas.Bool.{cases_eq}
-use Rattle.fourslot_core.specs.declared.state.State.{State as Core}
-use Rattle.fourslot_core.specs.declared.state.Stage.{Stage}
-use Rattle.fourslot_core.specs.declared.state.Stage.TheVariants as writer
-use Rattle.fourslot_core.specs.declared.state.ReaderStage.{ReaderStage}
-use Rattle.fourslot_core.specs.declared.state.ReaderStage.TheVariants as reader
-use Rattle.fourslot_core.specs.declared.state.ReadStage.TheVariants as told
-use Rattle.fourslot_core.specs.declared.event.WriteEvent.{WriteEvent}
-use Rattle.fourslot_core.specs.declared.event.WriteEvent.TheVariants.{W1, W2, W3, W4, W5}
-use Rattle.fourslot_core.specs.declared.event.ReadEvent.{ReadEvent}
-use Rattle.fourslot_core.specs.declared.event.ReadEvent.TheVariants.{R1, R2, R3, R4, R5}
-use Rattle.fourslot_core.specs.Events.{record_in, same_slot, is_writing, next_write, next_read, after_write, after_read, answer}
-use Rattle.fourslot_core.specs.Interleaving.{Leads}
-use Rattle.fourslot_core.specs.Invariant.{IsSound, IsSoundAt}
-use Rattle.fourslot_core.proofs.events.Interleaved.{then_writes, then_reads}
-use Rattle.fourslot_core.proofs.events.Keeping.{keep_write, keep_read}
+use Rattle.four_slot_core.specs.declared.state.State.{State as Core}
+use Rattle.four_slot_core.specs.declared.state.Stage.{Stage}
+use Rattle.four_slot_core.specs.declared.state.Stage.TheVariants as writer
+use Rattle.four_slot_core.specs.declared.state.ReaderStage.{ReaderStage}
+use Rattle.four_slot_core.specs.declared.state.ReaderStage.TheVariants as reader
+use Rattle.four_slot_core.specs.declared.state.ReadStage.TheVariants as told
+use Rattle.four_slot_core.specs.declared.event.WriteEvent.{WriteEvent}
+use Rattle.four_slot_core.specs.declared.event.WriteEvent.TheVariants.{W1, W2, W3, W4, W5}
+use Rattle.four_slot_core.specs.declared.event.ReadEvent.{ReadEvent}
+use Rattle.four_slot_core.specs.declared.event.ReadEvent.TheVariants.{R1, R2, R3, R4, R5}
+use Rattle.four_slot_core.specs.Events.{record_in, same_slot, is_writing, next_write, next_read, after_write, after_read, answer}
+use Rattle.four_slot_core.specs.Interleaving.{Leads}
+use Rattle.four_slot_core.specs.Invariant.{IsSound, IsSoundAt}
+use Rattle.four_slot_core.proofs.events.Interleaved.{then_writes, then_reads}
+use Rattle.four_slot_core.proofs.events.Keeping.{keep_write, keep_read}
 use Rattle.cell_live.specs.Running.{snap}
 use Rattle.cell_four_slot.specs.Rule.{IsWriterShown, named_slot, control_writes, control_reads}
 use Rattle.cell_four_slot.proofs.Clear.{begun, read_on}

@@ -6,15 +6,15 @@ use mathlib.Core.Option.{some}
 use lib.ListN.{get_elem?}
 use lib.Seq.{take-append-le}
 use Rattle.atomic_table.proofs.Lists.{at_longer, at_last}
-use Rattle.fourslot_core.specs.declared.state.Slot.{Slot}
-use Rattle.fourslot_core.specs.declared.state.State.{State as Core}
-use Rattle.fourslot_core.specs.declared.state.Stage.{Stage}
-use Rattle.fourslot_core.specs.declared.state.Stage.TheVariants as writer
-use Rattle.fourslot_core.specs.declared.state.ReaderStage.TheVariants as reader
-use Rattle.fourslot_core.specs.Events.{side, record_in, with_record, slot_with, after_write, after_read}
-use Rattle.fourslot_core.specs.Invariant.{IsUnderWay, IsStored, IsAnnounced, IsFilled, HasSlot, latest_slot, IsSound}
-use Rattle.fourslot_core.specs.Freshness.{IsBegun}
-use Rattle.fourslot_core.proofs.events.TwoSides.{bit_cases, side_same, side_other, record_same, record_other}
+use Rattle.four_slot_core.specs.declared.state.Slot.{Slot}
+use Rattle.four_slot_core.specs.declared.state.State.{State as Core}
+use Rattle.four_slot_core.specs.declared.state.Stage.{Stage}
+use Rattle.four_slot_core.specs.declared.state.Stage.TheVariants as writer
+use Rattle.four_slot_core.specs.declared.state.ReaderStage.TheVariants as reader
+use Rattle.four_slot_core.specs.Events.{side, record_in, with_record, slot_with, after_write, after_read}
+use Rattle.four_slot_core.specs.Invariant.{IsUnderWay, IsStored, IsAnnounced, IsFilled, HasSlot, latest_slot, IsSound}
+use Rattle.four_slot_core.specs.Freshness.{IsBegun}
+use Rattle.four_slot_core.proofs.events.TwoSides.{bit_cases, side_same, side_other, record_same, record_other}
 use Rattle.cell_live.specs.Running.{last_or, Settled, Rising, IsAnswer}
 use Rattle.cell_four_slot.specs.Rule.{number_in, finished_number, named_slot, StandsBy, UpTo, IsNumbered, IsSettled, IsWriterShown}
 use Rattle.cell_four_slot.proofs.Slots.{same_or_not, not_named, number_here, number_else, number_bound}

@@ -10,21 +10,21 @@ use Rattle.atomic_table.specs.Table.{opening, Final, Seen}
 use Rattle.atomic_table.proofs.Lists.{at_set, at_snoc, set_again, set_else}
 use Rattle.std.proofs.lemmas.Bool.{cases_eq}
 use Rattle.std.specs.declared.snapshot.Snapshot.{Snapshot}
-use Rattle.fourslot_core.specs.declared.state.Sides.{Sides}
-use Rattle.fourslot_core.specs.declared.state.Slot.{Slot}
-use Rattle.fourslot_core.specs.declared.state.State.{State as Core}
-use Rattle.fourslot_core.specs.declared.state.Stage.{Stage}
-use Rattle.fourslot_core.specs.declared.state.Stage.TheVariants as writer
-use Rattle.fourslot_core.specs.declared.state.ReaderStage.{ReaderStage}
-use Rattle.fourslot_core.specs.declared.state.ReaderStage.TheVariants as reader
-use Rattle.fourslot_core.specs.declared.event.WriteEvent.TheVariants.{W1, W2, W3, W4}
-use Rattle.fourslot_core.specs.declared.event.ReadEvent.TheVariants.{R1, R3, R4, R5}
-use Rattle.fourslot_core.specs.Events.{side, with_side, record_in, slot_with, bit_number, slot_number, both, opening_state, after_write}
-use Rattle.fourslot_core.specs.Events.{after_read}
-use Rattle.fourslot_core.specs.Invariant.{latest_slot, IsSound, IsStored, IsUnderWay, IsKept}
-use Rattle.fourslot_core.specs.Freshness.{IsBegun}
-use Rattle.fourslot_core.proofs.events.Keeping.{opening_is_sound}
-use Rattle.fourslot_core.specs.Interleaving.Leads.{Stays}
+use Rattle.four_slot_core.specs.declared.state.Sides.{Sides}
+use Rattle.four_slot_core.specs.declared.state.Slot.{Slot}
+use Rattle.four_slot_core.specs.declared.state.State.{State as Core}
+use Rattle.four_slot_core.specs.declared.state.Stage.{Stage}
+use Rattle.four_slot_core.specs.declared.state.Stage.TheVariants as writer
+use Rattle.four_slot_core.specs.declared.state.ReaderStage.{ReaderStage}
+use Rattle.four_slot_core.specs.declared.state.ReaderStage.TheVariants as reader
+use Rattle.four_slot_core.specs.declared.event.WriteEvent.TheVariants.{W1, W2, W3, W4}
+use Rattle.four_slot_core.specs.declared.event.ReadEvent.TheVariants.{R1, R3, R4, R5}
+use Rattle.four_slot_core.specs.Events.{side, with_side, record_in, slot_with, bit_number, slot_number, both, opening_state, after_write}
+use Rattle.four_slot_core.specs.Events.{after_read}
+use Rattle.four_slot_core.specs.Invariant.{latest_slot, IsSound, IsStored, IsUnderWay, IsKept}
+use Rattle.four_slot_core.specs.Freshness.{IsBegun}
+use Rattle.four_slot_core.proofs.events.Keeping.{opening_is_sound}
+use Rattle.four_slot_core.specs.Interleaving.Leads.{Stays}
 use Rattle.cell_live.specs.Running.{last_or, Settled, IsAnswer, snap}
 use Rattle.cell_live.specs.Intervals.{known_as, AreFirst, AreHeeded, IsHeeded, IsNextAnswer}
 use Rattle.cell_live.specs.Acts.{HasOne, Proper}

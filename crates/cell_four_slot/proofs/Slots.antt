@@ -2,10 +2,10 @@
 -- into it alone.
 use Rattle.std.proofs.Common.{◌≡◌, ◌≢◌, ◌⊎◌, ℕ, ◌+◌, ◌<◌, ◌≤◌, Bool, true, false, not, ◌&&◌, if◌then◌else◌, List, [], ◌∷◌, ◌++◌, length}
 use Rattle.std.proofs.Common.{sym, refl, ap, ◌∙◌, ⊎_elim, inl, inr, arith}
-use Rattle.fourslot_core.specs.declared.state.Slot.{Slot}
-use Rattle.fourslot_core.specs.declared.state.State.{State as Core}
-use Rattle.fourslot_core.specs.Events.{side, same_bit, same_slot, bit_number, slot_number}
-use Rattle.fourslot_core.proofs.events.TwoSides.{not_same, bit_cases, same_slot_of}
+use Rattle.four_slot_core.specs.declared.state.Slot.{Slot}
+use Rattle.four_slot_core.specs.declared.state.State.{State as Core}
+use Rattle.four_slot_core.specs.Events.{side, same_bit, same_slot, bit_number, slot_number}
+use Rattle.four_slot_core.proofs.events.TwoSides.{not_same, bit_cases, same_slot_of}
 use Rattle.cell_four_slot.specs.Rule.{number_from, number_in, named_slot}
 
 pub bit_low : (b : Bool) → bit_number b ≤ 1

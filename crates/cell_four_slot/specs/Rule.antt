@@ -6,20 +6,20 @@ use Rattle.std.specs.Prelude.{if◌then◌else◌}
 use mathlib.Core.Option.{some, Option as Opt}
 use lib.ListN.{get_elem?}
 use Rattle.atomic_table.specs.Table.{State}
-use Rattle.fourslot_core.specs.declared.state.Slot.{Slot}
-use Rattle.fourslot_core.specs.declared.state.State.{State as Core}
-use Rattle.fourslot_core.specs.declared.state.Stage.{Stage}
-use Rattle.fourslot_core.specs.declared.state.Stage.TheVariants as writer
-use Rattle.fourslot_core.specs.declared.state.ReaderStage.{ReaderStage}
-use Rattle.fourslot_core.specs.declared.state.ReaderStage.TheVariants as reader
-use Rattle.fourslot_core.specs.declared.event.WriteEvent.{WriteEvent}
-use Rattle.fourslot_core.specs.declared.event.WriteEvent.TheVariants.{W2, W3}
-use Rattle.fourslot_core.specs.declared.event.ReadEvent.{ReadEvent}
-use Rattle.fourslot_core.specs.declared.event.ReadEvent.TheVariants.{R4, R5}
-use Rattle.fourslot_core.specs.Events.{side, record_in, slot_with, same_slot, bit_number, slot_number, opening_state}
-use Rattle.fourslot_core.specs.Invariant.{IsUnderWay, HasSlot, IsStored, IsKept, latest_slot, IsSound}
-use Rattle.fourslot_core.specs.Freshness.{IsBegun}
-use Rattle.fourslot_core.specs.Interleaving.{Leads}
+use Rattle.four_slot_core.specs.declared.state.Slot.{Slot}
+use Rattle.four_slot_core.specs.declared.state.State.{State as Core}
+use Rattle.four_slot_core.specs.declared.state.Stage.{Stage}
+use Rattle.four_slot_core.specs.declared.state.Stage.TheVariants as writer
+use Rattle.four_slot_core.specs.declared.state.ReaderStage.{ReaderStage}
+use Rattle.four_slot_core.specs.declared.state.ReaderStage.TheVariants as reader
+use Rattle.four_slot_core.specs.declared.event.WriteEvent.{WriteEvent}
+use Rattle.four_slot_core.specs.declared.event.WriteEvent.TheVariants.{W2, W3}
+use Rattle.four_slot_core.specs.declared.event.ReadEvent.{ReadEvent}
+use Rattle.four_slot_core.specs.declared.event.ReadEvent.TheVariants.{R4, R5}
+use Rattle.four_slot_core.specs.Events.{side, record_in, slot_with, same_slot, bit_number, slot_number, opening_state}
+use Rattle.four_slot_core.specs.Invariant.{IsUnderWay, HasSlot, IsStored, IsKept, latest_slot, IsSound}
+use Rattle.four_slot_core.specs.Freshness.{IsBegun}
+use Rattle.four_slot_core.specs.Interleaving.{Leads}
 use Rattle.cell_live.specs.Running.{Settled, Rising}
 use Rattle.cell_live.specs.Intervals.{At, InTurn, IsBy, IsLate, HasBegun, AreFirst, AreHeeded, IsHeeded, known_as}
 use Rattle.cell_four_slot.specs.declared.notes.WriterNotes.{WriterNotes}

@@ -1,13 +1,13 @@
 -- The steps of the running four-slot cell: what each tells its seat (this project's own).
 use Rattle.std.specs.Prelude.{◌≡◌, ◌≢◌, ℕ, ◌+◌, ◌<◌, ◌≤◌, max, Bool, false, not, Option, None, Some, List, [], ◌∷◌, ◌++◌}
 use Rattle.atomic_table.specs.Table.{Me, Step}
-use Rattle.fourslot_core.specs.declared.state.Sides.{Sides}
-use Rattle.fourslot_core.specs.declared.state.Slot.{Slot}
-use Rattle.fourslot_core.specs.declared.state.Stage.TheVariants as writer
-use Rattle.fourslot_core.specs.declared.state.ReaderStage.TheVariants as reader
-use Rattle.fourslot_core.specs.declared.event.WriteEvent.TheVariants.{W1, W2, W3, W4, W5}
-use Rattle.fourslot_core.specs.declared.event.ReadEvent.TheVariants.{R1, R2, R3, R4, R5}
-use Rattle.fourslot_core.specs.Events.{side, with_side, slot_with, bit_number, slot_number, both}
+use Rattle.four_slot_core.specs.declared.state.Sides.{Sides}
+use Rattle.four_slot_core.specs.declared.state.Slot.{Slot}
+use Rattle.four_slot_core.specs.declared.state.Stage.TheVariants as writer
+use Rattle.four_slot_core.specs.declared.state.ReaderStage.TheVariants as reader
+use Rattle.four_slot_core.specs.declared.event.WriteEvent.TheVariants.{W1, W2, W3, W4, W5}
+use Rattle.four_slot_core.specs.declared.event.ReadEvent.TheVariants.{R1, R2, R3, R4, R5}
+use Rattle.four_slot_core.specs.Events.{side, with_side, slot_with, bit_number, slot_number, both}
 use Rattle.cell_live.specs.Running.{IsAnswer, snap}
 use Rattle.cell_live.specs.Intervals.{begun_at, passed_at, ended_at, heard_at, no_times, none_known, dated_at, known_as, AreHeeded, IsNextAnswer}
 use Rattle.cell_live.specs.declared.times.Dated.{Dated}

@@ -1,9 +1,9 @@
 -- The words of the contract, of the passes of a four-slot cell (this project's own).
 use Rattle.std.specs.Prelude.{◌≡◌, ◌≢◌, ◌≤◌, ℕ, ◌+◌, List, [], ◌∷◌, ◌++◌}
-use Rattle.fourslot_core.specs.Events.{slot_number, bit_number}
-use Rattle.fourslot_core.specs.declared.event.WriteEvent.{WriteEvent}
-use Rattle.fourslot_core.specs.declared.event.ReadEvent.{ReadEvent}
-use Rattle.fourslot_core.specs.declared.event.ReadEvent.TheVariants.{R1, R2, R3, R4, R5}
+use Rattle.four_slot_core.specs.Events.{slot_number, bit_number}
+use Rattle.four_slot_core.specs.declared.event.WriteEvent.{WriteEvent}
+use Rattle.four_slot_core.specs.declared.event.ReadEvent.{ReadEvent}
+use Rattle.four_slot_core.specs.declared.event.ReadEvent.TheVariants.{R1, R2, R3, R4, R5}
 use Rattle.cell_live.specs.Running.{Name, IsName, IsAnswer, last_or, snap}
 use Rattle.cell_live.specs.Intervals.{AreHeeded, IsNextCall, IsNextAnswer}
 use Rattle.cell_live.specs.declared.times.Times.{Times}

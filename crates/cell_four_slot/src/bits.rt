@@ -1,7 +1,7 @@
 //! The bits of a four-slot cell, as its words have them: 0 or 1. What a bit selects is found by its number and not by a branch.
 ghost use Rattle.std.specs.Prelude.{◌≡◌, ◌+◌, Bool, not};
-ghost use Rattle.fourslot_core.specs.declared.state.Sides.{Sides};
-ghost use Rattle.fourslot_core.specs.Events.{side, with_side, slot_with, bit_number, slot_number};
+ghost use Rattle.four_slot_core.specs.declared.state.Sides.{Sides};
+ghost use Rattle.four_slot_core.specs.Events.{side, with_side, slot_with, bit_number, slot_number};
 ghost use Rattle.cell_four_slot.specs.Steps.{bit_words};
 
 /// The other bit.

@@ -1,8 +1,8 @@
 //! The calls of the four-slot cell.
 ghost use Rattle.std.specs.Prelude.{◌≡◌, ◌≢◌, ◌≤◌, ◌+◌, [], ◌∷◌, ◌++◌, IfOk};
 ghost use Rattle.std.specs.Fn.{FnOnceTakesAt, FnOnceReturnsAt};
-ghost use Rattle.fourslot_core.specs.declared.event.WriteEvent.TheVariants.{W1, W2, W3, W4, W5};
-ghost use Rattle.fourslot_core.specs.declared.event.ReadEvent.TheVariants.{R1, R2, R3, R4, R5};
+ghost use Rattle.four_slot_core.specs.declared.event.WriteEvent.TheVariants.{W1, W2, W3, W4, W5};
+ghost use Rattle.four_slot_core.specs.declared.event.ReadEvent.TheVariants.{R1, R2, R3, R4, R5};
 ghost use Rattle.cell_live.specs.Running.{last_or, IsAnswer, Settled, snap};
 ghost use Rattle.cell_live.specs.Intervals.{AreAtomic, AreFirst, AreHeeded, HaveEnded, IsHeard, IsNextAnswer, IsNextCall};
 ghost use Rattle.cell_live.specs.Intervals.{known_as, no_times, none_known};

@@ -5,10 +5,10 @@
 //! state of the four-slot register which keeps that register's invariant, and to which some interleaving of the two passes' events
 //! leads from the opening.
 ghost use Rattle.std.specs.Prelude.{◌≡◌, [], ◌∷◌};
-ghost use Rattle.fourslot_core.specs.declared.state.Stage.TheVariants.{W5};
-ghost use Rattle.fourslot_core.specs.declared.state.ReaderStage.TheVariants.{R5};
+ghost use Rattle.four_slot_core.specs.declared.state.Stage.TheVariants.{W5};
+ghost use Rattle.four_slot_core.specs.declared.state.ReaderStage.TheVariants.{R5};
 ghost use Rattle.cell_live.specs.declared.sight.Sight.TheVariants.{Writer, Reader, Told};
-ghost use Rattle.fourslot_core.specs.Events.{bit_number};
+ghost use Rattle.four_slot_core.specs.Events.{bit_number};
 ghost use Rattle.cell_live.specs.Running.{last_or, snap};
 ghost use Rattle.cell_live.specs.Sights.{writer_or, reader_or, receipt_or};
 ghost use Rattle.cell_four_slot.specs.Steps.{first_writer, first_reader, slot_of_choice, word_said, bit_words};

@@ -2,11 +2,11 @@
 ghost use Rattle.std.specs.Prelude.{◌≡◌, ◌≤◌, ℕ};
 ghost use mathlib.Core.Option.{some};
 ghost use Rattle.atomic_table.specs.Table.{State};
-ghost use Rattle.fourslot_core.specs.Events.{opening_state};
-ghost use Rattle.fourslot_core.specs.Interleaving.{Leads};
-ghost use Rattle.fourslot_core.specs.Invariant.{IsSound, latest_slot};
+ghost use Rattle.four_slot_core.specs.Events.{opening_state};
+ghost use Rattle.four_slot_core.specs.Interleaving.{Leads};
+ghost use Rattle.four_slot_core.specs.Invariant.{IsSound, latest_slot};
 ghost use Rattle.cell_live.specs.Intervals.{AreFirst, At, intervals};
-ghost use Rattle.fourslot_core.specs.ReadNumbers.{IsReadOf};
+ghost use Rattle.four_slot_core.specs.ReadNumbers.{IsReadOf};
 ghost use Rattle.cell_four_slot.specs.Rule.{InTable, InViews, UpTo, number_in, control_writes, control_reads};
 ghost use Rattle.cell_four_slot.specs.Spread.{gathered};
 ghost use Rattle.cell_four_slot.specs.Steps.{FourSlotSight};

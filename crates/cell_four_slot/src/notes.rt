@@ -1,6 +1,6 @@
 //! What the seats of a four-slot cell know. No value of these types is made.
 use cell_live::{Dated, Known, Sight, Times};
-use fourslot_core::{ReadEvent, ReaderStage, Sides, Slot, Stage, WriteEvent};
+use four_slot_core::{ReadEvent, ReaderStage, Sides, Slot, Stage, WriteEvent};
 use std::collections::LinkedList;
 use std::snapshot::Snapshot;
 

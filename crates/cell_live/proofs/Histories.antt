@@ -13,11 +13,11 @@ use Rattle.history_core.proofs.Latest.{HasItemByNumber, reads_by_number}
 use Rattle.history_core.proofs.Listed.{some_and_of}
 use Rattle.history_core.proofs.Listing.{listing_from}
 use Rattle.history_core.proofs.Numbered.{keeps_by_number}
-use Rattle.fourslot_core.specs.Accesses.{IsBefore}
-use Rattle.fourslot_core.proofs.Pushed.{get_within, of_before, to_before}
+use Rattle.four_slot_core.specs.Accesses.{IsBefore}
+use Rattle.four_slot_core.proofs.Pushed.{get_within, of_before, to_before}
 use Rattle.cell_live.specs.declared.times.Times.{Times}
 use Rattle.cell_live.specs.Intervals.{At, InTurn, intervals, AreAtomic}
-use Rattle.fourslot_core.specs.ReadNumbers.{IsReadOf}
+use Rattle.four_slot_core.specs.ReadNumbers.{IsReadOf}
 use Rattle.cell_live.specs.Histories.{IsWriteOp, IsReadOp, AreOps, IsByNumbers}
 
 -- as many calls have ended as have begun, or one less

@@ -1,10 +1,10 @@
 -- One write and two reads: with the numbers 0 and 1 they are atomic by their intervals, and with a second read that is stale they aren't.
 use Rattle.std.proofs.Common.{◌≡◌, ℕ, zero, suc, ◌+◌, ◌<◌, ◌≤◌, List, [], ◌∷◌, slice_get, Option, None, Some, refl, sym, subst, arith, le_refl}
 use Rattle.std.proofs.lemmas.Option.{none-some, same_Some}
-use Rattle.fourslot_core.specs.Accesses.{IsBefore}
+use Rattle.four_slot_core.specs.Accesses.{IsBefore}
 use Rattle.cell_live.specs.declared.times.Times.{Times}
 use Rattle.cell_live.specs.Intervals.{At, InTurn, intervals, AreAtomic, one_write, two_reads}
-use Rattle.fourslot_core.specs.ReadNumbers.{IsReadOf}
+use Rattle.four_slot_core.specs.ReadNumbers.{IsReadOf}
 
 writes_turn : InTurn one_write.begins one_write.ends
 writes_turn = record {

@@ -6,7 +6,7 @@ use Rattle.history_core.specs.declared.history.Op.{Op}
 use Rattle.history_core.specs.declared.history.Kind.TheVariants.{Write, Read}
 use Rattle.history_core.specs.Numbers.{StandsAt}
 use Rattle.history_core.specs.Orders.{is_write}
-use Rattle.fourslot_core.proofs.Pushed.{get_within}
+use Rattle.four_slot_core.proofs.Pushed.{get_within}
 use Rattle.cell_live.specs.declared.times.Times.{Times}
 use Rattle.cell_live.specs.Intervals.{At, InTurn, AreAtomic}
 use Rattle.cell_live.specs.Histories.{IsWriteOp, IsReadOp, AreOps, IsByNumbers}

@@ -4,9 +4,9 @@ use Rattle.std.proofs.Common.{ap, ◌∙◌, subst, ⊎_elim, inl, inr, arith, l
 use mathlib.Core.Option.{some, some-injective, some-ne-none}
 use lib.ListN.{get_elem?}
 use Rattle.std.proofs.lemmas.Option.{slice_get_within, same_Some}
-use Rattle.fourslot_core.proofs.Pushed.{get_before, get_cases, get_within, of_before, to_before}
+use Rattle.four_slot_core.proofs.Pushed.{get_before, get_cases, get_within, of_before, to_before}
 use Rattle.cell_live.specs.Intervals.{At, begun_at, passed_at, ended_at, InTurn, IsBy, IsLate, HasBegun, IsBeginning, AreFirst, AreHeeded, IsHeeded, known_as}
-use Rattle.fourslot_core.specs.ReadNumbers.{IsReadOf}
+use Rattle.four_slot_core.specs.ReadNumbers.{IsReadOf}
 use Rattle.cell_live.proofs.ListLaws.{all_each, all_snoc}
 use Rattle.cell_live.specs.declared.times.Times.{Times}
 use Rattle.cell_live.specs.declared.times.Known.{Known}

@@ -2,7 +2,7 @@
 -- intervals and their precedence are L. Lamport's, On Interprocess Communication, Parts I and II, Distributed Computing 1, 1986;
 -- numbers of reads are this project's own.
 use Rattle.std.specs.Prelude.{◌≡◌, ℕ, ◌+◌, ◌<◌, ◌≤◌, max, List, [], ◌∷◌, ◌++◌, length, All, slice_get, Some}
-use Rattle.fourslot_core.specs.ReadNumbers.{Intervals, IsReadOf}
+use Rattle.four_slot_core.specs.ReadNumbers.{Intervals, IsReadOf}
 use Rattle.cell_live.specs.declared.times.Times.{Times}
 use Rattle.cell_live.specs.declared.times.Known.{Known}
 use Rattle.cell_live.specs.declared.times.Dated.{Dated}

@@ -4,9 +4,9 @@ use Rattle.std.proofs.Common.{◌≡◌, ℕ, ◌+◌, ◌<◌, ◌≤◌, max, 
 use Rattle.std.proofs.Common.{length-append, le_refl, le_trans}
 use native.Mathlib.Nat.{le-max_left, max-le}
 use Rattle.std.proofs.lemmas.Option.{slice_get_within, none-some}
-use Rattle.fourslot_core.proofs.Pushed.{get_before, get_within}
+use Rattle.four_slot_core.proofs.Pushed.{get_before, get_within}
 use Rattle.cell_live.specs.Intervals.{At, begun_at, ended_at, intervals, known_as, AreAtomic, IsHeeded}
-use Rattle.fourslot_core.specs.ReadNumbers.{IsReadOf}
+use Rattle.four_slot_core.specs.ReadNumbers.{IsReadOf}
 use Rattle.cell_live.specs.declared.times.Dated.{Dated}
 use Rattle.cell_live.specs.declared.times.Known.{Known}
 use Rattle.cell_triple.specs.declared.notes.WriterNotes.{WriterNotes}

@@ -5,7 +5,7 @@ ghost use lib.ListN.{get_elem?};
 ghost use Rattle.atomic_table.specs.Table.{State};
 ghost use Rattle.cell_live.specs.Running.{last_or, Settled};
 ghost use Rattle.cell_live.specs.Intervals.{AreFirst, At, intervals};
-ghost use Rattle.fourslot_core.specs.ReadNumbers.{IsReadOf};
+ghost use Rattle.four_slot_core.specs.ReadNumbers.{IsReadOf};
 ghost use Rattle.cell_triple.specs.Steps.{TripleSight};
 
 use crate::cell::Triple;

@@ -1,11 +1,11 @@
 //! Boards of 2 to 16 processes over records of 24 bytes, whose processes call in turn in one thread.
 ghost use Rattle.std.specs.Prelude.{IfOk};
-ghost use Rattle.atomic_board.specs.Ends.{AllPasses};
+ghost use Rattle.board_live.specs.Ends.{AllPasses};
 ghost use Rattle.cells_bench.specs.Items.{no_law};
 
 use crate::boards_at_once;
 use crate::measure::{Batch, Op, per_call, say};
-use atomic_board::{Board, Pass, Posted, RecordLaw};
+use board_live::{Board, Pass, Posted, RecordLaw};
 use family_live::{Family, SharedFamily};
 use std::alloc::{AllocError, Global};
 use std::io;

@@ -1,11 +1,11 @@
 //! Tasks over a board at full speed, each in a thread of its own: a write and a read in turn.
 ghost use Rattle.std.specs.Prelude.{All, IfOk};
-ghost use Rattle.atomic_board.specs.Passes.{IsPass};
+ghost use Rattle.board_live.specs.Passes.{IsPass};
 ghost use Rattle.cells_bench.specs.Items.{no_law};
 
 use crate::boards::{Item, Team};
 use crate::measure::{clock_cost, quantile, say, since};
-use atomic_board::{Board, Pass, Posted};
+use board_live::{Board, Pass, Posted};
 use crossbeam_utils::CachePadded;
 use family_live::{Family, SharedFamily};
 use std::alloc::{AllocError, Global};

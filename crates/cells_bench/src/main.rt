@@ -11,7 +11,7 @@ mod record;
 mod sides;
 mod solo;
 
-use atomic_board::Posted;
+use board_live::Posted;
 use boards::{Item, PROCESSES};
 use cell_four_slot::FourSlotCell;
 use cell_live::Cell;

@@ -1,6 +1,6 @@
 -- What three steps make a call: one access more, with a record or an answer, and the process is at rest again.
 use Rattle.std.proofs.Common.{◌≡◌, ◌≢◌, ℕ, ◌*◌, ◌<◌, Bool, List, [], ◌∷◌, ◌++◌, length, nat_eq, cond, refl, sym, ap, ◌∙◌, subst, arith}
-use Rattle.fourslot_core.specs.Events.{bit_number, slot_number, slot_with}
+use Rattle.four_slot_core.specs.Events.{bit_number, slot_number, slot_with}
 use Rattle.cell_live.specs.Running.{last_or, held_slots}
 use Rattle.cell_live.specs.Sights.{writer_or, reader_or}
 use Rattle.cell_live.specs.declared.times.Known.{Known}

@@ -7,7 +7,7 @@ use mathlib.Core.Option.{none, some, some-injective, some-ne-none}
 use lib.ListN.{get_elem?}
 use Rattle.atomic_table.specs.Table.{State, opening}
 use Rattle.atomic_table.proofs.Lists.{at_set, at_snoc, at_longer, set_again, set_else, set_here}
-use Rattle.fourslot_core.specs.declared.state.ReaderStage.TheVariants as reader
+use Rattle.four_slot_core.specs.declared.state.ReaderStage.TheVariants as reader
 use Rattle.std.specs.declared.snapshot.Snapshot.{Snapshot}
 use Rattle.cell_live.specs.declared.times.Dated.{Dated}
 use Rattle.cell_four_slot.specs.declared.notes.WriterNotes.{WriterNotes}

@@ -1,6 +1,6 @@
 -- What a whole call makes of a seat, by what its three steps told.
 use Rattle.std.proofs.Common.{◌≡◌, ◌≢◌, ℕ, ◌<◌, ◌≤◌, arith, length, not, Bool, List, [], ◌∷◌, ◌++◌, set, refl, sym, ap, ◌∙◌, subst}
-use Rattle.fourslot_core.specs.Events.{bit_number, slot_number, slot_with}
+use Rattle.four_slot_core.specs.Events.{bit_number, slot_number, slot_with}
 use Rattle.cell_live.specs.Running.{held_slots, IsAnswer}
 use Rattle.cell_live.specs.declared.times.Known.{Known}
 use Rattle.cell_four_slot.specs.declared.notes.WriterNotes.{WriterNotes}

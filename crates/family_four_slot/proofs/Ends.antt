@@ -4,11 +4,11 @@ use mathlib.Core.Option.{some}
 use lib.ListN.{get_elem?}
 use Rattle.atomic_table.specs.Table.{State, Me, Step, Allows, keeps, Final, Seen}
 use Rattle.atomic_table.proofs.Lists.{at_map, at_longer}
-use Rattle.fourslot_core.specs.declared.state.Stage.{Stage}
-use Rattle.fourslot_core.specs.declared.state.Stage.TheVariants as writer
-use Rattle.fourslot_core.specs.declared.state.ReaderStage.{ReaderStage}
-use Rattle.fourslot_core.specs.declared.state.ReaderStage.TheVariants as reader
-use Rattle.fourslot_core.specs.Invariant.{latest_slot}
+use Rattle.four_slot_core.specs.declared.state.Stage.{Stage}
+use Rattle.four_slot_core.specs.declared.state.Stage.TheVariants as writer
+use Rattle.four_slot_core.specs.declared.state.ReaderStage.{ReaderStage}
+use Rattle.four_slot_core.specs.declared.state.ReaderStage.TheVariants as reader
+use Rattle.four_slot_core.specs.Invariant.{latest_slot}
 use Rattle.cell_four_slot.specs.declared.notes.WriterNotes.{WriterNotes}
 use Rattle.cell_four_slot.specs.declared.notes.ReaderNotes.{ReaderNotes}
 use Rattle.cell_live.specs.declared.sight.Sight.TheVariants.{Spent, Writer, Reader}

@@ -3,10 +3,10 @@ use Rattle.std.proofs.Common.{◌≡◌, ℕ, ◌+◌, ◌<◌, ◌≤◌, List,
 use mathlib.Core.Option.{none}
 use Rattle.std.specs.Prelude.{Option, None, Some}
 use Rattle.atomic_table.specs.Table.{State, Me, step, Allows}
-use Rattle.fourslot_core.specs.declared.state.Slot.{Slot}
-use Rattle.fourslot_core.specs.declared.state.Stage.TheVariants as writer
-use Rattle.fourslot_core.specs.declared.state.ReaderStage.TheVariants as reader
-use Rattle.fourslot_core.specs.Events.{bit_number, slot_number}
+use Rattle.four_slot_core.specs.declared.state.Slot.{Slot}
+use Rattle.four_slot_core.specs.declared.state.Stage.TheVariants as writer
+use Rattle.four_slot_core.specs.declared.state.ReaderStage.TheVariants as reader
+use Rattle.four_slot_core.specs.Events.{bit_number, slot_number}
 use Rattle.cell_live.specs.Running.{last_or, held_slots}
 use Rattle.cell_four_slot.specs.declared.notes.WriterNotes.{WriterNotes}
 use Rattle.cell_four_slot.specs.declared.notes.ReaderNotes.{ReaderNotes}

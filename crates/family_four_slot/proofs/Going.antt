@@ -1,7 +1,7 @@
 -- What the steps of a call need, of a seat that is one of the family's: each step leaves the notes with which the next one goes on.
 use Rattle.std.proofs.Common.{◌≡◌, ◌≢◌, ℕ, zero, suc, ◌+◌, ◌*◌, ◌<◌, Bool, List, [], ◌∷◌, length, get_or, set, refl, sym, ap, ◌∙◌, subst, arith}
 use Rattle.atomic_table.specs.Table.{Me}
-use Rattle.fourslot_core.specs.Events.{bit_number}
+use Rattle.four_slot_core.specs.Events.{bit_number}
 use Rattle.cell_live.specs.Running.{held_slots}
 use Rattle.cell_four_slot.proofs.Slots.{bit_low}
 use Rattle.cell_four_slot.specs.declared.notes.WriterNotes.{WriterNotes}

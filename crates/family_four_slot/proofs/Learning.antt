@@ -1,7 +1,7 @@
 -- A process learns a receipt: it knows of a later time, and was told one record more by the sender. All else stays.
 use Rattle.std.proofs.Common.{◌≡◌, ◌≢◌, ℕ, zero, suc, ◌+◌, ◌*◌, ◌<◌, ◌≤◌, cond, List, [], ◌∷◌, ◌++◌, length, get_or, refl, sym, ap, ◌∙◌, subst, arith, ⊎_elim, mul-le-mul_right}
 use Rattle.std.proofs.lemmas.Bool.{cases_eq, cases_lt}
-use Rattle.fourslot_core.specs.declared.state.ReaderStage.TheVariants as reader
+use Rattle.four_slot_core.specs.declared.state.ReaderStage.TheVariants as reader
 use Rattle.cell_live.specs.Running.{snap}
 use Rattle.cell_live.specs.Sights.{writer_or, reader_or}
 use Rattle.cell_live.specs.declared.times.Dated.{Dated}

@@ -7,9 +7,9 @@ use mathlib.Core.Option.{none, some}
 use Rattle.std.proofs.lemmas.Bool.{cases_eq}
 use Rattle.atomic_table.specs.Table.{State, Me, Act, chain, step, stepped, Valid, Allows, carried_after, homes_after}
 use Rattle.atomic_table.proofs.Lists.{at_map, at_longer, set_here}
-use Rattle.fourslot_core.specs.declared.state.Stage.TheVariants as writer
-use Rattle.fourslot_core.specs.declared.state.ReaderStage.TheVariants as reader
-use Rattle.fourslot_core.specs.Events.{bit_number, slot_number}
+use Rattle.four_slot_core.specs.declared.state.Stage.TheVariants as writer
+use Rattle.four_slot_core.specs.declared.state.ReaderStage.TheVariants as reader
+use Rattle.four_slot_core.specs.Events.{bit_number, slot_number}
 use Rattle.cell_live.specs.Running.{held_slots}
 use Rattle.cell_live.specs.declared.sight.Sight.TheVariants.{Spent, Writer, Reader}
 use Rattle.cell_four_slot.specs.declared.notes.WriterNotes.{WriterNotes}

@@ -1,8 +1,8 @@
 -- A family of four-slot cells (this project's own).
 use Rattle.std.specs.Prelude.{◌≡◌, ℕ, zero, suc, ◌+◌, ◌-◌, ◌*◌, ◌≤◌, nat_eq, cond, List, [], ◌∷◌}
 use Rattle.atomic_table.specs.Table.{State, Me}
-use Rattle.fourslot_core.specs.declared.state.Stage.TheVariants as writer
-use Rattle.fourslot_core.specs.declared.state.ReaderStage.TheVariants as reader
+use Rattle.four_slot_core.specs.declared.state.Stage.TheVariants as writer
+use Rattle.four_slot_core.specs.declared.state.ReaderStage.TheVariants as reader
 use Rattle.cell_live.specs.declared.sight.Sight.TheVariants.{Spent, Told, Writer, Reader, Both}
 use Rattle.cell_four_slot.specs.Rule.{FourSlotRule}
 use Rattle.cell_four_slot.specs.Steps.{FourSlotSight, first_writer, first_reader, clock_of}

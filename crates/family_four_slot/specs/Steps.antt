@@ -3,7 +3,7 @@
 -- second one's store is left out and would come next (this project's own).
 use Rattle.std.specs.Prelude.{◌≡◌, ◌≢◌, ℕ, ◌<◌, Bool, List, [], ◌∷◌, ◌++◌}
 use Rattle.atomic_table.specs.Table.{Me, Step}
-use Rattle.fourslot_core.specs.Events.{slot_with, bit_number, slot_number}
+use Rattle.four_slot_core.specs.Events.{slot_with, bit_number, slot_number}
 use Rattle.cell_live.specs.Running.{IsAnswer, held_slots}
 use Rattle.cell_live.specs.declared.times.Known.{Known}
 use Rattle.cell_four_slot.specs.declared.notes.WriterNotes.{WriterNotes}

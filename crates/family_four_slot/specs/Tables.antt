@@ -3,8 +3,8 @@ use Rattle.std.specs.Prelude.{◌≡◌, ℕ, ◌<◌, List, [], ◌∷◌, leng
 use mathlib.Core.Option.{some}
 use lib.ListN.{get_elem?}
 use Rattle.history_core.specs.Schedules.{positions}
-use Rattle.fourslot_core.specs.declared.state.Stage.TheVariants as writer
-use Rattle.fourslot_core.specs.declared.state.ReaderStage.TheVariants as reader
+use Rattle.four_slot_core.specs.declared.state.Stage.TheVariants as writer
+use Rattle.four_slot_core.specs.declared.state.ReaderStage.TheVariants as reader
 use Rattle.cell_live.specs.Intervals.{AreAtomic, AreFirst, HaveEnded}
 use Rattle.family_four_slot.specs.Places.{four_slots}
 use Rattle.atomic_table.specs.Table.{Me, Step}

@@ -1,8 +1,8 @@
 -- What contracts see of a family of four-slot cells (this project's own).
 use Rattle.std.specs.Prelude.{◌≡◌, ◌≢◌, ℕ, ◌*◌, ◌<◌, ◌≤◌, nat_eq, cond, List, [], ◌∷◌, ◌++◌, length, slice_index_or, slice_index}
-use Rattle.fourslot_core.specs.declared.state.Stage.TheVariants as writer
-use Rattle.fourslot_core.specs.declared.state.ReaderStage.TheVariants as reader
-use Rattle.fourslot_core.specs.Events.{bit_number}
+use Rattle.four_slot_core.specs.declared.state.Stage.TheVariants as writer
+use Rattle.four_slot_core.specs.declared.state.ReaderStage.TheVariants as reader
+use Rattle.four_slot_core.specs.Events.{bit_number}
 use Rattle.cell_live.specs.Running.{last_or, held_slots}
 use Rattle.cell_live.specs.Sights.{writer_or, reader_or}
 use Rattle.cell_four_slot.specs.declared.notes.WriterNotes.{WriterNotes}

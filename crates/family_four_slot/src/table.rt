@@ -4,9 +4,9 @@ ghost use Rattle.std.specs.Prelude.{◌≡◌, ◌≢◌, ℕ, ◌+◌, ◌*◌,
 ghost use mathlib.Core.Option.{none};
 ghost use Rattle.std.specs.declared.snapshot.Snapshot.{Snapshot};
 ghost use Rattle.atomic_table.specs.Table.{step};
-ghost use Rattle.fourslot_core.specs.declared.state.Stage.TheVariants.{W3, W4, W5};
-ghost use Rattle.fourslot_core.specs.declared.state.ReaderStage.TheVariants.{R1, R2, R5};
-ghost use Rattle.fourslot_core.specs.Events.{bit_number, slot_number};
+ghost use Rattle.four_slot_core.specs.declared.state.Stage.TheVariants.{W3, W4, W5};
+ghost use Rattle.four_slot_core.specs.declared.state.ReaderStage.TheVariants.{R1, R2, R5};
+ghost use Rattle.four_slot_core.specs.Events.{bit_number, slot_number};
 ghost use Rattle.cell_live.specs.Running.{last_or, held_slots};
 ghost use Rattle.cell_four_slot.specs.declared.notes.WriterNotes.{WriterNotes};
 ghost use Rattle.cell_four_slot.specs.declared.notes.ReaderNotes.{ReaderNotes};

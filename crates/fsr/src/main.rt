@@ -1,14 +1,14 @@
 //! `fsr`: checks an order of a history, finds one of a log, plays a schedule, or runs a race, that comes as a document on standard input.
 #![tactic(auto)]
 
-use atomic_board::Posted;
-use document_runs::FSR;
+use board_live::Posted;
 use family_four_slot::FourSlotFamily;
 use fsr_answers::run;
+use fsr_runs::FSR;
+use fsr_streams::Over;
 use fsr_words::words_of;
 use history_core::Band;
 use std::process::ExitCode;
-use streams::Over;
 
 fn main(rt: HostRuntime) -> ExitCode {
     let mut faults = Over::new(rt.stderr());

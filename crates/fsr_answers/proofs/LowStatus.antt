@@ -1,17 +1,17 @@
 -- An answer of `fsr` has status 0 or 1.
 use Rattle.std.proofs.Common.{ℕ, List, Result}
-use Rattle.document_runs.specs.Answers.{Gives, HasLowStatus}
-use Rattle.document_runs.specs.declared.fault.Answer.{Answer}
-use Rattle.document_runs.specs.declared.fault.Fault.{Fault}
+use Rattle.fsr_runs.specs.Answers.{Gives, HasLowStatus}
+use Rattle.fsr_runs.specs.declared.fault.Answer.{Answer}
+use Rattle.fsr_runs.specs.declared.fault.Fault.{Fault}
 use Rattle.fsr_words.specs.declared.command.Want.{Want}
 use Rattle.fsr_words.specs.declared.command.Want.TheVariants as want
 use Rattle.history_core.specs.declared.band.Band.{Band}
 use Rattle.family_live.specs.declared.family.Family.{Ghosts as FamilyWords}
-use Rattle.atomic_board.specs.declared.record.Posted.{Posted}
-use Rattle.check_answers.proofs.AnswerLemmas.{low_check}
-use Rattle.order_answers.proofs.AnswerLemmas.{low_order}
-use Rattle.play_answers.proofs.AnswerLemmas.{low_play}
-use Rattle.race_answers.proofs.AnswerLemmas.{low_race}
+use Rattle.board_live.specs.declared.record.Posted.{Posted}
+use Rattle.fsr_check_answers.proofs.AnswerLemmas.{low_check}
+use Rattle.fsr_order_answers.proofs.AnswerLemmas.{low_order}
+use Rattle.fsr_play_answers.proofs.AnswerLemmas.{low_play}
+use Rattle.fsr_race_answers.proofs.AnswerLemmas.{low_race}
 use Rattle.fsr_answers.specs.Answers.{IsAnswer}
 
 module _ {F S T : Type 0} (family : FamilyWords F (Posted Band) S T) where

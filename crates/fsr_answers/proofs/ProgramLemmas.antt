@@ -1,14 +1,14 @@
 -- The end of a run by its words: that of their command, or where they name none.
 use Rattle.std.proofs.Common.{◌≡◌, ⊎_elim, ℕ, List, Option, None, Some, refl, subst, sym}
-use Rattle.document_runs.specs.Run.{Runs}
-use Rattle.document_runs.proofs.RunLemmas.{ends_at_once, ends_unasked}
+use Rattle.fsr_runs.specs.Run.{Runs}
+use Rattle.fsr_runs.proofs.RunLemmas.{ends_at_once, ends_unasked}
 use Rattle.fsr_words.specs.Command.{Refuses, TellsRefusal}
 use Rattle.fsr_words.specs.declared.command.NoCommand.{NoCommand}
 use Rattle.fsr_words.specs.declared.command.Want.{Want}
 use Rattle.fsr_words.proofs.CommandLemmas.{ends_refused}
 use Rattle.history_core.specs.declared.band.Band.{Band}
 use Rattle.family_live.specs.declared.family.Family.{Ghosts as FamilyWords}
-use Rattle.atomic_board.specs.declared.record.Posted.{Posted}
+use Rattle.board_live.specs.declared.record.Posted.{Posted}
 use Rattle.fsr_answers.specs.Run.{is_unbounded, IsOutcome}
 
 module _ {F S T : Type 0} (family : FamilyWords F (Posted Band) S T) where

@@ -1,13 +1,13 @@
 -- What comes of the words and the input of `fsr` (this project's own).
 use Rattle.std.specs.Prelude.{◌≡◌, ℕ, List, Bool, Option, Some, None}
-use Rattle.document_runs.specs.Run.{IsToldBy, never, nothing_asked}
-use Rattle.document_runs.specs.declared.fault.Answer.{Answer}
+use Rattle.fsr_runs.specs.Run.{IsToldBy, never, nothing_asked}
+use Rattle.fsr_runs.specs.declared.fault.Answer.{Answer}
 use Rattle.fsr_words.specs.declared.command.Want.{Want}
 use Rattle.fsr_words.specs.declared.command.Want.TheVariants as want
 use Rattle.lines_answers.specs.Kinds.{are_lines}
 use Rattle.history_core.specs.declared.band.Band.{Band}
 use Rattle.family_live.specs.declared.family.Family.{Ghosts as FamilyWords}
-use Rattle.atomic_board.specs.declared.record.Posted.{Posted}
+use Rattle.board_live.specs.declared.record.Posted.{Posted}
 use Rattle.fsr_answers.specs.Answers.{IsAnswer}
 
 -- what the command makes of the input: words that are no command print nothing, with status 2

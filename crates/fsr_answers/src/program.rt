@@ -1,24 +1,24 @@
 ghost use Rattle.std.specs.Prelude.{◌≡◌, ◌≤◌, ◌+◌, Some, map};
-ghost use Rattle.document_runs.specs.Answers.{Gives};
-ghost use Rattle.document_runs.specs.Run.{CountsTaking, Fails, Runs, TakesDocument, TellsUnlessTaken};
+ghost use Rattle.fsr_runs.specs.Answers.{Gives};
+ghost use Rattle.fsr_runs.specs.Run.{CountsTaking, Fails, Runs, TakesDocument, TellsUnlessTaken};
 ghost use Rattle.fsr_answers.specs.Answers.{IsAnswer};
 ghost use Rattle.fsr_answers.specs.Run.{is_unbounded, IsOutcome};
 ghost use Rattle.fsr_words.specs.Command.{command_of};
-ghost use Rattle.streams.specs.Stream.{HasRoom};
+ghost use Rattle.fsr_streams.specs.Stream.{HasRoom};
 
-use atomic_board::Posted;
-use check_answers::check;
-use document_runs::{Answer, FSR, Fault, give_answer, take_document};
+use board_live::Posted;
 use family_live::{Family, SharedFamily};
+use fsr_check_answers::check;
+use fsr_order_answers::{order, take_log};
+use fsr_play_answers::play;
+use fsr_race_answers::run_race;
+use fsr_runs::{Answer, FSR, Fault, give_answer, take_document};
+use fsr_streams::{Sink, Source};
 use fsr_words::{Want, command_of, tell_refusal};
 use history_core::Band;
-use order_answers::{order, take_log};
-use play_answers::play;
-use race_answers::run_race;
 use std::alloc::Global;
 use std::convert::AsStr;
 use std::thread::Threads;
-use streams::{Sink, Source};
 
 /// The answer of a command to the bytes of a document. A race is run over a board of this family.
 pub fn answer<F: SharedFamily<Posted<Band>>, R: Threads + Sync>(

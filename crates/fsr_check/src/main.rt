@@ -1,9 +1,9 @@
 //! `fsr_check`: `fsr check` alone, a program without words, which is built without what the other commands need.
 #![tactic(auto)]
 
-use check_answers::run;
+use fsr_check_answers::run;
+use fsr_streams::Over;
 use std::process::ExitCode;
-use streams::Over;
 
 fn main(rt: HostRuntime) -> ExitCode {
     let mut input = Over::new(rt.stdin());

@@ -1,9 +1,9 @@
 //! `fsr_order`: `fsr order` alone, a program without words, which is built without what the other commands need.
 #![tactic(auto)]
 
-use order_answers::run;
+use fsr_order_answers::run;
+use fsr_streams::Over;
 use std::process::ExitCode;
-use streams::Over;
 
 fn main(rt: HostRuntime) -> ExitCode {
     let mut input = Over::new(rt.stdin());

@@ -1,10 +1,10 @@
 ghost use Rattle.std.specs.Prelude.{◌≡◌, ◌≤◌, ◌+◌};
 ghost use Rattle.fsr_words.specs.Command.{TellsRefusal};
-ghost use Rattle.streams.specs.Stream.{HasRoom};
+ghost use Rattle.fsr_streams.specs.Stream.{HasRoom};
 
 use crate::NoCommand;
+use fsr_streams::{Sink, tell};
 use std::alloc::Global;
-use streams::{Sink, tell};
 
 /// Tells what clap says of words that are no command, or the line of a run that found no memory, and gives the status that the run
 /// ends with.

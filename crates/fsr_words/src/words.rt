@@ -1,10 +1,10 @@
 ghost use Rattle.std.specs.Prelude.{◌≡◌, ◌≤◌, ◌+◌, ◌⊎◌, IfErr};
-ghost use Rattle.streams.specs.Stream.{HasRoom};
+ghost use Rattle.fsr_streams.specs.Stream.{HasRoom};
 
+use fsr_streams::{Sink, tell};
 use std::alloc::AllocGlobal;
 use std::env::{Env, args};
 use std::io::ErrorKind;
-use streams::{Sink, tell};
 
 /// The words that the program was run with, of which the first is its name. Where they aren't UTF-8, or memory runs out, it tells
 /// so and gives the status that the run ends with.

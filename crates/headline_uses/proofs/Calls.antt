@@ -8,11 +8,11 @@ use Rattle.stamps.specs.Choices.{IsAtMost}
 use Rattle.matrix_core.specs.Lines.{other}
 use Rattle.cell_live.specs.Running.{last_or}
 use Rattle.family_live.specs.declared.family.Family.{Ghosts as FamilyWords}
-use Rattle.atomic_board.specs.declared.board.Board.{Board}
-use Rattle.atomic_board.specs.declared.board.Pass.{Pass}
-use Rattle.atomic_board.specs.declared.record.Posted.{Posted}
-use Rattle.atomic_board.specs.Passes.{IsCall, IsPass}
-use Rattle.atomic_board.specs.Records.{greater, greatest}
+use Rattle.board_live.specs.declared.board.Board.{Board}
+use Rattle.board_live.specs.declared.board.Pass.{Pass}
+use Rattle.board_live.specs.declared.record.Posted.{Posted}
+use Rattle.board_live.specs.Passes.{IsCall, IsPass}
+use Rattle.board_live.specs.Records.{greater, greatest}
 use Rattle.headline_uses.specs.Boards.{SeesTheGreater, SeesWhatWasTold, ShowsItsOwn, TakesTime}
 
 last_is : {A : Type 0} (x y : A) (xs : List A) → last_or x (xs ++ y ∷ []) ≡ y

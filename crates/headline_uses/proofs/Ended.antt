@@ -14,9 +14,9 @@ use Rattle.family_live.specs.declared.family.Family.{Ghosts as FamilyWords}
 use Rattle.matrix_core.specs.Listings.{MayPrecede}
 use Rattle.board_history.specs.BoardRuns.{Called, Did}
 use Rattle.board_history.specs.Histories.{IsCall}
-use Rattle.atomic_board.specs.declared.board.Board.{Board}
-use Rattle.atomic_board.specs.declared.record.Posted.{Posted}
-use Rattle.atomic_board.specs.Ends.{IsAtomicRun}
+use Rattle.board_live.specs.declared.board.Board.{Board}
+use Rattle.board_live.specs.declared.record.Posted.{Posted}
+use Rattle.board_live.specs.Ends.{IsAtomicRun}
 use Rattle.headline_uses.specs.Boards.{EndsWithTheOnlyWrite, IsOnlyWrite, ReadsTheOnlyWrite, RefusesNone, StampsRise}
 use Rattle.headline_uses.specs.Orders.{IsOnlyWrite as IsOnlyWriteAt}
 use Rattle.headline_uses.proofs.Latest.{is_there}

@@ -6,12 +6,12 @@ use Rattle.stamps.specs.Choices.{IsAtMost}
 use Rattle.cell_live.specs.Running.{last_or}
 use Rattle.family_live.specs.declared.family.Family.{Ghosts as FamilyWords}
 use Rattle.board_history.specs.BoardRuns.{Called, Did}
-use Rattle.atomic_board.specs.declared.board.Board.{Board}
-use Rattle.atomic_board.specs.declared.board.Pass.{Pass}
-use Rattle.atomic_board.specs.declared.record.Posted.{Posted}
-use Rattle.atomic_board.specs.Ends.{IsAtomicRun}
-use Rattle.atomic_board.specs.Passes.{IsCall, IsPass}
-use Rattle.atomic_board.specs.Records.{greater}
+use Rattle.board_live.specs.declared.board.Board.{Board}
+use Rattle.board_live.specs.declared.board.Pass.{Pass}
+use Rattle.board_live.specs.declared.record.Posted.{Posted}
+use Rattle.board_live.specs.Ends.{IsAtomicRun}
+use Rattle.board_live.specs.Passes.{IsCall, IsPass}
+use Rattle.board_live.specs.Records.{greater}
 
 -- call k of process i is this one, and no other call of the n processes is a write
 pub record IsOnlyWrite {V : Type 0} (n : ℕ) (did : ℕ → Did V) (i k : ℕ) (write : Called V) : Type 0 where

@@ -4,24 +4,24 @@ use Rattle.history_core.specs.declared.history.Op.{Op}
 use Rattle.history_core.specs.declared.history.Term.{Term}
 use Rattle.history_core.specs.Orders.{IsAtomicOrder, RefusesLawfully}
 use Rattle.history_core.specs.Schedules.{access_at, Follows, HasShape, planned, Span}
-use Rattle.fourslot_core.specs.Accesses.{IsBefore, IsSameSlot}
-use Rattle.fourslot_core.specs.Play.{cell_span, item_of}
-use Rattle.fourslot_core.specs.Traces.{source_record}
-use Rattle.fourslot_core.specs.declared.schedule.CellReport.{CellReport}
-use Rattle.fourslot_core.specs.declared.schedule.CellSchedule.{CellSchedule}
-use Rattle.fourslot_play.specs.CellReports.{IsCellReport, reader_in, writer_in}
+use Rattle.four_slot_core.specs.Accesses.{IsBefore, IsSameSlot}
+use Rattle.four_slot_core.specs.Play.{cell_span, item_of}
+use Rattle.four_slot_core.specs.Traces.{source_record}
+use Rattle.four_slot_core.specs.declared.schedule.CellReport.{CellReport}
+use Rattle.four_slot_core.specs.declared.schedule.CellSchedule.{CellSchedule}
+use Rattle.four_slot_play.specs.CellReports.{IsCellReport, reader_in, writer_in}
 use Rattle.matrix_core.specs.declared.schedule.BoardReport.{BoardReport}
 use Rattle.matrix_core.specs.declared.schedule.BoardSchedule.{BoardSchedule}
 use Rattle.matrix_core.specs.declared.schedule.MatrixReport.{MatrixReport}
 use Rattle.matrix_core.specs.declared.schedule.MatrixSchedule.{MatrixSchedule}
 use Rattle.matrix_core.specs.declared.schedule.MatrixTerm.{MatrixTerm}
 use Rattle.matrix_core.specs.Runs.{board_span, span_of}
-use Rattle.board_play.specs.BoardReports.{IsBoardReport}
+use Rattle.matrix_board_play.specs.BoardReports.{IsBoardReport}
 use Rattle.matrix_play.specs.MatrixReports.{IsMatrixReport}
-use Rattle.order_search.specs.Searches.{IsAnswered}
-use Rattle.order_search.specs.declared.reason.Search.TheVariants.{Order, Unlawful}
-use Rattle.order_search.specs.declared.reason.Reason.{Reason}
-use Rattle.order_search.specs.Reasons.{IsReason, rule_of}
+use Rattle.history_search.specs.Searches.{IsAnswered}
+use Rattle.history_search.specs.declared.reason.Search.TheVariants.{Order, Unlawful}
+use Rattle.history_search.specs.declared.reason.Reason.{Reason}
+use Rattle.history_search.specs.Reasons.{IsReason, rule_of}
 
 module _ (R : Type 0) where
   -- the operations of one term that begins with the schedule: each that begins is there, with its interval and what it was to do, nothing

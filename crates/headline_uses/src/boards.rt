@@ -3,7 +3,7 @@ ghost use Rattle.headline_uses.specs.Boards.{EndsWithTheOnlyWrite, ReadsTheOnlyW
 ghost use Rattle.headline_uses.specs.Boards.{ShowsItsOwn, StampsRise, TakesTime};
 ghost use Rattle.history_core.specs.declared.history.Kind.{Kind};
 
-use atomic_board::{Board, Pass, Posted, RecordLaw};
+use board_live::{Board, Pass, Posted, RecordLaw};
 use family_live::Family;
 
 /// Of the calls of a board that has ended, whichever processes made them: a read that began after the only write had ended has its

@@ -6,9 +6,9 @@ use Rattle.history_core.specs.Band.{fits}
 use Rattle.history_core.specs.declared.band.Band.{Band}
 use Rattle.history_core.specs.declared.history.Op.{Op}
 use Rattle.history_text.specs.declared.document.CheckDocument.{CheckDocument}
-use Rattle.document_refusals.specs.declared.refusal.DocError.{DocError}
-use Rattle.document_refusals.specs.declared.refusal.DocError.TheVariants.{Range, Law, Kind as OfKind}
-use Rattle.document_refusals.specs.declared.key.Key.TheVariants.{Opening, Limit, Ops, Order}
+use Rattle.fsr_refusals.specs.declared.refusal.DocError.{DocError}
+use Rattle.fsr_refusals.specs.declared.refusal.DocError.TheVariants.{Range, Law, Kind as OfKind}
+use Rattle.fsr_refusals.specs.declared.key.Key.TheVariants.{Opening, Limit, Ops, Order}
 use Rattle.history_text.specs.Document.{is_kind, value_of}
 use Rattle.history_text.specs.Histories.{is_lawful, one_term, ops_in_range}
 use Rattle.history_text.specs.Ranges.{count_in_range, limit_in_range}

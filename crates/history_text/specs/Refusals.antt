@@ -3,10 +3,10 @@ use Rattle.std.specs.Prelude.{◌≡◌, ◌≢◌, List, Bool, true, false, is_
 use Rattle.std.specs.List.{find}
 use Rattle.serde_json.specs.Data.{Data}
 use Rattle.serde_json.specs.Find.{get}
-use Rattle.document_refusals.specs.declared.refusal.DocError.{DocError}
-use Rattle.document_refusals.specs.declared.refusal.DocError.TheVariants.{Missing, NoMemory, Shape}
-use Rattle.document_refusals.specs.declared.key.Key.{Key}
-use Rattle.document_refusals.specs.Keys.{name_of}
+use Rattle.fsr_refusals.specs.declared.refusal.DocError.{DocError}
+use Rattle.fsr_refusals.specs.declared.refusal.DocError.TheVariants.{Missing, NoMemory, Shape}
+use Rattle.fsr_refusals.specs.declared.key.Key.{Key}
+use Rattle.fsr_refusals.specs.Keys.{name_of}
 
 -- the next step on the value of this one, or the first refusal
 infixl 10 ◌>>=◌

@@ -14,8 +14,8 @@ mod wishes;
 
 pub use check::{check_document, read_check, read_check_leaking};
 pub use document::CheckDocument;
-pub use document_refusals::{DocError, Key};
 pub use fields::{field, list_field, must, required, shaped};
+pub use fsr_refusals::{DocError, Key};
 pub use history::{are_lawful, one_term, ops_in_range};
 pub use operation::{kind_of, optional_number};
 pub use ranges::{MAX_OPERATIONS, count_in_range, limit_in_range};

@@ -4,9 +4,9 @@ use Rattle.history_core.specs.declared.history.Op.{Op}
 use Rattle.history_core.specs.declared.history.Verdict.TheVariants.{Lawful as LawfulOrder}
 use Rattle.history_core.specs.Numbers.{StandsAt}
 use Rattle.history_core.specs.Orders.{is_write, IsVerdict, writes_in}
-use Rattle.order_search.specs.Reasons.{OfOneRecord}
-use Rattle.order_search.specs.Searches.{IsFault, IsUnlawful}
-use Rattle.order_search.specs.declared.reason.SearchError.{SearchError}
+use Rattle.history_search.specs.Reasons.{OfOneRecord}
+use Rattle.history_search.specs.Searches.{IsFault, IsUnlawful}
+use Rattle.history_search.specs.declared.reason.SearchError.{SearchError}
 use Rattle.history_thinning.specs.declared.thinned.LogAnswer.{LogAnswer}
 use Rattle.history_thinning.specs.declared.thinned.LogAnswer.TheVariants.{Lawful, Unlawful}
 use Rattle.history_thinning.specs.Thinnings.{Equal, one_term}

@@ -3,14 +3,14 @@
 ghost use Rattle.std.specs.Prelude.{◌≡◌, ℕ, List, length, IfOk, MatchResult, slice_get};
 ghost use Rattle.history_core.specs.Orders.{is_write_at};
 ghost use Rattle.history_core.specs.declared.history.Op.{Op};
-ghost use Rattle.order_search.specs.declared.reason.SearchError.TheVariants.{NoMemory};
+ghost use Rattle.history_search.specs.declared.reason.SearchError.TheVariants.{NoMemory};
 ghost use Rattle.history_thinning.specs.Answers.{IsLogAnswer};
 ghost use Rattle.history_thinning.specs.Thinnings.{IsThinnedLog};
 ghost use Rattle.history_thinning.specs.inner.Mapped.{AreWrites, place_in, reason_in};
 
 use crate::thinned::{LogAnswer, Thinned};
 use history_core::{Items, Kind, Op};
-use order_search::{Reason, Search, SearchError, find_order};
+use history_search::{Reason, Search, SearchError, find_order};
 use std::alloc::{AllocError, Global};
 
 /// What a search of the whole log would answer, from few of its operations. It takes n log n steps for n operations that were kept.

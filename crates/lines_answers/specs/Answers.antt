@@ -1,14 +1,14 @@
 -- The answer to a log in lines: whether it has a lawful order, or the fault (this project's own).
 use Rattle.std.specs.Prelude.{◌≡◌, ℕ, ◌⊎◌, List, nat_eq, IsTrue, Result, Ok, Err}
-use Rattle.document_runs.specs.declared.fault.Answer.{Answer}
-use Rattle.document_runs.specs.declared.fault.Fault.{Fault}
-use Rattle.document_runs.specs.declared.fault.Fault.TheVariants as fault
-use Rattle.document_runs.specs.declared.fault.LinesFault.TheVariants as lines
-use Rattle.order_search.specs.Searches.{IsAnswered, IsFault}
-use Rattle.order_search.specs.declared.reason.Search.{Search}
-use Rattle.order_search.specs.declared.reason.Search.TheVariants.{Order, Unlawful}
-use Rattle.order_search.specs.declared.reason.SearchError.{SearchError}
-use Rattle.order_search.specs.declared.reason.SearchError.TheVariants.{NoMemory, Terms, Backwards, WritesOpening, WritesTwice}
+use Rattle.fsr_runs.specs.declared.fault.Answer.{Answer}
+use Rattle.fsr_runs.specs.declared.fault.Fault.{Fault}
+use Rattle.fsr_runs.specs.declared.fault.Fault.TheVariants as fault
+use Rattle.fsr_runs.specs.declared.fault.LinesFault.TheVariants as lines
+use Rattle.history_search.specs.Searches.{IsAnswered, IsFault}
+use Rattle.history_search.specs.declared.reason.Search.{Search}
+use Rattle.history_search.specs.declared.reason.Search.TheVariants.{Order, Unlawful}
+use Rattle.history_search.specs.declared.reason.SearchError.{SearchError}
+use Rattle.history_search.specs.declared.reason.SearchError.TheVariants.{NoMemory, Terms, Backwards, WritesOpening, WritesTwice}
 use Rattle.lines_log.specs.Faults.{IsLinesFault, line_at}
 use Rattle.lines_log.specs.Logs.{IsLinesLog}
 use Rattle.lines_log.specs.declared.lines_log.LinesLog.{LinesLog}

@@ -1,7 +1,7 @@
 -- Which documents are logs in lines (this project's own).
 use Rattle.std.specs.Prelude.{ℕ, List, [], ◌∷◌, length, codes, Bool, false, nat_le, ◌&&◌, Result, Ok, Err}
 use Rattle.serde_json.specs.Data.{Data}
-use Rattle.document_refusals.specs.declared.refusal.DocError.{DocError}
+use Rattle.fsr_refusals.specs.declared.refusal.DocError.{DocError}
 use Rattle.history_text.specs.Document.{is_kind, value_of}
 use Rattle.lines_tables.specs.Splits.{lines_of}
 

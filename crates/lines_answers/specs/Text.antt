@@ -4,10 +4,10 @@ use Rattle.std.specs.Fmt.{decimal}
 use Rattle.std.specs.List.{count_by, list_any}
 use Rattle.history_core.specs.declared.history.Op.{Op}
 use Rattle.history_core.specs.Orders.{is_write}
-use Rattle.order_search.specs.declared.reason.Reason.{Reason}
-use Rattle.order_search.specs.declared.reason.Reason.TheVariants.{Unwritten, Early, Stale, Crossed, Limit}
-use Rattle.order_search.specs.declared.reason.Search.{Search}
-use Rattle.order_search.specs.declared.reason.Search.TheVariants.{Order, Unlawful}
+use Rattle.history_search.specs.declared.reason.Reason.{Reason}
+use Rattle.history_search.specs.declared.reason.Reason.TheVariants.{Unwritten, Early, Stale, Crossed, Limit}
+use Rattle.history_search.specs.declared.reason.Search.{Search}
+use Rattle.history_search.specs.declared.reason.Search.TheVariants.{Order, Unlawful}
 use Rattle.log_search.specs.Text.{reason_text}
 use Rattle.lines_log.specs.Faults.{line_at}
 use Rattle.lines_log.specs.declared.lines_log.LinesLog.{LinesLog}

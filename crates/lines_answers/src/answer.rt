@@ -1,13 +1,13 @@
 ghost use Rattle.std.specs.Prelude.{◌≡◌, ◌≢◌, IfErr, IfOk, MatchResult};
-ghost use Rattle.document_runs.specs.Answers.{Gives, HasLowStatus};
-ghost use Rattle.document_runs.specs.declared.fault.Fault.TheVariants.{NoMemory};
+ghost use Rattle.fsr_runs.specs.Answers.{Gives, HasLowStatus};
+ghost use Rattle.fsr_runs.specs.declared.fault.Fault.TheVariants.{NoMemory};
 ghost use Rattle.lines_answers.specs.Answers.{IsLinesAnswer, IsSearchOf, printed, StandsInTheWayOf, status_of, told_of};
 
 use crate::text::{line_of, lines_text};
-use document_runs::{Answer, Fault, LinesFault};
+use fsr_runs::{Answer, Fault, LinesFault};
 use history_core::Items;
+use history_search::{Search, SearchError, find_order};
 use lines_log::{LinesLog, read_lines};
-use order_search::{Search, SearchError, find_order};
 use std::alloc::{AllocError, Global};
 
 /// The answer of the command `order` to the bytes of a log in lines.

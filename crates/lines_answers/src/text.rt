@@ -8,11 +8,11 @@ ghost use Rattle.log_search.specs.Text.{reason_text};
 
 use crate::named::is_named;
 use history_core::Op;
+use history_search::{Reason, Search};
 use itoa::Buffer;
 use lines_log::LinesLog;
 use lines_tables::split_line;
 use log_search::search_text;
-use order_search::{Reason, Search};
 use std::alloc::{AllocError, Global};
 
 /// All that is printed of what was found.

@@ -3,12 +3,12 @@ use Rattle.std.proofs.Common.{◌≡◌, ℕ, List, [], ◌∷◌, ◌++◌, len
 use Rattle.std.proofs.Common.{Bool, true, false, ◌⊎◌, inl, inr, append_assoc}
 use Rattle.std.specs.Prelude.{◌==◌, not, if◌then◌else◌}
 use Rattle.std.proofs.lemmas.List.{append-nil}
-use Rattle.document_refusals.specs.declared.refusal.DocError.{DocError}
-use Rattle.document_refusals.specs.declared.refusal.DocError.TheVariants.{Missing}
-use Rattle.document_refusals.specs.declared.key.Key.TheVariants as key
+use Rattle.fsr_refusals.specs.declared.refusal.DocError.{DocError}
+use Rattle.fsr_refusals.specs.declared.refusal.DocError.TheVariants.{Missing}
+use Rattle.fsr_refusals.specs.declared.key.Key.TheVariants as key
 use Rattle.history_core.specs.declared.history.Op.{Op}
 use Rattle.history_text.specs.Refusals.{◌>>=◌}
-use Rattle.document_runs.specs.declared.fault.Fault.{Fault}
+use Rattle.fsr_runs.specs.declared.fault.Fault.{Fault}
 use Rattle.lines_tables.specs.Splits.{in_front, IsSplit, lines_of}
 use Rattle.lines_text.specs.Lines.{done, Entry, entry_of, Head, head_of, operation}
 use Rattle.lines_log.specs.Faults.{IsBodyFault, is_last, IsLineFault}

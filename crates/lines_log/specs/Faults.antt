@@ -1,12 +1,12 @@
 -- Why lines stand for no log: the first line at fault, and why. The lines before it are all right (this project's own).
 use Rattle.std.specs.Prelude.{◌≡◌, ℕ, ◌+◌, ◌⊎◌, true, false, List, [], ◌∷◌, ◌++◌, length, Bool, is_some, Ok, Err}
 use Rattle.history_core.specs.declared.history.Op.{Op}
-use Rattle.document_refusals.specs.declared.refusal.DocError.{DocError}
-use Rattle.document_refusals.specs.declared.refusal.DocError.TheVariants.{Law, NoMemory as no_memory, NotJson}
-use Rattle.document_refusals.specs.declared.key.Key.TheVariants.{End}
-use Rattle.document_runs.specs.declared.fault.Fault.{Fault}
-use Rattle.document_runs.specs.declared.fault.Fault.TheVariants as fault
-use Rattle.document_runs.specs.declared.fault.LinesFault.TheVariants.{Refused, Backwards, Overlaps}
+use Rattle.fsr_refusals.specs.declared.refusal.DocError.{DocError}
+use Rattle.fsr_refusals.specs.declared.refusal.DocError.TheVariants.{Law, NoMemory as no_memory, NotJson}
+use Rattle.fsr_refusals.specs.declared.key.Key.TheVariants.{End}
+use Rattle.fsr_runs.specs.declared.fault.Fault.{Fault}
+use Rattle.fsr_runs.specs.declared.fault.Fault.TheVariants as fault
+use Rattle.fsr_runs.specs.declared.fault.LinesFault.TheVariants.{Refused, Backwards, Overlaps}
 use Rattle.lines_tables.specs.Splits.{lines_of}
 use Rattle.lines_tables.specs.Tasks.{Overlap, TakeTurns}
 use Rattle.lines_text.specs.Lines.{Head, head_of}

@@ -5,9 +5,9 @@ use Rattle.history_core.specs.declared.history.Kind.{Kind}
 use Rattle.history_core.specs.declared.history.Kind.TheVariants.{Write, Read, Refused}
 use Rattle.history_core.specs.declared.history.Op.{Op}
 use Rattle.history_text.specs.Histories.{one_term}
-use Rattle.document_refusals.specs.declared.refusal.DocError.{DocError}
-use Rattle.document_refusals.specs.declared.refusal.DocError.TheVariants.{Law, Missing, Shape}
-use Rattle.document_refusals.specs.declared.key.Key.TheVariants as key
+use Rattle.fsr_refusals.specs.declared.refusal.DocError.{DocError}
+use Rattle.fsr_refusals.specs.declared.refusal.DocError.TheVariants.{Law, Missing, Shape}
+use Rattle.fsr_refusals.specs.declared.key.Key.TheVariants as key
 use Rattle.history_text.specs.Refusals.{◌>>=◌}
 use Rattle.lines_log.specs.declared.lines_log.LinesLog.{LinesLog}
 use Rattle.lines_tables.specs.Numberings.{AreDistinct}

@@ -2,7 +2,7 @@
 ghost use Rattle.std.specs.Prelude.{◌≡◌, ◌<◌, ◌+◌, ◌^◌};
 ghost use Rattle.lines_log.specs.Faults.{line_at, refused_at};
 
-use document_runs::{Fault, LinesFault};
+use fsr_runs::{Fault, LinesFault};
 use history_text::{DocError, Key};
 
 /// The line of the operation at a place.

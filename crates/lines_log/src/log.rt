@@ -8,7 +8,7 @@ ghost use Rattle.lines_tables.specs.Splits.{lines_of};
 use crate::faults::refused_at;
 use crate::lines_log::LinesLog;
 use crate::reader::Reader;
-use document_runs::Fault;
+use fsr_runs::Fault;
 use history_core::{History, Items};
 use history_text::{DocError, one_term};
 use lines_tables::split_line;

@@ -7,7 +7,7 @@ ghost use Rattle.lines_text.specs.Lines.{ends_later, op_seen};
 use crate::faults::{line_at, refused_at};
 use crate::line::read_op;
 use crate::number::number_op;
-use document_runs::{Fault, LinesFault};
+use fsr_runs::{Fault, LinesFault};
 use history_core::Op;
 use lines_tables::{Numbering, TurnError, Turns};
 use lines_text::{LineOp, LogHeader};

@@ -7,9 +7,9 @@ use Rattle.serde_json.specs.Find.{as_str, get}
 use Rattle.history_core.specs.Orders.{is_write}
 use Rattle.history_core.specs.declared.history.Kind.{Kind}
 use Rattle.history_core.specs.declared.history.Op.{Op}
-use Rattle.document_refusals.specs.declared.refusal.DocError.{DocError}
-use Rattle.document_refusals.specs.declared.refusal.DocError.TheVariants.{Law, Range, Shape, Kind as OfKind}
-use Rattle.document_refusals.specs.declared.key.Key.TheVariants as key
+use Rattle.fsr_refusals.specs.declared.refusal.DocError.{DocError}
+use Rattle.fsr_refusals.specs.declared.refusal.DocError.TheVariants.{Law, Range, Shape, Kind as OfKind}
+use Rattle.fsr_refusals.specs.declared.key.Key.TheVariants as key
 use Rattle.history_text.specs.Document.{is_kind, value_of}
 use Rattle.history_text.specs.Ranges.{limit_in_range}
 use Rattle.history_text.specs.Refusals.{◌>>=◌, field, must, required, some_or}

@@ -2,7 +2,7 @@
 ghost use Rattle.std.specs.Prelude.{◌≡◌, true, string_bytes};
 ghost use Rattle.std.specs.Option.{option_map_or};
 ghost use Rattle.serde_json.specs.View.{view};
-ghost use Rattle.document_refusals.specs.declared.key.Key.TheVariants.{Opening};
+ghost use Rattle.fsr_refusals.specs.declared.key.Key.TheVariants.{Opening};
 ghost use Rattle.history_text.specs.Ranges.{limit_in_range};
 ghost use Rattle.history_text.specs.Refusals.{field, Gives};
 ghost use Rattle.lines_text.specs.Lines.{head_in, head_of, head_seen};

@@ -3,17 +3,17 @@
 use Rattle.std.proofs.Common.{rules, tests, ◌≡◌, ◌<◌, ◌≤◌, ◌&&◌, nat_le, ℕ, List, [], ◌∷◌, Option, Some, None, true, Bool, arith, IsSomeAnd, subst, sym, suc, zero}
 use Rattle.std.specs.List.{list_all}
 use Rattle.std.specs.Option.{option_map_or}
-use Rattle.document_runs.specs.declared.fault.Fault.{Fault}
+use Rattle.fsr_runs.specs.declared.fault.Fault.{Fault}
 use Rattle.history_core.proofs.Bands.{HaveSameFields, fields_are_equality}
 use Rattle.history_core.specs.declared.band.Band.{Band}
 use Rattle.history_core.specs.declared.history.History.{History}
 use Rattle.history_core.specs.declared.history.Op.{Op}
 use Rattle.history_text.specs.Histories.{has_item, is_lawful}
 use Rattle.log_text.specs.Log.{CanBeSearched}
-use Rattle.order_search.specs.Searches.{IsAnswered, IsBackwards, IsFault}
-use Rattle.order_search.specs.declared.reason.Search.{Search}
-use Rattle.order_search.specs.declared.reason.SearchError.{SearchError}
-use Rattle.order_search.specs.declared.reason.SearchError.TheVariants.{NoMemory, Terms, Backwards, WritesOpening, WritesTwice}
+use Rattle.history_search.specs.Searches.{IsAnswered, IsBackwards, IsFault}
+use Rattle.history_search.specs.declared.reason.Search.{Search}
+use Rattle.history_search.specs.declared.reason.SearchError.{SearchError}
+use Rattle.history_search.specs.declared.reason.SearchError.TheVariants.{NoMemory, Terms, Backwards, WritesOpening, WritesTwice}
 use Rattle.log_search.specs.Logs.{fault_of, IsLogFault, IsLogSearch, IsOfLog, StandsInTheWay}
 
 -- both hold where both tests do

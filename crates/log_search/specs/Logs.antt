@@ -1,15 +1,15 @@
 -- What a search for an order of a log answers (this project's own, over what the search promises of any history). Two records are the
 -- same where they are equal.
 use Rattle.std.specs.Prelude.{◌≡◌}
-use Rattle.document_runs.specs.declared.fault.Fault.{Fault}
-use Rattle.document_runs.specs.declared.fault.Fault.TheVariants as fault
-use Rattle.document_runs.specs.declared.fault.HistoryFault.TheVariants as history
+use Rattle.fsr_runs.specs.declared.fault.Fault.{Fault}
+use Rattle.fsr_runs.specs.declared.fault.Fault.TheVariants as fault
+use Rattle.fsr_runs.specs.declared.fault.HistoryFault.TheVariants as history
 use Rattle.history_core.specs.declared.band.Band.{Band}
 use Rattle.history_core.specs.declared.history.History.{History}
-use Rattle.order_search.specs.Searches.{IsAnswered, IsFault}
-use Rattle.order_search.specs.declared.reason.Search.{Search}
-use Rattle.order_search.specs.declared.reason.SearchError.{SearchError}
-use Rattle.order_search.specs.declared.reason.SearchError.TheVariants.{NoMemory, Terms, Backwards, WritesOpening, WritesTwice}
+use Rattle.history_search.specs.Searches.{IsAnswered, IsFault}
+use Rattle.history_search.specs.declared.reason.Search.{Search}
+use Rattle.history_search.specs.declared.reason.SearchError.{SearchError}
+use Rattle.history_search.specs.declared.reason.SearchError.TheVariants.{NoMemory, Terms, Backwards, WritesOpening, WritesTwice}
 
 -- a lawful order of the log, or that there is none, with a reason
 abbrev pub IsLogSearch : History Band → Search → Type 0

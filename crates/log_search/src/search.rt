@@ -2,9 +2,9 @@ ghost use Rattle.std.specs.Prelude.{◌≡◌, MatchResult};
 ghost use Rattle.log_search.specs.Logs.{fault_of, IsLogFault, IsLogSearch, IsOfLog};
 ghost use Rattle.log_text.specs.Log.{CanBeSearched};
 
-use document_runs::{Fault, HistoryFault};
+use fsr_runs::{Fault, HistoryFault};
 use history_core::{Band, History};
-use order_search::{Search, SearchError, find_order};
+use history_search::{Search, SearchError, find_order};
 use std::alloc::Global;
 
 /// A lawful order of a log, or a reason why there is none. Where a record is written twice, or the opening is, no order is looked for.

@@ -2,8 +2,8 @@ ghost use Rattle.std.specs.Prelude.{◌≡◌, ◌++◌, codes, IfOk, OnOk};
 ghost use Rattle.std.specs.Fmt.{decimal};
 ghost use Rattle.log_search.specs.Text.{line_of, places_text, reason_text, search_text};
 
+use history_search::{Reason, Search};
 use itoa::Buffer;
-use order_search::{Reason, Search};
 use std::alloc::{AllocError, Global};
 
 /// The lines that tell what was found: that there is a lawful order, and the order; or the reason why there is none.

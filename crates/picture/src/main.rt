@@ -1,10 +1,10 @@
 //! `picture`: draws a history with an order of it, or the report of a schedule, that comes as a document on standard input.
 #![tactic(auto)]
 
+use fsr_streams::{Over, tell};
 use picture_answers::{PICTURE, run};
 use std::io::ErrorKind;
 use std::process::ExitCode;
-use streams::{Over, tell};
 
 fn main(rt: HostRuntime) -> ExitCode {
     let alloc = rt.alloc();

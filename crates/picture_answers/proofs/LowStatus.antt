@@ -1,9 +1,9 @@
 -- The answer with a picture has status 0 or 1.
 use Rattle.std.proofs.Common.{rules, ◌≡◌, ◌≤◌, List, ℕ, Result, Ok, Err, ap, arith}
-use Rattle.document_runs.specs.Answers.{AnswersReading, Gives, HasLowStatus}
-use Rattle.document_runs.specs.declared.fault.Answer.{Answer}
-use Rattle.document_runs.specs.declared.fault.Fault.{Fault}
-use Rattle.document_refusals.specs.declared.refusal.DocError.{DocError}
+use Rattle.fsr_runs.specs.Answers.{AnswersReading, Gives, HasLowStatus}
+use Rattle.fsr_runs.specs.declared.fault.Answer.{Answer}
+use Rattle.fsr_runs.specs.declared.fault.Fault.{Fault}
+use Rattle.fsr_refusals.specs.declared.refusal.DocError.{DocError}
 use Rattle.picture_text.specs.declared.scene.Finding.{Finding}
 use Rattle.picture_text.specs.declared.scene.Finding.TheVariants.{Lawful, Broken, NoOrder}
 use Rattle.picture_text.specs.declared.scene.Scene.{Scene}

@@ -1,13 +1,13 @@
 -- The answer to a document: its picture with its status, or the fault (this project's own).
 use Rattle.std.specs.Prelude.{◌≡◌, ℕ, List, [], ◌∷◌, Option, None, Some, Result, Ok, Err}
-use Rattle.document_runs.specs.Answers.{AnswersReading}
-use Rattle.document_runs.specs.declared.fault.Answer.{Answer}
-use Rattle.document_runs.specs.declared.fault.Fault.{Fault}
-use Rattle.document_runs.specs.declared.fault.Fault.TheVariants as fault
-use Rattle.fourslot_play.specs.CellReports.{IsCellReport}
-use Rattle.fourslot_core.specs.Play.{cell_span}
-use Rattle.fourslot_core.specs.declared.schedule.CellReport.{CellReport}
-use Rattle.fourslot_core.specs.declared.schedule.CellSchedule.{CellSchedule}
+use Rattle.fsr_runs.specs.Answers.{AnswersReading}
+use Rattle.fsr_runs.specs.declared.fault.Answer.{Answer}
+use Rattle.fsr_runs.specs.declared.fault.Fault.{Fault}
+use Rattle.fsr_runs.specs.declared.fault.Fault.TheVariants as fault
+use Rattle.four_slot_play.specs.CellReports.{IsCellReport}
+use Rattle.four_slot_core.specs.Play.{cell_span}
+use Rattle.four_slot_core.specs.declared.schedule.CellReport.{CellReport}
+use Rattle.four_slot_core.specs.declared.schedule.CellSchedule.{CellSchedule}
 use Rattle.history_core.specs.Schedules.{HasOperations, IsFirstOverrun}
 use Rattle.history_core.specs.declared.band.Band.{Band}
 use Rattle.history_core.specs.declared.history.History.{History}
@@ -15,9 +15,9 @@ use Rattle.history_text.specs.Check.{check_document}
 use Rattle.history_text.specs.Document.{value_of}
 use Rattle.history_text.specs.Refusals.{◌>>=◌}
 use Rattle.history_text.specs.declared.document.CheckDocument.{CheckDocument}
-use Rattle.document_refusals.specs.declared.refusal.DocError.{DocError}
-use Rattle.document_refusals.specs.declared.refusal.DocError.TheVariants as doc
-use Rattle.board_play.specs.BoardReports.{IsBoardReport}
+use Rattle.fsr_refusals.specs.declared.refusal.DocError.{DocError}
+use Rattle.fsr_refusals.specs.declared.refusal.DocError.TheVariants as doc
+use Rattle.matrix_board_play.specs.BoardReports.{IsBoardReport}
 use Rattle.matrix_core.specs.Runs.{board_spans}
 use Rattle.matrix_play.specs.MatrixReports.{IsMatrixReport}
 use Rattle.matrix_core.specs.Runs.{spans_of}
@@ -27,7 +27,7 @@ use Rattle.matrix_core.specs.declared.schedule.MatrixReport.{MatrixReport}
 use Rattle.matrix_core.specs.declared.schedule.MatrixSchedule.{MatrixSchedule}
 use Rattle.log_search.specs.Logs.{IsLogFault, IsLogSearch}
 use Rattle.log_text.specs.Log.{CanBeSearched, log_document}
-use Rattle.order_search.specs.declared.reason.Search.{Search}
+use Rattle.history_search.specs.declared.reason.Search.{Search}
 use Rattle.picture_text.specs.Picture.{picture_of}
 use Rattle.picture_text.specs.declared.scene.Finding.{Finding}
 use Rattle.picture_text.specs.declared.scene.Finding.TheVariants.{Lawful, Broken, NoOrder}

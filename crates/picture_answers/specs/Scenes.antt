@@ -1,15 +1,15 @@
 -- What the picture of a document shows (this project's own): its history and order, or those that its player made of it, or of a log the
 -- order that was found; with its points and with what breaks it, or why there is none.
 use Rattle.std.specs.Prelude.{◌≡◌, ◌==◌, ◌&&◌, ◌⊎◌, IsTrue, List, ℕ, [], IfSome, Option, None, Some}
-use Rattle.fourslot_core.specs.declared.schedule.CellReport.{CellReport}
-use Rattle.fourslot_core.specs.declared.schedule.CellSchedule.{CellSchedule}
-use Rattle.order_search.specs.declared.reason.Search.{Search}
-use Rattle.order_search.specs.declared.reason.Search.TheVariants.{Order, Unlawful}
-use Rattle.order_witnesses.specs.Breaks.{IsFirstBreak, verdict_of}
+use Rattle.four_slot_core.specs.declared.schedule.CellReport.{CellReport}
+use Rattle.four_slot_core.specs.declared.schedule.CellSchedule.{CellSchedule}
+use Rattle.history_search.specs.declared.reason.Search.{Search}
+use Rattle.history_search.specs.declared.reason.Search.TheVariants.{Order, Unlawful}
+use Rattle.history_witnesses.specs.Breaks.{IsFirstBreak, verdict_of}
 use Rattle.history_core.specs.Orders.{IsVerdict}
-use Rattle.order_witnesses.specs.Points.{AreEarliest, HasPoints}
+use Rattle.history_witnesses.specs.Points.{AreEarliest, HasPoints}
 use Rattle.history_core.specs.declared.band.Band.{Band}
-use Rattle.order_witnesses.specs.declared.breaks.Break.{Break}
+use Rattle.history_witnesses.specs.declared.breaks.Break.{Break}
 use Rattle.history_core.specs.declared.history.History.{History}
 use Rattle.history_core.specs.declared.history.Op.{Op}
 use Rattle.matrix_core.specs.declared.schedule.MatrixReport.{MatrixReport}

@@ -1,5 +1,5 @@
 ghost use Rattle.std.specs.Prelude.{◌≡◌, IfOk};
-ghost use Rattle.document_runs.specs.Answers.{Gives};
+ghost use Rattle.fsr_runs.specs.Answers.{Gives};
 ghost use Rattle.history_text.specs.Refusals.{Gives as Reads};
 ghost use Rattle.log_text.specs.Log.{CanBeSearched};
 ghost use Rattle.matrix_core.specs.Runs.{CanPlay};
@@ -9,14 +9,14 @@ ghost use Rattle.schedule_text.specs.Players.{CanBePlayed};
 ghost use Rattle.serde_json.specs.View.{view};
 
 use crate::scenes::{board_scene, cell_scene, check_scene, log_scene, matrix_scene};
-use board_play::play_board;
-use document_runs::{Answer, Fault};
-use fourslot_core::CellSchedule;
-use fourslot_play::play_cell;
+use four_slot_core::CellSchedule;
+use four_slot_play::play_cell;
+use fsr_runs::{Answer, Fault};
 use history_core::{Band, History, Items};
 use history_text::{CheckDocument, DocError, check_document, read_value};
 use log_search::search_log;
 use log_text::log_document;
+use matrix_board_play::play_board;
 use matrix_core::{BoardSchedule, MatrixSchedule};
 use matrix_play::play_matrix;
 use picture_text::{Finding, Scene, picture_text};

@@ -1,12 +1,12 @@
 ghost use Rattle.std.specs.Prelude.{◌≡◌, ◌≤◌, ◌+◌, true};
-ghost use Rattle.document_runs.specs.Run.{Fails, never, Runs};
+ghost use Rattle.fsr_runs.specs.Run.{Fails, never, Runs};
 ghost use Rattle.picture_answers.specs.Run.{IsOutcome};
-ghost use Rattle.streams.specs.Stream.{HasRoom};
+ghost use Rattle.fsr_streams.specs.Stream.{HasRoom};
 
 use crate::answer;
-use document_runs::{Program, give_answer, take_document};
+use fsr_runs::{Program, give_answer, take_document};
+use fsr_streams::{Sink, Source, tell};
 use std::alloc::Global;
-use streams::{Sink, Source, tell};
 
 /// The name of `picture`, and the lines that it tells where a stream fails or memory runs out.
 pub const PICTURE: Program = Program {

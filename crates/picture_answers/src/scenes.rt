@@ -5,11 +5,11 @@ ghost use Rattle.matrix_core.specs.Runs.{CanPlay};
 ghost use Rattle.picture_shapes.specs.declared.shape.lanes.Lanes.TheVariants.{Actors};
 ghost use Rattle.picture_answers.specs.Scenes.{ArePointsOf, finding_of, Shows, ShowsBoard, ShowsCell, ShowsCheck, ShowsLog, ShowsMatrix};
 
-use fourslot_core::{CellReport, CellSchedule};
+use four_slot_core::{CellReport, CellSchedule};
 use history_core::{Band, History, Items};
+use history_search::Search;
+use history_witnesses::{Break, first_break, points};
 use matrix_core::{BoardReport, BoardSchedule, MatrixReport};
-use order_search::Search;
-use order_witnesses::{Break, first_break, points};
 use picture_shapes::Lanes;
 use picture_text::{Finding, Scene, board_lanes};
 use picture_visits::{Visit, board_visits, cell_visits};

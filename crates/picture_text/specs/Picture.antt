@@ -7,10 +7,10 @@ use Rattle.std.specs.List.{flat_map}
 use Rattle.std.specs.Option.{unwrap_or}
 use Rattle.history_core.specs.Orders.{is_write, listed_at}
 use Rattle.history_core.specs.declared.band.Band.{Band}
-use Rattle.order_search.specs.declared.reason.Reason.{Reason}
-use Rattle.order_search.specs.declared.reason.Reason.TheVariants as reason
-use Rattle.order_witnesses.specs.declared.breaks.Break.{Break}
-use Rattle.order_witnesses.specs.declared.breaks.Break.TheVariants.{NoPlace, Times, Precedence, NoItem, Reading, Limit}
+use Rattle.history_search.specs.declared.reason.Reason.{Reason}
+use Rattle.history_search.specs.declared.reason.Reason.TheVariants as reason
+use Rattle.history_witnesses.specs.declared.breaks.Break.{Break}
+use Rattle.history_witnesses.specs.declared.breaks.Break.TheVariants.{NoPlace, Times, Precedence, NoItem, Reading, Limit}
 use Rattle.history_core.specs.declared.history.Op.{Op}
 use Rattle.history_core.specs.declared.history.Term.{Term}
 use Rattle.stamps.specs.declared.stamp.Stamp.{Stamp}

@@ -6,7 +6,7 @@ ghost use Rattle.picture_text.specs.Picture.{break_text, break_words, broken_joi
 
 use crate::marks::{op_at, spot_of};
 use history_core::{Band, Op};
-use order_witnesses::Break;
+use history_witnesses::Break;
 use picture_shapes::{Class, Join, Scale, bar_of, put_bar, put_join, put_long_words, put_words};
 use report_text::Line;
 use std::alloc::AllocError;

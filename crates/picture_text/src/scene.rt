@@ -1,6 +1,6 @@
 use history_core::{Band, History, Items};
-use order_search::Reason;
-use order_witnesses::Break;
+use history_search::Reason;
+use history_witnesses::Break;
 use picture_shapes::Lanes;
 use picture_visits::Visit;
 use stamps::Stamp;

@@ -4,10 +4,10 @@
 use Rattle.std.specs.Prelude.{ℕ, ◌≡◌, ◌≤◌, ◌+◌, ◌-◌, ◌*◌, List, [], ◌∷◌, ◌++◌, length, max, take, drop, get_or, slice_get, Option, None}
 use Rattle.std.specs.Prelude.{Some, nat_eq, nat_le, nat_lt, zero, suc, if◌then◌else◌}
 use Rattle.std.specs.List.{fold}
-use Rattle.fourslot_core.specs.Play.{cell_span}
-use Rattle.fourslot_core.specs.declared.schedule.CellSchedule.{CellSchedule}
-use Rattle.fourslot_core.specs.declared.schedule.Turn.{Turn}
-use Rattle.fourslot_core.specs.declared.schedule.Turn.TheVariants.{Writer, Reader}
+use Rattle.four_slot_core.specs.Play.{cell_span}
+use Rattle.four_slot_core.specs.declared.schedule.CellSchedule.{CellSchedule}
+use Rattle.four_slot_core.specs.declared.schedule.Turn.{Turn}
+use Rattle.four_slot_core.specs.declared.schedule.Turn.TheVariants.{Writer, Reader}
 use Rattle.history_core.specs.Others.{other}
 use Rattle.history_core.specs.Schedules.{Span, access_at}
 use Rattle.history_core.specs.declared.band.Band.{Band}

@@ -5,7 +5,7 @@ ghost use Rattle.history_core.specs.Schedules.{positions};
 ghost use Rattle.picture_visits.specs.Visits.{access_visits, enters, events_in, kind_by, made_after, visit_of};
 
 use crate::visit::Visit;
-use fourslot_core::Turn;
+use four_slot_core::Turn;
 use history_core::{Band, Items, Kind, Op};
 use std::alloc::AllocError;
 

@@ -1,14 +1,14 @@
 //! The slot accesses of a cell's schedule.
 
 ghost use Rattle.std.specs.Prelude.{◌≡◌, ◌+◌, ◌++◌, [], IfOk, OnOk, map, nat_eq, if◌then◌else◌};
-ghost use Rattle.fourslot_core.specs.Play.{actor};
+ghost use Rattle.four_slot_core.specs.Play.{actor};
 ghost use Rattle.history_core.specs.Schedules.{positions};
 ghost use Rattle.report_text.specs.Text.{entry_at};
 ghost use Rattle.picture_visits.specs.Visits.{access_visits, cell_visits, events_in, side_visits};
 
 use crate::access::{Access, Steps, made_after, push_access, push_if};
 use crate::visit::Visit;
-use fourslot_core::{CellSchedule, Turn};
+use four_slot_core::{CellSchedule, Turn};
 use history_core::{Band, Items, Op};
 use std::alloc::{AllocError, Global};
 

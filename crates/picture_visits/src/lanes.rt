@@ -4,7 +4,7 @@ ghost use Rattle.std.specs.Prelude.{◌≡◌, ◌≤◌, ◌<◌, ◌-◌, ◌^
 ghost use Rattle.history_core.specs.Others.{other};
 ghost use Rattle.picture_visits.specs.Visits.{access_lane, access_turn, cell_lane, widest};
 
-use fourslot_core::Turn;
+use four_slot_core::Turn;
 use history_core::Band;
 use matrix_core::MatrixTerm;
 

@@ -3,7 +3,7 @@ use Rattle.std.specs.Prelude.{ℕ, ◌+◌, ◌++◌, List, [], ◌∷◌, take,
 use Rattle.std.specs.Prelude.{Option, Some, None, slice_get, option_and_then, unwrap_or}
 use Rattle.std.specs.Fmt.{decimal}
 use Rattle.std.specs.List.{flat_map}
-use Rattle.fourslot_core.specs.declared.schedule.CellReport.{CellReport}
+use Rattle.four_slot_core.specs.declared.schedule.CellReport.{CellReport}
 use Rattle.history_core.specs.declared.band.Band.{Band}
 use Rattle.history_core.specs.declared.history.History.{History}
 use Rattle.history_core.specs.declared.history.Kind.{Kind}

@@ -5,7 +5,7 @@ ghost use Rattle.report_text.specs.Text.{board_mark, entry_at, op_line, slot_mar
 
 use crate::line::Line;
 use crate::pieces::{push_after_blank, put_op_head, put_op_tail, put_slot, put_stamp, widened};
-use fourslot_core::CellReport;
+use four_slot_core::CellReport;
 use history_core::{Band, Items, Op};
 use matrix_core::{BoardReport, MatrixReport};
 use stamps::Stamp;

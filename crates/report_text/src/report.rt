@@ -1,4 +1,4 @@
-use fourslot_core::CellReport;
+use four_slot_core::CellReport;
 use history_core::{Band, Items};
 use matrix_core::{BoardReport, MatrixReport};
 

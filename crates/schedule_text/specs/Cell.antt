@@ -5,9 +5,9 @@ use Rattle.serde_json.specs.Data.{Data}
 use Rattle.history_core.specs.Band.{fits}
 use Rattle.schedule_text.specs.declared.document.ScheduleDocument.{ScheduleDocument}
 use Rattle.schedule_text.specs.declared.document.ScheduleDocument.TheVariants as document
-use Rattle.document_refusals.specs.declared.refusal.DocError.{DocError}
-use Rattle.document_refusals.specs.declared.refusal.DocError.TheVariants.{Range, Law}
-use Rattle.document_refusals.specs.declared.key.Key.TheVariants.{Opening, Noise, Writes, Reads, Steps}
+use Rattle.fsr_refusals.specs.declared.refusal.DocError.{DocError}
+use Rattle.fsr_refusals.specs.declared.refusal.DocError.TheVariants.{Range, Law}
+use Rattle.fsr_refusals.specs.declared.key.Key.TheVariants.{Opening, Noise, Writes, Reads, Steps}
 use Rattle.history_text.specs.Ranges.{count_in_range}
 use Rattle.schedule_text.specs.Ranges.{steps_in_range}
 use Rattle.history_text.specs.Refusals.{◌>>=◌, field, must, required}

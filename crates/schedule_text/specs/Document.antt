@@ -3,8 +3,8 @@ use Rattle.std.specs.Prelude.{ℕ, List, codes, if◌then◌else◌, Result, Err
 use Rattle.serde_json.specs.Data.{Data}
 use Rattle.history_text.specs.Document.{is_kind, value_of}
 use Rattle.history_text.specs.Refusals.{◌>>=◌}
-use Rattle.document_refusals.specs.declared.refusal.DocError.{DocError}
-use Rattle.document_refusals.specs.declared.refusal.DocError.TheVariants.{Kind}
+use Rattle.fsr_refusals.specs.declared.refusal.DocError.{DocError}
+use Rattle.fsr_refusals.specs.declared.refusal.DocError.TheVariants.{Kind}
 use Rattle.schedule_text.specs.Board.{board_in}
 use Rattle.schedule_text.specs.Cell.{cell_in}
 use Rattle.schedule_text.specs.Matrix.{matrix_in}

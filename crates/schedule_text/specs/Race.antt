@@ -3,9 +3,9 @@ use Rattle.std.specs.Prelude.{[], ◌∷◌, Result, Ok}
 use Rattle.serde_json.specs.Data.{Data}
 use Rattle.history_core.specs.Band.{fits}
 use Rattle.schedule_text.specs.declared.document.RaceDocument.{RaceDocument}
-use Rattle.document_refusals.specs.declared.refusal.DocError.{DocError}
-use Rattle.document_refusals.specs.declared.refusal.DocError.TheVariants.{Range, Law}
-use Rattle.document_refusals.specs.declared.key.Key.TheVariants.{Opening, Limit, Scripts}
+use Rattle.fsr_refusals.specs.declared.refusal.DocError.{DocError}
+use Rattle.fsr_refusals.specs.declared.refusal.DocError.TheVariants.{Range, Law}
+use Rattle.fsr_refusals.specs.declared.key.Key.TheVariants.{Opening, Limit, Scripts}
 use Rattle.schedule_text.specs.Plans.{plans_fit, plans_in_range}
 use Rattle.history_text.specs.Ranges.{limit_in_range}
 use Rattle.history_text.specs.Refusals.{◌>>=◌, field, must, required}

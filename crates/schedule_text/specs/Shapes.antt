@@ -2,8 +2,8 @@
 use Rattle.std.specs.Prelude.{ℕ, ◌==◌, List, codes, if◌then◌else◌, Option, Some, None, option_and_then}
 use Rattle.serde_json.specs.Data.{Data}
 use Rattle.serde_json.specs.Find.{get, as_str}
-use Rattle.fourslot_core.specs.declared.schedule.Turn.{Turn}
-use Rattle.fourslot_core.specs.declared.schedule.Turn.TheVariants.{Writer, Reader}
+use Rattle.four_slot_core.specs.declared.schedule.Turn.{Turn}
+use Rattle.four_slot_core.specs.declared.schedule.Turn.TheVariants.{Writer, Reader}
 use Rattle.history_core.specs.declared.band.Band.{Band}
 use Rattle.history_text.specs.Shapes.{◌>>=◌, all_of, as_list, as_plan, as_whole}
 use Rattle.matrix_core.specs.declared.schedule.MatrixTerm.{MatrixTerm}

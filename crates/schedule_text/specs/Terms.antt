@@ -6,11 +6,11 @@ use Rattle.serde_json.specs.Find.{get}
 use Rattle.history_core.specs.declared.band.Band.{Band}
 use Rattle.history_core.specs.declared.wish.Wish.{Wish}
 use Rattle.matrix_core.specs.declared.schedule.MatrixTerm.{MatrixTerm}
-use Rattle.document_refusals.specs.declared.refusal.DocError.{DocError}
-use Rattle.document_refusals.specs.declared.refusal.DocError.TheVariants.{Range}
-use Rattle.document_refusals.specs.declared.key.Key.{Key}
-use Rattle.document_refusals.specs.declared.key.Key.TheVariants.{Limit, Plans, Steps, Terms}
-use Rattle.document_refusals.specs.Keys.{name_of}
+use Rattle.fsr_refusals.specs.declared.refusal.DocError.{DocError}
+use Rattle.fsr_refusals.specs.declared.refusal.DocError.TheVariants.{Range}
+use Rattle.fsr_refusals.specs.declared.key.Key.{Key}
+use Rattle.fsr_refusals.specs.declared.key.Key.TheVariants.{Limit, Plans, Steps, Terms}
+use Rattle.fsr_refusals.specs.Keys.{name_of}
 use Rattle.schedule_text.specs.Plans.{are_of, plans_in_range, terms_in_range}
 use Rattle.history_text.specs.Ranges.{limit_in_range}
 use Rattle.history_text.specs.Refusals.{◌>>=◌, field, must, required}

@@ -11,7 +11,7 @@ ghost use Rattle.history_text.specs.Refusals.{Gives};
 use crate::ScheduleDocument;
 use crate::ranges::steps_in_range;
 use crate::turns::steps_in;
-use fourslot_core::CellSchedule;
+use four_slot_core::CellSchedule;
 use history_core::{Band, Items};
 use history_text::{
     DocError, Key, MAX_OPERATIONS, count_in_range, field, list_field, must, required,

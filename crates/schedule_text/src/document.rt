@@ -1,4 +1,4 @@
-use fourslot_core::CellSchedule;
+use four_slot_core::CellSchedule;
 use history_core::{Band, Items, Wish};
 use matrix_core::{BoardSchedule, MatrixSchedule};
 

@@ -4,7 +4,7 @@ ghost use Rattle.serde_json.specs.View.{view};
 ghost use Rattle.matrix_core.specs.Runs.{CanPlay};
 ghost use Rattle.history_text.specs.Refusals.{field, Gives};
 ghost use Rattle.history_text.specs.Shapes.{all_of, as_list};
-ghost use Rattle.document_refusals.specs.declared.key.Key.TheVariants.{Terms};
+ghost use Rattle.fsr_refusals.specs.declared.key.Key.TheVariants.{Terms};
 ghost use Rattle.schedule_text.specs.Shapes.{as_term};
 ghost use Rattle.schedule_text.specs.Terms.{is_titled, several_in, single, single_in, terms_in, terms_there, writes_key};
 

@@ -3,10 +3,10 @@ ghost use Rattle.std.specs.Prelude.{◌≡◌, IfOk};
 ghost use Rattle.serde_json.specs.View.{view};
 ghost use Rattle.history_text.specs.Refusals.{field, Gives};
 ghost use Rattle.history_text.specs.Shapes.{all_of};
-ghost use Rattle.document_refusals.specs.declared.key.Key.TheVariants.{Steps};
+ghost use Rattle.fsr_refusals.specs.declared.key.Key.TheVariants.{Steps};
 ghost use Rattle.schedule_text.specs.Shapes.{as_turns, turn_named};
 
-use fourslot_core::Turn;
+use four_slot_core::Turn;
 use history_core::Items;
 use history_text::{DocError, Key, shaped};
 use serde_json::Value;

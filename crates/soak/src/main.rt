@@ -2,7 +2,7 @@
 //! it, and `planted` looks for a planted bug. A run ends with status 1 at the first torn, older or foreign record.
 #![tactic(auto)]
 
-use atomic_board::Posted;
+use board_live::Posted;
 use cell_four_slot::FourSlotCell;
 use cell_live::Cell;
 use cell_triple::TripleCell;

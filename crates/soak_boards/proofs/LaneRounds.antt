@@ -6,9 +6,9 @@ use Rattle.std.proofs.lemmas.List.{length-map, take_all}
 use Rattle.std.proofs.lemmas.Option.{same_Some, slice_get_within}
 use Rattle.history_core.specs.declared.wish.Wish.{Wish}
 use Rattle.family_live.specs.declared.family.Family.{Ghosts as FamilyWords}
-use Rattle.atomic_board.specs.declared.board.Board.{Board}
-use Rattle.atomic_board.specs.declared.board.Pass.{Pass}
-use Rattle.atomic_board.specs.declared.record.Posted.{Posted}
+use Rattle.board_live.specs.declared.board.Board.{Board}
+use Rattle.board_live.specs.declared.board.Pass.{Pass}
+use Rattle.board_live.specs.declared.record.Posted.{Posted}
 use Rattle.board_tasks.specs.declared.lane.Lane.{Lane}
 use Rattle.board_tasks.specs.Jobs.{EachStep}
 use Rattle.board_tasks.specs.Lanes.{AreLanes}

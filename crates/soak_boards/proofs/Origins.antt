@@ -2,9 +2,9 @@
 use Rattle.std.proofs.Common.{inl, inr}
 use Rattle.std.specs.Prelude.{ℕ, Bool, List}
 use Rattle.board_tasks.specs.declared.lane.Entry.{Entry}
-use Rattle.log_origins.specs.declared.origin.Origin.TheVariants.{Sound, Broken}
-use Rattle.log_origins.specs.Origins.{has_origin, in_order, IsOrigin}
-use Rattle.log_origins.proofs.SoundOrders.{breaks_none}
+use Rattle.board_origins.specs.declared.origin.Origin.TheVariants.{Sound, Broken}
+use Rattle.board_origins.specs.Origins.{has_origin, in_order, IsOrigin}
+use Rattle.board_origins.proofs.SoundOrders.{breaks_none}
 
 pub not_both : {V : Type 0} (equal : V → V → Bool) (opening : V) (logs : List (List (Entry V))) (task call : ℕ)
     → IsOrigin equal opening logs (Broken task call) → IsOrigin equal opening logs Sound → ⊥

@@ -5,8 +5,8 @@ use Rattle.history_core.specs.declared.wish.Wish.TheVariants.{Write, Read}
 use Rattle.board_tasks.specs.declared.lane.Entry.{Entry}
 use Rattle.board_tasks.specs.declared.lane.Reply.{Reply}
 use Rattle.board_tasks.specs.declared.lane.Reply.TheVariants.{Written, Seen, Ended}
-use Rattle.log_origins.specs.declared.origin.Origin.TheVariants.{Sound}
-use Rattle.log_origins.specs.Origins.{IsOrigin}
+use Rattle.board_origins.specs.declared.origin.Origin.TheVariants.{Sound}
+use Rattle.board_origins.specs.Origins.{IsOrigin}
 use Rattle.soak_findings.specs.declared.finding.Tally.{Tally}
 use Rattle.soak_findings.specs.Findings.{counted}
 use Rattle.soak_rounds.specs.Records.{IsWhole}

@@ -6,11 +6,11 @@ ghost use Rattle.soak_findings.specs.Findings.{counted};
 ghost use Rattle.soak_rounds.specs.Records.{IsWhole, no_law};
 ghost use Rattle.soak_boards.specs.Scripts.{is_seen, is_written, IsRound, IsTally, reads_of, Scripted, writes_of};
 
-use atomic_board::{Board, Posted};
+use board_live::{Board, Posted};
+use board_origins::{Origin, check_origin};
 use board_tasks::{Entry, Lane, OpenGate, Reply, make_lanes, run_tasks};
 use family_live::{Family, SharedFamily};
 use history_core::{Items, MAX_LIMIT, Wish};
-use log_origins::{Origin, check_origin};
 use soak_findings::{Finding, Tally};
 use soak_rounds::record::{Record, Shared, Words};
 use stamps::Stamp;

@@ -3,7 +3,7 @@ ghost use Rattle.std.specs.Prelude.{◌≡◌, ℕ, ◌<◌, List, length};
 ghost use Rattle.soak_rounds.specs.Records.{AreOf, IsWhole};
 ghost use Rattle.soak_rounds.specs.Records.{no_law};
 
-use atomic_board::RecordLaw;
+use board_live::RecordLaw;
 use cell_live::{Kept, Lawful};
 
 /// The words of a record.

@@ -1,13 +1,13 @@
 //! Making a lane, and running it.
 ghost use Rattle.std.specs.Prelude.{◌≡◌, ◌<◌, ℕ, ◌+◌, ◌++◌, ◌∷◌, [], IfOk, IfErr, All, length};
-ghost use Rattle.atomic_board.specs.Passes.{IsPass};
+ghost use Rattle.board_live.specs.Passes.{IsPass};
 ghost use Rattle.board_tasks.specs.Lanes.{IsLane};
 ghost use Rattle.board_tasks.specs.Logs.{Obeys};
 ghost use Rattle.board_tasks.specs.Tasks.{IsEntry, Permitted, Ran, entry};
 
 use super::{Entry, Lane, Reply};
 use crate::gate::Gate;
-use atomic_board::{Board, Pass, Posted, RecordLaw};
+use board_live::{Board, Pass, Posted, RecordLaw};
 use family_live::Family;
 use history_core::Wish;
 use std::alloc::{AllocError, Global};

@@ -17,7 +17,7 @@ use Rattle.matrix_core.proofs.lines.Others.{other_reached}
 use Rattle.stamps.proofs.choices.Rise.{chosen_at_least}
 use Rattle.stamps.proofs.choices.Stamps.{at_most_refl, at_most_trans, greater_first, greater_is, greater_second}
 use Rattle.matrix_core.proofs.lists.Elements.{get_exists}
-use Rattle.fourslot_core.proofs.Pushed.{get_cases, get_before, get_last}
+use Rattle.four_slot_core.proofs.Pushed.{get_cases, get_before, get_last}
 
 some_mapped : {A B : Type 0} (f : A → B) (o : Option A) (x : B) → option_map f o ≡ Some x → (y : A) × (o ≡ Some y) × (f y ≡ x)
 some_mapped f None x e = cc

@@ -6,7 +6,7 @@ use Rattle.std.specs.Prelude.{slice_get, Option, Some}
 use Rattle.std.proofs.lemmas.Option.{none-some, same_Some}
 use Rattle.history_core.specs.declared.history.Op.{Op}
 use Rattle.history_core.specs.Schedules.{Span, steps_of}
-use Rattle.fourslot_core.specs.Traces.{source_record}
+use Rattle.four_slot_core.specs.Traces.{source_record}
 use Rattle.stamps.specs.declared.stamp.Stamp.{Stamp}
 use Rattle.stamps.specs.declared.stamp.Stamped.{Stamped}
 use Rattle.matrix_core.specs.declared.progress.Progress.{Progress}

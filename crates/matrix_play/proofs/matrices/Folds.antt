@@ -14,7 +14,7 @@ use Rattle.history_core.specs.Schedules.{access_at, IsOperation, Overruns, Span,
 use Rattle.history_core.proofs.Folds.{fold_keeps_all}
 use Rattle.history_core.proofs.Played.{nothing_played}
 use Rattle.history_core.proofs.Positions.{missing_position, position_below}
-use Rattle.fourslot_core.specs.Traces.{source_record}
+use Rattle.four_slot_core.specs.Traces.{source_record}
 use Rattle.stamps.specs.declared.stamp.Stamped.{Stamped}
 use Rattle.matrix_core.specs.declared.progress.Progress.{Progress}
 use Rattle.matrix_core.specs.declared.progress.Outcome.{Outcome}

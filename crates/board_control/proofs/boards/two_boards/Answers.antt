@@ -1,6 +1,6 @@
 -- The pass is one of the new board's.
 use Rattle.std.proofs.Common.{arith, sym}
-use Rattle.atomic_board.proofs.Passing.{all_new, stood}
+use Rattle.board_live.proofs.Passing.{all_new, stood}
 use Rattle.board_control.specs.Turns.{in_order}
 use Rattle.board_control.proofs.boards.two_boards.Goals as goal
 

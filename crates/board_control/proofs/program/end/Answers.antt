@@ -1,6 +1,6 @@
 -- The passes are pushed in their order.
 use Rattle.std.proofs.Common.{subst, sym}
-use Rattle.atomic_board.specs.Ends.{AllPasses, HaveAtomicOrder}
+use Rattle.board_live.specs.Ends.{AllPasses, HaveAtomicOrder}
 use Rattle.board_control.specs.Turns.{in_order}
 use Rattle.board_control.proofs.Three.{three_pushed}
 use Rattle.board_control.proofs.program.end.Goals as goal

@@ -1,7 +1,7 @@
 -- Each task is given the pass that was dealt to it, and what they promised of these passes is what the end of the board asks for.
 use Rattle.std.proofs.Common.{◌≡◌, ◌∙◌, [], ◌∷◌, ap, sym, subst}
-use Rattle.atomic_board.specs.Ends.{AllPasses, HaveAtomicOrder}
-use Rattle.atomic_board.specs.Passes.{IsPass}
+use Rattle.board_live.specs.Ends.{AllPasses, HaveAtomicOrder}
+use Rattle.board_live.specs.Passes.{IsPass}
 use Rattle.board_control.specs.Turns.{in_order}
 use Rattle.board_control.proofs.Three.{all_back, come_back, controlled}
 use Rattle.board_control.proofs.program.run.Goals as goal

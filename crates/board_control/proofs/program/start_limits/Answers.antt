@@ -2,7 +2,7 @@
 use Rattle.std.proofs.Common.{◌∙◌, ap, subst, sym}
 use Rattle.std.proofs.lemmas.Result.{IfOk-weaker}
 use Rattle.std.specs.Arc.{arc_value}
-use Rattle.atomic_board.specs.Passes.{IsPass}
+use Rattle.board_live.specs.Passes.{IsPass}
 use Rattle.board_control.specs.Turns.{in_order}
 use Rattle.board_control.proofs.program.start_limits.Goals as goal
 

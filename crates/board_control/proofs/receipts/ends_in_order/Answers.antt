@@ -1,8 +1,8 @@
 -- The receipt has the time of the write's end, and the read begins after the times that its process was told.
 use Rattle.std.proofs.Common.{◌≡◌, [], ◌∷◌, refl, sym, ◌∙◌, ap, subst, arith}
 use Rattle.history_core.specs.declared.history.Kind.TheVariants.{Read, Write}
-use Rattle.atomic_board.specs.Ends.{AllPasses, HaveAtomicOrder}
-use Rattle.atomic_board.specs.Records.{stamped}
+use Rattle.board_live.specs.Ends.{AllPasses, HaveAtomicOrder}
+use Rattle.board_live.specs.Records.{stamped}
 use Rattle.board_control.proofs.Three.{crossed, two_passes, two_pushed}
 use Rattle.board_control.proofs.receipts.ends_in_order.Goals as goal
 

@@ -1,6 +1,6 @@
 -- The reads so far, and the commands of each of them.
 use Rattle.std.specs.Prelude.{List}
-use Rattle.atomic_board.specs.Passes.{IsPass}
+use Rattle.board_live.specs.Passes.{IsPass}
 use Rattle.board_history.specs.BoardRuns.{Called}
 use Rattle.board_control.specs.Turns.{Drives, HasRead, in_order}
 use Rattle.board_control.specs.declared.control.Control.{Control}

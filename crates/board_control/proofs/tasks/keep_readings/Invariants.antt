@@ -1,6 +1,6 @@
 -- The turns so far.
 use Rattle.std.specs.Prelude.{List}
-use Rattle.atomic_board.specs.Passes.{IsPass}
+use Rattle.board_live.specs.Passes.{IsPass}
 use Rattle.board_history.specs.BoardRuns.{Called}
 use Rattle.board_control.specs.Turns.{in_order, Publishes, Turns}
 use Rattle.board_control.specs.declared.control.Control.{Control}

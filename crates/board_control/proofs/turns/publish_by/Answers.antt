@@ -1,7 +1,7 @@
 -- The pass is the board's before its call and after it, so all passes still are.
 use Rattle.std.proofs.Common.{◌∙◌, arith, sym}
 use Rattle.std.proofs.lemmas.Result.{IfOk-weaker}
-use Rattle.atomic_board.proofs.Passing.{stood, used}
+use Rattle.board_live.proofs.Passing.{stood, used}
 use Rattle.board_control.specs.Turns.{in_order}
 use Rattle.board_control.proofs.turns.publish_by.Goals as goal
 

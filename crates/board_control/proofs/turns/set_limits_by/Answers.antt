@@ -1,6 +1,6 @@
 -- The pass is the board's before its call and after it, so all passes still are.
 use Rattle.std.proofs.Common.{arith, sym}
-use Rattle.atomic_board.proofs.Passing.{stood, used}
+use Rattle.board_live.proofs.Passing.{stood, used}
 use Rattle.board_control.specs.Turns.{in_order}
 use Rattle.board_control.proofs.turns.set_limits_by.Goals as goal
 

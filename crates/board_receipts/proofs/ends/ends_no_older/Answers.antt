@@ -1,7 +1,7 @@
 -- The read began after the write had ended, so by the run of all calls its stamp is greater, or its record the very one.
 use Rattle.std.proofs.Common.{◌≡◌, [], ◌∷◌, ◌++◌, sym, ◌∙◌, ap, subst, inl, inr}
 use Rattle.stamps.specs.Stamps.{IsBelow}
-use Rattle.atomic_board.specs.Ends.{AllPasses, HaveAtomicOrder}
+use Rattle.board_live.specs.Ends.{AllPasses, HaveAtomicOrder}
 use Rattle.board_receipts.proofs.Lists.{three_end, three_passes}
 use Rattle.board_receipts.proofs.ends.ends_no_older.Goals as goal
 

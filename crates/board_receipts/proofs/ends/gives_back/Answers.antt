@@ -1,8 +1,8 @@
 -- The read began after the write had ended, and there is no other write.
 use Rattle.std.proofs.Common.{◌≡◌, ◌<◌, [], ◌∷◌, ◌++◌, refl, sym, ◌∙◌, ap, subst, arith}
 use Rattle.history_core.specs.declared.history.Kind.TheVariants.{Read, Write}
-use Rattle.atomic_board.specs.Ends.{AllPasses, HaveAtomicOrder}
-use Rattle.atomic_board.specs.Records.{stamped}
+use Rattle.board_live.specs.Ends.{AllPasses, HaveAtomicOrder}
+use Rattle.board_live.specs.Records.{stamped}
 use Rattle.board_receipts.proofs.Lists.{two_end, two_passes}
 use Rattle.board_receipts.proofs.ends.gives_back.Goals as goal
 

@@ -1,7 +1,7 @@
 -- Each receipt has the last time of which its sender knew, and whoever learns it knows of none earlier: so the read begins after the write
 -- had ended.
 use Rattle.std.proofs.Common.{◌≡◌, refl, ◌∙◌, ap, arith}
-use Rattle.atomic_board.specs.Records.{stamped}
+use Rattle.board_live.specs.Records.{stamped}
 use Rattle.board_receipts.proofs.passing.pass_on.Goals as goal
 
 pub returns-clause-q : goal.returns-clause-q

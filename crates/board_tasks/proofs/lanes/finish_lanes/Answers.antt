@@ -1,7 +1,7 @@
 -- The pass of the last lane stands before those that were taken out, and so does its log.
 use Rattle.std.proofs.Common.{arith, ap, sym, subst, ◌∙◌, ◌≡◌, ◌+◌, ◌∷◌, [], length, length-append, map}
-use Rattle.atomic_board.specs.Ends.{AllPasses, HaveAtomicOrder, IsGreatest}
-use Rattle.atomic_board.proofs.Mapping.{mapped_all, mapped_more, mapped_none}
+use Rattle.board_live.specs.Ends.{AllPasses, HaveAtomicOrder, IsGreatest}
+use Rattle.board_live.proofs.Mapping.{mapped_all, mapped_more, mapped_none}
 use Rattle.board_tasks.proofs.Logged.{all_passes, items_of, logs_atomic}
 use Rattle.board_tasks.proofs.Ordered.{lanes_in_order}
 use Rattle.board_tasks.proofs.lanes.finish_lanes.Goals as goal

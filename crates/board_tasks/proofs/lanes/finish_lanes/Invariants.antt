@@ -1,6 +1,6 @@
 -- The passes and the logs of the last lanes were taken out.
 use Rattle.std.proofs.Common.{◌≡◌, ◌+◌, length}
-use Rattle.atomic_board.proofs.Mapping.{MappedFrom}
+use Rattle.board_live.proofs.Mapping.{MappedFrom}
 use Rattle.board_tasks.proofs.lanes.finish_lanes.Given as goal
 
 abbrev pub invariant-loop : goal.invariant-loop

@@ -1,6 +1,6 @@
 -- The pass of the last lane stands before those that were taken out.
 use Rattle.std.proofs.Common.{arith, ap, ◌∙◌, ◌≡◌, ◌+◌, ◌∷◌, [], length, length-append}
-use Rattle.atomic_board.proofs.Mapping.{mapped_more, mapped_none}
+use Rattle.board_live.proofs.Mapping.{mapped_more, mapped_none}
 use Rattle.board_tasks.proofs.lanes.into_passes.Goals as goal
 
 pub loop-init : goal.loop-init

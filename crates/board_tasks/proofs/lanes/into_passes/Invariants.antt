@@ -1,6 +1,6 @@
 -- The passes of the last lanes were taken out.
 use Rattle.std.proofs.Common.{◌≡◌, ◌+◌, length}
-use Rattle.atomic_board.proofs.Mapping.{MappedFrom}
+use Rattle.board_live.proofs.Mapping.{MappedFrom}
 use Rattle.board_tasks.proofs.lanes.into_passes.Given as goal
 
 abbrev pub invariant-loop : goal.invariant-loop

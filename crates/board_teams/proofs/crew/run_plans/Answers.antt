@@ -1,7 +1,7 @@
 -- The lanes are those of a new board's passes, so they may run, and have worked with fresh ones.
 use Rattle.std.proofs.Common.{rules, refl, sym, subst, ◌≡◌, arith, length}
 use Rattle.history_core.specs.Band.{fits}
-use Rattle.atomic_board.proofs.Passing.{all_new}
+use Rattle.board_live.proofs.Passing.{all_new}
 use Rattle.board_tasks.specs.Lanes.{AreLanes}
 use Rattle.board_tasks.specs.Worked.{HaveWorked}
 use Rattle.board_tasks.proofs.LaneLists.{all_ready}

@@ -2,7 +2,7 @@
 use Rattle.std.proofs.Common.{subst, sym, ◌++◌, ◌∷◌, [], All}
 use Rattle.std.proofs.lemmas.List.{append-nil}
 use Rattle.cell_live.proofs.ListLaws.{all_snoc}
-use Rattle.atomic_board.specs.Passes.{IsPass}
+use Rattle.board_live.specs.Passes.{IsPass}
 use Rattle.cells_bench.specs.Items.{no_law}
 use Rattle.cells_bench.proofs.Fronts.{all_at, all_front}
 use Rattle.cells_bench.proofs.boards_at_once.make_tasks.Goals as goal

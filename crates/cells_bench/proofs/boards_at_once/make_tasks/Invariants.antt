@@ -1,6 +1,6 @@
 -- The passes that are left are of this board, and so are those of the tasks.
 use Rattle.std.proofs.Common.{All}
-use Rattle.atomic_board.specs.Passes.{IsPass}
+use Rattle.board_live.specs.Passes.{IsPass}
 use Rattle.cells_bench.specs.Items.{no_law}
 use Rattle.cells_bench.proofs.boards_at_once.make_tasks.Given as goal
 

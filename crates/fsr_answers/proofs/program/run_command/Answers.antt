@@ -1,6 +1,6 @@
 -- The input was answered and the answer given, or it wasn't taken whole.
 use Rattle.std.proofs.Common.{Some}
-use Rattle.document_runs.proofs.RunLemmas.{ends_answered, ends_untaken, fails_answered}
+use Rattle.fsr_runs.proofs.RunLemmas.{ends_answered, ends_untaken, fails_answered}
 use Rattle.fsr_answers.proofs.LowStatus.{low_answer}
 use Rattle.fsr_answers.specs.Answers.{IsAnswer}
 use Rattle.fsr_answers.specs.Run.{is_unbounded}

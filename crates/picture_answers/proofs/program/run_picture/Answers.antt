@@ -1,8 +1,8 @@
 -- The input was answered and the answer given, or it wasn't taken whole.
-use Rattle.document_runs.proofs.RunLemmas.{ends_answered, ends_untaken, fails_answered}
+use Rattle.fsr_runs.proofs.RunLemmas.{ends_answered, ends_untaken, fails_answered}
 use Rattle.picture_answers.proofs.LowStatus.{low_answer}
 use Rattle.picture_answers.specs.Answers.{IsAnswer}
-use Rattle.document_runs.specs.Run.{never}
+use Rattle.fsr_runs.specs.Run.{never}
 use Rattle.picture_answers.proofs.program.run_picture.Goals as goal
 
 pub returns-in-Ok-clause-runs : goal.returns-in-Ok-clause-runs

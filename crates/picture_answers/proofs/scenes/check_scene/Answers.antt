@@ -1,10 +1,10 @@
 -- What `first_break` says of the slice it says of the order that it shows.
 use Rattle.std.proofs.Common.{◌≡◌, [], List, ℕ, IfSome, Option, subst}
 use Rattle.std.proofs.lemmas.Result.{IfOk-weaker}
-use Rattle.order_witnesses.specs.Breaks.{IsFirstBreak, verdict_of}
+use Rattle.history_witnesses.specs.Breaks.{IsFirstBreak, verdict_of}
 use Rattle.history_core.specs.Orders.{IsVerdict}
 use Rattle.history_core.specs.declared.band.Band.{Band}
-use Rattle.order_witnesses.specs.declared.breaks.Break.{Break}
+use Rattle.history_witnesses.specs.declared.breaks.Break.{Break}
 use Rattle.history_core.specs.declared.history.History.{History}
 use Rattle.picture_text.specs.declared.scene.Finding.{Finding}
 use Rattle.picture_shapes.specs.declared.shape.lanes.Lanes.TheVariants.{Actors}

@@ -1,7 +1,7 @@
 -- Each turn moves one step from those that are left to those that are looked at, so both together stay the same.
 use Rattle.std.proofs.Common.{◌≡◌, ◌++◌, drop, map}
 use Rattle.history_core.specs.Schedules.{positions}
-use Rattle.fourslot_core.specs.Play.{actor}
+use Rattle.four_slot_core.specs.Play.{actor}
 use Rattle.picture_visits.proofs.cell.side_steps.Given as goal
 
 abbrev pub invariant-loop-i : goal.invariant-loop-i

@@ -2,7 +2,7 @@
 use Rattle.std.proofs.Common.{rules, ◌≡◌, ◌∙◌, length, refl}
 use Rattle.board_tasks.proofs.LaneLists.{all_ready}
 use Rattle.board_tasks.proofs.Works.{changed_whole}
-use Rattle.atomic_board.proofs.Passing.{all_new}
+use Rattle.board_live.proofs.Passing.{all_new}
 use Rattle.soak_rounds.specs.Records.{no_law}
 use Rattle.soak_boards.proofs.LaneRounds.{is_round}
 use Rattle.soak_boards.proofs.boards.round.Goals as goal

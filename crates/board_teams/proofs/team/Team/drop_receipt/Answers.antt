@@ -1,7 +1,7 @@
 -- The sender's pass is of the board, before it tells and after it.
 use Rattle.std.proofs.Common.{arith}
 use Rattle.history_core.specs.Band.{fits}
-use Rattle.atomic_board.proofs.Passing.{stood, used}
+use Rattle.board_live.proofs.Passing.{stood, used}
 use Rattle.board_teams.proofs.team.Team.drop_receipt.Goals as goal
 
 pub tell-receipt-requires : goal.tell-receipt-requires

@@ -2,8 +2,8 @@
 use Rattle.std.proofs.Common.{arith, ◌≡◌, length, set}
 use Rattle.std.specs.Prelude.{vec_len}
 use Rattle.history_core.specs.Band.{fits}
-use Rattle.atomic_board.specs.Ends.{AllPasses}
-use Rattle.atomic_board.proofs.Passing.{stood, used}
+use Rattle.board_live.specs.Ends.{AllPasses}
+use Rattle.board_live.proofs.Passing.{stood, used}
 use Rattle.board_teams.proofs.team.Team.pass_on.Goals as goal
 
 pub tell-receipt-requires : goal.tell-receipt-requires

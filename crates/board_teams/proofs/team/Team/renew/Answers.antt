@@ -1,6 +1,6 @@
 -- The passes are those of a new board.
 use Rattle.history_core.specs.Band.{fits}
-use Rattle.atomic_board.proofs.Passing.{all_new}
+use Rattle.board_live.proofs.Passing.{all_new}
 use Rattle.board_teams.proofs.team.Team.renew.Goals as goal
 
 pub returns : goal.returns

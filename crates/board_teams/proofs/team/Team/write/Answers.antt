@@ -1,7 +1,7 @@
 -- The pass of the process is of the board, before the call and after it.
 use Rattle.std.proofs.Common.{arith}
 use Rattle.history_core.specs.Band.{fits}
-use Rattle.atomic_board.proofs.Passing.{stood, used}
+use Rattle.board_live.proofs.Passing.{stood, used}
 use Rattle.board_teams.proofs.team.Team.write.Goals as goal
 
 pub write-requires-clause-pass : goal.write-requires-clause-pass

@@ -1,7 +1,7 @@
 -- The reader makes R1 and R2 and so gives its slot back; then its seat is joined into the writer's, where both lists meet.
 use Rattle.std.proofs.Common.{ap, ◌∙◌, subst, sym}
-use Rattle.fourslot_core.specs.declared.state.Stage.TheVariants as writer
-use Rattle.fourslot_core.specs.declared.state.ReaderStage.TheVariants as reader
+use Rattle.four_slot_core.specs.declared.state.Stage.TheVariants as writer
+use Rattle.four_slot_core.specs.declared.state.ReaderStage.TheVariants as reader
 use Rattle.cell_four_slot.specs.Rule.{IsTimed}
 use Rattle.cell_four_slot.proofs.Timing.{timed_ends}
 use Rattle.cell_live.specs.Sights.{writer_or, reader_or}

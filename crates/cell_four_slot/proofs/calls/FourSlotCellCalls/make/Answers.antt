@@ -1,6 +1,6 @@
 -- The first seat has made no event, so the two seats that it is split into stand at the opening state.
 use Rattle.std.proofs.Common.{rules, ◌≡◌, [], sym, ap, ◌∙◌}
-use Rattle.fourslot_core.specs.Events.{bit_number}
+use Rattle.four_slot_core.specs.Events.{bit_number}
 use Rattle.cell_live.specs.Running.{last_or}
 use Rattle.cell_live.specs.Sights.{writer_or, reader_or}
 use Rattle.cell_four_slot.specs.Steps.{first_writer, first_reader, slot_of_choice, word_said, bit_words}

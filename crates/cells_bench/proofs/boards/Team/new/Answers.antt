@@ -1,5 +1,5 @@
 -- The passes are those of a new board.
-use Rattle.atomic_board.proofs.Passing.{all_new}
+use Rattle.board_live.proofs.Passing.{all_new}
 use Rattle.cells_bench.specs.Items.{no_law}
 use Rattle.cells_bench.proofs.boards.Team.new.Goals as goal
 

@@ -1,7 +1,7 @@
 -- The pass of a process is of the board, before its call and after it.
 use Rattle.std.proofs.Common.{arith, ◌<◌, ◌%◌, ℕ}
 use Rattle.std.proofs.lemmas.Nat.{mod_below}
-use Rattle.atomic_board.proofs.Passing.{stood, used}
+use Rattle.board_live.proofs.Passing.{stood, used}
 use Rattle.cells_bench.specs.Items.{no_law}
 use Rattle.cells_bench.proofs.boards.Team.read.Goals as goal
 

@@ -1,6 +1,6 @@
 -- Each call leaves as many passes of this board.
 use Rattle.std.proofs.Common.{◌≡◌, length}
-use Rattle.atomic_board.specs.Ends.{AllPasses}
+use Rattle.board_live.specs.Ends.{AllPasses}
 use Rattle.cells_bench.specs.Items.{no_law}
 use Rattle.cells_bench.proofs.boards.Team.read.Given as goal
 

@@ -1,5 +1,5 @@
 -- Each call leaves the pass one of this board.
-use Rattle.atomic_board.specs.Passes.{IsPass}
+use Rattle.board_live.specs.Passes.{IsPass}
 use Rattle.cells_bench.specs.Items.{no_law}
 use Rattle.cells_bench.proofs.boards_at_once.TaskRuns.run.Given as goal
 

@@ -1,6 +1,6 @@
 -- The three steps take the slot that has the answer: one answer more, and each other cell as before.
 use Rattle.std.proofs.Common.{length, set, ◌≡◌, ◌+◌, ◌<◌, ℕ, Bool, List, ◌∷◌, ◌++◌, sym, ap, ◌∙◌, subst, refl}
-use Rattle.fourslot_core.specs.Events.{bit_number, slot_number, slot_with}
+use Rattle.four_slot_core.specs.Events.{bit_number, slot_number, slot_with}
 use Rattle.cell_live.specs.Running.{held_slots}
 use Rattle.cell_four_slot.specs.Steps.{asked_by, said_with, got_by, FourSlotSight}
 use Rattle.cell_four_slot.specs.declared.notes.ReaderNotes.{ReaderNotes}

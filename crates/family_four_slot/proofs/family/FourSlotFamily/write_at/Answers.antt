@@ -1,7 +1,7 @@
 -- The three steps tell the notes what they did: one write more, and each other cell as before.
 use Rattle.std.proofs.Common.{◌≡◌, ◌<◌, ℕ, Bool, not, List, [], ◌∷◌, set, sym, ap, ◌∙◌, subst, refl}
-use Rattle.fourslot_core.specs.Events.{side, bit_number, slot_number}
-use Rattle.fourslot_core.specs.declared.state.Stage.TheVariants as stage
+use Rattle.four_slot_core.specs.Events.{side, bit_number, slot_number}
+use Rattle.four_slot_core.specs.declared.state.Stage.TheVariants as stage
 use Rattle.cell_live.specs.Running.{last_or, held_slots}
 use Rattle.cell_four_slot.specs.Steps.{begun_with, FourSlotSight}
 use Rattle.cell_four_slot.specs.declared.notes.WriterNotes.{WriterNotes}

@@ -1,6 +1,0 @@
--- Looked for at once, so that another value is refused at once.
-use Rattle.std.proofs.Common.{rules}
-use Rattle.atomic_board.proofs.board.Pass.own.Goals as goal
-
-pub returns : goal.returns
-returns g c = search rules

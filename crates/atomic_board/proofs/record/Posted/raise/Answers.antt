@@ -1,9 +1,0 @@
--- Looked for at once, so that another value is refused at once.
-use Rattle.std.proofs.Common.{rules}
-use Rattle.atomic_board.proofs.record.Posted.raise.Goals as goal
-
-pub returns-then-lt : goal.returns-then-lt
-returns-then-lt g c = search rules
-
-pub returns-else-lt : goal.returns-else-lt
-returns-else-lt g c = search rules

@@ -1,0 +1,311 @@
+-- One access more of a call: it is the last of its steps, and those before keep their places.
+use Rattle.std.proofs.Common.{◌≡◌, Bool, true, false, ℕ, zero, suc, ◌+◌, ◌-◌, ◌*◌, ◌<◌, ◌≤◌, List, [], ◌∷◌, ◌++◌, length, slice_get, Some}
+use Rattle.std.proofs.Common.{refl, sym, ◌∙◌, ap, subst, arith, inl, inr, append_assoc, append-nil, add-mul}
+use Rattle.std.specs.Prelude.{IsTrue}
+use Rattle.std.proofs.lemmas.Bool.{cases_lt}
+use Rattle.std.proofs.lemmas.List.{length_push, length-append}
+use Rattle.std.proofs.lemmas.List.Sums.{fold-append}
+use Rattle.std.proofs.lemmas.Option.{none-some, same_Some, slice_get_within}
+use Rattle.history_core.proofs.Places.{get_after, get_before, get_pushed_cases}
+use Rattle.history_core.proofs.Played.{later_operation}
+use Rattle.cell_live.specs.declared.times.Times.{Times}
+use Rattle.cell_live.specs.Running.{last_or}
+use Rattle.family_live.specs.declared.family.Family.{Ghosts as FamilyWords}
+use Rattle.family_live.specs.Accesses.{IsAccess, IsWrite, Keeps, KeepsOthers, Reads, Rises as Later, Writes}
+use Rattle.family_live.specs.Rows.{InTurn, IsReadFrom, IsWriteTo}
+use Rattle.family_live.specs.Rows.InTurn.{no_call, one_more}
+use Rattle.matrix_core.specs.Lines.{other}
+use Rattle.matrix_core.proofs.lines.Others.{other_above, other_below}
+use Rattle.board_history.specs.Accesses.{IsInterval}
+use Rattle.board_history.proofs.Growing.{not_both}
+use Rattle.board_live.specs.declared.record.Posted.{Posted}
+use Rattle.board_live.specs.inner.Calls.{HasRead, HasRow, HasWritten, IsIntervalOf, IsSpan}
+use Rattle.board_live.specs.Passes.{IsAnswered}
+use Rattle.board_live.specs.Records.{greater, Rises, rises_on}
+use Rattle.board_live.proofs.Records.{greater_either, risen, rises_greater}
+
+pub other_once : (i e r : ℕ) → other i e ≡ other i r → e ≡ r
+other_once i e r h = elim (cases_lt e i) [
+  | inl le ↦ elim (cases_lt r i) [
+    | inl lr ↦ sym (other_below i e le) ∙ h ∙ other_below i r lr
+    | inr ge ↦ let a = other_below i e le in let b = other_above i r ge in absurd (omega arith)
+  ]
+  | inr ge ↦ elim (cases_lt r i) [
+    | inl lr ↦ let a = other_above i e ge in let b = other_below i r lr in absurd (omega arith)
+    | inr gr ↦ let a = other_above i e ge in let b = other_above i r gr in omega arith
+  ]
+]
+
+-- an access among more steps
+pub stays : (width : ℕ) (steps more : List ℕ) (access count : ℕ) (begins ends begins' ends' : List ℕ) → length steps ≡ count * width →
+    access < count → 0 < width → IsInterval width steps access begins ends begins' ends' →
+    IsInterval width (steps ++ more) access begins ends begins' ends'
+stays width steps more access count begins ends begins' ends' long l some h =
+    let room : access * width + width ≤ count * width = later_operation width access count l in
+    record {
+      begin = h.begin;
+      end = h.end;
+      first = get_before steps more (access * width) (omega arith) ∙ h.first;
+      last = get_before steps more (access * width + (width - 1)) (omega arith) ∙ h.last;
+      begun = h.begun;
+      ended = h.ended;
+    }
+
+-- the access that was just made
+newest : (width clock clock' : ℕ) (times times' steps : List ℕ) (old new : Times) (count : ℕ) → length steps ≡ count * width →
+    (h : IsAccess width clock clock' times times' old new) → IsInterval width (steps ++ h.steps) count old.begins old.ends new.begins new.ends
+newest width clock clock' times times' steps old new count long h = record {
+  begin = h.first;
+  end = clock';
+  first = ap (slice_get (steps ++ h.steps)) (let e : count * width ≡ length steps + 0 = omega arith in e) ∙ get_after steps h.steps 0 ∙ h.first_is;
+  last = ap (slice_get (steps ++ h.steps)) (let e : count * width + (width - 1) ≡ length steps + (width - 1) = omega arith in e)
+      ∙ get_after steps h.steps (width - 1) ∙ h.last_is;
+  begun = h.begins;
+  ended = h.ends;
+}
+
+longer : (width count : ℕ) (steps more : List ℕ) → length steps ≡ count * width → length more ≡ width → length (steps ++ more) ≡ (count + 1) * width
+longer width count steps more a b = length-append steps more
+    ∙ (let z : length steps + length more ≡ count * width + 1 * width = omega arith in z) ∙ sym (add-mul count 1 width)
+
+some_steps : (width clock clock' : ℕ) (times times' : List ℕ) (old new : Times) → IsAccess width clock clock' times times' old new → 0 < width
+some_steps width clock clock' times times' old new h = let l = slice_get_within h.steps 0 h.first h.first_is in let e = h.long in omega arith
+
+-- steps that rise, and their last
+rises_above : (clock : ℕ) (steps : List ℕ) (k b : ℕ) → Later clock steps → slice_get steps k ≡ Some b → clock < b
+rises_above clock [] k b h e = absurd (none-some b e)
+rises_above clock (t ∷ ts) zero b h e = let z : t ≡ b = same_Some t b e in let l = h.0 in omega arith
+rises_above clock (t ∷ ts) (suc k) b h e = let l = h.0 in let m : t < b = rises_above t ts k b h.1 e in omega arith
+
+rises_from : (clock : ℕ) (steps : List ℕ) (k a b : ℕ) → Later clock steps → slice_get steps 0 ≡ Some a → slice_get steps k ≡ Some b →
+    (clock < a) × (a ≤ b)
+rises_from clock [] k a b h e f = absurd (none-some a e)
+rises_from clock (t ∷ ts) zero a b h e f =
+    let y : t ≡ a = same_Some t a e in let z : t ≡ b = same_Some t b f in let l = h.0 in (omega arith, omega arith)
+rises_from clock (t ∷ ts) (suc k) a b h e f =
+    let y : t ≡ a = same_Some t a e in
+    let l = h.0 in
+    let m : t < b = rises_above t ts k b h.1 f in
+    (omega arith, omega arith)
+
+access_span : (width clock clock' : ℕ) (times times' : List ℕ) (old new : Times) → (h : IsAccess width clock clock' times times' old new) →
+    IsSpan clock clock' h.steps
+access_span width clock clock' times times' old new h =
+    let r = rises_from clock h.steps (width - 1) h.first clock' h.rising h.first_is h.last_is in
+    inr (h.first, h.first_is, r.0, r.1, subst (λ m. slice_get h.steps (m - 1) ≡ Some clock') (sym h.long) h.last_is)
+
+-- steps after steps
+pub span_on : (a b c : ℕ) (steps more : List ℕ) → IsSpan a b steps → IsSpan b c more → IsSpan a c (steps ++ more)
+span_on a b c steps more (inl x) (inl y) =
+    inl (ap (λ z. z ++ more) x.0 ∙ y.0, y.1 ∙ x.1)
+span_on a b c steps more (inl x) (inr y) =
+    subst (λ z. IsSpan z c (steps ++ more)) x.1 (subst (λ z. IsSpan b c (z ++ more)) (sym x.0) (inr y))
+span_on a b c steps more (inr x) (inl y) =
+    subst (λ z. IsSpan a z (steps ++ more)) (sym y.1)
+    (subst (λ z. IsSpan a b (steps ++ z)) (sym y.0) (subst (IsSpan a b) (sym (append-nil steps)) (inr x)))
+span_on a b c steps more (inr x) (inr y) =
+    let n = slice_get_within steps 0 x.0 x.1 in
+    let m = slice_get_within more 0 y.0 y.1 in
+    let l = x.3 in
+    let k = y.2 in
+    let j = y.3 in
+    inr (
+      x.0,
+      get_before steps more 0 n ∙ x.1,
+      x.2,
+      omega arith,
+      ap (slice_get (steps ++ more)) (let e : length (steps ++ more) ≡ length steps + length more = length-append steps more in
+          let z : length (steps ++ more) - 1 ≡ length steps + (length more - 1) = omega arith in z)
+          ∙ get_after steps more (length more - 1) ∙ y.4,
+    )
+
+module _ {V F S T : Type 0} (words : FamilyWords F (Posted V) S T) where
+  pub nothing_read : (obeys : V → Bool) (family : F) (process : ℕ) (seat : S) (seen : Posted V) → words.is_seat family seat →
+      IsTrue (obeys seen.item) → HasRead words obeys family process 0 seat seat seen seen
+  nothing_read obeys family process seat seen is lawful = record {
+    of = (is, refl);
+    steps = [];
+    long = let z : 0 ≡ 0 * words.width = omega arith in z;
+    times = sym (append-nil (words.times seat));
+    span = inl (refl, refl);
+    answers = [];
+    each = refl;
+    reads = λ e answer there. absurd (none-some answer there);
+    unread = λ e l. refl;
+    writes = λ j. refl;
+    sees = refl;
+    lawful = lawful;
+    rises = inr (refl, refl);
+  }
+
+  -- a read of one process, as the family has it
+  abbrev IsReadOf : (V → Bool) → F → ℕ → S × Posted V → S × Posted V → Type 0
+  IsReadOf obeys family = IsReadFrom (words.is_seat family) words.who words.clock words.times words.writes words.reads words.width
+      (words.opening family) (λ p. IsTrue (obeys p.item)) Rises (λ old item new. new ≡ greater old item)
+
+  pub read_more : (obeys : V → Bool) (family : F) (process count : ℕ) (start now next : S) (own seen seen' : Posted V) →
+      HasRead words obeys family process count start now own seen → IsReadOf obeys family (other process count) (now, seen) (next, seen') →
+      HasRead words obeys family process (count + 1) start next own seen'
+  read_more obeys family process count start now next own seen seen' r h = record {
+    of = (h.own.0, h.own.1 ∙ r.of.1);
+    steps = r.steps ++ h.access.steps;
+    long = longer words.width count r.steps h.access.steps r.long h.access.long;
+    times = h.access.made ∙ ap (λ ts. ts ++ h.access.steps) r.times ∙ append_assoc (words.times start) r.steps h.access.steps;
+    span = span_on (words.clock start) (words.clock now) (words.clock next) r.steps h.access.steps r.span
+        (access_span words.width (words.clock now) (words.clock next) (words.times now) (words.times next)
+        (words.reads now (other process count)).times (words.reads next (other process count)).times h.access);
+    answers = r.answers ++ h.answer ∷ [];
+    each = length_push r.answers h.answer ∙ ap (λ m. m + 1) r.each;
+    reads = λ e answer there. elim (get_pushed_cases r.answers h.answer e answer there) [
+      | inl was ↦
+          let l : e < count = let a = slice_get_within r.answers e answer was in let b = r.each in omega arith in
+          let x = r.reads e answer was in
+          subst (λ (z : Reads (Posted V)). IsIntervalOf words.width (r.steps ++ h.access.steps) e (words.reads start (other process e)).times z.times
+          × IsAnswered obeys (words.opening family) (words.reads start (other process e)) z answer)
+          (sym (h.others.0 (other process e) (λ s. let z = other_once process e count s in omega arith)))
+          (stays words.width r.steps h.access.steps e count _ _ _ _ r.long l some x.0, x.1)
+      | inr new ↦
+          let at : e ≡ count = new.0 ∙ r.each in
+          subst (λ z. IsIntervalOf words.width (r.steps ++ h.access.steps) z (words.reads start (other process z)).times
+          (words.reads next (other process z)).times
+          × IsAnswered obeys (words.opening family) (words.reads start (other process z)) (words.reads next (other process z)) answer) (sym at)
+          (subst (λ (z : Reads (Posted V)). IsIntervalOf words.width (r.steps ++ h.access.steps) count z.times (words.reads next (other process count)).times
+          × IsAnswered obeys (words.opening family) z (words.reads next (other process count)) answer) (r.unread count (omega arith)) (
+            newest words.width (words.clock now) (words.clock next) (words.times now) (words.times next) r.steps
+                (words.reads now (other process count)).times (words.reads next (other process count)).times count r.long h.access,
+            subst (IsAnswered obeys (words.opening family) (words.reads now (other process count)) (words.reads next (other process count))) new.1
+                (record { read = h.read; running = h.may }),
+          ))
+    ];
+    unread = λ e l. h.others.0 (other process e) (λ s. let z = other_once process e count s in omega arith) ∙ r.unread e (omega arith);
+    writes = λ j. h.others.1 j ∙ r.writes j;
+    sees = h.saw ∙ ap (λ z. greater z h.answer) r.sees ∙ sym (fold-append greater own r.answers (h.answer ∷ []));
+    lawful = subst (λ z. IsTrue (obeys z.item)) (sym h.saw) (greater_either obeys seen h.answer r.lawful h.may.0);
+    rises = subst (λ z. Rises own z) (sym h.saw) (rises_on own seen (greater seen h.answer) r.rises (rises_greater seen h.answer));
+  }
+    where
+      some : 0 < words.width
+      some = some_steps words.width (words.clock now) (words.clock next) (words.times now) (words.times next)
+          (words.reads now (other process count)).times (words.reads next (other process count)).times h.access
+
+  -- a column of the family is one of the board
+  pub column_read : (obeys : V → Bool) (family : F) (process : ℕ) (start : S) (own : Posted V) → words.is_seat family start → IsTrue (obeys own.item) →
+      (count : ℕ) (now : S × Posted V) → InTurn (IsReadOf obeys family) process (start, own) count now →
+      HasRead words obeys family process count start now.0 own now.1
+  column_read obeys family process start own is lawful _ _ no_call = nothing_read obeys family process start own is lawful
+  column_read obeys family process start own is lawful _ _ (one_more count now new r call) = read_more obeys family process count start now.0 new.0
+      own now.1 new.1 (column_read obeys family process start own is lawful count now r) call
+
+  last_of : (first : Posted V) (items : List (Posted V)) (item : Posted V) → last_or first (items ++ item ∷ []) ≡ item
+  last_of first [] item = refl
+  last_of first (x ∷ items) item = last_of x items item
+
+  pub nothing_written : (family : F) (process : ℕ) (seat : S) (item : Posted V) → words.is_seat family seat →
+      HasWritten words family process 0 seat seat item
+  nothing_written family process seat item is = record {
+    of = (is, refl);
+    steps = [];
+    long = let z : 0 ≡ 0 * words.width = omega arith in z;
+    times = sym (append-nil (words.times seat));
+    span = inl (refl, refl);
+    writes = λ e l. absurd (omega arith);
+    unwritten = λ e l. refl;
+    last = λ e first l. absurd (omega arith);
+    reads = λ j. refl;
+  }
+
+  pub write_more : (family : F) (process count : ℕ) (start now next : S) (item : Posted V) → HasWritten words family process count start now item →
+      words.is_seat family next × (words.who next ≡ words.who now) →
+      IsAccess words.width (words.clock now) (words.clock next) (words.times now) (words.times next)
+      (words.writes now (other process count)).times (words.writes next (other process count)).times →
+      IsWrite (words.writes now (other process count)) (words.writes next (other process count)) item →
+      KeepsOthers (other process count) (words.writes now) (words.writes next) × Keeps (words.reads now) (words.reads next) →
+      HasWritten words family process (count + 1) start next item
+  write_more family process count start now next item r of access more others = record {
+    of = (of.0, of.1 ∙ r.of.1);
+    steps = r.steps ++ access.steps;
+    long = longer words.width count r.steps access.steps r.long access.long;
+    times = access.made ∙ ap (λ ts. ts ++ access.steps) r.times ∙ append_assoc (words.times start) r.steps access.steps;
+    span = span_on (words.clock start) (words.clock now) (words.clock next) r.steps access.steps r.span
+        (access_span words.width (words.clock now) (words.clock next) (words.times now) (words.times next)
+        (words.writes now (other process count)).times (words.writes next (other process count)).times access);
+    writes = λ e l. elim (cases_lt e count) [
+      | inl lt ↦
+          let x = r.writes e lt in
+          subst (λ (z : Writes (Posted V)). IsIntervalOf words.width (r.steps ++ access.steps) e (words.writes start (other process e)).times z.times
+          × IsWrite (words.writes start (other process e)) z item)
+          (sym (others.0 (other process e) (λ s. let z = other_once process e count s in omega arith)))
+          (stays words.width r.steps access.steps e count _ _ _ _ r.long lt some x.0, x.1)
+      | inr ge ↦
+          let at : e ≡ count = omega arith in
+          subst (λ z. IsIntervalOf words.width (r.steps ++ access.steps) z (words.writes start (other process z)).times
+          (words.writes next (other process z)).times × IsWrite (words.writes start (other process z)) (words.writes next (other process z)) item)
+          (sym at)
+          (subst (λ (z : Writes (Posted V)). IsIntervalOf words.width (r.steps ++ access.steps) count z.times
+          (words.writes next (other process count)).times × IsWrite z (words.writes next (other process count)) item)
+          (r.unwritten count (omega arith)) (
+            newest words.width (words.clock now) (words.clock next) (words.times now) (words.times next) r.steps
+                (words.writes now (other process count)).times (words.writes next (other process count)).times count r.long access,
+            more,
+          ))
+    ];
+    unwritten = λ e l. others.0 (other process e) (λ s. let z = other_once process e count s in omega arith) ∙ r.unwritten e (omega arith);
+    last = λ e first l. elim (cases_lt e count) [
+      | inl lt ↦ ap (λ w. last_or first w.items) (others.0 (other process e) (λ s. let z = other_once process e count s in omega arith))
+          ∙ r.last e first lt
+      | inr ge ↦
+          let at : e ≡ count = omega arith in
+          ap (λ z. last_or first (words.writes next (other process z)).items) at ∙ ap (last_or first) more.items
+          ∙ last_of first (words.writes now (other process count)).items item
+    ];
+    reads = λ j. others.1 j ∙ r.reads j;
+  }
+    where
+      some : 0 < words.width
+      some = some_steps words.width (words.clock now) (words.clock next) (words.times now) (words.times next)
+          (words.writes now (other process count)).times (words.writes next (other process count)).times access
+
+  -- a row of the family is one of the board
+  pub row_written : (family : F) (process : ℕ) (start : S) (item : Posted V) → words.is_seat family start → (count : ℕ) (now : S) →
+      InTurn (IsWriteTo (words.is_seat family) words.who words.clock words.times words.writes words.reads words.width item) process start count now →
+      HasWritten words family process count start now item
+  row_written family process start item is _ _ no_call = nothing_written family process start item is
+  row_written family process start item is _ _ (one_more count now new r call) = write_more family process count start now new item
+      (row_written family process start item is count now r) call.own call.access call.written call.others
+
+  -- the record may stand after the one that was written last
+  pub stands_there : (family : F) (j : ℕ) (start : S) (first own item : Posted V) → words.opening family ≡ first →
+      last_or first (words.writes start j).items ≡ own → Rises own item → Rises (last_or (words.opening family) (words.writes start j).items) item
+  stands_there family j start first own item opens there rises =
+      subst (λ z. Rises z item) (sym (ap (λ z. last_or z (words.writes start j).items) opens ∙ there)) rises
+
+  -- a row that was written, and one that wasn't, since the record stands there
+  pub row_told : (family : F) (process count : ℕ) (seat seat' : S) (own item : Posted V) → HasWritten words family process count seat seat' item →
+      HasRow words family process count seat seat' own item
+  row_told family process count seat seat' own item w = record {
+    of = w.of;
+    tells = true;
+    steps = w.steps;
+    long = w.long;
+    times = w.times;
+    span = w.span;
+    writes = λ t e l. w.writes e l;
+    unwritten = λ f. absurd (not_both true refl f);
+    last = λ t e first l. w.last e first l;
+    reads = w.reads;
+  }
+
+  pub row_kept : (family : F) (process count : ℕ) (seat : S) (own item : Posted V) → words.is_seat family seat → Rises own item →
+      own.stamp ≡ item.stamp → HasRow words family process count seat seat own item
+  row_kept family process count seat own item is rises test = record {
+    of = (is, refl);
+    tells = false;
+    steps = [];
+    long = refl;
+    times = sym (append-nil (words.times seat));
+    span = inl (refl, refl);
+    writes = λ t. absurd (not_both false t refl);
+    unwritten = λ f. (λ j. refl, risen own item rises test);
+    last = λ t. absurd (not_both false t refl);
+    reads = λ j. refl;
+  }

@@ -1,0 +1,53 @@
+-- The reads and the writes of the call are one call more of its pass.
+use Rattle.std.proofs.Common.{◌≡◌, ◌+◌, length, refl, sym, ◌∙◌, ap, inr, rules}
+use Rattle.std.proofs.lemmas.List.{length-append}
+use Rattle.history_core.specs.declared.history.Kind.TheVariants.{Read}
+use Rattle.board_live.proofs.Calling.{is_call, is_pass}
+use Rattle.board_live.proofs.board.Board.read.Goals as goal
+
+pub returns-clause-pass : goal.returns-clause-pass
+returns-clause-pass g c = is_pass g.F.Family g.V.RecordLaw.obeys c.args.self.now c.args.pass.now c.requires Read c.column.new.seen c.column.new.seen
+    c.column.new.seat c.tell_row.new.seat c.column.ensures c.tell_row.ensures.row c.column.ensures.lawful
+
+pub returns-clause-call : goal.returns-clause-call
+returns-clause-call g c = is_call g.F.Family g.V.RecordLaw.obeys c.args.self.now c.args.pass.now c.requires Read c.column.new.seen c.column.new.seen
+    c.column.new.seat c.tell_row.new.seat c.column.ensures c.tell_row.ensures.row (inr (refl, refl)) (λ place. (refl, refl))
+
+pub returns-clause-known : goal.returns-clause-known
+returns-clause-known g c = (is_call g.F.Family g.V.RecordLaw.obeys c.args.self.now c.args.pass.now c.requires Read c.column.new.seen c.column.new.seen
+    c.column.new.seat c.tell_row.new.seat c.column.ensures c.tell_row.ensures.row (inr (refl, refl)) (λ place. (refl, refl))).known
+
+pub returns-clause-quiet : goal.returns-clause-quiet
+returns-clause-quiet g c = λ e.
+    let times = g.F.Family.times in
+    let kept : c.tell_row.new.seat ≡ c.column.new.seat = c.tell_row.ensures.silent (sym e) in
+    ap (λ s. length (times s)) kept ∙ ap length c.column.ensures.times
+    ∙ length-append (times c.args.pass.now.seat) c.column.ensures.steps
+    ∙ ap (λ m. length (times c.args.pass.now.seat) + m) c.column.ensures.long
+
+pub column-requires-clause-of : goal.column-requires-clause-of
+column-requires-clause-of g c = search rules
+
+pub column-requires-clause-lawful : goal.column-requires-clause-lawful
+column-requires-clause-lawful g c = search rules
+
+pub tell_row-requires-clause-of : goal.tell_row-requires-clause-of
+tell_row-requires-clause-of g c = search rules
+
+pub tell_row-requires-clause-opens : goal.tell_row-requires-clause-opens
+tell_row-requires-clause-opens g c = search rules
+
+pub tell_row-requires-clause-last : goal.tell_row-requires-clause-last
+tell_row-requires-clause-last g c = search rules
+
+pub tell_row-requires-clause-rises : goal.tell_row-requires-clause-rises
+tell_row-requires-clause-rises g c = search rules
+
+pub tell_row-requires-clause-lawful : goal.tell_row-requires-clause-lawful
+tell_row-requires-clause-lawful g c = search rules
+
+pub returns-clause-chosen : goal.returns-clause-chosen
+returns-clause-chosen g c = search rules
+
+pub returns-clause-lawful : goal.returns-clause-lawful
+returns-clause-lawful g c = search rules

@@ -1,0 +1,118 @@
+-- The passes of a board's processes, and the calls that were made with them (this project's own).
+use Rattle.std.specs.Prelude.{◌≡◌, ◌≢◌, ◌⊎◌, Bool, IsTrue, ℕ, ◌+◌, ◌<◌, ◌≤◌, List, [], ◌∷◌, ◌++◌, length, map, slice_get, Some}
+use Rattle.std.specs.Prelude.{All, vec_capacity, Result, Ok, Err, true, false}
+use Rattle.cell_live.specs.Running.{IsAnswer, last_or}
+use Rattle.family_live.specs.declared.family.Family.{Ghosts as FamilyWords}
+use Rattle.family_live.specs.Accesses.{IsRead, IsWrite, Keeps, Reads, Writes}
+use Rattle.history_core.specs.declared.history.Kind.{Kind}
+use Rattle.history_core.specs.declared.history.Kind.TheVariants.{Write, Refused}
+use Rattle.stamps.specs.declared.stamp.Stamp.{Stamp}
+use Rattle.stamps.specs.Choices.{IsAtMost}
+use Rattle.stamps.specs.Stamps.{first_stamp}
+use Rattle.matrix_core.specs.Lines.{other}
+use Rattle.board_history.specs.BoardRuns.{Answered, Called, Did, IsProcess, own_before, steps_of_call, Written}
+use Rattle.board_live.specs.declared.board.Board.{Board}
+use Rattle.board_live.specs.declared.board.Pass.{Pass}
+use Rattle.board_live.specs.declared.board.TagsEnded.{TagsEnded}
+use Rattle.board_live.specs.declared.record.Posted.{Posted}
+use Rattle.board_live.specs.Records.{greatest, Rises, stamped}
+
+module _ {V : Type 0} where
+  abbrev pub written_of : Writes (Posted V) → Written V
+  written_of w = record { items = map stamped w.items; begins = w.times.begins; ends = w.times.ends }
+
+  abbrev pub answered_of : Reads (Posted V) → Answered V
+  answered_of r = record { items = map stamped r.answers; numbers = r.numbers; begins = r.times.begins; ends = r.times.ends }
+
+  -- one answer more of another process: it is the record with its number of the writes that are known, atomic by its interval; and it
+  -- obeys its law, and is no older than the opening, the answer before it and all that was told of that process
+  pub record IsAnswered (obeys : V → Bool) (opening : Posted V) (old new : Reads (Posted V)) (answer : Posted V) : Type 0 where
+    pub read : IsRead opening old new answer
+    pub running : IsAnswer (λ p. IsTrue (obeys p.item)) Rises opening old.answers old.told answer
+
+module _ {V F S T : Type 0} (family : FamilyWords F (Posted V) S T) where
+  -- what a process did, by its seat
+  abbrev pub did_of : S → List (Called V) → Did V
+  did_of seat calls = record {
+    times = family.times seat;
+    calls = calls;
+    writes = λ j. written_of (family.writes seat j);
+    reads = λ j. answered_of (family.reads seat j);
+  }
+
+  -- the pass is of this board, and its process has written its own record last
+  pub record IsPass (obeys : V → Bool) (board : Board V F S T) (pass : Pass V F S T) : Type 0 where
+    pub size : (2 ≤ board.processes) × (board.processes ≤ 16)
+    pub some : 0 < family.width
+    pub processes : family.processes board.family ≡ board.processes
+    pub opens : family.opening board.family ≡ board.first
+    pub first : board.first.stamp ≡ first_stamp
+    pub inside : pass.process < board.processes
+    pub room : (pass.process + 1 ≡ board.processes → board.processes ≤ vec_capacity pass.room) × (pass.room.items ≡ [])
+    pub seat : family.is_seat board.family pass.seat
+    pub who : family.who pass.seat ≡ pass.process
+    pub lawful : IsTrue (obeys pass.own.item)
+    pub last : (j : ℕ) → j < board.processes → j ≢ pass.process → last_or board.first (family.writes pass.seat j).items ≡ pass.own
+
+  -- these calls were made with the pass
+  pub record HasMade (board : Board V F S T) (pass : Pass V F S T) (calls : List (Called V)) : Type 0 where
+    pub made : IsProcess family.width board.processes board.limit (stamped board.first) pass.process (did_of pass.seat calls)
+    pub own : stamped pass.own ≡ own_before (stamped board.first) calls (length calls)
+
+  -- *Known*: it is the own record, or the record with a number of those that the process knows another one to have written to it, where
+  -- the opening has number 0
+  abbrev pub IsKnown : Board V F S T → Pass V F S T → Pass V F S T → Posted V → Type 0
+  IsKnown board old new seen = (seen ≡ old.own) ⊎ ((j : ℕ) × (number : ℕ) × (j < board.processes) × (j ≢ old.process)
+      × (slice_get (board.first ∷ (family.reads new.seat j).known.items) number ≡ Some seen))
+
+  -- *A call*: its process saw this record, the greatest of its own and of one answer of each other process, none of which is below what
+  -- it was told of that one; and it wrote the record that it chose to each, or it wrote nothing, where it chose its own record. The call
+  -- begins after all that the process knew of, and takes so many steps: of a read of each other process, and of a write to each where it
+  -- tells what it chose. All of the calls that were made with the pass are those made before and this one
+  pub record IsCall (obeys : V → Bool) (board : Board V F S T) (kind : Kind) (old new : Pass V F S T) (seen : Posted V) : Type 0 where
+    pub process : new.process ≡ old.process
+    pub begin : ℕ
+    pub end : ℕ
+    pub interval : (family.clock old.seat < begin) × (begin ≤ end) × (family.clock new.seat ≡ end)
+    pub answers : List (Posted V)
+    pub each : length answers + 1 ≡ board.processes
+    pub answered : (e : ℕ) (answer : Posted V) → slice_get answers e ≡ Some answer →
+        IsAnswered obeys board.first (family.reads old.seat (other old.process e)) (family.reads new.seat (other old.process e)) answer
+    pub is_seen : seen ≡ greatest old.own answers
+    pub known : IsKnown board old new seen
+    pub heeds : (j : ℕ) → j < board.processes → j ≢ old.process → All (λ t. IsAtMost t.stamp seen.stamp) (family.reads old.seat j).told
+    pub rises : Rises old.own seen
+    pub onward : Rises seen new.own
+    pub tells : Bool
+    pub steps : length (family.times new.seat) ≡ length (family.times old.seat) + steps_of_call family.width board.processes tells
+    pub written : tells ≡ true → (j : ℕ) → j < board.processes → j ≢ old.process →
+        IsWrite (family.writes old.seat j) (family.writes new.seat j) new.own
+    pub unwritten : tells ≡ false → Keeps (family.writes old.seat) (family.writes new.seat) × (new.own ≡ old.own)
+    pub made : (calls : List (Called V)) → HasMade board old calls → HasMade board new (calls ++ record {
+      begin = begin;
+      end = end;
+      kind = kind;
+      seen = stamped seen;
+      chosen = stamped new.own;
+      tells = tells;
+    } ∷ [])
+
+module _ {V F S T : Type 0} (family : FamilyWords F (Posted V) S T) where
+  -- no call was made: whatever calls were made with the pass still are
+  pub record HasSame (board : Board V F S T) (old new : Pass V F S T) : Type 0 where
+    pub process : new.process ≡ old.process
+    pub own : new.own ≡ old.own
+    pub later : family.clock old.seat ≤ family.clock new.seat
+    pub writes : Keeps (family.writes old.seat) (family.writes new.seat)
+    pub made : (calls : List (Called V)) → HasMade family board old calls → HasMade family board new calls
+
+module _ {V : Type 0} where
+  -- what a write chooses, and answers: below the limit its item with the next stamp, else what was seen
+  abbrev pub Chooses : ℕ → ℕ → V → Posted V → Posted V → Result Stamp (TagsEnded V) → Type 0
+  Chooses limit process item seen chosen (Ok s) =
+      (seen.stamp.tag < limit) × (s ≡ record { tag = seen.stamp.tag + 1; writer = process }) × (chosen ≡ record { stamp = s; item = item })
+  Chooses limit process item seen chosen (Err e) = (limit ≤ seen.stamp.tag) × (e.seen ≡ seen) × (chosen ≡ seen)
+
+  abbrev pub kind_of : Result Stamp (TagsEnded V) → Kind
+  kind_of (Ok s) = Write
+  kind_of (Err e) = Refused

@@ -1,0 +1,31 @@
+-- What a receipt tells (this project's own).
+use Rattle.std.specs.Prelude.{◌≡◌, ◌≢◌, ℕ, ◌<◌, ◌≤◌}
+use Rattle.family_live.specs.declared.family.Family.{Ghosts as FamilyWords}
+use Rattle.family_live.specs.Accesses.{IsHeardRead, Keeps, KeepsOthers}
+use Rattle.board_live.specs.declared.board.Board.{Board}
+use Rattle.board_live.specs.declared.board.Pass.{Pass}
+use Rattle.board_live.specs.declared.receipts.Receipt.{Receipt}
+use Rattle.board_live.specs.declared.record.Posted.{Posted}
+
+module _ {V F S T : Type 0} (family : FamilyWords F (Posted V) S T) where
+  -- the receipt is of this board, and names its record of its sender to each other process
+  pub record IsReceipt (board : Board V F S T) (receipt : Receipt V F S T) : Type 0 where
+    pub of : family.is_told board.family receipt.told
+    pub sender : family.sender receipt.told ≡ receipt.from
+    pub inside : receipt.from < board.processes
+    pub names : (j : ℕ) → j < board.processes → j ≢ receipt.from → family.named receipt.told j ≡ receipt.item
+
+  -- the receipt names its sender's own record, and has the last time of which its sender knew; nothing was read
+  pub record HasTold (board : Board V F S T) (old new : Pass V F S T) (receipt : Receipt V F S T) : Type 0 where
+    pub is : IsReceipt board receipt
+    pub from : receipt.from ≡ old.process
+    pub names : receipt.item ≡ old.own
+    pub time : family.time_of receipt.told ≡ family.clock old.seat
+    pub reads : Keeps (family.reads old.seat) (family.reads new.seat)
+
+  -- the process knows of the receipt's time, and was told its record of the sender; nothing was read
+  pub record HasLearnt (old new : Pass V F S T) (receipt : Receipt V F S T) : Type 0 where
+    pub time : family.time_of receipt.told ≤ family.clock new.seat
+    pub heard : receipt.from ≢ old.process →
+        IsHeardRead (family.reads old.seat receipt.from) (family.reads new.seat receipt.from) receipt.item
+    pub others : KeepsOthers receipt.from (family.reads old.seat) (family.reads new.seat)

@@ -1,0 +1,147 @@
+//! Reading and writing.
+ghost use Rattle.std.specs.Prelude.{◌≡◌, ◌≢◌, ◌+◌, ◌-◌, ◌*◌, ◌<◌, length, IfErr, IfOk, IsTrue};
+ghost use Rattle.board_live.specs.inner.Calls.{HasRead, HasRow, HasWritten, IsOf};
+ghost use Rattle.cell_live.specs.Running.{last_or};
+ghost use Rattle.history_core.specs.declared.history.Kind.TheVariants.{Read};
+ghost use Rattle.board_live.specs.Passes.{Chooses, IsCall, IsKnown, IsPass, kind_of};
+ghost use Rattle.stamps.specs.Stamps.{IsBelow};
+ghost use Rattle.board_live.specs.Records.{Rises};
+
+use crate::board::{Board, Pass, TagsEnded};
+use crate::record::{Posted, RecordLaw};
+use family_live::Family;
+use stamps::Stamp;
+
+/// Reads what each other process shows, rising, and raises `seen` to the greatest.
+#[inline(always)]
+fn column<V: RecordLaw, F: Family<Posted<V>>>(
+    family: &F,
+    processes: usize,
+    process: usize,
+    seat: &mut F::Seat,
+    seen: &mut Posted<V>,
+)
+    requires of { IsOf ⟦<F as Family<Posted<V>>>⟧ family.now processes process seat.old }
+    requires lawful { IsTrue (V.obeys seen.old.item) }
+    ensures { HasRead ⟦<F as Family<Posted<V>>>⟧ V.obeys family.now process (processes - 1) seat.old seat.new seen.old seen.new }
+{
+    family.read_all_from(seat, seen);
+}
+
+/// Writes the record to each other process, rising.
+#[inline(always)]
+fn row<V: RecordLaw, F: Family<Posted<V>>>(
+    family: &F,
+    processes: usize,
+    process: usize,
+    seat: &mut F::Seat,
+    first: &Posted<V>,
+    own: &Posted<V>,
+    item: &Posted<V>,
+)
+    requires of { IsOf ⟦<F as Family<Posted<V>>>⟧ family.now processes process seat.old }
+    requires opens { F.opening family.now ≡ first.now }
+    requires last { (j : _) → j < processes → j ≢ process → last_or first.now (F.writes seat.old j).items ≡ own.now }
+    requires rises { Rises own.now item.now }
+    requires lawful { IsTrue (V.obeys item.now.item) }
+    ensures { HasWritten ⟦<F as Family<Posted<V>>>⟧ family.now process (processes - 1) seat.old seat.new item.now }
+{
+    family.write_all_from(seat, item);
+}
+
+/// Writes the record to each other process, where it is above the own record, which they have.
+#[inline]
+fn tell_row<V: RecordLaw, F: Family<Posted<V>>>(
+    family: &F,
+    processes: usize,
+    process: usize,
+    seat: &mut F::Seat,
+    first: &Posted<V>,
+    own: &Posted<V>,
+    item: &Posted<V>,
+)
+    requires of { IsOf ⟦<F as Family<Posted<V>>>⟧ family.now processes process seat.old }
+    requires opens { F.opening family.now ≡ first.now }
+    requires last { (j : _) → j < processes → j ≢ process → last_or first.now (F.writes seat.old j).items ≡ own.now }
+    requires rises { Rises own.now item.now }
+    requires lawful { IsTrue (V.obeys item.now.item) }
+    ensures row { HasRow ⟦<F as Family<Posted<V>>>⟧ family.now process (processes - 1) seat.old seat.new own.now item.now }
+    ensures silent { own.now.stamp ≡ item.now.stamp → seat.new ≡ seat.old }
+{
+    if own.stamp != item.stamp {
+        row(family, processes, process, seat, first, own, item);
+    }
+}
+
+impl<V: RecordLaw, F: Family<Posted<V>>> Board<V, F> {
+    /// Gives the greatest of the process's own record and what each other process shows, and hands it on, where it isn't the own record,
+    /// which was handed on before. It is a record that was really written, or the opening.
+    #[inline]
+    pub fn read(&self, pass: &mut Pass<V, F>) -> Posted<V>
+        requires { IsPass ⟦<F as Family<Posted<V>>>⟧ V.obeys self.now pass.old }
+        ensures pass { IsPass ⟦<F as Family<Posted<V>>>⟧ V.obeys self.now pass.new }
+        ensures call { IsCall ⟦<F as Family<Posted<V>>>⟧ V.obeys self.now Read pass.old pass.new result }
+        ensures known { IsKnown ⟦<F as Family<Posted<V>>>⟧ self.now pass.old pass.new result }
+        ensures chosen { pass.new.own ≡ result }
+        // A read that has its process's own record takes the steps of its column alone.
+        ensures quiet { result.stamp ≡ pass.old.own.stamp →
+            length (F.times pass.new.seat) ≡ length (F.times pass.old.seat) + (self.now.processes - 1) * F.width }
+        ensures lawful { IsTrue (V.obeys result.item) }
+    {
+        let own = pass.own;
+        column(
+            &self.family,
+            self.processes,
+            pass.process,
+            &mut pass.seat,
+            &mut pass.own,
+        );
+        tell_row(
+            &self.family,
+            self.processes,
+            pass.process,
+            &mut pass.seat,
+            &self.first,
+            &own,
+            &pass.own,
+        );
+        pass.own
+    }
+
+    /// Gives the item the next stamp above what the own record and the others show, and hands it on. Where the greatest tag seen isn't
+    /// below the limit, hands on what was seen.
+    #[inline]
+    pub fn write(&self, pass: &mut Pass<V, F>, item: V) -> Result<Stamp, TagsEnded<V>>
+        requires pass { IsPass ⟦<F as Family<Posted<V>>>⟧ V.obeys self.now pass.old }
+        requires item { IsTrue (V.obeys item) }
+        ensures pass { IsPass ⟦<F as Family<Posted<V>>>⟧ V.obeys self.now pass.new }
+        ensures call { (seen : _) × IsCall ⟦<F as Family<Posted<V>>>⟧ V.obeys self.now (kind_of result) pass.old pass.new seen
+            × Chooses self.now.limit pass.old.process item seen pass.new.own result }
+        ensures raised { IfOk result (λ s. IsBelow pass.old.own.stamp s) }
+        ensures lawful { IfErr result (λ e. IsTrue (V.obeys e.seen.item)) }
+    {
+        let own = pass.own;
+        column(
+            &self.family,
+            self.processes,
+            pass.process,
+            &mut pass.seat,
+            &mut pass.own,
+        );
+        let next = pass.own.stamp.next(self.limit, pass.process);
+        pass.own.renew(next, item);
+        row(
+            &self.family,
+            self.processes,
+            pass.process,
+            &mut pass.seat,
+            &self.first,
+            &own,
+            &pass.own,
+        );
+        match next {
+            Some(stamp) => Ok(stamp),
+            None => Err(TagsEnded { seen: pass.own }),
+        }
+    }
+}

@@ -1,0 +1,49 @@
+//! Receipts: what one process tells others.
+ghost use Rattle.board_live.specs.Passes.{IsPass, HasSame};
+ghost use Rattle.board_live.specs.Receipts.{HasLearnt, HasTold, IsReceipt};
+
+use crate::board::{Board, Pass};
+use crate::record::{Posted, RecordLaw};
+use family_live::Family;
+
+/// A receipt of one process for all that it has done and knows of: whoever learns it reads nothing that is older.
+#[derive(Drop)]
+pub struct Receipt<V: RecordLaw, F: Family<Posted<V>>> {
+    pub(crate) from: usize,
+    pub(crate) item: Posted<V>,
+    pub(crate) told: F::Told,
+}
+
+impl<V: RecordLaw, F: Family<Posted<V>>> Board<V, F> {
+    /// Gives a receipt for all that the process has done and knows of, to whichever process.
+    pub fn tell(&self, pass: &mut Pass<V, F>) -> Receipt<V, F>
+        requires { IsPass ⟦<F as Family<Posted<V>>>⟧ V.obeys self.now pass.old }
+        ensures pass { IsPass ⟦<F as Family<Posted<V>>>⟧ V.obeys self.now pass.new }
+        ensures same { HasSame ⟦<F as Family<Posted<V>>>⟧ self.now pass.old pass.new }
+        ensures told { HasTold ⟦<F as Family<Posted<V>>>⟧ self.now pass.old pass.new result }
+    {
+        let told = self.family.tell(&mut pass.seat);
+        Receipt {
+            from: pass.process,
+            item: pass.own,
+            told,
+        }
+    }
+
+    /// Takes a receipt in: from now on the calls of this process begin later than all that the sender had done and knew of, and see no
+    /// record that is older than the one that the receipt names.
+    pub fn learn(&self, pass: &mut Pass<V, F>, receipt: Receipt<V, F>)
+        requires pass { IsPass ⟦<F as Family<Posted<V>>>⟧ V.obeys self.now pass.old }
+        requires receipt { IsReceipt ⟦<F as Family<Posted<V>>>⟧ self.now receipt }
+        ensures pass { IsPass ⟦<F as Family<Posted<V>>>⟧ V.obeys self.now pass.new }
+        ensures same { HasSame ⟦<F as Family<Posted<V>>>⟧ self.now pass.old pass.new }
+        ensures learnt { HasLearnt ⟦<F as Family<Posted<V>>>⟧ pass.old pass.new receipt }
+    {
+        let Receipt {
+            from: _,
+            item: _,
+            told,
+        } = receipt;
+        self.family.learn(&mut pass.seat, told);
+    }
+}

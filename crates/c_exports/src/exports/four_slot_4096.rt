@@ -1,0 +1,66 @@
+//! A four-slot cell with records of 4,096 bytes.
+ghost use Rattle.c_registers.specs.FourSlotCalls.{IsMade, HasWritten, HasRead};
+ghost use Rattle.c_registers.specs.Handles.{IsMake, IsWrite, IsRead, IsLook, IsEnd};
+ghost use Rattle.c_handles.specs.Held.{held};
+ghost use Rattle.c_handles.specs.declared.side.Side.TheVariants.{Of4096};
+ghost use Rattle.c_handles.specs.declared.side.Party.TheVariants.{Writes, Reads};
+
+use c_handles::{
+    Handle, Record4096, four_slot_end_reader, four_slot_end_writer, four_slot_look, four_slot_make,
+    four_slot_read, four_slot_write,
+};
+use std::alloc::Global;
+
+#[unsafe(no_mangle)]
+pub extern "C" fn nidzaru_4096_make(
+    alloc: Global,
+    first: &Record4096,
+    writer: &mut Handle,
+    reader: &mut Handle,
+) -> u32
+    ensures { IsMake (λ p. Of4096 (Writes p)) (λ g. Of4096 (Reads g)) IsMade
+        (held writer.old) (held reader.old) (held writer.new) (held reader.new) first.now result }
+{
+    four_slot_make::<Record4096>(alloc, first, writer, reader)
+}
+
+#[unsafe(no_mangle)]
+pub extern "C" fn nidzaru_4096_write(alloc: Global, writer: &mut Handle, item: &Record4096) -> u32
+    ensures { IsWrite (λ p. Of4096 (Writes p)) (λ p. p.number) HasWritten (held writer.old) (held writer.new) item.now result }
+{
+    four_slot_write::<Record4096>(alloc, writer, item)
+}
+
+#[unsafe(no_mangle)]
+pub extern "C" fn nidzaru_4096_read(
+    alloc: Global,
+    reader: &mut Handle,
+    item: &mut Record4096,
+    number: &mut u64,
+) -> u32
+    ensures { IsRead (λ g. Of4096 (Reads g)) HasRead (held reader.old) (held reader.new)
+        item.old item.new number.old number.new result }
+{
+    four_slot_read::<Record4096>(alloc, reader, item, number)
+}
+
+#[unsafe(no_mangle)]
+pub extern "C" fn nidzaru_4096_look(alloc: Global, reader: &mut Handle, number: &mut u64) -> u32
+    ensures { IsLook (λ g. Of4096 (Reads g)) HasRead (held reader.old) (held reader.new) number.old number.new result }
+{
+    four_slot_look::<Record4096>(alloc, reader, number)
+}
+
+#[unsafe(no_mangle)]
+pub extern "C" fn nidzaru_4096_end_writer(alloc: Global, writer: &mut Handle) -> u32
+    ensures { IsEnd (λ p. Of4096 (Writes p)) (held writer.old) (held writer.new) result }
+{
+    four_slot_end_writer::<Record4096>(alloc, writer)
+}
+
+#[unsafe(no_mangle)]
+pub extern "C" fn nidzaru_4096_end_reader(alloc: Global, reader: &mut Handle) -> u32
+    ensures { IsEnd (λ g. Of4096 (Reads g)) (held reader.old) (held reader.new) result }
+{
+    four_slot_end_reader::<Record4096>(alloc, reader)
+}

@@ -1,0 +1,74 @@
+//! A triple buffer with records of 1,024 bytes.
+ghost use Rattle.c_registers.specs.TripleCalls.{IsMade, HasWritten, HasRead};
+ghost use Rattle.c_registers.specs.Handles.{IsMake, IsWrite, IsRead, IsLook, IsEnd};
+ghost use Rattle.c_handles.specs.Held.{held};
+ghost use Rattle.c_handles.specs.declared.side.Side.TheVariants.{Of1024};
+ghost use Rattle.c_handles.specs.declared.side.Party.TheVariants.{TripleWrites, TripleReads};
+
+use c_handles::{
+    Handle, Record1024, triple_end_reader, triple_end_writer, triple_look, triple_make,
+    triple_read, triple_write,
+};
+use std::alloc::Global;
+
+#[unsafe(no_mangle)]
+pub extern "C" fn nidzaru_triple_1024_make(
+    alloc: Global,
+    first: &Record1024,
+    writer: &mut Handle,
+    reader: &mut Handle,
+) -> u32
+    ensures { IsMake (λ p. Of1024 (TripleWrites p)) (λ g. Of1024 (TripleReads g)) IsMade
+        (held writer.old) (held reader.old) (held writer.new) (held reader.new) first.now result }
+{
+    triple_make::<Record1024>(alloc, first, writer, reader)
+}
+
+#[unsafe(no_mangle)]
+pub extern "C" fn nidzaru_triple_1024_write(
+    alloc: Global,
+    writer: &mut Handle,
+    item: &Record1024,
+) -> u32
+    ensures { IsWrite (λ p. Of1024 (TripleWrites p)) (λ p. p.number) HasWritten (held writer.old) (held writer.new) item.now result }
+{
+    triple_write::<Record1024>(alloc, writer, item)
+}
+
+#[unsafe(no_mangle)]
+pub extern "C" fn nidzaru_triple_1024_read(
+    alloc: Global,
+    reader: &mut Handle,
+    item: &mut Record1024,
+    number: &mut u64,
+) -> u32
+    ensures { IsRead (λ g. Of1024 (TripleReads g)) HasRead (held reader.old) (held reader.new)
+        item.old item.new number.old number.new result }
+{
+    triple_read::<Record1024>(alloc, reader, item, number)
+}
+
+#[unsafe(no_mangle)]
+pub extern "C" fn nidzaru_triple_1024_look(
+    alloc: Global,
+    reader: &mut Handle,
+    number: &mut u64,
+) -> u32
+    ensures { IsLook (λ g. Of1024 (TripleReads g)) HasRead (held reader.old) (held reader.new) number.old number.new result }
+{
+    triple_look::<Record1024>(alloc, reader, number)
+}
+
+#[unsafe(no_mangle)]
+pub extern "C" fn nidzaru_triple_1024_end_writer(alloc: Global, writer: &mut Handle) -> u32
+    ensures { IsEnd (λ p. Of1024 (TripleWrites p)) (held writer.old) (held writer.new) result }
+{
+    triple_end_writer::<Record1024>(alloc, writer)
+}
+
+#[unsafe(no_mangle)]
+pub extern "C" fn nidzaru_triple_1024_end_reader(alloc: Global, reader: &mut Handle) -> u32
+    ensures { IsEnd (λ g. Of1024 (TripleReads g)) (held reader.old) (held reader.new) result }
+{
+    triple_end_reader::<Record1024>(alloc, reader)
+}

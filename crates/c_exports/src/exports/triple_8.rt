@@ -1,0 +1,66 @@
+//! A triple buffer with records of 8 bytes.
+ghost use Rattle.c_registers.specs.TripleCalls.{IsMade, HasWritten, HasRead};
+ghost use Rattle.c_registers.specs.Handles.{IsMake, IsWrite, IsRead, IsLook, IsEnd};
+ghost use Rattle.c_handles.specs.Held.{held};
+ghost use Rattle.c_handles.specs.declared.side.Side.TheVariants.{Of8};
+ghost use Rattle.c_handles.specs.declared.side.Party.TheVariants.{TripleWrites, TripleReads};
+
+use c_handles::{
+    Handle, Record8, triple_end_reader, triple_end_writer, triple_look, triple_make, triple_read,
+    triple_write,
+};
+use std::alloc::Global;
+
+#[unsafe(no_mangle)]
+pub extern "C" fn nidzaru_triple_8_make(
+    alloc: Global,
+    first: &Record8,
+    writer: &mut Handle,
+    reader: &mut Handle,
+) -> u32
+    ensures { IsMake (λ p. Of8 (TripleWrites p)) (λ g. Of8 (TripleReads g)) IsMade
+        (held writer.old) (held reader.old) (held writer.new) (held reader.new) first.now result }
+{
+    triple_make::<Record8>(alloc, first, writer, reader)
+}
+
+#[unsafe(no_mangle)]
+pub extern "C" fn nidzaru_triple_8_write(alloc: Global, writer: &mut Handle, item: &Record8) -> u32
+    ensures { IsWrite (λ p. Of8 (TripleWrites p)) (λ p. p.number) HasWritten (held writer.old) (held writer.new) item.now result }
+{
+    triple_write::<Record8>(alloc, writer, item)
+}
+
+#[unsafe(no_mangle)]
+pub extern "C" fn nidzaru_triple_8_read(
+    alloc: Global,
+    reader: &mut Handle,
+    item: &mut Record8,
+    number: &mut u64,
+) -> u32
+    ensures { IsRead (λ g. Of8 (TripleReads g)) HasRead (held reader.old) (held reader.new)
+        item.old item.new number.old number.new result }
+{
+    triple_read::<Record8>(alloc, reader, item, number)
+}
+
+#[unsafe(no_mangle)]
+pub extern "C" fn nidzaru_triple_8_look(alloc: Global, reader: &mut Handle, number: &mut u64) -> u32
+    ensures { IsLook (λ g. Of8 (TripleReads g)) HasRead (held reader.old) (held reader.new) number.old number.new result }
+{
+    triple_look::<Record8>(alloc, reader, number)
+}
+
+#[unsafe(no_mangle)]
+pub extern "C" fn nidzaru_triple_8_end_writer(alloc: Global, writer: &mut Handle) -> u32
+    ensures { IsEnd (λ p. Of8 (TripleWrites p)) (held writer.old) (held writer.new) result }
+{
+    triple_end_writer::<Record8>(alloc, writer)
+}
+
+#[unsafe(no_mangle)]
+pub extern "C" fn nidzaru_triple_8_end_reader(alloc: Global, reader: &mut Handle) -> u32
+    ensures { IsEnd (λ g. Of8 (TripleReads g)) (held reader.old) (held reader.new) result }
+{
+    triple_end_reader::<Record8>(alloc, reader)
+}

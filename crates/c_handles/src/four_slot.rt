@@ -1,0 +1,70 @@
+//! The calls of C on a four-slot cell, over any size.
+ghost use Rattle.c_registers.specs.FourSlotCalls.{IsMade, HasWritten, HasRead};
+ghost use Rattle.c_registers.specs.Handles.{IsMake, IsWrite, IsRead, IsLook, IsEnd};
+ghost use Rattle.c_handles.specs.Held.{held};
+ghost use Rattle.c_handles.specs.declared.side.Party.TheVariants.{Writes, Reads};
+
+use crate::handle::Handle;
+use crate::loose::Loose;
+use crate::pick::Record;
+use crate::side::Side;
+use c_registers::{FourSlotReader, FourSlotWriter, end, look, make, read, write};
+use std::alloc::Global;
+
+/// Puts both sides of a new cell into the handles.
+#[inline]
+pub fn four_slot_make<W: Record>(
+    alloc: Global,
+    first: &W,
+    writer: &mut Handle,
+    reader: &mut Handle,
+) -> u32
+    ensures { IsMake (λ p. W.side (Writes p)) (λ g. W.side (Reads g)) IsMade
+        (held writer.old) (held reader.old) (held writer.new) (held reader.new) first.now result }
+{
+    make::<Side, Handle, W, FourSlotWriter<W>, FourSlotReader<W>>(alloc, first, writer, reader)
+}
+
+/// Writes the record.
+#[inline]
+pub fn four_slot_write<W: Record>(alloc: Global, writer: &mut Handle, item: &W) -> u32
+    ensures { IsWrite (λ p. W.side (Writes p)) (λ p. p.number) HasWritten (held writer.old) (held writer.new) item.now result }
+{
+    write::<Side, Loose, W, FourSlotWriter<W>>(alloc, writer.live, &mut writer.loose, item)
+}
+
+/// Reads a record and its number.
+#[inline]
+pub fn four_slot_read<W: Record>(
+    alloc: Global,
+    reader: &mut Handle,
+    item: &mut W,
+    number: &mut u64,
+) -> u32
+    ensures { IsRead (λ g. W.side (Reads g)) HasRead (held reader.old) (held reader.new)
+        item.old item.new number.old number.new result }
+{
+    read::<Side, Loose, W, FourSlotReader<W>>(alloc, reader.live, &mut reader.loose, item, number)
+}
+
+/// Looks which number the newest record has.
+#[inline]
+pub fn four_slot_look<W: Record>(alloc: Global, reader: &mut Handle, number: &mut u64) -> u32
+    ensures { IsLook (λ g. W.side (Reads g)) HasRead (held reader.old) (held reader.new) number.old number.new result }
+{
+    look::<Side, Loose, W, FourSlotReader<W>>(alloc, reader.live, &mut reader.loose, number)
+}
+
+/// Ends the writing side.
+pub fn four_slot_end_writer<W: Record>(alloc: Global, writer: &mut Handle) -> u32
+    ensures { IsEnd (λ p. W.side (Writes p)) (held writer.old) (held writer.new) result }
+{
+    end::<Side, Handle, FourSlotWriter<W>>(alloc, writer)
+}
+
+/// Ends the reading side.
+pub fn four_slot_end_reader<W: Record>(alloc: Global, reader: &mut Handle) -> u32
+    ensures { IsEnd (λ g. W.side (Reads g)) (held reader.old) (held reader.new) result }
+{
+    end::<Side, Handle, FourSlotReader<W>>(alloc, reader)
+}

@@ -1,0 +1,61 @@
+//! What the two sides of a four-slot cell do.
+ghost use Rattle.std.specs.Prelude.{◌≡◌, ◌+◌, ◌<◌, ◌≤◌, ◌^◌, true, false, IfOk};
+ghost use Rattle.c_registers.specs.FourSlotCalls.{IsMade, HasWritten, HasRead};
+
+use super::{FourSlotReader, FourSlotWriter};
+use crate::numbered::{Numbered, Numbering};
+use crate::roles::{Opens, Reading, Writing};
+use cell_four_slot::FourSlotCell;
+use cell_live::Calls;
+use std::alloc::{AllocError, Global};
+use std::sync::Arc;
+
+impl<W: Copy> Reading<W> for FourSlotReader<W> {
+    ghost has_read = { HasRead };
+
+    #[inline]
+    fn read(&mut self) -> Numbered<W> {
+        self.cell.read(self.get.as_mut())
+    }
+
+    #[inline]
+    fn look(&mut self) -> u64 {
+        self.cell
+            .read_with(self.get.as_mut(), |record| record.number)
+    }
+}
+
+impl<W: Copy> Writing<W> for FourSlotWriter<W> {
+    ghost last = { λ p. p.number };
+
+    ghost has_written = { HasWritten };
+
+    #[inline]
+    fn write(&mut self, words: &W) -> bool {
+        let Some(number) = self.number.checked_add(1) else {
+            return false;
+        };
+        self.cell
+            .write_laid(self.put.as_mut(), &Numbering { number, words });
+        self.number = number;
+        true
+    }
+}
+
+impl<W: Copy> Opens<W, FourSlotReader<W>> for FourSlotWriter<W> {
+    ghost is_made = { IsMade };
+
+    fn open(alloc: Global, words: W) -> Result<(FourSlotWriter<W>, FourSlotReader<W>), AllocError> {
+        let (cell, put, get) = FourSlotCell::make(alloc, Numbered { number: 0, words })?;
+        let put = Box::new(alloc, put)?;
+        let get = Box::new(alloc, get)?;
+        let cell = Arc::new(alloc, cell)?;
+        let other = Arc::try_clone(&cell)?;
+        let writer = FourSlotWriter {
+            cell,
+            put,
+            number: 0,
+        };
+        Ok((writer, FourSlotReader { cell: other, get }))
+    }
+}

@@ -1,0 +1,6 @@
+-- Looked for at once, so that another value is refused at once.
+use Rattle.std.proofs.Common.{rules}
+use Rattle.four_slot_core.proofs.cell.CellCore.write_slot.Goals as goal
+
+pub returns : goal.returns
+returns g c = search rules

@@ -1,6 +1,0 @@
--- Looked for at once, so that another value is refused at once.
-use Rattle.std.proofs.Common.{rules}
-use Rattle.fourslot_core.proofs.cell.CellCore.write_step.Goals as goal
-
-pub returns : goal.returns
-returns g c = search rules

@@ -1,0 +1,39 @@
+-- The answer to a document of kind `check`: the verdict on its order with its status, or the fault (this project's own).
+use Rattle.std.specs.Prelude.{◌≡◌, ℕ, List, Result, Ok, Err}
+use Rattle.history_core.specs.Orders.{IsVerdict}
+use Rattle.history_core.specs.declared.band.Band.{Band}
+use Rattle.history_core.specs.declared.history.History.{History}
+use Rattle.history_core.specs.declared.history.Verdict.{Verdict}
+use Rattle.history_core.specs.declared.history.Verdict.TheVariants.{Lawful, Listing, Precedence, Reading, Limit}
+use Rattle.history_text.specs.Check.{check_of}
+use Rattle.history_text.specs.Verdicts.{verdict_text}
+use Rattle.history_text.specs.declared.document.CheckDocument.{CheckDocument}
+use Rattle.fsr_runs.specs.Answers.{AnswersReading}
+use Rattle.fsr_runs.specs.declared.fault.Answer.{Answer}
+use Rattle.fsr_runs.specs.declared.fault.Fault.{Fault}
+
+-- the status of a verdict: 0 where the order is lawful, else 1
+abbrev pub status_of : Verdict → ℕ
+status_of Lawful = 0
+status_of Listing = 1
+status_of Precedence = 1
+status_of Reading = 1
+status_of Limit = 1
+
+-- the line of a verdict, with its status
+abbrev pub printed : Verdict → Answer
+printed v = record { text = verdict_text v; status = status_of v }
+
+-- the verdict on an order of a history of bands
+abbrev pub IsVerdictOn : History Band → List ℕ → Verdict → Type 0
+IsVerdictOn history order v = IsVerdict (λ x y. x ≡ y) history.opening history.terms history.ops order v
+
+-- the answer to a history and an order of it: the text of the verdict
+abbrev pub AnswersCheck : CheckDocument → Result Answer Fault → Type 0
+AnswersCheck document (Ok answer) =
+    (v : Verdict) × IsVerdictOn document.history document.order v × (answer ≡ printed v)
+AnswersCheck document (Err fault) = ⊥
+
+-- the answer of the command `check` to the bytes of a document
+abbrev pub IsCheckAnswer : List ℕ → Result Answer Fault → Type 0
+IsCheckAnswer bytes reply = AnswersReading AnswersCheck (check_of bytes) reply

@@ -1,0 +1,43 @@
+ghost use Rattle.std.specs.Prelude.{◌≡◌, IfOk};
+ghost use Rattle.fsr_runs.specs.Answers.{Gives};
+ghost use Rattle.fsr_check_answers.specs.Check.{AnswersCheck, IsCheckAnswer, printed, status_of};
+
+use fsr_runs::{Answer, Fault};
+use history_core::{Items, Verdict, check_order};
+use history_text::{CheckDocument, read_check_leaking, verdict_text};
+use std::alloc::{AllocError, Global};
+
+/// The answer of the command `check` to the bytes of a document: the verdict on its order.
+pub fn check(alloc: Global, bytes: &[u8]) -> Result<Answer, Fault>
+    ensures { Gives (IsCheckAnswer bytes.now) result }
+{
+    let document = read_check_leaking(alloc, bytes)?;
+    check_history(alloc, &document)
+}
+
+/// The verdict on the order of a document.
+fn check_history(alloc: Global, document: &CheckDocument) -> Result<Answer, Fault>
+    ensures { Gives (AnswersCheck document.now) result }
+{
+    let verdict = check_order(&document.history, document.order.as_slice());
+    let answer = print(alloc, verdict)?;
+    Ok(answer)
+}
+
+/// The line of a verdict, with its status.
+fn print(alloc: Global, verdict: Verdict) -> Result<Answer, AllocError>
+    ensures { IfOk result (λ answer. answer ≡ printed verdict) }
+{
+    let text = Items::new(Vec::from_slice(alloc, verdict_text(verdict).as_bytes())?);
+    let status = status_of(verdict);
+    Ok(Answer { text, status })
+}
+
+fn status_of(verdict: Verdict) -> u8
+    ensures { result ≡ status_of verdict }
+{
+    match verdict {
+        Verdict::Lawful => 0,
+        _ => 1,
+    }
+}

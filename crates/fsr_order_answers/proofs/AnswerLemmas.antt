@@ -1,0 +1,45 @@
+-- The answer to a log has status 0 or 1.
+use Rattle.std.proofs.Common.{rules, arith, ◌≡◌, ◌≤◌, ℕ, List, Bool, true, false, Result, Ok, Err, ap, sym, subst}
+use Rattle.fsr_runs.specs.Answers.{AnswersReading, Gives, HasLowStatus}
+use Rattle.fsr_runs.specs.declared.fault.Answer.{Answer}
+use Rattle.fsr_runs.specs.declared.fault.Fault.{Fault}
+use Rattle.history_core.specs.declared.band.Band.{Band}
+use Rattle.history_core.specs.declared.history.History.{History}
+use Rattle.fsr_refusals.specs.declared.refusal.DocError.{DocError}
+use Rattle.lines_answers.specs.Answers.{IsLinesAnswer, status_of as lines_status}
+use Rattle.lines_answers.specs.Kinds.{are_lines}
+use Rattle.log_text.specs.Log.{log_of}
+use Rattle.history_search.specs.declared.reason.Search.{Search}
+use Rattle.history_search.specs.declared.reason.Search.TheVariants.{Order, Unlawful}
+use Rattle.fsr_order_answers.specs.Order.{AnswersOrder, IsAnswerBy, IsLogAnswer, IsOrderAnswer, printed, status_of}
+
+search_is_low : (search : Search) → status_of search ≤ 1
+search_is_low (Order order) = omega arith
+search_is_low (Unlawful reason) = omega arith
+
+low_search : (search : Search) (a : Answer) → a ≡ printed search → a.status ≤ 1
+low_search search a is_printed = subst (λ (s : ℕ). s ≤ 1) (sym (ap (λ (b : Answer). b.status) is_printed)) (search_is_low search)
+
+low_log : (d : Result (History Band) DocError) (a : Answer) → AnswersReading AnswersOrder d (Ok a) → a.status ≤ 1
+low_log (Ok log) a answered = low_search answered.0 a answered.2
+low_log (Err refusal) a answered = absurd (cc)
+
+low_answer : (bytes : List ℕ) (r : Result Answer Fault) → Gives (IsLogAnswer bytes) r → HasLowStatus r
+low_answer bytes (Ok a) answered = low_log (log_of bytes) a answered
+low_answer bytes (Err e) refused = search rules
+
+lines_is_low : (search : Search) → lines_status search ≤ 1
+lines_is_low (Order order) = omega arith
+lines_is_low (Unlawful reason) = omega arith
+
+low_lines : (bytes : List ℕ) (r : Result Answer Fault) → Gives (IsLinesAnswer bytes) r → HasLowStatus r
+low_lines bytes (Ok a) found =
+    subst (λ (s : ℕ). s ≤ 1) (sym (ap (λ (b : Answer). b.status) found.told)) (lines_is_low found.search)
+low_lines bytes (Err e) refused = search rules
+
+low_by : (in_lines : Bool) (bytes : List ℕ) (r : Result Answer Fault) → Gives (IsAnswerBy in_lines bytes) r → HasLowStatus r
+low_by true bytes r answered = low_lines bytes r answered
+low_by false bytes r answered = low_answer bytes r answered
+
+pub low_order : (bytes : List ℕ) (r : Result Answer Fault) → Gives (IsOrderAnswer bytes) r → HasLowStatus r
+low_order bytes r answered = low_by (are_lines bytes) bytes r answered

@@ -1,0 +1,47 @@
+-- The answer to a log, in lines or as a document of kind `log`: a lawful order of its operations, or that there is none, or the fault
+-- (this project's own).
+use Rattle.std.specs.Prelude.{◌≡◌, ℕ, List, Bool, true, false, Result, Ok, Err}
+use Rattle.fsr_runs.specs.Answers.{AnswersReading}
+use Rattle.fsr_runs.specs.declared.fault.Answer.{Answer}
+use Rattle.fsr_runs.specs.declared.fault.Fault.{Fault}
+use Rattle.fsr_runs.specs.declared.fault.Fault.TheVariants as fault
+use Rattle.history_core.specs.declared.band.Band.{Band}
+use Rattle.history_core.specs.declared.history.History.{History}
+use Rattle.lines_answers.specs.Answers.{IsLinesAnswer}
+use Rattle.lines_answers.specs.Kinds.{are_lines}
+use Rattle.log_search.specs.Logs.{IsLogFault, IsLogSearch}
+use Rattle.log_search.specs.Text.{search_text}
+use Rattle.log_text.specs.Log.{log_of}
+use Rattle.history_search.specs.declared.reason.Search.{Search}
+use Rattle.history_search.specs.declared.reason.Search.TheVariants.{Order, Unlawful}
+
+-- the status of what was found: 0 where there is a lawful order, else 1
+abbrev pub status_of : Search → ℕ
+status_of (Order order) = 0
+status_of (Unlawful reason) = 1
+
+-- the lines of what was found, with its status
+abbrev pub printed : Search → Answer
+printed search = record { text = search_text search; status = status_of search }
+
+-- the answer to a log: the lines of a lawful order, or of a reason where no order is lawful
+abbrev pub AnswersOrder : History Band → Result Answer Fault → Type 0
+AnswersOrder log (Ok answer) = (search : Search) × IsLogSearch log search × (answer ≡ printed search)
+AnswersOrder log (Err (fault.Document refusal)) = ⊥
+AnswersOrder log (Err (fault.History why)) = IsLogFault log (fault.History why)
+AnswersOrder log (Err (fault.Lines why)) = ⊥
+AnswersOrder log (Err (fault.Schedule position)) = ⊥
+AnswersOrder log (Err fault.NoMemory) = ⊥
+
+-- the answer to the bytes of a document of kind `log`
+abbrev pub IsLogAnswer : List ℕ → Result Answer Fault → Type 0
+IsLogAnswer bytes reply = AnswersReading AnswersOrder (log_of bytes) reply
+
+-- the answer by the kind: whether the document is a log in lines
+abbrev pub IsAnswerBy : Bool → List ℕ → Result Answer Fault → Type 0
+IsAnswerBy true bytes reply = IsLinesAnswer bytes reply
+IsAnswerBy false bytes reply = IsLogAnswer bytes reply
+
+-- the answer of the command `order` to the bytes of a document
+abbrev pub IsOrderAnswer : List ℕ → Result Answer Fault → Type 0
+IsOrderAnswer bytes reply = IsAnswerBy (are_lines bytes) bytes reply

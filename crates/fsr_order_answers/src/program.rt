@@ -1,0 +1,37 @@
+ghost use Rattle.std.specs.Prelude.{◌≤◌, ◌+◌};
+ghost use Rattle.fsr_runs.specs.Run.{Fails, IsToldBy, Runs};
+ghost use Rattle.lines_answers.specs.Kinds.{are_lines};
+ghost use Rattle.fsr_order_answers.specs.Order.{IsOrderAnswer};
+ghost use Rattle.fsr_streams.specs.Stream.{HasRoom};
+
+use crate::input::take_log;
+use crate::search::order;
+use fsr_runs::{FSR, give_answer};
+use fsr_streams::{Sink, Source};
+use std::alloc::Global;
+
+/// Runs `fsr order` over its streams, and gives the status that it ends with. The text goes to `out`, and what is to be told besides
+/// goes to `faults`, whose failures change no status.
+pub fn run<I: Source, O: Sink, E: Sink>(
+    alloc: Global,
+    input: &mut I,
+    out: &mut O,
+    faults: &mut E,
+) -> u8
+    requires input { HasRoom (I.failed input.old) }
+    requires out { HasRoom (O.failed out.old) }
+    requires faults { HasRoom (E.failed faults.old) }
+    ensures runs { Runs (IsToldBy IsOrderAnswer) are_lines (I.remaining input.old) (I.remaining input.new)
+        (O.contents out.old) (O.contents out.new) result }
+    ensures fails { Fails (I.failed input.old) (I.failed input.new) (O.failed out.old)
+        (O.failed out.new) result }
+    ensures faults { E.failed faults.new ≤ E.failed faults.old + 1 }
+{
+    match take_log(alloc, input, faults) {
+        Ok(bytes) => {
+            let reply = order(alloc, bytes.as_slice());
+            give_answer(alloc, &FSR, reply, out, faults)
+        }
+        Err(status) => status,
+    }
+}

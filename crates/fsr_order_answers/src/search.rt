@@ -1,0 +1,77 @@
+ghost use Rattle.std.specs.Prelude.{◌≡◌, IfOk};
+ghost use Rattle.fsr_runs.specs.Answers.{Gives};
+ghost use Rattle.fsr_order_answers.specs.Order.{AnswersOrder, IsLogAnswer, IsOrderAnswer, printed, status_of};
+ghost use Rattle.history_text.specs.Refusals.{Gives as Reads};
+ghost use Rattle.log_text.specs.Log.{CanBeSearched, log_of};
+
+use fsr_runs::{Answer, Fault};
+use history_core::{Band, History, Items};
+use history_search::Search;
+use history_text::{DocError, read_value};
+use lines_answers::{are_lines, order_lines};
+use log_search::{search_log, search_text};
+use log_text::log_document;
+use std::alloc::{AllocError, Global};
+use std::mem::forget;
+
+/// The answer of the command `order` to the bytes of a document: a lawful order of its log, or the reason why there is none. A log in
+/// lines is told by its first line.
+pub fn order(alloc: Global, bytes: &[u8]) -> Result<Answer, Fault>
+    ensures { Gives (IsOrderAnswer bytes.now) result }
+{
+    let in_lines = are_lines(alloc, bytes)?;
+    if in_lines {
+        order_lines(alloc, bytes)
+    } else {
+        order_document(alloc, bytes)
+    }
+}
+
+/// The answer to a document of kind `log`.
+fn order_document(alloc: Global, bytes: &[u8]) -> Result<Answer, Fault>
+    ensures { Gives (IsLogAnswer bytes.now) result }
+{
+    let log = read(alloc, bytes)?;
+    order_log(alloc, &log)
+}
+
+/// The log that the bytes stand for. The JSON value that they are is left unfreed: a run reads one document and ends, and the value
+/// goes with the process.
+#[tactic(auto, unfolding(log_text::specs::Log::log_of))]
+fn read(alloc: Global, bytes: &[u8]) -> Result<History<Band>, DocError>
+    ensures log { Reads (λ h. h) result (log_of bytes.now) }
+    ensures searchable { IfOk result CanBeSearched }
+{
+    let value = read_value(alloc, bytes)?;
+    let log = log_document(alloc, &value);
+    forget(value);
+    log
+}
+
+/// What is found of a log.
+fn order_log(alloc: Global, log: &History<Band>) -> Result<Answer, Fault>
+    requires { CanBeSearched log.now }
+    ensures { Gives (AnswersOrder log.now) result }
+{
+    let search = search_log(alloc, log)?;
+    let answer = print(alloc, &search)?;
+    Ok(answer)
+}
+
+/// The lines of what was found, with its status.
+fn print(alloc: Global, search: &Search) -> Result<Answer, AllocError>
+    ensures { IfOk result (λ answer. answer ≡ printed search.now) }
+{
+    let text = Items::new(search_text(alloc, search)?);
+    let status = status_of(search);
+    Ok(Answer { text, status })
+}
+
+fn status_of(search: &Search) -> u8
+    ensures { result ≡ status_of search.now }
+{
+    match search {
+        Search::Order(_) => 0,
+        Search::Unlawful(_) => 1,
+    }
+}

@@ -1,0 +1,60 @@
+-- The answer to a document of a schedule: the text of the report of its run, or the fault (this project's own).
+use Rattle.std.specs.Prelude.{◌≡◌, ℕ, Bool, List, [], ◌∷◌, Result, Ok, Err}
+use Rattle.fsr_runs.specs.Answers.{AnswersReading}
+use Rattle.fsr_runs.specs.declared.fault.Answer.{Answer}
+use Rattle.fsr_runs.specs.declared.fault.Fault.{Fault}
+use Rattle.fsr_runs.specs.declared.fault.Fault.TheVariants as fault
+use Rattle.four_slot_play.specs.CellReports.{IsCellReport}
+use Rattle.four_slot_core.specs.Play.{cell_span}
+use Rattle.four_slot_core.specs.declared.schedule.CellReport.{CellReport}
+use Rattle.four_slot_core.specs.declared.schedule.CellSchedule.{CellSchedule}
+use Rattle.history_core.specs.Schedules.{HasOperations, IsFirstOverrun, Span}
+use Rattle.history_core.specs.declared.band.Band.{Band}
+use Rattle.matrix_board_play.specs.BoardReports.{IsBoardReport}
+use Rattle.matrix_core.specs.Runs.{board_spans, spans_of}
+use Rattle.matrix_play.specs.MatrixReports.{IsMatrixReport}
+use Rattle.matrix_core.specs.declared.schedule.BoardSchedule.{BoardSchedule}
+use Rattle.matrix_core.specs.declared.schedule.MatrixSchedule.{MatrixSchedule}
+use Rattle.fsr_report_answers.specs.Printed.{printed}
+use Rattle.report_text.specs.declared.report.Report.{Report}
+use Rattle.report_text.specs.declared.report.Report.TheVariants as report
+use Rattle.schedule_text.specs.Document.{schedule_of}
+use Rattle.schedule_text.specs.declared.document.ScheduleDocument.{ScheduleDocument}
+use Rattle.schedule_text.specs.declared.document.ScheduleDocument.TheVariants.{Cell, Matrix, Board}
+
+-- the answer to the schedule of a cell: the text of the report of its run, or the first step that has no operation
+abbrev pub AnswersCell : CellSchedule Band → Result Answer Fault → Type 0
+AnswersCell schedule (Ok answer) =
+    (r : CellReport Band) × IsCellReport schedule r × (answer ≡ printed (report.Cell r) 0)
+AnswersCell schedule (Err (fault.Document refusal)) = ⊥
+AnswersCell schedule (Err (fault.History why)) = ⊥
+AnswersCell schedule (Err (fault.Lines why)) = ⊥
+AnswersCell schedule (Err (fault.Schedule position)) = IsFirstOverrun (cell_span schedule ∷ []) position
+AnswersCell schedule (Err fault.NoMemory) = ⊥
+
+-- the answer to a schedule with these spans, likewise: the text of a report that is made as it should be
+abbrev pub AnswersTerms : {Made : Type 0} → List (Span Band) → (Made → Type 0) → (Made → Report) → Result Answer Fault → Type 0
+AnswersTerms {Made} spans IsMade told (Ok answer) = (r : Made) × HasOperations spans × IsMade r × (answer ≡ printed (told r) 0)
+AnswersTerms spans IsMade told (Err (fault.Document refusal)) = ⊥
+AnswersTerms spans IsMade told (Err (fault.History why)) = ⊥
+AnswersTerms spans IsMade told (Err (fault.Lines why)) = ⊥
+AnswersTerms spans IsMade told (Err (fault.Schedule position)) = IsFirstOverrun spans position
+AnswersTerms spans IsMade told (Err fault.NoMemory) = ⊥
+
+-- the answer to the schedule of a matrix; titled, where its terms are told
+abbrev pub AnswersMatrix : MatrixSchedule Band → Bool → Result Answer Fault → Type 0
+AnswersMatrix schedule titled reply = AnswersTerms (spans_of schedule.terms) (IsMatrixReport schedule) (λ r. report.Matrix r titled) reply
+
+-- the answer to the schedule of a composed board
+abbrev pub AnswersBoard : BoardSchedule Band → Bool → Result Answer Fault → Type 0
+AnswersBoard schedule titled reply = AnswersTerms (board_spans schedule.terms) (IsBoardReport schedule) (λ r. report.Board r titled) reply
+
+-- the answer to what a document of a schedule stands for
+abbrev pub AnswersSchedule : ScheduleDocument → Result Answer Fault → Type 0
+AnswersSchedule (Cell schedule) reply = AnswersCell schedule reply
+AnswersSchedule (Matrix schedule titled) reply = AnswersMatrix schedule titled reply
+AnswersSchedule (Board schedule titled) reply = AnswersBoard schedule titled reply
+
+-- the answer of the command `play` to the bytes of a document
+abbrev pub IsPlayAnswer : List ℕ → Result Answer Fault → Type 0
+IsPlayAnswer bytes reply = AnswersReading AnswersSchedule (schedule_of bytes) reply

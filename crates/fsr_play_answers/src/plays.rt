@@ -1,0 +1,75 @@
+//! Played schedules: the report of each, printed.
+ghost use Rattle.std.specs.Prelude.{IfOk};
+ghost use Rattle.fsr_runs.specs.Answers.{Gives};
+ghost use Rattle.history_text.specs.Refusals.{Gives as Reads};
+ghost use Rattle.matrix_core.specs.Runs.{CanPlay};
+ghost use Rattle.schedule_text.specs.Document.{schedule_of};
+ghost use Rattle.schedule_text.specs.Players.{CanBePlayed};
+ghost use Rattle.fsr_play_answers.specs.Play.{AnswersBoard, AnswersCell, AnswersMatrix, IsPlayAnswer};
+
+use four_slot_core::CellSchedule;
+use four_slot_play::play_cell;
+use fsr_report_answers::print;
+use fsr_runs::{Answer, Fault};
+use history_core::Band;
+use history_text::{DocError, read_value};
+use matrix_board_play::play_board;
+use matrix_core::{BoardSchedule, MatrixSchedule};
+use matrix_play::play_matrix;
+use report_text::Report;
+use schedule_text::{ScheduleDocument, schedule_document};
+use std::alloc::Global;
+use std::mem::forget;
+
+/// The answer of the command `play` to the bytes of a document: the report of its schedule.
+pub fn play(alloc: Global, bytes: &[u8]) -> Result<Answer, Fault>
+    ensures { Gives (IsPlayAnswer bytes.now) result }
+{
+    match read(alloc, bytes)? {
+        ScheduleDocument::Cell(schedule) => cell(alloc, &schedule),
+        ScheduleDocument::Matrix { schedule, titled } => matrix(alloc, &schedule, titled),
+        ScheduleDocument::Board { schedule, titled } => board(alloc, &schedule, titled),
+    }
+}
+
+/// The schedule that the bytes stand for. The JSON value that they are is left unfreed: a run reads one document and ends, and
+/// the value goes with the process.
+#[tactic(auto, unfolding(schedule_text::specs::Document::schedule_of))]
+fn read(alloc: Global, bytes: &[u8]) -> Result<ScheduleDocument, DocError>
+    ensures document { Reads (λ d. d) result (schedule_of bytes.now) }
+    ensures playable { IfOk result CanBePlayed }
+{
+    let value = read_value(alloc, bytes)?;
+    let document = schedule_document(alloc, &value);
+    forget(value);
+    document
+}
+
+/// The report of a cell's schedule.
+fn cell(alloc: Global, schedule: &CellSchedule<Band>) -> Result<Answer, Fault>
+    ensures { Gives (AnswersCell schedule.now) result }
+{
+    let report = play_cell(alloc, schedule)?;
+    let answer = print(alloc, Report::Cell(report), 0)?;
+    Ok(answer)
+}
+
+/// The report of a matrix's schedule, with the terms told where it is titled.
+fn matrix(alloc: Global, schedule: &MatrixSchedule<Band>, titled: bool) -> Result<Answer, Fault>
+    requires { CanPlay schedule.now.terms }
+    ensures { Gives (AnswersMatrix schedule.now titled) result }
+{
+    let report = play_matrix(alloc, schedule)?;
+    let answer = print(alloc, Report::Matrix { report, titled }, 0)?;
+    Ok(answer)
+}
+
+/// The report of a composed board's schedule, likewise.
+fn board(alloc: Global, schedule: &BoardSchedule<Band>, titled: bool) -> Result<Answer, Fault>
+    requires { CanPlay schedule.now.terms }
+    ensures { Gives (AnswersBoard schedule.now titled) result }
+{
+    let report = play_board(alloc, schedule)?;
+    let answer = print(alloc, Report::Board { report, titled }, 0)?;
+    Ok(answer)
+}

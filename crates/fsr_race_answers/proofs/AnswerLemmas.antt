@@ -1,0 +1,35 @@
+-- The answer to a race has status 0 or 1.
+use Rattle.std.proofs.Common.{rules, ◌≡◌, ◌≤◌, ℕ, List, Option, Some, None, Result, Ok, Err, ap, arith}
+use Rattle.fsr_runs.specs.Answers.{AnswersReading, Gives, HasLowStatus}
+use Rattle.fsr_runs.specs.declared.fault.Answer.{Answer}
+use Rattle.fsr_runs.specs.declared.fault.Fault.{Fault}
+use Rattle.history_core.specs.declared.band.Band.{Band}
+use Rattle.fsr_refusals.specs.declared.refusal.DocError.{DocError}
+use Rattle.family_live.specs.declared.family.Family.{Ghosts as FamilyWords}
+use Rattle.board_live.specs.declared.record.Posted.{Posted}
+use Rattle.report_text.specs.declared.report.Report.{Report}
+use Rattle.report_text.specs.declared.report.Report.TheVariants as report
+use Rattle.schedule_text.specs.Document.{race_of}
+use Rattle.schedule_text.specs.declared.document.RaceDocument.{RaceDocument}
+use Rattle.fsr_race_answers.specs.Answers.{AnswersRace, IsRaceAnswer, origin_status, race_status}
+
+origin_is_low : (broken : Option (ℕ × ℕ)) → origin_status broken ≤ 1
+origin_is_low None = omega arith
+origin_is_low (Some broken) = omega arith
+
+race_is_low : (r : Report) → race_status r ≤ 1
+race_is_low (report.Cell r) = omega arith
+race_is_low (report.Matrix r titled) = omega arith
+race_is_low (report.Board r titled) = omega arith
+race_is_low (report.Race tasks broken) = origin_is_low broken
+
+module _ {F S T : Type 0} (family : FamilyWords F (Posted Band) S T) where
+  answer_is_low : (d : Result RaceDocument DocError) (a : Answer) → AnswersReading (AnswersRace family) d (Ok a) → a.status ≤ 1
+  answer_is_low (Ok document) a answered =
+      let same : a.status ≡ race_status answered.0 = ap (λ b. b.status) answered.2 in
+      rw same (race_is_low answered.0)
+  answer_is_low (Err refusal) a answered = absurd (cc)
+
+  pub low_race : (bytes : List ℕ) (r : Result Answer Fault) → Gives (IsRaceAnswer family bytes) r → HasLowStatus r
+  low_race bytes (Ok a) answered = answer_is_low (race_of bytes) a answered
+  low_race bytes (Err e) refused = search rules

@@ -1,0 +1,36 @@
+-- The answer to a document of a race: the text of what the race tells, or the fault (this project's own).
+use Rattle.std.specs.Prelude.{◌≡◌, ℕ, List, Option, Some, None, Result, Ok, Err}
+use Rattle.fsr_runs.specs.Answers.{AnswersReading}
+use Rattle.fsr_runs.specs.declared.fault.Answer.{Answer}
+use Rattle.fsr_runs.specs.declared.fault.Fault.{Fault}
+use Rattle.history_core.specs.declared.band.Band.{Band}
+use Rattle.family_live.specs.declared.family.Family.{Ghosts as FamilyWords}
+use Rattle.board_live.specs.declared.record.Posted.{Posted}
+use Rattle.fsr_report_answers.specs.Printed.{printed}
+use Rattle.report_text.specs.declared.report.Report.{Report}
+use Rattle.report_text.specs.declared.report.Report.TheVariants as report
+use Rattle.schedule_text.specs.Document.{race_of}
+use Rattle.schedule_text.specs.declared.document.RaceDocument.{RaceDocument}
+use Rattle.fsr_race_answers.specs.Races.{IsRace}
+
+-- the status of a race: 0 where each record has its origin, else 1
+abbrev pub origin_status : Option (ℕ × ℕ) → ℕ
+origin_status None = 0
+origin_status (Some broken) = 1
+
+abbrev pub race_status : Report → ℕ
+race_status (report.Race tasks broken) = origin_status broken
+race_status other = 0
+
+-- over a board of this family
+module _ {F S T : Type 0} (family : FamilyWords F (Posted Band) S T) where
+  -- the answer to the scripts of a race: the text of what a race tells that nothing stops
+  abbrev pub AnswersRace : RaceDocument → Result Answer Fault → Type 0
+  AnswersRace document (Ok answer) =
+      (r : Report) × IsRace family (λ task call. Unit {0}) (λ task call. ⊥) document.opening document.limit document.scripts r
+      × (answer ≡ printed r (race_status r))
+  AnswersRace document (Err fault) = ⊥
+
+  -- the answer of the command `race` to the bytes of a document
+  abbrev pub IsRaceAnswer : List ℕ → Result Answer Fault → Type 0
+  IsRaceAnswer bytes reply = AnswersReading AnswersRace (race_of bytes) reply

@@ -1,0 +1,21 @@
+-- The answer to a document that may be refused, and what a call gives of it (this project's own).
+use Rattle.std.specs.Prelude.{◌≡◌, ◌≢◌, ◌≤◌, Result, Ok, Err}
+use Rattle.fsr_refusals.specs.declared.refusal.DocError.{DocError}
+use Rattle.fsr_runs.specs.declared.fault.Answer.{Answer}
+use Rattle.fsr_runs.specs.declared.fault.Fault.{Fault}
+use Rattle.fsr_runs.specs.declared.fault.Fault.TheVariants as fault
+
+-- the answer to a document that may be refused, which is the fault then
+abbrev pub AnswersReading : {D : Type 0} → (D → Result Answer Fault → Type 0) → Result D DocError → Result Answer Fault → Type 0
+AnswersReading Answers (Ok document) reply = Answers document reply
+AnswersReading Answers (Err refusal) reply = reply ≡ Err (fault.Document refusal)
+
+-- what a call returned is such a reply, unless memory ran out
+abbrev pub Gives : (Result Answer Fault → Type 0) → Result Answer Fault → Type 0
+Gives IsReply (Ok answer) = IsReply (Ok answer)
+Gives IsReply (Err e) = e ≢ fault.NoMemory → IsReply (Err e)
+
+-- an answer has status 0 or 1
+abbrev pub HasLowStatus : Result Answer Fault → Type 0
+HasLowStatus (Ok answer) = answer.status ≤ 1
+HasLowStatus (Err e) = Unit {0}

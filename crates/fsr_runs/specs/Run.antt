@@ -1,0 +1,98 @@
+-- What a run over a document does to its streams (this project's own).
+use Rattle.std.specs.Prelude.{◌≡◌, ◌≢◌, ◌≤◌, ◌<◌, ◌+◌, ◌++◌, ◌⊎◌, ◌↔◌, ℕ, Bool, false, List, [], length, Option, Result, Ok, Err, Vec}
+use Rattle.std.specs.declared.alloc.Global.{Global}
+use Rattle.std.specs.Io.{StartsWith}
+use Rattle.std.specs.Io.KnownBytes.{Consumes, Appends, IsAtEnd}
+use Rattle.fsr_streams.specs.Transfer.{most_taken}
+use Rattle.fsr_runs.specs.declared.fault.Answer.{Answer}
+use Rattle.fsr_runs.specs.declared.fault.Fault.{Fault}
+use Rattle.fsr_runs.specs.declared.fault.Fault.TheVariants.{Document, History, Lines, Schedule, NoMemory}
+
+abbrev pub fault_status : Fault → ℕ
+fault_status (Document refusal) = 3
+fault_status (History fault) = 3
+fault_status (Lines fault) = 3
+fault_status (Schedule position) = 3
+fault_status NoMemory = 4
+
+-- what goes out with which status: of a fault nothing
+abbrev pub told_by : Result Answer Fault → Answer
+told_by (Ok answer) = answer
+told_by (Err fault) = record { text = []; status = fault_status fault }
+
+-- what comes of a run that is asked for nothing that the program does: nothing, with status 2
+abbrev pub nothing_asked : Answer
+nothing_asked = record { text = []; status = 2 }
+
+-- what comes of an input that has such replies
+abbrev pub IsToldBy : (List ℕ → Result Answer Fault → Type 0) → List ℕ → Answer → Type 0
+IsToldBy IsReply bytes told = (reply : Result Answer Fault) × IsReply bytes reply × (told ≡ told_by reply)
+
+-- these bytes are the front of a text that comes of the input
+abbrev pub IsFront : (List ℕ → Answer → Type 0) → List ℕ → List ℕ → Type 0
+IsFront IsOutcome taken sent = (told : Answer) × IsOutcome taken told × StartsWith told.text sent
+
+-- no input is without a bound: the longest document, and one byte more, is taken at most
+abbrev pub never : List ℕ → Bool
+never taken = false
+
+-- These bytes were taken, and no more than a run takes, unless they are of a kind without a bound.
+abbrev pub TakesBytes : (List ℕ → Bool) → Option (List ℕ) → Option (List ℕ) → List ℕ → Type 0
+TakesBytes is_unbounded old new taken = Consumes old new taken × (is_unbounded taken ≡ false → length taken ≤ most_taken)
+
+-- the input was taken to its end, or, where it has a bound, up to that
+abbrev pub IsWhole : (List ℕ → Bool) → List ℕ → Option (List ℕ) → Type 0
+IsWhole is_unbounded taken left = IsAtEnd left ⊎ ((is_unbounded taken ≡ false) × (length taken ≡ most_taken))
+
+-- A run ended with this status, in which such an outcome comes of the input, which is taken to its end where it is of a kind without a
+-- bound. in_old and in_new are the bytes that were left of the input before and after, out_old and out_new those that had gone out.
+pub record Runs (IsOutcome : List ℕ → Answer → Type 0) (is_unbounded : List ℕ → Bool) (in_old in_new out_old out_new : Option (List ℕ))
+    (status : ℕ) : Type 0 where
+  pub taken : List ℕ
+  pub sent : List ℕ
+  pub takes : Consumes in_old in_new taken
+  pub at_most : is_unbounded taken ≡ false → length taken ≤ most_taken
+  pub sends : Appends out_old out_new sent
+  -- what went out is a front of the text for the whole input, also after a failed write
+  pub front : (sent ≡ []) ⊎ (IsFront IsOutcome taken sent × IsWhole is_unbounded taken in_new)
+  -- with statuses 2 to 4 nothing goes out
+  pub silent : 2 ≤ status → status ≤ 4 → sent ≡ []
+  -- but for want of memory and failed streams, the text goes out whole, with its status
+  pub told : status ≢ 4 → status ≢ 5 → IsOutcome taken (record { text = sent; status = status })
+  pub whole : status ≢ 2 → status ≢ 4 → status ≢ 5 → IsWhole is_unbounded taken in_new
+
+-- The failures of the input and of the output before and after: status 5 is answered exactly where one more was counted, and
+-- both together count one more at most.
+pub record Fails (in_old in_new out_old out_new status : ℕ) : Type 0 where
+  pub five : (status ≡ 5) ↔ ((in_old < in_new) ⊎ (out_old < out_new))
+  pub once : in_new + out_new ≤ in_old + out_old + 1
+
+-- ---- the parts of a run
+
+-- the input was taken whole, or as far as it was before the run ended
+abbrev pub TakesDocument : (List ℕ → Bool) → Option (List ℕ) → Option (List ℕ) → Result (Vec ℕ Global) ℕ → Type 0
+TakesDocument is_unbounded old new (Ok v) = TakesBytes is_unbounded old new v.items × IsWhole is_unbounded v.items new
+TakesDocument is_unbounded old new (Err status) = (taken : List ℕ) × TakesBytes is_unbounded old new taken
+
+-- the rest of the input was taken, and stands behind what had been taken; or some of it was
+abbrev pub TakesRest : Option (List ℕ) → Option (List ℕ) → List ℕ → Result (Vec ℕ Global) ℕ → Type 0
+TakesRest old new before (Ok v) = (taken : List ℕ) × Consumes old new taken × (v.items ≡ before ++ taken) × IsAtEnd new
+TakesRest old new before (Err status) = (taken : List ℕ) × Consumes old new taken
+
+-- the status is 5 where a read failed, and else that of want of memory
+abbrev pub CountsTaking : ℕ → ℕ → Result (Vec ℕ Global) ℕ → Type 0
+CountsTaking old new (Ok v) = new ≡ old
+CountsTaking old new (Err status) = ((status ≡ 5) × (new ≡ old + 1)) ⊎ ((status ≡ 4) × (new ≡ old))
+
+-- the failures of the stream of fault lines, which has a line where the input wasn't taken
+abbrev pub TellsUnlessTaken : ℕ → ℕ → Result (Vec ℕ Global) ℕ → Type 0
+TellsUnlessTaken old new (Ok v) = new ≡ old
+TellsUnlessTaken old new (Err status) = new ≤ old + 1
+
+-- The text of an answer went out whole, with its status; or a front of it, and the stream failed. Of a fault nothing goes out.
+abbrev pub GivesAnswer : Result Answer Fault → Option (List ℕ) → Option (List ℕ) → ℕ → ℕ → ℕ → Type 0
+GivesAnswer (Ok answer) old new failed_old failed_new status =
+    (Appends old new answer.text × (failed_new ≡ failed_old) × (status ≡ answer.status))
+    ⊎ (((sent : List ℕ) × StartsWith answer.text sent × Appends old new sent) × (failed_new ≡ failed_old + 1) × (status ≡ 5))
+GivesAnswer (Err fault) old new failed_old failed_new status =
+    (new ≡ old) × (failed_new ≡ failed_old) × ((status ≡ fault_status fault) ⊎ (status ≡ 4))

@@ -1,7 +1,0 @@
--- The passes are those of a new board.
-use Rattle.history_core.specs.Band.{fits}
-use Rattle.atomic_board.proofs.Passing.{all_new}
-use Rattle.growths.proofs.team.Team.renew.Goals as goal
-
-pub returns : goal.returns
-returns g c = all_new g.F.Family fits c.in_ok-board.board _ _ _ c.in_ok-board.passes.items c.in_ok-board.ensures

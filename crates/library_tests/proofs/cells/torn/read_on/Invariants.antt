@@ -1,5 +1,0 @@
--- A read leaves the pass one of this cell.
-use Rattle.library_tests.proofs.cells.torn.read_on.Given as goal
-
-abbrev pub invariant-loop : goal.invariant-loop
-invariant-loop g l = g.C.Calls.is_get l.cell l.get

@@ -1,6 +1,0 @@
--- The stamp that C has (this project's definitions).
-use Rattle.stamps.specs.declared.stamp.Stamp.{Stamp}
-use Rattle.places.specs.declared.mark.Mark.{Mark}
-
-abbrev pub stamp_of : Mark → Stamp
-stamp_of m = record { tag = m.tag; writer = m.writer }
