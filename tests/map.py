@@ -5,7 +5,7 @@
 
 The graph has the subjects, and leaves out an arrow if a longer way leads to the same one. Each crate is in one subject; in it the crates come
 by their height, the number of crates on the longest way below them. The words are the first sentence at the head of `lib.rt` or `main.rt`,
-up to its colon. The rows of the table `What crosses a boundary` have to name crates of which the upper stands on the lower, and what stands
+up to its colon or comma. The rows of the table `What crosses a boundary` have to name crates of which the upper stands on the lower, and what stands
 in a lower one. If a page of docs/ tells its reader to copy crates and to write a crates.txt, the two have to name the same crates, each on
 those that it stands on.
 """
@@ -84,11 +84,12 @@ def described(name):
 
 
 def short(words):
-    """The first sentence, up to a colon behind four words or more. A point behind one capital letter ends no sentence."""
+    """The first sentence, up to a colon or comma behind four words or more; up to a colon alone if it begins with a verb, as of a program.
+    A point behind one capital letter ends no sentence, and no comma before an `and` is such."""
     sentence = re.match(r"(.*?[^A-Z])\.(?: |$)", words)
-    parts = (sentence[1] if sentence else words).split(": ")
-    count = next((it for it in range(1, len(parts)) if len(" ".join(parts[:it]).split()) >= 4), len(parts))
-    return ": ".join(parts[:count])
+    parts = re.split(r"(: )" if words[0].islower() else r"(: |, (?!and ))", sentence[1] if sentence else words)
+    count = next((it for it in range(1, len(parts), 2) if len("".join(parts[:it]).split()) >= 4), len(parts))
+    return "".join(parts[:count])
 
 
 def graph_of(below):

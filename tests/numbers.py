@@ -1,4 +1,4 @@
-"""The numbers of docs/TESTING.md, counted: wrong bodies and test functions by crate, examples, documents at bounds.
+"""The numbers of docs/TESTING.md, counted: crates, wrong bodies, test functions, examples, documents at bounds.
 
     numbers.py           compares them with the page, and says what differs: status 1
     numbers.py --write   writes them anew between their two marks
@@ -8,7 +8,6 @@ import glob
 import os
 import re
 import sys
-import textwrap
 
 TOP = os.path.dirname(os.path.dirname(os.path.realpath(__file__)))
 PAGE = f"{TOP}/docs/TESTING.md"
@@ -26,12 +25,6 @@ def text_of(path):
         return file.read()
 
 
-def told(what, counts):
-    """The counts by crate, but for those of none."""
-    said = ", ".join(f"`{it}` {counts[it]}" for it in sorted(counts) if counts[it])
-    return textwrap.wrap(f"{what} by crate: {said}.", 138, break_on_hyphens=False)
-
-
 def counted():
     crates = re.findall(r"(?m)^(\w+)[^#\n]*:", text_of(f"{TOP}/crates.txt"))
     bodies = {it: len(glob.glob(f"{TOP}/crates/{it}/must-fail/*.edit")) for it in crates}
@@ -43,10 +36,6 @@ def counted():
         f"{len(crates)} crates, {sum(bodies.values())} wrong bodies and {sum(tests.values())} test functions in them; "
         f"{len(glob.glob(f'{TOP}/examples/*.json'))} examples; {len([it for it in refused if it and it[0] != '#'])} documents at the bounds of "
         f"refusals and rules;\n{random:,} random documents and {logs:,} random logs against a plain reference.",
-        "",
-        *told("Wrong bodies", bodies),
-        "",
-        *told("Test functions", tests),
         "",
         "Beside the crates, each file compared with what a built program prints:",
         "",
