@@ -6,8 +6,7 @@
 The graph has the subjects, and leaves out an arrow if a longer way leads to the same one. Each crate is in one subject; in it the crates come
 by their height, the number of crates on the longest way below them. The words are the first sentence at the head of `lib.rt` or `main.rt`,
 up to its colon or comma. The rows of the table `What crosses a boundary` have to name crates of which the upper stands on the lower, and what stands
-in a lower one. If a page of docs/ tells its reader to copy crates and to write a crates.txt, the two have to name the same crates, each on
-those that it stands on.
+in a lower one. If a page of docs/ tells its reader to copy crates, all that they stand on have to be among them.
 """
 
 import os
@@ -148,18 +147,18 @@ def wrong_boundaries(text):
 
 
 def wrong_copies():
-    """What pages tell a reader to copy who makes a repository of his own, where it isn't what stands in crates.txt."""
+    """The crates that a page tells its reader to copy and that aren't there, and those that they stand on and that aren't copied."""
     rows = stands_on()
     for name in sorted(os.listdir(f"{TOP}/docs")):
         if not name.endswith(".md"):
             continue
         with open(f"{TOP}/docs/{name}", encoding="utf-8") as file:
             text = file.read()
-        for copied, listed in re.findall(r"for crate in ([\w ]+); do cp.*?cat > crates\.txt <<'END'\n(.*?)\n *END", text, re.S):
-            told = {head.split()[0]: words.split() for head, _, words in (row.partition(":") for row in listed.split("\n"))}
-            if set(copied.split()) != set(told):
-                yield f"docs/{name} copies other crates than it lists"
-            yield from (f"docs/{name} lists {it} on other crates than crates.txt" for it in told if sorted(told[it]) != sorted(rows.get(it, [])))
+        for copied in re.findall(r"for crate in ([\w\s\\]+); do cp ", text):
+            names = re.findall(r"\w+", copied)
+            yield from (f"docs/{name} copies {it}, which is no crate" for it in names if it not in rows)
+            below = {low for it in names if it in rows for low in all_below(rows, it)}
+            yield from (f"docs/{name} doesn't copy {it}, on which others stand" for it in sorted(below - set(names)))
 
 
 def main(words):
