@@ -5,8 +5,8 @@
 
 The graph has the subjects, and leaves out an arrow if a longer way leads to the same one. Each crate is in one subject; in it the crates come
 by their height, the number of crates on the longest way below them. The words are the first sentence at the head of `lib.rt` or `main.rt`,
-up to its colon or comma. The rows of the table `What crosses a boundary` have to name crates of which the upper stands on the lower, and what stands
-in a lower one. If a page of docs/ tells its reader to copy crates, all that they stand on have to be among them.
+up to its colon or comma. The rows of the table `What crosses a boundary` have to name crates of which the upper stands on the lower, and
+what stands in a lower one. If a page of docs/ tells its reader to copy crates, all that they stand on have to be among them.
 """
 
 import os
