@@ -4,7 +4,7 @@
 # Prints the version of a tree, or which versions it has.
 version_of_tree() {
     header=$(awk '/^#define NIDZARU_VERSION_(MAJOR|MINOR|PATCH)/ { printf dot "%s", $3; dot = "." }' "$1/c/nidzaru.h")
-    changes=$(sed -n 's/^## \([0-9][0-9.]*\).*/\1/p' "$1/CHANGELOG.md" | head -n 1)
+    changes=$(sed -n 's/^## \(Towards \)\{0,1\}\([0-9][0-9.]*\).*/\2/p' "$1/CHANGELOG.md" | head -n 1)
     crate=$(sed -n 's/^version = "\(.*\)"/\1/p' "$1/rust/nidzaru/Cargo.toml" | head -n 1)
     if [ -n "$header" ] && [ "$changes" = "$header" ] && [ "$crate" = "$header" ]; then
         echo "$header"
@@ -27,7 +27,7 @@ for file in c/nidzaru.h CHANGELOG.md rust/nidzaru/Cargo.toml; do
     for it in c/nidzaru.h CHANGELOG.md rust/nidzaru/Cargo.toml; do
         cp "$it" "$room/release/$it"
     done
-    sed -i 's/^\(#define NIDZARU_VERSION_PATCH\).*/\1 77/; s/^## [0-9][0-9.]*/## 0.0.77/; s/^version = .*/version = "0.0.77"/' \
+    sed -i 's/^\(#define NIDZARU_VERSION_PATCH\).*/\1 77/; s/^## \(Towards \)\{0,1\}[0-9][0-9.]*/## 0.0.77/; s/^version = .*/version = "0.0.77"/' \
         "$room/release/$file"
     if version_of_tree "$room/release" >"$room/said" || ! grep -q "77'" "$room/said"; then
         fail "another version in $file" "it isn't seen"
