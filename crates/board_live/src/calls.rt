@@ -1,5 +1,5 @@
 //! Reading and writing.
-ghost use Rattle.std.specs.Prelude.{◌≡◌, ◌≢◌, ◌+◌, ◌-◌, ◌*◌, ◌<◌, length, IfErr, IfOk, IsTrue};
+ghost use Rattle.std.specs.Prelude.{◌≡◌, ◌≢◌, ◌+◌, ◌-◌, ◌*◌, ◌<◌, false, length, IfErr, IfOk, IsTrue};
 ghost use Rattle.board_live.specs.inner.Calls.{HasRead, HasRow, HasWritten, IsOf};
 ghost use Rattle.cell_live.specs.Running.{last_or};
 ghost use Rattle.history_core.specs.declared.history.Kind.TheVariants.{Read};
@@ -49,8 +49,8 @@ fn row<V: RecordLaw, F: Family<Posted<V>>>(
     family.write_all_from(seat, item);
 }
 
-/// Writes the record to each other process, where it is above the own record, which they have.
-#[inline]
+/// Writes the record to each other process if it is new or above the own record; else they have it.
+#[inline(always)]
 fn tell_row<V: RecordLaw, F: Family<Posted<V>>>(
     family: &F,
     processes: usize,
@@ -59,6 +59,7 @@ fn tell_row<V: RecordLaw, F: Family<Posted<V>>>(
     first: &Posted<V>,
     own: &Posted<V>,
     item: &Posted<V>,
+    is_new: bool,
 )
     requires of { IsOf ⟦<F as Family<Posted<V>>>⟧ family.now processes process seat.old }
     requires opens { F.opening family.now ≡ first.now }
@@ -66,9 +67,9 @@ fn tell_row<V: RecordLaw, F: Family<Posted<V>>>(
     requires rises { Rises own.now item.now }
     requires lawful { IsTrue (V.obeys item.now.item) }
     ensures row { HasRow ⟦<F as Family<Posted<V>>>⟧ family.now process (processes - 1) seat.old seat.new own.now item.now }
-    ensures silent { own.now.stamp ≡ item.now.stamp → seat.new ≡ seat.old }
+    ensures silent { is_new ≡ false → own.now.stamp ≡ item.now.stamp → seat.new ≡ seat.old }
 {
-    if own.stamp != item.stamp {
+    if is_new || own.stamp != item.stamp {
         row(family, processes, process, seat, first, own, item);
     }
 }
@@ -88,7 +89,7 @@ impl<V: RecordLaw, F: Family<Posted<V>>> Board<V, F> {
             length (F.times pass.new.seat) ≡ length (F.times pass.old.seat) + (self.now.processes - 1) * F.width }
         ensures lawful { IsTrue (V.obeys result.item) }
     {
-        let own = pass.own;
+        let before = pass.own;
         column(
             &self.family,
             self.processes,
@@ -102,14 +103,15 @@ impl<V: RecordLaw, F: Family<Posted<V>>> Board<V, F> {
             pass.process,
             &mut pass.seat,
             &self.first,
-            &own,
+            &before,
             &pass.own,
+            false,
         );
         pass.own
     }
 
-    /// Gives the item the next stamp above what the own record and the others show, and hands it on. Where the greatest tag seen isn't
-    /// below the limit, hands on what was seen.
+    /// Gives the item the next stamp above what the own record and the others show, and hands it on. If the greatest tag seen isn't below
+    /// the limit, hands on what was seen, unless it is the own record, which was handed on before.
     #[inline]
     pub fn write(&self, pass: &mut Pass<V, F>, item: V) -> Result<Stamp, TagsEnded<V>>
         requires pass { IsPass ⟦<F as Family<Posted<V>>>⟧ V.obeys self.now pass.old }
@@ -118,6 +120,9 @@ impl<V: RecordLaw, F: Family<Posted<V>>> Board<V, F> {
         ensures call { (seen : _) × IsCall ⟦<F as Family<Posted<V>>>⟧ V.obeys self.now (kind_of result) pass.old pass.new seen
             × Chooses self.now.limit pass.old.process item seen pass.new.own result }
         ensures raised { IfOk result (λ s. IsBelow pass.old.own.stamp s) }
+        // A refused write that has its process's own record takes the steps of its column alone.
+        ensures quiet { IfErr result (λ e. e.seen.stamp ≡ pass.old.own.stamp →
+            length (F.times pass.new.seat) ≡ length (F.times pass.old.seat) + (self.now.processes - 1) * F.width) }
         ensures lawful { IfErr result (λ e. IsTrue (V.obeys e.seen.item)) }
     {
         let own = pass.own;
@@ -130,7 +135,7 @@ impl<V: RecordLaw, F: Family<Posted<V>>> Board<V, F> {
         );
         let next = pass.own.stamp.next(self.limit, pass.process);
         pass.own.renew(next, item);
-        row(
+        tell_row(
             &self.family,
             self.processes,
             pass.process,
@@ -138,6 +143,7 @@ impl<V: RecordLaw, F: Family<Posted<V>>> Board<V, F> {
             &self.first,
             &own,
             &pass.own,
+            next.is_some(),
         );
         match next {
             Some(stamp) => Ok(stamp),

@@ -1,5 +1,5 @@
 -- The row of the family is the board's, by its numbers.
-use Rattle.std.proofs.Common.{◌≡◌, ◌-◌, ◌<◌, ◌∙◌, sym, subst, rules}
+use Rattle.std.proofs.Common.{◌-◌, ◌<◌, ◌∙◌, sym, subst, rules}
 use Rattle.board_live.specs.inner.Calls.{HasWritten}
 use Rattle.board_live.proofs.Accessing.{row_written, stands_there}
 use Rattle.board_live.proofs.calls.row.Goals as goal

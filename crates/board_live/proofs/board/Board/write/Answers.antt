@@ -1,12 +1,12 @@
 -- The same as a read's, for both ends of a write: what is chosen is the item under the next stamp, or what was seen.
-use Rattle.std.proofs.Common.{◌≡◌, ◌-◌, sym, ◌∙◌, ap, subst, inl, inr, arith, rules}
-use Rattle.std.specs.Prelude.{IsTrue}
+use Rattle.std.proofs.Common.{◌≡◌, ◌+◌, length, sym, ◌∙◌, ap, subst, inl, inr, arith, rules}
+use Rattle.std.specs.Prelude.{◌<◌, ◌≤◌, IsTrue, is_some, MatchOption}
+use Rattle.std.proofs.lemmas.List.{length-append}
 use Rattle.history_core.specs.declared.history.Kind.TheVariants.{Write, Refused}
 use Rattle.stamps.specs.Stamps.{IsBelow}
 use Rattle.stamps.proofs.choices.Stamps.{at_most_below}
 use Rattle.board_live.specs.declared.record.Posted.{Posted}
 use Rattle.board_live.specs.Records.{or_item}
-use Rattle.board_live.proofs.Accessing.{row_told}
 use Rattle.board_live.proofs.Calling.{is_call, is_pass}
 use Rattle.board_live.proofs.Records.{rises_at_most}
 use Rattle.board_live.proofs.board.Board.write.Goals as goal
@@ -18,35 +18,42 @@ chose_some g c = c.renew.ensures ∙ ap (λ n. or_item c.column.new.seen n c.arg
 chose_none : (g : _) (c : goal.After-result-1 g) → c.renew.new.self ≡ c.column.new.seen
 chose_none g c = c.renew.ensures ∙ ap (λ n. or_item c.column.new.seen n c.args.item) c.in-None.is
 
+-- what the stamp is, by which arm is taken
+next_some : (g : _) (c : goal.In-Some g) → (c.column.new.seen.stamp.tag < c.args.self.now.limit)
+    × (c.in-Some.stamp ≡ record { tag = c.column.new.seen.stamp.tag + 1; writer = c.args.pass.now.process })
+next_some g c = subst (λ r. MatchOption r (c.args.self.now.limit ≤ c.column.new.seen.stamp.tag) (λ s. (c.column.new.seen.stamp.tag < c.args.self.now.limit)
+    × (s ≡ record { tag = c.column.new.seen.stamp.tag + 1; writer = c.args.pass.now.process }))) c.in-Some.is c.next-next.ensures
+
+next_none : (g : _) (c : goal.After-result-1 g) → c.args.self.now.limit ≤ c.column.new.seen.stamp.tag
+next_none g c = subst (λ r. MatchOption r (c.args.self.now.limit ≤ c.column.new.seen.stamp.tag) (λ s. (c.column.new.seen.stamp.tag < c.args.self.now.limit)
+    × (s ≡ record { tag = c.column.new.seen.stamp.tag + 1; writer = c.args.pass.now.process }))) c.in-None.is c.next-next.ensures
+
 below_next : (g : _) (c : goal.In-Some g) → IsBelow c.column.new.seen.stamp c.in-Some.stamp
-below_next g c = subst (λ s. IsBelow c.column.new.seen.stamp s) (sym c.in-Some.ensures.1) (inl (omega arith))
+below_next g c = subst (λ s. IsBelow c.column.new.seen.stamp s) (sym (next_some g c).1) (inl (omega arith))
 
 pub returns-in-Some-clause-pass : goal.returns-in-Some-clause-pass
 returns-in-Some-clause-pass g c =
     is_pass g.F.Family g.V.RecordLaw.obeys c.args.self.now c.args.pass.now c.requires.pass Write c.column.new.seen c.renew.new.self
-    c.column.new.seat c.row.new.seat c.column.ensures (row_told g.F.Family c.args.self.now.family c.args.pass.now.process (c.args.self.now.processes - 1) c.column.new.seat c.row.new.seat
-    c.args.pass.now.own c.renew.new.self c.row.ensures)
+    c.column.new.seat c.tell_row.new.seat c.column.ensures c.tell_row.ensures.row
     (subst (λ (z : Posted _). IsTrue (g.V.RecordLaw.obeys z.item)) (sym (chose_some g c)) c.requires.item)
 
 pub returns-in-None-clause-pass : goal.returns-in-None-clause-pass
 returns-in-None-clause-pass g c =
     is_pass g.F.Family g.V.RecordLaw.obeys c.args.self.now c.args.pass.now c.requires.pass Refused c.column.new.seen c.renew.new.self
-    c.column.new.seat c.row.new.seat c.column.ensures (row_told g.F.Family c.args.self.now.family c.args.pass.now.process (c.args.self.now.processes - 1) c.column.new.seat c.row.new.seat
-    c.args.pass.now.own c.renew.new.self c.row.ensures)
+    c.column.new.seat c.tell_row.new.seat c.column.ensures c.tell_row.ensures.row
     (subst (λ (z : Posted _). IsTrue (g.V.RecordLaw.obeys z.item)) (sym (chose_none g c)) c.column.ensures.lawful)
 
 pub returns-in-Some-clause-call : goal.returns-in-Some-clause-call
 returns-in-Some-clause-call g c =
     let seen = c.column.new.seen in
     let chose = chose_some g c in
-    let below = c.in-Some.ensures.0 in
-    let next = ap (λ (z : Posted _). z.stamp) chose ∙ c.in-Some.ensures.1 in (
+    let below = (next_some g c).0 in
+    let next = ap (λ (z : Posted _). z.stamp) chose ∙ (next_some g c).1 in (
       seen,
       is_call g.F.Family g.V.RecordLaw.obeys c.args.self.now c.args.pass.now c.requires.pass Write seen c.renew.new.self c.column.new.seat
-          c.row.new.seat c.column.ensures (row_told g.F.Family c.args.self.now.family c.args.pass.now.process (c.args.self.now.processes - 1) c.column.new.seat c.row.new.seat
-          c.args.pass.now.own c.renew.new.self c.row.ensures)
+          c.tell_row.new.seat c.column.ensures c.tell_row.ensures.row
           (inl (subst (λ (z : Posted _). IsBelow seen.stamp z.stamp) (sym chose) (below_next g c))) (λ place. (below, next)),
-      (below, c.in-Some.ensures.1, chose),
+      (below, (next_some g c).1, chose),
     )
 
 pub returns-in-None-clause-call : goal.returns-in-None-clause-call
@@ -57,9 +64,8 @@ returns-in-None-clause-call g c =
     let item = ap (λ (z : Posted _). z.item) chose in (
       seen,
       is_call g.F.Family g.V.RecordLaw.obeys c.args.self.now c.args.pass.now c.requires.pass Refused seen c.renew.new.self c.column.new.seat
-          c.row.new.seat c.column.ensures (row_told g.F.Family c.args.self.now.family c.args.pass.now.process (c.args.self.now.processes - 1) c.column.new.seat c.row.new.seat
-          c.args.pass.now.own c.renew.new.self c.row.ensures) (inr (sym stamp, sym item)) (λ place. (c.in-None.ensures, stamp, item)),
-      (c.in-None.ensures, chose, chose),
+          c.tell_row.new.seat c.column.ensures c.tell_row.ensures.row (inr (sym stamp, sym item)) (λ place. (next_none g c, stamp, item)),
+      (next_none g c, chose, chose),
     )
 
 pub returns-in-Some-clause-raised : goal.returns-in-Some-clause-raised
@@ -80,23 +86,34 @@ column-requires-clause-lawful g c = search rules
 pub next-next-requires : goal.next-next-requires
 next-next-requires g c = search rules
 
-pub row-requires-clause-of : goal.row-requires-clause-of
-row-requires-clause-of g c = search rules
+pub tell_row-requires-clause-of : goal.tell_row-requires-clause-of
+tell_row-requires-clause-of g c = search rules
 
-pub row-requires-clause-opens : goal.row-requires-clause-opens
-row-requires-clause-opens g c = search rules
+pub tell_row-requires-clause-opens : goal.tell_row-requires-clause-opens
+tell_row-requires-clause-opens g c = search rules
 
-pub row-requires-clause-last : goal.row-requires-clause-last
-row-requires-clause-last g c = search rules
+pub tell_row-requires-clause-last : goal.tell_row-requires-clause-last
+tell_row-requires-clause-last g c = search rules
 
-pub row-requires-clause-rises : goal.row-requires-clause-rises
-row-requires-clause-rises g c = search rules
+pub tell_row-requires-clause-rises : goal.tell_row-requires-clause-rises
+tell_row-requires-clause-rises g c = search rules
 
-pub row-requires-clause-lawful : goal.row-requires-clause-lawful
-row-requires-clause-lawful g c = search rules
+pub tell_row-requires-clause-lawful : goal.tell_row-requires-clause-lawful
+tell_row-requires-clause-lawful g c = search rules
 
 pub returns-in-Some-clause-lawful : goal.returns-in-Some-clause-lawful
 returns-in-Some-clause-lawful g c = search rules
 
 pub returns-in-None-clause-raised : goal.returns-in-None-clause-raised
 returns-in-None-clause-raised g c = search rules
+
+pub returns-in-Some-clause-quiet : goal.returns-in-Some-clause-quiet
+returns-in-Some-clause-quiet g c = search rules
+
+pub returns-in-None-clause-quiet : goal.returns-in-None-clause-quiet
+returns-in-None-clause-quiet g c = λ e.
+    let times = g.F.Family.times in
+    let kept : c.tell_row.new.seat ≡ c.column.new.seat = c.tell_row.ensures.silent (c.is_some.ensures ∙ ap is_some c.in-None.is) (sym e) in
+    ap (λ s. length (times s)) kept ∙ ap length c.column.ensures.times
+    ∙ length-append (times c.args.pass.now.seat) c.column.ensures.steps
+    ∙ ap (λ m. length (times c.args.pass.now.seat) + m) c.column.ensures.long
