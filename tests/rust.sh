@@ -41,6 +41,37 @@ test_oldest_rust() {
     fi
 }
 
+# Pairs of a store and a load under ThreadSanitizer, which the stable compiler has too: it is silent over those that a call orders, and sees
+# the race of the one that none does. (The standard library isn't built for it, so channels and the crate's other tests would show false
+# races.)
+test_races_in_rust() {
+    runtime=$(rustc --print sysroot)/lib/rustlib/x86_64-unknown-linux-gnu/lib
+    ls "$runtime"/librustc*_rt.tsan.a >/dev/null 2>&1 || return 0
+    wrapped_in_rust=
+    for call in 24_write 24_read 24_look board_24_write board_24_read board_24_read_since; do
+        wrapped_in_rust="$wrapped_in_rust -Clink-arg=-Wl,--wrap=nidzaru_$call"
+    done
+    cp -r rust/pairs "$room/pairs" && sed -i 's|"../nidzaru"|"../rust"|' "$room/pairs/Cargo.toml"
+    if ! RUSTC_BOOTSTRAP=1 RUSTFLAGS="-Zsanitizer=thread -Cunsafe-allow-abi-mismatch=sanitizer $wrapped_in_rust" \
+        PKG_CONFIG_PATH=$installed/lib/pkgconfig CARGO_TARGET_DIR=$room/races cargo build --release --offline --quiet \
+        --target x86_64-unknown-linux-gnu --manifest-path "$room/pairs/Cargo.toml" >"$room/said" 2>&1; then
+        fail "rust/pairs" "it wasn't built: $(grep -m 3 '^error' "$room/said" | tr '\n' ' ')"
+        return
+    fi
+    pairs=$room/races/x86_64-unknown-linux-gnu/release/pairs
+    if TSAN_OPTIONS=exitcode=66 "$pairs" clean >"$room/said" 2>&1 && [ "$(cat "$room/said")" = passed ]; then
+        pass "rust/pairs: what one call orders, with ThreadSanitizer"
+    else
+        fail "rust/pairs: what one call orders, with ThreadSanitizer" "$(head -n 5 "$room/said" | tr '\n' ' ')"
+    fi
+    TSAN_OPTIONS=exitcode=66 "$pairs" unread >"$room/said" 2>&1
+    if [ $? = 66 ] && [ "$(grep -c '^WARNING: ThreadSanitizer' "$room/said")" = 1 ] && grep -q '#0 pairs::load ' "$room/said"; then
+        pass "planted: rust/pairs: a pair without its call is a race"
+    else
+        fail "planted: rust/pairs: a pair without its call is a race" "no race, or another: $(head -n 5 "$room/said" | tr '\n' ' ')"
+    fi
+}
+
 if command -v cargo >/dev/null 2>&1; then
     cp -r rust/nidzaru "$room/rust"
     if in_rust test --release >"$room/said" 2>&1; then
@@ -81,6 +112,7 @@ if command -v cargo >/dev/null 2>&1; then
         pass "rust/nidzaru over an older library"
     fi
     test_oldest_rust
+    test_races_in_rust
     # (the numbers of the errors of examples that don't compile are looked at by the nightly compiler alone)
     if cargo +nightly --version >/dev/null 2>&1; then
         if in_rust +nightly test --doc >"$room/said" 2>&1; then

@@ -7,6 +7,7 @@ the files as they are, and to fail over the edited ones: by a check that it tell
 named. That a test can't be built for another reason doesn't count. The last line is the sums.
 """
 
+import glob
 import os
 import re
 import shutil
@@ -22,6 +23,7 @@ import refused  # noqa: E402
 
 MEMORY = ["malloc", "realloc", "free"]
 PAUSED = ["8_write", "8_read", "8_look", "board_24_write", "board_24_read", "board_24_read_since"]
+PAUSED_RUST = [name.replace("8_", "24_") for name in PAUSED]
 PASSED = [f"{cell}{call}" for cell in ("24_", "triple_24_", "board_24_", "triple_board_24_") for call in ("make", "write")]
 
 
@@ -50,6 +52,7 @@ PROGRAMS = {
 SEEN = {"other": "read_elsewhere", "twice": "nidzaru_begin", "item": "change_shared"}
 
 H, HPP, LIB, BOARDS, RAW = "c/nidzaru.h", "c/nidzaru.hpp", "src/lib.rs", "src/boards.rs", "src/raw.rs"
+WATCHED = "src/watched.rs"
 COPIED = "if (nidzaru_is_copied(&{0}->handle)) return NIDZARU_COPIED;"
 WRITE = "int name##_write(name##_writer *writer, const name##_record *item) { if (!writer || !item) return NIDZARU_NULL; "
 B_WRITE = "int name##_write(name##_place *place, const name##_record *item, nidzaru_stamp *stamp) { "
@@ -375,14 +378,14 @@ CRATE = [
     (
         "a place that goes without an end",
         RAW,
-        "// The place is live, and is not used again. let status = unsafe { (self.end)(&mut self.side) };",
+        "// The place is live, and is not used again. let status = ignore(|| unsafe { (self.end)(&mut self.side) });",
         "let status = DONE;",
         "test calls",
     ),
     (
         "a side that goes without an end",
         RAW,
-        "// The side is live, and is not used again. let status = unsafe { (self.end)(&mut self.side) };",
+        "// The side is live, and is not used again. let status = ignore(|| unsafe { (self.end)(&mut self.side) });",
         "let status = DONE;",
         "test calls",
     ),
@@ -414,6 +417,36 @@ CRATE = [
         "(0..=25, false) => &FOUR_SLOT_BOARD_24, (26..=256, false)",
         "lib",
     ),
+    (
+        "an order after the write",
+        WATCHED,
+        "unsafe { __tsan_release(self.at()) }; ignore(call)",
+        "let given = ignore(call); unsafe { __tsan_release(self.at()) }; given",
+        "races",
+    ),
+    (
+        "an order before the read",
+        WATCHED,
+        "let given = ignore(call); // As above. unsafe { __tsan_acquire(self.at()) };",
+        "unsafe { __tsan_acquire(self.at()) }; let given = ignore(call);",
+        "races",
+    ),
+    ("sides of two orders", RAW, "ReadingSide { side: reader, order, end", "ReadingSide { side: reader, order: Order::new(), end", "races"),
+    *[(f"no order by {what}", RAW, f"{old} unsafe {{ (calls.{call})({rest}", f"ignore(|| unsafe {{ (calls.{call})({rest}", "races")
+      for what, old, call, rest in (
+          ("a write", "writer.order.show(||", "write", "&mut writer.side, ptr::from_ref(item)"),
+          ("a copied write", "writer.order.show(||", "write", "&mut writer.side, words.as_ptr()"),
+          ("a read", "reader.order.see(||", "read", "&mut reader.side, item.as_mut_ptr()"),
+          ("a read into place", "reader.order.see(||", "read", "&mut reader.side, ptr::from_mut(item)"),
+          ("a copied read", "reader.order.see(||", "read", "&mut reader.side, words.as_mut_ptr()"),
+          ("a look", "reader.order.see(||", "look", "&mut reader.side"),
+          ("a place's write", "place.order.show(||", "write", "&mut place.side, ptr::from_ref(item)"),
+          ("a place's copied write", "place.order.show(||", "write", "&mut place.side, words.as_ptr()"),
+          ("a place's read", "place.order.see(||", "read", "&mut place.side, item.as_mut_ptr()"),
+          ("a place's read into place", "place.order.see(||", "read", "&mut place.side, ptr::from_mut(item)"),
+          ("a place's copied read", "place.order.see(||", "read", "&mut place.side, words.as_mut_ptr()"),
+          ("a place's read_since", "place.order.see(||", "read_since", "&mut place.side"),
+      )],
 ]
 
 
@@ -431,12 +464,14 @@ class Room:
             file.write(f"libdir={folder}/lib\nName: nidzaru\nDescription: the library\nVersion: {self.version}\nLibs: -L{folder}/lib -lnidzaru\n")
         os.makedirs(self.headers)
         shutil.copytree(f"{TOP}/rust/nidzaru", self.crate)
+        shutil.copytree(f"{TOP}/rust/pairs", os.path.join(folder, "pairs"))
+        self.edit("../pairs/Cargo.toml", '"../nidzaru"', '"../rust"')
         self.restore()
 
     def restore(self):
         for name in ("nidzaru.h", "nidzaru.hpp"):
             shutil.copy(f"{TOP}/c/{name}", self.headers)
-        for name in (LIB, BOARDS, RAW):
+        for name in (LIB, BOARDS, RAW, WATCHED):
             shutil.copyfile(f"{TOP}/rust/nidzaru/{name}", f"{self.crate}/{name}")
 
     def edit(self, path, old, new, all_of_them=False):
@@ -506,13 +541,35 @@ class Room:
         )
         return "could not compile" not in said, status == 0 and "test result: ok" in said, said
 
+    def races(self):
+        """Pairs of a store and a load in Rust, whose only order is a call."""
+        flags = ["-Zsanitizer=thread", "-Cunsafe-allow-abi-mismatch=sanitizer", *(f"-Clink-arg={it}" for it in wraps(PAUSED_RUST, "nidzaru_"))]
+        target = "x86_64-unknown-linux-gnu"
+        status, said = self.call(
+            ["cargo", "build", "--offline", "--quiet", "--release", "--target", target, "--manifest-path", f"{self.folder}/pairs/Cargo.toml"],
+            env={**os.environ, "PKG_CONFIG_PATH": f"{self.folder}/lib", "CARGO_TARGET_DIR": f"{self.folder}/races", "RUSTC_BOOTSTRAP": "1",
+                 "RUSTFLAGS": " ".join(flags)},
+        )
+        if status:
+            return False, False, said
+        status, said = self.call([f"{self.folder}/races/{target}/release/pairs", "clean"], env={**os.environ, "TSAN_OPTIONS": "exitcode=66"})
+        return True, status == 0 and said == "passed\n", said
+
     def test(self, name):
+        if name == "races":
+            return self.races()
         if name in PROGRAMS:
             return self.program(name)
         if name == "release":
             return self.release()
         kind, _, rest = name.partition(" ")
         return {"seen": self.seen, "refused": self.refusals}.get(kind, lambda _: self.cargo(name))(rest)
+
+
+def has_races_in_rust():
+    """Whether this compiler has ThreadSanitizer's library."""
+    root = subprocess.run(["rustc", "--print", "sysroot"], capture_output=True, text=True, check=True).stdout.strip()
+    return glob.glob(f"{root}/lib/rustlib/x86_64-unknown-linux-gnu/lib/librustc*_rt.tsan.a") != []
 
 
 def edits():
@@ -522,6 +579,8 @@ def edits():
             yield name, [path], old, new, test, (word or [None])[0]
     if shutil.which("cargo"):
         for name, path, old, new, test in CRATE:
+            if test == "races" and not has_races_in_rust():
+                continue
             yield f"crate: {name}", path if isinstance(path, list) else [path], old, new, test, None
 
 

@@ -55,6 +55,10 @@ fn main() {
         println!("cargo:rerun-if-env-changed={name}");
     }
     println!("cargo:rerun-if-changed=build.rs");
+    // (only a compiler that has `-Zsanitizer` tells of it)
+    if env::var("CARGO_CFG_SANITIZE").is_ok_and(|sanitizers| sanitizers.split(',').any(|it| it == "thread")) {
+        println!("cargo:rustc-cfg=nidzaru_watched");
+    }
     if let Err(why) = link() {
         // (the crate tells it when it is compiled: its documents are made without the library)
         let install = "install it by `./install PREFIX` of its repository or its package, and set PKG_CONFIG_PATH=PREFIX/lib/pkgconfig";

@@ -78,6 +78,7 @@ compile_error!(env!("NIDZARU_MISSING"));
 mod boards;
 pub mod log;
 mod raw;
+mod watched;
 
 pub use boards::{board, board_over, limited_board, triple_board, BoardError, Place, Since, Stamp, TagsEnded, GREATEST_LIMIT};
 

@@ -1,4 +1,4 @@
-//! The library's calls, and all that is unsafe of this crate.
+//! The library's calls, and all that is unsafe of this crate, but for what the module `watched` tells ThreadSanitizer.
 //!
 //! What a call owes (the library's page for C lists it), and why it is met here:
 //!
@@ -18,6 +18,7 @@
 //!    it is for its own use of std's allocator.
 #![allow(unsafe_code)]
 
+use crate::watched::{ignore, Order};
 use std::ffi::c_void;
 use std::mem::MaybeUninit;
 use std::ptr;
@@ -138,12 +139,14 @@ pub const fn calls_for(size: usize, triple: bool) -> &'static Calls {
 /// A writing side that is live until it goes.
 pub struct WritingSide {
     side: Side,
+    order: Order,
     end: End,
 }
 
 /// A reading side that is live until it goes.
 pub struct ReadingSide {
     side: Side,
+    order: Order,
     end: End,
 }
 
@@ -154,7 +157,7 @@ unsafe impl Send for ReadingSide {}
 impl Drop for WritingSide {
     fn drop(&mut self) {
         // The side is live, and is not used again.
-        let status = unsafe { (self.end)(&mut self.side) };
+        let status = ignore(|| unsafe { (self.end)(&mut self.side) });
         assert_eq!(status, DONE, "the side is live");
     }
 }
@@ -162,7 +165,7 @@ impl Drop for WritingSide {
 impl Drop for ReadingSide {
     fn drop(&mut self) {
         // As above.
-        let status = unsafe { (self.end)(&mut self.side) };
+        let status = ignore(|| unsafe { (self.end)(&mut self.side) });
         assert_eq!(status, DONE, "the side is live");
     }
 }
@@ -226,14 +229,15 @@ pub fn open<T: Copy>(calls: &'static Calls, first: &T) -> Option<(WritingSide, R
 fn open_by<T: Copy, const N: usize>(calls: &'static Calls, first: &T) -> Option<(WritingSide, ReadingSide)> {
     let (mut writer, mut reader) = (Side::EMPTY, Side::EMPTY);
     // The handles are empty, and the words are as many as the library's record has.
-    let status = unsafe { (calls.make)(Words::<N>::of(first).as_ptr(), &mut writer, &mut reader) };
+    let status = ignore(|| unsafe { (calls.make)(Words::<N>::of(first).as_ptr(), &mut writer, &mut reader) });
     match status {
         DONE => {}
         NO_MEMORY => return None,
         other => unreachable!("both handles are empty, so the status isn't {other}"),
     }
-    let writer = WritingSide { side: writer, end: calls.end_writer };
-    Some((writer, ReadingSide { side: reader, end: calls.end_reader }))
+    let order = Order::new();
+    let writer = WritingSide { side: writer, order, end: calls.end_writer };
+    Some((writer, ReadingSide { side: reader, order, end: calls.end_reader }))
 }
 
 /// Writes the record. `false` where the numbers are used up.
@@ -241,7 +245,7 @@ fn open_by<T: Copy, const N: usize>(calls: &'static Calls, first: &T) -> Option<
 pub fn write<T: Copy>(calls: &'static Calls, writer: &mut WritingSide, item: &T) -> bool {
     if passes::<T>(calls.size) {
         // The item is as large and aligned as the library's record.
-        is_written(unsafe { (calls.write)(&mut writer.side, ptr::from_ref(item).cast()) })
+        is_written(writer.order.show(|| unsafe { (calls.write)(&mut writer.side, ptr::from_ref(item).cast()) }))
     } else {
         by_size!(calls, write_by, (calls, writer, item))
     }
@@ -250,7 +254,8 @@ pub fn write<T: Copy>(calls: &'static Calls, writer: &mut WritingSide, item: &T)
 #[inline]
 fn write_by<T: Copy, const N: usize>(calls: &'static Calls, writer: &mut WritingSide, item: &T) -> bool {
     // The words are as many as the library's record has.
-    is_written(unsafe { (calls.write)(&mut writer.side, Words::<N>::of(item).as_ptr()) })
+    let words = Words::<N>::of(item);
+    is_written(writer.order.show(|| unsafe { (calls.write)(&mut writer.side, words.as_ptr()) }))
 }
 
 #[inline]
@@ -268,7 +273,7 @@ pub fn read<T: Copy>(calls: &'static Calls, reader: &mut ReadingSide) -> (T, u64
     if passes::<T>(calls.size) {
         let (mut item, mut number) = (MaybeUninit::<T>::uninit(), 0);
         // The place is as large and aligned as the library's record.
-        must_be_done(unsafe { (calls.read)(&mut reader.side, item.as_mut_ptr().cast(), &mut number) });
+        must_be_done(reader.order.see(|| unsafe { (calls.read)(&mut reader.side, item.as_mut_ptr().cast(), &mut number) }));
         // The call has filled it with the bytes of a `T`.
         (unsafe { item.assume_init() }, number)
     } else {
@@ -281,7 +286,7 @@ fn read_by<T: Copy, const N: usize>(calls: &'static Calls, reader: &mut ReadingS
     assert!(size_of::<T>() <= size_of::<Words<N>>());
     let (mut words, mut number) = (Words::<N>::zero(), 0);
     // The words are as many as the library's record has.
-    must_be_done(unsafe { (calls.read)(&mut reader.side, words.as_mut_ptr(), &mut number) });
+    must_be_done(reader.order.see(|| unsafe { (calls.read)(&mut reader.side, words.as_mut_ptr(), &mut number) }));
     // They begin with the bytes of a `T`.
     (unsafe { ptr::read_unaligned(words.as_ptr().cast::<T>()) }, number)
 }
@@ -292,7 +297,7 @@ pub fn read_into<T: Copy>(calls: &'static Calls, reader: &mut ReadingSide, item:
     if passes::<T>(calls.size) {
         let mut number = 0;
         // The item is as large and aligned as the library's record, and gets the bytes of a `T`.
-        must_be_done(unsafe { (calls.read)(&mut reader.side, ptr::from_mut(item).cast(), &mut number) });
+        must_be_done(reader.order.see(|| unsafe { (calls.read)(&mut reader.side, ptr::from_mut(item).cast(), &mut number) }));
         number
     } else {
         let (record, number) = read(calls, reader);
@@ -306,7 +311,7 @@ pub fn read_into<T: Copy>(calls: &'static Calls, reader: &mut ReadingSide, item:
 pub fn look(calls: &'static Calls, reader: &mut ReadingSide) -> u64 {
     let mut number = 0;
     // The pointer leads to a number.
-    must_be_done(unsafe { (calls.look)(&mut reader.side, &mut number) });
+    must_be_done(reader.order.see(|| unsafe { (calls.look)(&mut reader.side, &mut number) }));
     number
 }
 
@@ -382,6 +387,7 @@ pub const fn board_calls_for(size: usize, triple: bool) -> &'static BoardCalls {
 /// A place that is live until it goes.
 pub struct BoardPlace {
     side: Side,
+    order: Order,
     end: End,
 }
 
@@ -391,7 +397,7 @@ unsafe impl Send for BoardPlace {}
 impl Drop for BoardPlace {
     fn drop(&mut self) {
         // The place is live, and is not used again.
-        let status = unsafe { (self.end)(&mut self.side) };
+        let status = ignore(|| unsafe { (self.end)(&mut self.side) });
         assert_eq!(status, DONE, "the side is live");
     }
 }
@@ -414,13 +420,14 @@ pub fn open_board<T: Copy>(calls: &'static BoardCalls, n: usize, limit: u64, fir
     let mut sides = [const { Side::EMPTY }; 16];
     ask_for_release();
     by_size!(calls, open_board_by, (calls, &mut sides[..n], limit, first))?;
-    places.extend(sides.into_iter().take(n).map(|side| BoardPlace { side, end: calls.end }));
+    let order = Order::new();
+    places.extend(sides.into_iter().take(n).map(|side| BoardPlace { side, order, end: calls.end }));
     Ok(places)
 }
 
 fn open_board_by<T: Copy, const N: usize>(calls: &BoardCalls, sides: &mut [Side], limit: u64, first: &T) -> Result<(), NoBoard> {
     // The handles are empty and as many as is said, and the words are as many as the library's record has.
-    let status = unsafe { (calls.make)(Words::<N>::of(first).as_ptr(), limit, sides.as_mut_ptr(), sides.len()) };
+    let status = ignore(|| unsafe { (calls.make)(Words::<N>::of(first).as_ptr(), limit, sides.as_mut_ptr(), sides.len()) });
     match status {
         DONE => Ok(()),
         NO_MEMORY => Err(NoBoard::Memory),
@@ -436,7 +443,7 @@ pub fn write_place<T: Copy>(calls: &'static BoardCalls, place: &mut BoardPlace, 
     if passes::<T>(calls.size) {
         let mut stamp = Mark::default();
         // The item is as large and aligned as the library's record.
-        let status = unsafe { (calls.write)(&mut place.side, ptr::from_ref(item).cast(), &mut stamp) };
+        let status = place.order.show(|| unsafe { (calls.write)(&mut place.side, ptr::from_ref(item).cast(), &mut stamp) });
         is_written(status).then_some(stamp)
     } else {
         by_size!(calls, write_place_by, (calls, place, item))
@@ -446,8 +453,9 @@ pub fn write_place<T: Copy>(calls: &'static BoardCalls, place: &mut BoardPlace, 
 #[inline]
 fn write_place_by<T: Copy, const N: usize>(calls: &BoardCalls, place: &mut BoardPlace, item: &T) -> Option<Mark> {
     let mut stamp = Mark::default();
+    let words = Words::<N>::of(item);
     // The words are as many as the library's record has.
-    let status = unsafe { (calls.write)(&mut place.side, Words::<N>::of(item).as_ptr(), &mut stamp) };
+    let status = place.order.show(|| unsafe { (calls.write)(&mut place.side, words.as_ptr(), &mut stamp) });
     is_written(status).then_some(stamp)
 }
 
@@ -457,7 +465,7 @@ pub fn read_place<T: Copy>(calls: &'static BoardCalls, place: &mut BoardPlace) -
     if passes::<T>(calls.size) {
         let (mut item, mut stamp) = (MaybeUninit::<T>::uninit(), Mark::default());
         // The place is as large and aligned as the library's record.
-        must_be_done(unsafe { (calls.read)(&mut place.side, item.as_mut_ptr().cast(), &mut stamp) });
+        must_be_done(place.order.see(|| unsafe { (calls.read)(&mut place.side, item.as_mut_ptr().cast(), &mut stamp) }));
         // The call has filled it with the bytes of a `T`.
         (unsafe { item.assume_init() }, stamp)
     } else {
@@ -470,7 +478,7 @@ fn read_place_by<T: Copy, const N: usize>(calls: &BoardCalls, place: &mut BoardP
     assert!(size_of::<T>() <= size_of::<Words<N>>());
     let (mut words, mut stamp) = (Words::<N>::zero(), Mark::default());
     // The words are as many as the library's record has.
-    must_be_done(unsafe { (calls.read)(&mut place.side, words.as_mut_ptr(), &mut stamp) });
+    must_be_done(place.order.see(|| unsafe { (calls.read)(&mut place.side, words.as_mut_ptr(), &mut stamp) }));
     // They begin with the bytes of a `T`.
     (unsafe { ptr::read_unaligned(words.as_ptr().cast::<T>()) }, stamp)
 }
@@ -481,7 +489,7 @@ pub fn read_place_into<T: Copy>(calls: &'static BoardCalls, place: &mut BoardPla
     if passes::<T>(calls.size) {
         let mut stamp = Mark::default();
         // The item is as large and aligned as the library's record, and gets the bytes of a `T`.
-        must_be_done(unsafe { (calls.read)(&mut place.side, ptr::from_mut(item).cast(), &mut stamp) });
+        must_be_done(place.order.see(|| unsafe { (calls.read)(&mut place.side, ptr::from_mut(item).cast(), &mut stamp) }));
         stamp
     } else {
         let (record, stamp) = read_place(calls, place);
@@ -501,7 +509,7 @@ fn read_place_since_by<T: Copy, const N: usize>(calls: &BoardCalls, place: &mut 
     assert!(size_of::<T>() <= size_of::<Words<N>>());
     let (mut words, mut stamp) = (Words::<N>::zero(), Mark::default());
     // The words are as many as the library's record has.
-    let status = unsafe { (calls.read_since)(&mut place.side, &least, words.as_mut_ptr(), &mut stamp) };
+    let status = place.order.see(|| unsafe { (calls.read_since)(&mut place.side, &least, words.as_mut_ptr(), &mut stamp) });
     assert!(status == DONE || status == OLDER, "the handle has a place");
     // They begin with the bytes of a `T`, with either status.
     (unsafe { ptr::read_unaligned(words.as_ptr().cast::<T>()) }, stamp, status == DONE)
