@@ -86,6 +86,7 @@ close_with(seat)
 slot_mut(&self.inner.shared,slot)
 slot_mut(&self.inner.shared,slot)
 slot_mut(&self.inner.shared,slot)
+slot_mut(&table.inner.shared,slot)
 LIST
 is_listed crates/cell_triple/src/table.rt
 

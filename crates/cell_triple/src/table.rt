@@ -227,3 +227,20 @@ impl<T: Lawful> TripleTable<T> {
         look(&*seat.inner.slot_mut(&self.inner.shared, slot))
     }
 }
+
+impl<T: Lawful> TripleSeat<T> {
+    ghost use Rattle.std.specs.Borrow.{sem, Lends};
+    ghost use Rattle.cell_triple.specs.Lent.{seat_with};
+    ghost use Rattle.cell_triple.specs.contracts.table.TripleSeat.{the_row};
+
+    /// Lends the slot for as long as the seat is lent. The seat ends with what is left in it.
+    #[inline]
+    pub(crate) fn place<'a>(&'a mut self, table: &'a TripleTable<T>, slot: usize) -> &'a mut T
+        requires own { self.old.inner.table_id ≡ table.now.inner.shared.table_id }
+        requires held { held_slots self.old.inner.me.1 ≡ slot ∷ [] }
+        ensures* lent { sem 𝓛 (Lends (the_row T.row) T.row self.entry result (seat_with self.old slot)) }
+        ensures value { self.old.inner.me.1 ≡ (slot, result.now) ∷ [] }
+    {
+        self.inner.slot_mut(&table.inner.shared, slot)
+    }
+}
