@@ -5,8 +5,7 @@
 
 The graph has the subjects, and leaves out an arrow if a longer way leads to the same one. Each crate is in one subject; in it the crates come
 by their height, the number of crates on the longest way below them. The words are the first sentence at the head of `lib.rt` or `main.rt`,
-up to its colon or comma. The rows of the table `What crosses a boundary` have to name crates of which the upper stands on the lower, and
-what stands in a lower one. If a page of docs/ tells its reader to copy crates, all that they stand on have to be among them.
+up to its colon or comma. If a page of docs/ tells its reader to copy crates, all that they stand on have to be among them.
 """
 
 import os
@@ -33,7 +32,6 @@ SUBJECTS = {
     "Tests and measurements": "test_libraries test_runs test_families board_teams test_growths headline_uses cells_bench",
     "The soak": "soak_findings soak_rounds soak_boards soak",
 }
-BOUNDARY = re.compile(r"^\| (.*?) to (.*?) \| (.*) \|$")
 
 
 def stands_on():
@@ -121,31 +119,6 @@ def faults_of(rows):
     return [f"the crates of `{it}` and of `{low}` stand on one another" for it in below for low in below[it] if it in below[low]]
 
 
-def sources_of(name):
-    """The text of a crate's sources."""
-    files = [f"{at}/{it}" for part in ("src", "specs", "proofs") for at, _, names in os.walk(f"{TOP}/crates/{name}/{part}") for it in names]
-    return "".join(open(it, encoding="utf-8").read() for it in files)
-
-
-def wrong_boundaries(text):
-    """The rows of boundaries that aren't there, and what they name that isn't in a lower crate."""
-    rows = stands_on()
-    for line in text.split("## What crosses a boundary", 1)[-1].split("\n## ", 1)[0].split("\n")[4:]:
-        found = BOUNDARY.match(line)
-        if not found:
-            if line:
-                yield f"docs/MAP.md: this row names no boundary: {line}"
-            continue
-        lower, upper, crossing = (re.findall(r"`([^`]+)`", it) for it in found.groups())
-        if not lower or not upper or any(up not in rows or low not in all_below(rows, up) for up in upper for low in lower):
-            yield f"docs/MAP.md: no such boundary: {line}"
-            continue
-        sources = "".join(map(sources_of, {it for up in upper for it in all_below(rows, up)}))
-        for it in crossing:
-            if not re.search(rf"\b{re.escape(it.split('::')[-1])}\b", sources):
-                yield f"docs/MAP.md: `{it}` isn't below that boundary: {line}"
-
-
 def wrong_copies():
     """The crates that a page tells its reader to copy and that aren't there, and those that they stand on and that aren't copied."""
     rows = stands_on()
@@ -176,7 +149,7 @@ def main(words):
         with open(MAP, "w", encoding="utf-8") as file:
             file.write(before + MARKS[0] + wanted + MARKS[1] + after)
         return 0
-    faults += list(wrong_boundaries(text)) + list(wrong_copies())
+    faults += list(wrong_copies())
     if rest != wanted + MARKS[1] + after:
         faults.append("docs/MAP.md isn't the map of the crates as they are: run python3 tests/map.py --write")
     print("\n".join(faults or [f"the map has the {len(rows)} crates as they are"]))
