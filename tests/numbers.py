@@ -13,7 +13,7 @@ TOP = os.path.dirname(os.path.dirname(os.path.realpath(__file__)))
 PAGE = f"{TOP}/docs/TESTING.md"
 MARKS = "<!-- counted by tests/numbers.py -->\n", "<!-- to here -->\n"
 FOLDERS = (
-    ("tests/schedules/", "schedules, what `fsr play` prints of each, and the status where it isn't 0"),
+    ("tests/schedules/", "schedules, what `fsr play` prints of each, and the status if it isn't 0"),
     ("tests/races/", "races with one outcome, and what `fsr race` prints of each"),
     ("tests/growths/", "what `test_growths` prints of each call, with ample memory and with each request refused"),
     ("docs/pictures/", "what `picture` draws"),
