@@ -1,20 +1,24 @@
 """Puts an absurd premise before each conjunct of the headlines' definitions in turn, and sees whether a proof breaks. By hand: it takes
-hours.
+half an hour.
 
-    absurd.py [--headline N] [--definition NAME] [--crates A,B] [--max N] [--list]
+    absurd.py [--headline N] [--definition NAME] [--max N] [--list]
 
-A definition could be hollowed out where nobody looks: `0 < 0 →` before a part of it makes that part say nothing. The definitions are
+A definition could be hollowed out where nobody looks: `7 < 0 →` before a part of it makes that part say nothing. The definitions are
 those of the reading sets of docs/HEADLINES.md that are propositions: records, of which each field's type is taken, and abbreviations, of
-which each equation is. A conjunct is what stands between two × behind the last arrow, also in a λ. The edit is made in a copy; the
-definition's crate is proved there, then each of --crates that stands on it, then headline_uses if it does, with whatever stands between.
-A proof that breaks on the way refuses the edit. An edit with which the crate's own specs/ aren't well typed, of a field that is data for
-instance, says nothing and is told as such. The edits that get through are printed at the end. Status 1 if there is one, 2 if nothing
-could be tried.
+which each equation is. A conjunct is what stands between two × behind the last arrow, also in a λ. The edits are made in a copy of
+headline_uses and of what it stands on, which leaves out all functions, so that a check takes seconds. Each edit has a number of its own in
+its premise. Edits of several definitions are tried at once, and those are refused whose premise an error of a proof names; the others are
+tried again, in halves where none is named, at last alone, where any error of a proof refuses. An edit with which its own file isn't well typed, of a field
+that is data for instance, says nothing and is told as such. An edit of a crate on which headline_uses doesn't stand isn't tried. The edits
+that get through are printed at the end. Status 1 if there is one, 2 if nothing could be tried.
 
---list prints the edits and tries none. RT_JOBS=N allots N processors. The crates have to be proved and built before (`rt all check`).
+--list prints the edits and tries none. RT_JOBS=N tries N batches side by side, else one.
 """
 
 import argparse
+import concurrent.futures
+import os
+import queue
 import re
 import shutil
 import subprocess
@@ -25,9 +29,16 @@ from pathlib import Path
 import headlines
 
 TOP = Path(__file__).resolve().parent.parent
-PREMISE = "0 < 0 → "
 LESS = "use Rattle.std.specs.Prelude.{◌<◌}"
 USES = "headline_uses"
+# How many edits are tried at once.
+SIZE = 14
+PROVED = r"(?m)^only=(\d+) proved=\1$"
+# Where an item of src/ begins that has code, and the names of a use that are types or constants.
+CODE = re.compile(r"(?:pub(?:\([\w:]+\))? )?(?:const )?(?:unsafe )?(?:extern \"C\" )?fn |impl\b")
+TYPE_NAME = re.compile(r"\s*(?:\w+::)*[A-Z]")
+USED = re.compile(r"(?m)^((?:pub(?:\([\w:]+\))? )?use (?!std\b)[\w:]+::)\{([^}]*)\};")
+USED_ALONE = re.compile(r"(?m)^(?:pub(?:\([\w:]+\))? )?use (?!std\b)(?:\w+::)+[a-z]\w*;\n")
 FIELD = re.compile(r"\s*pub (\S+) : ")
 ABBREVIATION = re.compile(r"\s*(?:(?:abbrev|unfoldable|opaque|pub) )+(\S+) :")
 RECORD = re.compile(r"\s*(?:pub )?record ")
@@ -135,15 +146,13 @@ def propositions(lines):
 
 
 class Edit:
-    """A premise before one conjunct of a definition: its file, its name, the file's text with the edit, and what stands there."""
+    """A premise before one conjunct of a definition: its number, its file and definition, and where in the file the conjunct stands."""
 
     def __init__(self, path, name, text, start, end):
-        self.path, self.name, self.crate = path, name, path.split("/")[1]
+        self.path, self.name, self.crate, self.start, self.end = path, name, path.split("/")[1], start, end
         self.said = " ".join(text[start:end].split())
         self.line = text.count("\n", 0, start) + 1
-        self.text = f"{text[:start]}({PREMISE}{text[start:end]}){text[end:]}"
-        if not re.search(r"(?m)^use [^\n]*◌<◌", text):
-            self.text = re.sub(r"(?m)^use ", f"{LESS}\nuse ", self.text, count=1)
+        self.number = 0
 
     def __str__(self):
         return f"{self.path}:{self.line}: {self.name}: {self.said[:80]}"
@@ -181,6 +190,14 @@ def all_edits(headline, definition):
                     yield from edits_of(path, name, numbers)
 
 
+def edited(path, edits):
+    """The text of a file with edits that stand in no other's stretch."""
+    text = "\n".join(headlines.lines_of(path))
+    for it in sorted(edits, key=lambda it: -it.start):
+        text = f"{text[: it.start]}({it.number} < 0 → {text[it.start : it.end]}){text[it.end :]}"
+    return text if re.search(r"(?m)^use [^\n]*◌<◌", text) else re.sub(r"(?m)^use ", f"{LESS}\nuse ", text, count=1)
+
+
 def stands_on():
     rows = {}
     for row in (TOP / "crates.txt").read_text(encoding="utf-8").splitlines():
@@ -197,83 +214,194 @@ def below(rows, name):
     return found
 
 
-def make_copy(place, wanted):
-    """A copy of the repository in which these crates are built."""
-    skip = shutil.ignore_patterns(".git", "out")
-    shutil.copytree(TOP, place, ignore=skip, symlinks=True)
-    subprocess.run(["git", "init", "-q", place], check=True)
-    put_built(place, wanted)
+def without_functions(text):
+    """A file of src/ with its types, its traits and those impls that have no function."""
+    kept, above, lines, at = [], [], text.split("\n"), 0
+    while at < len(lines):
+        line, first = lines[at], at
+        at += 1
+        if line.startswith(("///", "#[")):
+            above.append(line)
+            continue
+        if CODE.match(line):
+            while lines[at - 1] not in ("}", "{}") and not (at == first + 1 and line.endswith("{}")):
+                at += 1
+            item = "\n".join(lines[first:at])
+            if " for " in item.partition("{")[0] and not re.search(r"\bfn ", item):
+                kept += [*above, item]
+            above = []
+            continue
+        kept += [*above, line]
+        above = []
+    return USED_ALONE.sub("", USED.sub(used_types, "\n".join(kept)))
 
 
-def put_built(place, names):
-    for name in names:
-        to = place / "crates" / name / "out"
-        shutil.rmtree(to, ignore_errors=True)
-        if (TOP / "crates" / name / "out").is_dir():
-            shutil.copytree(TOP / "crates" / name / "out", to, symlinks=True)
+def used_types(found):
+    names = ", ".join(name.strip() for name in found[2].split(",") if TYPE_NAME.match(name))
+    return f"{found[1]}{{{names}}};" if names else ""
 
 
-def judge(place, edit, crates):
-    """How an edit ends in the copy: `refused`, `ill-typed` or `through`, and the crate that refuses it."""
-    (place / edit.path).write_text(edit.text, encoding="utf-8")
-    try:
-        for crate in crates:
-            words = [sys.executable, place / "tests/build.py", crate]
-            how = {"stdin": subprocess.DEVNULL, "stdout": subprocess.PIPE, "stderr": subprocess.STDOUT, "text": True, "errors": "replace"}
-            done = subprocess.run(words, check=False, **how)
-            refused = re.search(r"(?m)^build: (\w+) isn't proved and built", done.stdout)
-            if not refused and done.returncode:
-                sys.exit(f"absurd: {crate} can't be built in the copy: {done.stdout[-600:]}")
-            if refused:
-                log = (place / "crates" / refused[1] / "out/build.log").read_text(errors="replace")
-                own = re.escape(edit.path.removeprefix(f"crates/{refused[1]}/"))
-                return "ill-typed" if re.search(rf"(?m)^(?:\./)?{own}:\d+:\d+: error", log) else "refused", refused[1]
-        return "through", ""
-    finally:
-        shutil.copy2(TOP / edit.path, place / edit.path)
+def lemmas(crates):
+    """The files of lemmas of these crates that the proofs of headline_uses cite, and those that they cite."""
+    found, waiting = set(), sorted((TOP / "crates" / USES / "proofs").rglob("*.antt"))
+    while waiting:
+        for crate, at in re.findall(r"(?m)^\s*(?:pub )?use Rattle\.(\w+)\.proofs\.([\w.]+)", waiting.pop().read_text(encoding="utf-8")):
+            parts = at.split(".")
+            paths = (TOP / "crates" / crate / "proofs" / f"{'/'.join(parts[:count])}.antt" for count in range(len(parts), 0, -1))
+            path = next(filter(Path.is_file, paths), None)
+            if crate in crates and path and path not in found:
+                found.add(path)
+                waiting.append(path)
+    return found
 
 
-def try_all(edits, named):
-    """Tries the edits, prints how each ends, and returns those that get through and those that say nothing."""
-    rows, through, ill = stands_on(), [], []
-    with tempfile.TemporaryDirectory(prefix="absurd-") as room:
-        place = Path(room) / "copy"
-        make_copy(place, set().union(*(below(rows, it) for it in [USES, *named, *(edit.crate for edit in edits)])))
-        for edit in edits:
-            above = [it for it in [*named, USES] if it != edit.crate and edit.crate in below(rows, it)]
-            crates = list(dict.fromkeys([edit.crate, *above]))
-            end, where = judge(place, edit, crates)
-            print(f"{end}{f' by {where}' if end == 'refused' else ''}: {edit}", flush=True)
-            through += [edit] if end == "through" else []
-            ill += [edit] if end == "ill-typed" else []
-            if edit is not edits[-1]:
-                # (above the crate that refuses it nothing was built)
-                tops = [where] if where else crates
-                put_built(place, [it for it in rows if edit.crate in below(rows, it) and any(it in below(rows, top) for top in tops)])
-    return through, ill
+def make_thin(place, crates):
+    """A copy of headline_uses, and of what it stands on without functions: it needs their definitions, types and a few lemmas alone."""
+    shutil.copytree(TOP / "crates" / USES, place / "crates" / USES, ignore=shutil.ignore_patterns("out", "must-fail"))
+    needed = lemmas(crates)
+    for crate in crates:
+        own, to = TOP / "crates" / crate, place / "crates" / crate
+        shutil.copytree(own / "specs", to / "specs")
+        for path in own.glob("src/**/*.rt"):
+            (to / path.relative_to(own)).parent.mkdir(parents=True, exist_ok=True)
+            (to / path.relative_to(own)).write_text(without_functions(path.read_text(encoding="utf-8")), encoding="utf-8")
+        mine = {path.stem for path in needed if own in path.parents}
+        if mine:
+            (to / "proofs").mkdir()
+            for name in mine:
+                shutil.copy2(own / "proofs" / f"{name}.antt", to / "proofs")
+            (to / "proofs/Lib.antt").write_text("".join(f"pub mod {name}\n" for name in sorted(mine)), encoding="utf-8")
+
+
+class Bench:
+    """Where edits are tried: a copy in which headline_uses is proved over the definitions that it stands on."""
+
+    def __init__(self, place):
+        rows = stands_on()
+        self.place, self.kept = place, place / "kept"
+        self.crates = sorted(below(rows, USES) - {USES})
+        make_thin(place, self.crates)
+        kit = Path(shutil.which("rattle")).resolve().parents[1]
+        lower = {word for crate in [USES, *self.crates] for word in rows[crate]} - set(rows)
+        self.words = ["rattle", "check", "--crate-name", USES, "src/lib.rt", "-L", f"dependency={kit}/rlibs"]
+        self.words += [word for it in self.crates for word in ("--lib", f"{it}={place}/crates/{it}/src/lib.rt")]
+        self.words += [word for it in sorted({"std", *lower}) for word in ("--extern", f"{it}={kit}/rlibs/{it}.rlib")]
+        self.words += ["--antt-project", f"{kit}/rattle/logic/antt-project.json", "--logic-built", f"{kit}/logic_built", "--jobs", "1"]
+        text = (place / "crates" / USES / "src/lib.rt").read_text(encoding="utf-8")
+        self.words += [word for it in re.findall(r"(?m)^(?:pub )?mod (\w+);", text) for word in ("--only", it)]
+        said = self.check(self.kept)
+        if not re.search(PROVED, said):
+            sys.exit(f"absurd: {USES} isn't proved as it stands: {said[-2000:]}")
+
+    def check(self, kept):
+        done = subprocess.run([*self.words, "--incremental", kept], cwd=self.place / "crates" / USES, check=False, stdin=subprocess.DEVNULL,
+            stdout=subprocess.PIPE, stderr=subprocess.STDOUT, text=True, errors="replace")
+        return done.stdout
+
+    def attempt(self, edits):
+        """What the prover says of these edits together."""
+        paths = {it.path for it in edits}
+        for path in paths:
+            (self.place / path).write_text(edited(path, [it for it in edits if it.path == path]), encoding="utf-8")
+        kept = self.place / "edited"
+        shutil.copytree(self.kept, kept)
+        try:
+            return self.check(kept)
+        finally:
+            shutil.rmtree(kept)
+            for path in paths:
+                shutil.copy2(TOP / path, self.place / path)
+
+
+def judge(edits, said):
+    """Of edits tried together how those end of which what was said tells it: `through`, `refused` or `ill-typed`."""
+    if re.search(PROVED, said):
+        return {it: "through" for it in edits}
+    errors = re.findall(r"(?m)^(\S+?\.antt):\d+:\d+: error: (.*(?:\n(?!\S+?:\d+:\d+: |fn |note: |logic ).*)*)", said)
+    if not errors:
+        sys.exit(f"absurd: no verdict: {said[-2000:]}")
+    of_proofs = "\n".join(told for path, told in errors if "/specs/" not in path)
+    ends = {}
+    for it in edits:
+        if any(path.endswith(it.path) for path, _ in errors):
+            ends.update({it: "ill-typed"} if len(edits) == 1 else {})
+        elif len(edits) == 1 or re.search(rf"\b{it.number} < 0\b", of_proofs):
+            ends[it] = "refused"
+    return ends
+
+
+def batches(edits, size):
+    """Batches of so many edits, no two of one definition in one."""
+    found, rank = [], {}
+    for it in edits:
+        rank[it] = sum((it.path, it.name) == (other.path, other.name) for other in rank)
+    for it in sorted(edits, key=lambda it: (rank[it], it.number)):
+        names = (it.path, it.name)
+        room = next((batch for batch in found if len(batch) < size and names not in ((other.path, other.name) for other in batch)), None)
+        found += [[it]] if room is None else []
+        if room is not None:
+            room.append(it)
+    return found
+
+
+def settle(bench, edits):
+    """How each of these edits ends: those that an error names are set aside, and the others tried again, in halves where none was named."""
+    ends = {}
+    while left := [it for it in edits if it not in ends]:
+        found = judge(left, bench.attempt(left))
+        for it, end in found.items():
+            print(f"{end}: {it}", flush=True)
+        ends.update(found)
+        if not found:
+            middle = len(left) // 2
+            return ends | settle(bench, left[:middle]) | settle(bench, left[middle:])
+    return ends
+
+
+def try_all(edits, room, jobs):
+    """How each edit ends."""
+    ends, benches = {}, queue.Queue()
+    for number in range(jobs):
+        benches.put(Bench(Path(room) / str(number)))
+
+    def settled(batch):
+        bench = benches.get()
+        try:
+            return settle(bench, batch)
+        finally:
+            benches.put(bench)
+
+    with concurrent.futures.ThreadPoolExecutor(jobs) as workers:
+        for found in workers.map(settled, batches(edits, SIZE)):
+            ends.update(found)
+    return ends
 
 
 def main():
     parser = argparse.ArgumentParser()
     parser.add_argument("--headline", type=int)
     parser.add_argument("--definition")
-    parser.add_argument("--crates", default="")
     parser.add_argument("--max", type=int)
     parser.add_argument("--list", action="store_true")
     asked = parser.parse_args()
     edits = list(all_edits(asked.headline, asked.definition))[: asked.max]
-    named = [it for it in asked.crates.split(",") if it]
-    unknown = [it for it in named if it not in stands_on()]
-    if unknown or not edits:
-        parser.error(f"crates.txt has no crate {unknown[0]}" if unknown else "no such headline or definition")
+    if not edits:
+        parser.error("no such headline or definition")
+    for number, it in enumerate(edits, 1):
+        it.number = number
     if asked.list:
         print("\n".join(map(str, edits)))
         print(f"{len(edits)} edits")
         return 0
-    through, ill = try_all(edits, named)
-    print(f"{len(edits)} edits: {len(edits) - len(through) - len(ill)} refused, {len(ill)} not well typed, {len(through)} through")
-    print("\n".join(f"through: {it}" for it in through))
-    return 1 if through else 2 if len(ill) == len(edits) else 0
+    crates = below(stands_on(), USES)
+    tried = [it for it in edits if it.crate in crates]
+    with tempfile.TemporaryDirectory(prefix="absurd-") as room:
+        ends = try_all(tried, room, int(os.environ.get("RT_JOBS", "1")))
+    counts = {end: sum(it == end for it in ends.values()) for end in ("refused", "ill-typed", "through")}
+    print(f"{len(edits)} edits: {counts['refused']} refused, {counts['ill-typed']} not well typed, {counts['through']} through, "
+          f"{len(edits) - len(tried)} of crates on which {USES} doesn't stand")
+    print("\n".join(f"through: {it}" for it in tried if ends[it] == "through"))
+    return 1 if counts["through"] else 0 if counts["refused"] else 2
 
 
 if __name__ == "__main__":

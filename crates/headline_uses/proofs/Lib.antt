@@ -6,3 +6,4 @@ mod Calls
 mod Answered
 mod Heeded
 mod Reported
+mod Twice

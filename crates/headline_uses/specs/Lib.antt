@@ -1,4 +1,5 @@
 pub mod Boards
 pub mod Cells
+pub mod Going
 pub mod Orders
 pub mod Reports

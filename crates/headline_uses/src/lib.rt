@@ -4,5 +4,7 @@
 
 pub mod boards;
 pub mod cells;
+pub mod going;
+pub mod heard;
 pub mod orders;
 pub mod reports;
