@@ -1,4 +1,4 @@
-//! What may be concluded from the theorems: laws that use nothing but the public words of their contracts, and end in an exact value or in
+//! What may be concluded from the theorems: laws and callers that use nothing but the public words of contracts, and end in an exact value or in
 //! a contradiction. Each part of such a word has a law here that fails without it, so that none can be emptied unseen.
 #![tactic(auto)]
 
