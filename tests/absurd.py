@@ -6,10 +6,10 @@ half an hour.
 A definition could be hollowed out where nobody looks: `7 < 0 →` before a part of it makes that part say nothing. The definitions are
 those of the reading sets of docs/HEADLINES.md that are propositions: records, of which each field's type is taken, and abbreviations, of
 which each equation is. A conjunct is what stands between two × behind the last arrow, also in a λ. The edits are made in a copy of
-headline_uses and of what it stands on, which leaves out all functions, so that a check takes seconds. Each edit has a number of its own in
-its premise. Edits of several definitions are tried at once, and those are refused whose premise an error of a proof names; the others are
-tried again, in halves where none is named, at last alone, where any error of a proof refuses. An edit with which its own file isn't well typed, of a field
-that is data for instance, says nothing and is told as such. An edit of a crate on which headline_uses doesn't stand isn't tried. The edits
+headline_uses and of what it stands on, which leaves out all functions but its laws, so that a check takes seconds. Each edit has a number of its own in
+its premise. Many are tried at once, and those are refused whose premise an error names; the others are tried again, in halves where none
+is named, at last alone, where any error refuses. An edit with which its own file isn't well typed, of a field that is data for instance,
+says nothing and is told as such. An edit of a crate on which headline_uses doesn't stand isn't tried. The edits
 that get through are printed at the end. Status 1 if there is one, 2 if nothing could be tried.
 
 --list prints the edits and tries none. RT_JOBS=N tries N batches side by side, else one.
@@ -32,7 +32,7 @@ TOP = Path(__file__).resolve().parent.parent
 LESS = "use Rattle.std.specs.Prelude.{◌<◌}"
 USES = "headline_uses"
 # How many edits are tried at once.
-SIZE = 14
+SIZE = 150
 PROVED = r"(?m)^only=(\d+) proved=\1$"
 # Where an item of src/ begins that has code, and the names of a use that are types or constants.
 CODE = re.compile(r"(?:pub(?:\([\w:]+\))? )?(?:const )?(?:unsafe )?(?:extern \"C\" )?fn |impl\b")
@@ -215,7 +215,7 @@ def below(rows, name):
 
 
 def without_functions(text):
-    """A file of src/ with its types, its traits and those impls that have no function."""
+    """A file of src/ with its types, its traits and those impls that have ghost members alone."""
     kept, above, lines, at = [], [], text.split("\n"), 0
     while at < len(lines):
         line, first = lines[at], at
@@ -227,7 +227,7 @@ def without_functions(text):
             while lines[at - 1] not in ("}", "{}") and not (at == first + 1 and line.endswith("{}")):
                 at += 1
             item = "\n".join(lines[first:at])
-            if " for " in item.partition("{")[0] and not re.search(r"\bfn ", item):
+            if "\n    ghost " in item and not re.search(r"\bfn ", item):
                 kept += [*above, item]
             above = []
             continue
@@ -258,6 +258,11 @@ def lemmas(crates):
 def make_thin(place, crates):
     """A copy of headline_uses, and of what it stands on without functions: it needs their definitions, types and a few lemmas alone."""
     shutil.copytree(TOP / "crates" / USES, place / "crates" / USES, ignore=shutil.ignore_patterns("out", "must-fail"))
+    for path in (place / "crates" / USES / "src").glob("*.rt"):
+        # (callers call functions, and laws have no code)
+        if "\n{\n" in (text := path.read_text(encoding="utf-8")):
+            path.write_text(without_functions(text), encoding="utf-8")
+            shutil.rmtree(place / "crates" / USES / "proofs" / path.stem, ignore_errors=True)
     needed = lemmas(crates)
     for crate in crates:
         own, to = TOP / "crates" / crate, place / "crates" / crate
@@ -314,30 +319,27 @@ class Bench:
 
 
 def judge(edits, said):
-    """Of edits tried together how those end of which what was said tells it: `through`, `refused` or `ill-typed`."""
+    """Of edits tried together how those end of which what was said tells it: `through`, `refused` or `ill-typed`; and those in whose own file
+    there is an error."""
     if re.search(PROVED, said):
-        return {it: "through" for it in edits}
+        return {it: "through" for it in edits}, []
     errors = re.findall(r"(?m)^(\S+?\.antt):\d+:\d+: error: (.*(?:\n(?!\S+?:\d+:\d+: |fn |note: |logic ).*)*)", said)
     if not errors:
         sys.exit(f"absurd: no verdict: {said[-2000:]}")
-    of_proofs = "\n".join(told for path, told in errors if "/specs/" not in path)
-    ends = {}
-    for it in edits:
-        if any(path.endswith(it.path) for path, _ in errors):
-            ends.update({it: "ill-typed"} if len(edits) == 1 else {})
-        elif len(edits) == 1 or re.search(rf"\b{it.number} < 0\b", of_proofs):
-            ends[it] = "refused"
-    return ends
+    own = [it for it in edits if any(path.endswith(it.path) for path, _ in errors)]
+    if len(edits) == 1:
+        return {edits[0]: "ill-typed" if own else "refused"}, []
+    named = [it for it in edits if any(re.search(rf"\b{it.number} < 0\b", told) and not path.endswith(it.path) for path, told in errors)]
+    return {it: "refused" for it in named}, own
 
 
 def batches(edits, size):
-    """Batches of so many edits, no two of one definition in one."""
-    found, rank = [], {}
+    """Batches of so many edits, none of which stands in another."""
+    found = []
     for it in edits:
-        rank[it] = sum((it.path, it.name) == (other.path, other.name) for other in rank)
-    for it in sorted(edits, key=lambda it: (rank[it], it.number)):
-        names = (it.path, it.name)
-        room = next((batch for batch in found if len(batch) < size and names not in ((other.path, other.name) for other in batch)), None)
+        apart = (batch for batch in found if len(batch) < size and
+                 not any(it.path == other.path and it.start < other.end and other.start < it.end for other in batch))
+        room = next(apart, None)
         found += [[it]] if room is None else []
         if room is not None:
             room.append(it)
@@ -345,17 +347,28 @@ def batches(edits, size):
 
 
 def settle(bench, edits):
-    """How each of these edits ends: those that an error names are set aside, and the others tried again, in halves where none was named."""
-    ends = {}
-    while left := [it for it in edits if it not in ends]:
-        found = judge(left, bench.attempt(left))
+    """How each of these edits ends. Those that an error names are set aside, as those with an error in their own file, and the others tried
+    again, in halves where there were none."""
+    ends, later, left = {}, [], edits
+    while left:
+        found, own = judge(left, bench.attempt(left))
         for it, end in found.items():
             print(f"{end}: {it}", flush=True)
         ends.update(found)
-        if not found:
+        later += own if len(own) < len(left) else []
+        rest = [it for it in left if it not in ends and it not in later]
+        if len(rest) == len(left):
             middle = len(left) // 2
-            return ends | settle(bench, left[:middle]) | settle(bench, left[middle:])
-    return ends
+            return settle(bench, left[:middle]) | settle(bench, left[middle:]) | ends | settle_each(bench, later, ends)
+        left = rest
+    return ends | settle_each(bench, later, ends)
+
+
+def settle_each(bench, edits, ends):
+    found = {}
+    for it in edits:
+        found |= {} if it in ends else settle(bench, [it])
+    return found
 
 
 def try_all(edits, room, jobs):

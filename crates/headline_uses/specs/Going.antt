@@ -1,12 +1,12 @@
 -- Consequences of what a board shows while it goes on (this project's own).
-use Rattle.std.specs.Prelude.{◌≡◌, ◌≢◌, ℕ, ◌<◌, List, [], slice_get, Some}
+use Rattle.std.specs.Prelude.{◌≡◌, ◌≢◌, ℕ, ◌<◌, List, [], map, slice_get, Some}
 use Rattle.history_core.specs.declared.history.Kind.TheVariants.{Read}
 use Rattle.family_live.specs.declared.family.Family.{Ghosts as FamilyWords}
 use Rattle.board_history.specs.BoardRuns.{Called}
 use Rattle.board_live.specs.declared.board.Board.{Board}
 use Rattle.board_live.specs.declared.board.Pass.{Pass}
 use Rattle.board_live.specs.declared.record.Posted.{Posted}
-use Rattle.board_live.specs.Ends.{did_by}
+use Rattle.board_live.specs.Ends.{AllAtomic, did_by, HaveAtomicOrder, IsGreatest, standing}
 use Rattle.board_live.specs.Passes.{HasMade}
 use Rattle.headline_uses.specs.Boards.{IsOnlyWrite}
 
@@ -24,3 +24,18 @@ module _ {V F S T : Type 0} (words : FamilyWords F (Posted V) S T) (board : Boar
   AnswersTheOpening = (i j : ℕ) (p q : Pass V F S T) → slice_get passes i ≡ Some p → slice_get passes j ≡ Some q → i ≢ j →
       (words.writes p.seat j).items ≡ [] → ((words.reads q.seat i).known.items ≡ []) × ((words.writes p.seat j).times.ends ≡ [])
       × ((k : ℕ) (x : Posted V) → slice_get (words.reads q.seat i).answers k ≡ Some x → x ≡ board.first)
+
+module _ {V F S T : Type 0} (words : FamilyWords F (Posted V) S T) where
+  -- passes that are the same but for their memory have one greatest record
+  abbrev pub HaveOneGreatest : Type 0
+  HaveOneGreatest = (old new : List (Pass V F S T)) (a b : Posted V) → map standing new ≡ map standing old → IsGreatest old a →
+      IsGreatest new b → a ≡ b
+
+  -- atomic registers show the opening where nothing was told
+  abbrev pub RegistersShow : Type 0
+  RegistersShow = (board : Board V F S T) (passes : List (Pass V F S T)) → AllAtomic words board passes → AnswersTheOpening words board passes
+
+  -- an atomic order shows the only write to whoever reads after it
+  abbrev pub OrdersShow : Type 0
+  OrdersShow = (board : Board V F S T) (passes : List (Pass V F S T)) (last : Posted V) → HaveAtomicOrder words board passes last →
+      ReadsTheOnlyWriteSoFar words board passes

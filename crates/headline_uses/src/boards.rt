@@ -1,6 +1,7 @@
 //! What the calls of a board say, one by one and all together when it ends.
 ghost use Rattle.headline_uses.specs.Boards.{EndsWithTheOnlyWrite, ReadsTheOnlyWrite, RefusesNone, SeesTheGreater, SeesWhatWasTold};
 ghost use Rattle.headline_uses.specs.Boards.{ShowsItsOwn, StampsRise, TakesTime};
+ghost use Rattle.headline_uses.specs.Going.{HaveOneGreatest, OrdersShow, RegistersShow};
 ghost use Rattle.history_core.specs.declared.history.Kind.{Kind};
 
 use board_live::{Board, Pass, Posted, RecordLaw};
@@ -27,4 +28,12 @@ pub fn calls_show<V: RecordLaw, F: Family<Posted<V>>>(
     ensures heeds { (kind : Kind) → SeesWhatWasTold ⟦<F as Family<Posted<V>>>⟧ V.obeys board.now kind old.now new.now seen.now }
     ensures shows { (kind : Kind) → ShowsItsOwn ⟦<F as Family<Posted<V>>>⟧ V.obeys board.now kind old.now new.now seen.now }
     ensures later { (kind : Kind) → TakesTime ⟦<F as Family<Posted<V>>>⟧ V.obeys board.now kind old.now new.now seen.now }
+{}
+
+/// Of what a board shows while it goes on: passes have one greatest record, nobody is shown what wasn't told, and a read after the only
+/// write has its record.
+pub fn shown_boards_show<V: RecordLaw, F: Family<Posted<V>>>()
+    ensures greatest { HaveOneGreatest ⟦<F as Family<Posted<V>>>⟧ }
+    ensures registers { RegistersShow ⟦<F as Family<Posted<V>>>⟧ }
+    ensures orders { OrdersShow ⟦<F as Family<Posted<V>>>⟧ }
 {}

@@ -1,0 +1,12 @@
+-- Each is a consequence of one clause of `so_far`.
+use Rattle.headline_uses.proofs.Twice.{answers_the_opening, one_greatest, reads_so_far}
+use Rattle.headline_uses.proofs.boards.shown_boards_show.Goals as goal
+
+pub returns-clause-greatest : goal.returns-clause-greatest
+returns-clause-greatest g c = one_greatest
+
+pub returns-clause-registers : goal.returns-clause-registers
+returns-clause-registers g c = answers_the_opening g.F.Family
+
+pub returns-clause-orders : goal.returns-clause-orders
+returns-clause-orders g c = reads_so_far g.F.Family
