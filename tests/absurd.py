@@ -292,8 +292,8 @@ class Bench:
         self.words += [word for it in self.crates for word in ("--lib", f"{it}={place}/crates/{it}/src/lib.rt")]
         self.words += [word for it in sorted({"std", *lower}) for word in ("--extern", f"{it}={kit}/rlibs/{it}.rlib")]
         self.words += ["--antt-project", f"{kit}/rattle/logic/antt-project.json", "--logic-built", f"{kit}/logic_built", "--jobs", "1"]
-        text = (place / "crates" / USES / "src/lib.rt").read_text(encoding="utf-8")
-        self.words += [word for it in re.findall(r"(?m)^(?:pub )?mod (\w+);", text) for word in ("--only", it)]
+        laws = [it.stem for it in sorted((place / "crates" / USES / "src").glob("*.rt")) if "\n{}\n" in it.read_text(encoding="utf-8")]
+        self.words += [word for it in laws for word in ("--only", it)]
         said = self.check(self.kept)
         if not re.search(PROVED, said):
             sys.exit(f"absurd: {USES} isn't proved as it stands: {said[-2000:]}")
