@@ -19,8 +19,8 @@ module _ {V F S T : Type 0} (words : FamilyWords F (Posted V) S T) where
     pub registers : AllAtomic words board passes
 
 module _ {V F S T : Type 0} (words : FamilyWords F (Posted V) S T) (obeys : V → Bool) where
-  -- *The theorem of a board*, of a read and a write by the last process, of a look at all calls and of the end, with passes that had made any
-  -- calls before
+  -- *The theorem of a board*, of a read and a write by the last process, of a look at all calls and of the end, with passes that had
+  -- made any calls before
   pub record BoardTheorem (board : Board V F S T) (passes : List (Pass V F S T)) (item : V) (read : Posted V)
       (wrote : Result Stamp (TagsEnded V)) (shown last : Posted V) : Type 0 where
     -- the process's pass before, between and after its calls, the others', and all of them at the end

@@ -29,8 +29,8 @@ module _ {C T P G R : Type 0} (words : CellWords C T P G R) (fits : T → Type 0
         (words.answers read) (words.get_times read) answer
     pub heeded : AreHeeded (words.heard read) (words.known read) (last_or 0 (words.numbers read))
     pub remembers : words.heard read ≡ words.heard learnt
-    -- at the end the answers are records that were written, in their order, all calls are atomic, and the writes known are the first of those
-    -- made
+    -- at the end the answers are records that were written, in their order, all calls are atomic, and the writes known are the first
+    -- of those made
     pub settled : Settled (words.opening cell ∷ words.written wrote) (words.answers read)
     pub atomic : AreAtomic (words.opening cell) (words.written wrote) (words.put_times wrote) (words.answers read) (words.numbers read)
         (words.get_times read)
