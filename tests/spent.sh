@@ -28,3 +28,12 @@ tell_cost() {
         print ""
     }'
 }
+
+# Prints how many processor minutes each part of a run took, the dearest first. The file has a line `PART SECONDS` for each part, in their
+# order: what the run had used when the part had ended, as count_spent tells it.
+#   tell_parts TITLE FILE
+tell_parts() {
+    awk '{ printf "%.1f %s\n", ($NF - before) / 60, substr($0, 1, length($0) - length($NF) - 1); before = $NF }' "$2" | sort -rn | awk -v title="$1" '
+        { sum += $1; told = told sprintf("%s%.1f %s", told == "" ? "" : ", ", $1, substr($0, length($1) + 2)) }
+        END { printf "%s: %.1f, of these %s\n", title, sum, told }'
+}
