@@ -1,5 +1,5 @@
 -- A whole call: its reads and then its writes are the steps of one call more.
-use Rattle.std.proofs.Common.{◌≡◌, ◌≢◌, Bool, ℕ, zero, suc, ◌+◌, ◌-◌, ◌*◌, ◌<◌, ◌≤◌, List, [], ◌∷◌, ◌++◌, length, map, slice_get, Some}
+use Rattle.std.proofs.Common.{◌≡◌, ◌≢◌, Bool, true, false, ℕ, zero, suc, ◌+◌, ◌-◌, ◌*◌, ◌<◌, ◌≤◌, List, [], ◌∷◌, ◌++◌, length, map, slice_get, Some}
 use Rattle.std.proofs.Common.{refl, sym, ◌∙◌, ap, subst, arith, inl, inr, append-nil, append_assoc, add-mul}
 use Rattle.std.specs.Prelude.{All, IsTrue}
 use Rattle.std.proofs.lemmas.Bool.{cases_Bool}
@@ -8,7 +8,9 @@ use Rattle.std.proofs.lemmas.List.Elements.{All-weaker}
 use Rattle.std.proofs.lemmas.Option.{slice_get_within}
 use Rattle.history_core.specs.declared.history.Kind.{Kind}
 use Rattle.history_core.proofs.Places.{get_after, get_before}
+use Rattle.cell_live.specs.Intervals.{AreFirst, AreHeeded, IsHeeded}
 use Rattle.cell_live.specs.Running.{last_or}
+use Rattle.cell_live.proofs.ListLaws.{last_snoc}
 use Rattle.family_live.specs.declared.family.Family.{Ghosts as FamilyWords}
 use Rattle.family_live.specs.Accesses.{IsWrite}
 use Rattle.stamps.specs.declared.stamp.Stamped.{Stamped}
@@ -26,7 +28,7 @@ use Rattle.board_live.specs.declared.board.Board.{Board}
 use Rattle.board_live.specs.declared.board.Pass.{Pass}
 use Rattle.board_live.specs.declared.record.Posted.{Posted}
 use Rattle.board_live.specs.inner.Calls.{HasRead, HasRow, IsSpan}
-use Rattle.board_live.specs.Passes.{answered_of, did_of, HasMade, IsAnswered, IsCall, IsKnown, IsPass, written_of}
+use Rattle.board_live.specs.Passes.{answered_of, did_of, HasMade, IsAnswered, IsBounded, IsCall, IsKnown, IsMindful, IsPass, written_of}
 use Rattle.board_live.specs.Records.{Rises, stamped}
 use Rattle.board_live.proofs.Accessing.{stays}
 use Rattle.board_live.proofs.Records.{greatest_from, least, rises_at_most, stamped_greatest}
@@ -81,6 +83,9 @@ call_span a b c steps more (inr x) (inr y) l =
       x.2,
       omega arith,
     )
+
+twice : (a b : ℕ) → 2 * a * b ≡ a * b + a * b
+twice a b = grind arith
 
 module _ {V F S T : Type 0} (words : FamilyWords F (Posted V) S T) (obeys : V → Bool) (board : Board V F S T) (old : Pass V F S T)
     (of : IsPass words obeys board old) (kind : Kind) (seen chosen : Posted V) (mid next : S)
@@ -165,7 +170,8 @@ module _ {V F S T : Type 0} (words : FamilyWords F (Posted V) S T) (obeys : V �
         let e : ℕ = there.0 in
         let at : slice_get r.answers e ≡ Some seen = there.1 ∙ ap Some (sym r.sees) in
         let l : e + 1 < n = let a = slice_get_within r.answers e seen at in let b = r.each in omega arith in
-        let x = (r.reads e seen at).1.read.numbered in
+        let read = (r.reads e seen at).1.read in
+        let x = read.numbered in
         inr (
           other i e,
           x.number,
@@ -173,6 +179,9 @@ module _ {V F S T : Type 0} (words : FamilyWords F (Posted V) S T) (obeys : V �
           other_differs i e,
           subst (λ z. slice_get (board.first ∷ z.known.items) x.number ≡ Some seen) (sym (w.reads (other i e)))
               (subst (λ o. slice_get (o ∷ (words.reads mid (other i e)).known.items) x.number ≡ Some seen) of.opens x.source),
+          subst (λ z. AreHeeded z.heard z.known x.number) (sym (w.reads (other i e)))
+              (subst (AreHeeded (words.reads mid (other i e)).heard (words.reads mid (other i e)).known)
+              (ap (last_or 0) x.numbers ∙ last_snoc 0 (words.reads old.seat (other i e)).numbers x.number) read.heeds),
         )
   ]
 
@@ -185,6 +194,33 @@ module _ {V F S T : Type 0} (words : FamilyWords F (Posted V) S T) (obeys : V �
       let up : IsAtMost a.0.stamp seen.stamp = subst (λ z. IsAtMost a.0.stamp z.stamp) (sym r.sees) (least old.own r.answers e.0 a.0 a.1) in
       All-weaker (λ t. Rises t a.0) (λ t. IsAtMost t.stamp seen.stamp)
       (λ t h. at_most_trans t.stamp a.0.stamp seen.stamp (rises_at_most t a.0 h) up) (words.reads old.seat j).told told
+
+  mindful : (j : ℕ) → j < n → j ≢ i → IsMindful (words.reads old.seat j) (words.reads next j)
+  mindful j l ne =
+      let e = other_reached n i j of.inside l ne in
+      let a = get_exists r.answers e.0 (let b = r.each in let z = e.1 in omega arith) in
+      let read = (r.reads e.0 a.0 a.1).1.read in
+      subst (λ z. IsMindful (words.reads old.seat z) (words.reads next z)) e.2
+      (subst (λ z. IsMindful (words.reads old.seat (other i e.0)) z) (sym (w.reads (other i e.0))) (record {
+        same = read.heard;
+        first = All-weaker (λ told. IsHeeded told (words.reads mid (other i e.0)).known (last_or 0 (words.reads mid (other i e.0)).numbers)) (λ told. AreFirst told (words.reads mid (other i e.0)).known.items (words.reads mid (other i e.0)).known.times)
+            (λ t h. h.first) (words.reads mid (other i e.0)).heard read.heeds;
+      }))
+
+  -- its steps are those of its column, and of its row where it has one
+  pub is_bounded : IsBounded words board old new
+  is_bounded = record {
+    accesses =
+        let all = ap length (w.times ∙ ap (λ ts. ts ++ w.steps) r.times ∙ append_assoc (words.times old.seat) r.steps w.steps)
+        ∙ length-append (words.times old.seat) (r.steps ++ w.steps) ∙ ap (λ m. length (words.times old.seat) + m) long in
+        most w.tells all;
+    each = words.few_steps;
+  }
+    where
+      most : (tells : Bool) → length (words.times next) ≡ length (words.times old.seat) + steps_of_call words.width n tells →
+          length (words.times next) ≤ length (words.times old.seat) + 2 * (n - 1) * words.width
+      most true e = let d = twice (n - 1) words.width in omega arith
+      most false e = let d = twice (n - 1) words.width in omega arith
 
   pub is_call : Rises seen chosen →
       ((place : ℕ) → ChoosesByKind board.limit (record { place = place; who = i; kind = kind; stamp = chosen.stamp; item = chosen.item })
@@ -203,6 +239,7 @@ module _ {V F S T : Type 0} (words : FamilyWords F (Posted V) S T) (obeys : V �
     is_seen = r.sees;
     known = known;
     heeds = λ j l ne. heeds j l ne;
+    heard = λ j l ne. mindful j l ne;
     rises = r.rises;
     onward = onward;
     tells = w.tells;

@@ -2,6 +2,7 @@
 use Rattle.std.proofs.Common.{◌≡◌, ◌≢◌, ℕ, ◌+◌, ◌-◌, ◌*◌, ◌<◌, List, length, map, slice_get}
 use Rattle.std.proofs.Common.{refl, sym, ◌∙◌, ap, subst, inl, inr}
 use Rattle.std.proofs.lemmas.Bool.{cases_eq}
+use Rattle.cell_live.specs.declared.times.Known.{Known}
 use Rattle.family_live.specs.declared.family.Family.{Ghosts as FamilyWords}
 use Rattle.family_live.specs.Accesses.{IsHeardRead, Keeps, KeepsOthers}
 use Rattle.stamps.specs.declared.stamp.Stamped.{Stamped}
@@ -89,11 +90,11 @@ module _ {V F S T : Type 0} (words : FamilyWords F (Posted V) S T) (n limit proc
       })
       (λ e. ap written_of (writes (other process e))) h
 
-  pub after_learn : (old new : S) (sender : ℕ) (item : Posted V) → words.times new ≡ words.times old → Keeps (words.writes old) (words.writes new) →
-      (sender ≢ process → IsHeardRead (words.reads old sender) (words.reads new sender) item) →
+  pub after_learn : (old new : S) (sender : ℕ) (item : Posted V) (carried : Known (Posted V)) → words.times new ≡ words.times old → Keeps (words.writes old) (words.writes new) →
+      (sender ≢ process → IsHeardRead (words.reads old sender) (words.reads new sender) item carried) →
       KeepsOthers sender (words.reads old) (words.reads new) → IsProcess words.width n limit (stamped first) process (did_of words old calls) →
       IsProcess words.width n limit (stamped first) process (did_of words new calls)
-  after_learn old new sender item times writes heard others h = same_process words.width n limit (stamped first) process
+  after_learn old new sender item carried times writes heard others h = same_process words.width n limit (stamped first) process
       (did_of words old calls) (did_of words new calls) times refl (λ e. same e) (λ e. ap written_of (writes (other process e))) h
     where
       same : (e : ℕ) → AreSameReads (answered_of (words.reads old (other process e))) (answered_of (words.reads new (other process e)))

@@ -1,6 +1,7 @@
 -- The passes of a board's processes, and the calls that were made with them (this project's own).
-use Rattle.std.specs.Prelude.{◌≡◌, ◌≢◌, ◌⊎◌, Bool, IsTrue, ℕ, ◌+◌, ◌<◌, ◌≤◌, List, [], ◌∷◌, ◌++◌, length, map, slice_get, Some}
+use Rattle.std.specs.Prelude.{◌≡◌, ◌≢◌, ◌⊎◌, Bool, IsTrue, ℕ, ◌+◌, ◌-◌, ◌*◌, ◌<◌, ◌≤◌, List, [], ◌∷◌, ◌++◌, length, map, slice_get, Some}
 use Rattle.std.specs.Prelude.{All, vec_capacity, Result, Ok, Err, true, false}
+use Rattle.cell_live.specs.Intervals.{AreFirst, AreHeeded}
 use Rattle.cell_live.specs.Running.{IsAnswer, last_or}
 use Rattle.family_live.specs.declared.family.Family.{Ghosts as FamilyWords}
 use Rattle.family_live.specs.Accesses.{IsRead, IsWrite, Keeps, Reads, Writes}
@@ -29,6 +30,11 @@ module _ {V : Type 0} where
   pub record IsAnswered (obeys : V → Bool) (opening : Posted V) (old new : Reads (Posted V)) (answer : Posted V) : Type 0 where
     pub read : IsRead opening old new answer
     pub running : IsAnswer (λ p. IsTrue (obeys p.item)) Rises opening old.answers old.told answer
+
+  -- no receipt more, and what is known of the other process's writes begins with those that each of its receipts carried
+  pub record IsMindful (old new : Reads (Posted V)) : Type 0 where
+    pub same : new.heard ≡ old.heard
+    pub first : All (λ told. AreFirst told new.known.items new.known.times) new.heard
 
 module _ {V F S T : Type 0} (family : FamilyWords F (Posted V) S T) where
   -- what a process did, by its seat
@@ -60,10 +66,17 @@ module _ {V F S T : Type 0} (family : FamilyWords F (Posted V) S T) where
     pub own : stamped pass.own ≡ own_before (stamped board.first) calls (length calls)
 
   -- *Known*: it is the own record, or the record with a number of those that the process knows another one to have written to it, where
-  -- the opening has number 0
+  -- the opening has number 0. These begin with all that the other one had really written to it by each receipt of its that the process
+  -- learnt, and the number is no less than that of the last of them
   abbrev pub IsKnown : Board V F S T → Pass V F S T → Pass V F S T → Posted V → Type 0
   IsKnown board old new seen = (seen ≡ old.own) ⊎ ((j : ℕ) × (number : ℕ) × (j < board.processes) × (j ≢ old.process)
-      × (slice_get (board.first ∷ (family.reads new.seat j).known.items) number ≡ Some seen))
+      × (slice_get (board.first ∷ (family.reads new.seat j).known.items) number ≡ Some seen)
+      × AreHeeded (family.reads new.seat j).heard (family.reads new.seat j).known number)
+
+  -- *Bounded*: it took at most 2 (n - 1) accesses, of at most three steps each
+  pub record IsBounded (board : Board V F S T) (old new : Pass V F S T) : Type 0 where
+    pub accesses : length (family.times new.seat) ≤ length (family.times old.seat) + 2 * (board.processes - 1) * family.width
+    pub each : family.width ≤ 3
 
   -- *A call*: its process saw this record, the greatest of its own and of one answer of each other process, none of which is below what
   -- it was told of that one; and it wrote the record that it chose to each, or it wrote nothing, where it chose its own record. The call
@@ -81,6 +94,7 @@ module _ {V F S T : Type 0} (family : FamilyWords F (Posted V) S T) where
     pub is_seen : seen ≡ greatest old.own answers
     pub known : IsKnown board old new seen
     pub heeds : (j : ℕ) → j < board.processes → j ≢ old.process → All (λ t. IsAtMost t.stamp seen.stamp) (family.reads old.seat j).told
+    pub heard : (j : ℕ) → j < board.processes → j ≢ old.process → IsMindful (family.reads old.seat j) (family.reads new.seat j)
     pub rises : Rises old.own seen
     pub onward : Rises seen new.own
     pub tells : Bool

@@ -1,5 +1,6 @@
 -- What a receipt tells (this project's own).
 use Rattle.std.specs.Prelude.{◌≡◌, ◌≢◌, ℕ, ◌<◌, ◌≤◌}
+use Rattle.cell_live.specs.Intervals.{known_as}
 use Rattle.family_live.specs.declared.family.Family.{Ghosts as FamilyWords}
 use Rattle.family_live.specs.Accesses.{IsHeardRead, Keeps, KeepsOthers}
 use Rattle.board_live.specs.declared.board.Board.{Board}
@@ -15,17 +16,29 @@ module _ {V F S T : Type 0} (family : FamilyWords F (Posted V) S T) where
     pub inside : receipt.from < board.processes
     pub names : (j : ℕ) → j < board.processes → j ≢ receipt.from → family.named receipt.told j ≡ receipt.item
 
-  -- the receipt names its sender's own record, and has the last time of which its sender knew; nothing was read
+  -- the receipt names its sender's own record, has the last time of which its sender knew, and carries all that its sender wrote to each
+  -- other process, with the intervals; nothing was read
   pub record HasTold (board : Board V F S T) (old new : Pass V F S T) (receipt : Receipt V F S T) : Type 0 where
     pub is : IsReceipt board receipt
     pub from : receipt.from ≡ old.process
     pub names : receipt.item ≡ old.own
     pub time : family.time_of receipt.told ≡ family.clock old.seat
+    pub tells : (j : ℕ) → j < board.processes → j ≢ old.process →
+        family.writes_of receipt.told j ≡ known_as (family.writes old.seat j).items (family.writes old.seat j).times
     pub reads : Keeps (family.reads old.seat) (family.reads new.seat)
 
-  -- the process knows of the receipt's time, and was told its record of the sender; nothing was read
+  -- a second receipt that tells the same
+  pub record IsDuplicate (board : Board V F S T) (receipt again : Receipt V F S T) : Type 0 where
+    pub is : IsReceipt board again
+    pub from : again.from ≡ receipt.from
+    pub names : again.item ≡ receipt.item
+    pub time : family.time_of again.told ≡ family.time_of receipt.told
+    pub tells : Keeps (family.writes_of receipt.told) (family.writes_of again.told)
+
+  -- the process knows of the receipt's time, and was told its record of the sender and the writes that it carries; nothing was read
   pub record HasLearnt (old new : Pass V F S T) (receipt : Receipt V F S T) : Type 0 where
     pub time : family.time_of receipt.told ≤ family.clock new.seat
     pub heard : receipt.from ≢ old.process →
         IsHeardRead (family.reads old.seat receipt.from) (family.reads new.seat receipt.from) receipt.item
+        (family.writes_of receipt.told old.process)
     pub others : KeepsOthers receipt.from (family.reads old.seat) (family.reads new.seat)

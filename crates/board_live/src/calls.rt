@@ -3,7 +3,7 @@ ghost use Rattle.std.specs.Prelude.{◌≡◌, ◌≢◌, ◌+◌, ◌-◌, ◌*
 ghost use Rattle.board_live.specs.inner.Calls.{HasRead, HasRow, HasWritten, IsOf};
 ghost use Rattle.cell_live.specs.Running.{last_or};
 ghost use Rattle.history_core.specs.declared.history.Kind.TheVariants.{Read};
-ghost use Rattle.board_live.specs.Passes.{Chooses, IsCall, IsKnown, IsPass, kind_of};
+ghost use Rattle.board_live.specs.Passes.{Chooses, IsBounded, IsCall, IsKnown, IsPass, kind_of};
 ghost use Rattle.stamps.specs.Stamps.{IsBelow};
 ghost use Rattle.board_live.specs.Records.{Rises};
 
@@ -87,6 +87,7 @@ impl<V: RecordLaw, F: Family<Posted<V>>> Board<V, F> {
         // A read that has its process's own record takes the steps of its column alone.
         ensures quiet { result.stamp ≡ pass.old.own.stamp →
             length (F.times pass.new.seat) ≡ length (F.times pass.old.seat) + (self.now.processes - 1) * F.width }
+        ensures bounded { IsBounded ⟦<F as Family<Posted<V>>>⟧ self.now pass.old pass.new }
         ensures lawful { IsTrue (V.obeys result.item) }
     {
         let before = pass.own;
@@ -123,6 +124,7 @@ impl<V: RecordLaw, F: Family<Posted<V>>> Board<V, F> {
         // A refused write that has its process's own record takes the steps of its column alone.
         ensures quiet { IfErr result (λ e. e.seen.stamp ≡ pass.old.own.stamp →
             length (F.times pass.new.seat) ≡ length (F.times pass.old.seat) + (self.now.processes - 1) * F.width) }
+        ensures bounded { IsBounded ⟦<F as Family<Posted<V>>>⟧ self.now pass.old pass.new }
         ensures lawful { IfErr result (λ e. IsTrue (V.obeys e.seen.item)) }
     {
         let own = pass.own;

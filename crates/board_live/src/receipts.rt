@@ -1,6 +1,7 @@
 //! Receipts: what one process tells others.
+ghost use Rattle.std.specs.Prelude.{◌≡◌};
 ghost use Rattle.board_live.specs.Passes.{IsPass, HasSame};
-ghost use Rattle.board_live.specs.Receipts.{HasLearnt, HasTold, IsReceipt};
+ghost use Rattle.board_live.specs.Receipts.{HasLearnt, HasTold, IsDuplicate, IsReceipt};
 
 use crate::board::{Board, Pass};
 use crate::record::{Posted, RecordLaw};
@@ -15,7 +16,7 @@ pub struct Receipt<V: RecordLaw, F: Family<Posted<V>>> {
 }
 
 impl<V: RecordLaw, F: Family<Posted<V>>> Board<V, F> {
-    /// Gives a receipt for all that the process has done and knows of, to whichever process.
+    /// Gives a receipt for all that the process has done and knows of, to whichever process. It carries all that this one wrote.
     pub fn tell(&self, pass: &mut Pass<V, F>) -> Receipt<V, F>
         requires { IsPass ⟦<F as Family<Posted<V>>>⟧ V.obeys self.now pass.old }
         ensures pass { IsPass ⟦<F as Family<Posted<V>>>⟧ V.obeys self.now pass.new }
@@ -30,8 +31,22 @@ impl<V: RecordLaw, F: Family<Posted<V>>> Board<V, F> {
         }
     }
 
-    /// Takes a receipt in: from now on the calls of this process begin later than all that the sender had done and knew of, and see no
-    /// record that is older than the one that the receipt names.
+    /// Gives a second receipt that tells the same, for one learner more.
+    pub fn duplicate(&self, receipt: &mut Receipt<V, F>) -> Receipt<V, F>
+        requires { IsReceipt ⟦<F as Family<Posted<V>>>⟧ self.now receipt.old }
+        ensures same { receipt.new ≡ receipt.old }
+        ensures again { IsDuplicate ⟦<F as Family<Posted<V>>>⟧ self.now receipt.old result }
+    {
+        let told = self.family.duplicate(&mut receipt.told);
+        Receipt {
+            from: receipt.from,
+            item: receipt.item,
+            told,
+        }
+    }
+
+    /// Takes a receipt in: from now on the calls of this process begin later than all that the sender had done and knew of, see no record
+    /// that is older than the one that the receipt names, and know the sender's writes up to it.
     pub fn learn(&self, pass: &mut Pass<V, F>, receipt: Receipt<V, F>)
         requires pass { IsPass ⟦<F as Family<Posted<V>>>⟧ V.obeys self.now pass.old }
         requires receipt { IsReceipt ⟦<F as Family<Posted<V>>>⟧ self.now receipt }

@@ -12,7 +12,7 @@ use Rattle.board_history.proofs.Later.{calls_agree, calls_rise, calls_written}
 only : {V : Type 0} (calls : List (Called V)) (c : Called V) → calls ≡ c ∷ [] → slice_get calls 0 ≡ Some c
 only calls c e = ap (λ cs. slice_get cs 0) e
 
-not_first : (s : Stamp) → 0 < s.tag → IsAtMost s first_stamp → ⊥
+pub not_first : (s : Stamp) → 0 < s.tag → IsAtMost s first_stamp → ⊥
 not_first s l (inl e) = let z : s.tag ≡ 0 = ap (λ (z : Stamp). z.tag) e in omega arith
 not_first s l (inr (inl b)) = omega arith
 not_first s l (inr (inr b)) = let z : s.tag ≡ 0 = b.0 in omega arith

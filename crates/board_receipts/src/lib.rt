@@ -4,6 +4,8 @@
 
 mod ends;
 mod passing;
+mod running;
 
 pub use ends::{ends_no_older, gives_back};
-pub use passing::pass_on;
+pub use passing::{pass_on, pass_twice};
+pub use running::{answers_written, turn_of_four};

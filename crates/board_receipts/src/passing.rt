@@ -36,3 +36,31 @@ pub fn pass_on<V: RecordLaw, F: Family<Posted<V>>>(
     let answer = board.read(r);
     Some((stamp, answer))
 }
+
+/// q writes, and its one receipt is doubled: p and r each learn one and read. Both reads begin after q's write had ended. Gives the write's
+/// stamp and both answers, or none if the tags have ended.
+pub fn pass_twice<V: RecordLaw, F: Family<Posted<V>>>(
+    board: &Board<V, F>,
+    q: &mut Pass<V, F>,
+    p: &mut Pass<V, F>,
+    r: &mut Pass<V, F>,
+    item: V,
+) -> Option<(Stamp, Posted<V>, Posted<V>)>
+    requires q { IsPass ⟦<F as Family<Posted<V>>>⟧ V.obeys board.now q.old }
+    requires p { IsPass ⟦<F as Family<Posted<V>>>⟧ V.obeys board.now p.old }
+    requires r { IsPass ⟦<F as Family<Posted<V>>>⟧ V.obeys board.now r.old }
+    requires item { IsTrue (V.obeys item) }
+    ensures first { IfSome result (λ x. HasHeard ⟦<F as Family<Posted<V>>>⟧ board.now q.old q.new p.old p.new item x.0 x.1) }
+    ensures second { IfSome result (λ x. HasHeard ⟦<F as Family<Posted<V>>>⟧ board.now q.old q.new r.old r.new item x.0 x.2) }
+{
+    let Ok(stamp) = board.write(q, item) else {
+        return None;
+    };
+    let mut told = board.tell(q);
+    let again = board.duplicate(&mut told);
+    board.learn(p, told);
+    board.learn(r, again);
+    let early = board.read(p);
+    let late = board.read(r);
+    Some((stamp, early, late))
+}

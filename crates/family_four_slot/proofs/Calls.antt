@@ -10,7 +10,8 @@ use Rattle.cell_four_slot.specs.declared.notes.ReaderNotes.{ReaderNotes}
 use Rattle.cell_live.specs.declared.sight.Sight.TheVariants.{Spent, Writer, Reader}
 use Rattle.cell_four_slot.specs.Steps.{FourSlotSight, first_writer, first_reader, bit_words, slot_of_choice}
 use Rattle.cell_four_slot.specs.Steps.{begun_with, stored_by, finished_with, asked_by, said_with, got_by, HasAnswered}
-use Rattle.cell_live.specs.Intervals.{IsNextAnswer}
+use Rattle.cell_live.specs.Intervals.{AreHeeded, IsNextAnswer}
+use Rattle.cell_live.proofs.ListLaws.{last_snoc}
 use Rattle.family_live.specs.Accesses.{IsAccess, IsRead, IsWrite, Keeps, KeepsOthers, Reads}
 use Rattle.family_four_slot.specs.declared.family.Stored.{Stored}
 use Rattle.family_four_slot.specs.declared.notes.Process.{Process}
@@ -56,12 +57,12 @@ module _ {T : Type 0} (o : T) (n : ℕ) where
       ap (λ z. let q = writer_or (first_writer o) z in record { items = q.written; times = q.times }) e
 
   pub sees_reads : (u : Process V) (who j : ℕ) (g : ReaderNotes T) → j ≢ who → u.who ≡ who → of_cell Spent (place n j who) u.parts ≡ Reader g →
-      reads_from o n u j ≡ record { answers = g.answers; numbers = g.numbers; known = g.known; told = g.told; times = g.times }
+      reads_from o n u j ≡ record { answers = g.answers; numbers = g.numbers; known = g.known; told = g.told; heard = g.heard; times = g.times }
   sees_reads u who j g ne same is =
       let e : cond (nat_eq j u.who) Spent (of_cell Spent (place n j u.who) u.parts) ≡ Reader g =
       ap (λ b. cond {A = V} b Spent (of_cell Spent (place n j u.who) u.parts)) (differ j u.who (λ h. ne (h ∙ same)))
       ∙ (ap (λ z. of_cell Spent (place n j z) u.parts) same ∙ is) in
-      ap (λ z. let q = reader_or (first_reader o) z in record { answers = q.answers; numbers = q.numbers; known = q.known; told = q.told; times = q.times }) e
+      ap (λ z. let q = reader_or (first_reader o) z in record { answers = q.answers; numbers = q.numbers; known = q.known; told = q.told; heard = q.heard; times = q.times }) e
 
   -- a write: W1, W4 and W5 of the cell to process j
   pub a_write : (v : Process V) (kept kept' : Stored) (cs : List (ℕ × T)) (j : ℕ) (p : WriterNotes T) (b : Bool) (x : T) (a c d count : ℕ)
@@ -106,11 +107,11 @@ module _ {T : Type 0} (o : T) (n : ℕ) where
       let h = got_by g2 bit x d number writes in
       let u = knows Spent (knows Spent (knows Spent v k (Reader (asked_by g b a)) a h1) k (Reader g2) c h2) k (Reader h) d
       (held_slots ((slot_at k (slot_number (slot_with b bit)), x) ∷ (before ++ behind))) in
-      HasAnswered g2 h x → IsNewColumn kept kept' j (bit_number b) →
+      HasAnswered g2 h x → AreHeeded g.heard writes number → IsNewColumn kept kept' j (bit_number b) →
       IsAtRest o n u kept' ((slot_at k (slot_number (slot_with b bit)), x) ∷ (before ++ behind))
       × IsAccess 3 v.clock u.clock v.times u.times (reads_from o n v j).times (reads_from o n u j).times
       × IsRead o (reads_from o n v j) (reads_from o n u j) x × KeepsOthers j (reads_from o n v) (reads_from o n u) × Keeps (writes_to o n v) (writes_to o n u)
-  a_read v kept kept' before behind j g b x a c d number count bit writes h1 h2 k place_is lj ne r is opened la lc ld answered said =
+  a_read v kept kept' before behind j g b x a c d number count bit writes h1 h2 k place_is lj ne r is opened la lc ld answered heeded said =
       let g1 : ReaderNotes T = asked_by g b a in
       let g2 : ReaderNotes T = said_with g1 count c in
       let h : ReaderNotes T = got_by g2 bit x d number writes in
@@ -136,6 +137,8 @@ module _ {T : Type 0} (o : T) (n : ℕ) where
           answers = refl;
           numbered = subst (λ z. IsNextAnswer z g.known h.known g.numbers h.numbers h.answers h.times x) opened answered;
           told = refl;
+          heard = refl;
+          heeds = subst (AreHeeded g.heard writes) (sym (last_snoc 0 g.numbers number)) heeded;
         }),
         λ i di. other_reads o n v u (place n j v.who) (Reader h) there i (λ nw e. di (column_apart n i j v.who lj r.inside ne nw e)),
         λ i. same_writes o n v u k (Reader h) all (ap (writer_or (first_writer o)) (sym is)) i,

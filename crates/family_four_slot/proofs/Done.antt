@@ -1,6 +1,7 @@
 -- What a whole call makes of a seat, by what its three steps told.
 use Rattle.std.proofs.Common.{◌≡◌, ◌≢◌, ℕ, ◌<◌, ◌≤◌, arith, length, not, Bool, List, [], ◌∷◌, ◌++◌, set, refl, sym, ap, ◌∙◌, subst}
 use Rattle.four_slot_core.specs.Events.{bit_number, slot_number, slot_with}
+use Rattle.cell_live.specs.Intervals.{AreHeeded}
 use Rattle.cell_live.specs.Running.{held_slots, IsAnswer}
 use Rattle.cell_live.specs.declared.times.Known.{Known}
 use Rattle.cell_four_slot.specs.declared.notes.WriterNotes.{WriterNotes}
@@ -126,8 +127,8 @@ module _ {T : Type 0} where
             s'.seat.inner.me.1 ≡ (slot_at cell (slot_number (slot_with b bit)), x) ∷ cs →
             s'.seat.inner.table_id ≡ s.seat.inner.table_id → s'.spare ≡ s.spare → s'.processes ≡ s.processes → s'.who ≡ s.who →
             s'.stored ≡ record s.stored { said = set s.stored.said j pair } → pair ≡ bit_number b →
-            HasAnswered g2 (got_by g2 bit x d number writes) x → HasRead f s s' j x
-        has_read pair before behind cs s' la lc ld split same me slots table spare processes who kept is_pair answered =
+            HasAnswered g2 (got_by g2 bit x d number writes) x → AreHeeded g.heard writes number → HasRead f s s' j x
+        has_read pair before behind cs s' la lc ld split same me slots table spare processes who kept is_pair answered heeded =
             let o : T = s.spare in
             let n : ℕ = s.processes in
             let v : Process (FourSlotSight T) = known_by s in
@@ -146,7 +147,7 @@ module _ {T : Type 0} where
             } in
             let did = a_read o n v old new before behind j g b x a c d number count bit writes h1 h2 cell (column_place f s own j other cell at)
             (within f s own j other) (apart f s own j other) (subst (λ zs. IsAtRest o n v old zs) split own.rest)
-            (column_notes f s own j other cell at) column.opened la lc ld answered kept_column in
+            (column_notes f s own j other cell at) column.opened la lc ld answered heeded kept_column in
             let u : Process (FourSlotSight T) = after_read (held_slots all_slots) in
             let now : s'.seat.inner.me.0 ≡ Has (u ∷ []) = me ∙ ap (λ zs. Has (after_read (held_slots (took ∷ zs)) ∷ [])) same in
             let is : u ≡ known_by s' = sym (ap process_of now) in

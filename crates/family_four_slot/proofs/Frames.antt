@@ -66,7 +66,7 @@ module _ {T : Type 0} (o : T) (n : ℕ) (v u : Process (FourSlotSight T)) (k : �
   writes_by p = record { items = p.written; times = p.times }
 
   reads_by : ReaderNotes T → Reads T
-  reads_by g = record { answers = g.answers; numbers = g.numbers; known = g.known; told = g.told; times = g.times }
+  reads_by g = record { answers = g.answers; numbers = g.numbers; known = g.known; told = g.told; heard = g.heard; times = g.times }
 
   pub other_writes : (j : ℕ) → (j ≢ v.who → place n v.who j ≢ k) → writes_to o n u j ≡ writes_to o n v j
   unfolding writes_by

@@ -151,7 +151,7 @@ module _ {T : Type 0} where
         others_stay j nf =
             let at : ℕ = place n j v.who in
             let d : ReaderNotes T = first_reader o in
-            ap (λ (g : ReaderNotes T). record { answers = g.answers; numbers = g.numbers; known = g.known; told = g.told; times = g.times })
+            ap (λ (g : ReaderNotes T). record { answers = g.answers; numbers = g.numbers; known = g.known; told = g.told; heard = g.heard; times = g.times })
             (⊎_elim
             (λ (e : j ≡ v.who). let t = same_number j v.who e in
             ap (λ b. reader_or d (cond b Spent (of_cell Spent at u.parts))) t ∙ sym (ap (λ b. reader_or d (cond b Spent (of_cell Spent at v.parts))) t))
@@ -161,7 +161,7 @@ module _ {T : Type 0} where
             (cases_eq j v.who))
 
       pub is_heard : (x : Dated T) → from ≢ v.who → of_cell Spent (place n from v.who) r.parts ≡ Told (snap x) →
-          IsHeardRead (reads_from o n v from) (reads_from o n u from) x.item
+          IsHeardRead (reads_from o n v from) (reads_from o n u from) x.item x.writes
       is_heard x ne told =
           let k : ℕ = place n from v.who in
           let column = rest.column from lf ne in
@@ -170,8 +170,9 @@ module _ {T : Type 0} where
           let now : of_cell Spent k u.parts ≡ Reader h = part k ∙ (λ i. hears_of (column.is i) (told i)) in
           let before = sees_reads o n v v.who from g ne refl column.is in
           let after = sees_reads o n u v.who from h ne refl now in
-          subst (λ (z : Reads T × Reads T). IsHeardRead z.0 z.1 x.item) (λ i. (sym before i, sym after i)) (record {
+          subst (λ (z : Reads T × Reads T). IsHeardRead z.0 z.1 x.item x.writes) (λ i. (sym before i, sym after i)) (record {
             told = refl;
+            heard = refl;
             answers = refl;
             numbers = refl;
             known = refl;

@@ -170,7 +170,7 @@ module _ {T : Type 0} where
         (first_any (λ x. writer_or (first_writer o) x ≡ first_writer o) o n i (place n i j) refl refl refl))
 
     pub first_reads : (j : ℕ) → reads_from o n v j ≡ no_reads
-    first_reads j = ap (λ (g : ReaderNotes T). record { answers = g.answers; numbers = g.numbers; known = g.known; told = g.told; times = g.times })
+    first_reads j = ap (λ (g : ReaderNotes T). record { answers = g.answers; numbers = g.numbers; known = g.known; told = g.told; heard = g.heard; times = g.times })
         (blank (nat_eq j i) (of_cell Spent (place n j i) v.parts) (λ x. reader_or (first_reader o) x ≡ first_reader o) refl
         (first_any (λ x. reader_or (first_reader o) x ≡ first_reader o) o n i (place n j i) refl refl refl))
 

@@ -109,6 +109,35 @@ module _ {V : Type 0} (blank : V) (receipt : V → V) (hears : V → V → V) (p
           more P R p (Told q) h = in_front R (p ∷ []) q h
           more P R p (Has qs) h = h
 
+    -- a receipt is told once more: its view stands twice, and nothing else changes
+    pub family_repeats : (id : ℕ) (p : Receipt V) → Splits F id (Told p) (Told p) (Told p)
+    family_repeats id p s r at =
+        let views : s.views ++ Told p ∷ [] ≡ set s.views id (Told p) ++ Told p ∷ [] =
+        ap (λ zs. zs ++ Told p ∷ []) (sym (set_again s.views id (Told p) at)) in
+        let rule : F (record { words = s.words; homes = s.homes; views = s.views ++ Told p ∷ [] }) = record {
+          now = r.now;
+          processes = r.processes;
+          receipts = r.receipts;
+          many = r.many;
+          sized = r.sized;
+          cells = r.cells;
+          numbered = r.numbered;
+          clocks = r.clocks;
+          told = r.told;
+          steps = r.steps;
+          long = r.long;
+          within = r.within;
+          made = r.made;
+          away = r.away;
+          apart = r.apart;
+          shows = λ j x e. ⊎_elim (λ (h : get_elem? s.views j ≡ some x). r.shows j x h)
+              (λ (h : Told p ≡ x). subst (Shows r.processes r.receipts) h (r.shows id (Told p) at)) (at_snoc s.views (Told p) x j e);
+          once = λ who. let a = total_snoc (holders who) s.views (Told p) in let most : total (holders who) s.views ≤ 1 = r.once who in
+              let g : total (holders who) (s.views ++ Told p ∷ []) ≤ 1 = omega arith in
+              g;
+        } in
+        subst (λ vs. F (record { words = s.words; homes = s.homes; views = vs })) views rule
+
     pub family_learns : CellHears Rule Idle hears → (id other : ℕ) (v : Process V) (p : Receipt V) → ((k : ℕ) → Idle (of_cell blank k v.parts)) →
         Joins F id (Has (v ∷ [])) other (Told p) (Has (heard_by hears v p ∷ [])) (Has [])
     family_learns heard id other v p idle s r at apart there =

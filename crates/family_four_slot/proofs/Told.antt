@@ -11,6 +11,7 @@ use Rattle.cell_live.specs.declared.times.Known.{Known}
 use Rattle.cell_four_slot.specs.declared.notes.WriterNotes.{WriterNotes}
 use Rattle.cell_four_slot.specs.declared.notes.ReaderNotes.{ReaderNotes}
 use Rattle.cell_live.specs.declared.sight.Sight.TheVariants.{Spent, Writer, Reader}
+use Rattle.cell_live.specs.Intervals.{AreHeeded}
 use Rattle.cell_four_slot.specs.Steps.{FourSlotSight, clock_of, begun_with, stored_by, finished_with, asked_by, said_with, got_by, slot_of_choice, HasAnswered}
 use Rattle.cell_four_slot.specs.Steps.{begins as cell_begins, stores as cell_stores, finishes_counting as cell_finishes, asks as cell_asks, says_counting as cell_says, takes as cell_takes}
 use Rattle.family_four_slot.specs.declared.notes.Process.{Process}
@@ -217,7 +218,8 @@ module _ {T : Type 0} (fits : T → Type 0) (rises : T → T → Type 0) (o : T)
       let P : ℕ × Process W → Type 0 = λ z. of_cell Spent z.0 z.1.parts ≡ Reader q → (b : Bool) × (x : T) × (t : ℕ) × (number : ℕ)
       × (writes : Known T) × (m ≡ bit_number b) × (q.times.clock < t)
       × After z.1 z.0 (Reader (got_by q b x t number writes)) t ((slot_at z.0 (slot_number (slot_with q.slot.pair b)), x) ∷ cs) u
-      × IsAnswer fits rises q.opening.value q.answers q.told x × HasAnswered q (got_by q b x t number writes) x in
+      × IsAnswer fits rises q.opening.value q.answers q.told x × HasAnswered q (got_by q b x t number writes) x
+      × AreHeeded q.heard writes number in
       subst P (λ j. (same_cell k k' i i' li li' w j, has_one v v' e j)) (λ known.
       let d = h.4.0 q known in
       let now : d.3 ≡ h.0 = sym (ap clock_of d.7) ∙ h.4.1 in (
@@ -232,6 +234,7 @@ module _ {T : Type 0} (fits : T → Type 0) (rises : T → T → Type 0) (o : T)
             (d.7 ∙ ap (λ z. Reader (got_by q d.0 d.1 z d.4 d.5)) now) (ap (λ zs. shift (slot_at k) zs ++ cs) d.8) h.5 h.6,
         d.9,
         subst (λ z. HasAnswered q (got_by q d.0 d.1 z d.4 d.5) d.1) now d.10,
+        d.11,
       )) is')
       (family_takes fits rises o n same along slots id k i v cs g lk has is held stage place) in
       subst (λ (z : ℕ × View W). Allows F slots id (z.1, cs) z.0 (λ m. m) (takes fits rises (step slots z.0 0 0 none) (z.1, cs)))

@@ -1,5 +1,5 @@
 -- The words of the contract, of the seats of a family of four-slot cells (this project's own).
-use Rattle.std.specs.Prelude.{◌≡◌, ◌≢◌, ℕ, ◌<◌, List, [], ◌∷◌, length, slice_get, Some, slice_index}
+use Rattle.std.specs.Prelude.{◌≡◌, ◌≢◌, ℕ, ◌<◌, ◌≤◌, List, [], ◌∷◌, length, slice_get, Some, slice_index}
 use mathlib.Core.Option.{some}
 use lib.ListN.{get_elem?}
 use Rattle.atomic_table.specs.Seated.{TableId}
@@ -8,6 +8,7 @@ use Rattle.cell_live.specs.Intervals.{dated}
 use Rattle.cell_live.specs.Running.{snap}
 use Rattle.cell_live.specs.Sights.{receipt_or}
 use Rattle.cell_live.specs.declared.times.Dated.{Dated}
+use Rattle.cell_live.specs.declared.times.Known.{Known}
 use Rattle.cell_live.specs.declared.sight.Sight.TheVariants.{Spent, Told as Tells}
 use Rattle.cell_four_slot.specs.Steps.{FourSlotSight}
 use Rattle.family_live.specs.Accesses.{Writes, Reads}
@@ -25,6 +26,9 @@ use Rattle.family_four_slot.specs.Words.{process_of, receipt_in, writes_to, read
 
 pub three_steps : 0 < 3
 three_steps = omega arith
+
+pub three_are_few : 3 ≤ 3
+three_are_few = omega arith
 
 module _ {T : Type 0} where
   abbrev pub opening_of : FourSlotFamily T → T
@@ -61,7 +65,7 @@ module _ {T : Type 0} where
     pub who : (known_by s).who ≡ s.who
     pub rest : IsAtRest s.spare s.processes (known_by s) s.stored s.seat.inner.me.1
 
-  -- what a receipt tells, and the record that it names to process j
+  -- what a receipt tells, the record that it names to process j, and all that was written to that one up to then
   abbrev pub told_in : FourSlotTold T → Receipt (FourSlotSight T)
   told_in t = receipt_in t.seat.inner.me.0
 
@@ -76,6 +80,9 @@ module _ {T : Type 0} where
 
   abbrev pub named_by : FourSlotTold T → ℕ → T
   named_by t j = (naming t j).item
+
+  abbrev pub carried_by : FourSlotTold T → ℕ → Known T
+  carried_by t j = (naming t j).writes
 
   -- the receipt is of a process of the family, and tells each other one of its cell alone
   pub record IsTold (f : FourSlotFamily T) (t : FourSlotTold T) : Type 0 where

@@ -4,6 +4,7 @@
 use Rattle.std.specs.Prelude.{◌≡◌, ◌≢◌, ℕ, ◌<◌, Bool, List, [], ◌∷◌, ◌++◌}
 use Rattle.atomic_table.specs.Table.{Me, Step}
 use Rattle.four_slot_core.specs.Events.{slot_with, bit_number, slot_number}
+use Rattle.cell_live.specs.Intervals.{AreHeeded}
 use Rattle.cell_live.specs.Running.{IsAnswer, held_slots}
 use Rattle.cell_live.specs.declared.times.Known.{Known}
 use Rattle.cell_four_slot.specs.declared.notes.WriterNotes.{WriterNotes}
@@ -114,3 +115,4 @@ module _ {T : Type 0} where
       → (b : Bool) × (x : T) × (t : ℕ) × (number : ℕ) × (writes : Known T) × (n ≡ bit_number b) × (g.times.clock < t)
       × After v k (Reader (got_by g b x t number writes)) t ((slot_at k (slot_number (slot_with g.slot.pair b)), x) ∷ m.1) m'
       × IsAnswer fits rises g.opening.value g.answers g.told x × HasAnswered g (got_by g b x t number writes) x
+      × AreHeeded g.heard writes number

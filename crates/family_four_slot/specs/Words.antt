@@ -51,7 +51,7 @@ module _ {T : Type 0} (o : T) (n : ℕ) where
 
   abbrev pub reads_from : Process (FourSlotSight T) → ℕ → Reads T
   reads_from v j = let g = reader_from v j in
-      record { answers = g.answers; numbers = g.numbers; known = g.known; told = g.told; times = g.times }
+      record { answers = g.answers; numbers = g.numbers; known = g.known; told = g.told; heard = g.heard; times = g.times }
 
 module _ {T : Type 0} where
   -- the seat has the slot of the last read of a cell, among others

@@ -12,7 +12,7 @@ ghost use Rattle.family_four_slot.specs.Shown.{HaveShown};
 ghost use Rattle.family_four_slot.specs.declared.notes.Process.{Process};
 ghost use Rattle.cell_four_slot.specs.Steps.{FourSlotSight};
 ghost use Rattle.family_four_slot.specs.Seated.{opening_of, processes_of, number_of, clock_of, times_of, writes_of, reads_of, IsSeat};
-ghost use Rattle.family_four_slot.specs.Seated.{sender_of, time_of, named_by, IsTold, three_steps};
+ghost use Rattle.family_four_slot.specs.Seated.{sender_of, time_of, named_by, carried_by, IsTold, three_are_few, three_steps};
 
 use crate::table::{FamilySeat, FamilyTable, place};
 use cell_four_slot::{bit_of, other_bit, set_bit, slot_of};
@@ -223,6 +223,8 @@ impl<T: Lawful> Family<T> for FourSlotFamily<T> {
 
     ghost some_steps = { three_steps };
 
+    ghost few_steps = { three_are_few };
+
     ghost is_seat = { IsSeat };
 
     ghost is_told = { IsTold };
@@ -242,6 +244,8 @@ impl<T: Lawful> Family<T> for FourSlotFamily<T> {
     ghost time_of = { time_of };
 
     ghost named = { named_by };
+
+    ghost writes_of = { carried_by };
 
     fn make(alloc: Global, n: usize, first: T) -> Result<(Self, Vec<FourSlotSeat<T>>), AllocError> {
         let (table, rest) = FamilyTable::new(alloc, n, first)?;
@@ -290,6 +294,16 @@ impl<T: Lawful> Family<T> for FourSlotFamily<T> {
             processes: seat.processes,
             from: seat.who,
             spare: seat.spare,
+        }
+    }
+
+    fn duplicate(&self, told: &mut FourSlotTold<T>) -> FourSlotTold<T> {
+        let again = self.table.duplicate(&mut told.seat);
+        FourSlotTold {
+            seat: again,
+            processes: told.processes,
+            from: told.from,
+            spare: told.spare,
         }
     }
 

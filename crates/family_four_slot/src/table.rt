@@ -27,7 +27,8 @@ ghost use Rattle.cell_four_slot.specs.Steps.{hears_of, receipt_for};
 use crate::FamilyLaw;
 use crate::notes::{FamilySight, Opened, Opening};
 use crate::plays::{
-    All, Asks, Begins, Finishes, First, Gathers, Item, Learns, Says, Shows, Stores, Takes, Tells,
+    All, Asks, Begins, Finishes, First, Gathers, Item, Learns, Repeats, Says, Shows, Stores, Takes,
+    Tells,
 };
 use atomic_table::{Seat, Table};
 use cell_live::{Lawful, empty};
@@ -274,6 +275,18 @@ impl<T: Lawful> FamilyTable<T> {
     {
         let parted = self.inner.shared.split_seat::<Tells>(&mut seat.inner);
         FamilySeat { inner: parted }
+    }
+
+    /// Parts a second receipt off a receipt, which tells the same.
+    pub(super) fn duplicate(&self, receipt: &mut FamilySeat<T>) -> FamilySeat<T>
+        requires own { receipt.old.inner.table_id ≡ self.now.inner.shared.table_id }
+        requires receipt { (r : Receipt (FourSlotSight T)) × (receipt.old.inner.me ≡ (Told r, [])) }
+        ensures own { (receipt.new.inner.table_id ≡ receipt.old.inner.table_id) × (receipt.new.inner.id ≡ receipt.old.inner.id)
+            × (result.inner.table_id ≡ receipt.old.inner.table_id) }
+        ensures same { (receipt.new.inner.me ≡ receipt.old.inner.me) × (result.inner.me ≡ receipt.old.inner.me) }
+    {
+        let again = self.inner.shared.split_seat::<Repeats>(&mut receipt.inner);
+        FamilySeat { inner: again }
     }
 
     /// Joins a receipt into the seat of a process.

@@ -3,7 +3,8 @@
 use Rattle.std.specs.Prelude.{◌≡◌, ◌≢◌, ℕ, ◌+◌, ◌-◌, ◌<◌, ◌≤◌, List, [], ◌∷◌, ◌++◌, length, slice_get, Some}
 use Rattle.cell_live.specs.declared.times.Times.{Times}
 use Rattle.cell_live.specs.declared.times.Known.{Known}
-use Rattle.cell_live.specs.Intervals.{no_times, none_known, IsNextAnswer}
+use Rattle.cell_live.specs.Intervals.{no_times, none_known, AreHeeded, IsNextAnswer}
+use Rattle.cell_live.specs.Running.{last_or}
 
 -- what a process wrote to another one, and when
 pub record Writes (T : Type 0) : Type 0 where
@@ -11,12 +12,13 @@ pub record Writes (T : Type 0) : Type 0 where
   pub times : Times
 
 -- what a process read from another one, with the number of each answer among the records written, and when; the writes of which it
--- knows; and what it was told
+-- knows; and what it was told, by the record that each receipt names and by all the writes of which it tells
 pub record Reads (T : Type 0) : Type 0 where
   pub answers : List T
   pub numbers : List ℕ
   pub known : Known T
   pub told : List T
+  pub heard : List (Known T)
   pub times : Times
 
 -- each step is later than the one before, and the first is later than this time
@@ -43,7 +45,7 @@ module _ {T : Type 0} where
   no_writes = record { items = []; times = no_times }
 
   abbrev pub no_reads : Reads T
-  no_reads = record { answers = []; numbers = []; known = none_known; told = []; times = no_times }
+  no_reads = record { answers = []; numbers = []; known = none_known; told = []; heard = []; times = no_times }
 
   -- a process that has done nothing and knows of nothing
   abbrev pub IsUnused : ℕ → List ℕ → (ℕ → Writes T) → (ℕ → Reads T) → Type 0
@@ -55,15 +57,18 @@ module _ {T : Type 0} where
     pub items : new.items ≡ old.items ++ item ∷ []
 
   -- one answer more. It is the record with its number of the writes that the reader knows of; with these all its answers are atomic
-  -- by their intervals
+  -- by their intervals. They begin with those of each receipt that it learnt, and the answer is no older than the last of these
   pub record IsRead (opening : T) (old new : Reads T) (answer : T) : Type 0 where
     pub answers : new.answers ≡ old.answers ++ answer ∷ []
     pub numbered : IsNextAnswer opening old.known new.known old.numbers new.numbers new.answers new.times answer
     pub told : new.told ≡ old.told
+    pub heard : new.heard ≡ old.heard
+    pub heeds : AreHeeded new.heard new.known (last_or 0 new.numbers)
 
-  -- no read more, and one record more was told
-  pub record IsHeardRead (old new : Reads T) (item : T) : Type 0 where
+  -- no read more, and one record more was told, with the writes up to it
+  pub record IsHeardRead (old new : Reads T) (item : T) (writes : Known T) : Type 0 where
     pub told : new.told ≡ old.told ++ item ∷ []
+    pub heard : new.heard ≡ old.heard ++ writes ∷ []
     pub answers : new.answers ≡ old.answers
     pub numbers : new.numbers ≡ old.numbers
     pub known : new.known ≡ old.known

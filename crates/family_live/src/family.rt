@@ -2,6 +2,8 @@
 ghost use Rattle.std.specs.Prelude.{◌≡◌, ◌≢◌, ℕ, ◌-◌, ◌<◌, ◌≤◌, List, [], ◌∷◌, ◌++◌, length, vec_len, vec_capacity, IfOk};
 ghost use Rattle.history_core.specs.Schedules.{positions};
 ghost use Rattle.cell_live.specs.Running.{last_or};
+ghost use Rattle.cell_live.specs.Intervals.{known_as};
+ghost use Rattle.cell_live.specs.declared.times.Known.{Known};
 ghost use Rattle.family_live.specs.Accesses.{Writes, Reads, IsUnused, IsAccess, IsWrite, IsHeardRead, Keeps, KeepsOthers};
 ghost use Rattle.family_live.specs.Ends.{Each, EachTwo, IsSchedule, IsAtomicCell};
 ghost use Rattle.family_live.specs.Rows.{InTurn, IsReadFrom, IsWriteTo};
@@ -40,6 +42,8 @@ pub trait Family<T: Lawful>: Sized + Drop {
 
     ghost some_steps: { 0 < width };
 
+    ghost few_steps: { width ≤ 3 };
+
     // Whether the seat or the receipt is of this family.
     ghost is_seat: { Self → Self.Seat → Type 0 };
 
@@ -57,12 +61,14 @@ pub trait Family<T: Lawful>: Sized + Drop {
 
     ghost reads: { Self.Seat → ℕ → Reads T };
 
-    // Whose receipt it is, its time, and the record that it names to a process.
+    // Whose receipt it is, its time, the record that it names to a process, and all that was written to that one up to then.
     ghost sender: { Self.Told → ℕ };
 
     ghost time_of: { Self.Told → ℕ };
 
     ghost named: { Self.Told → ℕ → T };
+
+    ghost writes_of: { Self.Told → ℕ → Known T };
 
     /// A family of `n` processes whose registers all hold `first`, with the seat of each process.
     fn make(alloc: Global, n: usize, first: T) -> Result<(Self, Vec<Self::Seat>), AllocError>
@@ -106,22 +112,32 @@ pub trait Family<T: Lawful>: Sized + Drop {
         ensures { InTurn (IsReadFrom (is_seat self.now) who clock times writes reads width (opening self.now) T.fits T.rises L.sees) (who seat.old)
             (seat.old, seen.old) (processes self.now - 1) (seat.new, seen.new) };
 
-    /// Gives a receipt for all that the process has written.
+    /// Gives a receipt for all that the process has written, which carries these writes.
     fn tell(&self, seat: &mut Self::Seat) -> Self::Told
         requires own { is_seat self.now seat.old }
         ensures own { is_seat self.now seat.new × (who seat.new ≡ who seat.old) }
         ensures told { is_told self.now result × (sender result ≡ who seat.old) × (time_of result ≡ clock seat.old) }
         ensures named { (j : ℕ) → j < processes self.now → j ≢ who seat.old → named result j ≡ last_or (opening self.now) (writes seat.old j).items }
+        ensures tells { (j : ℕ) → j < processes self.now → j ≢ who seat.old →
+            writes_of result j ≡ known_as (writes seat.old j).items (writes seat.old j).times }
         ensures same { (clock seat.new ≡ clock seat.old) × (times seat.new ≡ times seat.old) }
         ensures calls { Keeps (writes seat.old) (writes seat.new) × Keeps (reads seat.old) (reads seat.new) };
 
-    /// Takes a receipt in: what this process calls from now on begins later than all that its sender had done.
+    /// Gives a second receipt that tells the same, for one learner more.
+    fn duplicate(&self, told: &mut Self::Told) -> Self::Told
+        requires own { is_told self.now told.old }
+        ensures same { told.new ≡ told.old }
+        ensures told { is_told self.now result × (sender result ≡ sender told.old) × (time_of result ≡ time_of told.old) }
+        ensures tells { Keeps (named told.old) (named result) × Keeps (writes_of told.old) (writes_of result) };
+
+    /// Takes a receipt in: what this process calls from now on begins later than all that its sender had done, and what it knows of the
+    /// sender's register begins with what that one had really written to it.
     fn learn(&self, seat: &mut Self::Seat, told: Self::Told)
         requires own { is_seat self.now seat.old × is_told self.now told }
         ensures own { is_seat self.now seat.new × (who seat.new ≡ who seat.old) }
         ensures later { (clock seat.old ≤ clock seat.new) × (time_of told ≤ clock seat.new) × (times seat.new ≡ times seat.old) }
         ensures heard { sender told ≢ who seat.old →
-            IsHeardRead (reads seat.old (sender told)) (reads seat.new (sender told)) (named told (who seat.old)) }
+            IsHeardRead (reads seat.old (sender told)) (reads seat.new (sender told)) (named told (who seat.old)) (writes_of told (who seat.old)) }
         ensures others { Keeps (writes seat.old) (writes seat.new) × KeepsOthers (sender told) (reads seat.old) (reads seat.new) };
 
     /// Shows what was done so far with all seats: it is one schedule, and the calls of each register are atomic by their intervals in its

@@ -3,7 +3,8 @@ use Rattle.std.proofs.Common.{◌≡◌, ◌≢◌, ◌⊎◌, ℕ, ◌+◌, ◌
 use Rattle.std.proofs.Common.{refl, sym, ap, ◌∙◌, subst, arith, ⊎_elim, inl, inr, mul-le-mul_right}
 use Rattle.std.proofs.lemmas.Bool.{cases_eq, cases_lt}
 use Rattle.std.proofs.lemmas.Bool.Decides.{nat_tests}
-use Rattle.cell_live.specs.Intervals.{IsNextAnswer}
+use Rattle.cell_live.specs.Intervals.{AreHeeded, IsNextAnswer}
+use Rattle.cell_live.proofs.ListLaws.{last_snoc}
 use Rattle.cell_live.specs.Sights.{writer_or, reader_or}
 use Rattle.cell_live.specs.declared.times.Known.{Known}
 use Rattle.cell_live.specs.declared.times.Times.{Times}
@@ -123,11 +124,11 @@ module _ {T : Type 0} (o : T) (n : ℕ) where
       h.answers ≡ g.answers → h.told ≡ g.told → h.times ≡ g.times → g.opening.value ≡ o → v.clock < t →
       let q = answered h x t number writes in
       let u = knows Spent v (place n j v.who) (Reader q) t held in
-      HasAnswered g q x →
+      HasAnswered g q x → h.heard ≡ g.heard → AreHeeded g.heard writes number →
       IsAccess 1 v.clock u.clock v.times u.times (reads_from o n v j).times (reads_from o n u j).times
       × IsRead o (reads_from o n v j) (reads_from o n u j) x × KeepsOthers j (reads_from o n v) (reads_from o n u)
       × Keeps (writes_to o n v) (writes_to o n u)
-  a_read v j g h x t number writes held lw parts lj ne is same_answers same_told same_times opened lt answered_it =
+  a_read v j g h x t number writes held lw parts lj ne is same_answers same_told same_times opened lt answered_it same_heard heeded =
       let k : ℕ = place n j v.who in
       let q : ReaderNotes T = answered h x t number writes in
       let u : Process V = knows Spent v k (Reader q) t held in
@@ -142,6 +143,8 @@ module _ {T : Type 0} (o : T) (n : ℕ) where
           answers = ap (λ z. z ++ x ∷ []) same_answers;
           numbered = subst (λ z. IsNextAnswer z g.known q.known g.numbers q.numbers q.answers q.times x) opened answered_it;
           told = same_told;
+          heard = same_heard;
+          heeds = subst (λ (z : List (Known T) × ℕ). AreHeeded z.0 writes z.1) (λ i. (sym same_heard i, sym (last_snoc 0 h.numbers number) i)) heeded;
         }),
         (λ i di. ap (λ z. reads_by z) (seen_same Spent (reader_or (first_reader o)) v.who k v.parts (Reader q) (place n i v.who) i
             (λ nw. inl (column_apart n i j v.who lj lw ne nw di)) has)),

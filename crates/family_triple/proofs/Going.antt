@@ -195,7 +195,7 @@ module _ {T : Type 0} where
         (λ i. (sym own.who i, is_cell i, sym h.took.0 i, sym h.took.1 i)) new)
         turned in
         let did = a_read o n v j column.notes h.notes h.answer h.time h.number h.writes held own.rest.inside own.rest.parts within apart column.is
-        h.same.0 h.same.1 h.same.2 column.opened h.later h.did in
+        h.same.0 h.same.1 h.same.2 column.opened h.later h.did h.heard h.heeds in
         let is : u ≡ known_by s' = sym (ap process_of now) in
         let all : (T × ℕ × Process (TripleSight T)) → Type 0 = λ z.
         IsAccess 1 v.clock z.2.clock v.times z.2.times (reads_from o n v j).times (reads_from z.0 z.1 z.2 j).times

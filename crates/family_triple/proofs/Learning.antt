@@ -145,7 +145,7 @@ module _ {T : Type 0} where
             (cases_eq j v.who))
 
       pub is_heard : (x : Dated T) → from ≢ v.who → of_cell Spent (place n from v.who) r.parts ≡ Told (snap x) →
-          IsHeardRead (reads_from o n v from) (reads_from o n u from) x.item
+          IsHeardRead (reads_from o n v from) (reads_from o n u from) x.item x.writes
       is_heard x ne told =
           let k : ℕ = place n from v.who in
           let column = rest.column from lf ne in
@@ -154,8 +154,9 @@ module _ {T : Type 0} where
           let now : of_cell Spent k u.parts ≡ Reader h = part k ∙ (λ i. hears_of (column.is i) (told i)) in
           let before = sees_reads o n v from g ne column.is in
           let after = sees_reads o n u from h ne now in
-          subst (λ (z : Reads T × Reads T). IsHeardRead z.0 z.1 x.item) (λ i. (sym before i, sym after i)) (record {
+          subst (λ (z : Reads T × Reads T). IsHeardRead z.0 z.1 x.item x.writes) (λ i. (sym before i, sym after i)) (record {
             told = refl;
+            heard = refl;
             answers = refl;
             numbers = refl;
             known = refl;

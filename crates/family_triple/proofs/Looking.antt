@@ -45,6 +45,8 @@ module _ {T : Type 0} (fits : T → Type 0) (rises : T → T → Type 0) where
               ∙ ap (λ zs. Has (knows Spent v k (Reader (answered (looked_by g n) g.at_hand.value d.0 d.1 d.2)) d.0 (held_slots zs) ∷ [])) there;
           may = d.5;
           did = d.6;
+          heard = refl;
+          heeds = d.7;
         })
 
     abbrev pub asking : Process (TripleSight T)
@@ -91,4 +93,6 @@ module _ {T : Type 0} (fits : T → Type 0) (rises : T → T → Type 0) where
           } ∷ [])) (set_twice v.parts k (Reader q) w);
           may = d.7;
           did = d.8;
+          heard = refl;
+          heeds = d.9;
         }

@@ -1,10 +1,13 @@
 -- A receipt tells of each cell of its process's row what the process wrote last, and of other cells nothing.
-use Rattle.std.proofs.Common.{◌≡◌, ◌<◌, ℕ, [], refl, sym, ap, ◌∙◌, subst}
-use Rattle.cell_live.specs.Intervals.{dated}
+use Rattle.std.proofs.Common.{◌≡◌, ◌≢◌, ◌<◌, ℕ, [], refl, sym, ap, ◌∙◌, subst}
+use Rattle.atomic_table.specs.Table.{Me}
+use Rattle.cell_live.specs.Intervals.{dated, known_as}
 use Rattle.cell_live.specs.Running.{snap}
 use Rattle.cell_live.specs.Sights.{receipt_or}
 use Rattle.cell_live.specs.declared.sight.Sight.TheVariants.{Spent, Told as Tells}
-use Rattle.cell_triple.specs.Steps.{receipt_for, hears_of}
+use Rattle.cell_triple.specs.Steps.{TripleSight, receipt_for, hears_of}
+use Rattle.family_live.specs.Accesses.{Writes}
+use Rattle.family_four_slot.specs.declared.notes.View.{View}
 use Rattle.family_four_slot.specs.declared.notes.View.TheVariants.{Told}
 use Rattle.family_four_slot.specs.Family.{of_cell, receipt_of}
 use Rattle.family_four_slot.specs.Places.{place, writer_of}
@@ -12,11 +15,17 @@ use Rattle.family_four_slot.specs.Words.{receipt_in}
 use Rattle.family_triple.specs.declared.family.TripleFamily.{TripleFamily}
 use Rattle.family_triple.specs.declared.family.TripleSeat.{TripleSeat}
 use Rattle.family_triple.specs.declared.family.TripleTold.{TripleTold}
-use Rattle.family_triple.specs.Seated.{known_by, told_in, IsSeat, IsTold}
+use Rattle.family_triple.specs.declared.table.FamilySeat.{FamilySeat}
+use Rattle.family_triple.specs.Seated.{known_by, told_in, carried_by, number_of, processes_of, writes_of, IsSeat, IsTold}
 use Rattle.family_four_slot.proofs.Receipts.{receipt_cell}
+use Rattle.family_triple.proofs.Calls.{sees_writes}
 use Rattle.family_triple.proofs.Cells.{deaf, mute}
 
 module _ {T : Type 0} (f : TripleFamily T) (s : TripleSeat T) (own : IsSeat f s) where
+  part : (t : TripleTold T) → t.seat.inner.me ≡ (Told (receipt_of receipt_for (known_by s)), []) → (k : ℕ) →
+      of_cell Spent k (told_in t).parts ≡ receipt_for (of_cell Spent k (known_by s).parts)
+  part t me k = ap (λ z. of_cell Spent k (receipt_in z.0).parts) me ∙ receipt_cell Spent receipt_for hears_of refl deaf mute k (known_by s).parts
+
   pub has_told : (t : TripleTold T) → t.seat.inner.table_id ≡ f.table.inner.shared.table_id → t.processes ≡ s.processes → t.from ≡ s.who →
       t.seat.inner.me ≡ (Told (receipt_of receipt_for (known_by s)), []) → IsTold f t
   has_told t table many who me = record {
@@ -31,7 +40,31 @@ module _ {T : Type 0} (f : TripleFamily T) (s : TripleSeat T) (own : IsSeat f s)
         let is = part t me k ∙ ap receipt_for (ap (λ z. of_cell Spent z (known_by s).parts) same ∙ row.is) in
         is ∙ sym (ap (λ z. Tells (snap (receipt_or (dated t.spare) z))) is);
     elsewhere = λ k ne. part t me k ∙ own.rest.quiet k (λ e. ne (ap (λ z. writer_of z k) many ∙ (e ∙ (own.who ∙ sym who))));
-  } where
-    part : (t : TripleTold T) → t.seat.inner.me ≡ (Told (receipt_of receipt_for (known_by s)), []) → (k : ℕ) →
-        of_cell Spent k (told_in t).parts ≡ receipt_for (of_cell Spent k (known_by s).parts)
-    part t me k = ap (λ z. of_cell Spent k (receipt_in z.0).parts) me ∙ receipt_cell Spent receipt_for hears_of refl deaf mute k (known_by s).parts
+  }
+
+  -- it carries all that the process wrote to each other one
+  pub tells_all : (t : TripleTold T) → t.processes ≡ s.processes → t.from ≡ s.who →
+      t.seat.inner.me ≡ (Told (receipt_of receipt_for (known_by s)), []) → (j : ℕ) → j < processes_of f → j ≢ number_of s →
+      carried_by t j ≡ known_as (writes_of s j).items (writes_of s j).times
+  tells_all t many who me j lj ne =
+      let away : j ≢ (known_by s).who = λ e. ne (e ∙ own.who) in
+      let row = own.rest.row j (subst (λ z. j < z) (sym own.processes) lj) away in
+      let k : ℕ = place t.processes t.from j in
+      let same : k ≡ place s.processes (known_by s).who j = λ i. place (many i) ((who ∙ sym own.who) i) j in
+      let is = part t me k ∙ ap receipt_for (ap (λ z. of_cell Spent z (known_by s).parts) same ∙ row.is) in
+      ap (λ z. (receipt_or (dated t.spare) z).writes) is ∙ sym (ap (λ (w : Writes T). known_as w.items w.times)
+      (sees_writes s.spare s.processes (known_by s) j row.notes away row.is))
+
+-- a receipt with another token that knows the same
+pub told_again : {T : Type 0} (f : TripleFamily T) (t : TripleTold T) → IsTold f t → (inner : FamilySeat T) →
+    inner.inner.table_id ≡ t.seat.inner.table_id → inner.inner.me ≡ t.seat.inner.me → IsTold f (record t { seat = inner })
+told_again {T} f t is inner table me =
+    let rest = subst (λ (m : Me T (View (TripleSight T))). (m ≡ (Told (receipt_in m.0), []))
+    × ((j : ℕ) → j < t.processes → j ≢ t.from → of_cell Spent (place t.processes t.from j) (receipt_in m.0).parts
+    ≡ Tells (snap (receipt_or (dated t.spare) (of_cell Spent (place t.processes t.from j) (receipt_in m.0).parts))))
+    × ((k : ℕ) → writer_of t.processes k ≢ t.from → of_cell Spent k (receipt_in m.0).parts ≡ Spent)) (sym me) (is.one, is.row, is.elsewhere) in
+    record { table = table ∙ is.table; processes = is.processes; inside = is.inside; one = rest.0; row = rest.1; elsewhere = rest.2 }
+
+pub same_told : {T : Type 0} (t : TripleTold T) (inner : FamilySeat T) → inner.inner.table_id ≡ t.seat.inner.table_id →
+    inner.inner.id ≡ t.seat.inner.id → inner.inner.me ≡ t.seat.inner.me → record t { seat = inner } ≡ t
+same_told t inner table id me = λ i. record t { seat = record inner { inner = record inner.inner { table_id = table i; id = id i; me = me i } } }

@@ -6,6 +6,7 @@ use mathlib.Core.Option.{none, some}
 use lib.ListN.{get_elem?}
 use Rattle.atomic_table.specs.Table.{State, Me, step, Allows, carried_after}
 use Rattle.atomic_table.proofs.Lists.{at_map, at_longer}
+use Rattle.cell_live.specs.Intervals.{AreHeeded}
 use Rattle.cell_live.specs.Running.{last_or, held_slots}
 use Rattle.cell_live.specs.Sights.{writer_or, reader_or}
 use Rattle.cell_live.specs.declared.times.Known.{Known}
@@ -278,7 +279,8 @@ module _ {T : Type 0} (fits : T → Type 0) (rises : T → T → Type 0) (o : T)
                 × (m < 4 → (t : ℕ) × (number : ℕ) × (writes : Known T) × (q.times.clock < t)
                 × After z.1 z.0 (Reader (answered (looked_by q m) q.at_hand.value t number writes)) t me.1 u
                 × MayAnswer fits rises q q.at_hand.value
-                × HasAnswered q (answered (looked_by q m) q.at_hand.value t number writes) q.at_hand.value) in
+                × HasAnswered q (answered (looked_by q m) q.at_hand.value t number writes) q.at_hand.value
+                × AreHeeded q.heard writes number) in
                 subst P (λ i. (same_place k k' w i, has_one v v' e i)) (λ known.
                 let d = h.4.0 q (sym is ∙ known) in (
                   (λ high. absurd (omega arith)),
@@ -294,6 +296,7 @@ module _ {T : Type 0} (fits : T → Type 0) (rises : T → T → Type 0) (o : T)
                             (ap (λ zs. shift (slot_at k) zs ++ me.1) d.0) h.5 h.6,
                         x.5,
                         subst (λ z. HasAnswered q (answered (looked_by q m) q.at_hand.value z x.1 x.2) q.at_hand.value) now x.6,
+                        x.7,
                       )),
                 )) is'
 
@@ -305,7 +308,8 @@ module _ {T : Type 0} (fits : T → Type 0) (rises : T → T → Type 0) (o : T)
                 × (m < 4 → (t : ℕ) × (number : ℕ) × (writes : Known T) × (q.times.clock < t)
                 × After z.1 z.0 (Reader (answered (looked_by q m) q.at_hand.value t number writes)) t me.1 u
                 × MayAnswer fits rises q q.at_hand.value
-                × HasAnswered q (answered (looked_by q m) q.at_hand.value t number writes) q.at_hand.value) in
+                × HasAnswered q (answered (looked_by q m) q.at_hand.value t number writes) q.at_hand.value
+                × AreHeeded q.heard writes number) in
                 subst P (λ i. (same_place k k' w i, has_one v v' e i)) (λ known.
                 let d = h.2 q (sym is ∙ known) in (
                   (λ _. beside v k h.0 (Reader (asked_by q m)) h.1 me.1 me.1 u (d.1 high) (ap (λ zs. shift (slot_at k) zs ++ me.1) d.0) h.3 h.4),
@@ -349,7 +353,8 @@ module _ {T : Type 0} (fits : T → Type 0) (rises : T → T → Type 0) (o : T)
                 let P : ℕ × Process W → Type 0 = λ z. of_cell Spent z.0 z.1.parts ≡ Reader q → mine ≡ (slot_at z.0 q.slot, x') ∷ ds →
                 (y : T) × (t : ℕ) × (number : ℕ) × (writes : Known T) × (m % 4 < 3) × (q.times.clock < t)
                 × After z.1 z.0 (Reader (answered (fetched q (m % 4) y) y t number writes)) t ((slot_at z.0 (m % 4), y) ∷ ds) u
-                × MayAnswer fits rises q y × HasAnswered q (answered (fetched q (m % 4) y) y t number writes) y in
+                × MayAnswer fits rises q y × HasAnswered q (answered (fetched q (m % 4) y) y t number writes) y
+                × AreHeeded q.heard writes number in
                 subst P (λ j. (same_place k k' w j, has_one v v' e j)) (λ known is_mine.
                 let view : ◌≡◌ {A = W} (Reader g) (Reader q) = sym is ∙ known in
                 let both : g ≡ q = reads_one g q view in
@@ -367,4 +372,5 @@ module _ {T : Type 0} (fits : T → Type 0) (rises : T → T → Type 0) (o : T)
                       (ap (λ zs. shift (slot_at k) zs ++ cs) d.7 ∙ ap (λ zs. (slot_at k (m % 4), d.0) ∷ tail_of zs) is_mine) h.5 h.6,
                   d.8,
                   subst (λ z. HasAnswered q (answered (fetched q (m % 4) d.0) d.0 z d.3 d.4) d.0) now d.9,
+                  d.10,
                 )) is' held'

@@ -1,6 +1,7 @@
 -- What an access of one cell makes of a seat (this project's own).
 use Rattle.std.specs.Prelude.{◌≡◌, ℕ, ◌<◌, List, [], ◌∷◌, length, slice_index_or}
 use Rattle.atomic_table.specs.Table.{Me}
+use Rattle.cell_live.specs.Intervals.{AreHeeded}
 use Rattle.cell_live.specs.Running.{held_slots}
 use Rattle.cell_live.specs.declared.times.Known.{Known}
 use Rattle.cell_live.specs.declared.sight.Sight.TheVariants.{Spent, Reader}
@@ -32,6 +33,8 @@ module _ {T : Type 0} where
     pub view : me.0 ≡ Has (knows Spent v k (Reader (answered notes answer time number writes)) time (held_slots ((slot_at k slot, answer) ∷ cs)) ∷ [])
     pub may : MayAnswer fits rises g answer
     pub did : HasAnswered g (answered notes answer time number writes) answer
+    pub heard : notes.heard ≡ g.heard
+    pub heeds : AreHeeded g.heard writes number
 
   -- Before the first call: the process has its slots, those with number 0 to write and those with number 2 to read, and has done nothing
   pub record IsReady (o : T) (n who : ℕ) (me : Me T (View (TripleSight T))) : Type 0 where

@@ -1,5 +1,5 @@
 -- The words of the contract, of the seats of a family of triple buffers (this project's own).
-use Rattle.std.specs.Prelude.{◌≡◌, ◌≢◌, ℕ, ◌<◌, List, [], ◌∷◌, slice_get, Some}
+use Rattle.std.specs.Prelude.{◌≡◌, ◌≢◌, ℕ, ◌<◌, ◌≤◌, List, [], ◌∷◌, slice_get, Some}
 use mathlib.Core.Option.{some}
 use lib.ListN.{get_elem?}
 use Rattle.atomic_table.specs.Seated.{TableId}
@@ -8,6 +8,7 @@ use Rattle.cell_live.specs.Intervals.{dated}
 use Rattle.cell_live.specs.Running.{snap}
 use Rattle.cell_live.specs.Sights.{receipt_or}
 use Rattle.cell_live.specs.declared.times.Dated.{Dated}
+use Rattle.cell_live.specs.declared.times.Known.{Known}
 use Rattle.cell_live.specs.declared.sight.Sight.TheVariants.{Spent, Told as Tells}
 use Rattle.cell_triple.specs.Steps.{TripleSight}
 use Rattle.family_live.specs.Accesses.{Writes, Reads, IsUnused}
@@ -25,6 +26,9 @@ use Rattle.family_triple.specs.Words.{writes_to, reads_from, IsAtRest}
 
 pub one_step : 0 < 1
 one_step = omega arith
+
+pub one_is_few : 1 ≤ 3
+one_is_few = omega arith
 
 module _ {T : Type 0} where
   abbrev pub opening_of : TripleFamily T → T
@@ -61,7 +65,7 @@ module _ {T : Type 0} where
     pub who : (known_by s).who ≡ s.who
     pub rest : IsAtRest s.spare s.processes (known_by s) s.fills s.reads s.seat.inner.me.1
 
-  -- what a receipt tells, and the record that it names to process j
+  -- what a receipt tells, the record that it names to process j, and all that was written to that one up to then
   abbrev pub told_in : TripleTold T → Receipt (TripleSight T)
   told_in t = receipt_in t.seat.inner.me.0
 
@@ -76,6 +80,9 @@ module _ {T : Type 0} where
 
   abbrev pub named_by : TripleTold T → ℕ → T
   named_by t j = (naming t j).item
+
+  abbrev pub carried_by : TripleTold T → ℕ → Known T
+  carried_by t j = (naming t j).writes
 
   -- the receipt is of a process of the family, and tells each other one of its cell alone
   pub record IsTold (f : TripleFamily T) (t : TripleTold T) : Type 0 where

@@ -2,6 +2,7 @@
 -- write or decides a read. The cell is the one whose word the step is on (this project's own).
 use Rattle.std.specs.Prelude.{◌≡◌, ℕ, ◌%◌, ◌<◌, ◌≤◌, List, [], ◌∷◌, slice_set}
 use Rattle.atomic_table.specs.Table.{Me, Step}
+use Rattle.cell_live.specs.Intervals.{AreHeeded}
 use Rattle.cell_live.specs.Running.{held_slots}
 use Rattle.cell_live.specs.declared.times.Known.{Known}
 use Rattle.cell_triple.specs.declared.notes.WriterNotes.{WriterNotes}
@@ -57,7 +58,7 @@ module _ {T : Type 0} where
         × (n < 4 → (t : ℕ) × (number : ℕ) × (writes : Known T) × (g.times.clock < t)
         × After v k (Reader (answered (looked_by g n) g.at_hand.value t number writes)) t m.1 m'
         × MayAnswer fits rises g g.at_hand.value
-        × HasAnswered g (answered (looked_by g n) g.at_hand.value t number writes) g.at_hand.value)
+        × HasAnswered g (answered (looked_by g n) g.at_hand.value t number writes) g.at_hand.value × AreHeeded g.heard writes number)
 
     -- the reader's swap, where its load found the mark: it decides the read
     abbrev pub fetches : Step T → Sat T → ℕ → Sat T → Type 0
@@ -65,4 +66,4 @@ module _ {T : Type 0} where
         m.0 ≡ Has (v ∷ []) → of_cell Spent k v.parts ≡ Reader g → m.1 ≡ (slot_at k g.slot, x) ∷ cs → g.asked ≡ 1
         → (y : T) × (t : ℕ) × (number : ℕ) × (writes : Known T) × (n % 4 < 3) × (g.times.clock < t)
         × After v k (Reader (answered (fetched g (n % 4) y) y t number writes)) t ((slot_at k (n % 4), y) ∷ cs) m'
-        × MayAnswer fits rises g y × HasAnswered g (answered (fetched g (n % 4) y) y t number writes) y
+        × MayAnswer fits rises g y × HasAnswered g (answered (fetched g (n % 4) y) y t number writes) y × AreHeeded g.heard writes number

@@ -20,7 +20,7 @@ module _ {T : Type 0} where
   writes_by p = record { items = p.written; times = p.times }
 
   abbrev pub reads_by : ReaderNotes T → Reads T
-  reads_by g = record { answers = g.answers; numbers = g.numbers; known = g.known; told = g.told; times = g.times }
+  reads_by g = record { answers = g.answers; numbers = g.numbers; known = g.known; told = g.told; heard = g.heard; times = g.times }
 
 module _ {T : Type 0} (o : T) (n : ℕ) where
   -- what a process wrote to process j, and what it read from it; of itself it has nothing

@@ -11,7 +11,7 @@ ghost use Rattle.family_triple.specs.Shown.{HaveShown};
 ghost use Rattle.family_four_slot.specs.declared.notes.Process.{Process};
 ghost use Rattle.cell_triple.specs.Steps.{TripleSight};
 ghost use Rattle.family_triple.specs.Seated.{opening_of, processes_of, number_of, clock_of, times_of, writes_of, reads_of, IsSeat};
-ghost use Rattle.family_triple.specs.Seated.{sender_of, time_of, named_by, IsTold, one_step};
+ghost use Rattle.family_triple.specs.Seated.{sender_of, time_of, named_by, carried_by, IsTold, one_is_few, one_step};
 
 use crate::slots::{among, newest, take_slots, turn_by};
 use crate::table::{FamilySeat, FamilyTable, slot_place};
@@ -182,6 +182,8 @@ impl<T: Lawful> Family<T> for TripleFamily<T> {
 
     ghost some_steps = { one_step };
 
+    ghost few_steps = { one_is_few };
+
     ghost is_seat = { IsSeat };
 
     ghost is_told = { IsTold };
@@ -201,6 +203,8 @@ impl<T: Lawful> Family<T> for TripleFamily<T> {
     ghost time_of = { time_of };
 
     ghost named = { named_by };
+
+    ghost writes_of = { carried_by };
 
     fn make(alloc: Global, n: usize, first: T) -> Result<(Self, Vec<TripleSeat<T>>), AllocError> {
         let (table, rest) = FamilyTable::new(alloc, n, first)?;
@@ -258,6 +262,16 @@ impl<T: Lawful> Family<T> for TripleFamily<T> {
             processes: seat.processes,
             from: seat.who,
             spare: seat.spare,
+        }
+    }
+
+    fn duplicate(&self, told: &mut TripleTold<T>) -> TripleTold<T> {
+        let again = self.table.duplicate(&mut told.seat);
+        TripleTold {
+            seat: again,
+            processes: told.processes,
+            from: told.from,
+            spare: told.spare,
         }
     }
 

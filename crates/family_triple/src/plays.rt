@@ -75,6 +75,15 @@ impl<T> Split<FamilySight<T>> for Tells {
     ghost right = { told_by receipt_for };
 }
 
+/// A receipt is told once more.
+pub(crate) struct Repeats;
+
+impl<T> Split<FamilySight<T>> for Repeats {
+    ghost left = { all_of };
+
+    ghost right = { all_of };
+}
+
 pub(crate) struct Learns;
 
 impl<T> Join<FamilySight<T>> for Learns {

@@ -1,6 +1,8 @@
 -- Nothing was read or written; what was told is in no history.
 use Rattle.std.proofs.Common.{refl, sym, ◌∙◌, ap, subst, ◌≡◌, rules}
+use Rattle.cell_live.specs.declared.times.Known.{Known}
 use Rattle.family_live.specs.Accesses.{IsHeardRead, KeepsOthers}
+use Rattle.board_live.specs.declared.record.Posted.{Posted}
 use Rattle.board_live.proofs.Same.{after_learn}
 use Rattle.board_live.proofs.board.Board.learn.Goals as goal
 
@@ -13,7 +15,8 @@ returns-clause-same g c = record {
   made = λ calls h. record {
     made = after_learn g.F.Family c.args.self.now.processes c.args.self.now.limit c.args.pass.now.process c.args.self.now.first calls
         c.args.pass.now.seat c.learn.new.seat (g.F.Family.sender c.args.receipt.told)
-        (g.F.Family.named c.args.receipt.told (g.F.Family.who c.args.pass.now.seat)) c.learn.ensures.later.2 c.learn.ensures.others.0
+        (g.F.Family.named c.args.receipt.told (g.F.Family.who c.args.pass.now.seat))
+        (g.F.Family.writes_of c.args.receipt.told (g.F.Family.who c.args.pass.now.seat)) c.learn.ensures.later.2 c.learn.ensures.others.0
         (λ ne. c.learn.ensures.heard (λ e. ne (e ∙ c.requires.pass.who))) c.learn.ensures.others.1 h.made;
     own = h.own;
   };
@@ -31,8 +34,11 @@ returns-clause-learnt g c =
       heard = λ ne.
           let named : w.named c.args.receipt.told (w.who old) ≡ c.args.receipt.item = ap (w.named c.args.receipt.told) p.who
           ∙ c.requires.receipt.names c.args.pass.now.process p.inside (λ e. ne (sym e)) in
-          subst (λ z. IsHeardRead (w.reads old z) (w.reads new z) c.args.receipt.item) from
-          (subst (λ z. IsHeardRead (w.reads old (w.sender c.args.receipt.told)) (w.reads new (w.sender c.args.receipt.told)) z) named
+          let carried : w.writes_of c.args.receipt.told (w.who old) ≡ w.writes_of c.args.receipt.told c.args.pass.now.process =
+          ap (w.writes_of c.args.receipt.told) p.who in
+          subst (λ z. IsHeardRead (w.reads old z) (w.reads new z) c.args.receipt.item (w.writes_of c.args.receipt.told c.args.pass.now.process)) from
+          (subst (λ (z : Posted _ × Known (Posted _)). IsHeardRead (w.reads old (w.sender c.args.receipt.told))
+          (w.reads new (w.sender c.args.receipt.told)) z.0 z.1) (λ i. (named i, carried i))
           (c.learn.ensures.heard (λ e. ne (sym from ∙ e ∙ p.who))));
       others = subst (λ z. KeepsOthers z (w.reads old) (w.reads new)) from c.learn.ensures.others.1;
     }

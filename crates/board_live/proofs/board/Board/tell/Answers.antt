@@ -34,6 +34,9 @@ returns-clause-told g c =
       from = refl;
       names = refl;
       time = told.2;
+      tells = λ j l ne.
+          let lj : j < g.F.Family.processes c.args.self.now.family = let z = p.processes in omega arith in
+          c.tell-told.ensures.tells j lj (λ e. ne (e ∙ p.who));
       reads = c.tell-told.ensures.calls.1;
     }
 

@@ -7,7 +7,7 @@ use Rattle.stamps.specs.Stamps.{IsBelow}
 use Rattle.stamps.proofs.choices.Stamps.{at_most_below}
 use Rattle.board_live.specs.declared.record.Posted.{Posted}
 use Rattle.board_live.specs.Records.{or_item}
-use Rattle.board_live.proofs.Calling.{is_call, is_pass}
+use Rattle.board_live.proofs.Calling.{is_bounded, is_call, is_pass}
 use Rattle.board_live.proofs.Records.{rises_at_most}
 use Rattle.board_live.proofs.board.Board.write.Goals as goal
 
@@ -67,6 +67,16 @@ returns-in-None-clause-call g c =
           c.tell_row.new.seat c.column.ensures c.tell_row.ensures.row (inr (sym stamp, sym item)) (λ place. (next_none g c, stamp, item)),
       (next_none g c, chose, chose),
     )
+
+pub returns-in-Some-clause-bounded : goal.returns-in-Some-clause-bounded
+returns-in-Some-clause-bounded g c =
+    is_bounded g.F.Family g.V.RecordLaw.obeys c.args.self.now c.args.pass.now c.requires.pass Write c.column.new.seen c.renew.new.self
+    c.column.new.seat c.tell_row.new.seat c.column.ensures c.tell_row.ensures.row
+
+pub returns-in-None-clause-bounded : goal.returns-in-None-clause-bounded
+returns-in-None-clause-bounded g c =
+    is_bounded g.F.Family g.V.RecordLaw.obeys c.args.self.now c.args.pass.now c.requires.pass Refused c.column.new.seen c.renew.new.self
+    c.column.new.seat c.tell_row.new.seat c.column.ensures c.tell_row.ensures.row
 
 pub returns-in-Some-clause-raised : goal.returns-in-Some-clause-raised
 returns-in-Some-clause-raised g c =

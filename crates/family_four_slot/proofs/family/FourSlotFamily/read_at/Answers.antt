@@ -195,7 +195,7 @@ returns g c =
     c.announce-latest.new.said before behind c.announce-latest.new.seat.inner.me.1
     (record s { seat = c.show.new.seat; stored = record s.stored { said = set s.stored.said c.args.from c.announce-latest.new.said } }) t.10 a2.0 a3.0 t.9 a2.2
     (ap (λ z. z.0) c.show.ensures.same ∙ a3.1) (ap (λ z. z.1) c.show.ensures.same ∙ a3.2) same refl refl refl refl
-    (c.announce-latest.ensures.remembered ∙ t.6) e.9 in
+    (c.announce-latest.ensures.remembered ∙ t.6) e.9 e.10 in
     record {
       own = h.own;
       access = h.access;

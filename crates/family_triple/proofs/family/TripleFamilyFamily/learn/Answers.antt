@@ -45,7 +45,8 @@ returns-clause-heard g c = λ away.
     let inside : s.who < t.processes = subst (λ (z : ℕ × ℕ). z.0 < z.1) (λ i. (own.who i, sym n i)) own.rest.inside in
     let row : of_cell Spent (place s.processes t.from v.who) r.parts ≡ Tells (snap (naming t s.who)) =
     (λ i. of_cell Spent (place (sym n i) t.from (own.who i)) r.parts) ∙ told.row s.who inside (λ e. away (sym e)) in
-    subst (λ z. IsHeardRead (reads_from s.spare s.processes v t.from) (reads_from s.spare s.processes z t.from) (naming t s.who).item)
+    subst (λ z. IsHeardRead (reads_from s.spare s.processes v t.from) (reads_from s.spare s.processes z t.from) (naming t s.who).item
+    (naming t s.who).writes)
     (sym (ap process_of me))
     (is_heard s.spare s.processes v r s.fills s.reads s.seat.inner.me.1 own.rest t.from lf (naming t s.who) (λ e. away (e ∙ own.who)) row)
 

@@ -7,7 +7,7 @@ use Rattle.family_four_slot.specs.Family.{receipt_of}
 use Rattle.family_four_slot.specs.Seats.{told_by}
 use Rattle.family_four_slot.specs.Words.{receipt_in}
 use Rattle.family_triple.specs.Seated.{known_by}
-use Rattle.family_triple.proofs.Telling.{has_told}
+use Rattle.family_triple.proofs.Telling.{has_told, tells_all}
 use Rattle.family_triple.proofs.family.TripleFamilyFamily.tell.Goals as goal
 
 pub returns-clause-told : goal.returns-clause-told
@@ -21,3 +21,11 @@ returns-clause-told g c =
       refl,
       ap (λ z. (receipt_in z.0).clock) me,
     )
+
+pub returns-clause-tells : goal.returns-clause-tells
+returns-clause-tells g c =
+    let s = c.args.seat.now in
+    let own = c.requires.own in
+    let r : Receipt (TripleSight g.row.T.Denot) = receipt_of receipt_for (known_by s) in
+    let me : c.tell-told.result.inner.me ≡ (Told r, []) = c.tell-told.ensures.parted.1 ∙ ap (λ z. (told_by receipt_for z, [])) own.one in
+    tells_all c.args.self.now s own (record { seat = c.tell-told.result; processes = s.processes; from = s.who; spare = s.spare }) refl refl me
