@@ -7,3 +7,6 @@ mod Answered
 mod Heeded
 mod Reported
 mod Twice
+mod Listings
+mod Single
+mod Made

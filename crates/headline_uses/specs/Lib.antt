@@ -2,4 +2,6 @@ pub mod Boards
 pub mod Cells
 pub mod Going
 pub mod Orders
+pub mod Passes
 pub mod Reports
+pub mod Runs

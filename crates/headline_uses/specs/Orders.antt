@@ -2,7 +2,9 @@
 use Rattle.std.specs.Prelude.{◌≡◌, ◌≢◌, ℕ, ◌<◌, List, [], ◌∷◌, slice_get, take, Option, None, Some}
 use Rattle.history_core.specs.declared.history.Op.{Op}
 use Rattle.history_core.specs.declared.history.Kind.TheVariants.{Write, Read, Refused}
-use Rattle.history_core.specs.Orders.{IsAtomicOrder, latest, RefusesLawfully}
+use Rattle.history_core.specs.declared.history.Term.{Term}
+use Rattle.history_core.specs.declared.history.Verdict.TheVariants.{Lawful, Listing, Precedence, Reading, Limit}
+use Rattle.history_core.specs.Orders.{IsAtomicOrder, IsListing, IsVerdict, KeepsPrecedence, latest, ReadsLatest, RefusesLawfully}
 
 -- the operation at this place is the only write
 abbrev pub IsOnlyWrite : {R : Type 0} → List (Op R) → ℕ → Type 0
@@ -45,3 +47,27 @@ module _ (R : Type 0) where
       RefusesLawfully (record { first = 0; limit = limit } ∷ []) ops order →
       ((q : ℕ) (o : Op R) → slice_get ops q ≡ Some o → o.kind ≢ Write) → slice_get order i ≡ Some p → slice_get ops p ≡ Some op →
       op.kind ≢ Refused
+
+  -- an unfinished write stands at one place at most
+  abbrev pub StandsOnceAtMost : Type 0
+  StandsOnceAtMost = (opening : R) (ops : List (Op R)) (order : List ℕ) (p i j : ℕ) (op : Op R) → IsAtomicOrder (λ x y. x ≡ y) opening ops order →
+      slice_get ops p ≡ Some op → op.ends ≡ None → op.kind ≡ Write → slice_get order i ≡ Some p → slice_get order j ≡ Some p → j ≡ i
+
+  -- a refused write saw the record that is there, and a write has one
+  abbrev pub SawWhatIsThere : Type 0
+  SawWhatIsThere = (opening : R) (ops : List (Op R)) (order : List ℕ) (i p : ℕ) (op : Op R) → IsAtomicOrder (λ x y. x ≡ y) opening ops order →
+      slice_get order i ≡ Some p → slice_get ops p ≡ Some op →
+      (op.kind ≡ Refused → (item : R) × (op.item ≡ Some item) × (latest opening ops (take i order) ≡ Some item))
+      × (op.kind ≡ Write → (item : R) × (op.item ≡ Some item))
+
+  -- each verdict says which rules hold and which is broken
+  abbrev pub VerdictsShow : Type 0
+  VerdictsShow = (opening : R) (terms : List Term) (ops : List (Op R)) (order : List ℕ) →
+      (IsVerdict (λ x y. x ≡ y) opening terms ops order Listing → IsListing ops order → ⊥)
+      × (IsVerdict (λ x y. x ≡ y) opening terms ops order Precedence → IsListing ops order × (KeepsPrecedence ops order → ⊥))
+      × (IsVerdict (λ x y. x ≡ y) opening terms ops order Reading →
+      IsListing ops order × KeepsPrecedence ops order × (ReadsLatest (λ x y. x ≡ y) opening ops order → ⊥))
+      × (IsVerdict (λ x y. x ≡ y) opening terms ops order Limit →
+      IsAtomicOrder (λ x y. x ≡ y) opening ops order × (RefusesLawfully terms ops order → ⊥))
+      × (IsVerdict (λ x y. x ≡ y) opening terms ops order Lawful →
+      IsAtomicOrder (λ x y. x ≡ y) opening ops order × RefusesLawfully terms ops order)

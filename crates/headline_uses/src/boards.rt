@@ -2,6 +2,7 @@
 ghost use Rattle.headline_uses.specs.Boards.{EndsWithTheOnlyWrite, ReadsTheOnlyWrite, RefusesNone, SeesTheGreater, SeesWhatWasTold};
 ghost use Rattle.headline_uses.specs.Boards.{ShowsItsOwn, StampsRise, TakesTime};
 ghost use Rattle.headline_uses.specs.Going.{HaveOneGreatest, OrdersShow, RegistersShow};
+ghost use Rattle.headline_uses.specs.Passes.{AllPassesShow, CallsShow, MadeShows, PassesShow};
 ghost use Rattle.history_core.specs.declared.history.Kind.{Kind};
 
 use board_live::{Board, Pass, Posted, RecordLaw};
@@ -36,4 +37,12 @@ pub fn shown_boards_show<V: RecordLaw, F: Family<Posted<V>>>()
     ensures greatest { HaveOneGreatest ⟦<F as Family<Posted<V>>>⟧ }
     ensures registers { RegistersShow ⟦<F as Family<Posted<V>>>⟧ }
     ensures orders { OrdersShow ⟦<F as Family<Posted<V>>>⟧ }
+{}
+
+/// What a pass is, what was made with it, and what a call adds to that.
+pub fn passes_show<V: RecordLaw, F: Family<Posted<V>>>()
+    ensures calls { CallsShow ⟦<F as Family<Posted<V>>>⟧ V.obeys }
+    ensures made { MadeShows ⟦<F as Family<Posted<V>>>⟧ V.obeys }
+    ensures passes { PassesShow ⟦<F as Family<Posted<V>>>⟧ V.obeys }
+    ensures all { AllPassesShow ⟦<F as Family<Posted<V>>>⟧ V.obeys }
 {}

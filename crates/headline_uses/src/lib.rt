@@ -1,5 +1,5 @@
-//! What may be concluded from the theorems: laws and callers that use nothing but the public words of contracts, and end in an exact value or in
-//! a contradiction. Each part of such a word has a law here that fails without it, so that none can be emptied unseen.
+//! What may be concluded from the theorems: laws and callers that use nothing but the public words of contracts, and end in an exact value
+//! or in a contradiction. A part of such a word has a law here that fails without it, so that it can't be emptied unseen.
 #![tactic(auto)]
 
 pub mod boards;
@@ -8,3 +8,4 @@ pub mod going;
 pub mod heard;
 pub mod orders;
 pub mod reports;
+pub mod runs;
