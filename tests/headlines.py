@@ -1,13 +1,15 @@
 """The headlines of docs/HEADLINES.md, each with the definitions that one has to read to know what it says.
 
-    headlines.py           compares the tables of the page with what is so, and says what differs: status 1
-    headlines.py --write   writes them anew
+    headlines.py               compares the reading sets of the page with what is so, and says what differs: status 1
+    headlines.py --write       writes them anew
+    headlines.py --names N     prints by file the definitions of the reading set of headline N
+    headlines.py --names PAGE  prints those of the quotations of each section of another page
 
-A section of the page has quotations, blocks that begin with ```LANGUAGE PATH, and a table behind the mark `<!-- reading set -->`. The
+A section of the page has quotations, blocks that begin with ```LANGUAGE PATH, and numbers behind the mark `<!-- reading set -->`. The
 reading set of the quotations are the definitions of the repository's `specs/` that they name, those that these name, and so on, and the
-types of `src/` among them; of each the lines with its comment are counted. What the kit defines isn't counted. The last row has a digest
-beside the sum: eight hex digits of the SHA-256 of these definitions, without comments, each with where its file takes their names from. So
-a definition that changes is seen where its lines stay as many.
+types of `src/` among them. Their lines, with their comments, and files are counted; what the kit defines isn't. The digest are eight hex
+digits of the SHA-256 of these definitions, without comments, each with where its file takes their names from. So a definition that changes
+is seen if its lines stay as many.
 """
 
 import functools
@@ -15,6 +17,7 @@ import hashlib
 import os
 import re
 import sys
+from pathlib import Path
 
 TOP = os.path.dirname(os.path.dirname(os.path.realpath(__file__)))
 PAGE = f"{TOP}/docs/HEADLINES.md"
@@ -194,26 +197,40 @@ def digest_of(found):
     return hashlib.sha256(text.encode()).hexdigest()[:8]
 
 
-def table_of(quotes):
-    rows, total, found = [], 0, reading_set(quotes)
-    for path, names in sorted(found.items()):
-        count = len({number for numbers in names.values() for number in numbers})
-        total += count
-        rows.append(f"| `{path}` | {', '.join(f'`{it}`' for it in sorted(names, key=str.lower))} | {count} |")
-    sums = f"| in all, digest `{digest_of(found)}` | | **{total}** |"
-    return "\n".join([MARK.strip(), "| Read in | The definitions | Lines |", "|---|---|---|", *rows, sums, ""])
+def size_of(quotes):
+    """How much one reads for some quotations: the numbers of lines and files, and the digest."""
+    found = reading_set(quotes)
+    count = sum(len({number for numbers in names.values() for number in numbers}) for names in found.values())
+    return f"{MARK}To read: **{count}** lines in {len(found)} files, digest `{digest_of(found)}`.\n"
+
+
+def tell_names(section):
+    """Prints the definitions that one reads for a headline, by file."""
+    print(section.split("\n")[0].removeprefix("## "))
+    for path, names in sorted(reading_set(quotes_of(section.partition(MARK)[0])).items()):
+        print(f"{path}: {', '.join(sorted(names, key=str.lower))}")
+
+
+def quotes_of(text):
+    return [(it[1], it[2].split("\n")) for it in QUOTE.finditer(text)]
 
 
 def main(words):
     with open(PAGE, encoding="utf-8") as file:
         text = file.read()
     first, *sections = re.split(r"(?m)^(?=## )", text)
+    if words[:1] == ["--names"]:
+        which = words[1] if words[1:] else PAGE
+        page, number = (text, f"## {which}. ") if which.isdigit() else (Path(which).read_text(encoding="utf-8"), "## ")
+        for section in re.split(r"(?m)^(?=## )", page)[1:]:
+            if section.startswith(number):
+                tell_names(section)
+        return 0
     wanted, others = [first], []
     for section in sections:
         before, mark, after = section.partition(MARK)
-        quotes = [(it[1], it[2].split("\n")) for it in QUOTE.finditer(before)]
         rest = after.split("\n\n", 1)[1] if "\n\n" in after else ""
-        wanted.append(before + (table_of(quotes) + "\n" + rest if mark else ""))
+        wanted.append(before + (size_of(quotes_of(before)) + "\n" + rest if mark else ""))
         if wanted[-1].rstrip("\n") != section.rstrip("\n"):
             others.append(section.split("\n")[0].removeprefix("## "))
     wanted = "".join(wanted).rstrip("\n") + "\n"
