@@ -1,12 +1,19 @@
 -- The parts of a pass and of a call; the steps of a call are those of one access or of two.
 use Rattle.std.proofs.Common.{◌≡◌, ◌⊎◌, Bool, ℕ, ◌+◌, ◌-◌, ◌*◌, true, false, List, [], ◌∷◌, length, refl, sym, ◌∙◌, ap, subst, inl, inr, arith}
+use Rattle.std.proofs.Common.{All, slice_get, Some}
+use Rattle.std.proofs.lemmas.List.Elements.{All-get_or}
+use Rattle.std.proofs.lemmas.Option.{get_or_from_slice_get, slice_get_within}
 use Rattle.stamps.specs.Choices.{IsAtMost}
+use Rattle.cell_live.specs.Intervals.{IsHeeded}
 use Rattle.family_live.specs.declared.family.Family.{Ghosts as FamilyWords}
 use Rattle.board_history.specs.BoardRuns.{steps_of_call}
 use Rattle.board_live.specs.declared.board.Board.{Board}
 use Rattle.board_live.specs.declared.record.Posted.{Posted}
 use Rattle.board_live.specs.Records.{Rises, stamped}
 use Rattle.headline_uses.specs.Passes.{AllPassesShow, CallsShow, MadeShows, PassesShow}
+
+all_there : {A : Type 0} (P : A → Type 0) (xs : List A) (k : ℕ) (x : A) → All P xs → slice_get xs k ≡ Some x → P x
+all_there P xs k x h e = subst P (get_or_from_slice_get xs k x x e) (All-get_or P xs k x (slice_get_within xs k x e) h)
 
 at_most : {V : Type 0} (a b : Posted V) → Rises a b → IsAtMost a.stamp b.stamp
 at_most a b (inl below) = inr below
@@ -35,7 +42,17 @@ module _ {V F S T : Type 0} (words : FamilyWords F (Posted V) S T) (obeys : V �
   pub calls : CallsShow words obeys
   calls board kind old new seen call = (
     call.process,
-    call.known,
+    elim call.known [
+      | inl own ↦ inl own
+      | inr h ↦ inr (
+        h.0,
+        h.1,
+        h.2,
+        h.3,
+        h.4,
+        λ k told at. (all_there (λ t. IsHeeded t (words.reads new.seat h.0).known h.1) (words.reads new.seat h.0).heard k told h.5 at).later,
+      )
+    ],
     at_most old.own seen call.rises,
     at_most seen new.own call.onward,
     λ two one. one_or_two words.width board.processes (length (words.times old.seat)) (length (words.times new.seat)) call.tells two one call.steps,

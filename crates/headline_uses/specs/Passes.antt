@@ -2,6 +2,7 @@
 use Rattle.std.specs.Prelude.{◌≡◌, ◌≢◌, ◌⊎◌, Bool, IsTrue, ℕ, ◌+◌, ◌<◌, ◌≤◌, List, [], ◌∷◌, length, slice_get, Some, vec_capacity}
 use Rattle.history_core.specs.declared.history.Kind.{Kind}
 use Rattle.stamps.specs.Choices.{IsAtMost}
+use Rattle.cell_live.specs.declared.times.Known.{Known}
 use Rattle.cell_live.specs.Running.{last_or}
 use Rattle.family_live.specs.declared.family.Family.{Ghosts as FamilyWords}
 use Rattle.board_history.specs.BoardRuns.{Called}
@@ -13,13 +14,15 @@ use Rattle.board_live.specs.Passes.{HasMade, IsCall, IsPass}
 use Rattle.board_live.specs.Records.{stamped}
 
 module _ {V F S T : Type 0} (words : FamilyWords F (Posted V) S T) (obeys : V → Bool) where
-  -- a call of a process of two saw its own record or one that the other process is known to have written; no stamp falls; it takes the
-  -- steps of one access or of two; and if it is the first call of its pass, it is the only one that was made with it
+  -- a call saw its own record or one that another process is known to have written, no older than the last write of a learnt receipt; no
+  -- stamp falls; of two processes it takes the steps of one access or of two; and if it is the first call of its pass, it is the only one
+  -- that was made with it
   abbrev pub CallsShow : Type 0
   CallsShow = (board : Board V F S T) (kind : Kind) (old new : Pass V F S T) (seen : Posted V) → IsCall words obeys board kind old new seen →
       (new.process ≡ old.process)
       × ((seen ≡ old.own) ⊎ ((j : ℕ) × (number : ℕ) × (j < board.processes) × (j ≢ old.process)
-      × (slice_get (board.first ∷ (words.reads new.seat j).known.items) number ≡ Some seen)))
+      × (slice_get (board.first ∷ (words.reads new.seat j).known.items) number ≡ Some seen)
+      × ((k : ℕ) (told : Known (Posted V)) → slice_get (words.reads new.seat j).heard k ≡ Some told → length told.items ≤ number)))
       × IsAtMost old.own.stamp seen.stamp × IsAtMost seen.stamp new.own.stamp
       × (board.processes ≡ 2 → words.width ≡ 1 → (length (words.times new.seat) ≡ length (words.times old.seat) + 1)
       ⊎ (length (words.times new.seat) ≡ length (words.times old.seat) + 2))
