@@ -1,3 +1,4 @@
 mod Lists
 mod Orders
+mod Later
 mod Written

@@ -5,7 +5,9 @@
 mod ends;
 mod passing;
 mod running;
+mod terms;
 
 pub use ends::{ends_no_older, gives_back};
 pub use passing::{pass_on, pass_twice};
 pub use running::{answers_written, turn_of_four};
+pub use terms::{renew_after, terms_join};
