@@ -48,10 +48,16 @@ module _ {V : Type 0} where
         single (writes 1).ends e w.all.1 (w.ended 0 c refl refl ∙ ended),
         p.written 0 (omega arith),
         (a.0, single (reads 1).items a.0 (p.answered 0 (omega arith)) answer, s.greatest ∙ ap (greatest first) a.1),
-        λ k. subst (λ z. ChoosesByKind limit (record { place = 0; who = 0; kind = kind; stamp = chosen.stamp; item = chosen.item }) z seen.stamp seen.item) k chose,
-        λ k. subst (λ z. ChoosesByKind limit (record { place = 0; who = 0; kind = kind; stamp = chosen.stamp; item = chosen.item }) z seen.stamp seen.item) k chose,
-        λ k. subst (λ z. ChoosesByKind limit (record { place = 0; who = 0; kind = kind; stamp = chosen.stamp; item = chosen.item }) z seen.stamp seen.item) k chose,
+        λ k. chosen_by k chose,
+        λ k. chosen_by k chose,
+        λ k. chosen_by k chose,
       )
+    where
+      chosen_by : {one other : Kind} → one ≡ other → ChoosesByKind limit (record { place = 0; who = 0; kind = kind; stamp = chosen.stamp; item = chosen.item })
+          one seen.stamp seen.item → ChoosesByKind limit (record { place = 0; who = 0; kind = kind; stamp = chosen.stamp; item = chosen.item })
+          other seen.stamp seen.item
+      chosen_by e h = subst (λ z. ChoosesByKind limit (record { place = 0; who = 0; kind = kind; stamp = chosen.stamp; item = chosen.item })
+          z seen.stamp seen.item) e h
 
   pub silent : SilentCallShows V
   silent limit b e kind first seen chosen times writes reads p =
