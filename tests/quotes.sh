@@ -34,17 +34,18 @@ is_short README.md
 awk 'BEGIN { for (k = 0; k < 901; k++) print "word" }' >"$room/long.md"
 catches "a front page of 901 words" "it has 901 words" is_short "$room/long.md"
 
-# The controls: another word in a quotation, another number of files, a changed definition in the reading set of a headline with as many lines,
-# and links that lead nowhere.
+# The controls: another word in a quotation, another number of files, a changed definition in the reading set of a headline with as many
+# lines, and links that lead nowhere.
 if command -v python3 >/dev/null 2>&1; then
     catches_in_tree "another word in a quotation" "docs/HEADLINES.md:.* isn't in crates/board_origins/src/origin.rt" docs/HEADLINES.md \
         '0,/pub fn check_origin</s//pub fn check_origins</' python3 tests/quotes.py docs/HEADLINES.md
     catches_in_tree "another number of files in a table" "tests/races/ has [0-9]* files" docs/TESTING.md \
         's/^\(| `tests\/races\/` | \)[0-9]*/\11/' python3 tests/quotes.py docs/TESTING.md
-    catches_in_tree "a changed definition with as many lines" "another reading set of 1. The checker: a verdict is right, and no order is missed; 2" \
+    first="1. The checker: a verdict is right, and no order is missed; 2"
+    catches_in_tree "a changed definition with as many lines" "another reading set of $first" \
         crates/history_core/specs/Orders.antt 's/^MayStand None Write times = times ≤ 1/MayStand None Write times = times ≤ 2/' \
         python3 tests/headlines.py
-    catches_in_tree "a name taken from elsewhere" "another reading set of 1. The checker: a verdict is right, and no order is missed; 2" crates/history_core/specs/Orders.antt \
+    catches_in_tree "a name taken from elsewhere" "another reading set of $first" crates/history_core/specs/Orders.antt \
         's/^use Rattle.std.specs.List.{count_by/use Rattle.std.specs.Lists.{count_by/' python3 tests/headlines.py
     catches_in_tree "a link to no file" "there is no CHANGES.md" README.md '0,/](CHANGELOG.md/s//](CHANGES.md/' \
         python3 tests/links.py README.md

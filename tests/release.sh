@@ -27,8 +27,8 @@ for file in c/nidzaru.h CHANGELOG.md rust/nidzaru/Cargo.toml; do
     for it in c/nidzaru.h CHANGELOG.md rust/nidzaru/Cargo.toml; do
         cp "$it" "$room/release/$it"
     done
-    sed -i 's/^\(#define NIDZARU_VERSION_PATCH\).*/\1 77/; s/^## \(Towards \)\{0,1\}[0-9][0-9.]*/## 0.0.77/; s/^version = .*/version = "0.0.77"/' \
-        "$room/release/$file"
+    sed -i -e 's/^\(#define NIDZARU_VERSION_PATCH\).*/\1 77/' -e 's/^## \(Towards \)\{0,1\}[0-9][0-9.]*/## 0.0.77/' \
+        -e 's/^version = .*/version = "0.0.77"/' "$room/release/$file"
     if version_of_tree "$room/release" >"$room/said" || ! grep -q "77'" "$room/said"; then
         fail "another version in $file" "it isn't seen"
     else
