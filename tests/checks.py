@@ -10,8 +10,10 @@ scripts that use these aren't compared; a script without any check fails everywh
 """
 
 import argparse
+import os
 import re
 import shutil
+import subprocess
 import sys
 from pathlib import Path
 
@@ -21,13 +23,13 @@ TOOLS = {
     "tests/c.sh": ("gcc", "g++", "clang", "clang++", "cmake", "valgrind", "cargo"),
     "tests/c_controls.sh": ("gcc", "cargo"),
     "tests/recorder.sh": ("gcc", "g++", "clang", "clang++", "rustc", "cargo"),
-    "tests/package.sh": ("musl-gcc", "cmake", "cargo", "lintian"),
+    "tests/package.sh": ("musl-gcc", "cmake", "cargo", "lintian", "unshare"),
 }
 # The scripts that have no checks, and those that are run by hand alone.
 HELPERS = {"outcomes", "spent", "build", "library"}
 # Those that another script reads.
 PARTS = {"rust"}
-BY_HAND = {"roots"}
+BY_HAND = {"roots", "disturb"}
 TOLD = re.compile(r"(?m)^test: (\S+(?: ci)?): (\d+) checks$")
 ROW = re.compile(r"(?m)^\| (\d+) \| `([^`]+)` \|$")
 SUMS = re.compile(r"(?m)^(\d+) crates, (\d+) wrong bodies ")
@@ -56,9 +58,18 @@ def stated(top):
     return {"rt ci": int(sums[1]), "tests/wrong_bodies.py": int(sums[2]), **numbers}, {*had[1].split(", ")}, {*had[2].split(", ")}
 
 
+def is_here(tool):
+    """Whether there is such a program, and of `unshare` whether it may make a namespace of mounts."""
+    if not shutil.which(tool):
+        return False
+    as_root = [] if os.getuid() == 0 else ["--map-root-user"]
+    return tool != "unshare" or subprocess.run(["unshare", "--mount", *as_root, "true"], stderr=subprocess.DEVNULL, check=False).returncode == 0
+
+
 def tools_here():
     every = sorted({it for tools in TOOLS.values() for it in tools})
-    return [it for it in every if shutil.which(it)], [it for it in every if not shutil.which(it)]
+    here = [it for it in every if is_here(it)]
+    return here, [it for it in every if it not in here]
 
 
 def wrong_numbers(top, counted, only):

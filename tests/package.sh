@@ -1,6 +1,7 @@
 # The packages: `./package` runs on two copies of this tree that differ in all that the bytes may not depend on, and then what a user does
-# with them, with a PATH that has a compiler and nothing of the toolchain, and an empty home. (These are no clean roots: headers and
-# libraries of this machine are at hand.) It takes the library and the programs that are built by then, and builds none.
+# with them, with a PATH that has compilers and nothing of the toolchain, an empty home, and, where a namespace of mounts is permitted, empty
+# folders in place of the toolchain's and of this tree. (tests/roots.sh has fresh Debian roots: here headers and libraries of this machine
+# are at hand.) It takes the library and the programs that are built by then, and builds none.
 . tests/library.sh
 kept_passed=$passed kept_failed=$failed
 packages=$room/packages
@@ -33,7 +34,37 @@ is_refused() {
 
 # Runs a command as a user does who has no toolchain.
 in_clean() {
-    env -i PATH="$clean/bin" HOME="$clean/home" CARGO_HOME="$clean/home/cargo" "$@"
+    $in_root env -i PATH="$clean/bin" HOME="$clean/home" CARGO_HOME="$clean/home/cargo" "$@"
+}
+
+# Makes the program that runs a command where the toolchain's folder and this tree are empty; where that isn't permitted there is none.
+in_root=
+make_clean_root() {
+    kit=$(dirname -- "$(dirname -- "$(readlink -f -- "$(command -v rt)")")")
+    case "$kit:$PWD" in
+    /*/*:/*/*) ;;
+    *) return ;;
+    esac
+    case $room in "$PWD"/* | "$kit"/*) return ;; esac
+    as_root=
+    [ "$(id -u)" = 0 ] || as_root=--map-root-user
+    cat >"$clean/in_root" <<ROOT
+#!/bin/sh
+exec unshare --mount $as_root sh -c 'mount -t tmpfs none "\$0" && mount -t tmpfs none "\$1" && cd "\$PWD" && shift && exec "\$@"' '$kit' '$PWD' "\$@"
+ROOT
+    chmod +x "$clean/in_root" && "$clean/in_root" true 2>/dev/null && in_root=$clean/in_root
+}
+
+# Whether nothing lies in the toolchain's folder and in this tree.
+is_root_clean() {
+    for folder in "$kit" "$PWD"; do
+        [ -z "$(in_clean find "$folder" -mindepth 1 | head -n 3)" ] || { echo "$folder has files" && return 1; }
+    done
+}
+
+no_root() {
+    in_root=
+    is_root_clean
 }
 
 fill_clean_path() {
@@ -373,7 +404,14 @@ number=$(echo "$version" | awk -F. '{ print $1 * 10000 + $2 * 100 + $3 }')
 if ! is_newest crates/c_exports/out/libc_exports.a || ! has_program fsr || ! has_program picture; then
     fail "packages" "the library or a program wasn't built"
 else
+    make_clean_root
     check "a PATH with nothing of the toolchain" fill_clean_path
+    if [ -n "$in_root" ]; then
+        check "a root with nothing of the toolchain and of this tree" is_root_clean
+        is_refused "planted: a root with all of it" "has files" no_root
+    else
+        echo "test: packages: no namespace of mounts is permitted, so files of the toolchain and of this tree can be read"
+    fi
     check "a copy of the tree" copy_tree
     check_packages
     check_installed
