@@ -10,3 +10,4 @@ mod Twice
 mod Listings
 mod Single
 mod Made
+mod Shown

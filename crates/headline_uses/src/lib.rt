@@ -7,5 +7,6 @@ pub mod cells;
 pub mod going;
 pub mod heard;
 pub mod orders;
+pub mod parts;
 pub mod reports;
 pub mod runs;

@@ -1,0 +1,58 @@
+-- Consequences of accesses of a family, of orders by number and of the counts of atomic calls (this project's own).
+use Rattle.std.specs.Prelude.{◌≡◌, ◌⊎◌, Bool, IsTrue, ℕ, ◌+◌, ◌<◌, ◌≤◌, false, List, [], ◌∷◌, ◌++◌, length, slice_get, Some}
+use Rattle.history_core.specs.declared.history.Op.{Op}
+use Rattle.history_core.specs.Orders.{is_write}
+use Rattle.stamps.specs.declared.stamp.Stamped.{Stamped}
+use Rattle.stamps.specs.Choices.{IsAtMost}
+use Rattle.cell_live.specs.declared.times.Known.{Known}
+use Rattle.cell_live.specs.declared.times.Times.{Times}
+use Rattle.cell_live.specs.Histories.{IsByNumbers}
+use Rattle.cell_live.specs.Intervals.{AreAtomic}
+use Rattle.cell_live.specs.Running.{last_or}
+use Rattle.family_live.specs.Accesses.{IsRead, IsWrite, Reads, Writes}
+use Rattle.board_history.specs.BoardRuns.{Did}
+use Rattle.board_history.specs.Histories.{IsGreatestOwn, own_after}
+use Rattle.board_live.specs.declared.record.Posted.{Posted}
+use Rattle.board_live.specs.Passes.{IsAnswered}
+
+module _ (T : Type 0) where
+  -- a read adds its answer and a number, and no receipt; the number is no less than that of the last write of each that was learnt
+  abbrev pub ReadsShow : Type 0
+  ReadsShow = (opening : T) (old new : Reads T) (answer : T) → IsRead opening old new answer →
+      (new.answers ≡ old.answers ++ answer ∷ []) × (new.told ≡ old.told) × (new.heard ≡ old.heard)
+      × (length new.numbers ≡ length old.numbers + 1)
+      × ((k : ℕ) (told : Known T) → slice_get new.heard k ≡ Some told → length told.items ≤ last_or 0 new.numbers)
+
+  -- a write adds its record
+  abbrev pub WritesShow : Type 0
+  WritesShow = (old new : Writes T) (item : T) → IsWrite old new item → new.items ≡ old.items ++ item ∷ []
+
+  -- an order by number has each place once, no place beyond, and a write before the reads of its number
+  abbrev pub NumbersShow : Type 0
+  NumbersShow = (ops : List (Op T)) (number : ℕ → ℕ) (order : List ℕ) → IsByNumbers ops number order →
+      ((i p : ℕ) → slice_get order i ≡ Some p → p < length ops)
+      × ((i j p : ℕ) → slice_get order i ≡ Some p → slice_get order j ≡ Some p → i ≡ j)
+      × ((p : ℕ) → p < length ops → (i : ℕ) × (slice_get order i ≡ Some p))
+      × ((i j p q : ℕ) (a b : Op T) → slice_get order i ≡ Some p → slice_get ops p ≡ Some a → slice_get order j ≡ Some q →
+      slice_get ops q ≡ Some b → i < j → number q ≤ number p →
+      (number p ≡ number q) × (is_write b.kind ≡ false) × (is_write a.kind ≡ false → a.starts ≤ b.starts))
+
+  -- each answer has its interval, and of the writes all have but perhaps the last
+  abbrev pub CountsShow : Type 0
+  CountsShow = (opening : T) (written : List T) (writes : Times) (answers : List T) (numbers : List ℕ) (reads : Times) →
+      AreAtomic opening written writes answers numbers reads →
+      (length reads.begins ≡ length answers) × (length reads.ends ≡ length answers) × (length writes.ends ≤ length written)
+      × (length written ≤ length writes.ends + 1)
+
+  -- the greatest record is a process's last, and none has a greater one
+  abbrev pub GreatestShows : Type 0
+  GreatestShows = (n : ℕ) (first last : Stamped T) (did : ℕ → Did T) → IsGreatestOwn n first did last →
+      ((i : ℕ) × (i < n) × (last ≡ own_after first (did i))) × ((i : ℕ) → i < n → IsAtMost (own_after first (did i)).stamp last.stamp)
+
+  -- an answer obeys the law, and is no older than the opening, the answer before and what was told
+  abbrev pub AnsweredShow : Type 0
+  AnsweredShow = (obeys : T → Bool) (opening : Posted T) (old new : Reads (Posted T)) (answer : Posted T) →
+      IsAnswered obeys opening old new answer →
+      IsTrue (obeys answer.item) × IsAtMost opening.stamp answer.stamp × IsAtMost (last_or opening old.answers).stamp answer.stamp
+      × ((k : ℕ) (told : Posted T) → slice_get old.told k ≡ Some told → IsAtMost told.stamp answer.stamp)
+      × (new.answers ≡ old.answers ++ answer ∷ [])
