@@ -14,6 +14,11 @@ refused where the prover then names a goal of its function that it did not prove
 name that is gone. An error that only tells of declarations that depend on another one is followed to that one's own error. That the
 function calls one that is refused doesn't count. An edit that a check with others leaves open is tried once more alone.
 
+A goal without an answer is searched for in several ways, and where it fails that can cost more than all else. An edit with the line
+`search: none` is refused by an error in an answer, so it is first tried under `#[tactic(none)]`, without these searches: each answer is
+held to its own goal, and has the same error with them. There a goal that is open doesn't count. Where no answer is refused the edit is
+tried as any other. The checks begin with what `rt check` has kept of the crate.
+
 With --said the judge is tried on what the prover said of some edits once: a file's first lines are `crate:`, `function:` and `refused:
 yes` or `no`, as it has to judge, and behind an empty line stands what was said.
 
@@ -45,6 +50,7 @@ GONE_NAME = re.compile(rf"^(?:`x`: )?.{{,60}}?(?:{GONE})")
 DEPENDS = re.compile(r"declarations? that depends? on `([^`]+)`, which was rejected")
 QUOTED = re.compile(r"`[^`]*`")
 DECLARED = re.compile(r"`([^`]+)`:")
+IN_VAIN = re.compile(r"note: src/\S+: it is not proved that ")
 ALL_PROVED = re.compile(r"(?m)^only=(\d+) proved=\1$")
 
 
@@ -53,16 +59,19 @@ class BadEdit(Exception):
 
 
 class Edit:
-    """An edit of a crate: the functions that it spoils, and for each change the file, the text that goes and the one that comes."""
+    """An edit of a crate: the functions that it spoils, whether their goals without an answer are searched for, and for each change the
+    file, the text that goes and the one that comes."""
 
     def __init__(self, path):
-        self.name, self.functions, self.changes = path.stem, [], []
+        self.name, self.functions, self.is_searched, self.changes = path.stem, [], True, []
         file = old = None
         for line in path.read_text(encoding="utf-8").splitlines():
             word, _, rest = line.partition(":")
             rest = rest.removeprefix(" ")
             if word == "function":
                 self.functions.append(rest.strip())
+            elif word == "search":
+                self.is_searched = rest.strip() != "none"
             elif word == "file":
                 file = rest.strip()
             elif word == "old":
@@ -82,7 +91,31 @@ class Edit:
             if text.count(old) != 1:
                 return None
             texts[file] = text.replace(old, new)
+        for function in [] if self.is_searched else self.functions:
+            texts = without_search(folder, function, texts)
         return texts
+
+
+def lines_of_function(folder, function, texts):
+    """The file of a function below src/, and the number of its line `fn`. None where no file has just one function of its name there."""
+    *path, name = function.split("::")
+    files = [f"src/{'/'.join(path[:count])}.rt" for count in range(len(path), 0, -1)] + ["src/lib.rt", "src/main.rt"]
+    for file in (it for it in files if (folder / it).is_file()):
+        lines = (texts.get(file) or (folder / file).read_text(encoding="utf-8")).splitlines()
+        found = [number for number, line in enumerate(lines) if re.match(rf"\s*(?:pub(?:\([^)]*\))? )?fn {name}\b", line)]
+        return (file, lines, found[0]) if len(found) == 1 else None
+    return None
+
+
+def without_search(folder, function, texts):
+    """These texts, where the goals of a function that have no answer are left open."""
+    found = lines_of_function(folder, function, texts)
+    if not found:
+        raise BadEdit(f"`search: none` needs a file with one function of the name of {function}")
+    file, lines, number = found
+    while lines[number - 1].lstrip().startswith("#["):
+        number -= 1
+    return {**texts, file: "\n".join([*lines[:number], "#[tactic(none)]", *lines[number:], ""])}
 
 
 class Crate:
@@ -167,21 +200,44 @@ def roots_of(told, errors, passed=()):
     return [root for it in own for root in roots_of(it, errors, (*passed, told))]
 
 
-def refusal(crate, said, functions):
-    """Where and why the prover refuses these functions of a crate, by what it says of each itself. None where it says nothing of one."""
+def refusal(crate, said, functions, by_goals=True):
+    """Where and why the prover refuses these functions of a crate, by what it says of each itself. None where it says nothing of one. Open
+    goals don't count where they weren't searched for."""
     verdicts, told, reasons = dict(VERDICT.findall(said)), errors_in(said), []
     for function in functions:
         verdict = verdicts.get(f"{crate}::{function}", "")
         goals = OPEN_GOALS.search(verdict)
         folder = f"proofs/{function.replace('::', '/')}"
         errors = [root for where, it in told if where.rpartition("/")[0] == folder for root in roots_of(it, told) if not is_gone_name(root)]
-        if verdict.startswith("no proof") and goals:
+        if by_goals and verdict.startswith("no proof") and goals:
             reasons.append(f"{function} has no proof of {goals[1]}")
-        elif verdict.startswith("not proved") and errors:
+        elif verdict.startswith("not proved" if by_goals else ("no proof", "not proved")) and errors:
             reasons.append(f"{function}: {errors[0]}")
         else:
             return None
     return "; ".join(reasons)
+
+
+def searched_in_vain(crate, said, functions):
+    """How many goals without an answer the prover searched for in vain, in those of these functions that an answer's error refuses anyhow."""
+    found, count = 0, 0
+    for line in said.splitlines():
+        verdict = VERDICT.match(line)
+        if verdict and verdict[1] in {f"{crate}::{it}" for it in functions} and verdict[2].startswith("not proved"):
+            count += found
+        found = 0 if verdict else found + bool(IN_VAIN.match(line))
+    return count
+
+
+def link_module(file, to):
+    """Links what a check saved, as a check replaces such a file and doesn't write into it, and copies what can't be linked."""
+    if file.endswith(".oantt"):
+        try:
+            os.link(file, to)
+            return
+        except OSError:
+            pass
+    shutil.copy2(file, to)
 
 
 class Room:
@@ -189,7 +245,12 @@ class Room:
 
     def __init__(self, crate, kit, place):
         self.crate, self.kit, self.place = crate, kit, Path(place)
-        self.seconds = 0.0
+        self.seconds, self.checks, self.in_vain = 0.0, 0, []
+        try:
+            shutil.copytree(crate.folder / "out/incremental", self.place / "kept", symlinks=True, copy_function=link_module)
+        except (OSError, shutil.Error):
+            # (there is none, or a check is just writing it)
+            shutil.rmtree(self.place / "kept", ignore_errors=True)
 
     def check(self, functions, texts=None):
         """What the prover says of these functions alone, where the crate has these texts."""
@@ -207,7 +268,7 @@ class Room:
             said = process.stdout.read()
             _, status, used = os.wait4(process.pid, 0)
             process.returncode = os.waitstatus_to_exitcode(status)
-        self.seconds += used.ru_utime + used.ru_stime
+        self.seconds, self.checks = self.seconds + used.ru_utime + used.ru_stime, self.checks + 1
         return said
 
     def first_together(self, edits):
@@ -230,9 +291,12 @@ class Room:
             left = [it for it in left if it not in chosen]
             said = self.check([it for edit in chosen for it in edit.functions], texts)
             for edit in chosen:
-                refused[edit.name] = refusal(self.crate.name, said, edit.functions)
-            alone += [it for it in chosen if not refused[it.name] and len(chosen) > 1]
+                refused[edit.name] = refusal(self.crate.name, said, edit.functions, edit.is_searched)
+                if edit.is_searched and searched_in_vain(self.crate.name, said, edit.functions):
+                    self.in_vain.append(edit.name)
+            alone += [it for it in chosen if not refused[it.name] and (len(chosen) > 1 or not it.is_searched)]
         for edit in alone:
+            edit.is_searched = True
             said = self.check(edit.functions, edit.made_in(self.crate.folder, {}))
             refused[edit.name] = refusal(self.crate.name, said, edit.functions)
         return refused
@@ -261,8 +325,10 @@ def judge(crate, paths, kit, is_proved):
         reason = refused.get(edit.name)
         lines.append(f"{edit.name}: {f'refused, as it must be: {reason[:200]}' if reason else 'NOT REFUSED'}")
     passed, tried = sum(map(bool, refused.values())), len(lines)
-    print(f"must-fail {crate.name}: {passed} of {tried} refused, {room.seconds:.0f} processor seconds", flush=True)
+    print(f"must-fail {crate.name}: {passed} of {tried} refused, {room.seconds:.0f} processor seconds in {room.checks} checks", flush=True)
     print("\n".join(f"must-fail {crate.name}/{it}" for it in sorted(lines)), flush=True)
+    if room.in_vain:
+        print(f"must-fail {crate.name}: a line `search: none` would save searches in {', '.join(sorted(room.in_vain))}", flush=True)
     return passed, tried - passed
 
 
