@@ -114,10 +114,10 @@ def read_log(lines):
             break
         it = operation_of(number, found)
         must(it.kind != "refused" or log.limit is not None, number, "missing limit")
-        refuse_repeats(log, written, it)
         before = latest.get(it.who)
         if before and (before.end is None or it.begin <= before.end):
             raise Refused(f"lines {before.line} and {number}: who {it.who} overlaps itself")
+        refuse_repeats(log, written, it)
         latest[it.who] = it
         log.ops.append(it)
         number, line = number + 1, following

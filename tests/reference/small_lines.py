@@ -19,23 +19,19 @@ def answer(data):
         rule, found = searches.search(opening, limit or 1, ops)
     except Fault as fault:
         return "", f"fsr: {fault}\n", 3
-    except searches.NotSearched:
-        return "", repeated(opening, ops), 3
     if rule == "lawful":
         return "lawful\n" + counts(opening, ops), "", 0
     return (rule, {tuple(place + 2 for place in reason) for reason in found}), "", 1
 
 
-def repeated(opening, ops):
-    written = {}
-    for place, each in enumerate(ops):
-        if each["kind"] == "write":
-            if each["record"] == opening:
-                return f"fsr: line {place + 2}: writes the opening\n"
-            if each["record"] in written:
-                return f"fsr: line {place + 2}: writes the record of line {written[each['record']] + 2}\n"
-            written[each["record"]] = place
-    raise AssertionError("no write is repeated")
+def take_write(opening, each, written, number):
+    if each["kind"] != "write":
+        return
+    if each["record"] == opening:
+        raise Fault(f"line {number}: writes the opening")
+    if each["record"] in written:
+        raise Fault(f"line {number}: writes the record of line {written[each['record']]}")
+    written[each["record"]] = number
 
 
 def counts(opening, ops):
@@ -46,14 +42,32 @@ def counts(opening, ops):
 
 def told(data, reason):
     """What is printed of a reason, whose first word is the rule and whose others are lines."""
-    opening, _, ops = read(data)
+    opening, limit, ops = read(data)
     lines = [int(word) for word in reason[1:]]
     shown = {ops[line - 2]["record"] for line in lines} - {None}
     named = [line for line in range(2, len(ops) + 2)
              if line in lines or ops[line - 2]["kind"] == "write" and ops[line - 2]["record"] in shown]
     texts = data.decode().split("\n")
     shows = "".join(f"line {line}: {texts[line - 1]}\n" for line in named)
-    return f"unlawful {' '.join(reason)}\n" + shows + counts(opening, ops)
+    return f"unlawful {' '.join(reason)}\n" + shows + sentence(reason[0], lines, limit, ops) + counts(opening, ops)
+
+
+def sentence(rule, lines, limit, ops):
+    """Why the operations on these lines show it, with the times."""
+
+    def apart(one, other):
+        return f"line {one} ended at {ops[one - 2]['end']}, line {other} began at {ops[other - 2]['begin']}"
+
+    first = lines[0]
+    if rule == "unwritten":
+        return f"Line {first} gave a record that is neither the opening nor written.\n"
+    if rule == "early":
+        return f"Line {first} gave a record before the write of it began: {apart(*lines)}.\n"
+    if rule == "stale":
+        return f"Line {lines[1]} gave the opening behind an operation of another record: {apart(*lines)}.\n"
+    if rule == "crossed":
+        return f"Each of two records has to stand before the other: {apart(*lines[:2])}; {apart(*lines[2:])}.\n"
+    return f"In every order fewer writes than the limit of {limit or 1} stand before line {first} or a refused write in front of it.\n"
 
 
 def read(data):
@@ -70,7 +84,7 @@ def read(data):
         raise Fault("line 1: shape of limit")
     if limit is not None and not 1 <= limit <= documents.MAX_LIMIT:
         raise Fault("line 1: range of limit")
-    ops, lasts = [], {}
+    ops, lasts, written = [], {}, {}
     for number, text in enumerate(lines[1:], 2):
         value = value_of(text, number)
         if isinstance(value, dict) and value.get("kind") == "done":
@@ -78,6 +92,7 @@ def read(data):
             break
         ops.append(operation_of(value, number, limit))
         take_turn(ops, lasts, number)
+        take_write(opening, ops[-1], written, number)
     return opening, limit, ops
 
 

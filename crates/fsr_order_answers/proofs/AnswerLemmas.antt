@@ -6,7 +6,7 @@ use Rattle.fsr_runs.specs.declared.fault.Fault.{Fault}
 use Rattle.history_core.specs.declared.band.Band.{Band}
 use Rattle.history_core.specs.declared.history.History.{History}
 use Rattle.fsr_refusals.specs.declared.refusal.DocError.{DocError}
-use Rattle.lines_answers.specs.Answers.{IsLinesAnswer, status_of as lines_status}
+use Rattle.lines_answers.proofs.StatusLemmas.{low_lines}
 use Rattle.lines_answers.specs.Kinds.{are_lines}
 use Rattle.log_text.specs.Log.{log_of}
 use Rattle.history_search.specs.declared.reason.Search.{Search}
@@ -27,15 +27,6 @@ low_log (Err refusal) a answered = absurd (cc)
 low_answer : (bytes : List ℕ) (r : Result Answer Fault) → Gives (IsLogAnswer bytes) r → HasLowStatus r
 low_answer bytes (Ok a) answered = low_log (log_of bytes) a answered
 low_answer bytes (Err e) refused = search rules
-
-lines_is_low : (search : Search) → lines_status search ≤ 1
-lines_is_low (Order order) = omega arith
-lines_is_low (Unlawful reason) = omega arith
-
-low_lines : (bytes : List ℕ) (r : Result Answer Fault) → Gives (IsLinesAnswer bytes) r → HasLowStatus r
-low_lines bytes (Ok a) found =
-    subst (λ (s : ℕ). s ≤ 1) (sym (ap (λ (b : Answer). b.status) found.told)) (lines_is_low found.search)
-low_lines bytes (Err e) refused = search rules
 
 low_by : (in_lines : Bool) (bytes : List ℕ) (r : Result Answer Fault) → Gives (IsAnswerBy in_lines bytes) r → HasLowStatus r
 low_by true bytes r answered = low_lines bytes r answered

@@ -19,7 +19,7 @@ use Rattle.history_search.specs.declared.reason.Search.TheVariants.{Order, Unlaw
 use Rattle.history_search.specs.declared.reason.SearchError.{SearchError}
 use Rattle.history_search.specs.declared.reason.SearchError.TheVariants.{NoMemory, Terms, Backwards, WritesOpening, WritesTwice}
 use Rattle.history_search.proofs.Atomic.{IsSearched, turned}
-use Rattle.history_thinning.specs.Answers.{IsLawfulBy}
+use Rattle.history_thinning.specs.Answers.{IsLawfulBy, NamesKept}
 use Rattle.history_thinning.specs.Thinnings.{Equal, IsThinned, IsThinnedLog, one_term}
 use Rattle.history_thinning.specs.declared.thinned.Thinned.{Thinned}
 use Rattle.history_thinning.specs.inner.Mapped.{AreWrites, found_or, place_in, reason_in}
@@ -106,6 +106,18 @@ module _ (log kept : List (Op ℕ)) (places : List ℕ) (thin : IsThinned Equal 
   reason_whole limit (Limit refused) r =
       limit_of log kept places thin known limit refused (place_in places refused) (index_of refused r.op r.at) r
 
+  names_kept : (limit : ℕ) (reason : Reason) → IsReason Equal 0 limit kept reason → NamesKept places (reason_in places reason)
+  names_kept limit (Unwritten read) r = (read, index_of read r.op r.at)
+  names_kept limit (Early read write) r = ((read, index_of read r.op r.at), (write, index_of write r.source r.source_at))
+  names_kept limit (Stale earlier read) r = ((earlier, index_of earlier r.other r.other_at), (read, index_of read r.op r.at))
+  names_kept limit (Crossed a b c d) r = (
+    (a, index_of a r.op_a r.at_a),
+    (b, index_of b r.op_b r.at_b),
+    (c, index_of c r.op_c r.at_c),
+    (d, index_of d r.op_d r.at_d),
+  )
+  names_kept limit (Limit refused) r = (refused, index_of refused r.op r.at)
+
   same_rule : (reason : Reason) → rule_of (reason_in places reason) ≡ rule_of reason
   same_rule (Unwritten read) = refl
   same_rule (Early read write) = refl
@@ -151,7 +163,7 @@ module _ (limit : ℕ) (log : List (Op ℕ)) (thinned : Thinned) (thin : IsThinn
 
   pub unlawful_answer : (reason : Reason) →
       IsAnswered AreTested thinned.history.opening thinned.history.terms thinned.history.ops (NoOrder reason) → (told : Reason) →
-      told ≡ reason_in thinned.places reason → IsUnlawful Equal 0 limit (one_term limit) log told
+      told ≡ reason_in thinned.places reason → IsUnlawful Equal 0 limit (one_term limit) log told × NamesKept thinned.places told
   unlawful_answer reason tested told e =
       let P : (ℕ → ℕ → Type 0) → Type 0 = λ Same.
       IsAnswered Same thinned.history.opening thinned.history.terms thinned.history.ops (NoOrder reason) in
@@ -161,8 +173,10 @@ module _ (limit : ℕ) (log : List (Op ℕ)) (thinned : Thinned) (thin : IsThinn
       let u : Q 0 limit (one_term limit) =
       subst (λ o. Q o limit (one_term limit)) thin.opening (subst (λ n. Q thinned.history.opening n (one_term limit)) l
       (subst (λ t. Q thinned.history.opening a.limit t) thin.term a.answer)) in
-      subst (λ r. IsUnlawful Equal 0 limit (one_term limit) log r) (sym e)
-      (unlawful_whole log thinned.history.ops thinned.places thin.kept known_log limit reason u)
+      subst (λ r. IsUnlawful Equal 0 limit (one_term limit) log r × NamesKept thinned.places r) (sym e) (
+        unlawful_whole log thinned.history.ops thinned.places thin.kept known_log limit reason u,
+        names_kept log thinned.history.ops thinned.places thin.kept known_log limit reason u.is,
+      )
 
   known_kept : IsSearched Equal 0 thinned.history.ops
   known_kept = kept_known log thinned.history.ops thinned.places thin.kept known_log
@@ -209,7 +223,7 @@ module _ (limit : ℕ) (log : List (Op ℕ)) (thinned : Thinned) (thin : IsThinn
   pub unlawful_end : (search : Search) (reason : Reason) →
       IsAnswered AreTested thinned.history.opening thinned.history.terms thinned.history.ops search → search ≡ NoOrder reason →
       (places : List ℕ) (told : Reason) → places ≡ thinned.places → told ≡ reason_in places reason →
-      IsUnlawful Equal 0 limit (one_term limit) log told
+      IsUnlawful Equal 0 limit (one_term limit) log told × NamesKept thinned.places told
   unlawful_end search reason tested es places told ep e =
       let S : Search → Type 0 = λ z. IsAnswered AreTested thinned.history.opening thinned.history.terms thinned.history.ops z in
       unlawful_answer reason (subst S es tested) told (e ∙ ap (λ z. reason_in z reason) ep)

@@ -6,6 +6,8 @@ use Rattle.history_core.specs.Numbers.{StandsAt}
 use Rattle.history_core.specs.Orders.{is_write, IsVerdict, writes_in}
 use Rattle.history_search.specs.Reasons.{OfOneRecord}
 use Rattle.history_search.specs.Searches.{IsFault, IsUnlawful}
+use Rattle.history_search.specs.declared.reason.Reason.{Reason}
+use Rattle.history_search.specs.declared.reason.Reason.TheVariants.{Unwritten, Early, Stale, Crossed, Limit}
 use Rattle.history_search.specs.declared.reason.SearchError.{SearchError}
 use Rattle.history_thinning.specs.declared.thinned.LogAnswer.{LogAnswer}
 use Rattle.history_thinning.specs.declared.thinned.LogAnswer.TheVariants.{Lawful, Unlawful}
@@ -25,6 +27,22 @@ pub record IsLawfulBy (limit : ℕ) (log : List (Op ℕ)) (writes order : List �
 abbrev pub IsLogAnswer : ℕ → List (Op ℕ) → LogAnswer → Type 0
 IsLogAnswer limit log (Lawful writes) = (order : List ℕ) × IsLawfulBy limit log writes order
 IsLogAnswer limit log (Unlawful reason) = IsUnlawful Equal 0 limit (one_term limit) log reason
+
+-- the operation at this place of the log was kept
+abbrev pub IsKeptAt : List ℕ → ℕ → Type 0
+IsKeptAt places p = (i : ℕ) × (slice_get places i ≡ Some p)
+
+-- each operation that a reason names was kept
+abbrev pub NamesKept : List ℕ → Reason → Type 0
+NamesKept places (Unwritten read) = IsKeptAt places read
+NamesKept places (Early read write) = IsKeptAt places read × IsKeptAt places write
+NamesKept places (Stale before read) = IsKeptAt places before × IsKeptAt places read
+NamesKept places (Crossed a b c d) = IsKeptAt places a × IsKeptAt places b × IsKeptAt places c × IsKeptAt places d
+NamesKept places (Limit refused) = IsKeptAt places refused
+
+abbrev pub IsOfKept : List ℕ → LogAnswer → Type 0
+IsOfKept places (Lawful writes) = Unit {0}
+IsOfKept places (Unlawful reason) = NamesKept places reason
 
 -- what stands in the way of a search of this log: what a search of the whole of it would tell
 abbrev pub IsLogFault : List (Op ℕ) → SearchError → Type 0

@@ -4,7 +4,7 @@ ghost use Rattle.std.specs.Prelude.{◌≡◌, ℕ, List, length, IfOk, MatchRes
 ghost use Rattle.history_core.specs.Orders.{is_write_at};
 ghost use Rattle.history_core.specs.declared.history.Op.{Op};
 ghost use Rattle.history_search.specs.declared.reason.SearchError.TheVariants.{NoMemory};
-ghost use Rattle.history_thinning.specs.Answers.{IsLogAnswer};
+ghost use Rattle.history_thinning.specs.Answers.{IsLogAnswer, IsOfKept};
 ghost use Rattle.history_thinning.specs.Thinnings.{IsThinnedLog};
 ghost use Rattle.history_thinning.specs.inner.Mapped.{AreWrites, place_in, reason_in};
 
@@ -13,10 +13,11 @@ use history_core::{Items, Kind, Op};
 use history_search::{Reason, Search, SearchError, find_order};
 use std::alloc::{AllocError, Global};
 
-/// What a search of the whole log would answer, from few of its operations. It takes n log n steps for n operations that were kept.
+/// What a search of the whole log would answer, from few of its operations, which has all that a reason names. It takes n log n steps for n operations that were kept.
 pub fn search_thinned(alloc: Global, thinned: &Thinned) -> Result<LogAnswer, SearchError>
     ensures { MatchResult result
-        (λ answer. (limit : ℕ) (log : List (Op ℕ)) → IsThinnedLog limit log thinned.now → IsLogAnswer limit log answer)
+        (λ answer. (limit : ℕ) (log : List (Op ℕ)) → IsThinnedLog limit log thinned.now →
+        IsLogAnswer limit log answer × IsOfKept thinned.now.places answer)
         (λ error. (limit : ℕ) (log : List (Op ℕ)) → IsThinnedLog limit log thinned.now → error ≡ NoMemory) }
 {
     let places = thinned.places.as_slice();

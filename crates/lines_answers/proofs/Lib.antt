@@ -1,2 +1,4 @@
 pub mod CountLemmas
 pub mod FrontLemmas
+pub mod PlaceLemmas
+pub mod StatusLemmas

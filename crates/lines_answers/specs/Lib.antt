@@ -1,3 +1,5 @@
 pub mod Answers
+pub mod KeptAt
 pub mod Kinds
+pub mod Sentences
 pub mod Text

@@ -1,12 +1,14 @@
-ghost use Rattle.std.specs.Prelude.{◌≡◌, ◌≢◌, IfErr, IfOk, MatchResult};
+ghost use Rattle.std.specs.Prelude.{◌≡◌, ℕ, List, IfOk};
 ghost use Rattle.fsr_runs.specs.Answers.{Gives, HasLowStatus};
-ghost use Rattle.fsr_runs.specs.declared.fault.Fault.TheVariants.{NoMemory};
-ghost use Rattle.lines_answers.specs.Answers.{IsLinesAnswer, IsSearchOf, printed, StandsInTheWayOf, status_of, told_of};
+ghost use Rattle.history_core.specs.declared.history.Op.{Op};
+ghost use Rattle.history_thinning.specs.Answers.{IsLogAnswer, IsOfKept};
+ghost use Rattle.history_thinning.specs.Thinnings.{IsThinnedLog};
+ghost use Rattle.lines_answers.specs.Answers.{IsLinesAnswer, printed, status_of};
 
-use crate::text::{line_of, lines_text};
-use fsr_runs::{Answer, Fault, LinesFault};
+use crate::text::lines_text;
+use fsr_runs::{Answer, Fault};
 use history_core::Items;
-use history_search::{Search, SearchError, find_order};
+use history_thinning::{LogAnswer, search_thinned};
 use lines_log::{LinesLog, read_lines};
 use std::alloc::{AllocError, Global};
 
@@ -19,70 +21,53 @@ pub fn order_lines(alloc: Global, bytes: &[u8]) -> Result<Answer, Fault>
         Ok(log) => log,
         Err(fault) => return Err(fault),
     };
-    let search = match search(alloc, &log) {
-        Ok(search) => search,
-        Err(error) => return Err(told_of(error)),
-    };
-    match print(alloc, bytes, &log, &search) {
+    match answer_log(alloc, bytes, &log) {
         Ok(answer) => Ok(answer),
         Err(_) => Err(Fault::NoMemory),
     }
 }
 
-fn search(alloc: Global, log: &LinesLog) -> Result<Search, SearchError>
-    ensures { MatchResult result (IsSearchOf log.now) (StandsInTheWayOf log.now) }
+/// What a search finds, printed.
+fn answer_log(alloc: Global, bytes: &[u8], log: &LinesLog) -> Result<Answer, AllocError>
+    ensures { IfOk result (λ answer. (limit : ℕ) (ops : List (Op ℕ)) → IsThinnedLog limit ops log.now.thinned →
+        (found : LogAnswer) × IsLogAnswer limit ops found × IsOfKept log.now.thinned.places found × (answer ≡ printed bytes.now log.now found)) }
 {
-    find_order(alloc, &log.history)
+    let found = search(alloc, log)?;
+    print(alloc, bytes, log, &found)
 }
 
-/// How it is told that a log isn't searched. Its one term is never in the way.
-fn told_of(error: SearchError) -> Fault
-    ensures { result ≢ NoMemory → result ≡ told_of error }
+fn search(alloc: Global, log: &LinesLog) -> Result<LogAnswer, AllocError>
+    ensures { IfOk result (λ found. (limit : ℕ) (ops : List (Op ℕ)) → IsThinnedLog limit ops log.now.thinned →
+        IsLogAnswer limit ops found × IsOfKept log.now.thinned.places found) }
 {
-    match told(error) {
-        Ok(fault) => fault,
-        Err(_) => Fault::NoMemory,
-    }
-}
-
-fn told(error: SearchError) -> Result<Fault, AllocError>
-    ensures { IfOk result (λ fault. fault ≡ told_of error) }
-{
-    match error {
-        SearchError::NoMemory | SearchError::Terms => Ok(Fault::NoMemory),
-        SearchError::Backwards { place } => {
-            let line = line_of(place)?;
-            Ok(Fault::Lines(LinesFault::Backwards { line }))
-        }
-        SearchError::WritesOpening { place } => {
-            let line = line_of(place)?;
-            Ok(Fault::Lines(LinesFault::WritesOpening { line }))
-        }
-        SearchError::WritesTwice { first, second } => {
-            let first = line_of(first)?;
-            let second = line_of(second)?;
-            Ok(Fault::Lines(LinesFault::WritesTwice { first, second }))
-        }
+    match search_thinned(alloc, &log.thinned) {
+        Ok(found) => Ok(found),
+        Err(_) => Err(AllocError),
     }
 }
 
 /// The lines of what was found, with its status.
-fn print(alloc: Global, bytes: &[u8], log: &LinesLog, search: &Search) -> Result<Answer, AllocError>
-    ensures { IfOk result (λ answer. answer ≡ printed bytes.now log.now search.now) }
+fn print(
+    alloc: Global,
+    bytes: &[u8],
+    log: &LinesLog,
+    found: &LogAnswer,
+) -> Result<Answer, AllocError>
+    ensures { IfOk result (λ answer. answer ≡ printed bytes.now log.now found.now) }
 {
-    let text = lines_text(alloc, bytes, log, search)?;
-    let status = status_of(search);
+    let text = lines_text(alloc, bytes, log, found)?;
+    let status = status_of(found);
     Ok(Answer {
         text: Items::new(text),
         status,
     })
 }
 
-fn status_of(search: &Search) -> u8
-    ensures { result ≡ status_of search.now }
+fn status_of(found: &LogAnswer) -> u8
+    ensures { result ≡ status_of found.now }
 {
-    match search {
-        Search::Order(_) => 0,
-        Search::Unlawful(_) => 1,
+    match found {
+        LogAnswer::Lawful { .. } => 0,
+        LogAnswer::Unlawful { .. } => 1,
     }
 }

@@ -3,7 +3,9 @@
 
 mod answer;
 mod kind;
+pub mod laws;
 mod named;
+mod sentence;
 mod text;
 
 pub use answer::order_lines;

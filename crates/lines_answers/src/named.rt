@@ -1,12 +1,88 @@
-//! Which operations a reason names.
-ghost use Rattle.std.specs.Prelude.{◌≡◌, ◌&&◌, false, nat_eq, slice_get};
-ghost use Rattle.std.specs.List.{list_any};
-ghost use Rattle.lines_answers.specs.Text.{is_item, is_named, same_item, writes_one_of};
+//! Which of the kept operations a reason names.
+ghost use Rattle.std.specs.Prelude.{◌≡◌, ◌==◌, nat_eq, slice_get};
+ghost use Rattle.std.specs.List.{list_any, position};
+ghost use Rattle.lines_answers.specs.KeptAt.{kept_at};
+ghost use Rattle.lines_answers.specs.Text.{in_kept, is_item, is_named, is_named_next, is_next, next_of, same_item, writes_one_of};
 
 use history_core::{Kind, Op};
+use history_search::Reason;
 
-/// Whether the operation at a place is one of these, or the write of the record of one.
-pub(crate) fn is_named(ops: &[Op<usize>], places: &[usize], place: usize) -> bool
+/// A reason by the kept operations, which are at these places of the log.
+pub(crate) fn in_kept(places: &[usize], reason: Reason) -> Reason
+    ensures { result ≡ in_kept places.now reason }
+{
+    match reason {
+        Reason::Unwritten { read } => Reason::Unwritten {
+            read: kept_at(places, read),
+        },
+        Reason::Early { read, write } => Reason::Early {
+            read: kept_at(places, read),
+            write: kept_at(places, write),
+        },
+        Reason::Stale { before, read } => Reason::Stale {
+            before: kept_at(places, before),
+            read: kept_at(places, read),
+        },
+        Reason::Crossed { a, b, c, d } => Reason::Crossed {
+            a: kept_at(places, a),
+            b: kept_at(places, b),
+            c: kept_at(places, c),
+            d: kept_at(places, d),
+        },
+        Reason::Limit { refused } => Reason::Limit {
+            refused: kept_at(places, refused),
+        },
+    }
+}
+
+/// Which of them is at a place.
+pub(crate) fn kept_at(places: &[usize], place: usize) -> usize
+    ensures { result ≡ kept_at places.now place }
+{
+    match found_at(places, place) {
+        Some(kept) => kept,
+        None => places.len(),
+    }
+}
+
+fn found_at(places: &[usize], place: usize) -> Option<usize>
+    ensures { result ≡ position (λ p. p == place) places.now }
+{
+    places.iter().position(|other| *other == place)
+}
+
+/// Whether the next of them is at this place and named.
+pub(crate) fn is_named_next(
+    ops: &[Op<usize>],
+    places: &[usize],
+    named: &[usize],
+    next: usize,
+    place: usize,
+) -> bool
+    ensures { result ≡ is_named_next ops.now places.now named.now next place }
+{
+    is_next(places, next, place) && is_named(ops, named, next)
+}
+
+fn is_next(places: &[usize], next: usize, place: usize) -> bool
+    ensures { result ≡ is_next places.now next place }
+{
+    is_item(place, places.get(next).copied())
+}
+
+/// The next behind a place.
+pub(crate) fn next_of(places: &[usize], next: usize, place: usize) -> usize
+    ensures { result ≡ next_of places.now next place }
+{
+    if is_next(places, next, place) {
+        next + 1
+    } else {
+        next
+    }
+}
+
+/// Whether a kept operation is one of these, or the write of the record of one.
+fn is_named(ops: &[Op<usize>], places: &[usize], place: usize) -> bool
     ensures { result ≡ is_named ops.now places.now place }
 {
     is_one_of(places, place) || writes_one_of(ops, places, ops.get(place).copied())

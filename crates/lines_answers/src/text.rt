@@ -1,16 +1,17 @@
 //! The printed lines.
-ghost use Rattle.std.specs.Prelude.{◌≡◌, ◌+◌, ◌++◌, ◌<◌, ◌^◌, codes, length, IfOk, OnOk};
+ghost use Rattle.std.specs.Prelude.{◌≡◌, ◌++◌, IfOk, OnOk};
 ghost use Rattle.std.specs.Fmt.{decimal};
-ghost use Rattle.lines_answers.specs.Text.{body_of, count_text, counts_text, in_lines, line_text, lines_text, named_text, places_of, unfinished_in, verdict_text};
-ghost use Rattle.lines_log.specs.Faults.{line_at};
+ghost use Rattle.lines_answers.specs.Text.{body_of, count_text, counts_text, in_lines, line_text, lines_text, named_text, places_of, unlawful_text, verdict_text};
 ghost use Rattle.lines_tables.specs.Splits.{lines_of};
 ghost use Rattle.log_search.specs.Text.{reason_text};
 
-use crate::named::is_named;
+use crate::named::{in_kept, is_named_next, next_of};
+use crate::sentence::push_sentence;
 use history_core::Op;
 use history_search::{Reason, Search};
+use history_thinning::{LogAnswer, Thinned};
 use itoa::Buffer;
-use lines_log::LinesLog;
+use lines_log::{LinesLog, line_of};
 use lines_tables::split_line;
 use log_search::search_text;
 use std::alloc::{AllocError, Global};
@@ -20,39 +21,45 @@ pub(crate) fn lines_text(
     alloc: Global,
     bytes: &[u8],
     log: &LinesLog,
-    search: &Search,
+    found: &LogAnswer,
 ) -> Result<Vec<u8>, AllocError>
-    ensures { IfOk result (λ text. text.items ≡ lines_text bytes.now log.now search.now) }
+    ensures { IfOk result (λ text. text.items ≡ lines_text bytes.now log.now found.now) }
 {
-    let ops = log.history.ops.as_slice();
-    let mut text = verdict_text(alloc, bytes, ops, search)?;
-    push_counts(&mut text, ops.len(), unfinished_in(ops), log.records)?;
+    let mut text = verdict_text(alloc, bytes, &log.thinned, found)?;
+    push_counts(&mut text, log.ops, log.unfinished, log.records)?;
     Ok(text)
 }
 
 fn verdict_text(
     alloc: Global,
     bytes: &[u8],
-    ops: &[Op<usize>],
-    search: &Search,
+    thinned: &Thinned,
+    found: &LogAnswer,
 ) -> Result<Vec<u8>, AllocError>
-    ensures { IfOk result (λ text. text.items ≡ verdict_text bytes.now ops.now search.now) }
+    ensures { IfOk result (λ text. text.items ≡ verdict_text bytes.now thinned.now found.now) }
 {
-    match search {
-        Search::Order(_) => Vec::from_slice(alloc, b"lawful\n"),
-        Search::Unlawful(reason) => {
-            let mut text = reason_text(alloc, *reason)?;
-            let places = places_of(alloc, *reason)?;
-            push_named(&mut text, body_of(bytes), ops, places.as_slice())?;
-            Ok(text)
-        }
+    match found {
+        LogAnswer::Lawful { .. } => Vec::from_slice(alloc, b"lawful\n"),
+        LogAnswer::Unlawful { reason } => unlawful_text(alloc, bytes, thinned, *reason),
     }
 }
 
-fn unfinished_in(ops: &[Op<usize>]) -> usize
-    ensures { result ≡ unfinished_in ops.now }
+#[tactic(auto, using(std::proofs::Common::append_assoc))]
+fn unlawful_text(
+    alloc: Global,
+    bytes: &[u8],
+    thinned: &Thinned,
+    reason: Reason,
+) -> Result<Vec<u8>, AllocError>
+    ensures { IfOk result (λ text. text.items ≡ unlawful_text bytes.now thinned.now reason) }
 {
-    ops.iter().filter(|op| op.ends.is_none()).count()
+    let ops = thinned.history.ops.as_slice();
+    let places = thinned.places.as_slice();
+    let mut text = reason_text(alloc, reason)?;
+    let named = places_of(alloc, in_kept(places, reason))?;
+    push_named(&mut text, body_of(bytes), ops, places, named.as_slice())?;
+    push_sentence(&mut text, thinned, reason)?;
+    Ok(text)
 }
 
 fn reason_text(alloc: Global, reason: Reason) -> Result<Vec<u8>, AllocError>
@@ -89,16 +96,6 @@ fn in_lines(reason: Reason) -> Result<Reason, AllocError>
     })
 }
 
-/// The line of the operation at a place. No memory holds a log that it is too large for.
-pub(crate) fn line_of(place: usize) -> Result<usize, AllocError>
-    ensures { IfOk result (λ line. line ≡ line_at place) }
-{
-    match place.checked_add(2) {
-        Some(line) => Ok(line),
-        None => Err(AllocError),
-    }
-}
-
 fn places_of(alloc: Global, reason: Reason) -> Result<Vec<usize>, AllocError>
     ensures { IfOk result (λ places. places.items ≡ places_of reason) }
 {
@@ -121,21 +118,25 @@ fn body_of(bytes: &[u8]) -> &[u8]
     }
 }
 
-/// The lines of the operations that are named.
+/// The lines of the operations that are named, of those that are kept.
 fn push_named(
     text: &mut Vec<u8>,
     body: &[u8],
     ops: &[Op<usize>],
     places: &[usize],
+    named: &[usize],
 ) -> Result<(), AllocError>
-    ensures { OnOk result (text.new.items ≡ text.old.items ++ named_text ops.now places.now 0 (lines_of body.now)) }
+    ensures { OnOk result (text.new.items
+        ≡ text.old.items ++ named_text ops.now places.now named.now 0 0 (lines_of body.now)) }
 {
     let mut rest = body;
     let mut place = 0;
+    let mut next = 0;
     'lines: while let Some((line, behind)) = split_line(rest) {
-        if is_named(ops, places, place) {
+        if is_named_next(ops, places, named, next, place) {
             push_line(text, place, line)?;
         }
+        next = next_of(places, next, place);
         rest = behind;
         place += 1;
     }

@@ -11,15 +11,14 @@ use Rattle.history_text.specs.Refusals.{◌>>=◌}
 use Rattle.fsr_runs.specs.declared.fault.Fault.{Fault}
 use Rattle.lines_tables.specs.Splits.{in_front, IsSplit, lines_of}
 use Rattle.lines_text.specs.Lines.{done, Entry, entry_of, Head, head_of, operation}
-use Rattle.lines_log.specs.Faults.{IsBodyFault, is_last, IsLineFault}
+use Rattle.lines_log.specs.Faults.{IsBodyFault, is_last, IsLineFault, IsLinesFault}
 use Rattle.lines_log.specs.Logs.{AreAll, AreLines, IsLinesLog, is_refused, judged, judged_line}
 use Rattle.std.specs.Prelude.{is_some, MatchOption, unwrap_or}
-use Rattle.std.proofs.lemmas.Option.{same_Some}
-use Rattle.history_text.specs.Histories.{one_term}
-use Rattle.lines_tables.specs.Tasks.{TakeTurns}
+use Rattle.history_thinning.specs.Thinnings.{IsThinnedLog}
 use Rattle.lines_log.specs.declared.lines_log.LinesLog.{LinesLog}
 use Rattle.lines_log.specs.inner.Readings.{IsFinished, IsRead, IsReadWhole, IsUnderWay, is_end, ReadsLine}
 use Rattle.lines_log.specs.declared.reader.Reader.{Reader}
+use Rattle.lines_log.proofs.ReadLemmas.{distinct}
 
 -- with lines behind it a line is no end
 abbrev judged_inside : Bool → ℕ → Result Entry DocError → Result (Option (Op (List ℕ))) DocError
@@ -114,27 +113,30 @@ all_read opening limited body rest reader none way = record { lines = way.lines;
 
 pub at_fault : (opening : List ℕ) (limited : Bool) (body : List (List ℕ)) (rest line behind : List ℕ) (reader : Reader) (f : Fault)
     → IsUnderWay opening limited body rest reader → IsSplit rest line behind
-    → ((lines : List (List ℕ)) → IsRead opening lines reader → IsLineFault reader.limited lines line (is_end behind) f)
-    → IsBodyFault limited body f
+    → ((lines : List (List ℕ)) → IsRead opening lines reader → IsLineFault opening reader.limited lines line (is_end behind) f)
+    → IsBodyFault opening limited body f
 at_fault opening limited body rest line behind reader f way split wrong = by_left way.left
   where
-    fill : body ≡ way.lines ++ line ∷ lines_of behind → IsBodyFault limited body f
+    fill : body ≡ way.lines ++ line ∷ lines_of behind → IsBodyFault opening limited body f
     fill here = record {
       lines = way.lines;
       line = line;
       behind = lines_of behind;
       split = here;
       records = way.read.records;
-      log = reader.ops.items;
-      are = subst (λ (b : Bool). AreLines b way.lines way.read.records reader.ops.items) way.limits way.read.are;
+      log = way.read.log;
+      are = subst (λ (b : Bool). AreLines b way.lines way.read.records way.read.log) way.limits way.read.are;
+      opened = way.read.opened;
+      distinct = distinct way.read.records reader.numbering way.read.numbering;
       turns = way.read.tasks.turn;
-      wrong = subst (λ (b : Bool). IsLineFault limited way.lines line b f) (sym (last_of_rest behind))
-          (subst (λ (b : Bool). IsLineFault b way.lines line (is_end behind) f) way.limits (wrong way.lines way.read));
+      once = way.read.kept.once;
+      wrong = subst (λ (b : Bool). IsLineFault opening limited way.lines line b f) (sym (last_of_rest behind))
+          (subst (λ (b : Bool). IsLineFault opening b way.lines line (is_end behind) f) way.limits (wrong way.lines way.read));
     }
 
     by_left : (body ≡ way.lines ++ lines_of rest)
         ⊎ ((rest ≡ []) × ((end : List ℕ) × (body ≡ way.lines ++ end ∷ []) × (judged_line limited (length way.lines) true end ≡ Ok None)))
-        → IsBodyFault limited body f
+        → IsBodyFault opening limited body f
     by_left (inl going) = fill (going ∙ ap (λ (l : List (List ℕ)). way.lines ++ l) split.lines)
     by_left (inr ended) = absurd (none_left rest line behind split ended.0)
 
@@ -146,28 +148,41 @@ none_found Q (Some x) h none = absurd (none x refl)
 -- what was read is the log
 pub assembled : (bytes first body : List ℕ) (head : Head) (limit : ℕ) (reader : Reader) (log : LinesLog) → IsSplit bytes first body
     → head_of first ≡ Ok head → reader.limited ≡ is_some head.limit → IsReadWhole head.opening (lines_of body) reader
-    → limit ≡ unwrap_or head.limit 1 → IsFinished limit reader log → IsLinesLog bytes log
+    → limit ≡ unwrap_or head.limit 1 → IsFinished limit reader log → (ops : List (Op ℕ)) × IsLinesLog bytes ops log
 assembled bytes first body head limit reader log split said limited whole limit_is finished =
     let records = whole.read.records in
-    let are : AreLines (is_some head.limit) whole.lines records reader.ops.items =
-    subst (λ (b : Bool). AreLines b whole.lines records reader.ops.items) limited whole.read.are in
-    record {
-      head = head;
-      records = records;
-      is = record {
-        header = first;
-        body = lines_of body;
-        lines = whole.lines;
-        split = split.lines;
-        said = said;
-        all = subst (λ (b : Bool). AreAll b (lines_of body) whole.lines) limited whole.all;
-        are = subst (λ (ops : List (Op ℕ)). AreLines (is_some head.limit) whole.lines records ops) (sym finished.ops) are;
-        opening = whole.read.opened;
-        distinct = λ text m n at_m at_n.
-            same_Some m n (sym (whole.read.numbering.known text m at_m) ∙ whole.read.numbering.known text n at_n);
-        turns = subst (λ (ops : List (Op ℕ)). TakeTurns ops) (sym finished.ops) whole.read.tasks.turn;
-      };
-      opening = finished.opening;
-      term = finished.term ∙ ap one_term limit_is;
-      count = finished.count records whole.read.numbering;
-    }
+    let ops : List (Op ℕ) = whole.read.log in (
+      ops,
+      record {
+        head = head;
+        records = records;
+        is = record {
+          header = first;
+          body = lines_of body;
+          lines = whole.lines;
+          split = split.lines;
+          said = said;
+          all = subst (λ (b : Bool). AreAll b (lines_of body) whole.lines) limited whole.all;
+          are = subst (λ (b : Bool). AreLines b whole.lines records ops) limited whole.read.are;
+          opening = whole.read.opened;
+          distinct = distinct records reader.numbering whole.read.numbering;
+          turns = whole.read.tasks.turn;
+        };
+        thinned = subst (λ (n : ℕ). IsThinnedLog n ops log.thinned) limit_is (finished.thinned ops whole.read.kept);
+        ops = finished.ops ∙ whole.read.count;
+        unfinished = finished.unfinished ∙ whole.read.unfinished;
+        count = finished.count records whole.read.numbering;
+      },
+    )
+
+-- a line behind the header is at fault
+pub later_fault : (bytes first body : List ℕ) (head : Head) (limited : Bool) (f : Fault) → IsSplit bytes first body → head_of first ≡ Ok head
+    → limited ≡ is_some head.limit → IsBodyFault head.opening limited (lines_of body) f → IsLinesFault bytes f
+later_fault bytes first body head limited f split said limits wrong = inr (inr (inr (record {
+  header = first;
+  body = lines_of body;
+  head = head;
+  split = split.lines;
+  said = said;
+  wrong = subst (λ (b : Bool). IsBodyFault head.opening b (lines_of body) f) limits wrong;
+})))

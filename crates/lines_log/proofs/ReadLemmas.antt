@@ -1,19 +1,30 @@
 -- One more line: its operation stands behind the others, with the number of its record.
 use Rattle.std.proofs.Common.{◌≡◌, ℕ, ◌<◌, List, [], ◌∷◌, ◌++◌, length, refl, ap, sym, ◌∙◌, arith, subst, slice_get, Some, None, Option, Ok}
-use Rattle.std.proofs.Common.{Bool, ◌⊎◌, inl, inr, length-append}
-use Rattle.std.specs.Prelude.{option_map}
-use Rattle.std.proofs.lemmas.Option.{slice_get_within}
+use Rattle.std.proofs.Common.{Bool, true, cond, ◌⊎◌, inl, inr, length-append, string_bytes, ◌+◌, ◌≤◌}
+use Rattle.std.specs.Prelude.{option_map, if◌then◌else◌, is_none, is_some, IsSome, ◌||◌, String}
+use Rattle.std.specs.declared.alloc.Global.{Global}
+use Rattle.std.proofs.lemmas.List.Sums.{count_by-le-length, sum_by-append}
+use Rattle.std.proofs.lemmas.Option.{same_Some, slice_get_within}
+use Rattle.history_core.specs.declared.history.Kind.{Kind}
+use Rattle.history_core.specs.declared.history.Kind.TheVariants.{Write, Read, Refused}
+use Rattle.history_core.specs.Orders.{is_write}
+use Rattle.history_search.specs.Reasons.{counts}
+use Rattle.history_thinning.specs.inner.Kept.{IsThinning}
+use Rattle.fsr_runs.specs.declared.fault.Fault.{Fault}
+use Rattle.fsr_runs.specs.declared.fault.Fault.TheVariants.{NoMemory}
+use Rattle.history_search.specs.declared.reason.SearchError.{SearchError}
+use Rattle.history_thinning.specs.Answers.{IsLogFault}
 use Rattle.history_core.proofs.Places.{get_pushed_cases}
 use Rattle.history_core.specs.declared.history.Op.{Op}
-use Rattle.lines_tables.specs.Numberings.{IsNumbering}
+use Rattle.lines_tables.specs.Numberings.{AreDistinct, IsNumbering}
 use Rattle.lines_tables.specs.Tasks.{KnowsTasks, Overlap}
 use Rattle.lines_tables.specs.declared.numbering.Numbering.{Numbering}
-use Rattle.lines_text.specs.Lines.{op_seen}
+use Rattle.lines_text.specs.Lines.{has_record, IsAllowed, op_seen}
 use Rattle.lines_text.specs.declared.line.LineOp.{LineOp}
-use Rattle.lines_log.specs.Faults.{IsOverlap, line_at}
-use Rattle.lines_log.specs.Logs.{AreLines, IsItem, IsNumberedOp, judged_line}
+use Rattle.lines_log.specs.Faults.{IsLineFault, IsOverlap, line_at, told_of}
+use Rattle.lines_log.specs.Logs.{AreLines, IsItem, IsNumberedOp, judged_line, unfinished_in}
 use Rattle.lines_log.specs.inner.Numbers.{Grow, IsNumberedNow}
-use Rattle.lines_log.specs.inner.Readings.{IsRead}
+use Rattle.lines_log.specs.inner.Readings.{IsEntryFault, IsRead}
 use Rattle.lines_log.specs.declared.reader.Reader.{Reader}
 
 grown_item : (records after : List (List ℕ)) → Grow records after → (said : Option (List ℕ)) (item : Option ℕ) → IsItem records said item
@@ -58,42 +69,107 @@ more_lines limited lines records after line last log said next are grows judged 
         subst (λ (k : List ℕ). judged_line limited p last k ≡ Ok (Some said)) new.1 at_place in
         (said, last, at_line, subst (λ (k : Op ℕ). IsNumberedOp after said k) also.1 is)
 
+from_zero : (n : ℕ) → 0 + n ≡ n
+from_zero n = omega arith
+
+one_unfinished : (log : List (Op ℕ)) (next : Op ℕ) → unfinished_in (log ++ next ∷ []) ≡ unfinished_in log + (if is_none next.ends then 1 else 0)
+one_unfinished log next =
+    sum_by-append (λ (o : Op ℕ). cond (is_none o.ends) 1 0) log (next ∷ [])
+    ∙ ap (λ (n : ℕ). unfinished_in log + n) (from_zero (if is_none next.ends then 1 else 0))
+
+-- fewer are unfinished than there are
+pub few_unfinished : (log : List (Op ℕ)) → unfinished_in log ≤ length log
+few_unfinished log = count_by-le-length (λ (o : Op ℕ). is_none o.ends) log
+
 -- an operation was entered
 pub entered : (opening : List ℕ) (lines : List (List ℕ)) (line : List ℕ) (last : Bool) (old new : Reader) (said : Op (List ℕ)) (next : Op ℕ)
-    → IsRead opening lines old → judged_line old.limited (length lines) last line ≡ Ok (Some said) → new.limited ≡ old.limited
-    → new.ops.items ≡ old.ops.items ++ next ∷ []
+    → (read : IsRead opening lines old) → judged_line old.limited (length lines) last line ≡ Ok (Some said) → new.limited ≡ old.limited
     → ((records : List (List ℕ)) → IsNumbering records old.numbering → IsNumberedNow records said new.numbering next)
-    → (KnowsTasks old.ops.items old.turns → KnowsTasks (old.ops.items ++ next ∷ []) new.turns)
+    → (KnowsTasks read.log old.turns → KnowsTasks (read.log ++ next ∷ []) new.turns)
+    → (IsThinning read.log old.thinner → IsThinning (read.log ++ next ∷ []) new.thinner)
+    → new.count ≡ old.count + 1 → new.unfinished ≡ old.unfinished + (if is_none next.ends then 1 else 0)
     → IsRead opening (lines ++ line ∷ []) new
-entered opening lines line last old new said next read judged limits items numbered turns =
+entered opening lines line last old new said next read judged limits numbered turns thins count unfinished =
     let now = numbered read.records read.numbering in
-    let are : AreLines old.limited (lines ++ line ∷ []) now.after (old.ops.items ++ next ∷ []) =
-    more_lines old.limited lines read.records now.after line last old.ops.items said next read.are now.grows judged now.is in
-    let limited : AreLines new.limited (lines ++ line ∷ []) now.after (old.ops.items ++ next ∷ []) =
-    subst (λ (b : Bool). AreLines b (lines ++ line ∷ []) now.after (old.ops.items ++ next ∷ [])) (sym limits) are in
+    let are : AreLines old.limited (lines ++ line ∷ []) now.after (read.log ++ next ∷ []) =
+    more_lines old.limited lines read.records now.after line last read.log said next read.are now.grows judged now.is in
     record {
       records = now.after;
-      are = subst (λ (log : List (Op ℕ)). AreLines new.limited (lines ++ line ∷ []) now.after log) (sym items) limited;
+      log = read.log ++ next ∷ [];
+      are = subst (λ (b : Bool). AreLines b (lines ++ line ∷ []) now.after (read.log ++ next ∷ [])) (sym limits) are;
       numbering = now.numbers;
       opened = now.grows 0 opening read.opened;
-      tasks = subst (λ (log : List (Op ℕ)). KnowsTasks log new.turns) (sym items) (turns read.tasks);
+      tasks = turns read.tasks;
+      kept = thins read.kept;
+      count = omega (arith, count, read.count, length-append read.log (next ∷ []));
+      unfinished = unfinished ∙ ap (λ (n : ℕ). n + (if is_none next.ends then 1 else 0)) read.unfinished ∙ sym (one_unfinished read.log next);
     }
+
+-- of records that have their numbers none stands twice
+pub distinct : (records : List (List ℕ)) (numbering : Numbering) → IsNumbering records numbering → AreDistinct records
+distinct records numbering numbers = λ text m n at_m at_n. same_Some m n (sym (numbers.known text m at_m) ∙ numbers.known text n at_n)
+
+pub entry_fault : (log : List (Op ℕ)) (error : SearchError) (f : Fault) → IsLogFault log error → (f ≡ NoMemory) ⊎ (f ≡ told_of error)
+    → IsEntryFault log f
+entry_fault log error f stands (inl none) = inl none
+entry_fault log error f stands (inr told) = inr (error, stands, told)
+
+-- with the operation the log can't be searched
+pub repeated : (opening : List ℕ) (lines : List (List ℕ)) (line : List ℕ) (last : Bool) (old : Reader) (numbering : Numbering)
+    (said : Op (List ℕ)) (next : Op ℕ) (f : Fault) → (read : IsRead opening lines old)
+    → judged_line old.limited (length lines) last line ≡ Ok (Some said)
+    → ((records : List (List ℕ)) → IsNumbering records old.numbering → IsNumberedNow records said numbering next)
+    → IsEntryFault (read.log ++ next ∷ []) f → IsLineFault opening old.limited lines line last f
+repeated opening lines line last old numbering said next f read judged numbered (inl none) = inl none
+repeated opening lines line last old numbering said next f read judged numbered (inr fault) =
+    let now = numbered read.records read.numbering in
+    inr (inr (inr (record {
+      records = now.after;
+      log = read.log ++ next ∷ [];
+      error = fault.0;
+      are = more_lines old.limited lines read.records now.after line last read.log said next read.are now.grows judged now.is;
+      opened = now.grows 0 opening read.opened;
+      distinct = distinct now.after numbering now.numbers;
+      stands = fault.1;
+      told = fault.2;
+    })))
+
+has_item : (kind : Kind) (ends : Option ℕ) (said : Option (List ℕ)) (records : List (List ℕ)) (item : Option ℕ)
+    → has_record kind ends (is_some said) ≡ true → IsItem records said item → (is_some ends || is_write kind) ≡ true → IsSome item
+has_item kind ends said records (Some n) may is counted = refl
+has_item kind ends (Some text) records None may is counted = absurd is
+has_item kind (Some end) None records None may is counted = cc
+has_item Write None None records None may is counted = cc
+has_item Read None None records None may is counted = cc
+has_item Refused None None records None may is counted = cc
+
+as_there : (o : Option (String Global)) → is_some (option_map string_bytes o) ≡ is_some o
+as_there None = refl
+as_there (Some text) = refl
+
+-- an operation that counts has a record
+pub item_there : (records : List (List ℕ)) (o : LineOp) (op : Op ℕ) → IsAllowed o → IsNumberedOp records (op_seen o) op → counts op ≡ true
+    → IsSome op.item
+item_there records o op may is counted =
+    has_item o.kind o.end (option_map string_bytes o.«record») records op.item
+    (ap (has_record o.kind o.end) (as_there o.«record») ∙ may.recorded) is.item
+    (ap (λ (e : Option ℕ). is_some e || is_write o.kind) (sym is.ends) ∙ ap (λ (k : Kind). is_some op.ends || is_write k) (sym is.kind) ∙ counted)
 
 -- an operation overlaps one of its task
 pub overlapped : (opening : List ℕ) (lines : List (List ℕ)) (line : List ℕ) (last : Bool) (old : Reader) (numbering : Numbering)
-    (said : Op (List ℕ)) (next : Op ℕ) (place first second : ℕ) → IsRead opening lines old
+    (said : Op (List ℕ)) (next : Op ℕ) (place first second : ℕ) → (read : IsRead opening lines old)
     → judged_line old.limited (length lines) last line ≡ Ok (Some said)
     → ((records : List (List ℕ)) → IsNumbering records old.numbering → IsNumberedNow records said numbering next)
-    → Overlap old.ops.items next place → first ≡ line_at place → second ≡ line_at (length old.ops.items)
+    → Overlap read.log next place → first ≡ line_at place → second ≡ line_at (length read.log)
     → IsOverlap old.limited lines line next.who first second
 overlapped opening lines line last old numbering said next place first second read judged numbered overlap at_first at_second =
     let now = numbered read.records read.numbering in
     record {
       records = now.after;
-      log = old.ops.items;
+      log = read.log;
       next = next;
       place = place;
-      are = more_lines old.limited lines read.records now.after line last old.ops.items said next read.are now.grows judged now.is;
+      are = more_lines old.limited lines read.records now.after line last read.log said next read.are now.grows judged now.is;
       task = refl;
       overlap = overlap;
       first_line = at_first;

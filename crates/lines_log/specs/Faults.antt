@@ -1,12 +1,18 @@
 -- Why lines stand for no log: the first line at fault, and why. The lines before it are all right (this project's own).
-use Rattle.std.specs.Prelude.{◌≡◌, ℕ, ◌+◌, ◌⊎◌, true, false, List, [], ◌∷◌, ◌++◌, length, Bool, is_some, Ok, Err}
+use Rattle.std.specs.Prelude.{◌≡◌, ℕ, ◌+◌, ◌⊎◌, true, false, List, [], ◌∷◌, ◌++◌, length, Bool, is_some, slice_get, Some, Ok, Err}
 use Rattle.history_core.specs.declared.history.Op.{Op}
+use Rattle.history_search.specs.Searches.{WritesOnce}
+use Rattle.history_search.specs.declared.reason.SearchError.{SearchError}
+use Rattle.history_search.specs.declared.reason.SearchError.TheVariants as search_error
+use Rattle.history_thinning.specs.Answers.{IsLogFault}
+use Rattle.history_thinning.specs.Thinnings.{Equal}
 use Rattle.fsr_refusals.specs.declared.refusal.DocError.{DocError}
 use Rattle.fsr_refusals.specs.declared.refusal.DocError.TheVariants.{Law, NoMemory as no_memory, NotJson}
 use Rattle.fsr_refusals.specs.declared.key.Key.TheVariants.{End}
 use Rattle.fsr_runs.specs.declared.fault.Fault.{Fault}
 use Rattle.fsr_runs.specs.declared.fault.Fault.TheVariants as fault
-use Rattle.fsr_runs.specs.declared.fault.LinesFault.TheVariants.{Refused, Backwards, Overlaps}
+use Rattle.fsr_runs.specs.declared.fault.LinesFault.TheVariants.{Refused, Backwards, Overlaps, WritesOpening, WritesTwice}
+use Rattle.lines_tables.specs.Numberings.{AreDistinct}
 use Rattle.lines_tables.specs.Splits.{lines_of}
 use Rattle.lines_tables.specs.Tasks.{Overlap, TakeTurns}
 use Rattle.lines_text.specs.Lines.{Head, head_of}
@@ -34,6 +40,25 @@ pub record IsOverlap (limited : Bool) (lines : List (List ℕ)) (line : List ℕ
   pub first_line : first ≡ line_at place
   pub second_line : second ≡ line_at (length log)
 
+-- how it is told that a log can't be searched
+abbrev pub told_of : SearchError → Fault
+told_of search_error.NoMemory = fault.NoMemory
+told_of search_error.Terms = fault.NoMemory
+told_of (search_error.Backwards place) = fault.Lines (Backwards (line_at place))
+told_of (search_error.WritesOpening place) = fault.Lines (WritesOpening (line_at place))
+told_of (search_error.WritesTwice first second) = fault.Lines (WritesTwice (line_at first) (line_at second))
+
+-- with the operation of this line the log can't be searched: it writes a record that another one writes, or the opening
+pub record IsRepeat (opening : List ℕ) (limited : Bool) (lines : List (List ℕ)) (line : List ℕ) (f : Fault) : Type 0 where
+  pub records : List (List ℕ)
+  pub log : List (Op ℕ)
+  pub error : SearchError
+  pub are : AreLines limited (lines ++ line ∷ []) records log
+  pub opened : slice_get records 0 ≡ Some opening
+  pub distinct : AreDistinct records
+  pub stands : IsLogFault log error
+  pub told : f ≡ told_of error
+
 -- a line behind these is refused
 abbrev pub IsRefusedLine : Bool → List (List ℕ) → List ℕ → Bool → Fault → Type 0
 IsRefusedLine limited lines line last f =
@@ -45,9 +70,10 @@ IsOverlapped limited lines line f =
     (who : ℕ) × (first : ℕ) × (second : ℕ) × (f ≡ fault.Lines (Overlaps who first second)) × IsOverlap limited lines line who first second
 
 -- the fault of a line behind these, unless memory ran out
-abbrev pub IsLineFault : Bool → List (List ℕ) → List ℕ → Bool → Fault → Type 0
-IsLineFault limited lines line last f =
-    (f ≡ fault.NoMemory) ⊎ (IsRefusedLine limited lines line last f ⊎ IsOverlapped limited lines line f)
+abbrev pub IsLineFault : List ℕ → Bool → List (List ℕ) → List ℕ → Bool → Fault → Type 0
+IsLineFault opening limited lines line last f =
+    (f ≡ fault.NoMemory)
+    ⊎ (IsRefusedLine limited lines line last f ⊎ (IsOverlapped limited lines line f ⊎ IsRepeat opening limited lines line f))
 
 -- whether no line follows
 abbrev pub is_last : List (List ℕ) → Bool
@@ -55,7 +81,7 @@ is_last [] = true
 is_last (line ∷ lines) = false
 
 -- the first line at fault among these behind the header
-pub record IsBodyFault (limited : Bool) (body : List (List ℕ)) (f : Fault) : Type 0 where
+pub record IsBodyFault (opening : List ℕ) (limited : Bool) (body : List (List ℕ)) (f : Fault) : Type 0 where
   pub lines : List (List ℕ)
   pub line : List ℕ
   pub behind : List (List ℕ)
@@ -63,8 +89,11 @@ pub record IsBodyFault (limited : Bool) (body : List (List ℕ)) (f : Fault) : T
   pub records : List (List ℕ)
   pub log : List (Op ℕ)
   pub are : AreLines limited lines records log
+  pub opened : slice_get records 0 ≡ Some opening
+  pub distinct : AreDistinct records
   pub turns : TakeTurns log
-  pub wrong : IsLineFault limited lines line (is_last behind) f
+  pub once : (n : ℕ) → WritesOnce Equal 0 log n
+  pub wrong : IsLineFault opening limited lines line (is_last behind) f
 
 -- the header is at fault
 pub record IsHeaderFault (bytes : List ℕ) (f : Fault) : Type 0 where
@@ -82,7 +111,7 @@ pub record IsLaterFault (bytes : List ℕ) (f : Fault) : Type 0 where
   pub head : Head
   pub split : lines_of bytes ≡ header ∷ body
   pub said : head_of header ≡ Ok head
-  pub wrong : IsBodyFault (is_some head.limit) body f
+  pub wrong : IsBodyFault head.opening (is_some head.limit) body f
 
 -- the fault of a text, unless memory ran out
 abbrev pub IsLinesFault : List ℕ → Fault → Type 0

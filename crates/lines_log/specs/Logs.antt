@@ -1,14 +1,15 @@
 -- The log that lines stand for: an operation a line, and a number for each record (this project's own).
 use Rattle.std.specs.Prelude.{◌≡◌, ℕ, ◌==◌, List, [], ◌∷◌, ◌++◌, ◌⊎◌, length, Bool, true, false, ◌||◌, not, if◌then◌else◌, slice_get}
-use Rattle.std.specs.Prelude.{Option, None, Some, is_some, unwrap_or, Result, Ok, Err}
+use Rattle.std.specs.Prelude.{Option, None, Some, is_none, is_some, unwrap_or, Result, Ok, Err}
+use Rattle.std.specs.List.{count_by}
 use Rattle.history_core.specs.declared.history.Kind.{Kind}
 use Rattle.history_core.specs.declared.history.Kind.TheVariants.{Write, Read, Refused}
 use Rattle.history_core.specs.declared.history.Op.{Op}
-use Rattle.history_text.specs.Histories.{one_term}
 use Rattle.fsr_refusals.specs.declared.refusal.DocError.{DocError}
 use Rattle.fsr_refusals.specs.declared.refusal.DocError.TheVariants.{Law, Missing, Shape}
 use Rattle.fsr_refusals.specs.declared.key.Key.TheVariants as key
 use Rattle.history_text.specs.Refusals.{◌>>=◌}
+use Rattle.history_thinning.specs.Thinnings.{IsThinnedLog}
 use Rattle.lines_log.specs.declared.lines_log.LinesLog.{LinesLog}
 use Rattle.lines_tables.specs.Numberings.{AreDistinct}
 use Rattle.lines_tables.specs.Splits.{lines_of}
@@ -69,11 +70,15 @@ pub record IsLog (bytes : List ℕ) (head : Head) (records : List (List ℕ)) (l
   pub distinct : AreDistinct records
   pub turns : TakeTurns log
 
--- what is to be searched: this log, whose opening is record 0, in one term; and how many records there are
-pub record IsLinesLog (bytes : List ℕ) (read : LinesLog) : Type 0 where
+abbrev pub unfinished_in : List (Op ℕ) → ℕ
+unfinished_in ops = count_by (λ o. is_none o.ends) ops
+
+-- what is kept of this log: few of its operations, under the header's limit, and three counts
+pub record IsLinesLog (bytes : List ℕ) (log : List (Op ℕ)) (read : LinesLog) : Type 0 where
   pub head : Head
   pub records : List (List ℕ)
-  pub is : IsLog bytes head records read.history.ops
-  pub opening : read.history.opening ≡ 0
-  pub term : read.history.terms ≡ one_term (unwrap_or head.limit 1)
+  pub is : IsLog bytes head records log
+  pub thinned : IsThinnedLog (unwrap_or head.limit 1) log read.thinned
+  pub ops : read.ops ≡ length log
+  pub unfinished : read.unfinished ≡ unfinished_in log
   pub count : read.records ≡ length records

@@ -1,9 +1,12 @@
 //! How faults are told.
-ghost use Rattle.std.specs.Prelude.{◌≡◌, ◌<◌, ◌+◌, ◌^◌};
-ghost use Rattle.lines_log.specs.Faults.{line_at, refused_at};
+ghost use Rattle.std.specs.Prelude.{◌≡◌, ◌<◌, ◌+◌, ◌^◌, ◌⊎◌, IfOk};
+ghost use Rattle.fsr_runs.specs.declared.fault.Fault.TheVariants.{NoMemory};
+ghost use Rattle.lines_log.specs.Faults.{line_at, refused_at, told_of};
 
 use fsr_runs::{Fault, LinesFault};
+use history_search::SearchError;
 use history_text::{DocError, Key};
+use std::alloc::AllocError;
 
 /// The line of the operation at a place.
 pub(crate) fn line_at(place: usize) -> usize
@@ -11,6 +14,16 @@ pub(crate) fn line_at(place: usize) -> usize
     ensures { result ≡ line_at place }
 {
     place + 2
+}
+
+/// The same of any place. No memory holds a log that it is too large for.
+pub fn line_of(place: usize) -> Result<usize, AllocError>
+    ensures { IfOk result (λ line. line ≡ line_at place) }
+{
+    match place.checked_add(2) {
+        Some(line) => Ok(line),
+        None => Err(AllocError),
+    }
 }
 
 /// How a refusal of this line is told.
@@ -21,5 +34,36 @@ pub(crate) fn refused_at(line: usize, why: DocError) -> Fault
         DocError::Law(Key::End) => Fault::Lines(LinesFault::Backwards { line }),
         DocError::NoMemory => Fault::NoMemory,
         _ => Fault::Lines(LinesFault::Refused { line, why }),
+    }
+}
+
+/// How it is told that a log can't be searched. Its one term is never in the way.
+pub(crate) fn told_of(error: SearchError) -> Fault
+    ensures { (result ≡ NoMemory) ⊎ (result ≡ told_of error) }
+{
+    match told(error) {
+        Ok(fault) => fault,
+        Err(_) => Fault::NoMemory,
+    }
+}
+
+fn told(error: SearchError) -> Result<Fault, AllocError>
+    ensures { IfOk result (λ fault. fault ≡ told_of error) }
+{
+    match error {
+        SearchError::NoMemory | SearchError::Terms => Ok(Fault::NoMemory),
+        SearchError::Backwards { place } => {
+            let line = line_of(place)?;
+            Ok(Fault::Lines(LinesFault::Backwards { line }))
+        }
+        SearchError::WritesOpening { place } => {
+            let line = line_of(place)?;
+            Ok(Fault::Lines(LinesFault::WritesOpening { line }))
+        }
+        SearchError::WritesTwice { first, second } => {
+            let first = line_of(first)?;
+            let second = line_of(second)?;
+            Ok(Fault::Lines(LinesFault::WritesTwice { first, second }))
+        }
     }
 }

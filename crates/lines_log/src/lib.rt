@@ -1,4 +1,4 @@
-//! The reader of a log in lines: from bytes to a history whose records are numbers, or the first line at fault.
+//! The reader of a log in lines: from bytes to the few operations that are kept of it, whose records are numbers, or the first line at fault.
 #![tactic(auto)]
 
 mod faults;
@@ -7,6 +7,8 @@ mod lines_log;
 mod log;
 mod number;
 mod reader;
+mod thin;
 
+pub use faults::line_of;
 pub use lines_log::LinesLog;
 pub use log::read_lines;

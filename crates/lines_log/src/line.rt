@@ -1,8 +1,8 @@
 //! One line behind the header.
-ghost use Rattle.std.specs.Prelude.{◌≡◌, true, IfOk, IfSome, option_map};
+ghost use Rattle.std.specs.Prelude.{true, IfOk, IfSome, option_map};
 ghost use Rattle.history_text.specs.Refusals.{Gives};
 ghost use Rattle.lines_log.specs.Logs.{judged, judged_line};
-ghost use Rattle.lines_text.specs.Lines.{done, ends_later, operation, op_seen};
+ghost use Rattle.lines_text.specs.Lines.{done, IsAllowed, operation, op_seen};
 
 use history_core::Kind;
 use history_text::{DocError, Key};
@@ -18,7 +18,7 @@ pub(crate) fn read_op(
     bytes: &[u8],
 ) -> Result<Option<LineOp>, DocError>
     ensures said { Gives (option_map op_seen) result (judged_line limited count last bytes.now) }
-    ensures forwards { IfOk result (λ found. IfSome found (λ op. ends_later op.begin op.end ≡ true)) }
+    ensures allowed { IfOk result (λ found. IfSome found IsAllowed) }
 {
     let line = read_line(alloc, bytes)?;
     match line {
@@ -28,9 +28,9 @@ pub(crate) fn read_op(
 }
 
 fn judged_op(limited: bool, op: LineOp) -> Result<Option<LineOp>, DocError>
-    requires { ends_later op.begin op.end ≡ true }
+    requires { IsAllowed op }
     ensures said { Gives (option_map op_seen) result (judged limited 0 true (operation (op_seen op))) }
-    ensures forwards { IfOk result (λ found. IfSome found (λ op. ends_later op.begin op.end ≡ true)) }
+    ensures allowed { IfOk result (λ found. IfSome found IsAllowed) }
 {
     if limited || op.kind != Kind::Refused {
         Ok(Some(op))
@@ -41,7 +41,7 @@ fn judged_op(limited: bool, op: LineOp) -> Result<Option<LineOp>, DocError>
 
 fn judged_end(ops: usize, count: usize, last: bool) -> Result<Option<LineOp>, DocError>
     ensures said { Gives (option_map op_seen) result (judged true count last (done ops)) }
-    ensures forwards { IfOk result (λ found. IfSome found (λ op. ends_later op.begin op.end ≡ true)) }
+    ensures allowed { IfOk result (λ found. IfSome found IsAllowed) }
 {
     if !last {
         Err(DocError::Shape(Key::Kind))

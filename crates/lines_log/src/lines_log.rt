@@ -1,10 +1,14 @@
-use history_core::History;
+use history_thinning::Thinned;
 
-/// The log that lines stand for. The operation at place p stands on line p + 2.
+/// What is kept of the log that lines stand for. The operation at place p of the log stands on line p + 2.
 #[derive(Drop)]
 pub struct LinesLog {
-    /// Its records are numbers, and 0 is the opening.
-    pub history: History<usize>,
+    /// At most four operations of each record. Records are numbers, and 0 is the opening.
+    pub thinned: Thinned,
+    /// How many operations there are.
+    pub ops: usize,
+    /// How many of them are unfinished.
+    pub unfinished: usize,
     /// How many records there are, the opening among them.
     pub records: usize,
 }

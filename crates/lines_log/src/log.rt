@@ -1,26 +1,27 @@
 //! From bytes to the log that they stand for.
 ghost use Rattle.std.specs.Prelude.{◌≡◌, ◌<◌, ◌+◌, ◌^◌, ℕ, List, [], length, IfErr, IfOk, OnOk};
+ghost use Rattle.history_core.specs.declared.history.Op.{Op};
 ghost use Rattle.lines_log.specs.Faults.{IsBodyFault, IsLinesFault};
 ghost use Rattle.lines_log.specs.Logs.{IsLinesLog};
 ghost use Rattle.lines_log.specs.inner.Readings.{is_end, IsFinished, IsRead, IsReadWhole};
+ghost use Rattle.lines_tables.specs.Numberings.{IsNumbering};
 ghost use Rattle.lines_tables.specs.Splits.{lines_of};
 
 use crate::faults::refused_at;
 use crate::lines_log::LinesLog;
 use crate::reader::Reader;
 use fsr_runs::Fault;
-use history_core::{History, Items};
-use history_text::{DocError, one_term};
-use lines_tables::split_line;
+use history_text::DocError;
+use lines_tables::{Numbering, split_line};
 use lines_text::read_header;
 use std::alloc::{AllocError, Global};
 
 /// The line of the header.
 const HEADER: usize = 1;
 
-/// The log that the bytes stand for, or the first line at fault. Writes of one record are left to the search.
+/// What is kept of the log that the bytes stand for, or the first line at fault.
 pub fn read_lines(alloc: Global, bytes: &[u8]) -> Result<LinesLog, Fault>
-    ensures log { IfOk result (IsLinesLog bytes.now) }
+    ensures log { IfOk result (λ read. (log : List (Op ℕ)) × IsLinesLog bytes.now log read) }
     ensures fault { IfErr result (IsLinesFault bytes.now) }
 {
     let Some((first, body)) = split_line(bytes) else {
@@ -47,12 +48,13 @@ pub fn read_lines(alloc: Global, bytes: &[u8]) -> Result<LinesLog, Fault>
 
 /// Reads the lines behind the header.
 fn read_body(alloc: Global, reader: &mut Reader, body: &[u8]) -> Result<(), Fault>
-    requires room { length reader.old.ops.items + length body.now + 1 < 2 ^ 64 }
+    requires room { reader.old.count + length body.now + 1 < 2 ^ 64 }
     requires known { (opening : List ℕ) × IsRead opening [] reader.old }
     ensures read { OnOk result ((opening : List ℕ) → IsRead opening [] reader.old →
         IsReadWhole opening (lines_of body.now) reader.new) }
     ensures limited { OnOk result (reader.new.limited ≡ reader.old.limited) }
-    ensures fault { IfErr result (IsBodyFault reader.old.limited (lines_of body.now)) }
+    ensures fault { IfErr result (λ fault. (opening : List ℕ) → IsRead opening [] reader.old →
+        IsBodyFault opening reader.old.limited (lines_of body.now) fault) }
 {
     let mut rest = body;
     'lines: while let Some((line, behind)) = split_line(rest) {
@@ -72,17 +74,30 @@ fn is_end(rest: &[u8]) -> bool
     rest.is_empty()
 }
 
+/// What is kept. The numbers' memory is given back first.
 fn finish(alloc: Global, limit: u64, reader: Reader) -> Result<LinesLog, AllocError>
     ensures { IfOk result (IsFinished limit reader) }
 {
-    let records = reader.numbering.count();
-    let terms = one_term(alloc, limit)?;
+    let Reader {
+        numbering,
+        thinner,
+        count,
+        unfinished,
+        ..
+    } = reader;
+    let records = counted(numbering);
+    let thinned = thinner.finish(alloc, limit)?;
     Ok(LinesLog {
-        history: History {
-            opening: 0,
-            terms,
-            ops: Items::new(reader.ops),
-        },
+        thinned,
+        ops: count,
+        unfinished,
         records,
     })
+}
+
+/// How many records there are.
+fn counted(numbering: Numbering) -> usize
+    ensures { (records : List (List ℕ)) → IsNumbering records numbering → result ≡ length records }
+{
+    numbering.count()
 }

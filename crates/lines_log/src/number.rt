@@ -1,5 +1,5 @@
 //! Numbers in place of records.
-ghost use Rattle.std.specs.Prelude.{ℕ, List, option_map, IfOk, string_bytes};
+ghost use Rattle.std.specs.Prelude.{◌≡◌, ℕ, List, option_map, IfOk, string_bytes};
 ghost use Rattle.lines_tables.specs.Numberings.{IsNumbering};
 ghost use Rattle.lines_log.specs.inner.Numbers.{IsNumberedNow, IsRecordNow};
 ghost use Rattle.lines_text.specs.Lines.{op_seen};
@@ -40,9 +40,18 @@ fn number_record(
 {
     match text {
         Some(text) => {
-            let number = numbering.number(text)?;
+            let number = numbering.number(fitted(text))?;
             Ok(Some(number))
         }
         None => Ok(None),
     }
+}
+
+/// The same text without room for more.
+fn fitted(text: String) -> String
+    ensures { string_bytes result ≡ string_bytes text }
+{
+    let mut fitted = text;
+    fitted.shrink_to_fit();
+    fitted
 }

@@ -2,13 +2,14 @@
 ghost use Rattle.std.specs.Prelude.{◌≡◌, ◌<◌, ◌≤◌, Bool, Ok, Some, option_map, ◌+◌, ◌^◌, ◌++◌, ◌∷◌, [], ℕ, List, true, length, is_some, IfErr, IfOk, OnOk, string_bytes};
 ghost use Rattle.lines_log.specs.Faults.{IsLineFault};
 ghost use Rattle.lines_log.specs.Logs.{judged_line};
-ghost use Rattle.lines_text.specs.Lines.{ends_later, op_seen};
+ghost use Rattle.lines_text.specs.Lines.{IsAllowed, op_seen};
 
 use crate::faults::{line_at, refused_at};
 use crate::line::read_op;
 use crate::number::number_op;
+use crate::thin::{thin, with_unfinished};
 use fsr_runs::{Fault, LinesFault};
-use history_core::Op;
+use history_thinning::Thinner;
 use lines_tables::{Numbering, TurnError, Turns};
 use lines_text::{LineOp, LogHeader};
 use std::alloc::{AllocError, Global};
@@ -20,7 +21,11 @@ pub(crate) struct Reader {
     pub limited: bool,
     pub numbering: Numbering,
     pub turns: Turns,
-    pub ops: Vec<Op<usize>>,
+    pub thinner: Thinner,
+    /// How many operations there were.
+    pub count: usize,
+    /// How many of them are unfinished.
+    pub unfinished: usize,
 }
 
 impl Reader {
@@ -30,6 +35,7 @@ impl Reader {
     pub fn new(alloc: Global, header: LogHeader) -> Result<Reader, AllocError>
         ensures read { IfOk result (IsRead (string_bytes header.opening) []) }
         ensures limited { IfOk result (λ reader. reader.limited ≡ is_some header.limit) }
+        ensures none { IfOk result (λ reader. reader.count ≡ 0) }
     {
         let limited = header.limit.is_some();
         let numbering = Numbering::new(alloc, header.opening)?;
@@ -37,22 +43,24 @@ impl Reader {
             limited,
             numbering,
             turns: Turns::new(alloc),
-            ops: Vec::new(alloc),
+            thinner: Thinner::new(alloc),
+            count: 0,
+            unfinished: 0,
         })
     }
 
     /// Reads the next line, behind which another one stands or not.
     pub fn read(&mut self, alloc: Global, bytes: &[u8], last: bool) -> Result<(), Fault>
-        requires room { length self.old.ops.items + 2 < 2 ^ 64 }
+        requires room { self.old.count + 2 < 2 ^ 64 }
         requires known { HasRead self.old }
         ensures read { OnOk result ((opening : List ℕ) (lines : List (List ℕ)) → IsRead opening lines self.old →
             ReadsLine opening lines bytes.now last self.old self.new) }
         ensures limited { OnOk result (self.new.limited ≡ self.old.limited) }
-        ensures grows { OnOk result (length self.new.ops.items ≤ length self.old.ops.items + 1) }
+        ensures grows { OnOk result (self.new.count ≤ self.old.count + 1) }
         ensures fault { IfErr result (λ fault. (opening : List ℕ) (lines : List (List ℕ)) → IsRead opening lines self.old →
-            IsLineFault self.old.limited lines bytes.now last fault) }
+            IsLineFault opening self.old.limited lines bytes.now last fault) }
     {
-        let place = self.ops.len();
+        let place = self.count;
         match read_op(alloc, self.limited, place, last, bytes) {
             Ok(Some(op)) => self.enter(op),
             Ok(None) => Ok(()),
@@ -62,27 +70,31 @@ impl Reader {
 
     /// Enters the operation of the next line.
     fn enter(&mut self, op: LineOp) -> Result<(), Fault>
-        requires forwards { ends_later op.begin op.end ≡ true }
-        requires room { length self.old.ops.items + 2 < 2 ^ 64 }
+        requires allowed { IsAllowed op }
+        requires room { self.old.count + 2 < 2 ^ 64 }
         requires known { HasRead self.old }
         ensures entered { OnOk result ((opening : List ℕ) (lines : List (List ℕ)) (line : List ℕ) (last : Bool) →
             IsRead opening lines self.old → judged_line self.old.limited (length lines) last line ≡ Ok (Some (op_seen op)) →
             IsRead opening (lines ++ line ∷ []) self.new) }
         ensures limited { OnOk result (self.new.limited ≡ self.old.limited) }
-        ensures grows { OnOk result (length self.new.ops.items ≤ length self.old.ops.items + 1) }
+        ensures grows { OnOk result (self.new.count ≤ self.old.count + 1) }
         ensures fault { IfErr result (λ fault. (opening : List ℕ) (lines : List (List ℕ)) (line : List ℕ) (last : Bool) →
             IsRead opening lines self.old → judged_line self.old.limited (length lines) last line ≡ Ok (Some (op_seen op)) →
-            IsLineFault self.old.limited lines line last fault) }
+            IsLineFault opening self.old.limited lines line last fault) }
     {
-        let place = self.ops.len();
+        let place = self.count;
         let next = match number_op(&mut self.numbering, op) {
             Ok(next) => next,
             Err(_) => return Err(Fault::NoMemory),
         };
         match self.turns.enter(&next, place) {
-            Ok(()) => match self.ops.push(next) {
-                Ok(()) => Ok(()),
-                Err(_) => Err(Fault::NoMemory),
+            Ok(()) => match thin(&mut self.thinner, next, place) {
+                Ok(()) => {
+                    self.count = place + 1;
+                    self.unfinished = with_unfinished(self.unfinished, next.ends);
+                    Ok(())
+                }
+                Err(fault) => Err(fault),
             },
             Err(TurnError::Overlaps { first }) => Err(Fault::Lines(LinesFault::Overlaps {
                 who: next.who,

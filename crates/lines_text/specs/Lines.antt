@@ -52,10 +52,14 @@ ends_later begin ends = option_map_or (λ end. nat_le begin end) ends true
 abbrev pub has_record : Kind → Option ℕ → Bool → Bool
 has_record kind ends there = there || (not (is_some ends) && not (is_write kind))
 
--- the same of what was read
-abbrev pub RunsForwards : LogLine → Type 0
-RunsForwards (Operation o) = ends_later o.begin o.end ≡ true
-RunsForwards (Done ops) = Unit {0}
+-- the same of an operation that was read
+pub record IsAllowed (o : LineOp) : Type 0 where
+  pub forwards : ends_later o.begin o.end ≡ true
+  pub recorded : has_record o.kind o.end (is_some o.«record») ≡ true
+
+abbrev pub MayStand : LogLine → Type 0
+MayStand (Operation o) = IsAllowed o
+MayStand (Done ops) = Unit {0}
 
 unfoldable pub allowed : Kind → ℕ → Option ℕ → Bool → Result ⊤ DocError
 allowed kind begin ends there = do

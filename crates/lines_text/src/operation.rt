@@ -2,7 +2,7 @@
 ghost use Rattle.std.specs.Prelude.{◌≡◌, true, option_map, is_some, string_bytes, IfOk, OnOk};
 ghost use Rattle.serde_json.specs.View.{view};
 ghost use Rattle.history_text.specs.Refusals.{Gives};
-ghost use Rattle.lines_text.specs.Lines.{allowed, done_in, ends_later, entry_in, entry_of, has_record, line_seen, op_seen, operation_in, record_in, RunsForwards};
+ghost use Rattle.lines_text.specs.Lines.{allowed, done_in, ends_later, entry_in, entry_of, has_record, line_seen, IsAllowed, MayStand, op_seen, operation_in, record_in};
 
 use crate::line::{LineOp, LogLine};
 use crate::record::record_text;
@@ -17,7 +17,7 @@ use std::alloc::Global;
 #[tactic(auto, unfolding(crate::specs::Lines::entry_of))]
 pub fn read_line(alloc: Global, bytes: &[u8]) -> Result<LogLine, DocError>
     ensures said { Gives line_seen result (entry_of bytes.now) }
-    ensures forwards { IfOk result RunsForwards }
+    ensures allowed { IfOk result MayStand }
 {
     let value = read_value(alloc, bytes)?;
     line_in(alloc, &value)
@@ -26,7 +26,7 @@ pub fn read_line(alloc: Global, bytes: &[u8]) -> Result<LogLine, DocError>
 #[tactic(auto, unfolding(crate::specs::Lines::entry_in))]
 fn line_in(alloc: Global, value: &Value) -> Result<LogLine, DocError>
     ensures said { Gives line_seen result (entry_in (view value.now)) }
-    ensures forwards { IfOk result RunsForwards }
+    ensures allowed { IfOk result MayStand }
 {
     if is_kind(value, "done") {
         let ops = done_in(alloc, value)?;
@@ -48,7 +48,7 @@ fn done_in(alloc: Global, value: &Value) -> Result<usize, DocError>
 #[tactic(auto, unfolding(crate::specs::Lines::operation_in))]
 fn operation_in(alloc: Global, value: &Value) -> Result<LineOp, DocError>
     ensures said { Gives op_seen result (operation_in (view value.now)) }
-    ensures forwards { IfOk result (λ op. ends_later op.begin op.end ≡ true) }
+    ensures allowed { IfOk result IsAllowed }
 {
     required(
         value,
@@ -83,12 +83,13 @@ fn record_in(alloc: Global, value: &Value) -> Result<Option<String>, DocError>
 }
 
 #[tactic(auto, unfolding(crate::specs::Lines::allowed))]
-fn allowed(kind: Kind, begin: u64, end: Option<u64>, has_record: bool) -> Result<(), DocError>
-    ensures allowed { result ≡ allowed kind begin end has_record }
+fn allowed(kind: Kind, begin: u64, end: Option<u64>, there: bool) -> Result<(), DocError>
+    ensures allowed { result ≡ allowed kind begin end there }
     ensures forwards { OnOk result (ends_later begin end ≡ true) }
+    ensures recorded { OnOk result (has_record kind end there ≡ true) }
 {
     must(ends_later(begin, end), DocError::Law(Key::End))?;
-    must(may_have(kind, end, has_record), DocError::Law(Key::Record))
+    must(may_have(kind, end, there), DocError::Law(Key::Record))
 }
 
 fn ends_later(begin: u64, end: Option<u64>) -> bool

@@ -3,18 +3,33 @@ use Rattle.std.specs.Prelude.{◌≡◌, ℕ, List, [], ◌∷◌, ◌++◌, ◌
 use Rattle.lines_tables.specs.Numberings.{IsNumbering}
 use Rattle.lines_tables.specs.Splits.{lines_of}
 use Rattle.lines_tables.specs.Tasks.{KnowsTasks}
-use Rattle.lines_log.specs.Logs.{AreAll, AreLines, judged_line}
-use Rattle.history_text.specs.Histories.{one_term}
+use Rattle.lines_log.specs.Logs.{AreAll, AreLines, judged_line, unfinished_in}
+use Rattle.history_core.specs.declared.history.Op.{Op}
+use Rattle.history_search.specs.declared.reason.SearchError.{SearchError}
+use Rattle.history_thinning.specs.Answers.{IsLogFault}
+use Rattle.history_thinning.specs.Thinnings.{IsThinnedLog}
+use Rattle.history_thinning.specs.inner.Kept.{IsThinning}
+use Rattle.fsr_runs.specs.declared.fault.Fault.{Fault}
+use Rattle.fsr_runs.specs.declared.fault.Fault.TheVariants.{NoMemory}
+use Rattle.lines_log.specs.Faults.{told_of}
 use Rattle.lines_log.specs.declared.lines_log.LinesLog.{LinesLog}
 use Rattle.lines_log.specs.declared.reader.Reader.{Reader}
 
 -- these lines were read
 pub record IsRead (opening : List ℕ) (lines : List (List ℕ)) (reader : Reader) : Type 0 where
   pub records : List (List ℕ)
-  pub are : AreLines reader.limited lines records reader.ops.items
+  pub log : List (Op ℕ)
+  pub are : AreLines reader.limited lines records log
   pub numbering : IsNumbering records reader.numbering
   pub opened : slice_get records 0 ≡ Some opening
-  pub tasks : KnowsTasks reader.ops.items reader.turns
+  pub tasks : KnowsTasks log reader.turns
+  pub kept : IsThinning log reader.thinner
+  pub count : reader.count ≡ length log
+  pub unfinished : reader.unfinished ≡ unfinished_in log
+
+-- why an operation isn't entered, with which the log is this one, unless memory ran out
+abbrev pub IsEntryFault : List (Op ℕ) → Fault → Type 0
+IsEntryFault log f = (f ≡ NoMemory) ⊎ ((error : SearchError) × IsLogFault log error × (f ≡ told_of error))
 
 -- one more line was read: an operation was entered, or it is the end
 abbrev pub ReadsLine : List ℕ → List (List ℕ) → List ℕ → Bool → Reader → Reader → Type 0
@@ -47,7 +62,7 @@ is_end (byte ∷ bytes) = false
 
 -- what was read, as it is given
 pub record IsFinished (limit : ℕ) (reader : Reader) (log : LinesLog) : Type 0 where
-  pub opening : log.history.opening ≡ 0
-  pub term : log.history.terms ≡ one_term limit
-  pub ops : log.history.ops ≡ reader.ops.items
+  pub thinned : (ops : List (Op ℕ)) → IsThinning ops reader.thinner → IsThinnedLog limit ops log.thinned
+  pub ops : log.ops ≡ reader.count
+  pub unfinished : log.unfinished ≡ reader.unfinished
   pub count : (records : List (List ℕ)) → IsNumbering records reader.numbering → log.records ≡ length records

@@ -4,11 +4,13 @@ use Rattle.history_thinning.proofs.Ends.{error_answer, lawful_end, unlawful_end}
 use Rattle.history_thinning.proofs.search.search_thinned.Goals as goal
 
 pub returns-in-Ok : goal.returns-in-Ok
-returns-in-Ok c = λ limit log thin.
-    lawful_end limit log c.args.thinned.now thin c.in-Ok-Order.field-0 c.in-Ok-Order.order c.in-Ok-Order.ensures
-    c.in-Ok-Order.field-0-is c.as_slice-ops.result.now
-    c.as_slice-places.result.now c.as_slice.result.now c.in-Ok.writes.items c.new.result c.as_slice-ops.ensures c.as_slice-places.ensures
-    (c.as_slice.ensures.value ∙ c.into_vec-listed.ensures) c.in-Ok.ensures c.new.ensures
+returns-in-Ok c = λ limit log thin. (
+  lawful_end limit log c.args.thinned.now thin c.in-Ok-Order.field-0 c.in-Ok-Order.order c.in-Ok-Order.ensures
+      c.in-Ok-Order.field-0-is c.as_slice-ops.result.now
+      c.as_slice-places.result.now c.as_slice.result.now c.in-Ok.writes.items c.new.result c.as_slice-ops.ensures c.as_slice-places.ensures
+      (c.as_slice.ensures.value ∙ c.into_vec-listed.ensures) c.in-Ok.ensures c.new.ensures,
+  tt,
+)
 
 pub returns-in-Ok-Unlawful : goal.returns-in-Ok-Unlawful
 returns-in-Ok-Unlawful c = λ limit log thin.

@@ -6,8 +6,8 @@ use Rattle.lines_answers.proofs.text.push_named.Given as goal
 
 abbrev pub invariant-lines : goal.invariant-lines
 invariant-lines l = record {
-  printed : l.text.items ++ named_text l.ops l.places l.place (lines_of l.rest)
-      ≡ l.initial.text.items ++ named_text l.ops l.places 0 (lines_of l.body);
+  printed : l.text.items ++ named_text l.ops l.places l.named l.next l.place (lines_of l.rest)
+      ≡ l.initial.text.items ++ named_text l.ops l.places l.named 0 0 (lines_of l.body);
   room : l.place + length l.rest ≤ length l.body;
 }
 

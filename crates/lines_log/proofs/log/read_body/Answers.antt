@@ -11,11 +11,11 @@ read-requires-clause-known c =
     let way = c.lines.invariant.way c.requires.known.0 c.requires.known.1 in (c.requires.known.0, way.lines, way.read)
 
 pub returns-in-Err-clause-fault : goal.returns-in-Err-clause-fault
-returns-in-Err-clause-fault c =
-    at_fault c.requires.known.0 c.args.reader.now.limited (lines_of c.args.body.now) c.lines.rest.now c.in-Some.line.now c.in-Some.behind.now
-    c.lines.reader c.in-Err.fault (c.lines.invariant.way c.requires.known.0 c.requires.known.1) c.in-Some.ensures
-    (λ lines read. subst (λ (b : Bool). IsLineFault c.lines.reader.limited lines c.in-Some.line.now b c.in-Err.fault) c.is_end-last.ensures
-    (c.in-Err.ensures.fault c.requires.known.0 lines read))
+returns-in-Err-clause-fault c = λ opening read.
+    at_fault opening c.args.reader.now.limited (lines_of c.args.body.now) c.lines.rest.now c.in-Some.line.now c.in-Some.behind.now
+    c.lines.reader c.in-Err.fault (c.lines.invariant.way opening read) c.in-Some.ensures
+    (λ lines was. subst (λ (b : Bool). IsLineFault opening c.lines.reader.limited lines c.in-Some.line.now b c.in-Err.fault) c.is_end-last.ensures
+    (c.in-Err.ensures.fault opening lines was))
 
 pub lines-preserved : goal.lines-preserved
 lines-preserved c = record {

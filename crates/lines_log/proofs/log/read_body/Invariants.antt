@@ -9,7 +9,7 @@ invariant-lines l = record {
   way : (opening : List ℕ) → IsRead opening [] l.initial.reader →
       IsUnderWay opening l.initial.reader.limited (lines_of l.body) l.rest l.reader;
   limits : l.reader.limited ≡ l.initial.reader.limited;
-  room : length l.reader.ops.items + length l.rest ≤ length l.initial.reader.ops.items + length l.body;
+  room : l.reader.count + length l.rest ≤ l.initial.reader.count + length l.body;
 }
 
 abbrev pub decreases-lines : goal.decreases-lines

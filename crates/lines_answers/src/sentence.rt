@@ -1,0 +1,168 @@
+//! A reason in one sentence.
+ghost use Rattle.std.specs.Prelude.{◌≡◌, ◌++◌, OnOk, codes};
+ghost use Rattle.lines_answers.specs.Sentences.{apart_text, begin_at, crossed_text, early_text, end_at, limit_of, limit_text, number_text, op_at, sentence_text, stale_text, unwritten_text};
+ghost use Rattle.lines_log.specs.Faults.{line_at};
+
+use crate::named::kept_at;
+use history_core::Op;
+use history_search::Reason;
+use history_thinning::Thinned;
+use itoa::Buffer;
+use lines_log::line_of;
+use std::alloc::AllocError;
+
+pub(crate) fn push_sentence(
+    text: &mut Vec<u8>,
+    thinned: &Thinned,
+    reason: Reason,
+) -> Result<(), AllocError>
+    ensures { OnOk result (text.new.items ≡ text.old.items ++ sentence_text thinned.now reason) }
+{
+    match reason {
+        Reason::Unwritten { read } => push_unwritten(text, read),
+        Reason::Early { read, write } => push_early(text, thinned, read, write),
+        Reason::Stale { before, read } => push_stale(text, thinned, before, read),
+        Reason::Crossed { a, b, c, d } => push_crossed(text, thinned, a, b, c, d),
+        Reason::Limit { refused } => push_limit(text, thinned, refused),
+    }
+}
+
+fn push_unwritten(text: &mut Vec<u8>, read: usize) -> Result<(), AllocError>
+    ensures { OnOk result (text.new.items ≡ text.old.items ++ unwritten_text read) }
+{
+    push_line_of(text, "Line ", read)?;
+    push_words(
+        text,
+        " gave a record that is neither the opening nor written.\n",
+    )
+}
+
+fn push_early(
+    text: &mut Vec<u8>,
+    thinned: &Thinned,
+    read: usize,
+    write: usize,
+) -> Result<(), AllocError>
+    ensures { OnOk result (text.new.items ≡ text.old.items ++ early_text thinned.now read write) }
+{
+    push_line_of(text, "Line ", read)?;
+    push_words(text, " gave a record before the write of it began: ")?;
+    push_apart(text, thinned, read, write)?;
+    push_words(text, ".\n")
+}
+
+fn push_stale(
+    text: &mut Vec<u8>,
+    thinned: &Thinned,
+    before: usize,
+    read: usize,
+) -> Result<(), AllocError>
+    ensures { OnOk result (text.new.items ≡ text.old.items ++ stale_text thinned.now before read) }
+{
+    push_line_of(text, "Line ", read)?;
+    push_words(
+        text,
+        " gave the opening behind an operation of another record: ",
+    )?;
+    push_apart(text, thinned, before, read)?;
+    push_words(text, ".\n")
+}
+
+#[tactic(auto, unfolding(crate::specs::Sentences::crossed_text), using(std::proofs::Common::append_assoc))]
+fn push_crossed(
+    text: &mut Vec<u8>,
+    thinned: &Thinned,
+    a: usize,
+    b: usize,
+    c: usize,
+    d: usize,
+) -> Result<(), AllocError>
+    ensures { OnOk result (text.new.items ≡ text.old.items ++ crossed_text thinned.now a b c d) }
+{
+    text.extend_from_slice(b"Each of two records has to stand before the other: ")?;
+    push_apart(text, thinned, a, b)?;
+    text.extend_from_slice(b"; ")?;
+    push_apart(text, thinned, c, d)?;
+    text.extend_from_slice(b".\n")
+}
+
+#[tactic(auto, unfolding(crate::specs::Sentences::limit_text), using(std::proofs::Common::append_assoc))]
+fn push_limit(text: &mut Vec<u8>, thinned: &Thinned, refused: usize) -> Result<(), AllocError>
+    ensures { OnOk result (text.new.items ≡ text.old.items ++ limit_text thinned.now refused) }
+{
+    push_u64(
+        text,
+        "In every order fewer writes than the limit of ",
+        limit_of(thinned),
+    )?;
+    push_line_of(text, " stand before line ", refused)?;
+    text.extend_from_slice(b" or a refused write in front of it.\n")
+}
+
+/// One operation had ended when the other began.
+#[tactic(auto, unfolding(crate::specs::Sentences::apart_text), using(std::proofs::Common::append_assoc))]
+fn push_apart(text: &mut Vec<u8>, thinned: &Thinned, a: usize, b: usize) -> Result<(), AllocError>
+    ensures { OnOk result (text.new.items ≡ text.old.items ++ apart_text thinned.now a b) }
+{
+    push_line_of(text, "line ", a)?;
+    push_u64(text, " ended at ", end_at(thinned, a))?;
+    push_line_of(text, ", line ", b)?;
+    push_u64(text, " began at ", begin_at(thinned, b))
+}
+
+fn push_words(text: &mut Vec<u8>, words: &str) -> Result<(), AllocError>
+    ensures { OnOk result (text.new.items ≡ text.old.items ++ words.now) }
+{
+    text.extend_from_slice(words.as_bytes())
+}
+
+fn push_line_of(text: &mut Vec<u8>, words: &str, place: usize) -> Result<(), AllocError>
+    ensures { OnOk result (text.new.items ≡ text.old.items ++ number_text words.now (line_at place)) }
+{
+    let line = line_of(place)?;
+    push_u64(text, words, line as u64)
+}
+
+#[tactic(auto, using(std::proofs::Common::append_assoc))]
+fn push_u64(text: &mut Vec<u8>, words: &str, number: u64) -> Result<(), AllocError>
+    ensures { OnOk result (text.new.items ≡ text.old.items ++ number_text words.now number) }
+{
+    let mut buffer = Buffer::new();
+    text.extend_from_slice(words.as_bytes())?;
+    text.extend_from_slice(buffer.format(number).as_bytes())
+}
+
+fn op_at(thinned: &Thinned, place: usize) -> Option<Op<usize>>
+    ensures { result ≡ op_at thinned.now place }
+{
+    let kept = kept_at(thinned.places.as_slice(), place);
+    thinned.history.ops.as_slice().get(kept).copied()
+}
+
+fn end_at(thinned: &Thinned, place: usize) -> u64
+    ensures { result ≡ end_at thinned.now place }
+{
+    match op_at(thinned, place) {
+        Some(op) => op.ends.unwrap_or(0),
+        None => 0,
+    }
+}
+
+fn begin_at(thinned: &Thinned, place: usize) -> u64
+    ensures { result ≡ begin_at thinned.now place }
+{
+    match op_at(thinned, place) {
+        Some(op) => op.starts,
+        None => 0,
+    }
+}
+
+/// The limit of the one term.
+fn limit_of(thinned: &Thinned) -> u64
+    ensures { result ≡ limit_of thinned.now }
+{
+    match thinned.history.terms.as_slice().get(0) {
+        Some(term) => term.limit,
+        None => 1,
+    }
+}
