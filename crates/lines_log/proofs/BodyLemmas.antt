@@ -11,7 +11,7 @@ use Rattle.history_text.specs.Refusals.{◌>>=◌}
 use Rattle.fsr_runs.specs.declared.fault.Fault.{Fault}
 use Rattle.lines_tables.specs.Splits.{in_front, IsSplit, lines_of}
 use Rattle.lines_text.specs.Lines.{done, Entry, entry_of, Head, head_of, operation}
-use Rattle.lines_log.specs.Faults.{IsBodyFault, is_last, IsLineFault, IsLinesFault}
+use Rattle.lines_log.specs.Faults.{IsBodyFault, is_last, IsLineFault}
 use Rattle.lines_log.specs.Logs.{AreAll, AreLines, IsLinesLog, is_refused, judged, judged_line}
 use Rattle.std.specs.Prelude.{is_some, MatchOption, unwrap_or}
 use Rattle.history_thinning.specs.Thinnings.{IsThinnedLog}
@@ -174,15 +174,3 @@ assembled bytes first body head limit reader log split said limited whole limit_
         count = finished.count records whole.read.numbering;
       },
     )
-
--- a line behind the header is at fault
-pub later_fault : (bytes first body : List ℕ) (head : Head) (limited : Bool) (f : Fault) → IsSplit bytes first body → head_of first ≡ Ok head
-    → limited ≡ is_some head.limit → IsBodyFault head.opening limited (lines_of body) f → IsLinesFault bytes f
-later_fault bytes first body head limited f split said limits wrong = inr (inr (inr (record {
-  header = first;
-  body = lines_of body;
-  head = head;
-  split = split.lines;
-  said = said;
-  wrong = subst (λ (b : Bool). IsBodyFault head.opening b (lines_of body) f) limits wrong;
-})))

@@ -1,7 +1,7 @@
 -- The header and the body were read.
 use Rattle.std.proofs.Common.{◌∙◌, string_bytes}
 use Rattle.lines_text.specs.Lines.{head_seen}
-use Rattle.lines_log.proofs.BodyLemmas.{assembled, later_fault}
+use Rattle.lines_log.proofs.BodyLemmas.{assembled}
 use Rattle.lines_log.proofs.log.read_lines.Goals as goal
 
 pub returns-in-Ok-finish-clause-log : goal.returns-in-Ok-finish-clause-log
