@@ -5,11 +5,11 @@ use Rattle.std.proofs.lemmas.List.{length-append}
 use Rattle.std.proofs.lemmas.List.Elements.{All-get_or}
 use Rattle.std.proofs.lemmas.Option.{get_or_from_slice_get, slice_get_within}
 use Rattle.stamps.specs.Choices.{IsAtMost}
-use Rattle.cell_live.specs.Intervals.{IsHeeded}
+use Rattle.cell_live.specs.Intervals.{At, IsHeeded}
 use Rattle.cell_live.specs.Running.{last_or}
 use Rattle.board_live.specs.declared.record.Posted.{Posted}
 use Rattle.board_live.specs.Records.{Rises}
-use Rattle.headline_uses.specs.Parts.{AnsweredShow, CountsShow, GreatestShows, NumbersShow, ReadsShow, WritesShow}
+use Rattle.headline_uses.specs.Parts.{AnsweredShow, CountsShow, GreatestShows, NothingShows, NumbersShow, OpsShow, ReadsShow, WritesShow}
 
 all_there : {A : Type 0} (P : A → Type 0) (xs : List A) (k : ℕ) (x : A) → All P xs → slice_get xs k ≡ Some x → P x
 all_there P xs k x h e = subst P (get_or_from_slice_get xs k x x e) (All-get_or P xs k x (slice_get_within xs k x e) h)
@@ -57,3 +57,12 @@ module _ {T : Type 0} where
 
   pub greatest : GreatestShows T
   greatest n first last did h = ((h.process, h.inside, h.own), h.greatest)
+
+  pub operations : OpsShow T
+  operations written answers w r numbers ops number p op h at = elim (h.each p op at) [
+    | inl x ↦ inl (x.0, x.1.kind, x.1.item, x.2)
+    | inr x ↦ inr (x.0, x.2.kind, x.2.item, subst (At numbers x.0) (sym x.4) x.3)
+  ]
+
+  pub nothing : NothingShows T
+  nothing op b = (λ h. h, λ h. h)

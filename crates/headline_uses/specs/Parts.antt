@@ -1,13 +1,16 @@
 -- Consequences of accesses of a family, of orders by number and of the counts of atomic calls (this project's own).
-use Rattle.std.specs.Prelude.{◌≡◌, ◌⊎◌, Bool, IsTrue, ℕ, ◌+◌, ◌<◌, ◌≤◌, false, List, [], ◌∷◌, ◌++◌, length, slice_get, Some}
+use Rattle.std.specs.Prelude.{◌≡◌, ◌⊎◌, Bool, IsTrue, ℕ, ◌+◌, ◌<◌, ◌≤◌, false, List, [], ◌∷◌, ◌++◌, length, slice_get, Option, Some, None}
 use Rattle.history_core.specs.declared.history.Op.{Op}
+use Rattle.history_core.specs.declared.history.Kind.TheVariants.{Write, Read}
 use Rattle.history_core.specs.Orders.{is_write}
+use Rattle.history_core.specs.Schedules.{Follows}
+use Rattle.four_slot_core.specs.Accesses.{IsBefore}
 use Rattle.stamps.specs.declared.stamp.Stamped.{Stamped}
 use Rattle.stamps.specs.Choices.{IsAtMost}
 use Rattle.cell_live.specs.declared.times.Known.{Known}
 use Rattle.cell_live.specs.declared.times.Times.{Times}
-use Rattle.cell_live.specs.Histories.{IsByNumbers}
-use Rattle.cell_live.specs.Intervals.{AreAtomic}
+use Rattle.cell_live.specs.Histories.{AreOps, IsByNumbers}
+use Rattle.cell_live.specs.Intervals.{AreAtomic, At}
 use Rattle.cell_live.specs.Running.{last_or}
 use Rattle.family_live.specs.Accesses.{IsRead, IsWrite, Reads, Writes}
 use Rattle.board_history.specs.BoardRuns.{Did}
@@ -36,6 +39,17 @@ module _ (T : Type 0) where
       × ((i j p q : ℕ) (a b : Op T) → slice_get order i ≡ Some p → slice_get ops p ≡ Some a → slice_get order j ≡ Some q →
       slice_get ops q ≡ Some b → i < j → number q ≤ number p →
       (number p ≡ number q) × (is_write b.kind ≡ false) × (is_write a.kind ≡ false → a.starts ≤ b.starts))
+
+  -- an operation of the history is a write with its number and record, or a read with those of its answer
+  abbrev pub OpsShow : Type 0
+  OpsShow = (written answers : List T) (writes reads : Times) (numbers : List ℕ) (ops : List (Op T)) (number : ℕ → ℕ) (p : ℕ) (op : Op T) →
+      AreOps written writes answers numbers reads ops number → slice_get ops p ≡ Some op →
+      ((k : ℕ) × (op.kind ≡ Write) × (op.item ≡ slice_get written k) × (number p ≡ k + 1))
+      ⊎ ((m : ℕ) × (op.kind ≡ Read) × (op.item ≡ slice_get answers m) × At numbers m (number p))
+
+  -- nothing follows where nothing was planned, and what hasn't happened is before nothing
+  abbrev pub NothingShows : Type 0
+  NothingShows = (op : Op T) (b : Option ℕ) → (Follows None op → ⊥) × (IsBefore None b → ⊥)
 
   -- each answer has its interval, and of the writes all have but perhaps the last
   abbrev pub CountsShow : Type 0

@@ -1,5 +1,5 @@
 //! What accesses of a family, orders by number and counts of calls say.
-ghost use Rattle.headline_uses.specs.Parts.{AnsweredShow, CountsShow, GreatestShows, NumbersShow, ReadsShow, WritesShow};
+ghost use Rattle.headline_uses.specs.Parts.{AnsweredShow, CountsShow, GreatestShows, NothingShows, NumbersShow, OpsShow, ReadsShow, WritesShow};
 
 /// A read and a write of a family add what they say, and an answer is no older than what was told.
 pub fn accesses_show<T>()
@@ -12,5 +12,7 @@ pub fn accesses_show<T>()
 pub fn numbers_show<T>()
     ensures order { NumbersShow T }
     ensures counts { CountsShow T }
+    ensures ops { OpsShow T }
+    ensures nothing { NothingShows T }
     ensures greatest { GreatestShows T }
 {}

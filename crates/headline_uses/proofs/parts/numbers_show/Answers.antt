@@ -1,5 +1,5 @@
 -- Each is a part of its definition.
-use Rattle.headline_uses.proofs.Shown.{counts, greatest, order}
+use Rattle.headline_uses.proofs.Shown.{counts, greatest, nothing, operations, order}
 use Rattle.headline_uses.proofs.parts.numbers_show.Goals as goal
 
 pub returns-clause-order : goal.returns-clause-order
@@ -7,6 +7,12 @@ returns-clause-order g c = order
 
 pub returns-clause-counts : goal.returns-clause-counts
 returns-clause-counts g c = counts
+
+pub returns-clause-ops : goal.returns-clause-ops
+returns-clause-ops g c = operations
+
+pub returns-clause-nothing : goal.returns-clause-nothing
+returns-clause-nothing g c = nothing
 
 pub returns-clause-greatest : goal.returns-clause-greatest
 returns-clause-greatest g c = greatest
