@@ -25,6 +25,20 @@ catches_number() {
     fi
 }
 
+# The counts, and the control of a control: one that is seen, one that isn't and one that is refused for another reason. (What doesn't count
+# can't be told by `fail`.)
+told=$(
+    passed=0 failed=0
+    { pass a && fail a said && catches a said fail a said && catches a said pass a && catches a other fail a said; } >/dev/null
+    echo "$passed $failed"
+)
+if [ "$told" = '2 3' ]; then
+    pass "planted: passes, failures and controls are counted"
+else
+    echo "test: planted: passes, failures and controls are counted: FAILED: $told"
+    failed=$((failed + 1))
+fi
+
 if ! command -v python3 >/dev/null 2>&1; then
     fail "tests/checks.py" "there is no python3"
 else

@@ -393,6 +393,10 @@ template <cell C> void all(std::uint64_t many) {
 
 } // namespace
 
+using floats = nidzaru::detail::record<std::array<float, 6>, nidzaru::cell::four_slot>;
+using doubles = nidzaru::detail::record<std::array<double, 3>, nidzaru::cell::four_slot>;
+static_assert(!floats::passes && doubles::passes == !NIDZARU_WATCHED, "a record aligned to 4 is copied, and words are passed where they lie");
+
 int main(int count, char **words) {
     const std::uint64_t many = count > 1 ? std::strtoull(words[1], nullptr, 10) : 5000;
     functions();

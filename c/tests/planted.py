@@ -356,6 +356,13 @@ CLASSES = [
     ),
     ("all classes over four slots", "C == cell::triple ? 1 : 0;", "0;", "passed"),
     (
+        "a class's records aligned to 4 where they lie",
+        "sizeof(T) == bytes && alignof(T) >= 8;",
+        "sizeof(T) == bytes && alignof(T) >= 4;",
+        "objects",
+        "a record aligned to 4 is copied",
+    ),
+    (
         "a class's tail that isn't zeros",
         "explicit record(const T &item) noexcept {",
         "explicit record(const T &item) noexcept { std::memset(words, 1, sizeof words);",
@@ -417,6 +424,11 @@ CRATE = [
         "(0..=25, false) => &FOUR_SLOT_BOARD_24, (26..=256, false)",
         "lib",
     ),
+    ("the other mechanism's calls", LIB, "size_of::<T>(), M::TRIPLE)", "size_of::<T>(), !M::TRIPLE)", "lib"),
+    ("the other mechanism's board", BOARDS, "size_of::<T>(), M::TRIPLE)", "size_of::<T>(), !M::TRIPLE)", "lib"),
+    ("a name of the other mechanism", RAW, 'calls!(TRIPLE_24, 24, "triple_24")', 'calls!(TRIPLE_24, 24, "24")', "lib"),
+    ("a tail that isn't zeros", RAW, "MaybeUninit::new(0) }; N])", "MaybeUninit::new(1) }; N])", "lib"),
+    ("a worn-out write that is done", LIB, "is_written.then_some(()).ok_or(WornOut)", "Ok(is_written.then_some(()).unwrap_or(()))", "lib"),
     (
         "an order after the write",
         WATCHED,

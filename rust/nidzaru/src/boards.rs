@@ -305,3 +305,14 @@ impl<T: Copy + Send, M: Mechanism> fmt::Debug for Place<T, M> {
         to.debug_struct("Place").field("stamp", &self.last).finish_non_exhaustive()
     }
 }
+
+#[cfg(test)]
+mod tests {
+    use super::*;
+
+    #[test]
+    fn each_mechanism_has_its_calls() {
+        assert!(std::ptr::eq(Known::<[u64; 3], FourSlot>::CALLS, raw::board_calls_for(24, false)));
+        assert!(std::ptr::eq(Known::<[u64; 3], Triple>::CALLS, raw::board_calls_for(24, true)));
+    }
+}

@@ -265,8 +265,14 @@ impl<T: Copy + Send, M: Mechanism> Writer<T, M> {
     /// Shows the record to the reader, under the next number. The error comes after 2^64 - 1 writes.
     #[inline]
     pub fn write(&mut self, item: &T) -> Result<(), WornOut> {
-        raw::write(Known::<T, M>::CALLS, &mut self.side, item).then_some(()).ok_or(WornOut)
+        told(raw::write(Known::<T, M>::CALLS, &mut self.side, item))
     }
+}
+
+/// What a write answers.
+#[inline]
+fn told(is_written: bool) -> Result<(), WornOut> {
+    is_written.then_some(()).ok_or(WornOut)
 }
 
 /// The right to read. It may go to another thread, and one thread uses it at a time. Writes go on when it goes.
@@ -374,5 +380,21 @@ impl<T: Copy + Send, M: Mechanism> fmt::Debug for Writer<T, M> {
 impl<T: Copy + Send, M: Mechanism> fmt::Debug for Reader<T, M> {
     fn fmt(&self, to: &mut fmt::Formatter<'_>) -> fmt::Result {
         to.debug_struct("Reader").field("number", &self.last).finish_non_exhaustive()
+    }
+}
+
+#[cfg(test)]
+mod tests {
+    use super::*;
+
+    #[test]
+    fn a_write_that_the_library_refuses_is_told() {
+        assert_eq!((told(true), told(false)), (Ok(()), Err(WornOut)));
+    }
+
+    #[test]
+    fn each_mechanism_has_its_calls() {
+        assert!(std::ptr::eq(Known::<[u64; 3], FourSlot>::CALLS, raw::calls_for(24, false)));
+        assert!(std::ptr::eq(Known::<[u64; 3], Triple>::CALLS, raw::calls_for(24, true)));
     }
 }

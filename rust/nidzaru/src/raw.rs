@@ -548,6 +548,31 @@ mod tests {
         }
     }
 
+    /// What the library calls a register's and a board's write, by the mechanism.
+    mod named {
+        extern "C" {
+            pub static nidzaru_24_write: u8;
+            pub static nidzaru_triple_24_write: u8;
+            pub static nidzaru_board_24_write: u8;
+            pub static nidzaru_triple_board_24_write: u8;
+        }
+    }
+
+    #[test]
+    fn each_mechanism_has_its_calls() {
+        assert_eq!(calls_for(24, false).write as usize, &raw const named::nidzaru_24_write as usize);
+        assert_eq!(calls_for(24, true).write as usize, &raw const named::nidzaru_triple_24_write as usize);
+        assert_eq!(board_calls_for(24, false).write as usize, &raw const named::nidzaru_board_24_write as usize);
+        assert_eq!(board_calls_for(24, true).write as usize, &raw const named::nidzaru_triple_board_24_write as usize);
+    }
+
+    #[test]
+    fn behind_a_smaller_record_stand_zeros() {
+        let words = Words::<3>::of(&u32::MAX);
+        // All words are filled: the first by the record and zeros, the others by zeros.
+        assert_eq!(words.0.map(|word| unsafe { word.assume_init() }), [u64::from(u32::MAX), 0, 0]);
+    }
+
     #[test]
     fn what_passes_is_as_large_and_aligned_as_the_librarys_record() {
         #[repr(align(64))]
