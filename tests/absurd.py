@@ -6,7 +6,8 @@ takes 10 to 25 processor seconds, and there are dozens.
 A definition could be hollowed out where nobody looks: `7 < 0 →` before a part of it makes that part say nothing. The definitions are
 those of the reading sets of docs/HEADLINES.md that are propositions: records, of which each field's type is taken, and abbreviations, of
 which each equation is. A conjunct is what stands between two × behind the last arrow, also in a λ. The edits are made in a copy of
-headline_uses and of what it stands on, which leaves out all functions but its laws, so that a check takes seconds. Each edit has a number of its own in
+headline_uses and of what it stands on, which leaves out all functions but its laws, so that a check takes seconds. Each edit has a
+number of its own in
 its premise. Many are tried at once, and those are refused whose premise an error names; the others are tried again, in halves where none
 is named, at last alone, where any error refuses. An edit with which its own file isn't well typed, of a field that is data for instance,
 says nothing and is told as such. An edit of a crate on which headline_uses doesn't stand isn't tried. The edits
@@ -329,7 +330,10 @@ def judge(edits, said):
     own = [it for it in edits if any(path.endswith(it.path) for path, _ in errors)]
     if len(edits) == 1:
         return {edits[0]: "ill-typed" if own else "refused"}, []
-    named = [it for it in edits if any(re.search(rf"\b{it.number} < 0\b", told) and not path.endswith(it.path) for path, told in errors)]
+    named = []
+    for it in edits:
+        premise = re.compile(rf"\b{it.number} < 0\b")
+        named += [it] if any(premise.search(told) and not path.endswith(it.path) for path, told in errors) else []
     return {it: "refused" for it in named}, own
 
 

@@ -5,7 +5,6 @@ use Rattle.history_core.specs.declared.history.Term.{Term}
 use Rattle.history_core.specs.declared.history.Verdict.{Verdict}
 use Rattle.history_core.specs.declared.history.Verdict.TheVariants.{Lawful, Listing, Precedence, Reading, Limit}
 use Rattle.history_core.specs.Orders.{IsVerdict}
-use Rattle.history_search.specs.declared.reason.Reason.{Reason}
 use Rattle.history_search.specs.declared.reason.Search.{Search}
 use Rattle.history_search.specs.declared.reason.Search.TheVariants.{Order, Unlawful}
 use Rattle.history_search.specs.declared.reason.SearchError.{SearchError}

@@ -1,5 +1,5 @@
 -- The last process's pass is taken out, makes its calls, and comes back; the other parts are clauses of calls.
-use Rattle.std.proofs.Common.{◌≡◌, ◌∷◌, [], ◌++◌, ◌∙◌, map, sym, ap, subst}
+use Rattle.std.proofs.Common.{◌∙◌, map, sym, ap, subst}
 use Rattle.board_live.specs.Ends.{AllPasses, standing}
 use Rattle.theorems.proofs.Rejoined.{last_pass, rejoined}
 use Rattle.theorems.specs.Boards.{AreShown}
