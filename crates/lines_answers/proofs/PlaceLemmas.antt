@@ -1,5 +1,5 @@
 -- Where the first one is that passes a test, or that none does.
-use Rattle.std.proofs.Common.{rules, tests, ◌≡◌, ℕ, ◌<◌, ◌≤◌, List, length, refl, arith, Bool, true, false, cond, Some, None}
+use Rattle.std.proofs.Common.{rules, tests, ◌≡◌, ℕ, ◌≤◌, List, length, refl, arith, Bool, true, false, cond, Some, None}
 use Rattle.std.specs.Prelude.{nat_lt, not}
 use Rattle.std.specs.List.{position, position_or_len}
 use Rattle.std.proofs.lemmas.List.Sums.{prefix_len-le-length}

@@ -1,5 +1,5 @@
 -- The answer to a log in lines has status 0 or 1.
-use Rattle.std.proofs.Common.{rules, arith, ◌≡◌, ◌≤◌, ℕ, List, Result, Ok, Err, ap, sym, subst}
+use Rattle.std.proofs.Common.{rules, arith, ◌≤◌, ℕ, List, Result, Ok, Err, ap, sym, subst}
 use Rattle.fsr_runs.specs.Answers.{Gives, HasLowStatus}
 use Rattle.fsr_runs.specs.declared.fault.Answer.{Answer}
 use Rattle.fsr_runs.specs.declared.fault.Fault.{Fault}
