@@ -83,6 +83,15 @@ test_in_c() {
         run_here "c/tests/boards.c $family($c)" \
             "$c" -std=c11 -D_GNU_SOURCE $strict -O2 $family c/tests/boards.c $wrapped $flags -o "$room/program"
     done
+    for family in '' -DTRIPLE; do
+        wants='.* writes, .* reads, nothing found'
+        run_here "c/tests/board_soak.c $family($c)" \
+            "$c" -std=c11 -D_GNU_SOURCE $strict -O2 -DBYTES=24 $family c/tests/board_soak.c $flags -o "$room/program"
+        for wants in torn older; do
+            run_control "c/tests/board_soak.c $family, planted: $wants ($c)" "$c" -std=c11 -D_GNU_SOURCE $strict -O2 -DBYTES=24 $family \
+                -D"$(echo $wants | tr a-z A-Z)" c/tests/board_soak.c $flags -o "$room/program"
+        done
+    done
     wants='no record was torn'
     run_here "examples/c/small.c ($c)" "$c" -std=c11 $strict -O2 examples/c/small.c $flags -o "$room/program"
     run_here "examples/c/tasks.c ($c)" "$c" -std=c11 $strict -O2 examples/c/tasks.c $flags -o "$room/program"
