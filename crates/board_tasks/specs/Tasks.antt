@@ -47,6 +47,10 @@ module _ {V F S T : Type 0} (family : FamilyWords F (Posted V) S T) (obeys : V �
     pub call : IsCall family obeys board (kind_by entry.reply) old new seen
     pub replies : Replies board.limit old.process entry.wish seen new.own entry.reply
 
+  -- the entry is of a call that was made, with some pass of some board
+  abbrev pub WasMade : Entry V → Type 0
+  WasMade entry = (board : Board V F S T) × (old : Pass V F S T) × (new : Pass V F S T) × IsEntry board old entry new
+
   -- the entries are board calls, one after the other
   abbrev pub AreCalls : Board V F S T → Pass V F S T → List (Entry V) → Pass V F S T → Type 0
   AreCalls board old [] new = old ≡ new

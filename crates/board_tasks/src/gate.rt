@@ -1,6 +1,10 @@
 //! What decides before each call of a task whether it goes on, and what is told of each call.
 ghost use Rattle.std.specs.Prelude.{ℕ, ◌<◌, IfNone, IfSome};
+ghost use Rattle.board_tasks.specs.Tasks.{WasMade};
 
+use crate::lane::Entry;
+use board_live::{Posted, RecordLaw};
+use family_live::Family;
 use std::sync::atomic::{AtomicU64, Ordering};
 
 /// What decides before each call of a task whether it goes on. It stands between the calls of running tasks, so here a program
@@ -20,9 +24,16 @@ pub trait Gate {
         ensures given { IfSome result (is_for self.now task call) }
         ensures stops { IfNone result (may_stop self.now task call) };
 
-    /// The call was made, and its reply stands in the log. Takes the permit back.
-    fn after(&self, task: usize, call: usize, permit: Self::Permit)
-        requires { is_for self.now task call permit };
+    /// The call was made, with this entry. Takes the permit back.
+    fn after<V: RecordLaw, F: Family<Posted<V>>>(
+        &self,
+        task: usize,
+        call: usize,
+        entry: &Entry<V>,
+        permit: Self::Permit,
+    )
+        requires permit { is_for self.now task call permit }
+        requires made { WasMade ⟦<F as Family<Posted<V>>>⟧ V.obeys entry.now };
 }
 
 /// Lets every call through.
@@ -40,7 +51,13 @@ impl Gate for OpenGate {
         Some(())
     }
 
-    fn after(&self, _task: usize, _call: usize, _permit: ()) {}
+    fn after<V: RecordLaw, F: Family<Posted<V>>>(
+        &self,
+        _task: usize,
+        _call: usize,
+        _entry: &Entry<V>,
+        _permit: (),
+    ) {}
 }
 
 /// Lets every call through, and counts those that were made.
@@ -73,7 +90,13 @@ impl Gate for CountingGate {
         Some(())
     }
 
-    fn after(&self, _task: usize, _call: usize, _permit: ()) {
+    fn after<V: RecordLaw, F: Family<Posted<V>>>(
+        &self,
+        _task: usize,
+        _call: usize,
+        _entry: &Entry<V>,
+        _permit: (),
+    ) {
         self.made.fetch_add(1, Ordering::SeqCst);
     }
 }
@@ -118,5 +141,11 @@ impl Gate for TimedGate {
         }
     }
 
-    fn after(&self, _task: usize, _call: usize, _turn: Turn) {}
+    fn after<V: RecordLaw, F: Family<Posted<V>>>(
+        &self,
+        _task: usize,
+        _call: usize,
+        _entry: &Entry<V>,
+        _turn: Turn,
+    ) {}
 }

@@ -1,14 +1,13 @@
 //! The gates that come with the crate, and what a gate is asked and told.
 ghost use Rattle.std.specs.Prelude.{◌≡◌};
 
-use board_live::Posted;
-use board_tasks::{CountingGate, Gate, Lane, TimedGate};
+use board_live::{Posted, RecordLaw};
+use board_tasks::{CountingGate, Entry, Gate, Lane, TimedGate};
 use board_teams::run_plans;
 use family_live::{Family, SharedFamily};
 use history_core::Band;
 use std::alloc::{AllocError, Global};
-use std::sync::atomic::{AtomicU64, Ordering};
-use std::test::Fail;
+use std::sync::atomic::{AtomicBool, AtomicU64, Ordering};
 use std::thread::Threads;
 
 /// How many calls all lanes have made.
@@ -51,21 +50,98 @@ where
     Ok((calls, gate.made()))
 }
 
-/// Whether the gate lets a call through, and how many it has counted by then and once the call was made.
-fn lets(gate: &CountingGate, task: usize, call: usize) -> (bool, u64, u64) {
-    let is_let = gate.before(task, call) == Some(());
-    let let_through = gate.made();
-    gate.after(task, call, ());
-    (is_let, let_through, gate.made())
+/// Looks for permits that are held: none of a task may be out when it asks for its next call, and none at all in the end. A call is counted
+/// with its reply, and no earlier; the tags of all replies are added up.
+#[derive(Drop)]
+struct Held {
+    counts: CountingGate,
+    out: [AtomicBool; 3],
+    tags: AtomicU64,
+    wrong: AtomicBool,
 }
 
-/// A call that is let through isn't counted: one that was made is.
-#[test]
-fn a_call_is_counted_when_it_was_made(rt: HostRuntime) -> Result<(), Fail> {
-    let gate = CountingGate::new();
-    assert_eq!(rt; lets(&gate, 0, 1), (true, 0, 1));
-    assert_eq!(rt; lets(&gate, 1, 1), (true, 1, 2));
-    Ok(())
+impl Held {
+    fn new() -> Held {
+        Held {
+            counts: CountingGate::new(),
+            out: [
+                AtomicBool::new(false),
+                AtomicBool::new(false),
+                AtomicBool::new(false),
+            ],
+            tags: AtomicU64::new(0),
+            wrong: AtomicBool::new(false),
+        }
+    }
+
+    /// Notes whether the task's permit is out, and what was wrong before.
+    fn note(&self, task: usize, is_out: bool) {
+        let Some(out) = self.out.get(task) else {
+            self.wrong.store(true, Ordering::SeqCst);
+            return;
+        };
+        if out.swap(is_out, Ordering::SeqCst) == is_out {
+            self.wrong.store(true, Ordering::SeqCst);
+        }
+    }
+
+    /// Whether a permit is out.
+    fn is_one_out(&self) -> bool {
+        let mut out = false;
+        for flag in &self.out {
+            out = out | flag.load(Ordering::SeqCst);
+        }
+        out
+    }
+}
+
+impl Gate for Held {
+    type Permit = ();
+
+    ghost is_for = { λ _ _ _ _. Unit {0} };
+
+    ghost may_stop = { λ _ _ _. ⊥ };
+
+    fn before(&self, task: usize, call: usize) -> Option<()> {
+        self.note(task, true);
+        self.counts.before(task, call)
+    }
+
+    fn after<V: RecordLaw, F: Family<Posted<V>>>(
+        &self,
+        task: usize,
+        call: usize,
+        entry: &Entry<V>,
+        _permit: (),
+    ) {
+        self.note(task, false);
+        let counted = self.counts.made();
+        self.counts.after::<V, F>(task, call, entry, ());
+        if self.counts.made() <= counted {
+            self.wrong.store(true, Ordering::SeqCst);
+        }
+        self.tags
+            .fetch_add(entry.reply.stamp().tag, Ordering::SeqCst);
+    }
+}
+
+/// One task writes, reads and writes; the others have nothing to do.
+const ONE: &[&[u64]] = &[&[1, 0, 2], &[], &[]];
+
+/// The calls of the task, the sum of the tags of its replies, and whether a permit was held too long.
+fn held_in<R: Threads + Sync, F: SharedFamily<Posted<Band>>>(
+    rt: &R,
+    alloc: Global,
+    plans: &[&[u64]],
+) -> Result<(u64, u64, bool), AllocError>
+where
+    F::Seat: Send,
+    F::Told: Send,
+{
+    let gate = Held::new();
+    run::<R, F, Held>(rt, alloc, plans, &gate)?;
+    let wrong = gate.wrong.load(Ordering::SeqCst) | gate.is_one_out();
+    Ok((gate.counts.made(), gate.tags.load(Ordering::SeqCst), wrong))
 }
 
 const EIGHTY: &[&[u64]] = &[&[0; 40], &[0; 40]];
@@ -129,7 +205,13 @@ impl Gate for Numbers {
         Some(Asked { task, call })
     }
 
-    fn after(&self, task: usize, call: usize, asked: Asked) {
+    fn after<V: RecordLaw, F: Family<Posted<V>>>(
+        &self,
+        task: usize,
+        call: usize,
+        _entry: &Entry<V>,
+        asked: Asked,
+    ) {
         let Asked {
             task: asked_task,
             call: asked_call,
@@ -172,6 +254,13 @@ where
 {
     if counted::<R, F>(rt, alloc)? != (5, 5) {
         return Ok(Some("calls are counted"));
+    }
+    if held_in::<R, F>(rt, alloc, ONE)? != (3, 1 + 1 + 2, false) {
+        return Ok(Some("a permit is held, or a call counted, without its reply"));
+    }
+    let (calls, _tags, wrong) = held_in::<R, F>(rt, alloc, FIVE)?;
+    if calls != 5 || wrong {
+        return Ok(Some("three tasks hold a permit too long"));
     }
     if !time_is_up::<R, F>(rt, alloc)? {
         return Ok(Some("time is up for all tasks"));

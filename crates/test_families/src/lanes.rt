@@ -1,7 +1,7 @@
 //! Lanes that run, and the passes that they give back.
 ghost use Rattle.std.specs.Prelude.{◌≡◌};
 
-use board_live::{Pass, Posted};
+use board_live::{Pass, Posted, RecordLaw};
 use board_tasks::{Entry, Gate, Lane, OpenGate, Reply, into_passes};
 use board_teams::{point, run_plans};
 use family_live::{Family, SharedFamily};
@@ -82,7 +82,13 @@ impl Gate for StopsSecond {
         }
     }
 
-    fn after(&self, _task: usize, _call: usize, _permit: ()) {}
+    fn after<V: RecordLaw, F: Family<Posted<V>>>(
+        &self,
+        _task: usize,
+        _call: usize,
+        _entry: &Entry<V>,
+        _permit: (),
+    ) {}
 }
 
 const STOPPED: &[&[u64]] = &[&[], &[1, 2]];

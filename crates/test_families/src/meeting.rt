@@ -1,12 +1,14 @@
 //! Tasks that go on only where all of them run at once: each waits for all others, so a program that runs two of them in one thread
 //! can't pass it.
-ghost use Rattle.std.specs.Prelude.{◌≡◌};
+ghost use Rattle.std.specs.Prelude.{◌≡◌, ℕ, IfOk, map};
+ghost use Rattle.history_core.specs.declared.band.Band.{Band};
+ghost use Rattle.board_tasks.specs.LogOrders.{LogsInOrder};
 
-use crate::gates::made;
-use board_live::Posted;
-use board_tasks::Gate;
-use board_teams::run_plans;
-use family_live::SharedFamily;
+use board_live::{Posted, RecordLaw};
+use board_origins::{Origin, check_origin};
+use board_tasks::{Entry, Gate, finish_lanes};
+use board_teams::{point, run_plans};
+use family_live::{Family, SharedFamily};
 use history_core::Band;
 use std::alloc::{AllocError, Global};
 use std::sync::atomic::{AtomicBool, AtomicUsize, Ordering};
@@ -54,20 +56,27 @@ impl Gate for Meeting {
         None
     }
 
-    fn after(&self, _task: usize, _call: usize, _permit: ()) {}
+    fn after<V: RecordLaw, F: Family<Posted<V>>>(
+        &self,
+        _task: usize,
+        _call: usize,
+        _entry: &Entry<V>,
+        _permit: (),
+    ) {}
 }
 
 const PLAN: &[u64] = &[1, 0];
 
-/// Whether so many tasks, 16 at most, made both their calls.
-fn met<R: Threads + Sync, F: SharedFamily<Posted<Band>>>(
+/// Runs so many tasks, 16 at most, and ends their board: the logs tell of one register, called in one order.
+fn meet<R: Threads + Sync, F: SharedFamily<Posted<Band>>>(
     rt: &R,
     alloc: Global,
     tasks: usize,
-) -> Result<bool, AllocError>
+) -> Result<(Vec<Vec<Entry<Band>>>, Posted<Band>), AllocError>
 where
     F::Seat: Send,
     F::Told: Send,
+    ensures ordered { IfOk result (λ r. (opening : Band) × (limit : ℕ) × LogsInOrder opening limit (map (λ v. v.items) r.0.items) r.1) }
 {
     let gate = Meeting {
         tasks,
@@ -79,7 +88,32 @@ where
         plans.push(PLAN)?;
     }
     let crew = run_plans::<R, F, Meeting>(rt, alloc, 9, plans.as_slice(), &gate)?;
-    Ok(made(crew.lanes.as_slice()) == (tasks as u64).saturating_mul(2))
+    let ended = finish_lanes(alloc, crew.board, crew.lanes)?;
+    Ok(ended)
+}
+
+/// Whether so many tasks made both their calls, a write and a read, each record in their logs has its origin, and the last record is one of
+/// the greatest that a task handed on.
+fn met<R: Threads + Sync, F: SharedFamily<Posted<Band>>>(
+    rt: &R,
+    alloc: Global,
+    tasks: usize,
+) -> Result<bool, AllocError>
+where
+    F::Seat: Send,
+    F::Told: Send,
+{
+    let (logs, last) = meet::<R, F>(rt, alloc, tasks)?;
+    let mut whole = logs.len() == tasks;
+    let mut greatest = 0;
+    for log in logs.as_slice() {
+        whole = whole & (log.len() == 2);
+        if let Some(entry) = log.last() {
+            greatest = greatest.max(entry.reply.stamp().tag);
+        }
+    }
+    let sound = check_origin(point(0), logs.as_slice()) == Origin::Sound;
+    Ok(whole & sound & (last.stamp.tag == greatest))
 }
 
 /// Whether all tasks meet, of 2 to 16.

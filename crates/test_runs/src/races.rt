@@ -1,6 +1,7 @@
-use board_live::Posted;
-use board_tasks::{CountingGate, Gate, TimedGate};
+use board_live::{Posted, RecordLaw};
+use board_tasks::{CountingGate, Entry, Gate, TimedGate};
 use family_four_slot::FourSlotFamily;
+use family_live::Family;
 use fsr_race_answers::race;
 use fsr_runs::Fault;
 use history_core::Band;
@@ -71,7 +72,13 @@ impl Gate for Meeting {
         None
     }
 
-    fn after(&self, _task: usize, _call: usize, _permit: ()) {}
+    fn after<V: RecordLaw, F: Family<Posted<V>>>(
+        &self,
+        _task: usize,
+        _call: usize,
+        _entry: &Entry<V>,
+        _permit: (),
+    ) {}
 }
 
 /// Stops one task before one call.
@@ -96,7 +103,13 @@ impl Gate for Stops {
         }
     }
 
-    fn after(&self, _task: usize, _call: usize, _permit: ()) {}
+    fn after<V: RecordLaw, F: Family<Posted<V>>>(
+        &self,
+        _task: usize,
+        _call: usize,
+        _entry: &Entry<V>,
+        _permit: (),
+    ) {}
 }
 
 #[test]

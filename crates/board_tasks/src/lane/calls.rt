@@ -69,8 +69,9 @@ impl<V: RecordLaw, F: Family<Posted<V>>> Lane<V, F> {
     {
         let wish = self.script[self.log.len()];
         let reply = answer(board, &mut self.pass, wish);
-        self.log.push_reserved(Entry { wish, reply });
-        gate.after(task, self.log.len(), permit);
+        let entry = Entry { wish, reply };
+        self.log.push_reserved(entry);
+        gate.after::<V, F>(task, self.log.len(), &entry, permit);
     }
 }
 
