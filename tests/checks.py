@@ -20,6 +20,7 @@ from pathlib import Path
 MARKS = "<!-- counted by tests/checks.py -->\n", "<!-- to here -->\n"
 # What scripts do without where it isn't there.
 TOOLS = {
+    "tests/soak.sh": ("gcc",),
     "tests/c.sh": ("gcc", "g++", "clang", "clang++", "cmake", "valgrind", "cargo"),
     "tests/c_controls.sh": ("gcc", "cargo"),
     "tests/recorder.sh": ("gcc", "g++", "clang", "clang++", "rustc", "cargo"),

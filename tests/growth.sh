@@ -10,10 +10,15 @@ for name in "${CC:-cc}" gcc clang; do
     fi
 done
 
-# Whether a run ended as one without memory does: `fsr` by its status and the line on standard error, `test_growths` by its answer.
+# Whether a run ended as one without memory does: `fsr` by its status and the line on standard error (a thread without memory can't start),
+# `test_growths` by its answer.
 is_refusal() {
     case $1 in
-    fsr) [ "$status" = 4 ] && [ ! -s "$room/out" ] && [ "$(cat "$room/err")" = "fsr: out of memory" ] ;;
+    fsr) [ ! -s "$room/out" ] && case "$status $words: $(cat "$room/err")" in
+        4*": fsr: out of memory") ;;
+        "6 race: fsr: a thread can't start") ;;
+        *) false ;;
+        esac ;;
     picture) [ "$status" = 4 ] && [ ! -s "$room/out" ] && [ "$(cat "$room/err")" = "picture: out of memory" ] ;;
     test_growths) [ "$status" = 0 ] && [ "$(cat "$room/out")" = "out of memory" ] && [ ! -s "$room/err" ] ;;
     esac
@@ -24,6 +29,7 @@ is_refusal() {
 refuse_each() {
     program=$1 input=$2
     shift 2
+    words=$*
     title="$program $* < $input with each request for memory refused"
     if ! has_program "$program"; then
         fail "$title" "$program wasn't built"

@@ -136,6 +136,12 @@ race_of 8 1250 50
 race_of 16 625 50
 race_of 2 5000 50
 
+# Where threads can't start, all of them or some, no race is run: in turn its tasks would show nothing.
+printf '{"kind":"race","opening":[0,0,0],"limit":9,"scripts":[["read"],["read"]]}' >"$room/two.json"
+race_document 16 160 50 >"$room/sixteen.json"
+starts_no_thread fsr 10000 "$room/two.json" race
+starts_no_thread fsr 20000 "$room/sixteen.json" race
+
 # The controls: what a race of two tasks with four calls each may tell, limit 2, and with one word changed; and documents that are told
 # otherwise.
 race_told() {
@@ -159,3 +165,5 @@ make_stub fsr <<'STUB'
 cat >/dev/null; echo 'task 0: 0 writes, 0 reads, 0 refused'; echo 'origin: task 0, entry 0'
 STUB
 catches "a race whose origin is unsound" "status 0, and it printed" over_stubs document_of '[1,1,3]' 1 '[[],[]]'
+catches "a race that is run in turn" "it ended with status 0" over_stubs starts_no_thread fsr 10000 "$room/two.json" race
+catches "a race whose threads start" "it ended with status 0" starts_no_thread fsr 4000000 "$room/two.json" race

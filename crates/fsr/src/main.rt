@@ -5,10 +5,25 @@ use board_live::Posted;
 use family_four_slot::FourSlotFamily;
 use fsr_answers::run;
 use fsr_runs::FSR;
-use fsr_streams::Over;
+use fsr_streams::{Over, tell};
 use fsr_words::words_of;
 use history_core::Band;
 use std::process::ExitCode;
+use thread_probe::can_start;
+
+/// The status where a thread can't start.
+const NO_THREAD: u8 = 6;
+
+/// A race of 16 tasks needs as many threads besides the caller's.
+const MOST_THREADS: usize = 15;
+
+/// Whether the words are those of a race. If no thread could start its tasks would run in turn, and show nothing.
+fn races(words: &[String]) -> bool {
+    match words {
+        [_, command] => command.as_str() == "race",
+        _ => false,
+    }
+}
 
 fn main(rt: HostRuntime) -> ExitCode {
     let mut faults = Over::new(rt.stderr());
@@ -16,6 +31,10 @@ fn main(rt: HostRuntime) -> ExitCode {
         Ok(words) => words,
         Err(status) => return ExitCode::from(status),
     };
+    if races(words.as_slice()) && !can_start(&rt, MOST_THREADS) {
+        tell(&mut faults, "fsr: a thread can't start\n");
+        return ExitCode::from(NO_THREAD);
+    }
     let mut input = Over::new(rt.stdin());
     let mut out = Over::new(rt.stdout());
     let status = run::<FourSlotFamily<Posted<Band>>, _, _, _, _, _>(

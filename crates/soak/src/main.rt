@@ -1,5 +1,6 @@
 //! Runs the running cells and boards for a time, and looks at each record that is read. `list` names what is run, `run MINUTES` runs
-//! it, and `planted` looks for a planted bug. A run ends with status 1 at the first torn, older or foreign record.
+//! it, and `planted` looks for a planted bug. A run ends with status 1 at the first torn, older or foreign record, and with status 6
+//! where a thread can't start.
 #![tactic(auto)]
 
 use board_live::Posted;
@@ -13,15 +14,19 @@ use soak_findings::{Finding, Tally, status};
 use soak_rounds::record::{Record, Shared};
 use soak_rounds::{pair, planted};
 use std::alloc::{AllocError, Global};
-use std::io;
 use std::process::ExitCode;
 use std::rt::Clock;
 use std::thread::Threads;
 use std::time::Instant;
+use std::{fmt, io};
+use thread_probe::can_start;
 
 const FOUR_SLOT: &str = "four_slot";
 
 const TRIPLE: &str = "triple";
+
+/// A board of 16 tasks needs as many threads besides the caller's.
+const THREADS: usize = 15;
 
 /// The planted register is given a minute, about.
 const PLANTED_ROUNDS: u64 = 500;
@@ -31,7 +36,58 @@ fn main(rt: HostRuntime) -> ExitCode {
         Ok(words) => command(&rt, rt.alloc(), words.as_slice()),
         Err(e) => Err(e),
     };
-    ExitCode::from(status(&ended))
+    let stop = match &ended {
+        Ok(_) => return ExitCode::from(status(&ended)),
+        Err(e) => Stop::of(e.kind()),
+    };
+    let _told = eprintln!(&rt; "soak: {stop}");
+    ExitCode::from(stop.status())
+}
+
+/// Why a soak can't go on. The statuses are those of `fsr`.
+#[derive(Clone, Copy)]
+enum Stop {
+    NoMemory,
+    /// Its text can't be written, or the words or the clock can't be read.
+    Stream,
+    NoThread,
+}
+
+impl Stop {
+    fn of(kind: io::ErrorKind) -> Stop {
+        match kind {
+            io::ErrorKind::OutOfMemory => Stop::NoMemory,
+            io::ErrorKind::WouldBlock => Stop::NoThread,
+            _ => Stop::Stream,
+        }
+    }
+
+    fn status(self) -> u8 {
+        match self {
+            Stop::NoMemory => 4,
+            Stop::Stream => 5,
+            Stop::NoThread => 6,
+        }
+    }
+}
+
+impl fmt::Display for Stop {
+    fn fmt<W: fmt::Write>(&self, f: &mut fmt::Formatter<W>) -> fmt::Result {
+        f.write_str(match self {
+            Stop::NoMemory => "out of memory",
+            Stop::Stream => "a stream or the clock failed",
+            Stop::NoThread => "a thread can't start",
+        })
+    }
+}
+
+/// Where a thread can't start, calls that were to run at once would run in turn, and show nothing.
+fn see_threads(rt: &impl Threads) -> io::Result<()> {
+    if can_start(rt, THREADS) {
+        Ok(())
+    } else {
+        Err(io::ErrorKind::WouldBlock.into())
+    }
 }
 
 fn words(rt: &HostRuntime) -> io::Result<Vec<String>> {
@@ -45,10 +101,12 @@ fn command<R: Clock + Print + Threads + Sync>(
 ) -> io::Result<Option<Finding>> {
     match words {
         [_, command, minutes] if command.as_str() == "run" => {
+            see_threads(rt)?;
             let minutes = minutes.as_str().parse::<u64>().unwrap_or(1);
             all(rt, alloc, minutes.saturating_mul(60_000_000_000) / 6)
         }
         [_, command] if command.as_str() == "planted" => {
+            see_threads(rt)?;
             let tally = planted::rounds(rt, alloc, PLANTED_ROUNDS)?;
             say(rt, "planted", 4096, 1, tally)?;
             Ok(tally.found)
