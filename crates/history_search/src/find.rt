@@ -4,7 +4,7 @@ ghost use Rattle.std.specs.Prelude.{◌≡◌, ◌↔◌, ℕ, ◌<◌, IfNone, 
 ghost use Rattle.history_search.specs.Searches.{AreForwards, IsAnswered, IsBackwards, IsFault, IsOneTerm};
 
 use crate::group::group_ops;
-use crate::limit::search_groups;
+use crate::group_search::search_groups;
 use crate::reason::{Search, SearchError};
 use history_core::{History, Op, Term};
 use std::alloc::Global;

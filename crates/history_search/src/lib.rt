@@ -5,7 +5,7 @@
 mod cut;
 mod find;
 mod group;
-mod limit;
+mod group_search;
 mod rank;
 mod reason;
 mod span;

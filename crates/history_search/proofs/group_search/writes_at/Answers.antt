@@ -1,7 +1,7 @@
 -- What was found is what stands at the place.
 use Rattle.std.proofs.Common.{◌≡◌, Option, Some, None, slice_get, length, refl, rules}
 use Rattle.std.proofs.lemmas.Option.{slice_get_read, slice_get_past}
-use Rattle.history_search.proofs.limit.writes_at.Goals as goal
+use Rattle.history_search.proofs.group_search.writes_at.Goals as goal
 
 pub returns-then-eq : goal.returns-then-eq
 returns-then-eq g c =

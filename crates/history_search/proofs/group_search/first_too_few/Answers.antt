@@ -4,7 +4,7 @@ use Rattle.std.specs.Prelude.{if◌then◌else◌}
 use Rattle.std.proofs.lemmas.Option.{slice_get-get_or}
 use Rattle.history_core.specs.Orders.{is_write_at}
 use Rattle.history_search.proofs.Loops.{few_more, none_refused, refusal_at, writes_next}
-use Rattle.history_search.proofs.limit.first_too_few.Goals as goal
+use Rattle.history_search.proofs.group_search.first_too_few.Goals as goal
 
 pub loop-i-init : goal.loop-i-init
 loop-i-init g c = search rules

@@ -3,7 +3,7 @@ use Rattle.std.proofs.Common.{ℕ, List, Option, Some, inr, sym, ap, subst, map,
 use Rattle.history_search.specs.declared.rank.Rank.{Rank}
 use Rattle.history_search.specs.inner.Found.{AreSorted, HasEnough, refused_in}
 use Rattle.history_search.proofs.Assembled.{none_of}
-use Rattle.history_search.proofs.limit.order_late.Goals as goal
+use Rattle.history_search.proofs.group_search.order_late.Goals as goal
 
 pub returns-in-None : goal.returns-in-None
 returns-in-None g c =

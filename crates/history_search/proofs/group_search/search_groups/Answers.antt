@@ -2,7 +2,7 @@
 use Rattle.std.proofs.lemmas.Result.{IfOk-weaker}
 use Rattle.history_search.specs.inner.Found.{IsFound, IsGroupSearch}
 use Rattle.history_search.proofs.Assembled.{prepared_found}
-use Rattle.history_search.proofs.limit.search_groups.Goals as goal
+use Rattle.history_search.proofs.group_search.search_groups.Goals as goal
 
 pub returns : goal.returns
 returns g c =

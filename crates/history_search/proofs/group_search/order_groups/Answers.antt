@@ -3,7 +3,7 @@ use Rattle.std.proofs.Common.{â„•, List, inl, sym, ap, subst, map, slice_get, â—
 use Rattle.history_search.specs.declared.rank.Rank.{Rank}
 use Rattle.history_search.specs.inner.Found.{crossing_of, HasEnough}
 use Rattle.history_search.proofs.Assembled.{crossing_from, if_none, straight_from}
-use Rattle.history_search.proofs.limit.order_groups.Goals as goal
+use Rattle.history_search.proofs.group_search.order_groups.Goals as goal
 
 pub returns-in-Some : goal.returns-in-Some
 returns-in-Some g c =

@@ -2,7 +2,7 @@
 use Rattle.std.proofs.Common.{◌≡◌, ◌≤◌, take, true}
 use Rattle.history_core.specs.Orders.{writes_in}
 use Rattle.history_search.specs.inner.Limits.{NoneRefused}
-use Rattle.history_search.proofs.limit.first_too_few.Given as goal
+use Rattle.history_search.proofs.group_search.first_too_few.Given as goal
 
 abbrev pub invariant-loop-i : goal.invariant-loop-i
 invariant-loop-i g l = record {
