@@ -1,5 +1,5 @@
-"""The exports of the library for C, made from two texts: for each cell and size of record the same six calls, and for each family and
-size of a board's record the same five.
+"""The exports of the library for C, made from two texts: for each cell and size of record the same six calls, of a triple buffer one
+more, and for each family and size of a board's record the same five.
 
     exports.py write     writes crates/c_exports/src/exports.rt and exports/
     exports.py check     compares them, and what c/nidzaru.h declares and c/tests/control.c has, with the text below
@@ -14,8 +14,8 @@ EXPORTS = os.path.join(TOP, "crates/c_exports/src/exports")
 SIZES = (8, 24, 64, 128, 256, 1024, 4096)
 BOARD_SIZES = (24, 256, 4096)
 CELLS = {
-    "four_slot": {"words": "A four-slot cell", "prefix": "", "specs": "FourSlotCalls", "name": "four_slot", "party": ""},
-    "triple": {"words": "A triple buffer", "prefix": "triple_", "specs": "TripleCalls", "name": "triple", "party": "Triple"},
+    "four_slot": {"words": "A four-slot cell", "prefix": "", "specs": "FourSlotCalls", "name": "four_slot", "party": "", "holds": ""},
+    "triple": {"words": "A triple buffer", "prefix": "triple_", "specs": "TripleCalls", "name": "triple", "party": "Triple", "holds": ", at_hand"},
 }
 
 FAMILIES = {
@@ -23,13 +23,14 @@ FAMILIES = {
     "triple_board": {"words": "A board over triple buffers", "prefix": "triple_", "family": "Triple", "variant": "TripleBoard"},
 }
 
-HEAD = """//! The exports: for each cell and size a make, a write, a read, a look and an end of either side, for each family and size of a
-//! board a make, a write, two reads and an end, and the library's version. The files of cells and boards are made by c/exports.py.
+HEAD = """//! The exports: for each cell and size a make, a write, a read, a look and an end of either side, and of a triple buffer a hold; for
+//! each family and size of a board a make, a write, two reads and an end; and the library's version. The files of cells and boards are
+//! made by c/exports.py.
 """
 
 TEXT = """//! {words} with records of {bytes} bytes.
-ghost use Rattle.c_registers.specs.{specs}.{{IsMade, HasWritten, HasRead}};
-ghost use Rattle.c_registers.specs.Handles.{{IsMake, IsWrite, IsRead, IsLook, IsEnd}};
+ghost use Rattle.c_registers.specs.{specs}.{{IsMade, HasWritten, HasRead{holds}}};
+ghost use Rattle.c_registers.specs.Handles.{{IsMake, IsWrite, IsRead, IsLook, {is_hold}IsEnd}};
 ghost use Rattle.c_handles.specs.Held.{{held}};
 ghost use Rattle.c_handles.specs.declared.side.Side.TheVariants.{{Of{size}}};
 ghost use Rattle.c_handles.specs.declared.side.Party.TheVariants.{{{party}Writes, {party}Reads}};
@@ -76,7 +77,7 @@ pub extern "C" fn nidzaru_{prefix}{size}_look(alloc: Global, reader: &mut Handle
 {{
     {name}_look::<Record{size}>(alloc, reader, number)
 }}
-
+{hold}
 #[unsafe(no_mangle)]
 pub extern "C" fn nidzaru_{prefix}{size}_end_writer(alloc: Global, writer: &mut Handle) -> u32
     ensures {{ IsEnd (λ p. Of{size} ({party}Writes p)) (held writer.old) (held writer.new) result }}
@@ -92,6 +93,15 @@ pub extern "C" fn nidzaru_{prefix}{size}_end_reader(alloc: Global, reader: &mut 
 }}
 """
 
+HOLD_TEXT = """
+#[unsafe(no_mangle)]
+pub extern "C" fn nidzaru_{prefix}{size}_hold<'a>(reader: &'a mut Handle, at: &mut &'a Record{size}) -> u32
+    ensures {{ IsHold (λ g. Of{size} ({party}Reads g)) at_hand (held reader.old) at.old.now at.new.now result }}
+{{
+    {name}_hold::<Record{size}>(reader, at)
+}}
+"""
+
 
 BOARD_TEXT = """//! {words} with records of {bytes} bytes.
 ghost use Rattle.c_registers.specs.Handles.{{IsEnd}};
@@ -99,8 +109,8 @@ ghost use Rattle.c_boards.specs.Places.{{IsBoardMake, IsBoardWrite, IsBoardRead,
 ghost use Rattle.c_handles.specs.Held.{{held, live_of, side_of}};
 ghost use Rattle.c_handles.specs.declared.side.Side.TheVariants.{{{variant}{size}}};
 
-use c_handles::{{{names}}};
 use c_boards::{{Mark, Posts}};
+use c_handles::{{{names}}};
 use std::alloc::Global;
 
 #[unsafe(no_mangle)]
@@ -166,9 +176,11 @@ pub extern "C" fn nidzaru_{prefix}board_{size}_end(alloc: Global, place: &mut Ha
 
 
 def export(size, cell):
-    calls = ("end_reader", "end_writer", "look", "make", "read", "write")
+    calls = ("end_reader", "end_writer", *(["hold"] if cell["holds"] else []), "look", "make", "read", "write")
     names = ["Handle", f"Record{size}", *(f"{cell['name']}_{call}" for call in calls)]
-    return TEXT.format(size=size, bytes=f"{size:,}", names=", ".join(sorted(names)), **cell)
+    hold = HOLD_TEXT.format(size=size, **cell) if cell["holds"] else ""
+    is_hold = "IsHold, " if cell["holds"] else ""
+    return TEXT.format(size=size, bytes=f"{size:,}", names=", ".join(sorted(names)), hold=hold, is_hold=is_hold, **cell)
 
 
 def board_export(size, family):
@@ -216,6 +228,9 @@ def faults():
     there = {f"exports/{name}" for name in os.listdir(EXPORTS)} - {"exports/version.rt"}
     yield from (f"crates/c_exports/src/{name} is made by nothing" for name in sorted(there - set(files)))
     cells = [f"{cell['prefix']}{size}" for cell in CELLS.values() for size in SIZES]
+    held = [f"{cell['prefix']}{size}" for cell in CELLS.values() for size in SIZES if cell["holds"]]
+    if re.findall(r"^NIDZARU_DECLARE_HOLD\((\w+)\)", read(TOP, "c/nidzaru.h"), re.M) != held:
+        yield "c/nidzaru.h declares other holds"
     if re.findall(r"^NIDZARU_DECLARE\((\w+)\)", read(TOP, "c/nidzaru.h"), re.M) != cells:
         yield "c/nidzaru.h declares other cells"
     if re.findall(r"^NIDZARU_DECLARE_BOARD\((\w+)\)", read(TOP, "c/nidzaru.h"), re.M) != boards():
@@ -234,7 +249,7 @@ if sys.argv[1:] == ["write"]:
             file.write(text)
 elif sys.argv[1:] == ["check"]:
     found = list(faults())
-    print("\n".join(found) or f"{6 * len(CELLS) * len(SIZES)} exports of {len(CELLS) * len(SIZES)} cells, {5 * len(boards())} of {len(boards())} boards")
+    print("\n".join(found) or f"{(6 * len(CELLS) + 1) * len(SIZES)} exports of {len(CELLS) * len(SIZES)} cells, {5 * len(boards())} of {len(boards())} boards")
     sys.exit(1 if found else 0)
 else:
     sys.exit(__doc__)

@@ -240,6 +240,17 @@ NIDZARU_DECLARE(triple_1024)
 NIDZARU_DECLARE(triple_4096)
 #undef NIDZARU_DECLARE
 
+/* Of a triple buffer one more: it makes *at, which leads to a whole record before, lead to the record of the last read or look. */
+#define NIDZARU_DECLARE_HOLD(cell) uint32_t nidzaru_##cell##_hold(nidzaru_side *reader, const void **at);
+NIDZARU_DECLARE_HOLD(triple_8)
+NIDZARU_DECLARE_HOLD(triple_24)
+NIDZARU_DECLARE_HOLD(triple_64)
+NIDZARU_DECLARE_HOLD(triple_128)
+NIDZARU_DECLARE_HOLD(triple_256)
+NIDZARU_DECLARE_HOLD(triple_1024)
+NIDZARU_DECLARE_HOLD(triple_4096)
+#undef NIDZARU_DECLARE_HOLD
+
 #if NIDZARU_WATCHED
 /* What ThreadSanitizer is told: it is to ignore what the library does, and what was done before a write comes before what is
  * done after a read of the same register. Each register is known by a byte of its own; from the 65,537th on some share one. */
@@ -352,6 +363,37 @@ NIDZARU_CHECKED int nidzaru_sized_look(int triple, size_t size, nidzaru_handle *
     nidzaru_heed();
     NIDZARU_FILLED(&status, sizeof status);
     if (!status) NIDZARU_FILLED(number, sizeof *number);
+    return NIDZARU_TO(int, status);
+}
+
+NIDZARU_INLINE uint32_t nidzaru_pick_hold(size_t size, nidzaru_side *side, const void **at) {
+    return size == 8      ? nidzaru_triple_8_hold(side, at)
+           : size == 24   ? nidzaru_triple_24_hold(side, at)
+           : size == 64   ? nidzaru_triple_64_hold(side, at)
+           : size == 128  ? nidzaru_triple_128_hold(side, at)
+           : size == 256  ? nidzaru_triple_256_hold(side, at)
+           : size == 1024 ? nidzaru_triple_1024_hold(side, at)
+                          : nidzaru_triple_4096_hold(side, at);
+}
+
+NIDZARU_CHECKED int nidzaru_sized_hold(size_t size, nidzaru_handle *r, const void **at, uint64_t *number) {
+    static const uint64_t nothing[512] = {0};
+    const void *held = nothing;
+    uint64_t given = 0;
+    uint32_t status;
+    nidzaru_begin(r);
+    status = NIDZARU_PICK(1, size, look, (&r->side, &given));
+    if (!status) status = nidzaru_pick_hold(size, &r->side, &held);
+    nidzaru_see(r);
+    nidzaru_heed();
+    NIDZARU_FILLED(&status, sizeof status);
+    if (!status) {
+        NIDZARU_FILLED(&given, sizeof given);
+        NIDZARU_FILLED(&held, sizeof held);
+        NIDZARU_FILLED(held, size);
+        *at = held;
+        *number = given;
+    }
     return NIDZARU_TO(int, status);
 }
 
@@ -483,6 +525,25 @@ NIDZARU_CHECKED int nidzaru_move_handle(nidzaru_handle *to, nidzaru_handle *from
  * NAME_move_writer, NAME_move_reader, NAME_end_writer and NAME_end_reader, for records of this type. */
 #define NIDZARU_REGISTER(name, type) NIDZARU_FUNCTIONS(name, type, 0)
 #define NIDZARU_TRIPLE_REGISTER(name, type) NIDZARU_FUNCTIONS(name, type, 1)
+
+/* NIDZARU_HOLD(name), below NIDZARU_TRIPLE_REGISTER(name, type), makes NAME_hold: a read without a copy, of records aligned to at most 8.
+ *
+ *   limits_hold(&reader, &at, &number)                 makes `at` lead to one whole record where it lies, and gives its number
+ *
+ * No write goes there until the next call with this reader: then, or when its side is moved or ended, nothing is read through `at` any
+ * more. Over four-slot cells it answers NIDZARU_OTHER_SIDE. */
+#define NIDZARU_HOLD(name)                                                                                             \
+    NIDZARU_ASSERT(NIDZARU_ALIGNMENT(name##_record) <= 8, "a record that is read where it lies is aligned to at most 8");   \
+    NIDZARU_CHECKED int name##_hold(name##_reader *reader, const name##_record **at, uint64_t *number) {               \
+        const void *held = NIDZARU_NOWHERE;                                                                            \
+        int status;                                                                                                    \
+        if (!reader || !at || !number) return NIDZARU_NULL;                                                            \
+        if (nidzaru_is_copied(&reader->handle)) return NIDZARU_COPIED;                                                 \
+        status = nidzaru_sized_hold(NIDZARU_SIZE(sizeof(name##_record)), &reader->handle, &held, number);              \
+        if (!status) *at = NIDZARU_TO(const name##_record *, held);                                                    \
+        return status;                                                                                                 \
+    }                                                                                                                  \
+    NIDZARU_ASSERT(1, "takes a semicolon")
 
 /* Boards: one record that 2 to 16 threads share. Each has a place, by which it writes and reads.
  *

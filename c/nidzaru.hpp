@@ -7,6 +7,7 @@
 //   reader.latest()                                              one whole record, if there is a side
 //   reader.has_news()                                            whether `latest` would give another record than the last one
 //   reader.news()                                                one whole record, if it is another one than the last
+//   reader.hold()                                                where one whole record lies, over a triple buffer
 //
 //   auto places = nidzaru::make_board<3>(plan{})                 the three places of a board that holds this plan
 //   places[0].write(item, stamp)                                 puts the record there, and gives its stamp
@@ -178,6 +179,16 @@ template <class T, cell C = cell::four_slot> class reader : detail::side {
     // Gives the number that a read would give, without the record. No later read gives a number below it.
     [[nodiscard]] int look(std::uint64_t &number) noexcept {
         return nidzaru_sized_look(record::triple, record::size, &handle, &number);
+    }
+
+    // Where one whole record lies, whose number is `number()` then; null where there is no side. No write goes there until the next call
+    // of this reader, but for `number()`: from then on nothing is read through it. Of triple buffers alone.
+    [[nodiscard]] const T *hold() noexcept {
+        static_assert(C == cell::triple, "a four-slot cell's records are read into place: a triple buffer has hold()");
+        static_assert(alignof(T) <= 8, "a record that is read where it lies is aligned to at most 8");
+        const void *at = nullptr;
+        if (nidzaru_sized_hold(record::size, &handle, &at, &last)) return nullptr;
+        return std::launder(static_cast<const T *>(at));
     }
 
     // Whether a read would give a greater number than the last read: than 0, the opening's, where there was none.

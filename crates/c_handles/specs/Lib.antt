@@ -1,2 +1,3 @@
 pub mod Loosely
 pub mod Held
+pub mod Reached

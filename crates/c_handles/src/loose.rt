@@ -72,6 +72,23 @@ impl Loose {
     }
 }
 
+impl Loose {
+    ghost use Rattle.std.specs.Borrow.{sem, Lends};
+    ghost use Rattle.c_handles.specs.Reached.{with_side};
+    ghost use Rattle.c_handles.specs.contracts.loose.Loose as loose;
+    ghost use Rattle.c_handles.specs.contracts.side.Side as sides;
+
+    /// Lends the side in the box.
+    #[inline]
+    pub fn reach<'a>(&'a mut self) -> &'a mut Side
+        requires { self.old.full ≡ true }
+        ensures* lent { sem 𝓛 (Lends loose.the_row sides.the_row self.entry result (with_side self.old)) }
+        ensures value { result.now ≡ self.old.side }
+    {
+        unsafe { &mut *(self.at as *mut Side) }
+    }
+}
+
 impl Holds<Side> for Loose {
     ghost full = { λ l. l.full };
 

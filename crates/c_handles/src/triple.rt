@@ -1,6 +1,6 @@
 //! The calls of C on a triple buffer, over any size.
-ghost use Rattle.c_registers.specs.TripleCalls.{IsMade, HasWritten, HasRead};
-ghost use Rattle.c_registers.specs.Handles.{IsMake, IsWrite, IsRead, IsLook, IsEnd};
+ghost use Rattle.c_registers.specs.TripleCalls.{IsMade, HasWritten, HasRead, at_hand};
+ghost use Rattle.c_registers.specs.Handles.{IsMake, IsWrite, IsRead, IsLook, IsHold, IsEnd};
 ghost use Rattle.c_handles.specs.Held.{held};
 ghost use Rattle.c_handles.specs.declared.side.Party.TheVariants.{TripleWrites, TripleReads};
 
@@ -8,7 +8,9 @@ use crate::handle::Handle;
 use crate::loose::Loose;
 use crate::pick::Record;
 use crate::side::Side;
-use c_registers::{TripleReader, TripleWriter, end, look, make, read, write};
+use c_registers::{
+    DONE, ENDED, OTHER_SIDE, TripleReader, TripleWriter, end, hold, look, make, read, write,
+};
 use std::alloc::Global;
 
 /// Puts both sides of a new cell into the handles.
@@ -53,6 +55,24 @@ pub fn triple_look<W: Record>(alloc: Global, reader: &mut Handle, number: &mut u
     ensures { IsLook (λ g. W.side (TripleReads g)) HasRead (held reader.old) (held reader.new) number.old number.new result }
 {
     look::<Side, Loose, W, TripleReader<W>>(alloc, reader.live, &mut reader.loose, number)
+}
+
+/// Gives the record that a read or a look gave last, where it lies, until the handle is used again.
+#[inline]
+pub fn triple_hold<'a, W: Record>(reader: &'a mut Handle, at: &mut &'a W) -> u32
+    ensures { IsHold (λ g. W.side (TripleReads g)) at_hand (held reader.old) at.old.now at.new.now result }
+{
+    if reader.live == 0 {
+        return ENDED;
+    }
+    let side = reader.loose.reach();
+    match hold::<Side, W>(side) {
+        None => OTHER_SIDE,
+        Some(record) => {
+            *at = &record.words;
+            DONE
+        }
+    }
 }
 
 /// Ends the writing side.

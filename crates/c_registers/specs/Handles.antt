@@ -57,6 +57,12 @@ module _ {D : Type 0} where
     ended : h.live ≡ 0 → Keeps h k → number' ≡ number → IsLook reads has_read h k number number' 3
     other : HasOther reads h → Keeps h k → number' ≡ number → IsLook reads has_read h k number number' 5
 
+  -- a call that makes what led to one record lead to the last answer's, and its status: the handle before, and the two records
+  pub data IsHold {G W : Type 0} (reads : G → D) (at_hand : G → Numbered W) (h : Holding D) (seen seen' : W) : ℕ → Type 0 where
+    done : (g : G) → Has h (reads g) → seen' ≡ (at_hand g).words → IsHold reads at_hand h seen seen' 0
+    ended : h.live ≡ 0 → seen' ≡ seen → IsHold reads at_hand h seen seen' 3
+    other : HasOther reads h → seen' ≡ seen → IsHold reads at_hand h seen seen' 5
+
   -- a call that ends a side, and its status
   pub data IsEnd {S : Type 0} (side : S → D) (h k : Holding D) : ℕ → Type 0 where
     done : (s : S) → Has h (side s) → k.live ≡ 0 → IsEnd side h k 0

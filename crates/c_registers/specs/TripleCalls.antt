@@ -1,24 +1,26 @@
 -- What the calls do to the sides of a triple buffer (this project's definitions).
-use Rattle.std.specs.Prelude.{◌≡◌, ◌+◌, ◌≤◌, [], ◌∷◌, ◌++◌}
+use Rattle.std.specs.Prelude.{◌≡◌, ◌≢◌, ◌+◌, ◌≤◌, [], ◌∷◌, ◌++◌}
 use Rattle.std.specs.Arc.{arc_value}
 use Rattle.cell_live.specs.Intervals.{IsNextAnswer, IsNextCall, no_times, none_known}
 use Rattle.cell_live.specs.Running.{IsAnswer}
 use Rattle.cell_triple.specs.Words.{opening_of, written_by, answers_of, told_to, swaps_of_put, loads_of, swaps_of}
-use Rattle.cell_triple.specs.Words.{put_times, get_times, numbers_of, known_to}
+use Rattle.cell_triple.specs.Words.{put_times, get_times, numbers_of, known_to, at_hand_of}
+use Rattle.cell_triple.specs.Lent.{IsSame}
 use Rattle.c_registers.specs.Numbers.{Always, After, numbered}
 use Rattle.c_registers.specs.declared.numbered.Numbered.{Numbered}
 use Rattle.c_registers.specs.declared.triple.TripleWriter.{TripleWriter}
+use Rattle.c_registers.specs.declared.triple.TripleEnds.{TripleEnds}
 use Rattle.c_registers.specs.declared.triple.TripleReader.{TripleReader}
 
 module _ {W : Type 0} where
   -- the two sides are of one new cell, which opened with the record under the number 0
   pub record IsMade (p : TripleWriter W) (g : TripleReader W) (w : W) : Type 0 where
-    pub one : arc_value p.cell ≡ arc_value g.cell
+    pub one : arc_value p.cell ≡ arc_value g.room.inner.cell
     pub opening : opening_of (arc_value p.cell) ≡ numbered 0 w
     pub unwritten : written_by p.put.value ≡ []
-    pub unread : answers_of g.get.value ≡ []
-    pub timeless : (put_times p.put.value ≡ no_times) × (get_times g.get.value ≡ no_times)
-    pub unknown : (numbers_of g.get.value ≡ []) × (known_to g.get.value ≡ none_known)
+    pub unread : answers_of g.room.inner.get.value ≡ []
+    pub timeless : (put_times p.put.value ≡ no_times) × (get_times g.room.inner.get.value ≡ no_times)
+    pub unknown : (numbers_of g.room.inner.get.value ≡ []) × (known_to g.room.inner.get.value ≡ none_known)
 
   -- the writing side before and after a write of the record: it is written under the next number, and nothing else, by at most three
   -- control accesses, in an interval after the write before
@@ -32,11 +34,32 @@ module _ {W : Type 0} where
   -- the reading side before and after a read: the answer follows the opening, the answer before and what was told, and comes by at most
   -- three control accesses. It was written: it is the record with its place of the writes known, whole, and with these all answers are
   -- atomic by their intervals
-  pub record HasRead (g h : TripleReader W) (a : Numbered W) : Type 0 where
+  pub record HasReadBy (g h : TripleEnds W) (a : Numbered W) : Type 0 where
     pub same : h.cell ≡ g.cell
+    pub at_hand : at_hand_of h.get.value ≡ a
     pub answers : answers_of h.get.value ≡ answers_of g.get.value ++ a ∷ []
     pub accesses : loads_of h.get.value + swaps_of h.get.value ≤ loads_of g.get.value + swaps_of g.get.value + 3
     pub running : IsAnswer Always After (opening_of (arc_value g.cell)) (answers_of g.get.value) (told_to g.get.value) a
     pub timed : IsNextCall (get_times g.get.value) (get_times h.get.value)
     pub written : IsNextAnswer (opening_of (arc_value g.cell)) (known_to g.get.value) (known_to h.get.value) (numbers_of g.get.value) (numbers_of h.get.value)
         (answers_of h.get.value) (get_times h.get.value) a
+
+  abbrev pub HasRead : TripleReader W → TripleReader W → Numbered W → Type 0
+  HasRead g h a = HasReadBy g.room.inner h.room.inner a
+
+  -- the last answer, or the opening
+  abbrev pub at_hand : TripleReader W → Numbered W
+  at_hand g = at_hand_of g.room.inner.get.value
+
+  -- the second reading side is the first one: it has the same cell, knows the same, and holds the same record in the same slot
+  pub record StaysBy (g h : TripleEnds W) : Type 0 where
+    pub same : h.cell ≡ g.cell
+    pub pass : IsSame g.get.value h.get.value
+
+  abbrev pub Stays : TripleReader W → TripleReader W → Type 0
+  Stays g h = StaysBy g.room.inner h.room.inner
+
+  -- the same of what may be such a side
+  pub data StaysAmong {D : Type 0} (reads : TripleReader W → D) (d d' : D) : Type 0 where
+    reader : (g h : TripleReader W) → d ≡ reads g → d' ≡ reads h → Stays g h → StaysAmong reads d d'
+    other : ((g : TripleReader W) → d ≢ reads g) → d' ≡ d → StaysAmong reads d d'

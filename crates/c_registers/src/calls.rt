@@ -1,10 +1,16 @@
 //! The calls of C, over any record, cell, side and handle.
-ghost use Rattle.std.specs.Prelude.{◌≡◌, ◌≢◌, true, false, IfSome};
+ghost use Rattle.std.specs.Prelude.{◌≡◌, ◌≢◌, true, false, IfSome, IfNone, ⊤};
+ghost use Rattle.std.specs.Borrow.{sem, follows_so};
+ghost use mathlib.Core.Option.{none};
 ghost use Rattle.c_registers.specs.Handles.{holding, IsMake, IsWrite, IsRead, IsLook, IsEnd};
+ghost use Rattle.c_registers.specs.TripleCalls.{at_hand, StaysAmong};
+ghost use Rattle.c_registers.specs.declared.triple.TripleReader.{TripleReader};
 
 use crate::hands::{Hand, Holds, Offers};
+use crate::numbered::Numbered;
 use crate::roles::{Opens, Reading, Writing};
 use crate::status::{DONE, ENDED, IN_USE, NO_MEMORY, OTHER_SIDE, WORN_OUT};
+use crate::triple::TripleReader;
 use std::alloc::Global;
 
 /// The side in a box, where there is memory.
@@ -86,6 +92,19 @@ fn look_among<D: Offers<G>, W: Copy, G: Reading<W>>(side: &mut D, number: &mut u
             *number = get.look();
             DONE
         }
+    }
+}
+
+/// Lends the last answer of the reading side of a triple buffer, where it is one, until that side is used again.
+#[inline]
+pub fn hold<'a, D: Offers<TripleReader<W>>, W: Copy>(side: &'a mut D) -> Option<&'a Numbered<W>>
+    ensures* stays { sem 𝓛 (follows_so D.row D.row side.entry.ghost_name none (λ _ _. ⊤) (λ d. StaysAmong D.side side.old d)) }
+    ensures some { IfSome result (λ a. (g : TripleReader W) × (side.old ≡ D.side g) × (a.now ≡ at_hand g)) }
+    ensures none { IfNone result ((g : TripleReader W) → side.old ≢ D.side g) }
+{
+    match side.of() {
+        None => None,
+        Some(get) => Some(get.hold()),
     }
 }
 

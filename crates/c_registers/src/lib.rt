@@ -10,13 +10,15 @@ mod four_slot;
 mod hands;
 mod numbered;
 mod roles;
+mod room;
 mod status;
 mod triple;
 
-pub use calls::{end, look, make, read, write};
+pub use calls::{end, hold, look, make, read, write};
 pub use four_slot::{FourSlotReader, FourSlotWriter};
 pub use hands::{Hand, Holds, Offers};
 pub use numbered::Numbered;
 pub use roles::{Opens, Reading, Writing};
+pub use room::Room;
 pub use status::{DONE, ENDED, IN_USE, LIMIT, NO_MEMORY, OLDER, OTHER_SIDE, PROCESSES, WORN_OUT};
-pub use triple::{TripleReader, TripleWriter};
+pub use triple::{TripleEnds, TripleReader, TripleWriter};

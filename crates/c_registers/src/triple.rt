@@ -5,11 +5,13 @@ ghost use Rattle.cell_live.specs.Running.{last_or};
 ghost use Rattle.cell_triple.specs.Words.{opening_of, is_put_of, is_get_of, written_by};
 
 use crate::numbered::Numbered;
+use crate::room::Room;
 use cell_triple::{TripleCell, TripleGet, TriplePut};
 use std::alloc::Global;
 use std::sync::Arc;
 
 mod calls;
+mod ends;
 
 /// The writing side.
 #[derive(Drop)]
@@ -23,10 +25,16 @@ pub struct TripleWriter<W: Copy> {
     ghost last: { (last_or (opening_of (arc_value cell)) (written_by put.value)).number ≡ number },
 }
 
-/// The reading side.
+/// A pass and a share of a cell.
 #[derive(Drop)]
-pub struct TripleReader<W: Copy> {
+pub struct TripleEnds<W: Copy> {
     pub cell: Arc<TripleCell<Numbered<W>>, Global>,
     pub get: Box<TripleGet<Numbered<W>>>,
-    ghost own: { is_get_of (arc_value cell) get.value },
+}
+
+/// The reading side: a pass with a share of its cell.
+#[derive(Drop)]
+pub struct TripleReader<W: Copy> {
+    pub room: Room<TripleEnds<W>>,
+    ghost own: { is_get_of (arc_value room.inner.cell) room.inner.get.value },
 }

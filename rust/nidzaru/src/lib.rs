@@ -371,6 +371,43 @@ impl<T: Copy + Send, M: Mechanism> Reader<T, M> {
     }
 }
 
+impl<T: Copy + Send> Reader<T, Triple> {
+    /// One whole record where it lies, whose number is [`number`](Reader::number) then. No write goes there as long as it is borrowed.
+    ///
+    /// ```
+    /// let (mut writer, mut reader) = nidzaru::triple_register([0_u64; 512])?;
+    /// writer.write(&[7; 512])?;
+    /// assert_eq!(reader.hold()[511], 7);
+    /// assert_eq!(reader.number(), 1);
+    /// # Ok::<(), Box<dyn std::error::Error>>(())
+    /// ```
+    ///
+    /// It is borrowed until the reader's next call:
+    ///
+    /// ```compile_fail,E0499
+    /// let (_writer, mut reader) = nidzaru::triple_register(1_u64).unwrap();
+    /// let held = reader.hold();
+    /// reader.latest();
+    /// println!("{held}");
+    /// ```
+    ///
+    /// A record that is aligned to more than 8 isn't held where it lies:
+    ///
+    /// ```compile_fail,E0080
+    /// #[derive(Clone, Copy)]
+    /// #[repr(align(16))]
+    /// struct Wide(u64);
+    /// let (_writer, mut reader) = nidzaru::triple_register(Wide(1)).unwrap();
+    /// reader.hold();
+    /// ```
+    #[inline]
+    pub fn hold(&mut self) -> &T {
+        let (item, number) = raw::hold(Known::<T, Triple>::CALLS, &mut self.side);
+        self.last = number;
+        item
+    }
+}
+
 impl<T: Copy + Send, M: Mechanism> fmt::Debug for Writer<T, M> {
     fn fmt(&self, to: &mut fmt::Formatter<'_>) -> fmt::Result {
         to.debug_struct("Writer").finish_non_exhaustive()

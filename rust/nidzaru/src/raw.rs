@@ -45,6 +45,7 @@ type Make = unsafe extern "C" fn(*const c_void, *mut Side, *mut Side) -> u32;
 type Write = unsafe extern "C" fn(*mut Side, *const c_void) -> u32;
 type Read = unsafe extern "C" fn(*mut Side, *mut c_void, *mut u64) -> u32;
 type Look = unsafe extern "C" fn(*mut Side, *mut u64) -> u32;
+type Hold = unsafe extern "C" fn(*mut Side, *mut *const c_void) -> u32;
 type End = unsafe extern "C" fn(*mut Side) -> u32;
 
 /// The calls of one cell, over records of one size.
@@ -95,6 +96,29 @@ calls!(TRIPLE_128, 128, "triple_128");
 calls!(TRIPLE_256, 256, "triple_256");
 calls!(TRIPLE_1024, 1024, "triple_1024");
 calls!(TRIPLE_4096, 4096, "triple_4096");
+
+extern "C" {
+    fn nidzaru_triple_8_hold(reader: *mut Side, at: *mut *const c_void) -> u32;
+    fn nidzaru_triple_24_hold(reader: *mut Side, at: *mut *const c_void) -> u32;
+    fn nidzaru_triple_64_hold(reader: *mut Side, at: *mut *const c_void) -> u32;
+    fn nidzaru_triple_128_hold(reader: *mut Side, at: *mut *const c_void) -> u32;
+    fn nidzaru_triple_256_hold(reader: *mut Side, at: *mut *const c_void) -> u32;
+    fn nidzaru_triple_1024_hold(reader: *mut Side, at: *mut *const c_void) -> u32;
+    fn nidzaru_triple_4096_hold(reader: *mut Side, at: *mut *const c_void) -> u32;
+}
+
+/// What holds a record of a triple buffer, by the library's size.
+const fn hold_for(size: usize) -> Hold {
+    match size {
+        8 => nidzaru_triple_8_hold,
+        24 => nidzaru_triple_24_hold,
+        64 => nidzaru_triple_64_hold,
+        128 => nidzaru_triple_128_hold,
+        256 => nidzaru_triple_256_hold,
+        1024 => nidzaru_triple_1024_hold,
+        _ => nidzaru_triple_4096_hold,
+    }
+}
 
 extern "C" {
     fn nidzaru_version() -> u32;
@@ -313,6 +337,23 @@ pub fn look(calls: &'static Calls, reader: &mut ReadingSide) -> u64 {
     // The pointer leads to a number.
     must_be_done(reader.order.see(|| unsafe { (calls.look)(&mut reader.side, &mut number) }));
     number
+}
+
+/// Where a record of a triple buffer's lies that a read would give, and its number.
+#[inline]
+pub fn hold<'a, T: Copy>(calls: &'static Calls, reader: &'a mut ReadingSide) -> (&'a T, u64) {
+    const { assert!(align_of::<T>() <= 8, "a record that is read where it lies is aligned to at most 8") };
+    static NOTHING: [u64; 512] = [0; 512];
+    let (mut at, mut number) = (NOTHING.as_ptr().cast::<c_void>(), 0);
+    // `at` leads to a whole record, as the library asks, and then to the one that the reader holds.
+    must_be_done(reader.order.see(|| unsafe {
+        match (calls.look)(&mut reader.side, &mut number) {
+            DONE => hold_for(calls.size)(&mut reader.side, &mut at),
+            status => status,
+        }
+    }));
+    // It begins with the bytes of a `T` and is aligned to 8. Nothing writes there before the next call, which takes the side by `&mut`.
+    (unsafe { &*at.cast::<T>() }, number)
 }
 
 #[inline]

@@ -1,13 +1,13 @@
 //! A triple buffer with records of 256 bytes.
-ghost use Rattle.c_registers.specs.TripleCalls.{IsMade, HasWritten, HasRead};
-ghost use Rattle.c_registers.specs.Handles.{IsMake, IsWrite, IsRead, IsLook, IsEnd};
+ghost use Rattle.c_registers.specs.TripleCalls.{IsMade, HasWritten, HasRead, at_hand};
+ghost use Rattle.c_registers.specs.Handles.{IsMake, IsWrite, IsRead, IsLook, IsHold, IsEnd};
 ghost use Rattle.c_handles.specs.Held.{held};
 ghost use Rattle.c_handles.specs.declared.side.Side.TheVariants.{Of256};
 ghost use Rattle.c_handles.specs.declared.side.Party.TheVariants.{TripleWrites, TripleReads};
 
 use c_handles::{
-    Handle, Record256, triple_end_reader, triple_end_writer, triple_look, triple_make, triple_read,
-    triple_write,
+    Handle, Record256, triple_end_reader, triple_end_writer, triple_hold, triple_look, triple_make,
+    triple_read, triple_write,
 };
 use std::alloc::Global;
 
@@ -57,6 +57,13 @@ pub extern "C" fn nidzaru_triple_256_look(
     ensures { IsLook (λ g. Of256 (TripleReads g)) HasRead (held reader.old) (held reader.new) number.old number.new result }
 {
     triple_look::<Record256>(alloc, reader, number)
+}
+
+#[unsafe(no_mangle)]
+pub extern "C" fn nidzaru_triple_256_hold<'a>(reader: &'a mut Handle, at: &mut &'a Record256) -> u32
+    ensures { IsHold (λ g. Of256 (TripleReads g)) at_hand (held reader.old) at.old.now at.new.now result }
+{
+    triple_hold::<Record256>(reader, at)
 }
 
 #[unsafe(no_mangle)]

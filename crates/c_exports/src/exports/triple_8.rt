@@ -1,13 +1,13 @@
 //! A triple buffer with records of 8 bytes.
-ghost use Rattle.c_registers.specs.TripleCalls.{IsMade, HasWritten, HasRead};
-ghost use Rattle.c_registers.specs.Handles.{IsMake, IsWrite, IsRead, IsLook, IsEnd};
+ghost use Rattle.c_registers.specs.TripleCalls.{IsMade, HasWritten, HasRead, at_hand};
+ghost use Rattle.c_registers.specs.Handles.{IsMake, IsWrite, IsRead, IsLook, IsHold, IsEnd};
 ghost use Rattle.c_handles.specs.Held.{held};
 ghost use Rattle.c_handles.specs.declared.side.Side.TheVariants.{Of8};
 ghost use Rattle.c_handles.specs.declared.side.Party.TheVariants.{TripleWrites, TripleReads};
 
 use c_handles::{
-    Handle, Record8, triple_end_reader, triple_end_writer, triple_look, triple_make, triple_read,
-    triple_write,
+    Handle, Record8, triple_end_reader, triple_end_writer, triple_hold, triple_look, triple_make,
+    triple_read, triple_write,
 };
 use std::alloc::Global;
 
@@ -49,6 +49,13 @@ pub extern "C" fn nidzaru_triple_8_look(alloc: Global, reader: &mut Handle, numb
     ensures { IsLook (λ g. Of8 (TripleReads g)) HasRead (held reader.old) (held reader.new) number.old number.new result }
 {
     triple_look::<Record8>(alloc, reader, number)
+}
+
+#[unsafe(no_mangle)]
+pub extern "C" fn nidzaru_triple_8_hold<'a>(reader: &'a mut Handle, at: &mut &'a Record8) -> u32
+    ensures { IsHold (λ g. Of8 (TripleReads g)) at_hand (held reader.old) at.old.now at.new.now result }
+{
+    triple_hold::<Record8>(reader, at)
 }
 
 #[unsafe(no_mangle)]

@@ -2,9 +2,10 @@
 ghost use Rattle.std.specs.Prelude.{◌≡◌, ◌+◌, ◌<◌, ◌≤◌, ◌^◌, true, false, IfOk};
 ghost use Rattle.c_registers.specs.TripleCalls.{IsMade, HasWritten, HasRead};
 
-use super::{TripleReader, TripleWriter};
+use super::{TripleEnds, TripleReader, TripleWriter};
 use crate::numbered::{Numbered, Numbering};
 use crate::roles::{Opens, Reading, Writing};
+use crate::room::Room;
 use cell_live::Calls;
 use cell_triple::TripleCell;
 use std::alloc::{AllocError, Global};
@@ -15,13 +16,12 @@ impl<W: Copy> Reading<W> for TripleReader<W> {
 
     #[inline]
     fn read(&mut self) -> Numbered<W> {
-        self.cell.read(self.get.as_mut())
+        self.room.inside().read()
     }
 
     #[inline]
     fn look(&mut self) -> u64 {
-        self.cell
-            .read_with(self.get.as_mut(), |record| record.number)
+        self.room.inside().look()
     }
 }
 
@@ -56,6 +56,8 @@ impl<W: Copy> Opens<W, TripleReader<W>> for TripleWriter<W> {
             put,
             number: 0,
         };
-        Ok((writer, TripleReader { cell: other, get }))
+        let inner = TripleEnds { cell: other, get };
+        let room = Room { inner };
+        Ok((writer, TripleReader { room }))
     }
 }
