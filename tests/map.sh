@@ -1,5 +1,5 @@
-# The map of the crates and the numbers of the page on testing have to be those of the repository.
-for what in map numbers; do
+# The map of the crates and the numbers of the page on testing have to be those of the repository, and the names of definitions one thing's.
+for what in map numbers names; do
     if ! command -v python3 >/dev/null 2>&1; then
         fail "tests/$what.py" "there is no python3"
     elif python3 "tests/$what.py" >"$room/out" 2>&1; then
@@ -9,9 +9,11 @@ for what in map numbers; do
     fi
 done
 
-# The controls: a graph that isn't that of the crates, and another number of wrong bodies.
+# The controls: a graph that isn't that of the crates, another number of wrong bodies, a second definition of a name.
 if command -v python3 >/dev/null 2>&1; then
     catches_in_tree "another graph of the crates" "isn't the map of the crates" docs/MAP.md 's/^graph TD/graph LR/' python3 tests/map.py
     catches_in_tree "another number of wrong bodies" "other numbers than there are" docs/TESTING.md \
         's/^\([0-9]* crates, \)[0-9]* wrong bodies/\1400 wrong bodies/' python3 tests/numbers.py
+    catches_in_tree "a name of two things" "IsVerdict is defined by" crates/stamps/specs/Stamps.antt \
+        's/^abbrev pub IsBelow /abbrev pub IsVerdict /' python3 tests/names.py
 fi

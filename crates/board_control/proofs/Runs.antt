@@ -12,10 +12,10 @@ use Rattle.board_live.specs.declared.board.Pass.{Pass}
 use Rattle.board_live.specs.declared.board.TagsEnded.{TagsEnded}
 use Rattle.board_live.specs.declared.receipts.Receipt.{Receipt}
 use Rattle.board_live.specs.declared.record.Posted.{Posted}
-use Rattle.board_live.specs.Passes.{Chooses, HasMade, IsCall, IsPass, kind_of}
+use Rattle.board_live.specs.Passes.{ChoosesStamp, HasMade, IsCall, IsPass, kind_of}
 use Rattle.board_live.specs.Receipts.{HasLearnt}
 use Rattle.board_control.specs.declared.control.Control.{Control}
-use Rattle.board_control.specs.Turns.{call_of, command_of, Drives, HasRead, HasRun, HasSteered, in_order, no_read, no_turn, one_more, one_read, Reads}
+use Rattle.board_control.specs.Turns.{call_of, command_of, Drives, HasReadInTurn, HasTakenTurns, HasSteered, in_order, no_read, no_turn, one_more, one_read, MakesRead}
 use Rattle.board_control.specs.Turns.{TakesTurn, Turns, with_turn}
 
 module _ {M : Type 0} (was_sent : M → ℕ → M → Type 0) where
@@ -37,7 +37,7 @@ module _ {F S T : Type 0} (words : FamilyWords F (Posted Control) S T) (board : 
   pub turn : (make : Control → Control) (p q r : Pass Control F S T) (seen : Posted Control) (result : Result Stamp (TagsEnded Control))
       → IsPass words in_order board q → IsCall words in_order board Read p q seen → q.own ≡ seen → IsPass words in_order board r
       → (chosen : Posted Control) × IsCall words in_order board (kind_of result) q r chosen
-      × Chooses board.limit q.process (make seen.item) chosen r.own result
+      × ChoosesStamp board.limit q.process (make seen.item) chosen r.own result
       → TakesTurn words board make p r result
   turn make p q r seen result of_q call gives of_r wrote = record {
     between = q;
@@ -46,13 +46,13 @@ module _ {F S T : Type 0} (words : FamilyWords F (Posted Control) S T) (board : 
       of = of_r;
       seen = wrote.0;
       call = wrote.1;
-      chooses = subst (λ (z : Posted Control). Chooses board.limit q.process (make z.item) wrote.0 r.own result) (sym gives) wrote.2;
+      chooses = subst (λ (z : Posted Control). ChoosesStamp board.limit q.process (make z.item) wrote.0 r.own result) (sym gives) wrote.2;
     };
   }
 
   -- a receipt of another process was learnt before the read
   pub heeds : (p q r : Pass Control F S T) (receipt : Receipt Control F S T) → receipt.from < board.processes → receipt.from ≢ p.process
-      → q.process ≡ p.process → HasLearnt words p q receipt → Reads words board q r → IsAtMost receipt.item.stamp r.own.stamp
+      → q.process ≡ p.process → HasLearnt words p q receipt → MakesRead words board q r → IsAtMost receipt.item.stamp r.own.stamp
   heeds p q r receipt inside other same learnt read =
       let told = (learnt.heard other).told in
       last_of (λ t. IsAtMost t.stamp r.own.stamp) (words.reads p.seat receipt.from).told receipt.item
@@ -61,7 +61,7 @@ module _ {F S T : Type 0} (words : FamilyWords F (Posted Control) S T) (board : 
   module _ (Makes : (Control → Control) → Type 0) (old : Pass Control F S T) where
     pub has_run : (calls : List (Called Control)) (make : Control → Control) (p q : Pass Control F S T)
         (result : Result Stamp (TagsEnded Control)) → Turns words board Makes old calls p → Makes make → TakesTurn words board make p q result
-        → HasRun words board Makes old q
+        → HasTakenTurns words board Makes old q
     has_run calls make p q result h makes t = record {
       calls = with_turn words board make p q result calls t;
       turns = one_more calls make p q result h makes t;
@@ -82,7 +82,7 @@ module _ {F S T : Type 0} (words : FamilyWords F (Posted Control) S T) (board : 
         )
 
   -- the pass of a control loop
-  pub of_reads : (old : Pass Control F S T) (calls : List (Called Control)) (new : Pass Control F S T) → HasRead words board old calls new
+  pub of_reads : (old : Pass Control F S T) (calls : List (Called Control)) (new : Pass Control F S T) → HasReadInTurn words board old calls new
       → IsPass words in_order board old → HasMade words board old []
       → IsPass words in_order board new × (new.process ≡ old.process) × HasMade words board new calls
   of_reads old _ _ no_read of fresh = (of, refl, fresh)
@@ -91,7 +91,7 @@ module _ {F S T : Type 0} (words : FamilyWords F (Posted Control) S T) (board : 
 
   -- one command more
   pub one_command : {M : Type 0} (was_sent : M → ℕ → M → Type 0) (old p q : Pass Control F S T) (before now next : M)
-      (calls : List (Called Control)) → HasRead words board old calls p → Drives was_sent before calls now → Reads words board p q
+      (calls : List (Called Control)) → HasReadInTurn words board old calls p → Drives was_sent before calls now → MakesRead words board p q
       → was_sent now (command_of q.own.item) next → HasSteered words was_sent board old q before next
   one_command was_sent old p q before now next calls h drives r sent =
       let c = call_of words board Read p q q.own r.call in

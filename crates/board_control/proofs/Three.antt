@@ -12,7 +12,7 @@ use Rattle.board_live.specs.declared.record.Posted.{Posted}
 use Rattle.board_live.specs.Ends.{AllPasses, did_by, HaveAtomicOrder}
 use Rattle.board_live.specs.Passes.{HasMade, IsPass}
 use Rattle.board_control.specs.declared.control.Control.{Control}
-use Rattle.board_control.specs.Turns.{AreDealt, Drives, HasControlled, HasCrossed, HasRun, HasSteered, in_order, IsFresh, Publishes, SetsLimits}
+use Rattle.board_control.specs.Turns.{AreDealt, Drives, HasControlled, HasCrossed, HasTakenTurns, HasSteered, in_order, IsFresh, Publishes, SetsLimits}
 use Rattle.board_control.proofs.Runs.{of_reads, of_turns}
 
 -- those that were taken from the end of three, and of two
@@ -92,10 +92,10 @@ module _ {F S T : Type 0} (words : FamilyWords F (Posted Control) S T) (board : 
 
   -- it did so over this board with this pass, where they go by other names
   pub back_from_turns : (who : ℕ) (Makes : (Control → Control) → Type 0) (named : Board Control F S T) (old seen new : Pass Control F S T)
-      → IsFresh words in_order board who old → named ≡ board → seen ≡ old → (h : HasRun words named Makes seen new)
+      → IsFresh words in_order board who old → named ≡ board → seen ≡ old → (h : HasTakenTurns words named Makes seen new)
       → (calls : List (Called Control)) × IsBack who new calls
   back_from_turns who Makes named old seen new fresh e f h =
-      let here : HasRun words board Makes old new = subst (λ z. HasRun words z Makes old new) e (subst (λ z. HasRun words named Makes z new) f h) in
+      let here : HasTakenTurns words board Makes old new = subst (λ z. HasTakenTurns words z Makes old new) e (subst (λ z. HasTakenTurns words named Makes z new) f h) in
       let x = of_turns words board Makes old here.calls new here.turns fresh.of fresh.none in
       (here.calls, record { of = x.0; process = x.1 ∙ fresh.who; made = x.2 })
 
@@ -122,7 +122,7 @@ module _ {F S T : Type 0} (words : FamilyWords F (Posted Control) S T) (board : 
   -- they were dealt to the tasks, over this board and by these passes, where they go by other names
   pub come_back : {M : Type 0} (was_sent : M → ℕ → M → Type 0) (opening : Control) (p q r : Pass Control F S T)
       → AreDealt words opening board p q r → (b c d : Board Control F S T) (p' q' r' : Pass Control F S T) (x y z : Pass Control F S T)
-      (before kept after : M) → b ≡ board → p' ≡ p → HasRun words b SetsLimits p' x → c ≡ board → q' ≡ q → HasRun words c Publishes q' y
+      (before kept after : M) → b ≡ board → p' ≡ p → HasTakenTurns words b SetsLimits p' x → c ≡ board → q' ≡ q → HasTakenTurns words c Publishes q' y
       → d ≡ board → r' ≡ r → kept ≡ before → HasSteered words was_sent d r' z kept after → AreBack was_sent x y z before after
   come_back was_sent opening p q r dealt b c d p' q' r' x y z before kept after e f h i j k l m n o =
       let limits = back_from_turns 0 SetsLimits b p p' x dealt.limits e f h in

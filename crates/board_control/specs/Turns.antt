@@ -11,7 +11,7 @@ use Rattle.board_live.specs.declared.board.Pass.{Pass}
 use Rattle.board_live.specs.declared.board.TagsEnded.{TagsEnded}
 use Rattle.board_live.specs.declared.record.Posted.{Posted}
 use Rattle.board_live.specs.Ends.{IsAtomicRun}
-use Rattle.board_live.specs.Passes.{Chooses, HasMade, IsCall, IsPass, kind_of}
+use Rattle.board_live.specs.Passes.{ChoosesStamp, HasMade, IsCall, IsPass, kind_of}
 use Rattle.board_live.specs.Records.{stamped}
 use Rattle.board_control.specs.declared.control.Control.{Control}
 
@@ -58,24 +58,24 @@ module _ {F S T : Type 0} (words : FamilyWords F (Posted Control) S T) where
   }
 
   -- a read, after which the pass has the record that was read
-  pub record Reads (board : Board Control F S T) (old new : Pass Control F S T) : Type 0 where
+  pub record MakesRead (board : Board Control F S T) (old new : Pass Control F S T) : Type 0 where
     pub of : IsPass words in_order board new
     pub call : IsCall words in_order board Read old new new.own
 
   -- a write of this record, which is refused where the tags have ended
-  pub record Writes (board : Board Control F S T) (item : Control) (old new : Pass Control F S T)
+  pub record MakesWrite (board : Board Control F S T) (item : Control) (old new : Pass Control F S T)
       (result : Result Stamp (TagsEnded Control)) : Type 0 where
     pub of : IsPass words in_order board new
     pub seen : Posted Control
     pub call : IsCall words in_order board (kind_of result) old new seen
-    pub chooses : Chooses board.limit old.process item seen new.own result
+    pub chooses : ChoosesStamp board.limit old.process item seen new.own result
 
   -- *A turn of a task that writes*: it reads, and writes what it makes of the record that it read
   pub record TakesTurn (board : Board Control F S T) (make : Control → Control) (old new : Pass Control F S T)
       (result : Result Stamp (TagsEnded Control)) : Type 0 where
     pub between : Pass Control F S T
-    pub reads : Reads board old between
-    pub writes : Writes board (make between.own.item) between new result
+    pub reads : MakesRead board old between
+    pub writes : MakesWrite board (make between.own.item) between new result
 
   -- the two calls of a turn, after those before
   abbrev pub with_turn : (board : Board Control F S T) (make : Control → Control) (old new : Pass Control F S T)
@@ -93,22 +93,22 @@ module _ {F S T : Type 0} (words : FamilyWords F (Posted Control) S T) where
         → Turns board Makes old (with_turn board make now new result calls t) new
 
   -- *The turns of a task that writes*: one or more, in each of which it makes such a record
-  pub record HasRun (board : Board Control F S T) (Makes : (Control → Control) → Type 0) (old new : Pass Control F S T) : Type 0 where
+  pub record HasTakenTurns (board : Board Control F S T) (Makes : (Control → Control) → Type 0) (old new : Pass Control F S T) : Type 0 where
     pub calls : List (Called Control)
     pub turns : Turns board Makes old calls new
     pub some : 0 < length calls
 
   -- reads, one after the other
-  pub data HasRead (board : Board Control F S T) (old : Pass Control F S T) : List (Called Control) → Pass Control F S T → Type 0 where
-    no_read : HasRead board old [] old
-    one_read : (calls : List (Called Control)) (now new : Pass Control F S T) → HasRead board old calls now → (r : Reads board now new)
-        → HasRead board old (calls ++ call_of board Read now new new.own r.call ∷ []) new
+  pub data HasReadInTurn (board : Board Control F S T) (old : Pass Control F S T) : List (Called Control) → Pass Control F S T → Type 0 where
+    no_read : HasReadInTurn board old [] old
+    one_read : (calls : List (Called Control)) (now new : Pass Control F S T) → HasReadInTurn board old calls now → (r : MakesRead board now new)
+        → HasReadInTurn board old (calls ++ call_of board Read now new new.own r.call ∷ []) new
 
   -- *The turns of a control loop*: one read or more and no other call, and the motor was sent the command of each of them
   pub record HasSteered {M : Type 0} (was_sent : M → ℕ → M → Type 0) (board : Board Control F S T) (old new : Pass Control F S T)
       (before after : M) : Type 0 where
     pub calls : List (Called Control)
-    pub reads : HasRead board old calls new
+    pub reads : HasReadInTurn board old calls new
     pub drives : Drives was_sent before calls after
     pub some : 0 < length calls
 

@@ -2,7 +2,7 @@
 ghost use Rattle.std.specs.Prelude.{◌≡◌, ◌≢◌, ◌≤◌, IfOk};
 ghost use Rattle.board_live.specs.Passes.{IsPass};
 ghost use Rattle.board_live.specs.Receipts.{IsReceipt};
-ghost use Rattle.board_control.specs.Turns.{Reads, TakesTurn, command_of, in_order, with_limits, with_reading};
+ghost use Rattle.board_control.specs.Turns.{MakesRead, TakesTurn, command_of, in_order, with_limits, with_reading};
 ghost use Rattle.stamps.specs.Choices.{IsAtMost};
 
 use crate::control::Control;
@@ -53,7 +53,7 @@ pub fn steer<F: Family<Posted<Control>>>(
 ) -> u64
     requires { IsPass ⟦<F as Family<Posted<Control>>>⟧ in_order board.now pass.old }
     ensures pass { IsPass ⟦<F as Family<Posted<Control>>>⟧ in_order board.now pass.new }
-    ensures call { Reads ⟦<F as Family<Posted<Control>>>⟧ board.now pass.old pass.new }
+    ensures call { MakesRead ⟦<F as Family<Posted<Control>>>⟧ board.now pass.old pass.new }
     ensures command { result ≡ command_of pass.new.own.item }
     ensures within { (pass.new.own.item.low ≤ result) × (result ≤ pass.new.own.item.high) }
 {

@@ -2,7 +2,7 @@
 ghost use Rattle.std.specs.Prelude.{◌≡◌, ◌≤◌, ℕ};
 ghost use Rattle.std.specs.Arc.{arc_value};
 ghost use Rattle.board_live.specs.Passes.{IsPass};
-ghost use Rattle.board_control.specs.Turns.{HasRun, HasSteered, Publishes, SetsLimits, in_order};
+ghost use Rattle.board_control.specs.Turns.{HasTakenTurns, HasSteered, Publishes, SetsLimits, in_order};
 
 use crate::calls::{publish, set_limits, steer};
 use crate::control::Control;
@@ -85,7 +85,7 @@ fn keep_limits<R: Wait, F: Family<Posted<Control>>>(
     pass: &mut Pass<Control, F>,
 )
     requires { IsPass ⟦<F as Family<Posted<Control>>>⟧ in_order shared.now.board pass.old }
-    ensures { HasRun ⟦<F as Family<Posted<Control>>>⟧ shared.now.board SetsLimits pass.old pass.new }
+    ensures { HasTakenTurns ⟦<F as Family<Posted<Control>>>⟧ shared.now.board SetsLimits pass.old pass.new }
 {
     for _ in rt.forever() {
         let (low, high) = limits_at(shared.limits.fetch_add(1, Ordering::SeqCst));
@@ -104,7 +104,7 @@ fn keep_readings<R: Wait, F: Family<Posted<Control>>>(
     pass: &mut Pass<Control, F>,
 )
     requires { IsPass ⟦<F as Family<Posted<Control>>>⟧ in_order shared.now.board pass.old }
-    ensures { HasRun ⟦<F as Family<Posted<Control>>>⟧ shared.now.board Publishes pass.old pass.new }
+    ensures { HasTakenTurns ⟦<F as Family<Posted<Control>>>⟧ shared.now.board Publishes pass.old pass.new }
 {
     for _ in rt.forever() {
         let reading = shared.readings.fetch_add(1, Ordering::SeqCst) % 50;
@@ -149,7 +149,7 @@ impl<F: Family<Posted<Control>>> Task for LimitsTask<F> {
 
     ghost ready = { λ t. IsPass ⟦<F as Family<Posted<Control>>>⟧ in_order (arc_value t.shared).board t.pass };
 
-    ghost done = { λ t r. HasRun ⟦<F as Family<Posted<Control>>>⟧ (arc_value t.shared).board SetsLimits t.pass r };
+    ghost done = { λ t r. HasTakenTurns ⟦<F as Family<Posted<Control>>>⟧ (arc_value t.shared).board SetsLimits t.pass r };
 
     fn run<R: Wait>(self, rt: &R) -> Pass<Control, F> {
         let Self { shared, mut pass } = self;
@@ -170,7 +170,7 @@ impl<F: Family<Posted<Control>>> Task for ReadingsTask<F> {
 
     ghost ready = { λ t. IsPass ⟦<F as Family<Posted<Control>>>⟧ in_order (arc_value t.shared).board t.pass };
 
-    ghost done = { λ t r. HasRun ⟦<F as Family<Posted<Control>>>⟧ (arc_value t.shared).board Publishes t.pass r };
+    ghost done = { λ t r. HasTakenTurns ⟦<F as Family<Posted<Control>>>⟧ (arc_value t.shared).board Publishes t.pass r };
 
     fn run<R: Wait>(self, rt: &R) -> Pass<Control, F> {
         let Self { shared, mut pass } = self;

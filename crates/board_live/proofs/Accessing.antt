@@ -11,16 +11,16 @@ use Rattle.history_core.proofs.Played.{later_operation}
 use Rattle.cell_live.specs.declared.times.Times.{Times}
 use Rattle.cell_live.specs.Running.{last_or}
 use Rattle.family_live.specs.declared.family.Family.{Ghosts as FamilyWords}
-use Rattle.family_live.specs.Accesses.{IsAccess, IsWrite, Keeps, KeepsOthers, Reads, Rises as Later, Writes}
-use Rattle.family_live.specs.Rows.{InTurn, IsReadFrom, IsWriteTo}
-use Rattle.family_live.specs.Rows.InTurn.{no_call, one_more}
+use Rattle.family_live.specs.Accesses.{IsAccess, IsWriteAccess, KeepsEach, KeepsOthers, ReadAccesses, RisesAfter as Later, WriteAccesses}
+use Rattle.family_live.specs.Rows.{OneByOne, IsReadFrom, IsWriteTo}
+use Rattle.family_live.specs.Rows.OneByOne.{no_call, one_more}
 use Rattle.matrix_core.specs.Lines.{other}
 use Rattle.matrix_core.proofs.lines.Others.{other_above, other_below}
 use Rattle.board_history.specs.Accesses.{IsInterval}
 use Rattle.board_history.proofs.Growing.{not_both}
 use Rattle.board_live.specs.declared.record.Posted.{Posted}
-use Rattle.board_live.specs.inner.Calls.{HasRead, HasRow, HasWritten, IsIntervalOf, IsSpan}
-use Rattle.board_live.specs.Passes.{IsAnswered}
+use Rattle.board_live.specs.inner.Calls.{HasReadColumn, HasRow, HasWrittenRow, IsIntervalOf, IsStretch}
+use Rattle.board_live.specs.Passes.{IsFurtherAnswer}
 use Rattle.board_live.specs.Records.{greater, Rises, rises_on}
 use Rattle.board_live.proofs.Records.{greater_either, risen, rises_greater}
 
@@ -89,20 +89,20 @@ rises_from clock (t ∷ ts) (suc k) a b h e f =
     (omega arith, omega arith)
 
 access_span : (width clock clock' : ℕ) (times times' : List ℕ) (old new : Times) → (h : IsAccess width clock clock' times times' old new) →
-    IsSpan clock clock' h.steps
+    IsStretch clock clock' h.steps
 access_span width clock clock' times times' old new h =
     let r = rises_from clock h.steps (width - 1) h.first clock' h.rising h.first_is h.last_is in
     inr (h.first, h.first_is, r.0, r.1, subst (λ m. slice_get h.steps (m - 1) ≡ Some clock') (sym h.long) h.last_is)
 
 -- steps after steps
-pub span_on : (a b c : ℕ) (steps more : List ℕ) → IsSpan a b steps → IsSpan b c more → IsSpan a c (steps ++ more)
+pub span_on : (a b c : ℕ) (steps more : List ℕ) → IsStretch a b steps → IsStretch b c more → IsStretch a c (steps ++ more)
 span_on a b c steps more (inl x) (inl y) =
     inl (ap (λ z. z ++ more) x.0 ∙ y.0, y.1 ∙ x.1)
 span_on a b c steps more (inl x) (inr y) =
-    subst (λ z. IsSpan z c (steps ++ more)) x.1 (subst (λ z. IsSpan b c (z ++ more)) (sym x.0) (inr y))
+    subst (λ z. IsStretch z c (steps ++ more)) x.1 (subst (λ z. IsStretch b c (z ++ more)) (sym x.0) (inr y))
 span_on a b c steps more (inr x) (inl y) =
-    subst (λ z. IsSpan a z (steps ++ more)) (sym y.1)
-    (subst (λ z. IsSpan a b (steps ++ z)) (sym y.0) (subst (IsSpan a b) (sym (append-nil steps)) (inr x)))
+    subst (λ z. IsStretch a z (steps ++ more)) (sym y.1)
+    (subst (λ z. IsStretch a b (steps ++ z)) (sym y.0) (subst (IsStretch a b) (sym (append-nil steps)) (inr x)))
 span_on a b c steps more (inr x) (inr y) =
     let n = slice_get_within steps 0 x.0 x.1 in
     let m = slice_get_within more 0 y.0 y.1 in
@@ -121,7 +121,7 @@ span_on a b c steps more (inr x) (inr y) =
 
 module _ {V F S T : Type 0} (words : FamilyWords F (Posted V) S T) where
   pub nothing_read : (obeys : V → Bool) (family : F) (process : ℕ) (seat : S) (seen : Posted V) → words.is_seat family seat →
-      IsTrue (obeys seen.item) → HasRead words obeys family process 0 seat seat seen seen
+      IsTrue (obeys seen.item) → HasReadColumn words obeys family process 0 seat seat seen seen
   nothing_read obeys family process seat seen is lawful = record {
     of = (is, refl);
     steps = [];
@@ -144,8 +144,8 @@ module _ {V F S T : Type 0} (words : FamilyWords F (Posted V) S T) where
       (words.opening family) (λ p. IsTrue (obeys p.item)) Rises (λ old item new. new ≡ greater old item)
 
   pub read_more : (obeys : V → Bool) (family : F) (process count : ℕ) (start now next : S) (own seen seen' : Posted V) →
-      HasRead words obeys family process count start now own seen → IsReadOf obeys family (other process count) (now, seen) (next, seen') →
-      HasRead words obeys family process (count + 1) start next own seen'
+      HasReadColumn words obeys family process count start now own seen → IsReadOf obeys family (other process count) (now, seen) (next, seen') →
+      HasReadColumn words obeys family process (count + 1) start next own seen'
   read_more obeys family process count start now next own seen seen' r h = record {
     of = (h.own.0, h.own.1 ∙ r.of.1);
     steps = r.steps ++ h.access.steps;
@@ -160,20 +160,20 @@ module _ {V F S T : Type 0} (words : FamilyWords F (Posted V) S T) where
       | inl was ↦
           let l : e < count = let a = slice_get_within r.answers e answer was in let b = r.each in omega arith in
           let x = r.reads e answer was in
-          subst (λ (z : Reads (Posted V)). IsIntervalOf words.width (r.steps ++ h.access.steps) e (words.reads start (other process e)).times z.times
-          × IsAnswered obeys (words.opening family) (words.reads start (other process e)) z answer)
+          subst (λ (z : ReadAccesses (Posted V)). IsIntervalOf words.width (r.steps ++ h.access.steps) e (words.reads start (other process e)).times z.times
+          × IsFurtherAnswer obeys (words.opening family) (words.reads start (other process e)) z answer)
           (sym (h.others.0 (other process e) (λ s. let z = other_once process e count s in omega arith)))
           (stays words.width r.steps h.access.steps e count _ _ _ _ r.long l some x.0, x.1)
       | inr new ↦
           let at : e ≡ count = new.0 ∙ r.each in
           subst (λ z. IsIntervalOf words.width (r.steps ++ h.access.steps) z (words.reads start (other process z)).times
           (words.reads next (other process z)).times
-          × IsAnswered obeys (words.opening family) (words.reads start (other process z)) (words.reads next (other process z)) answer) (sym at)
-          (subst (λ (z : Reads (Posted V)). IsIntervalOf words.width (r.steps ++ h.access.steps) count z.times (words.reads next (other process count)).times
-          × IsAnswered obeys (words.opening family) z (words.reads next (other process count)) answer) (r.unread count (omega arith)) (
+          × IsFurtherAnswer obeys (words.opening family) (words.reads start (other process z)) (words.reads next (other process z)) answer) (sym at)
+          (subst (λ (z : ReadAccesses (Posted V)). IsIntervalOf words.width (r.steps ++ h.access.steps) count z.times (words.reads next (other process count)).times
+          × IsFurtherAnswer obeys (words.opening family) z (words.reads next (other process count)) answer) (r.unread count (omega arith)) (
             newest words.width (words.clock now) (words.clock next) (words.times now) (words.times next) r.steps
                 (words.reads now (other process count)).times (words.reads next (other process count)).times count r.long h.access,
-            subst (IsAnswered obeys (words.opening family) (words.reads now (other process count)) (words.reads next (other process count))) new.1
+            subst (IsFurtherAnswer obeys (words.opening family) (words.reads now (other process count)) (words.reads next (other process count))) new.1
                 (record { read = h.read; running = h.may }),
           ))
     ];
@@ -190,8 +190,8 @@ module _ {V F S T : Type 0} (words : FamilyWords F (Posted V) S T) where
 
   -- a column of the family is one of the board
   pub column_read : (obeys : V → Bool) (family : F) (process : ℕ) (start : S) (own : Posted V) → words.is_seat family start → IsTrue (obeys own.item) →
-      (count : ℕ) (now : S × Posted V) → InTurn (IsReadOf obeys family) process (start, own) count now →
-      HasRead words obeys family process count start now.0 own now.1
+      (count : ℕ) (now : S × Posted V) → OneByOne (IsReadOf obeys family) process (start, own) count now →
+      HasReadColumn words obeys family process count start now.0 own now.1
   column_read obeys family process start own is lawful _ _ no_call = nothing_read obeys family process start own is lawful
   column_read obeys family process start own is lawful _ _ (one_more count now new r call) = read_more obeys family process count start now.0 new.0
       own now.1 new.1 (column_read obeys family process start own is lawful count now r) call
@@ -201,7 +201,7 @@ module _ {V F S T : Type 0} (words : FamilyWords F (Posted V) S T) where
   last_of first (x ∷ items) item = last_of x items item
 
   pub nothing_written : (family : F) (process : ℕ) (seat : S) (item : Posted V) → words.is_seat family seat →
-      HasWritten words family process 0 seat seat item
+      HasWrittenRow words family process 0 seat seat item
   nothing_written family process seat item is = record {
     of = (is, refl);
     steps = [];
@@ -214,13 +214,13 @@ module _ {V F S T : Type 0} (words : FamilyWords F (Posted V) S T) where
     reads = λ j. refl;
   }
 
-  pub write_more : (family : F) (process count : ℕ) (start now next : S) (item : Posted V) → HasWritten words family process count start now item →
+  pub write_more : (family : F) (process count : ℕ) (start now next : S) (item : Posted V) → HasWrittenRow words family process count start now item →
       words.is_seat family next × (words.who next ≡ words.who now) →
       IsAccess words.width (words.clock now) (words.clock next) (words.times now) (words.times next)
       (words.writes now (other process count)).times (words.writes next (other process count)).times →
-      IsWrite (words.writes now (other process count)) (words.writes next (other process count)) item →
-      KeepsOthers (other process count) (words.writes now) (words.writes next) × Keeps (words.reads now) (words.reads next) →
-      HasWritten words family process (count + 1) start next item
+      IsWriteAccess (words.writes now (other process count)) (words.writes next (other process count)) item →
+      KeepsOthers (other process count) (words.writes now) (words.writes next) × KeepsEach (words.reads now) (words.reads next) →
+      HasWrittenRow words family process (count + 1) start next item
   write_more family process count start now next item r of access more others = record {
     of = (of.0, of.1 ∙ r.of.1);
     steps = r.steps ++ access.steps;
@@ -232,17 +232,17 @@ module _ {V F S T : Type 0} (words : FamilyWords F (Posted V) S T) where
     writes = λ e l. elim (cases_lt e count) [
       | inl lt ↦
           let x = r.writes e lt in
-          subst (λ (z : Writes (Posted V)). IsIntervalOf words.width (r.steps ++ access.steps) e (words.writes start (other process e)).times z.times
-          × IsWrite (words.writes start (other process e)) z item)
+          subst (λ (z : WriteAccesses (Posted V)). IsIntervalOf words.width (r.steps ++ access.steps) e (words.writes start (other process e)).times z.times
+          × IsWriteAccess (words.writes start (other process e)) z item)
           (sym (others.0 (other process e) (λ s. let z = other_once process e count s in omega arith)))
           (stays words.width r.steps access.steps e count _ _ _ _ r.long lt some x.0, x.1)
       | inr ge ↦
           let at : e ≡ count = omega arith in
           subst (λ z. IsIntervalOf words.width (r.steps ++ access.steps) z (words.writes start (other process z)).times
-          (words.writes next (other process z)).times × IsWrite (words.writes start (other process z)) (words.writes next (other process z)) item)
+          (words.writes next (other process z)).times × IsWriteAccess (words.writes start (other process z)) (words.writes next (other process z)) item)
           (sym at)
-          (subst (λ (z : Writes (Posted V)). IsIntervalOf words.width (r.steps ++ access.steps) count z.times
-          (words.writes next (other process count)).times × IsWrite z (words.writes next (other process count)) item)
+          (subst (λ (z : WriteAccesses (Posted V)). IsIntervalOf words.width (r.steps ++ access.steps) count z.times
+          (words.writes next (other process count)).times × IsWriteAccess z (words.writes next (other process count)) item)
           (r.unwritten count (omega arith)) (
             newest words.width (words.clock now) (words.clock next) (words.times now) (words.times next) r.steps
                 (words.writes now (other process count)).times (words.writes next (other process count)).times count r.long access,
@@ -267,8 +267,8 @@ module _ {V F S T : Type 0} (words : FamilyWords F (Posted V) S T) where
 
   -- a row of the family is one of the board
   pub row_written : (family : F) (process : ℕ) (start : S) (item : Posted V) → words.is_seat family start → (count : ℕ) (now : S) →
-      InTurn (IsWriteTo (words.is_seat family) words.who words.clock words.times words.writes words.reads words.width item) process start count now →
-      HasWritten words family process count start now item
+      OneByOne (IsWriteTo (words.is_seat family) words.who words.clock words.times words.writes words.reads words.width item) process start count now →
+      HasWrittenRow words family process count start now item
   row_written family process start item is _ _ no_call = nothing_written family process start item is
   row_written family process start item is _ _ (one_more count now new r call) = write_more family process count start now new item
       (row_written family process start item is count now r) call.own call.access call.written call.others
@@ -280,7 +280,7 @@ module _ {V F S T : Type 0} (words : FamilyWords F (Posted V) S T) where
       subst (λ z. Rises z item) (sym (ap (λ z. last_or z (words.writes start j).items) opens ∙ there)) rises
 
   -- a row that was written, and one that wasn't, since the record stands there
-  pub row_told : (family : F) (process count : ℕ) (seat seat' : S) (own item : Posted V) → HasWritten words family process count seat seat' item →
+  pub row_told : (family : F) (process count : ℕ) (seat seat' : S) (own item : Posted V) → HasWrittenRow words family process count seat seat' item →
       HasRow words family process count seat seat' own item
   row_told family process count seat seat' own item w = record {
     of = w.of;

@@ -12,7 +12,7 @@ use Rattle.cell_live.specs.Intervals.{AreFirst, AreHeeded, IsHeeded}
 use Rattle.cell_live.specs.Running.{last_or}
 use Rattle.cell_live.proofs.ListLaws.{last_snoc}
 use Rattle.family_live.specs.declared.family.Family.{Ghosts as FamilyWords}
-use Rattle.family_live.specs.Accesses.{IsWrite}
+use Rattle.family_live.specs.Accesses.{IsWriteAccess}
 use Rattle.stamps.specs.declared.stamp.Stamped.{Stamped}
 use Rattle.stamps.specs.Choices.{ChoosesByKind, IsAtMost}
 use Rattle.stamps.proofs.choices.Stamps.{at_most_trans}
@@ -27,8 +27,8 @@ use Rattle.board_history.proofs.Growing.{call_made}
 use Rattle.board_live.specs.declared.board.Board.{Board}
 use Rattle.board_live.specs.declared.board.Pass.{Pass}
 use Rattle.board_live.specs.declared.record.Posted.{Posted}
-use Rattle.board_live.specs.inner.Calls.{HasRead, HasRow, IsSpan}
-use Rattle.board_live.specs.Passes.{answered_of, did_of, HasMade, IsAnswered, IsBounded, IsCall, IsKnown, IsMindful, IsPass, written_of}
+use Rattle.board_live.specs.inner.Calls.{HasReadColumn, HasRow, IsStretch}
+use Rattle.board_live.specs.Passes.{answered_of, did_of, HasMade, IsFurtherAnswer, IsBounded, IsCall, IsKnown, IsMindful, IsPass, written_of}
 use Rattle.board_live.specs.Records.{Rises, stamped}
 use Rattle.board_live.proofs.Accessing.{stays}
 use Rattle.board_live.proofs.Records.{greatest_from, least, rises_at_most, stamped_greatest}
@@ -56,7 +56,7 @@ shifted width before steps count access begins ends begins' ends' long h =
     }
 
 -- a call has steps, of its first part and perhaps of its second
-pub call_span : (a b c : ℕ) (steps more : List ℕ) → IsSpan a b steps → IsSpan b c more → 0 < length steps →
+pub call_span : (a b c : ℕ) (steps more : List ℕ) → IsStretch a b steps → IsStretch b c more → 0 < length steps →
     (begin : ℕ) × (slice_get (steps ++ more) 0 ≡ Some begin) × (slice_get (steps ++ more) (length (steps ++ more) - 1) ≡ Some c)
     × (a < begin) × (begin ≤ c)
 call_span a b c steps more (inl x) y l = absurd (let e : length steps ≡ 0 = ap length x.0 in omega arith)
@@ -89,7 +89,7 @@ twice a b = grind arith
 
 module _ {V F S T : Type 0} (words : FamilyWords F (Posted V) S T) (obeys : V → Bool) (board : Board V F S T) (old : Pass V F S T)
     (of : IsPass words obeys board old) (kind : Kind) (seen chosen : Posted V) (mid next : S)
-    (r : HasRead words obeys board.family old.process (board.processes - 1) old.seat mid old.own seen)
+    (r : HasReadColumn words obeys board.family old.process (board.processes - 1) old.seat mid old.own seen)
     (w : HasRow words board.family old.process (board.processes - 1) mid next old.own chosen) where
   abbrev n : ℕ
   n = board.processes
@@ -233,8 +233,8 @@ module _ {V F S T : Type 0} (words : FamilyWords F (Posted V) S T) (obeys : V �
     answers = r.answers;
     each = let t = two in let e = r.each in omega arith;
     answered = λ e answer there.
-        subst (λ z. IsAnswered obeys board.first (words.reads old.seat (other i e)) z answer) (sym (w.reads (other i e)))
-        (subst (λ o. IsAnswered obeys o (words.reads old.seat (other i e)) (words.reads mid (other i e)) answer) of.opens
+        subst (λ z. IsFurtherAnswer obeys board.first (words.reads old.seat (other i e)) z answer) (sym (w.reads (other i e)))
+        (subst (λ o. IsFurtherAnswer obeys o (words.reads old.seat (other i e)) (words.reads mid (other i e)) answer) of.opens
         (r.reads e answer there).1);
     is_seen = r.sees;
     known = known;
@@ -248,8 +248,8 @@ module _ {V F S T : Type 0} (words : FamilyWords F (Posted V) S T) (obeys : V �
     written = λ t j l ne.
         let e = other_reached n i j of.inside l ne in
         let x = (w.writes t e.0 (let z = e.1 in omega arith)).1 in
-        subst (λ z. IsWrite z (words.writes next j) chosen) (r.writes j)
-        (subst (λ z. IsWrite (words.writes mid z) (words.writes next z) chosen) e.2 x);
+        subst (λ z. IsWriteAccess z (words.writes next j) chosen) (r.writes j)
+        (subst (λ z. IsWriteAccess (words.writes mid z) (words.writes next z) chosen) e.2 x);
     unwritten = λ f. (λ j. (w.unwritten f).0 j ∙ r.writes j, (w.unwritten f).1);
     made = λ calls h. made chooses calls h;
   }

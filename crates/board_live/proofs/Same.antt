@@ -4,7 +4,7 @@ use Rattle.std.proofs.Common.{refl, sym, ◌∙◌, ap, subst, inl, inr}
 use Rattle.std.proofs.lemmas.Bool.{cases_eq}
 use Rattle.cell_live.specs.declared.times.Known.{Known}
 use Rattle.family_live.specs.declared.family.Family.{Ghosts as FamilyWords}
-use Rattle.family_live.specs.Accesses.{IsHeardRead, Keeps, KeepsOthers}
+use Rattle.family_live.specs.Accesses.{IsHeardRead, KeepsEach, KeepsOthers}
 use Rattle.stamps.specs.declared.stamp.Stamped.{Stamped}
 use Rattle.matrix_core.specs.CellAnswers.{greatest}
 use Rattle.matrix_core.specs.Lines.{other}
@@ -76,8 +76,8 @@ same_process {V} width n limit first i old new times calls reads writes h = reco
 }
 
 module _ {V F S T : Type 0} (words : FamilyWords F (Posted V) S T) (n limit process : ℕ) (first : Posted V) (calls : List (Called V)) where
-  pub after_tell : (old new : S) → words.times new ≡ words.times old → Keeps (words.writes old) (words.writes new) →
-      Keeps (words.reads old) (words.reads new) → IsProcess words.width n limit (stamped first) process (did_of words old calls) →
+  pub after_tell : (old new : S) → words.times new ≡ words.times old → KeepsEach (words.writes old) (words.writes new) →
+      KeepsEach (words.reads old) (words.reads new) → IsProcess words.width n limit (stamped first) process (did_of words old calls) →
       IsProcess words.width n limit (stamped first) process (did_of words new calls)
   after_tell old new times writes reads h = same_process words.width n limit (stamped first) process (did_of words old calls)
       (did_of words new calls) times refl
@@ -90,7 +90,7 @@ module _ {V F S T : Type 0} (words : FamilyWords F (Posted V) S T) (n limit proc
       })
       (λ e. ap written_of (writes (other process e))) h
 
-  pub after_learn : (old new : S) (sender : ℕ) (item : Posted V) (carried : Known (Posted V)) → words.times new ≡ words.times old → Keeps (words.writes old) (words.writes new) →
+  pub after_learn : (old new : S) (sender : ℕ) (item : Posted V) (carried : Known (Posted V)) → words.times new ≡ words.times old → KeepsEach (words.writes old) (words.writes new) →
       (sender ≢ process → IsHeardRead (words.reads old sender) (words.reads new sender) item carried) →
       KeepsOthers sender (words.reads old) (words.reads new) → IsProcess words.width n limit (stamped first) process (did_of words old calls) →
       IsProcess words.width n limit (stamped first) process (did_of words new calls)

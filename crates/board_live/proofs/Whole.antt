@@ -6,7 +6,7 @@ use Rattle.std.proofs.lemmas.List.{length-map}
 use Rattle.std.proofs.lemmas.Option.{same_Some, slice_get-map, slice_get_within}
 use Rattle.history_core.specs.Schedules.{positions}
 use Rattle.family_live.specs.declared.family.Family.{Ghosts as FamilyWords}
-use Rattle.family_live.specs.Accesses.{Reads, Writes}
+use Rattle.family_live.specs.Accesses.{ReadAccesses, WriteAccesses}
 use Rattle.family_live.specs.Ends.{Each, EachTwo, IsAtomicCell, IsSchedule}
 use Rattle.stamps.specs.declared.stamp.Stamped.{Stamped}
 use Rattle.stamps.specs.Choices.{IsAtMost}
@@ -26,7 +26,7 @@ use Rattle.board_live.specs.Passes.{answered_of, did_of, IsPass, written_of}
 use Rattle.board_live.specs.Records.{stamped}
 
 -- a register of the family, as a played board has it
-register : {V : Type 0} (first : Posted V) (w : Writes (Posted V)) (r : Reads (Posted V)) → IsAtomicCell first w r →
+register : {V : Type 0} (first : Posted V) (w : WriteAccesses (Posted V)) (r : ReadAccesses (Posted V)) → IsAtomicCell first w r →
     IsRegister (stamped first) (written_of w) (answered_of r)
 register first w r h = record {
   source = λ m number x a b. source m number x a b;

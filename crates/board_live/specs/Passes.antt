@@ -4,7 +4,7 @@ use Rattle.std.specs.Prelude.{All, vec_capacity, Result, Ok, Err, true, false}
 use Rattle.cell_live.specs.Intervals.{AreFirst, AreHeeded}
 use Rattle.cell_live.specs.Running.{IsAnswer, last_or}
 use Rattle.family_live.specs.declared.family.Family.{Ghosts as FamilyWords}
-use Rattle.family_live.specs.Accesses.{IsRead, IsWrite, Keeps, Reads, Writes}
+use Rattle.family_live.specs.Accesses.{IsReadAccess, IsWriteAccess, KeepsEach, ReadAccesses, WriteAccesses}
 use Rattle.history_core.specs.declared.history.Kind.{Kind}
 use Rattle.history_core.specs.declared.history.Kind.TheVariants.{Write, Refused}
 use Rattle.stamps.specs.declared.stamp.Stamp.{Stamp}
@@ -19,20 +19,20 @@ use Rattle.board_live.specs.declared.record.Posted.{Posted}
 use Rattle.board_live.specs.Records.{greatest, Rises, stamped}
 
 module _ {V : Type 0} where
-  abbrev pub written_of : Writes (Posted V) → Written V
+  abbrev pub written_of : WriteAccesses (Posted V) → Written V
   written_of w = record { items = map stamped w.items; begins = w.times.begins; ends = w.times.ends }
 
-  abbrev pub answered_of : Reads (Posted V) → Answered V
+  abbrev pub answered_of : ReadAccesses (Posted V) → Answered V
   answered_of r = record { items = map stamped r.answers; numbers = r.numbers; begins = r.times.begins; ends = r.times.ends }
 
   -- one answer more of another process: it is the record with its number of the writes that are known, atomic by its interval; and it
   -- obeys its law, and is no older than the opening, the answer before it and all that was told of that process
-  pub record IsAnswered (obeys : V → Bool) (opening : Posted V) (old new : Reads (Posted V)) (answer : Posted V) : Type 0 where
-    pub read : IsRead opening old new answer
+  pub record IsFurtherAnswer (obeys : V → Bool) (opening : Posted V) (old new : ReadAccesses (Posted V)) (answer : Posted V) : Type 0 where
+    pub read : IsReadAccess opening old new answer
     pub running : IsAnswer (λ p. IsTrue (obeys p.item)) Rises opening old.answers old.told answer
 
   -- no receipt more, and what is known of the other process's writes begins with those that each of its receipts carried
-  pub record IsMindful (old new : Reads (Posted V)) : Type 0 where
+  pub record IsMindful (old new : ReadAccesses (Posted V)) : Type 0 where
     pub same : new.heard ≡ old.heard
     pub first : All (λ told. AreFirst told new.known.items new.known.times) new.heard
 
@@ -90,7 +90,7 @@ module _ {V F S T : Type 0} (family : FamilyWords F (Posted V) S T) where
     pub answers : List (Posted V)
     pub each : length answers + 1 ≡ board.processes
     pub answered : (e : ℕ) (answer : Posted V) → slice_get answers e ≡ Some answer →
-        IsAnswered obeys board.first (family.reads old.seat (other old.process e)) (family.reads new.seat (other old.process e)) answer
+        IsFurtherAnswer obeys board.first (family.reads old.seat (other old.process e)) (family.reads new.seat (other old.process e)) answer
     pub is_seen : seen ≡ greatest old.own answers
     pub known : IsKnown board old new seen
     pub heeds : (j : ℕ) → j < board.processes → j ≢ old.process → All (λ t. IsAtMost t.stamp seen.stamp) (family.reads old.seat j).told
@@ -100,8 +100,8 @@ module _ {V F S T : Type 0} (family : FamilyWords F (Posted V) S T) where
     pub tells : Bool
     pub steps : length (family.times new.seat) ≡ length (family.times old.seat) + steps_of_call family.width board.processes tells
     pub written : tells ≡ true → (j : ℕ) → j < board.processes → j ≢ old.process →
-        IsWrite (family.writes old.seat j) (family.writes new.seat j) new.own
-    pub unwritten : tells ≡ false → Keeps (family.writes old.seat) (family.writes new.seat) × (new.own ≡ old.own)
+        IsWriteAccess (family.writes old.seat j) (family.writes new.seat j) new.own
+    pub unwritten : tells ≡ false → KeepsEach (family.writes old.seat) (family.writes new.seat) × (new.own ≡ old.own)
     pub made : (calls : List (Called V)) → HasMade board old calls → HasMade board new (calls ++ record {
       begin = begin;
       end = end;
@@ -117,15 +117,15 @@ module _ {V F S T : Type 0} (family : FamilyWords F (Posted V) S T) where
     pub process : new.process ≡ old.process
     pub own : new.own ≡ old.own
     pub later : family.clock old.seat ≤ family.clock new.seat
-    pub writes : Keeps (family.writes old.seat) (family.writes new.seat)
+    pub writes : KeepsEach (family.writes old.seat) (family.writes new.seat)
     pub made : (calls : List (Called V)) → HasMade family board old calls → HasMade family board new calls
 
 module _ {V : Type 0} where
   -- what a write chooses, and answers: below the limit its item with the next stamp, else what was seen
-  abbrev pub Chooses : ℕ → ℕ → V → Posted V → Posted V → Result Stamp (TagsEnded V) → Type 0
-  Chooses limit process item seen chosen (Ok s) =
+  abbrev pub ChoosesStamp : ℕ → ℕ → V → Posted V → Posted V → Result Stamp (TagsEnded V) → Type 0
+  ChoosesStamp limit process item seen chosen (Ok s) =
       (seen.stamp.tag < limit) × (s ≡ record { tag = seen.stamp.tag + 1; writer = process }) × (chosen ≡ record { stamp = s; item = item })
-  Chooses limit process item seen chosen (Err e) = (limit ≤ seen.stamp.tag) × (e.seen ≡ seen) × (chosen ≡ seen)
+  ChoosesStamp limit process item seen chosen (Err e) = (limit ≤ seen.stamp.tag) × (e.seen ≡ seen) × (chosen ≡ seen)
 
   abbrev pub kind_of : Result Stamp (TagsEnded V) → Kind
   kind_of (Ok s) = Write

@@ -2,7 +2,7 @@
 use Rattle.std.specs.Prelude.{◌≡◌, ◌≢◌, ℕ, ◌<◌, ◌≤◌}
 use Rattle.cell_live.specs.Intervals.{known_as}
 use Rattle.family_live.specs.declared.family.Family.{Ghosts as FamilyWords}
-use Rattle.family_live.specs.Accesses.{IsHeardRead, Keeps, KeepsOthers}
+use Rattle.family_live.specs.Accesses.{IsHeardRead, KeepsEach, KeepsOthers}
 use Rattle.board_live.specs.declared.board.Board.{Board}
 use Rattle.board_live.specs.declared.board.Pass.{Pass}
 use Rattle.board_live.specs.declared.receipts.Receipt.{Receipt}
@@ -25,7 +25,7 @@ module _ {V F S T : Type 0} (family : FamilyWords F (Posted V) S T) where
     pub time : family.time_of receipt.told ≡ family.clock old.seat
     pub tells : (j : ℕ) → j < board.processes → j ≢ old.process →
         family.writes_of receipt.told j ≡ known_as (family.writes old.seat j).items (family.writes old.seat j).times
-    pub reads : Keeps (family.reads old.seat) (family.reads new.seat)
+    pub reads : KeepsEach (family.reads old.seat) (family.reads new.seat)
 
   -- a second receipt that tells the same
   pub record IsDuplicate (board : Board V F S T) (receipt again : Receipt V F S T) : Type 0 where
@@ -33,7 +33,7 @@ module _ {V F S T : Type 0} (family : FamilyWords F (Posted V) S T) where
     pub from : again.from ≡ receipt.from
     pub names : again.item ≡ receipt.item
     pub time : family.time_of again.told ≡ family.time_of receipt.told
-    pub tells : Keeps (family.writes_of receipt.told) (family.writes_of again.told)
+    pub tells : KeepsEach (family.writes_of receipt.told) (family.writes_of again.told)
 
   -- the process knows of the receipt's time, and was told its record of the sender and the writes that it carries; nothing was read
   pub record HasLearnt (old new : Pass V F S T) (receipt : Receipt V F S T) : Type 0 where

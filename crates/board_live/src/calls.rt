@@ -1,9 +1,9 @@
 //! Reading and writing.
 ghost use Rattle.std.specs.Prelude.{◌≡◌, ◌≢◌, ◌+◌, ◌-◌, ◌*◌, ◌<◌, false, length, IfErr, IfOk, IsTrue};
-ghost use Rattle.board_live.specs.inner.Calls.{HasRead, HasRow, HasWritten, IsOf};
+ghost use Rattle.board_live.specs.inner.Calls.{HasReadColumn, HasRow, HasWrittenRow, IsOf};
 ghost use Rattle.cell_live.specs.Running.{last_or};
 ghost use Rattle.history_core.specs.declared.history.Kind.TheVariants.{Read};
-ghost use Rattle.board_live.specs.Passes.{Chooses, IsBounded, IsCall, IsKnown, IsPass, kind_of};
+ghost use Rattle.board_live.specs.Passes.{ChoosesStamp, IsBounded, IsCall, IsKnown, IsPass, kind_of};
 ghost use Rattle.stamps.specs.Stamps.{IsBelow};
 ghost use Rattle.board_live.specs.Records.{Rises};
 
@@ -23,7 +23,7 @@ fn column<V: RecordLaw, F: Family<Posted<V>>>(
 )
     requires of { IsOf ⟦<F as Family<Posted<V>>>⟧ family.now processes process seat.old }
     requires lawful { IsTrue (V.obeys seen.old.item) }
-    ensures { HasRead ⟦<F as Family<Posted<V>>>⟧ V.obeys family.now process (processes - 1) seat.old seat.new seen.old seen.new }
+    ensures { HasReadColumn ⟦<F as Family<Posted<V>>>⟧ V.obeys family.now process (processes - 1) seat.old seat.new seen.old seen.new }
 {
     family.read_all_from(seat, seen);
 }
@@ -44,7 +44,7 @@ fn row<V: RecordLaw, F: Family<Posted<V>>>(
     requires last { (j : _) → j < processes → j ≢ process → last_or first.now (F.writes seat.old j).items ≡ own.now }
     requires rises { Rises own.now item.now }
     requires lawful { IsTrue (V.obeys item.now.item) }
-    ensures { HasWritten ⟦<F as Family<Posted<V>>>⟧ family.now process (processes - 1) seat.old seat.new item.now }
+    ensures { HasWrittenRow ⟦<F as Family<Posted<V>>>⟧ family.now process (processes - 1) seat.old seat.new item.now }
 {
     family.write_all_from(seat, item);
 }
@@ -119,7 +119,7 @@ impl<V: RecordLaw, F: Family<Posted<V>>> Board<V, F> {
         requires item { IsTrue (V.obeys item) }
         ensures pass { IsPass ⟦<F as Family<Posted<V>>>⟧ V.obeys self.now pass.new }
         ensures call { (seen : _) × IsCall ⟦<F as Family<Posted<V>>>⟧ V.obeys self.now (kind_of result) pass.old pass.new seen
-            × Chooses self.now.limit pass.old.process item seen pass.new.own result }
+            × ChoosesStamp self.now.limit pass.old.process item seen pass.new.own result }
         ensures raised { IfOk result (λ s. IsBelow pass.old.own.stamp s) }
         // A refused write that has its process's own record takes the steps of its column alone.
         ensures quiet { IfErr result (λ e. e.seen.stamp ≡ pass.old.own.stamp →

@@ -16,9 +16,9 @@ use Rattle.board_tasks.specs.declared.lane.Entry.{Entry}
 use Rattle.board_tasks.specs.declared.lane.Reply.{Reply}
 use Rattle.board_tasks.specs.declared.lane.Reply.TheVariants.{Written, Seen, Ended}
 use Rattle.board_live.specs.declared.record.Posted.{Posted}
-use Rattle.board_tasks.specs.LogOrders.{AreOfOne, entries_of, is_of, IsLogOrder, LogsInOrder, Noted, Takes}
+use Rattle.board_tasks.specs.LogOrders.{AreEntriesOfOne, entries_of, is_of, IsLogOrder, LogsInOrder, Noted, RegisterTakesEntry}
 use Rattle.board_tasks.specs.Logs.{is_at_most, stamp_of}
-use Rattle.board_origins.specs.Origins.{AllKeep, has_origin, has_write, in_order, is_known, is_reply_at, IsFirstBreak, IsOrigin, same_stamp}
+use Rattle.board_origins.specs.Origins.{AllKeep, has_origin, has_write, in_order, is_known, is_reply_at, IsFirstBrokenOrigin, IsOrigin, same_stamp}
 use Rattle.board_origins.specs.Origins.{sees_known, stamp_before, wrote}
 use Rattle.board_origins.specs.declared.origin.Origin.TheVariants.{Broken}
 use Rattle.board_tasks.proofs.LogLaws.{at_most_trans}
@@ -106,7 +106,7 @@ module _ {V : Type 0} where
     pub up : is_at_most now.stamp held.stamp ≡ true
 
   next : (limit task : ℕ) (now : Posted V) (writes : ℕ) (wish : Wish V) (reply : Reply V) (rest : Posted V → ℕ → Type 0)
-      → Takes limit task now writes wish reply rest → Next reply now rest
+      → RegisterTakesEntry limit task now writes wish reply rest → Next reply now rest
   next limit task now writes (Write item) (Written s) rest h =
       record { held = record { stamp = s; item = item }; writes = writes + 1; goes = h.2; stamp = refl; up = at_most_below now.stamp s h.0 }
   next limit task now writes (Write item) (Seen p) rest h = absurd h
@@ -119,7 +119,7 @@ module _ {V : Type 0} where
 
   -- what a register takes is a reply in order, from a stamp on that isn't above its own
   reply_by : (limit task : ℕ) (before : Stamp) (now : Posted V) (writes : ℕ) (wish : Wish V) (reply : Reply V) (rest : Posted V → ℕ → Type 0)
-      → is_at_most before now.stamp ≡ true → Takes limit task now writes wish reply rest → is_reply_at task before wish reply ≡ true
+      → is_at_most before now.stamp ≡ true → RegisterTakesEntry limit task now writes wish reply rest → is_reply_at task before wish reply ≡ true
   reply_by limit task before now writes (Write item) (Written s) rest u h =
       all_true (nat_eq s.writer task) (is_below before s) (subst (λ n. nat_eq s.writer n ≡ true) h.1 (task_itself s.writer))
       (above_all before now.stamp s u h.0)
@@ -145,17 +145,17 @@ module _ {V : Type 0} where
 
   ordered : (limit task : ℕ) (last : Posted V) (order : List (Noted V)) (before : Stamp) (now : Posted V) (writes : ℕ)
       → is_at_most before now.stamp ≡ true
-      → AreOfOne limit now writes last order → OrderedFrom task before (entries_of task order)
+      → AreEntriesOfOne limit now writes last order → OrderedFrom task before (entries_of task order)
   ordered limit task last [] before now writes u h = tt
   ordered limit task last (n ∷ order) before now writes u h =
-      let x : Next n.entry.reply now (λ p m. AreOfOne limit p m last order) =
-      next limit n.task now writes n.entry.wish n.entry.reply (λ p m. AreOfOne limit p m last order) h in
+      let x : Next n.entry.reply now (λ p m. AreEntriesOfOne limit p m last order) =
+      next limit n.task now writes n.entry.wish n.entry.reply (λ p m. AreEntriesOfOne limit p m last order) h in
       let v : is_at_most before x.held.stamp ≡ true = at_most_trans before now.stamp x.held.stamp u x.up in
       ordered_by (is_of task n) task before n (filter (is_of task) order)
       (λ mine.
       let same : n.task ≡ task = same_task n.task task mine in
       subst (λ t. in_order t before n.entry ≡ true) same
-      (reply_by limit n.task before now writes n.entry.wish n.entry.reply (λ p m. AreOfOne limit p m last order) u h))
+      (reply_by limit n.task before now writes n.entry.wish n.entry.reply (λ p m. AreEntriesOfOne limit p m last order) u h))
       (ordered limit task last order (stamp_of n.entry.reply) x.held x.writes
       (subst (λ s. is_at_most s x.held.stamp ≡ true) (sym x.stamp) (at_most_self x.held.stamp)) x.goes)
       (ordered limit task last order before x.held x.writes v x.goes)
@@ -198,7 +198,7 @@ module _ {V : Type 0} where
 
     knows : (n : Noted V) → IsIn n order → (now : Posted V) (writes : ℕ) (wish : Wish V) (reply : Reply V) (rest : Posted V → ℕ → Type 0)
         → n.entry.wish ≡ wish → n.entry.reply ≡ reply
-        → is_known equal opening logs now ≡ true → Takes limit n.task now writes wish reply rest → Knows reply rest
+        → is_known equal opening logs now ≡ true → RegisterTakesEntry limit n.task now writes wish reply rest → Knows reply rest
     knows n m now writes (Write item) (Written s) rest e f k h =
         record {
           held = record { stamp = s; item = item };
@@ -216,12 +216,12 @@ module _ {V : Type 0} where
     knows n m now writes Read (Ended p) rest e f k h = absurd h
 
     all_known : (rest : List (Noted V)) (now : Posted V) (writes : ℕ) → ((n : Noted V) → IsIn n rest → IsIn n order)
-        → AreOfOne limit now writes last rest
+        → AreEntriesOfOne limit now writes last rest
         → is_known equal opening logs now ≡ true → (n : Noted V) → IsIn n rest → sees_known equal opening logs n.entry.reply ≡ true
     all_known [] now writes f h k n m = absurd m
     all_known (x ∷ rest) now writes f h k n m =
-        let w : Knows x.entry.reply (λ p j. AreOfOne limit p j last rest) =
-        knows x (f x (inl refl)) now writes x.entry.wish x.entry.reply (λ p j. AreOfOne limit p j last rest) refl refl k h in
+        let w : Knows x.entry.reply (λ p j. AreEntriesOfOne limit p j last rest) =
+        knows x (f x (inl refl)) now writes x.entry.wish x.entry.reply (λ p j. AreEntriesOfOne limit p j last rest) refl refl k h in
         elim m [
           | inl e ↦ subst (λ (z : Noted V). sees_known equal opening logs z.entry.reply ≡ true) (sym e) w.sees
           | inr i ↦ all_known rest w.held w.writes (λ d j. f d (inr j)) w.goes w.known n i
@@ -251,7 +251,7 @@ module _ {V : Type 0} where
 
   -- an entry that breaks a rule isn't one of those that all keep it
   pub breaks_none : (rule : ℕ → Stamp → Entry V → Bool) (logs : List (List (Entry V))) → AllKeep rule logs
-      → (task call : ℕ) → IsFirstBreak rule logs task call → ⊥
+      → (task call : ℕ) → IsFirstBrokenOrigin rule logs task call → ⊥
   breaks_none rule logs all task call broken =
       not_both (rule task (stamp_before broken.log broken.place) broken.breaks.entry)
       (all task broken.place broken.log broken.breaks.entry broken.at broken.breaks.at) broken.breaks.breaks

@@ -36,7 +36,7 @@ use Rattle.board_tasks.specs.declared.lane.Reply.TheVariants.{Written, Seen, End
 use Rattle.board_tasks.specs.Logs.{is_at_most, stamp_of}
 use Rattle.board_tasks.specs.Tasks.{kind_by}
 use Rattle.board_tasks.proofs.Ordered.{call_at, calls_did, entry_at}
-use Rattle.board_tasks.specs.Worked.{AreAtomic, EachTells, Has, HaveWorked, logs_of, Tells}
+use Rattle.board_tasks.specs.Worked.{AreAtomicLogs, EachTells, HasChosenBy, HaveWorked, logs_of, TellsOfCall}
 use Rattle.board_origins.specs.declared.origin.Origin.TheVariants.{Broken}
 use Rattle.board_origins.specs.Origins.{AllKeep, has_origin, has_write, in_order, is_known, is_reply_at, IsOrigin, same_stamp, sees_known}
 use Rattle.board_origins.specs.Origins.{stamp_before, wrote}
@@ -62,7 +62,7 @@ greatest_first own (x ∷ xs) =
 
 module _ {V : Type 0} where
   -- the stamp that an entry hands on is the one that its call chose
-  stamp_told : (wish : Wish V) (reply : Reply V) (chosen : Stamped V) → Has wish reply chosen → stamp_of reply ≡ chosen.stamp
+  stamp_told : (wish : Wish V) (reply : Reply V) (chosen : Stamped V) → HasChosenBy wish reply chosen → stamp_of reply ≡ chosen.stamp
   stamp_told (Write item) (Written s) chosen h = ap (λ (z : Stamped V). z.stamp) (sym h)
   stamp_told (Write item) (Seen p) chosen h = absurd h
   stamp_told (Write item) (Ended p) chosen h = ap (λ (z : Stamped V). z.stamp) (sym h)
@@ -84,7 +84,7 @@ module _ {V : Type 0} where
 
   -- what an entry says of what its call saw and chose
   reply_fits : (limit task : ℕ) (before seen : Stamp) (item : V) (wish : Wish V) (reply : Reply V) (kind : Kind) (chosen : Stamped V) →
-      is_at_most before seen ≡ true → kind ≡ kind_by reply → Has wish reply chosen →
+      is_at_most before seen ≡ true → kind ≡ kind_by reply → HasChosenBy wish reply chosen →
       ChoosesByKind limit (record { place = 0; who = task; kind = kind; stamp = chosen.stamp; item = chosen.item }) kind seen item →
       is_reply_at task before wish reply ≡ true
   reply_fits limit task before seen item (Write v) (Written s) WriteKind chosen up k h c =
@@ -108,7 +108,7 @@ module _ {V : Type 0} where
 
   -- an entry that tells of a write has the record that was chosen
   is_wrote : (equal : V → V → Bool) → ((x : V) → equal x x ≡ true) → (p : Posted V) (wish : Wish V) (reply : Reply V) (chosen : Stamped V) →
-      WriteKind ≡ kind_by reply → Has wish reply chosen → stamped p ≡ chosen → wrote equal p wish reply ≡ true
+      WriteKind ≡ kind_by reply → HasChosenBy wish reply chosen → stamped p ≡ chosen → wrote equal p wish reply ≡ true
   is_wrote equal itself p (Write v) (Written s) chosen k h e =
       let is : stamped p ≡ record { stamp = s; item = v } = e ∙ h in
       let stamp : p.stamp ≡ s = ap (λ (z : Stamped V). z.stamp) is in
@@ -122,7 +122,7 @@ module _ {V : Type 0} where
 
   -- what an entry saw is what its call chose
   seen_known : (equal : V → V → Bool) (opening : V) (logs : List (List (Entry V))) (wish : Wish V) (reply : Reply V) (chosen : Stamped V) →
-      Has wish reply chosen → ((p : Posted V) → stamped p ≡ chosen → is_known equal opening logs p ≡ true) →
+      HasChosenBy wish reply chosen → ((p : Posted V) → stamped p ≡ chosen → is_known equal opening logs p ≡ true) →
       sees_known equal opening logs reply ≡ true
   seen_known equal opening logs wish (Written s) chosen h known = refl
   seen_known equal opening logs (Write v) (Seen p) chosen h known = absurd h
@@ -197,7 +197,7 @@ module _ {V : Type 0} where
 module _ {V F S T : Type 0} (family : FamilyWords F (Posted V) S T) (obeys : V → Bool) where
   -- the logs of lanes whose calls are atomic are of a run
   pub atomic_run : (board : Board V F S T) (lanes : List (Lane V F S T)) (last : Posted V) → HaveWorked family obeys board lanes →
-      AreAtomic family board lanes last → AreOfRun board.first.item (logs_of lanes)
+      AreAtomicLogs family board lanes last → AreOfRun board.first.item (logs_of lanes)
   atomic_run board lanes last worked h =
       let passes : List (Pass V F S T) = map (λ (l : Lane V F S T). l.pass) lanes in
       let did : ℕ → Did V = did_by family passes h.calls in

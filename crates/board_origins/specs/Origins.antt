@@ -49,7 +49,7 @@ module _ {V : Type 0} (rule : ℕ → Stamp → Entry V → Bool) where
         → IsTrue (rule t (stamp_before log j) e)
 
     -- the first entry of all that breaks it, by task and then by call. Tasks count from 0 and calls from 1
-    pub record IsFirstBreak (task call : ℕ) : Type 0 where
+    pub record IsFirstBrokenOrigin (task call : ℕ) : Type 0 where
       pub log : List (Entry V)
       pub place : ℕ
       pub at : slice_get logs task ≡ Some log
@@ -104,7 +104,7 @@ module _ {V : Type 0} (equal : V → V → Bool) where
 
     -- the first entry that is out of order, or, where all are in order, the first without an origin
     pub record IsBroken (task call : ℕ) : Type 0 where
-      pub either : IsFirstBreak in_order logs task call ⊎ (AllKeep in_order logs × IsFirstBreak has_origin logs task call)
+      pub either : IsFirstBrokenOrigin in_order logs task call ⊎ (AllKeep in_order logs × IsFirstBrokenOrigin has_origin logs task call)
 
     -- *Sound*: every entry is in order, so that each stamp has one write at most, and has an origin. Else this is the first that isn't
     abbrev pub IsOrigin : Origin → Type 0

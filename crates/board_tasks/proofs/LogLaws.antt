@@ -18,7 +18,7 @@ use Rattle.board_tasks.specs.declared.lane.Reply.{Reply}
 use Rattle.board_tasks.specs.declared.lane.Reply.TheVariants.{Written, Seen, Ended}
 use Rattle.board_tasks.specs.declared.lane.Entry.{Entry}
 use Rattle.board_live.specs.Records.{Rises, rises_on}
-use Rattle.board_tasks.specs.Logs.{IsLog, is_at_most, stamp_of}
+use Rattle.board_tasks.specs.Logs.{IsLogOfScript, is_at_most, stamp_of}
 use Rattle.board_tasks.specs.Tasks.{IsEntry, Replies, AreCalls}
 
 at_most_parts : (m v n w p x : ℕ) → not (nat_lt n m || (nat_eq n m && nat_lt w v)) ≡ true
@@ -49,8 +49,8 @@ get_last (y ∷ a) z (suc n) x h = ⊎_elim (λ p. inl p) (λ q. inr (ap suc q.0
 
 -- a log of calls whose records rise
 pub log_more : {V : Type 0} (script : List (Wish V)) (log : List (Entry V)) (own new : Posted V) (e : Entry V)
-    → IsLog script log own.stamp → slice_get script (length log) ≡ Some e.wish → Rises own new → stamp_of e.reply ≡ new.stamp
-    → IsLog script (log ++ e ∷ []) new.stamp
+    → IsLogOfScript script log own.stamp → slice_get script (length log) ≡ Some e.wish → Rises own new → stamp_of e.reply ≡ new.stamp
+    → IsLogOfScript script (log ++ e ∷ []) new.stamp
 log_more script log own new e h at up same =
     let lt : length log < length script = slice_get_within script (length log) e.wish at in
     let long : length (log ++ e ∷ []) ≡ length log + 1 = length-append log (e ∷ []) in
@@ -102,8 +102,8 @@ stamp_replied limit process (Write item) seen chosen (Ended p) h =
 module _ {V F S T : Type 0} (family : FamilyWords F (Posted V) S T) (obeys : V → Bool) where
   -- the log after one more call
   pub log_called : (board : Board V F S T) (script : List (Wish V)) (log : List (Entry V)) (old new : Pass V F S T) (e : Entry V)
-      → IsLog script log old.own.stamp → slice_get script (length log) ≡ Some e.wish → IsEntry family obeys board old e new
-      → IsLog script (log ++ e ∷ []) new.own.stamp
+      → IsLogOfScript script log old.own.stamp → slice_get script (length log) ≡ Some e.wish → IsEntry family obeys board old e new
+      → IsLogOfScript script (log ++ e ∷ []) new.own.stamp
   log_called board script log old new e h at entry = log_more script log old.own new.own e h at
       (rises_on old.own entry.seen new.own entry.call.rises entry.call.onward)
       (stamp_replied board.limit old.process e.wish entry.seen new.own e.reply entry.replies)

@@ -19,10 +19,10 @@ use Rattle.board_tasks.specs.declared.lane.Lane.{Lane}
 use Rattle.board_tasks.specs.declared.lane.Reply.{Reply}
 use Rattle.board_tasks.specs.declared.lane.Reply.TheVariants.{Written, Seen, Ended}
 use Rattle.board_tasks.specs.Tasks.{AreCalls, IsEntry, kind_by, Replies}
-use Rattle.board_tasks.specs.Worked.{AreAtomic, EachTells, Has, HasWorked, HaveWorked}
+use Rattle.board_tasks.specs.Worked.{AreAtomicLogs, EachTells, HasChosenBy, HasWorked, HaveWorked}
 
 has_by : {V : Type 0} (limit process : ℕ) (wish : Wish V) (seen chosen : Posted V) (reply : Reply V) →
-    Replies limit process wish seen chosen reply → Has wish reply (stamped chosen)
+    Replies limit process wish seen chosen reply → HasChosenBy wish reply (stamped chosen)
 has_by limit process Read seen chosen (Written s) h = absurd h
 has_by limit process Read seen chosen (Seen p) h = ap stamped (h.1 ∙ sym h.0)
 has_by limit process Read seen chosen (Ended p) h = absurd h
@@ -88,7 +88,7 @@ module _ {V F S T : Type 0} (family : FamilyWords F (Posted V) S T) (obeys : V �
         × HasMade family board z.pass (calls_of i m e).0) (same_Some m l s) ((calls_of i m e).1, (calls_of i m e).2)
     told_at i None e l s = cc
 
-    pub logs_atomic : (last : Posted V) → HaveAtomicOrder family board (map (λ l. l.pass) lanes) last → AreAtomic family board lanes last
+    pub logs_atomic : (last : Posted V) → HaveAtomicOrder family board (map (λ l. l.pass) lanes) last → AreAtomicLogs family board lanes last
     logs_atomic last atomic = record {
       calls = λ i. calls_at i (slice_get lanes i) refl;
       told = λ i l at. (told_at i (slice_get lanes i) refl l at).0;

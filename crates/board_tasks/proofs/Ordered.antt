@@ -21,7 +21,7 @@ use Rattle.matrix_core.specs.Lines.{first_record}
 use Rattle.matrix_core.proofs.lists.Elements.{get_exists}
 use Rattle.matrix_core.proofs.orders.Listing.{get_map_back}
 use Rattle.board_history.specs.BoardRuns.{Called, Did}
-use Rattle.board_history.specs.OneRegister.{AreOfOne as CallsOfOne, IsOneOrder, Named, Takes as CallTakes}
+use Rattle.board_history.specs.OneRegister.{AreEntriesOfOne as CallsOfOne, IsOneOrder, Named, RegisterTakesEntry as CallTakes}
 use Rattle.board_history.proofs.Registers.{one_order}
 use Rattle.family_live.specs.declared.family.Family.{Ghosts as FamilyWords}
 use Rattle.board_live.specs.declared.board.Board.{Board}
@@ -33,9 +33,9 @@ use Rattle.board_tasks.specs.declared.lane.Entry.{Entry}
 use Rattle.board_tasks.specs.declared.lane.Lane.{Lane}
 use Rattle.board_tasks.specs.declared.lane.Reply.{Reply}
 use Rattle.board_tasks.specs.declared.lane.Reply.TheVariants.{Written, Seen, Ended}
-use Rattle.board_tasks.specs.LogOrders.{AreOfOne, entries_of, is_of, IsLogOrder, LogsInOrder, Noted, Takes}
+use Rattle.board_tasks.specs.LogOrders.{AreEntriesOfOne, entries_of, is_of, IsLogOrder, LogsInOrder, Noted, RegisterTakesEntry}
 use Rattle.board_tasks.specs.Tasks.{kind_by}
-use Rattle.board_tasks.specs.Worked.{AreAtomic, EachTells, Has, HaveWorked, logs_of, Tells}
+use Rattle.board_tasks.specs.Worked.{AreAtomicLogs, EachTells, HasChosenBy, HaveWorked, logs_of, TellsOfCall}
 use Rattle.board_tasks.proofs.Works.{drop_past}
 
 number_itself : (n : ℕ) → nat_eq n n ≡ true
@@ -47,17 +47,17 @@ numbers_differ a b ne = grind (arith, nat_tests)
 module _ {V : Type 0} where
   -- the call of which an entry tells, and the entry that tells of a call
   pub call_at : (es : List (Entry V)) (cs : List (Called V)) (k : ℕ) (e : Entry V) → EachTells es cs → slice_get es k ≡ Some e →
-      (c : Called V) × (slice_get cs k ≡ Some c) × Tells e c
+      (c : Called V) × (slice_get cs k ≡ Some c) × TellsOfCall e c
   call_at [] cs k e h at = cc
   call_at (x ∷ es) [] k e h at = absurd h
-  call_at (x ∷ es) (c ∷ cs) zero e h at = (c, refl, subst (λ z. Tells z c) (same_Some x e at) h.0)
+  call_at (x ∷ es) (c ∷ cs) zero e h at = (c, refl, subst (λ z. TellsOfCall z c) (same_Some x e at) h.0)
   call_at (x ∷ es) (c ∷ cs) (suc k) e h at = call_at es cs k e h.1 at
 
   pub entry_at : (es : List (Entry V)) (cs : List (Called V)) (k : ℕ) (c : Called V) → EachTells es cs → slice_get cs k ≡ Some c →
-      (e : Entry V) × (slice_get es k ≡ Some e) × Tells e c
+      (e : Entry V) × (slice_get es k ≡ Some e) × TellsOfCall e c
   entry_at es [] k c h at = cc
   entry_at [] (x ∷ cs) k c h at = absurd h
-  entry_at (e ∷ es) (x ∷ cs) zero c h at = (e, refl, subst (λ z. Tells e z) (same_Some x c at) h.0)
+  entry_at (e ∷ es) (x ∷ cs) zero c h at = (e, refl, subst (λ z. TellsOfCall e z) (same_Some x c at) h.0)
   entry_at (e ∷ es) (x ∷ cs) (suc k) c h at = entry_at es cs k c h.1 at
 
   same_posted : (p q : Posted V) → stamped p ≡ stamped q → p ≡ q
@@ -74,18 +74,18 @@ module _ {V : Type 0} where
 
   record Noting (logs : List (List (Entry V))) (limit : ℕ) (now : Posted V) (writes : ℕ) (last : Posted V) (ms : List (Named V)) : Type 0 where
     pub notes : List (Noted V)
-    pub one : AreOfOne limit now writes last notes
+    pub one : AreEntriesOfOne limit now writes last notes
     pub each : EachNoted logs ms notes
 
   -- what the entry's register does, and the entries after it
   record Step (logs : List (List (Entry V))) (limit who : ℕ) (now : Posted V) (writes : ℕ) (last : Posted V) (ms : List (Named V)) (wish : Wish V)
       (reply : Reply V) : Type 0 where
     pub notes : List (Noted V)
-    pub takes : Takes limit who now writes wish reply (λ p count. AreOfOne limit p count last notes)
+    pub takes : RegisterTakesEntry limit who now writes wish reply (λ p count. AreEntriesOfOne limit p count last notes)
     pub each : EachNoted logs ms notes
 
   step : (logs : List (List (Entry V))) (limit who : ℕ) (now : Posted V) (writes : ℕ) (last : Posted V) (ms : List (Named V)) (wish : Wish V)
-      (reply : Reply V) (kind : Kind) (chosen : Stamped V) → kind ≡ kind_by reply → Has wish reply chosen →
+      (reply : Reply V) (kind : Kind) (chosen : Stamped V) → kind ≡ kind_by reply → HasChosenBy wish reply chosen →
       CallTakes limit who (stamped now) writes kind chosen (λ held count. CallsOfOne limit held count (stamped last) ms) →
       ((p : Posted V) (count : ℕ) → CallsOfOne limit (stamped p) count (stamped last) ms → Noting logs limit p count last ms) →
       Step logs limit who now writes last ms wish reply
@@ -237,7 +237,7 @@ module _ {V F S T : Type 0} (family : FamilyWords F (Posted V) S T) (obeys : V �
   calls_did None pass calls e = cc
 
   pub lanes_in_order : (board : Board V F S T) (lanes : List (Lane V F S T)) (last : Posted V) → HaveWorked family obeys board lanes →
-      AreAtomic family board lanes last → LogsInOrder board.first.item board.limit (logs_of lanes) last
+      AreAtomicLogs family board lanes last → LogsInOrder board.first.item board.limit (logs_of lanes) last
   lanes_in_order board lanes last worked h =
       let passes : List (Pass V F S T) = map (λ l. l.pass) lanes in
       let did : ℕ → Did V = did_by family passes h.calls in

@@ -3,14 +3,14 @@ use Rattle.std.specs.Prelude.{◌≡◌, ◌≤◌, All, Bool, List, [], ◌∷�
 use Rattle.history_core.specs.declared.wish.Wish.{Wish}
 use Rattle.board_live.specs.declared.board.Pass.{Pass}
 use Rattle.board_tasks.specs.declared.lane.Lane.{Lane}
-use Rattle.board_tasks.specs.Logs.{IsLog, Obeys}
+use Rattle.board_tasks.specs.Logs.{IsLogOfScript, Obeys}
 
 module _ {V F S T : Type 0} (obeys : V → Bool) where
   -- the lane's log has room for all calls of its script, whose items obey their law, and tells of the first of them
   pub record IsLane (lane : Lane V F S T) : Type 0 where
     pub room : length lane.script.items ≤ vec_capacity lane.log
     pub lawful : All (Obeys obeys) lane.script.items
-    pub kept : IsLog lane.script.items lane.log.items lane.pass.own.stamp
+    pub kept : IsLogOfScript lane.script.items lane.log.items lane.pass.own.stamp
 
   -- a lane of this pass with this script, whose log is empty
   pub record IsNewLane (pass : Pass V F S T) (script : List (Wish V)) (lane : Lane V F S T) : Type 0 where

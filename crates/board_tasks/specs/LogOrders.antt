@@ -26,26 +26,26 @@ module _ {V : Type 0} where
   -- what one register does at an entry, which holds this record and has taken so many writes. A write puts its item there, under a
   -- greater stamp that names its task; a read has the record that is there; a write is refused only after as many writes as the
   -- limit, and has that record
-  abbrev pub Takes : ℕ → ℕ → Posted V → ℕ → Wish V → Reply V → (Posted V → ℕ → Type 0) → Type 0
-  Takes limit task now writes (Write item) (Written s) rest =
+  abbrev pub RegisterTakesEntry : ℕ → ℕ → Posted V → ℕ → Wish V → Reply V → (Posted V → ℕ → Type 0) → Type 0
+  RegisterTakesEntry limit task now writes (Write item) (Written s) rest =
       IsBelow now.stamp s × (s.writer ≡ task) × rest (record { stamp = s; item = item }) (writes + 1)
-  Takes limit task now writes (Write item) (Seen p) rest = ⊥
-  Takes limit task now writes (Write item) (Ended p) rest = (p ≡ now) × (limit ≤ writes) × rest now writes
-  Takes limit task now writes Read (Written s) rest = ⊥
-  Takes limit task now writes Read (Seen p) rest = (p ≡ now) × rest now writes
-  Takes limit task now writes Read (Ended p) rest = ⊥
+  RegisterTakesEntry limit task now writes (Write item) (Seen p) rest = ⊥
+  RegisterTakesEntry limit task now writes (Write item) (Ended p) rest = (p ≡ now) × (limit ≤ writes) × rest now writes
+  RegisterTakesEntry limit task now writes Read (Written s) rest = ⊥
+  RegisterTakesEntry limit task now writes Read (Seen p) rest = (p ≡ now) × rest now writes
+  RegisterTakesEntry limit task now writes Read (Ended p) rest = ⊥
 
   -- the entries are those of one register that is called in this order, and in the end it holds this record
-  abbrev pub AreOfOne : ℕ → Posted V → ℕ → Posted V → List (Noted V) → Type 0
-  AreOfOne limit now writes last [] = last ≡ now
-  AreOfOne limit now writes last (n ∷ ns) = Takes limit n.task now writes n.entry.wish n.entry.reply (λ p m. AreOfOne limit p m last ns)
+  abbrev pub AreEntriesOfOne : ℕ → Posted V → ℕ → Posted V → List (Noted V) → Type 0
+  AreEntriesOfOne limit now writes last [] = last ≡ now
+  AreEntriesOfOne limit now writes last (n ∷ ns) = RegisterTakesEntry limit n.task now writes n.entry.wish n.entry.reply (λ p m. AreEntriesOfOne limit p m last ns)
 
   -- an order of logs: of each task it has the entries of its log, in their order, and it has no others; they are those of one
   -- register, which holds the opening at stamp 0.0 first, and this record in the end
   pub record IsLogOrder (opening : V) (limit : ℕ) (logs : List (List (Entry V))) (last : Posted V) (order : List (Noted V)) : Type 0 where
     pub each : (task : ℕ) (log : List (Entry V)) → slice_get logs task ≡ Some log → entries_of task order ≡ log
     pub only : (n : Noted V) → IsIn n order → n.task < length logs
-    pub one : AreOfOne limit (record { stamp = first_stamp; item = opening }) 0 last order
+    pub one : AreEntriesOfOne limit (record { stamp = first_stamp; item = opening }) 0 last order
 
   -- *One order* of the logs: they have one
   abbrev pub LogsInOrder : V → ℕ → List (List (Entry V)) → Posted V → Type 0

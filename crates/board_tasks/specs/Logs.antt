@@ -27,7 +27,7 @@ abbrev pub is_at_most : Stamp → Stamp → Bool
 is_at_most a b = not (is_below b a)
 
 -- a log of a script: its wishes are those that the script begins with, and its stamps never fall and are at most this one
-pub record IsLog {V : Type 0} (script : List (Wish V)) (log : List (Entry V)) (own : Stamp) : Type 0 where
+pub record IsLogOfScript {V : Type 0} (script : List (Wish V)) (log : List (Entry V)) (own : Stamp) : Type 0 where
   pub wishes : map (λ e. e.wish) log ≡ take (length log) script
   pub within : length log ≤ length script
   pub rising : (j k : ℕ) (e f : Entry V) → j < k → slice_get log j ≡ Some e → slice_get log k ≡ Some f

@@ -19,24 +19,24 @@ use Rattle.board_tasks.specs.Tasks.{AreCalls, kind_by}
 
 module _ {V : Type 0} where
   -- the record that a call chose, by its wish and its reply
-  abbrev pub Has : Wish V → Reply V → Stamped V → Type 0
-  Has (Write item) (Written s) chosen = chosen ≡ record { stamp = s; item = item }
-  Has (Write item) (Seen p) chosen = ⊥
-  Has (Write item) (Ended p) chosen = chosen ≡ stamped p
-  Has Read (Written s) chosen = ⊥
-  Has Read (Seen p) chosen = chosen ≡ stamped p
-  Has Read (Ended p) chosen = ⊥
+  abbrev pub HasChosenBy : Wish V → Reply V → Stamped V → Type 0
+  HasChosenBy (Write item) (Written s) chosen = chosen ≡ record { stamp = s; item = item }
+  HasChosenBy (Write item) (Seen p) chosen = ⊥
+  HasChosenBy (Write item) (Ended p) chosen = chosen ≡ stamped p
+  HasChosenBy Read (Written s) chosen = ⊥
+  HasChosenBy Read (Seen p) chosen = chosen ≡ stamped p
+  HasChosenBy Read (Ended p) chosen = ⊥
 
   -- the entry tells of this call
-  abbrev pub Tells : Entry V → Called V → Type 0
-  Tells e c = (c.kind ≡ kind_by e.reply) × Has e.wish e.reply c.chosen
+  abbrev pub TellsOfCall : Entry V → Called V → Type 0
+  TellsOfCall e c = (c.kind ≡ kind_by e.reply) × HasChosenBy e.wish e.reply c.chosen
 
   -- each entry tells of its call
   abbrev pub EachTells : List (Entry V) → List (Called V) → Type 0
   EachTells [] [] = Unit {0}
   EachTells [] (c ∷ cs) = ⊥
   EachTells (e ∷ es) [] = ⊥
-  EachTells (e ∷ es) (c ∷ cs) = Tells e c × EachTells es cs
+  EachTells (e ∷ es) (c ∷ cs) = TellsOfCall e c × EachTells es cs
 
 module _ {V F S T : Type 0} where
   -- the logs of the lanes
@@ -60,7 +60,7 @@ module _ {V F S T : Type 0} (family : FamilyWords F (Posted V) S T) (obeys : V �
 
 module _ {V F S T : Type 0} (family : FamilyWords F (Posted V) S T) where
   -- *Atomic*: each entry of each log tells of a call, and all these calls are an atomic run, after which the register holds this record
-  pub record AreAtomic (board : Board V F S T) (lanes : List (Lane V F S T)) (last : Posted V) : Type 0 where
+  pub record AreAtomicLogs (board : Board V F S T) (lanes : List (Lane V F S T)) (last : Posted V) : Type 0 where
     pub calls : ℕ → List (Called V)
     pub told : (i : ℕ) (lane : Lane V F S T) → slice_get lanes i ≡ Some lane → EachTells lane.log.items (calls i)
     pub run : IsAtomicRun family board (did_by family (map (λ l. l.pass) lanes) calls) last

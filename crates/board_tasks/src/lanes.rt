@@ -4,7 +4,7 @@ ghost use Rattle.board_live.specs.Ends.{IsGreatest};
 ghost use Rattle.board_tasks.specs.LogOrders.{LogsInOrder};
 ghost use Rattle.board_tasks.specs.Lanes.{AreLanes};
 ghost use Rattle.board_tasks.specs.Logs.{Obeys};
-ghost use Rattle.board_tasks.specs.Worked.{AreAtomic, HaveWorked, logs_of};
+ghost use Rattle.board_tasks.specs.Worked.{AreAtomicLogs, HaveWorked, logs_of};
 
 use crate::lane::{Entry, Lane};
 use board_live::{Board, Pass, Posted, RecordLaw};
@@ -70,7 +70,7 @@ pub fn finish_lanes<V: RecordLaw + Drop, F: Family<Posted<V>>>(
     requires { HaveWorked ⟦<F as Family<Posted<V>>>⟧ V.obeys board lanes.items }
     ensures logs { IfOk result (λ r. map (λ v. v.items) r.0.items ≡ logs_of lanes.items) }
     ensures last { IfOk result (λ r. IsGreatest (map (λ l. l.pass) lanes.items) r.1) }
-    ensures atomic { IfOk result (λ r. AreAtomic ⟦<F as Family<Posted<V>>>⟧ board lanes.items r.1) }
+    ensures atomic { IfOk result (λ r. AreAtomicLogs ⟦<F as Family<Posted<V>>>⟧ board lanes.items r.1) }
     ensures ordered { IfOk result (λ r. LogsInOrder board.first.item board.limit (logs_of lanes.items) r.1) }
 {
     let mut lanes = lanes;

@@ -5,7 +5,7 @@ use Rattle.history_core.specs.declared.history.Kind.TheVariants.{Read, Write, Re
 use Rattle.stamps.specs.declared.stamp.Stamp.{Stamp}
 use Rattle.stamps.specs.Stamps.{IsBelow, first_stamp}
 use Rattle.board_live.specs.Deals.{IsNew}
-use Rattle.board_live.specs.Passes.{Chooses, IsCall, IsKnown, IsPass}
+use Rattle.board_live.specs.Passes.{ChoosesStamp, IsCall, IsKnown, IsPass}
 use Rattle.board_live.specs.declared.board.Board.{Board}
 use Rattle.board_live.specs.declared.board.Pass.{Pass}
 use Rattle.board_live.specs.declared.record.Posted.{Posted}
@@ -20,7 +20,7 @@ module _ {V F S T : Type 0} (words : FamilyWords F (Posted V) S T) (obeys : V â†
     pub same : b' â‰¡ b
     pub seen : Posted V
     pub call : IsCall words obeys b Write p p' seen
-    pub chosen : Chooses b.limit p.process item seen p'.own (Ok s)
+    pub chosen : ChoosesStamp b.limit p.process item seen p'.own (Ok s)
     pub raised : IsBelow p.own.stamp s
 
   -- a write where the tags have ended: one call of the board, which chose what it saw

@@ -5,7 +5,7 @@ use Rattle.cell_live.specs.Intervals.{IsNextAnswer, IsNextCall, no_times, none_k
 use Rattle.cell_live.specs.Running.{IsAnswer}
 use Rattle.cell_four_slot.specs.Words.{opening_of, written_by, answers_of, told_to, writer_accesses, reader_accesses}
 use Rattle.cell_four_slot.specs.Words.{pair_said, pair_shown, put_times, get_times, numbers_of, known_to}
-use Rattle.c_registers.specs.Numbers.{Always, After, numbered}
+use Rattle.c_registers.specs.Numbers.{Always, IsNoEarlier, numbered}
 use Rattle.c_registers.specs.declared.numbered.Numbered.{Numbered}
 use Rattle.c_registers.specs.declared.four_slot.FourSlotWriter.{FourSlotWriter}
 use Rattle.c_registers.specs.declared.four_slot.FourSlotReader.{FourSlotReader}
@@ -40,7 +40,7 @@ module _ {W : Type 0} where
     pub accesses : reader_accesses h.get.value ≤ reader_accesses g.get.value + 3
     pub quiet : pair_said h.get.value ≡ pair_said g.get.value → reader_accesses h.get.value ≡ reader_accesses g.get.value + 2
     pub moved : pair_said h.get.value ≢ pair_said g.get.value → reader_accesses h.get.value ≡ reader_accesses g.get.value + 3
-    pub running : IsAnswer Always After (opening_of (arc_value g.cell)) (answers_of g.get.value) (told_to g.get.value) a
+    pub running : IsAnswer Always IsNoEarlier (opening_of (arc_value g.cell)) (answers_of g.get.value) (told_to g.get.value) a
     pub timed : IsNextCall (get_times g.get.value) (get_times h.get.value)
     pub written : IsNextAnswer (opening_of (arc_value g.cell)) (known_to g.get.value) (known_to h.get.value) (numbers_of g.get.value) (numbers_of h.get.value)
         (answers_of h.get.value) (get_times h.get.value) a

@@ -6,7 +6,7 @@ use Rattle.cell_live.specs.Running.{IsAnswer}
 use Rattle.cell_triple.specs.Words.{opening_of, written_by, answers_of, told_to, swaps_of_put, loads_of, swaps_of}
 use Rattle.cell_triple.specs.Words.{put_times, get_times, numbers_of, known_to, at_hand_of}
 use Rattle.cell_triple.specs.Lent.{IsSame}
-use Rattle.c_registers.specs.Numbers.{Always, After, numbered}
+use Rattle.c_registers.specs.Numbers.{Always, IsNoEarlier, numbered}
 use Rattle.c_registers.specs.declared.numbered.Numbered.{Numbered}
 use Rattle.c_registers.specs.declared.triple.TripleWriter.{TripleWriter}
 use Rattle.c_registers.specs.declared.triple.TripleEnds.{TripleEnds}
@@ -39,7 +39,7 @@ module _ {W : Type 0} where
     pub at_hand : at_hand_of h.get.value ≡ a
     pub answers : answers_of h.get.value ≡ answers_of g.get.value ++ a ∷ []
     pub accesses : loads_of h.get.value + swaps_of h.get.value ≤ loads_of g.get.value + swaps_of g.get.value + 3
-    pub running : IsAnswer Always After (opening_of (arc_value g.cell)) (answers_of g.get.value) (told_to g.get.value) a
+    pub running : IsAnswer Always IsNoEarlier (opening_of (arc_value g.cell)) (answers_of g.get.value) (told_to g.get.value) a
     pub timed : IsNextCall (get_times g.get.value) (get_times h.get.value)
     pub written : IsNextAnswer (opening_of (arc_value g.cell)) (known_to g.get.value) (known_to h.get.value) (numbers_of g.get.value) (numbers_of h.get.value)
         (answers_of h.get.value) (get_times h.get.value) a

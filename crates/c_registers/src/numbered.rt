@@ -1,5 +1,5 @@
 //! The record that lies in a cell.
-ghost use Rattle.c_registers.specs.Numbers.{numbered, Follows, follows_itself, follows_on};
+ghost use Rattle.c_registers.specs.Numbers.{numbered, NumberFollows, follows_itself, follows_on};
 
 use cell_live::{Kept, Lawful, Lays};
 use std::snapshot::Snapshot;
@@ -14,7 +14,7 @@ pub struct Numbered<W: Copy> {
 impl<W: Copy> Lawful for Numbered<W> {
     ghost fits = { λ _. Unit {0} };
 
-    ghost rises = { λ a b. Follows a.number a.words b.number b.words };
+    ghost rises = { λ a b. NumberFollows a.number a.words b.number b.words };
 
     ghost reflexive = { λ a. follows_itself a.number a.words };
 

@@ -24,7 +24,7 @@ module _ {T : Type 0} where
     pub get_home : g.has ≡ 0 → get_elem? homes g.slot ≡ some (some g.at_hand.value)
 
   -- Where the record written last is, and what the mark says.
-  pub record IsFresh (o : T) (p : WriterNotes T) (g : ReaderNotes T) (fresh : ℕ) (in_middle : T) : Type 0 where
+  pub record HasFreshest (o : T) (p : WriterNotes T) (g : ReaderNotes T) (fresh : ℕ) (in_middle : T) : Type 0 where
     pub marked : fresh ≡ 1 → in_middle ≡ last_or o p.written
     pub unmarked : fresh ≡ 0 → g.at_hand.value ≡ last_or o p.written
     pub asked : g.asked ≡ 1 → fresh ≡ 1
@@ -85,7 +85,7 @@ pub record TripleRule {T : Type 0} (fits : T → Type 0) (rises : T → T → Ty
   pub fresh : ℕ
   pub in_middle : T
   pub in_table : InTable s.words s.homes o put get middle fresh in_middle
-  pub newest : IsFresh o put get fresh in_middle
+  pub newest : HasFreshest o put get fresh in_middle
   pub settled : IsSettled o put.written get.answers get.told
   pub counted : IsCounted put get
   pub openings : (put.opening.value ≡ o) × (get.opening.value ≡ o)

@@ -8,7 +8,7 @@ use Rattle.atomic_table.specs.Table.{Act, keeps, takes, gives, chain, put_back, 
 use Rattle.atomic_table.proofs.Lists.{at_index, set_here, set_else, set_again}
 use Rattle.cell_live.specs.Acts.{HasOne, Proper}
 use Rattle.cell_live.specs.Running.{held_slots}
-use Rattle.family_four_slot.specs.Layouts.{gather, shift, shift_act, Inside, around, IsIn, Distinct, Out}
+use Rattle.family_four_slot.specs.Layouts.{gather, shift, shift_act, Inside, around, IsInCell, Distinct, Out}
 use Rattle.family_four_slot.proofs.Slices.{gather_at, gather_set, gather_apart, get_there, set_swap, set_twice, set_long, within}
 
 module _ {S : Type 0} where
@@ -91,8 +91,8 @@ module _ {S : Type 0} where
   avoid_valid i w hs c gives v h = tt
   avoid_valid i w hs c (chain a b) v h = absurd v
 
-  out_set : (hs : List (Option S)) (i : ℕ) (w : Option S) (xs : List ℕ) → (IsIn i xs → ⊥) → Out hs xs → Out (set hs i w) xs
-  out_set hs i w xs ne out h k = set_else hs i h w (λ e. ne (subst (λ z. IsIn z xs) e k)) ∙ out h k
+  out_set : (hs : List (Option S)) (i : ℕ) (w : Option S) (xs : List ℕ) → (IsInCell i xs → ⊥) → Out hs xs → Out (set hs i w) xs
+  out_set hs i w xs ne out h k = set_else hs i h w (λ e. ne (subst (λ z. IsInCell z xs) e k)) ∙ out h k
 
   -- the slots in front are given back and taken again
   pub around_carried : (xs c : List (ℕ × S)) (a : Act S) → carried_after (xs ++ c) (around xs a) ≡ xs ++ carried_after c a
@@ -127,11 +127,11 @@ module _ {S : Type 0} where
 
   -- slots that are out and distinct are avoided by an act on those behind them
   pub all_avoid : (hs : List (Option S)) (xs c : List (ℕ × S)) (a : Act S) → Proper c a → Valid hs c a →
-      Out hs (held_slots xs) → ((h : ℕ) → IsIn h (held_slots xs) → IsIn h (held_slots c) → ⊥) → AllAvoid xs c a
+      Out hs (held_slots xs) → ((h : ℕ) → IsInCell h (held_slots xs) → IsInCell h (held_slots c) → ⊥) → AllAvoid xs c a
   all_avoid hs [] c a p v out apart = tt
   all_avoid hs (x ∷ xs) c a p v out apart =
       (avoided x.0 c a p v (out x.0 (inl refl)) (λ k. apart x.0 (inl refl) k), all_avoid hs xs c a p v (λ h k. out h (inr k)) (λ h k. apart h (inr k))) where
-        avoided : (i : ℕ) (c : List (ℕ × S)) (a : Act S) → Proper c a → Valid hs c a → get_elem? hs i ≡ some none → (IsIn i (held_slots c) → ⊥) → Avoids i c a
+        avoided : (i : ℕ) (c : List (ℕ × S)) (a : Act S) → Proper c a → Valid hs c a → get_elem? hs i ≡ some none → (IsInCell i (held_slots c) → ⊥) → Avoids i c a
         avoided i c keeps p v out ne = tt
         avoided i c (takes k y) p v out ne = λ e. absurd (some-ne-none y (some-injective (some y) none (sym v ∙ (ap (get_elem? hs) (sym e) ∙ out))))
         avoided i [] gives p v out ne = tt

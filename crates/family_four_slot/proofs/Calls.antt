@@ -12,7 +12,7 @@ use Rattle.cell_four_slot.specs.Steps.{FourSlotSight, first_writer, first_reader
 use Rattle.cell_four_slot.specs.Steps.{begun_with, stored_by, finished_with, asked_by, said_with, got_by, HasAnswered}
 use Rattle.cell_live.specs.Intervals.{AreHeeded, IsNextAnswer}
 use Rattle.cell_live.proofs.ListLaws.{last_snoc}
-use Rattle.family_live.specs.Accesses.{IsAccess, IsRead, IsWrite, Keeps, KeepsOthers, Reads}
+use Rattle.family_live.specs.Accesses.{IsAccess, IsReadAccess, IsWriteAccess, KeepsEach, KeepsOthers, ReadAccesses}
 use Rattle.family_four_slot.specs.declared.family.Stored.{Stored}
 use Rattle.family_four_slot.specs.declared.notes.Process.{Process}
 use Rattle.family_four_slot.specs.Layouts.{shift}
@@ -73,7 +73,7 @@ module _ {T : Type 0} (o : T) (n : ℕ) where
       (Writer q) d (held_slots cs) in
       IsNewRow kept kept' j (bit_words q.remembered) (bit_number q.latest) → last_or o (p.written ++ x ∷ []) ≡ x →
       IsAtRest o n u kept' cs × IsAccess 3 v.clock u.clock v.times u.times (writes_to o n v j).times (writes_to o n u j).times
-      × IsWrite (writes_to o n v j) (writes_to o n u j) x × KeepsOthers j (writes_to o n v) (writes_to o n u) × Keeps (reads_from o n v) (reads_from o n u)
+      × IsWriteAccess (writes_to o n v j) (writes_to o n u j) x × KeepsOthers j (writes_to o n v) (writes_to o n u) × KeepsEach (reads_from o n v) (reads_from o n u)
   a_write v kept kept' cs j p b x a c d count h1 h2 k place_is lj ne r is opened la lc ld row newest =
       let p1 : WriterNotes T = begun_with p b x a in
       let p2 : WriterNotes T = stored_by p1 c in
@@ -110,7 +110,7 @@ module _ {T : Type 0} (o : T) (n : ℕ) where
       HasAnswered g2 h x → AreHeeded g.heard writes number → IsNewColumn kept kept' j (bit_number b) →
       IsAtRest o n u kept' ((slot_at k (slot_number (slot_with b bit)), x) ∷ (before ++ behind))
       × IsAccess 3 v.clock u.clock v.times u.times (reads_from o n v j).times (reads_from o n u j).times
-      × IsRead o (reads_from o n v j) (reads_from o n u j) x × KeepsOthers j (reads_from o n v) (reads_from o n u) × Keeps (writes_to o n v) (writes_to o n u)
+      × IsReadAccess o (reads_from o n v j) (reads_from o n u j) x × KeepsOthers j (reads_from o n v) (reads_from o n u) × KeepsEach (writes_to o n v) (writes_to o n u)
   a_read v kept kept' before behind j g b x a c d number count bit writes h1 h2 k place_is lj ne r is opened la lc ld answered heeded said =
       let g1 : ReaderNotes T = asked_by g b a in
       let g2 : ReaderNotes T = said_with g1 count c in
@@ -133,7 +133,7 @@ module _ {T : Type 0} (o : T) (n : ℕ) where
             (subst (λ z. HasSlots z h (slot ∷ (before ++ behind))) place_is ([], before ++ behind, refl)) said refl,
         subst (λ (z : Times × Times). IsAccess 3 v.clock d v.times u.times z.0 z.1) (λ i. ((sym old i).times, (sym new i).times))
             (access_of v.times v.clock a c d g.times h.times la lc ld refl refl),
-        subst (λ (z : Reads T × Reads T). IsRead o z.0 z.1 x) (λ i. (sym old i, sym new i)) (record {
+        subst (λ (z : ReadAccesses T × ReadAccesses T). IsReadAccess o z.0 z.1 x) (λ i. (sym old i, sym new i)) (record {
           answers = refl;
           numbered = subst (λ z. IsNextAnswer z g.known h.known g.numbers h.numbers h.answers h.times x) opened answered;
           told = refl;

@@ -1,6 +1,6 @@
 -- A column on its way: what its next read needs.
 use Rattle.std.proofs.Common.{◌≡◌, ℕ, sym, ap, ◌∙◌}
-use Rattle.family_live.specs.Rows.{InTurn, IsReadFrom}
+use Rattle.family_live.specs.Rows.{OneByOne, IsReadFrom}
 use Rattle.family_live.proofs.Rows.{column_own}
 use Rattle.family_four_slot.specs.declared.family.FourSlotFamily.{FourSlotFamily}
 use Rattle.family_four_slot.specs.declared.family.FourSlotSeat.{FourSlotSeat}
@@ -15,7 +15,7 @@ module _ {T L : Type 0} (f : FourSlotFamily T) (fits : T → Type 0) (rises : T 
   module _ (start : FourSlotSeat T) (first : L) where
     -- so many of the others were read
     abbrev pub Column : ℕ → FourSlotSeat T × L → Type 0
-    Column = InTurn Read (number_of start) (start, first)
+    Column = OneByOne Read (number_of start) (start, first)
 
     pub column_seat : (count : ℕ) (now : FourSlotSeat T) (seen : L) → IsSeat f start → Column count (now, seen) →
         IsSeat f now × (number_of now ≡ number_of start)

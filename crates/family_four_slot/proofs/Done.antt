@@ -9,7 +9,7 @@ use Rattle.cell_four_slot.specs.declared.notes.ReaderNotes.{ReaderNotes}
 use Rattle.cell_live.specs.declared.sight.Sight.TheVariants.{Spent, Writer, Reader}
 use Rattle.cell_four_slot.specs.Steps.{FourSlotSight, begun_with, stored_by, finished_with, asked_by, said_with, got_by, slot_of_choice, bit_words, HasAnswered}
 use Rattle.cell_live.proofs.ListLaws.{last_snoc}
-use Rattle.family_live.specs.Accesses.{IsAccess, IsRead, IsWrite, Keeps, KeepsOthers, Reads}
+use Rattle.family_live.specs.Accesses.{IsAccess, IsReadAccess, IsWriteAccess, KeepsEach, KeepsOthers, ReadAccesses}
 use Rattle.family_four_slot.specs.declared.family.FourSlotFamily.{FourSlotFamily}
 use Rattle.family_four_slot.specs.declared.family.FourSlotSeat.{FourSlotSeat}
 use Rattle.family_four_slot.specs.declared.family.Shown.{Shown}
@@ -31,14 +31,14 @@ module _ {T : Type 0} where
   pub record Wrote (f : FourSlotFamily T) (s s' : FourSlotSeat T) (j : ℕ) (x : T) : Type 0 where
     pub own : IsSeat f s' × (s'.who ≡ s.who)
     pub access : IsAccess 3 (clock_of s) (clock_of s') (times_of s) (times_of s') (writes_of s j).times (writes_of s' j).times
-    pub written : IsWrite (writes_of s j) (writes_of s' j) x
-    pub others : KeepsOthers j (writes_of s) (writes_of s') × Keeps (reads_of s) (reads_of s')
+    pub written : IsWriteAccess (writes_of s j) (writes_of s' j) x
+    pub others : KeepsOthers j (writes_of s) (writes_of s') × KeepsEach (reads_of s) (reads_of s')
 
   pub record HasRead (f : FourSlotFamily T) (s s' : FourSlotSeat T) (j : ℕ) (x : T) : Type 0 where
     pub own : IsSeat f s' × (s'.who ≡ s.who)
     pub access : IsAccess 3 (clock_of s) (clock_of s') (times_of s) (times_of s') (reads_of s j).times (reads_of s' j).times
-    pub answer : IsRead (opening_of f) (reads_of s j) (reads_of s' j) x
-    pub others : KeepsOthers j (reads_of s) (reads_of s') × Keeps (writes_of s) (writes_of s')
+    pub answer : IsReadAccess (opening_of f) (reads_of s j) (reads_of s' j) x
+    pub others : KeepsOthers j (reads_of s) (reads_of s') × KeepsEach (writes_of s) (writes_of s')
 
   module _ (f : FourSlotFamily T) (s : FourSlotSeat T) (own : IsSeat f s) (j : ℕ) (other : (j < processes_of f) × (j ≢ number_of s)) (cell : ℕ) where
     module _ (at : cell ≡ place s.processes s.who j) (b : Bool) (x : T) (a c d count : ℕ) (h1 h2 : List ℕ) where
@@ -84,8 +84,8 @@ module _ {T : Type 0} where
           let is : u ≡ known_by s' = sym (ap process_of now) in
           let all : (T × ℕ × Process (FourSlotSight T)) → Type 0 = λ z.
           IsAccess 3 v.clock z.2.clock v.times z.2.times (writes_to o n v j).times (writes_to z.0 z.1 z.2 j).times
-          × IsWrite (writes_to o n v j) (writes_to z.0 z.1 z.2 j) x
-          × KeepsOthers j (writes_to o n v) (writes_to z.0 z.1 z.2) × Keeps (reads_from o n v) (reads_from z.0 z.1 z.2) in
+          × IsWriteAccess (writes_to o n v j) (writes_to z.0 z.1 z.2 j) x
+          × KeepsOthers j (writes_to o n v) (writes_to z.0 z.1 z.2) × KeepsEach (reads_from o n v) (reads_from z.0 z.1 z.2) in
           let h = subst all (λ i. (sym spare i, sym processes i, is i)) (did.1, did.2, did.3, did.4) in record {
             own = (
               seat_after f s own s' u s.seat.inner.me.1 table spare processes who now (slots ∙ same) refl
@@ -105,7 +105,7 @@ module _ {T : Type 0} where
       is_answer fits rises x h =
           let column = column_at f s own j other in
           let seen = sees_reads s.spare s.processes (known_by s) (known_by s).who j column.notes (apart f s own j other) refl column.is in
-          subst (λ (z : T × Reads T). IsAnswer fits rises z.0 z.1.answers z.1.told x) (λ i. ((column.opened ∙ own.opening) i, sym seen i)) h
+          subst (λ (z : T × ReadAccesses T). IsAnswer fits rises z.0 z.1.answers z.1.told x) (λ i. ((column.opened ∙ own.opening) i, sym seen i)) h
 
       module _ (b bit : Bool) (x : T) (a c d number count : ℕ) (writes : Known T) (h1 h2 : List ℕ) where
         abbrev g : ReaderNotes T
@@ -153,8 +153,8 @@ module _ {T : Type 0} where
             let is : u ≡ known_by s' = sym (ap process_of now) in
             let all : (T × ℕ × Process (FourSlotSight T)) → Type 0 = λ z.
             IsAccess 3 v.clock z.2.clock v.times z.2.times (reads_from o n v j).times (reads_from z.0 z.1 z.2 j).times
-            × IsRead o (reads_from o n v j) (reads_from z.0 z.1 z.2 j) x
-            × KeepsOthers j (reads_from o n v) (reads_from z.0 z.1 z.2) × Keeps (writes_to o n v) (writes_to z.0 z.1 z.2) in
+            × IsReadAccess o (reads_from o n v j) (reads_from z.0 z.1 z.2 j) x
+            × KeepsOthers j (reads_from o n v) (reads_from z.0 z.1 z.2) × KeepsEach (writes_to o n v) (writes_to z.0 z.1 z.2) in
             let h = subst all (λ i. (sym spare i, sym processes i, is i)) (did.1, did.2, did.3, did.4) in record {
               own = (
                 seat_after f s own s' u all_slots table spare processes who now (slots ∙ ap (λ zs. took ∷ zs) same) refl
@@ -162,6 +162,6 @@ module _ {T : Type 0} where
                 who,
               );
               access = h.0;
-              answer = subst (λ z. IsRead z (reads_of s j) (reads_of s' j) x) own.opening h.1;
+              answer = subst (λ z. IsReadAccess z (reads_of s j) (reads_of s' j) x) own.opening h.1;
               others = (h.2, h.3);
             }

@@ -17,7 +17,7 @@ use Rattle.family_four_slot.specs.declared.notes.View.{View}
 use Rattle.family_four_slot.specs.declared.notes.View.TheVariants.{Has}
 use Rattle.family_four_slot.specs.Layouts.{shift, Inside}
 use Rattle.family_four_slot.specs.Places.{four_slots, word_at, slot_at}
-use Rattle.family_four_slot.specs.Family.{of_cell, CellAllows, Tells}
+use Rattle.family_four_slot.specs.Family.{of_cell, CellAllows, StepTells}
 use Rattle.family_four_slot.specs.FourSlots.{When, CellRule, FourSlotFamily}
 use Rattle.cell_four_slot.proofs.Keeps.{begins_at, stores_at, finishes_at, asks_at, says_at, takes_at}
 use Rattle.cell_four_slot.proofs.Slots.{bit_low, slot_low}
@@ -114,7 +114,7 @@ module _ {T : Type 0} (fits : T → Type 0) (rises : T → T → Type 0) (o : T)
     Family = FourSlotFamily fits rises o n
 
     abbrev Says : ℕ → Process V → List (ℕ × T) → List (ℕ × T) → (ℕ → ℕ → Me T V → Type 0) → ℕ → Me T (View V) → Type 0
-    Says = Tells Spent slot_at
+    Says = StepTells Spent slot_at
 
     allows : (slots id k i : ℕ) (v : Process V) (before c behind : List (ℕ × T)) (f : ℕ → ℕ) (happens : V → ℕ → ℕ → Me T V → Type 0) (u : V) →
         i < 4 → k < (four_slots n).cells → k < length v.parts → Inside 4 c → of_cell Spent k v.parts ≡ u →

@@ -7,7 +7,7 @@ use Rattle.cell_four_slot.specs.declared.notes.WriterNotes.{WriterNotes}
 use Rattle.cell_four_slot.specs.declared.notes.ReaderNotes.{ReaderNotes}
 use Rattle.cell_live.specs.declared.sight.Sight.TheVariants.{Spent}
 use Rattle.cell_four_slot.specs.Steps.{FourSlotSight, first_writer, first_reader}
-use Rattle.family_live.specs.Accesses.{Writes, Reads}
+use Rattle.family_live.specs.Accesses.{WriteAccesses, ReadAccesses}
 use Rattle.family_four_slot.specs.declared.notes.Process.{Process}
 use Rattle.family_four_slot.specs.Family.{of_cell}
 use Rattle.family_four_slot.specs.Places.{place}
@@ -62,10 +62,10 @@ module _ {V A : Type 0} (blank : V) (seen : V → A) where
       (cases_eq j v.who))
 
 module _ {T : Type 0} (o : T) (n : ℕ) (v u : Process (FourSlotSight T)) (k : ℕ) (w : FourSlotSight T) (c : IsChanged Spent v u k w) where
-  writes_by : WriterNotes T → Writes T
+  writes_by : WriterNotes T → WriteAccesses T
   writes_by p = record { items = p.written; times = p.times }
 
-  reads_by : ReaderNotes T → Reads T
+  reads_by : ReaderNotes T → ReadAccesses T
   reads_by g = record { answers = g.answers; numbers = g.numbers; known = g.known; told = g.told; heard = g.heard; times = g.times }
 
   pub other_writes : (j : ℕ) → (j ≢ v.who → place n v.who j ≢ k) → writes_to o n u j ≡ writes_to o n v j

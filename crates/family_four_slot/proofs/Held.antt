@@ -9,7 +9,7 @@ use Rattle.atomic_table.specs.Table.{Act, keeps, takes, gives, chain, carried_af
 use Rattle.atomic_table.proofs.Lists.{set_here, set_else}
 use Rattle.cell_live.specs.Acts.{Proper}
 use Rattle.cell_live.specs.Running.{held_slots}
-use Rattle.family_four_slot.specs.Layouts.{shift, shift_act, IsIn, Distinct, Disjoint, Out}
+use Rattle.family_four_slot.specs.Layouts.{shift, shift_act, IsInCell, Distinct, Disjoint, Out}
 use Rattle.family_four_slot.proofs.Slices.{in_more, in_less, in_middle, distinct_more, distinct_less, within}
 
 -- what an act does to the homes, and to the slots of its seat: nothing, or one slot goes out that was at home, or one comes home
@@ -30,15 +30,15 @@ module _ {S : Type 0} where
       let gone : (zs : List ℕ) → Out hs zs → Out (set hs k none) zs =
       λ zs o h i. ⊎_elim (λ (e : h ≡ k). subst (λ z. get_elem? (set hs k none) z ≡ some none) (sym e) (set_here hs k none (within hs k (some y) home)))
       (λ (ne : h ≢ k). set_else hs k h none ne ∙ o h i) (same_or h k) in
-      let fresh : (zs : List ℕ) → Out hs zs → IsIn k zs → ⊥ = λ zs o i. out_none hs k y (o k i) home in record {
+      let fresh : (zs : List ℕ) → Out hs zs → IsInCell k zs → ⊥ = λ zs o i. out_none hs k y (o k i) home in record {
         mine = λ o d. (
           (λ h i. ⊎_elim (λ (e : h ≡ k). subst (λ z. get_elem? (set hs k none) z ≡ some none) (sym e) (set_here hs k none (within hs k (some y) home)))
-              (λ (j : IsIn h (xs ++ ys)). gone (xs ++ ys) o h j) (in_more xs ys h k i)),
+              (λ (j : IsInCell h (xs ++ ys)). gone (xs ++ ys) o h j) (in_more xs ys h k i)),
           distinct_more xs ys k d (fresh (xs ++ ys) o),
         );
         others = λ zs o out a. (
           gone zs o,
-          (λ h i j. ⊎_elim (λ (e : h ≡ k). fresh zs o (subst (λ z. IsIn z zs) e j)) (λ (m : IsIn h (xs ++ ys)). a h m j) (in_more xs ys h k i)),
+          (λ h i j. ⊎_elim (λ (e : h ≡ k). fresh zs o (subst (λ z. IsInCell z zs) e j)) (λ (m : IsInCell h (xs ++ ys)). a h m j) (in_more xs ys h k i)),
         );
       } where
         same_or : (h k : ℕ) → (h ≡ k) ⊎ (h ≢ k)
@@ -48,11 +48,11 @@ module _ {S : Type 0} where
   gives_effect hs k y xs ys = record {
     mine = λ o d.
         let t = distinct_less xs ys k d in (
-          (λ h i. set_else hs k h (some y) (λ e. t.1 (subst (λ z. IsIn z (xs ++ ys)) e i)) ∙ o h (in_less xs ys h k i)),
+          (λ h i. set_else hs k h (some y) (λ e. t.1 (subst (λ z. IsInCell z (xs ++ ys)) e i)) ∙ o h (in_less xs ys h k i)),
           t.0,
         );
     others = λ zs o out a. (
-      (λ h i. set_else hs k h (some y) (λ e. a k (in_middle xs ys k) (subst (λ z. IsIn z zs) e i)) ∙ o h i),
+      (λ h i. set_else hs k h (some y) (λ e. a k (in_middle xs ys k) (subst (λ z. IsInCell z zs) e i)) ∙ o h i),
       (λ h i j. a h (in_less xs ys h k i) j),
     );
   }

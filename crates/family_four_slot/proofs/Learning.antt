@@ -9,7 +9,7 @@ use Rattle.cell_four_slot.specs.declared.notes.WriterNotes.{WriterNotes}
 use Rattle.cell_four_slot.specs.declared.notes.ReaderNotes.{ReaderNotes}
 use Rattle.cell_live.specs.declared.sight.Sight.TheVariants.{Spent, Told, Writer, Reader, Both}
 use Rattle.cell_four_slot.specs.Steps.{FourSlotSight, first_writer, first_reader, receipt_for, heard_by as cell_heard, hears_of, word_said}
-use Rattle.family_live.specs.Accesses.{IsHeardRead, Keeps, KeepsOthers, Reads}
+use Rattle.family_live.specs.Accesses.{IsHeardRead, KeepsEach, KeepsOthers, ReadAccesses}
 use Rattle.family_four_slot.specs.declared.family.Stored.{Stored}
 use Rattle.family_four_slot.specs.declared.notes.Process.{Process}
 use Rattle.family_four_slot.specs.declared.notes.Receipt.{Receipt}
@@ -116,7 +116,7 @@ module _ {T : Type 0} where
           (column_heard o k g.notes (of_cell Spent k r.parts) (get_or kept.said j 0) cs g.idle g.opened g.slots g.stored);
     }
 
-    pub writes_stay : Keeps (writes_to o n v) (writes_to o n u)
+    pub writes_stay : KeepsEach (writes_to o n v) (writes_to o n u)
     writes_stay j =
         let at : ℕ = place n v.who j in
         let d : WriterNotes T = first_writer o in
@@ -170,7 +170,7 @@ module _ {T : Type 0} where
           let now : of_cell Spent k u.parts ≡ Reader h = part k ∙ (λ i. hears_of (column.is i) (told i)) in
           let before = sees_reads o n v v.who from g ne refl column.is in
           let after = sees_reads o n u v.who from h ne refl now in
-          subst (λ (z : Reads T × Reads T). IsHeardRead z.0 z.1 x.item x.writes) (λ i. (sym before i, sym after i)) (record {
+          subst (λ (z : ReadAccesses T × ReadAccesses T). IsHeardRead z.0 z.1 x.item x.writes) (λ i. (sym before i, sym after i)) (record {
             told = refl;
             heard = refl;
             answers = refl;

@@ -11,7 +11,7 @@ use Rattle.cell_four_slot.specs.declared.notes.WriterNotes.{WriterNotes}
 use Rattle.cell_four_slot.specs.declared.notes.ReaderNotes.{ReaderNotes}
 use Rattle.cell_live.specs.declared.sight.Sight.TheVariants.{Spent, Writer, Reader}
 use Rattle.cell_four_slot.specs.Steps.{FourSlotSight, first_writer, first_reader, receipt_for}
-use Rattle.family_live.specs.Accesses.{Writes, Reads, IsUnused, no_writes, no_reads}
+use Rattle.family_live.specs.Accesses.{WriteAccesses, ReadAccesses, IsUnused, no_writes, no_reads}
 use Rattle.family_live.specs.Ends.{Each, EachTwo, IsSchedule, IsAtomicCell}
 use Rattle.family_four_slot.specs.declared.family.FourSlotFamily.{FourSlotFamily}
 use Rattle.family_four_slot.specs.declared.family.FourSlotSeat.{FourSlotSeat}
@@ -237,5 +237,5 @@ module _ {T : Type 0} where
         let done = ended.cells a.0 b.0 v u a.1 b.1 k inside row.notes column.notes writes reads row.idle column.idle in
         let w = sees_writes s.spare s.processes v v.who j row.notes (λ e. ne (sym (e ∙ who_s))) refl row.is in
         let r = sees_reads t.spare t.processes u u.who i column.notes (λ e. ne (e ∙ who_t)) refl column.is in
-        subst (λ (z : Writes T × Reads T). IsAtomicCell (opening_of f) z.0 z.1) (λ x. (sym w x, sym r x))
+        subst (λ (z : WriteAccesses T × ReadAccesses T). IsAtomicCell (opening_of f) z.0 z.1) (λ x. (sym w x, sym r x))
         (record { atomic = done.atomic; ended = done.ended; known = done.known })

@@ -10,24 +10,24 @@ use Rattle.family_four_slot.specs.declared.notes.Process.{Process}
 use Rattle.family_four_slot.specs.declared.notes.Receipt.{Receipt}
 use Rattle.family_four_slot.specs.declared.notes.View.{View}
 use Rattle.family_four_slot.specs.declared.notes.View.TheVariants.{Told, Has}
-use Rattle.family_four_slot.specs.Layouts.{Layout, EachOf, IsIn, Disjoint, Out, Distinct}
+use Rattle.family_four_slot.specs.Layouts.{Layout, EachOf, IsInCell, Disjoint, Out, Distinct}
 use Rattle.family_four_slot.specs.Family.{total, of_cell, cell, holders, Shows, FamilyRule, heard_parts, receipt_of, heard_by, CellTells, CellHears}
 use Rattle.family_four_slot.proofs.Slices.{within, map_set, set_front, set_long, in_front}
 use Rattle.family_four_slot.proofs.Steps.{count_of, shows_set}
 use Rattle.family_four_slot.proofs.Totals.{total_set, total_snoc, total_two}
 
 module _ {A : Type 0} where
-  in_snoc : (xs : List A) (y x : A) → IsIn x (xs ++ y ∷ []) → IsIn x xs ⊎ (x ≡ y)
+  in_snoc : (xs : List A) (y x : A) → IsInCell x (xs ++ y ∷ []) → IsInCell x xs ⊎ (x ≡ y)
   in_snoc [] y x (inl e) = inr e
   in_snoc [] y x (inr h) = absurd h
   in_snoc (z ∷ xs) y x (inl e) = inl (inl e)
-  in_snoc (z ∷ xs) y x (inr h) = ⊎_elim (λ (k : IsIn x xs). inl (inr k)) (λ (e : x ≡ y). inr e) (in_snoc xs y x h)
+  in_snoc (z ∷ xs) y x (inr h) = ⊎_elim (λ (k : IsInCell x xs). inl (inr k)) (λ (e : x ≡ y). inr e) (in_snoc xs y x h)
 
-  in_last : (xs : List A) (x : A) → IsIn x (xs ++ x ∷ [])
+  in_last : (xs : List A) (x : A) → IsInCell x (xs ++ x ∷ [])
   in_last [] x = inl refl
   in_last (y ∷ xs) x = inr (in_last xs x)
 
-  place_of : (xs : List A) (x : A) → IsIn x xs → (i : ℕ) × (get_elem? xs i ≡ some x)
+  place_of : (xs : List A) (x : A) → IsInCell x xs → (i : ℕ) × (get_elem? xs i ≡ some x)
   place_of [] x h = absurd h
   place_of (y ∷ ys) x (inl e) = (zero, ap some (sym e))
   place_of (y ∷ ys) x (inr h) = let t = place_of ys x h in (suc t.0, t.1)
@@ -89,7 +89,7 @@ module _ {V : Type 0} (blank : V) (receipt : V → V) (hears : V → V → V) (p
               subst (λ vs. Rule r.now (record { words = old.words; homes = old.homes; views = vs })) same told;
           numbered = r.numbered;
           clocks = r.clocks;
-          told = λ q h. ⊎_elim (λ (k : IsIn q r.receipts). r.told q k)
+          told = λ q h. ⊎_elim (λ (k : IsInCell q r.receipts). r.told q k)
               (λ (e : q ≡ p). subst (λ (z : Receipt V). z.clock ≤ r.now) (sym e) (r.clocks v.who v there)) (in_snoc r.receipts p q h);
           steps = r.steps;
           long = r.long;
@@ -146,7 +146,7 @@ module _ {V : Type 0} (blank : V) (receipt : V → V) (hears : V → V → V) (p
         let mine : get_elem? r.processes who ≡ some v = (r.shows id (Has (v ∷ [])) at).0 in
         let at_other : get_elem? s.views other ≡ some (Told p) = ⊎_elim (λ (h : (other ≡ id) × (Has (u ∷ []) ≡ Told p)). absurd (apart h.0))
         (λ (h : (other ≢ id) × (get_elem? s.views other ≡ some (Told p))). h.1) (at_set s.views id other (Has (u ∷ [])) (Told p) there) in
-        let named : IsIn p r.receipts = r.shows other (Told p) at_other in
+        let named : IsInCell p r.receipts = r.shows other (Told p) at_other in
         let place = place_of r.receipts p named in
         let inside : who < length r.processes = within r.processes who v mine in
         let vs : List (View V) = set (set s.views id (Has (u ∷ []))) other (Has []) in

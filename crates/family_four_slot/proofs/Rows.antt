@@ -1,8 +1,8 @@
 -- A row on its way: what its next write needs.
 use Rattle.std.proofs.Common.{◌≡◌, ◌≢◌, ℕ, ◌+◌, ◌*◌, ◌-◌, ◌<◌, ◌≤◌, sym, ap, ◌∙◌, subst, arith}
 use Rattle.cell_live.specs.Running.{last_or}
-use Rattle.family_live.specs.Accesses.{Writes}
-use Rattle.family_live.specs.Rows.{InTurn, IsWriteTo}
+use Rattle.family_live.specs.Accesses.{WriteAccesses}
+use Rattle.family_live.specs.Rows.{OneByOne, IsWriteTo}
 use Rattle.family_live.proofs.Rows.{not_after, not_before, row_own}
 use Rattle.family_four_slot.specs.declared.family.FourSlotFamily.{FourSlotFamily}
 use Rattle.family_four_slot.specs.declared.family.FourSlotSeat.{FourSlotSeat}
@@ -19,7 +19,7 @@ module _ {T : Type 0} (f : FourSlotFamily T) (start : FourSlotSeat T) where
 module _ {T : Type 0} (f : FourSlotFamily T) (item : T) (start : FourSlotSeat T) where
   -- the record was written to so many of the others
   abbrev pub Row : ℕ → FourSlotSeat T → Type 0
-  Row = InTurn (IsWriteTo (IsSeat f) number_of clock_of times_of writes_of reads_of 3 item) (number_of start) start
+  Row = OneByOne (IsWriteTo (IsSeat f) number_of clock_of times_of writes_of reads_of 3 item) (number_of start) start
 
   pub row_seat : (count : ℕ) (now : FourSlotSeat T) → IsSeat f start → Row count now → IsSeat f now × (number_of now ≡ number_of start)
   row_seat count now own r = row_own (IsSeat f) number_of clock_of times_of writes_of reads_of 3 item (number_of start) start count now r own
@@ -33,10 +33,10 @@ module _ {T : Type 0} (f : FourSlotFamily T) (item : T) (start : FourSlotSeat T)
 
   pub row_before : (Rises : T → T → Type 0) (now : FourSlotSeat T) (to : ℕ) → Row to now → to < start.who →
       Rises (last_or (opening_of f) (writes_of start to).items) item → Rises (last_or (opening_of f) (writes_of now to).items) item
-  row_before Rises now to r l h = subst (λ (z : Writes T). Rises (last_or (opening_of f) z.items) item)
+  row_before Rises now to r l h = subst (λ (z : WriteAccesses T). Rises (last_or (opening_of f) z.items) item)
       (sym (not_before (IsSeat f) number_of clock_of times_of writes_of reads_of 3 item (number_of start) start to now r l)) h
 
   pub row_after : (Rises : T → T → Type 0) (now : FourSlotSeat T) (to : ℕ) → Row (to - 1) now → start.who < to →
       Rises (last_or (opening_of f) (writes_of start to).items) item → Rises (last_or (opening_of f) (writes_of now to).items) item
-  row_after Rises now to r l h = subst (λ (z : Writes T). Rises (last_or (opening_of f) z.items) item)
+  row_after Rises now to r l h = subst (λ (z : WriteAccesses T). Rises (last_or (opening_of f) z.items) item)
       (sym (not_after (IsSeat f) number_of clock_of times_of writes_of reads_of 3 item (number_of start) start to now r l)) h

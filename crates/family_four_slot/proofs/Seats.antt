@@ -12,7 +12,7 @@ use Rattle.family_four_slot.specs.declared.notes.Process.{Process}
 use Rattle.family_four_slot.specs.declared.notes.Receipt.{Receipt}
 use Rattle.family_four_slot.specs.declared.notes.View.{View}
 use Rattle.family_four_slot.specs.declared.notes.View.TheVariants.{Told, Has}
-use Rattle.family_four_slot.specs.Layouts.{Layout, EachOf, IsIn, Distinct}
+use Rattle.family_four_slot.specs.Layouts.{Layout, EachOf, IsInCell, Distinct}
 use Rattle.family_four_slot.specs.Family.{total, cell, holders, Shows, FamilyRule}
 use Rattle.family_four_slot.proofs.Steps.{count_of}
 use Rattle.family_four_slot.proofs.Totals.{total_set, total_snoc}
@@ -163,10 +163,10 @@ module _ {S V : Type 0} (blank : V) (l : Layout) (Rule : ℕ → State S V → T
     within = λ x who e. absurd (cc);
     made = λ i p e. (fresh i p e).2;
     away = λ i p e. let z = (fresh i p e).3 in (
-      (λ h j. absurd (subst (IsIn h) z j)),
+      (λ h j. absurd (subst (IsInCell h) z j)),
       subst Distinct (sym z) tt,
     );
-    apart = λ i j u v d e ne h a b. absurd (subst (IsIn h) (fresh i u d).3 a);
+    apart = λ i j u v d e ne h a b. absurd (subst (IsInCell h) (fresh i u d).3 a);
     shows = λ j x e. subst (Shows ps []) (at_one (Has ps) x j e)
         (each_of (λ (p : Process V). get_elem? ps p.who ≡ some p) ps
         (λ i p h. subst (λ z. get_elem? ps z ≡ some p) (sym (fresh i p h).0) h));

@@ -3,7 +3,7 @@ use Rattle.std.proofs.Common.{◌≡◌, ◌≢◌, ◌⊎◌, ℕ, zero, suc, �
 use Rattle.std.proofs.Common.{refl, sym, ap, ◌∙◌, subst, ⊎_elim, inl, inr, arith}
 use mathlib.Core.Option.{some, none, Option, some-injective, some-ne-none}
 use lib.ListN.{get_elem?, get_or-replicate}
-use Rattle.family_four_slot.specs.Layouts.{gather, IsIn, Distinct}
+use Rattle.family_four_slot.specs.Layouts.{gather, IsInCell, Distinct}
 
 module _ {A : Type 0} where
   pub get_set_here : (xs : List A) (i : ℕ) (v d : A) → i < length xs → get_or (set xs i v) i d ≡ v
@@ -115,49 +115,49 @@ module _ {A : Type 0} where
   set_front (x ∷ xs) ys (suc i) v l = ap (λ zs. x ∷ zs) (set_front xs ys i v (omega arith))
 
   -- one element more or less in the middle
-  pub in_more : (xs ys : List A) (z x : A) → IsIn z (xs ++ x ∷ ys) → (z ≡ x) ⊎ IsIn z (xs ++ ys)
+  pub in_more : (xs ys : List A) (z x : A) → IsInCell z (xs ++ x ∷ ys) → (z ≡ x) ⊎ IsInCell z (xs ++ ys)
   in_more [] ys z x h = h
   in_more (y ∷ xs) ys z x (inl e) = inr (inl e)
-  in_more (y ∷ xs) ys z x (inr h) = ⊎_elim (λ (e : z ≡ x). inl e) (λ (k : IsIn z (xs ++ ys)). inr (inr k)) (in_more xs ys z x h)
+  in_more (y ∷ xs) ys z x (inr h) = ⊎_elim (λ (e : z ≡ x). inl e) (λ (k : IsInCell z (xs ++ ys)). inr (inr k)) (in_more xs ys z x h)
 
-  pub in_less : (xs ys : List A) (z x : A) → IsIn z (xs ++ ys) → IsIn z (xs ++ x ∷ ys)
+  pub in_less : (xs ys : List A) (z x : A) → IsInCell z (xs ++ ys) → IsInCell z (xs ++ x ∷ ys)
   in_less [] ys z x h = inr h
   in_less (y ∷ xs) ys z x (inl e) = inl e
   in_less (y ∷ xs) ys z x (inr h) = inr (in_less xs ys z x h)
 
-  pub in_middle : (xs ys : List A) (x : A) → IsIn x (xs ++ x ∷ ys)
+  pub in_middle : (xs ys : List A) (x : A) → IsInCell x (xs ++ x ∷ ys)
   in_middle [] ys x = inl refl
   in_middle (y ∷ xs) ys x = inr (in_middle xs ys x)
 
-  pub distinct_more : (xs ys : List A) (x : A) → Distinct (xs ++ ys) → (IsIn x (xs ++ ys) → ⊥) → Distinct (xs ++ x ∷ ys)
+  pub distinct_more : (xs ys : List A) (x : A) → Distinct (xs ++ ys) → (IsInCell x (xs ++ ys) → ⊥) → Distinct (xs ++ x ∷ ys)
   distinct_more [] ys x d no_x = (no_x, d)
   distinct_more (y ∷ xs) ys x d no_x = (
-    (λ h. ⊎_elim (λ (e : y ≡ x). absurd (no_x (inl (sym e)))) (λ (k : IsIn y (xs ++ ys)). d.0 k) (in_more xs ys y x h)),
+    (λ h. ⊎_elim (λ (e : y ≡ x). absurd (no_x (inl (sym e)))) (λ (k : IsInCell y (xs ++ ys)). d.0 k) (in_more xs ys y x h)),
     distinct_more xs ys x d.1 (λ k. no_x (inr k)),
   )
 
-  pub distinct_less : (xs ys : List A) (x : A) → Distinct (xs ++ x ∷ ys) → Distinct (xs ++ ys) × (IsIn x (xs ++ ys) → ⊥)
+  pub distinct_less : (xs ys : List A) (x : A) → Distinct (xs ++ x ∷ ys) → Distinct (xs ++ ys) × (IsInCell x (xs ++ ys) → ⊥)
   distinct_less [] ys x d = (d.1, d.0)
   distinct_less (y ∷ xs) ys x d =
       let t = distinct_less xs ys x d.1 in (
         ((λ k. d.0 (in_less xs ys y x k)), t.0),
-        (λ k. ⊎_elim (λ (e : x ≡ y). d.0 (subst (λ z. IsIn z (xs ++ x ∷ ys)) e (in_middle xs ys x))) (λ (h : IsIn x (xs ++ ys)). t.1 h) k),
+        (λ k. ⊎_elim (λ (e : x ≡ y). d.0 (subst (λ z. IsInCell z (xs ++ x ∷ ys)) e (in_middle xs ys x))) (λ (h : IsInCell x (xs ++ ys)). t.1 h) k),
       )
 
-  pub in_front : (xs ys : List A) (x : A) → IsIn x xs → IsIn x (xs ++ ys)
+  pub in_front : (xs ys : List A) (x : A) → IsInCell x xs → IsInCell x (xs ++ ys)
   in_front [] ys x h = absurd h
   in_front (y ∷ xs) ys x (inl e) = inl e
   in_front (y ∷ xs) ys x (inr h) = inr (in_front xs ys x h)
 
-  in_behind : (xs ys : List A) (x : A) → IsIn x ys → IsIn x (xs ++ ys)
+  in_behind : (xs ys : List A) (x : A) → IsInCell x ys → IsInCell x (xs ++ ys)
   in_behind [] ys x h = h
   in_behind (y ∷ xs) ys x h = inr (in_behind xs ys x h)
 
-  pub distinct_front : (xs ys : List A) → Distinct (xs ++ ys) → Distinct xs × ((x : A) → IsIn x xs → IsIn x ys → ⊥)
+  pub distinct_front : (xs ys : List A) → Distinct (xs ++ ys) → Distinct xs × ((x : A) → IsInCell x xs → IsInCell x ys → ⊥)
   distinct_front [] ys d = (tt, λ x h k. absurd h)
   distinct_front (y ∷ xs) ys d = let t = distinct_front xs ys d.1 in (
     ((λ h. d.0 (in_front xs ys y h)), t.0),
-    (λ x h k. ⊎_elim (λ (e : x ≡ y). d.0 (subst (λ z. IsIn z (xs ++ ys)) e (in_behind xs ys x k))) (λ (j : IsIn x xs). t.1 x j k) h),
+    (λ x h k. ⊎_elim (λ (e : x ≡ y). d.0 (subst (λ z. IsInCell z (xs ++ ys)) e (in_behind xs ys x k))) (λ (j : IsInCell x xs). t.1 x j k) h),
   )
 
 pub same_first : {A : Type 0} (k : ℕ) (x y : A) (xs ys : List (ℕ × A)) → (k, x) ∷ xs ≡ (k, y) ∷ ys → x ≡ y

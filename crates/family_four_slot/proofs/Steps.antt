@@ -18,8 +18,8 @@ use Rattle.family_four_slot.specs.declared.notes.Process.{Process}
 use Rattle.family_four_slot.specs.declared.notes.Receipt.{Receipt}
 use Rattle.family_four_slot.specs.declared.notes.View.{View}
 use Rattle.family_four_slot.specs.declared.notes.View.TheVariants.{Told, Has}
-use Rattle.family_four_slot.specs.Layouts.{Layout, IsLayout, gather, shift, shift_act, Inside, around, IsIn, Distinct, Disjoint, Out}
-use Rattle.family_four_slot.specs.Family.{total, of_cell, knows, cell, holders, Shows, FamilyRule, CellAllows, Tells}
+use Rattle.family_four_slot.specs.Layouts.{Layout, IsLayout, gather, shift, shift_act, Inside, around, IsInCell, Distinct, Disjoint, Out}
+use Rattle.family_four_slot.specs.Family.{total, of_cell, knows, cell, holders, Shows, FamilyRule, CellAllows, StepTells}
 use Rattle.family_four_slot.proofs.Slices.{gather_get, gather_set, gather_apart, get_set_here, get_set_else, set_long, map_set, map_same, set_front}
 use Rattle.family_four_slot.proofs.Slices.{within, distinct_front, in_front}
 use Rattle.family_four_slot.proofs.Acts.{carried_shift, valid_shift, homes_gather, homes_apart, around_carried, around_homes, around_valid}
@@ -95,7 +95,7 @@ module _ {S V : Type 0} (blank : V) (l : Layout) (is : IsLayout l) where
         v.held ≡ held_slots (before ++ (shift (l.slot k) c ++ behind)) →
         CellAllows Rule v.who (of_cell blank k v.parts, c) i f then →
         Allows (FamilyRule blank l Rule n) slots id (Has (v ∷ []), before ++ (shift (l.slot k) c ++ behind)) (l.word k i) f
-        (Tells blank l.slot k v before behind then)
+        (StepTells blank l.slot k v before behind then)
     family_allows slots id k i v before c behind f then li lk has inside held allowed s r _ at _ =
         let t : ℕ = r.now + 1 in
         let who : ℕ = v.who in

@@ -19,7 +19,7 @@ use Rattle.family_four_slot.specs.declared.notes.View.{View}
 use Rattle.family_four_slot.specs.declared.notes.View.TheVariants.{Told, Has}
 use Rattle.family_four_slot.specs.Layouts.{shift}
 use Rattle.family_four_slot.specs.Places.{four_slots, word_at, slot_at}
-use Rattle.family_four_slot.specs.Family.{of_cell, knows, Tells}
+use Rattle.family_four_slot.specs.Family.{of_cell, knows, StepTells}
 use Rattle.family_four_slot.specs.FourSlots.{When, FourSlotFamily}
 use Rattle.family_four_slot.specs.Steps.{After, begins, stores, finishes_counting, asks, says_counting, takes}
 use Rattle.family_four_slot.proofs.Places.{is_layout}
@@ -70,7 +70,7 @@ module _ {T : Type 0} (fits : T → Type 0) (rises : T → T → Type 0) (o : T)
       Allows F slots id me word (λ m. m) (begins items (step slots word 0 0 none) me)
   begins_ok slots id word k me v p items x at lk has who is held stage item f up =
       let cs : List (ℕ × T) = me.1 in
-      let told : ℕ → Me T (View W) → Type 0 = Tells Spent slot_at k v [] cs (When (cell_begins items (step 4 1 0 0 none) (of_cell Spent k v.parts, []))) in
+      let told : ℕ → Me T (View W) → Type 0 = StepTells Spent slot_at k v [] cs (When (cell_begins items (step 4 1 0 0 none) (of_cell Spent k v.parts, []))) in
       let here : Allows F slots id (Has (v ∷ []), cs) (word_at k 1) (λ m. m) (begins items (step slots (word_at k 1) 0 0 none) (Has (v ∷ []), cs)) =
       allows_more F slots id (Has (v ∷ []), cs) (word_at k 1) (λ m. m) told (begins items (step slots (word_at k 1) 0 0 none) (Has (v ∷ []), cs))
       (λ m u h k' v' q y w e is' it.
@@ -99,7 +99,7 @@ module _ {T : Type 0} (fits : T → Type 0) (rises : T → T → Type 0) (o : T)
       let mine : List (ℕ × T) = (slot_at k (slot_number p.slot), p.item.value) ∷ cs in
       let cell_cs : List (ℕ × T) = (slot_number p.slot, p.item.value) ∷ [] in
       let told : ℕ → Me T (View W) → Type 0 =
-      Tells Spent slot_at k v [] cs (λ t _. When (cell_stores (step 4 i new 0 none) (of_cell Spent k v.parts, cell_cs)) t new) in
+      StepTells Spent slot_at k v [] cs (λ t _. When (cell_stores (step 4 i new 0 none) (of_cell Spent k v.parts, cell_cs)) t new) in
       let more : (m : ℕ) (u : Me T (View W)) → told m u → stores (step slots (word_at k i) new 0 none) (Has (v ∷ []), mine) new u =
       (λ m u h k' i' v' q ds li' w e is' held'.
       let P : ℕ × Process W → Type 0 = λ z. of_cell Spent z.0 z.1.parts ≡ Writer q → mine ≡ (slot_at z.0 (slot_number q.slot), q.item.value) ∷ ds →
@@ -129,7 +129,7 @@ module _ {T : Type 0} (fits : T → Type 0) (rises : T → T → Type 0) (o : T)
   finishes_ok count few slots id word k new me v p at lk has who is held stage to =
       let cs : List (ℕ × T) = me.1 in
       let told : ℕ → Me T (View W) → Type 0 =
-      Tells Spent slot_at k v [] cs (λ t _. When (cell_finishes count (step 4 0 new 0 none) (of_cell Spent k v.parts, [])) t new) in
+      StepTells Spent slot_at k v [] cs (λ t _. When (cell_finishes count (step 4 0 new 0 none) (of_cell Spent k v.parts, [])) t new) in
       let more : (m : ℕ) (u : Me T (View W)) → told m u → finishes_counting count (step slots (word_at k 0) new 0 none) (Has (v ∷ []), cs) new u =
       (λ m u h k' v' q w e is'.
       let P : ℕ × Process W → Type 0 = λ z. of_cell Spent z.0 z.1.parts ≡ Writer q →
@@ -153,7 +153,7 @@ module _ {T : Type 0} (fits : T → Type 0) (rises : T → T → Type 0) (o : T)
       v.held ≡ held_slots me.1 → g.stage ≡ reader.R5 → Allows F slots id me word (λ m. m) (asks (step slots word 0 0 none) me)
   asks_ok slots id word k me v g at lk has who is held stage =
       let cs : List (ℕ × T) = me.1 in
-      let told : ℕ → Me T (View W) → Type 0 = Tells Spent slot_at k v [] cs (When (cell_asks (step 4 0 0 0 none) (of_cell Spent k v.parts, []))) in
+      let told : ℕ → Me T (View W) → Type 0 = StepTells Spent slot_at k v [] cs (When (cell_asks (step 4 0 0 0 none) (of_cell Spent k v.parts, []))) in
       let here : Allows F slots id (Has (v ∷ []), cs) (word_at k 0) (λ m. m) (asks (step slots (word_at k 0) 0 0 none) (Has (v ∷ []), cs)) =
       allows_more F slots id (Has (v ∷ []), cs) (word_at k 0) (λ m. m) told (asks (step slots (word_at k 0) 0 0 none) (Has (v ∷ []), cs))
       (λ m u h k' v' q w e is'.
@@ -181,7 +181,7 @@ module _ {T : Type 0} (fits : T → Type 0) (rises : T → T → Type 0) (o : T)
       let cell_cs : List (ℕ × T) = slot_of_choice g.chosen g.at_hand.value in
       let mine : List (ℕ × T) = before ++ (shift (slot_at k) cell_cs ++ behind) in
       let told : ℕ → Me T (View W) → Type 0 =
-      Tells Spent slot_at k v before behind (λ t _. When (cell_says count (step 4 1 new 0 none) (of_cell Spent k v.parts, cell_cs)) t new) in
+      StepTells Spent slot_at k v before behind (λ t _. When (cell_says count (step 4 1 new 0 none) (of_cell Spent k v.parts, cell_cs)) t new) in
       let more : (m : ℕ) (u : Me T (View W)) → told m u → says_counting count (step slots (word_at k 1) new 0 none) (Has (v ∷ []), mine) new u =
       (λ m u h k' v' q w e is'.
       let P : ℕ × Process W → Type 0 = λ z. of_cell Spent z.0 z.1.parts ≡ Reader q → (xs : List (ℕ × T)) × (ys : List (ℕ × T)) × (t : ℕ)
@@ -211,7 +211,7 @@ module _ {T : Type 0} (fits : T → Type 0) (rises : T → T → Type 0) (o : T)
       Allows F slots id me word (λ m. m) (takes fits rises (step slots word 0 0 none) me)
   takes_ok same along slots id word k i me v g at lk has who is held stage place li =
       let cs : List (ℕ × T) = me.1 in
-      let told : ℕ → Me T (View W) → Type 0 = Tells Spent slot_at k v [] cs (When (cell_takes fits rises (step 4 i 0 0 none) (of_cell Spent k v.parts, []))) in
+      let told : ℕ → Me T (View W) → Type 0 = StepTells Spent slot_at k v [] cs (When (cell_takes fits rises (step 4 i 0 0 none) (of_cell Spent k v.parts, []))) in
       let here : Allows F slots id (Has (v ∷ []), cs) (word_at k i) (λ m. m) (takes fits rises (step slots (word_at k i) 0 0 none) (Has (v ∷ []), cs)) =
       allows_more F slots id (Has (v ∷ []), cs) (word_at k i) (λ m. m) told (takes fits rises (step slots (word_at k i) 0 0 none) (Has (v ∷ []), cs))
       (λ m u h k' i' v' q li' w e is'.

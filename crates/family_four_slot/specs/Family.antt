@@ -10,7 +10,7 @@ use Rattle.family_four_slot.specs.declared.notes.Process.{Process}
 use Rattle.family_four_slot.specs.declared.notes.Receipt.{Receipt}
 use Rattle.family_four_slot.specs.declared.notes.View.{View}
 use Rattle.family_four_slot.specs.declared.notes.View.TheVariants.{Told, Has}
-use Rattle.family_four_slot.specs.Layouts.{Layout, EachOf, gather, shift, shift_act, Inside, around, IsIn, Distinct, Disjoint, Out}
+use Rattle.family_four_slot.specs.Layouts.{Layout, EachOf, gather, shift, shift_act, Inside, around, IsInCell, Distinct, Disjoint, Out}
 use Rattle.atomic_table.specs.Table.{State, Me, Act, keeps, takes, gives, chain, carried_after, Valid, stepped}
 
 -- f of each, added up
@@ -44,7 +44,7 @@ module _ {V : Type 0} where
 
   -- a view is that of one of the receipts, or of some of the processes
   abbrev pub Shows : List (Process V) → List (Receipt V) → View V → Type 0
-  Shows processes receipts (Told r) = IsIn r receipts
+  Shows processes receipts (Told r) = IsInCell r receipts
   Shows processes receipts (Has ps) = EachOf (λ (p : Process V). get_elem? processes p.who ≡ some p) ps
 
 -- The rule of a family, of a cell's own rule at a time: of each cell it holds up to the one time, and no process knows of a later one.
@@ -59,7 +59,7 @@ module _ {S V : Type 0} (blank : V) (l : Layout) (Rule : ℕ → State S V → T
     pub cells : (k : ℕ) → k < l.cells → Rule now (cell blank l k s.words s.homes processes receipts)
     pub numbered : (i : ℕ) (v : Process V) → get_elem? processes i ≡ some v → v.who ≡ i
     pub clocks : (i : ℕ) (v : Process V) → get_elem? processes i ≡ some v → v.clock ≤ now
-    pub told : (r : Receipt V) → IsIn r receipts → r.clock ≤ now
+    pub told : (r : Receipt V) → IsInCell r receipts → r.clock ≤ now
     -- the schedule
     pub steps : List ℕ
     pub long : now ≡ length steps
@@ -83,8 +83,8 @@ module _ {S V : Type 0} (Rule : ℕ → State S V → Type 0) where
 module _ {S V : Type 0} (blank : V) (slot : ℕ → ℕ → ℕ) where
   -- what a step on cell k tells the process: its time, which is later than all that the process knew of, and what the cell's step tells.
   -- The seat had the slots `cs` of the cell between `before` and `behind`
-  abbrev pub Tells : ℕ → Process V → List (ℕ × S) → List (ℕ × S) → (ℕ → ℕ → Me S V → Type 0) → ℕ → Me S (View V) → Type 0
-  Tells k v before behind then n m =
+  abbrev pub StepTells : ℕ → Process V → List (ℕ × S) → List (ℕ × S) → (ℕ → ℕ → Me S V → Type 0) → ℕ → Me S (View V) → Type 0
+  StepTells k v before behind then n m =
       (t : ℕ) × (w : V) × (c : List (ℕ × S)) × (v.clock < t) × then t n (w, c)
       × (m.0 ≡ Has (knows blank v k w t (held_slots m.1) ∷ [])) × (m.1 ≡ before ++ (shift (slot k) c ++ behind))
 

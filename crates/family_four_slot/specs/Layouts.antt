@@ -53,17 +53,17 @@ module _ {A : Type 0} where
   EachOf P (x ∷ xs) = P x × EachOf P xs
 
   -- one of these, each at one place, and no common one
-  abbrev pub IsIn : A → List A → Type 0
-  IsIn x [] = ⊥
-  IsIn x (y ∷ ys) = (x ≡ y) ⊎ IsIn x ys
+  abbrev pub IsInCell : A → List A → Type 0
+  IsInCell x [] = ⊥
+  IsInCell x (y ∷ ys) = (x ≡ y) ⊎ IsInCell x ys
 
   abbrev pub Distinct : List A → Type 0
   Distinct [] = Unit {0}
-  Distinct (x ∷ xs) = (IsIn x xs → ⊥) × Distinct xs
+  Distinct (x ∷ xs) = (IsInCell x xs → ⊥) × Distinct xs
 
   abbrev pub Disjoint : List A → List A → Type 0
-  Disjoint xs ys = (x : A) → IsIn x xs → IsIn x ys → ⊥
+  Disjoint xs ys = (x : A) → IsInCell x xs → IsInCell x ys → ⊥
 
 -- these slots are out
 abbrev pub Out : {S : Type 0} → List (Option S) → List ℕ → Type 0
-Out hs xs = (h : ℕ) → IsIn h xs → get_elem? hs h ≡ some none
+Out hs xs = (h : ℕ) → IsInCell h xs → get_elem? hs h ≡ some none

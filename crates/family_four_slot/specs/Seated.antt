@@ -11,7 +11,7 @@ use Rattle.cell_live.specs.declared.times.Dated.{Dated}
 use Rattle.cell_live.specs.declared.times.Known.{Known}
 use Rattle.cell_live.specs.declared.sight.Sight.TheVariants.{Spent, Told as Tells}
 use Rattle.cell_four_slot.specs.Steps.{FourSlotSight}
-use Rattle.family_live.specs.Accesses.{Writes, Reads}
+use Rattle.family_live.specs.Accesses.{WriteAccesses, ReadAccesses}
 use Rattle.family_four_slot.specs.declared.family.FourSlotFamily.{FourSlotFamily}
 use Rattle.family_four_slot.specs.declared.family.FourSlotSeat.{FourSlotSeat}
 use Rattle.family_four_slot.specs.declared.family.FourSlotTold.{FourSlotTold}
@@ -50,10 +50,10 @@ module _ {T : Type 0} where
   abbrev pub times_of : FourSlotSeat T → List ℕ
   times_of s = (known_by s).times
 
-  abbrev pub writes_of : FourSlotSeat T → ℕ → Writes T
+  abbrev pub writes_of : FourSlotSeat T → ℕ → WriteAccesses T
   writes_of s = writes_to s.spare s.processes (known_by s)
 
-  abbrev pub reads_of : FourSlotSeat T → ℕ → Reads T
+  abbrev pub reads_of : FourSlotSeat T → ℕ → ReadAccesses T
   reads_of s = reads_from s.spare s.processes (known_by s)
 
   -- the seat has one process of the family, between two calls

@@ -9,7 +9,7 @@ use Rattle.cell_four_slot.specs.declared.notes.WriterNotes.{WriterNotes}
 use Rattle.cell_four_slot.specs.declared.notes.ReaderNotes.{ReaderNotes}
 use Rattle.cell_live.specs.declared.sight.Sight.TheVariants.{Spent, Writer, Reader}
 use Rattle.cell_four_slot.specs.Steps.{FourSlotSight, first_writer, first_reader, bit_words, slot_of_choice, word_said, receipt_for}
-use Rattle.family_live.specs.Accesses.{Writes, Reads}
+use Rattle.family_live.specs.Accesses.{WriteAccesses, ReadAccesses}
 use Rattle.family_four_slot.specs.declared.family.Shown.{Shown}
 use Rattle.family_four_slot.specs.declared.family.Stored.{Stored}
 use Rattle.family_four_slot.specs.declared.notes.Process.{Process}
@@ -46,10 +46,10 @@ module _ {T : Type 0} (o : T) (n : ℕ) where
   abbrev pub reader_from : Process (FourSlotSight T) → ℕ → ReaderNotes T
   reader_from v j = reader_or (first_reader o) (cond (nat_eq j v.who) Spent (of_cell Spent (place n j v.who) v.parts))
 
-  abbrev pub writes_to : Process (FourSlotSight T) → ℕ → Writes T
+  abbrev pub writes_to : Process (FourSlotSight T) → ℕ → WriteAccesses T
   writes_to v j = let p = writer_to v j in record { items = p.written; times = p.times }
 
-  abbrev pub reads_from : Process (FourSlotSight T) → ℕ → Reads T
+  abbrev pub reads_from : Process (FourSlotSight T) → ℕ → ReadAccesses T
   reads_from v j = let g = reader_from v j in
       record { answers = g.answers; numbers = g.numbers; known = g.known; told = g.told; heard = g.heard; times = g.times }
 

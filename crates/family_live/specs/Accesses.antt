@@ -7,13 +7,13 @@ use Rattle.cell_live.specs.Intervals.{no_times, none_known, AreHeeded, IsNextAns
 use Rattle.cell_live.specs.Running.{last_or}
 
 -- what a process wrote to another one, and when
-pub record Writes (T : Type 0) : Type 0 where
+pub record WriteAccesses (T : Type 0) : Type 0 where
   pub items : List T
   pub times : Times
 
 -- what a process read from another one, with the number of each answer among the records written, and when; the writes of which it
 -- knows; and what it was told, by the record that each receipt names and by all the writes of which it tells
-pub record Reads (T : Type 0) : Type 0 where
+pub record ReadAccesses (T : Type 0) : Type 0 where
   pub answers : List T
   pub numbers : List ℕ
   pub known : Known T
@@ -22,16 +22,16 @@ pub record Reads (T : Type 0) : Type 0 where
   pub times : Times
 
 -- each step is later than the one before, and the first is later than this time
-abbrev pub Rises : ℕ → List ℕ → Type 0
-Rises clock [] = Unit {0}
-Rises clock (t ∷ ts) = (clock < t) × Rises t ts
+abbrev pub RisesAfter : ℕ → List ℕ → Type 0
+RisesAfter clock [] = Unit {0}
+RisesAfter clock (t ∷ ts) = (clock < t) × RisesAfter t ts
 
 -- *An access*: so many steps more, later than all that the process knew of. With the first of them a call begins, and with the last
 -- it ends
 pub record IsAccess (width clock clock' : ℕ) (times times' : List ℕ) (old new : Times) : Type 0 where
   pub steps : List ℕ
   pub long : length steps ≡ width
-  pub rising : Rises clock steps
+  pub rising : RisesAfter clock steps
   pub made : times' ≡ times ++ steps
   pub first : ℕ
   pub first_is : slice_get steps 0 ≡ Some first
@@ -41,24 +41,24 @@ pub record IsAccess (width clock clock' : ℕ) (times times' : List ℕ) (old ne
 
 module _ {T : Type 0} where
   -- no calls
-  abbrev pub no_writes : Writes T
+  abbrev pub no_writes : WriteAccesses T
   no_writes = record { items = []; times = no_times }
 
-  abbrev pub no_reads : Reads T
+  abbrev pub no_reads : ReadAccesses T
   no_reads = record { answers = []; numbers = []; known = none_known; told = []; heard = []; times = no_times }
 
   -- a process that has done nothing and knows of nothing
-  abbrev pub IsUnused : ℕ → List ℕ → (ℕ → Writes T) → (ℕ → Reads T) → Type 0
+  abbrev pub IsUnused : ℕ → List ℕ → (ℕ → WriteAccesses T) → (ℕ → ReadAccesses T) → Type 0
   IsUnused clock times writes reads =
       (clock ≡ 0) × (times ≡ []) × ((j : ℕ) → writes j ≡ no_writes) × ((j : ℕ) → reads j ≡ no_reads)
 
   -- one record more
-  pub record IsWrite (old new : Writes T) (item : T) : Type 0 where
+  pub record IsWriteAccess (old new : WriteAccesses T) (item : T) : Type 0 where
     pub items : new.items ≡ old.items ++ item ∷ []
 
   -- one answer more. It is the record with its number of the writes that the reader knows of; with these all its answers are atomic
   -- by their intervals. They begin with those of each receipt that it learnt, and the answer is no older than the last of these
-  pub record IsRead (opening : T) (old new : Reads T) (answer : T) : Type 0 where
+  pub record IsReadAccess (opening : T) (old new : ReadAccesses T) (answer : T) : Type 0 where
     pub answers : new.answers ≡ old.answers ++ answer ∷ []
     pub numbered : IsNextAnswer opening old.known new.known old.numbers new.numbers new.answers new.times answer
     pub told : new.told ≡ old.told
@@ -66,7 +66,7 @@ module _ {T : Type 0} where
     pub heeds : AreHeeded new.heard new.known (last_or 0 new.numbers)
 
   -- no read more, and one record more was told, with the writes up to it
-  pub record IsHeardRead (old new : Reads T) (item : T) (writes : Known T) : Type 0 where
+  pub record IsHeardRead (old new : ReadAccesses T) (item : T) (writes : Known T) : Type 0 where
     pub told : new.told ≡ old.told ++ item ∷ []
     pub heard : new.heard ≡ old.heard ++ writes ∷ []
     pub answers : new.answers ≡ old.answers
@@ -76,8 +76,8 @@ module _ {T : Type 0} where
     pub ends : new.times.ends ≡ old.times.ends
 
 -- as before, of each process; and of each but this one
-abbrev pub Keeps : {A : Type 0} → (ℕ → A) → (ℕ → A) → Type 0
-Keeps old new = (j : ℕ) → new j ≡ old j
+abbrev pub KeepsEach : {A : Type 0} → (ℕ → A) → (ℕ → A) → Type 0
+KeepsEach old new = (j : ℕ) → new j ≡ old j
 
 abbrev pub KeepsOthers : {A : Type 0} → ℕ → (ℕ → A) → (ℕ → A) → Type 0
 KeepsOthers i old new = (j : ℕ) → j ≢ i → new j ≡ old j

@@ -1,7 +1,7 @@
 -- What is known of all processes together (this project's own).
 use Rattle.std.specs.Prelude.{◌≡◌, ◌≢◌, ℕ, ◌<◌, List, slice_get, Some}
 use Rattle.cell_live.specs.Intervals.{AreAtomic, AreFirst, HaveEnded}
-use Rattle.family_live.specs.Accesses.{Writes, Reads}
+use Rattle.family_live.specs.Accesses.{WriteAccesses, ReadAccesses}
 
 module _ {A : Type 0} where
   -- each with its place, and each two at different places
@@ -17,7 +17,7 @@ IsSchedule n steps = (step who : ℕ) → slice_get steps step ≡ Some who → 
 
 -- *An atomic register*: all calls have ended and are atomic by their intervals, and the writes that the reader knows of are the first
 -- of those made
-pub record IsAtomicCell {T : Type 0} (opening : T) (writes : Writes T) (reads : Reads T) : Type 0 where
+pub record IsAtomicCell {T : Type 0} (opening : T) (writes : WriteAccesses T) (reads : ReadAccesses T) : Type 0 where
   pub atomic : AreAtomic opening writes.items writes.times reads.answers reads.numbers reads.times
   pub ended : HaveEnded writes.times
   pub known : AreFirst reads.known writes.items writes.times

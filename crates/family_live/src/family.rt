@@ -4,9 +4,9 @@ ghost use Rattle.history_core.specs.Schedules.{positions};
 ghost use Rattle.cell_live.specs.Running.{last_or};
 ghost use Rattle.cell_live.specs.Intervals.{known_as};
 ghost use Rattle.cell_live.specs.declared.times.Known.{Known};
-ghost use Rattle.family_live.specs.Accesses.{Writes, Reads, IsUnused, IsAccess, IsWrite, IsHeardRead, Keeps, KeepsOthers};
+ghost use Rattle.family_live.specs.Accesses.{WriteAccesses, ReadAccesses, IsUnused, IsAccess, IsWriteAccess, IsHeardRead, KeepsEach, KeepsOthers};
 ghost use Rattle.family_live.specs.Ends.{Each, EachTwo, IsSchedule, IsAtomicCell};
-ghost use Rattle.family_live.specs.Rows.{InTurn, IsReadFrom, IsWriteTo};
+ghost use Rattle.family_live.specs.Rows.{OneByOne, IsReadFrom, IsWriteTo};
 
 use cell_live::{Kept, Lawful};
 use std::alloc::{AllocError, Global};
@@ -57,9 +57,9 @@ pub trait Family<T: Lawful>: Sized + Drop {
     ghost times: { Self.Seat → List ℕ };
 
     // What it wrote to a process, and what it read from one.
-    ghost writes: { Self.Seat → ℕ → Writes T };
+    ghost writes: { Self.Seat → ℕ → WriteAccesses T };
 
-    ghost reads: { Self.Seat → ℕ → Reads T };
+    ghost reads: { Self.Seat → ℕ → ReadAccesses T };
 
     // Whose receipt it is, its time, the record that it names to a process, and all that was written to that one up to then.
     ghost sender: { Self.Told → ℕ };
@@ -86,8 +86,8 @@ pub trait Family<T: Lawful>: Sized + Drop {
         ensures own { is_seat self.now seat.new × (who seat.new ≡ who seat.old) }
         ensures access { IsAccess width (clock seat.old) (clock seat.new) (times seat.old) (times seat.new)
             (writes seat.old to).times (writes seat.new to).times }
-        ensures written { IsWrite (writes seat.old to) (writes seat.new to) item.now }
-        ensures others { KeepsOthers to (writes seat.old) (writes seat.new) × Keeps (reads seat.old) (reads seat.new) };
+        ensures written { IsWriteAccess (writes seat.old to) (writes seat.new to) item.now }
+        ensures others { KeepsOthers to (writes seat.old) (writes seat.new) × KeepsEach (reads seat.old) (reads seat.new) };
 
     /// Shows the record to each other process, rising: the same as so many calls of `write_from`, in fewer instructions.
     fn write_all_from(&self, seat: &mut Self::Seat, item: &T)
@@ -95,7 +95,7 @@ pub trait Family<T: Lawful>: Sized + Drop {
         requires lawful { T.fits item.now }
         requires rises { (j : ℕ) → j < processes self.now → j ≢ who seat.old →
             T.rises (last_or (opening self.now) (writes seat.old j).items) item.now }
-        ensures { InTurn (IsWriteTo (is_seat self.now) who clock times writes reads width item.now) (who seat.old) seat.old
+        ensures { OneByOne (IsWriteTo (is_seat self.now) who clock times writes reads width item.now) (who seat.old) seat.old
             (processes self.now - 1) seat.new };
 
     /// Shows one whole record of another process where it lies, so that nothing is copied. It is a record that was written, and by its law
@@ -109,7 +109,7 @@ pub trait Family<T: Lawful>: Sized + Drop {
     /// Shows one record of each other process, rising: the same as so many calls of `read_from`, in fewer instructions.
     fn read_all_from<L: Sees<T>>(&self, seat: &mut Self::Seat, seen: &mut L)
         requires own { is_seat self.now seat.old }
-        ensures { InTurn (IsReadFrom (is_seat self.now) who clock times writes reads width (opening self.now) T.fits T.rises L.sees) (who seat.old)
+        ensures { OneByOne (IsReadFrom (is_seat self.now) who clock times writes reads width (opening self.now) T.fits T.rises L.sees) (who seat.old)
             (seat.old, seen.old) (processes self.now - 1) (seat.new, seen.new) };
 
     /// Gives a receipt for all that the process has written, which carries these writes.
@@ -121,14 +121,14 @@ pub trait Family<T: Lawful>: Sized + Drop {
         ensures tells { (j : ℕ) → j < processes self.now → j ≢ who seat.old →
             writes_of result j ≡ known_as (writes seat.old j).items (writes seat.old j).times }
         ensures same { (clock seat.new ≡ clock seat.old) × (times seat.new ≡ times seat.old) }
-        ensures calls { Keeps (writes seat.old) (writes seat.new) × Keeps (reads seat.old) (reads seat.new) };
+        ensures calls { KeepsEach (writes seat.old) (writes seat.new) × KeepsEach (reads seat.old) (reads seat.new) };
 
     /// Gives a second receipt that tells the same, for one learner more.
     fn duplicate(&self, told: &mut Self::Told) -> Self::Told
         requires own { is_told self.now told.old }
         ensures same { told.new ≡ told.old }
         ensures told { is_told self.now result × (sender result ≡ sender told.old) × (time_of result ≡ time_of told.old) }
-        ensures tells { Keeps (named told.old) (named result) × Keeps (writes_of told.old) (writes_of result) };
+        ensures tells { KeepsEach (named told.old) (named result) × KeepsEach (writes_of told.old) (writes_of result) };
 
     /// Takes a receipt in: what this process calls from now on begins later than all that its sender had done, and what it knows of the
     /// sender's register begins with what that one had really written to it.
@@ -138,7 +138,7 @@ pub trait Family<T: Lawful>: Sized + Drop {
         ensures later { (clock seat.old ≤ clock seat.new) × (time_of told ≤ clock seat.new) × (times seat.new ≡ times seat.old) }
         ensures heard { sender told ≢ who seat.old →
             IsHeardRead (reads seat.old (sender told)) (reads seat.new (sender told)) (named told (who seat.old)) (writes_of told (who seat.old)) }
-        ensures others { Keeps (writes seat.old) (writes seat.new) × KeepsOthers (sender told) (reads seat.old) (reads seat.new) };
+        ensures others { KeepsEach (writes seat.old) (writes seat.new) × KeepsOthers (sender told) (reads seat.old) (reads seat.new) };
 
     /// Shows what was done so far with all seats: it is one schedule, and the calls of each register are atomic by their intervals in its
     /// time. Nothing changes.

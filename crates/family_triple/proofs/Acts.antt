@@ -8,7 +8,7 @@ use Rattle.atomic_table.specs.Table.{Act, keeps, takes, gives, chain, carried_af
 use Rattle.atomic_table.proofs.Lists.{set_here, set_else}
 use Rattle.cell_live.specs.Acts.{ProperAll}
 use Rattle.cell_live.specs.Running.{held_slots}
-use Rattle.family_four_slot.specs.Layouts.{gather, shift, shift_act, Inside, IsIn, Distinct, Disjoint, Out}
+use Rattle.family_four_slot.specs.Layouts.{gather, shift, shift_act, Inside, IsInCell, Distinct, Disjoint, Out}
 use Rattle.family_four_slot.proofs.Slices.{gather_at, gather_set, gather_apart, set_long, within}
 
 module _ {S : Type 0} where
@@ -125,7 +125,7 @@ module _ {S : Type 0} where
 
   takes_effect : (hs : List (Option S)) (k : ℕ) (y : S) (xs : List ℕ) → get_elem? hs k ≡ some (some y) → Effect hs (set hs k none) xs (k ∷ xs)
   takes_effect hs k y xs home =
-      let fresh : (zs : List ℕ) → Out hs zs → IsIn k zs → ⊥ = λ zs o i. out_none hs k y (o k i) home in
+      let fresh : (zs : List ℕ) → Out hs zs → IsInCell k zs → ⊥ = λ zs o i. out_none hs k y (o k i) home in
       let here : get_elem? (set hs k none) k ≡ some none = set_here hs k none (within hs k (some y) home) in
       let gone : (zs : List ℕ) → Out hs zs → Out (set hs k none) zs =
       λ zs o h i. ⊎_elim (λ (e : h ≡ k). subst (λ z. get_elem? (set hs k none) z ≡ some none) (sym e) here)
@@ -133,23 +133,23 @@ module _ {S : Type 0} where
       record {
         mine = λ o d. (
           (λ h i. ⊎_elim (λ (e : h ≡ k). subst (λ z. get_elem? (set hs k none) z ≡ some none) (sym e) here)
-              (λ (j : IsIn h xs). gone xs o h j) i),
+              (λ (j : IsInCell h xs). gone xs o h j) i),
           (fresh xs o, d),
         );
         others = λ zs o out d a. (
           gone zs o,
-          (λ h i j. ⊎_elim (λ (e : h ≡ k). fresh zs o (subst (λ z. IsIn z zs) e j)) (λ (m : IsIn h xs). a h m j) i),
+          (λ h i j. ⊎_elim (λ (e : h ≡ k). fresh zs o (subst (λ z. IsInCell z zs) e j)) (λ (m : IsInCell h xs). a h m j) i),
         );
       }
 
   gives_effect : (hs : List (Option S)) (k : ℕ) (y : S) (xs : List ℕ) → Effect hs (set hs k (some y)) (k ∷ xs) xs
   gives_effect hs k y xs = record {
     mine = λ o d. (
-      (λ h i. set_else hs k h (some y) (λ e. d.0 (subst (λ z. IsIn z xs) e i)) ∙ o h (inr i)),
+      (λ h i. set_else hs k h (some y) (λ e. d.0 (subst (λ z. IsInCell z xs) e i)) ∙ o h (inr i)),
       d.1,
     );
     others = λ zs o out d a. (
-      (λ h i. set_else hs k h (some y) (λ e. a k (inl refl) (subst (λ z. IsIn z zs) e i)) ∙ o h i),
+      (λ h i. set_else hs k h (some y) (λ e. a k (inl refl) (subst (λ z. IsInCell z zs) e i)) ∙ o h i),
       (λ h i j. a h (inr i) j),
     );
   }

@@ -12,7 +12,7 @@ use Rattle.cell_triple.specs.declared.notes.WriterNotes.{WriterNotes}
 use Rattle.cell_triple.specs.declared.notes.ReaderNotes.{ReaderNotes}
 use Rattle.cell_live.specs.declared.sight.Sight.TheVariants.{Spent, Writer, Reader}
 use Rattle.cell_triple.specs.Steps.{TripleSight, first_writer, first_reader, published, answered, HasAnswered}
-use Rattle.family_live.specs.Accesses.{IsAccess, IsRead, IsWrite, Keeps, KeepsOthers, Reads, Writes}
+use Rattle.family_live.specs.Accesses.{IsAccess, IsReadAccess, IsWriteAccess, KeepsEach, KeepsOthers, ReadAccesses, WriteAccesses}
 use Rattle.family_four_slot.specs.declared.notes.Process.{Process}
 use Rattle.family_four_slot.specs.Family.{of_cell, knows}
 use Rattle.family_four_slot.specs.Places.{place}
@@ -99,8 +99,8 @@ module _ {T : Type 0} (o : T) (n : ℕ) where
       j < n → j ≢ v.who → of_cell Spent (place n v.who j) v.parts ≡ Writer p → v.clock < t →
       let u = knows Spent v (place n v.who j) (Writer (published p slot x t)) t held in
       IsAccess 1 v.clock u.clock v.times u.times (writes_to o n v j).times (writes_to o n u j).times
-      × IsWrite (writes_to o n v j) (writes_to o n u j) x × KeepsOthers j (writes_to o n v) (writes_to o n u)
-      × Keeps (reads_from o n v) (reads_from o n u)
+      × IsWriteAccess (writes_to o n v j) (writes_to o n u j) x × KeepsOthers j (writes_to o n v) (writes_to o n u)
+      × KeepsEach (reads_from o n v) (reads_from o n u)
   a_write v j p x slot t held lw parts lj ne is lt =
       let k : ℕ = place n v.who j in
       let q : WriterNotes T = published p slot x t in
@@ -111,7 +111,7 @@ module _ {T : Type 0} (o : T) (n : ℕ) where
       let after = sees_writes u j q ne (get_set_here v.parts k (Writer q) Spent has) in (
         subst (λ (z : Times × Times). IsAccess 1 v.clock t v.times u.times z.0 z.1) (λ i. ((sym before i).times, (sym after i).times))
             (access_of v.times v.clock t p.times q.times lt refl refl),
-        record { items = ap (λ (z : Writes T). z.items) after ∙ ap (λ (z : Writes T). z.items ++ x ∷ []) (sym before) },
+        record { items = ap (λ (z : WriteAccesses T). z.items) after ∙ ap (λ (z : WriteAccesses T). z.items ++ x ∷ []) (sym before) },
         (λ i di. ap (λ z. writes_by z) (seen_same Spent (writer_or (first_writer o)) v.who k v.parts (Writer q) (place n v.who i) i
             (λ nw. inl (row_apart n v.who i j nw ne di)) has)),
         (λ i. ap (λ z. reads_by z) (seen_same Spent (reader_or (first_reader o)) v.who k v.parts (Writer q) (place n i v.who) i
@@ -126,8 +126,8 @@ module _ {T : Type 0} (o : T) (n : ℕ) where
       let u = knows Spent v (place n j v.who) (Reader q) t held in
       HasAnswered g q x → h.heard ≡ g.heard → AreHeeded g.heard writes number →
       IsAccess 1 v.clock u.clock v.times u.times (reads_from o n v j).times (reads_from o n u j).times
-      × IsRead o (reads_from o n v j) (reads_from o n u j) x × KeepsOthers j (reads_from o n v) (reads_from o n u)
-      × Keeps (writes_to o n v) (writes_to o n u)
+      × IsReadAccess o (reads_from o n v j) (reads_from o n u j) x × KeepsOthers j (reads_from o n v) (reads_from o n u)
+      × KeepsEach (writes_to o n v) (writes_to o n u)
   a_read v j g h x t number writes held lw parts lj ne is same_answers same_told same_times opened lt answered_it same_heard heeded =
       let k : ℕ = place n j v.who in
       let q : ReaderNotes T = answered h x t number writes in
@@ -139,7 +139,7 @@ module _ {T : Type 0} (o : T) (n : ℕ) where
         subst (λ (z : Times × Times). IsAccess 1 v.clock t v.times u.times z.0 z.1) (λ i. ((sym before i).times, (sym after i).times))
             (access_of v.times v.clock t g.times q.times lt (ap (λ (z : Times). z.begins ++ t ∷ []) same_times)
             (ap (λ (z : Times). z.ends ++ t ∷ []) same_times)),
-        subst (λ (z : Reads T × Reads T). IsRead o z.0 z.1 x) (λ i. (sym before i, sym after i)) (record {
+        subst (λ (z : ReadAccesses T × ReadAccesses T). IsReadAccess o z.0 z.1 x) (λ i. (sym before i, sym after i)) (record {
           answers = ap (λ z. z ++ x ∷ []) same_answers;
           numbered = subst (λ z. IsNextAnswer z g.known q.known g.numbers q.numbers q.answers q.times x) opened answered_it;
           told = same_told;
@@ -156,7 +156,7 @@ module _ {T : Type 0} (o : T) (n : ℕ) where
   pub a_look : (v : Process V) (j : ℕ) (g h : ReaderNotes T) (held : List ℕ) → v.who < n → length v.parts ≡ n * n →
       j < n → j ≢ v.who → of_cell Spent (place n j v.who) v.parts ≡ Reader g → reads_by h ≡ reads_by g →
       let u = alters v (place n j v.who) (Reader h) held in
-      (u.clock ≡ v.clock) × (u.times ≡ v.times) × Keeps (reads_from o n v) (reads_from o n u) × Keeps (writes_to o n v) (writes_to o n u)
+      (u.clock ≡ v.clock) × (u.times ≡ v.times) × KeepsEach (reads_from o n v) (reads_from o n u) × KeepsEach (writes_to o n v) (writes_to o n u)
   a_look v j g h held lw parts lj ne is same =
       let k : ℕ = place n j v.who in
       let l : place n j v.who < n * n = place_in n j v.who lj lw (λ e. ne (sym e)) in

@@ -1,6 +1,6 @@
 -- A column on its way: what its next read needs.
 use Rattle.std.proofs.Common.{◌≡◌, ℕ, sym, ap, ◌∙◌}
-use Rattle.family_live.specs.Rows.{InTurn, IsReadFrom}
+use Rattle.family_live.specs.Rows.{OneByOne, IsReadFrom}
 use Rattle.family_live.proofs.Rows.{column_own}
 use Rattle.family_triple.specs.declared.family.TripleFamily.{TripleFamily}
 use Rattle.family_triple.specs.declared.family.TripleSeat.{TripleSeat}
@@ -15,7 +15,7 @@ module _ {T L : Type 0} (f : TripleFamily T) (fits : T → Type 0) (rises : T �
   module _ (start : TripleSeat T) (first : L) where
     -- so many of the others were read
     abbrev pub Column : ℕ → TripleSeat T × L → Type 0
-    Column = InTurn Read (number_of start) (start, first)
+    Column = OneByOne Read (number_of start) (start, first)
 
     pub column_seat : (count : ℕ) (now : TripleSeat T) (seen : L) → IsSeat f start → Column count (now, seen) →
         IsSeat f now × (number_of now ≡ number_of start)

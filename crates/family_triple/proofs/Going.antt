@@ -8,7 +8,7 @@ use Rattle.cell_live.specs.declared.sight.Sight.TheVariants.{Spent, Writer, Read
 use Rattle.cell_triple.specs.declared.notes.WriterNotes.{WriterNotes}
 use Rattle.cell_triple.specs.declared.notes.ReaderNotes.{ReaderNotes}
 use Rattle.cell_triple.specs.Steps.{TripleSight, published, answered}
-use Rattle.family_live.specs.Accesses.{IsAccess, IsRead, IsWrite, Keeps, KeepsOthers, Reads}
+use Rattle.family_live.specs.Accesses.{IsAccess, IsReadAccess, IsWriteAccess, KeepsEach, KeepsOthers, ReadAccesses}
 use Rattle.family_four_slot.specs.declared.notes.Process.{Process}
 use Rattle.family_four_slot.specs.declared.notes.View.{View}
 use Rattle.family_four_slot.specs.declared.notes.View.TheVariants.{Has}
@@ -22,7 +22,7 @@ use Rattle.family_triple.specs.declared.family.TripleSeat.{TripleSeat}
 use Rattle.family_triple.specs.Access.{HasLooked}
 use Rattle.family_triple.specs.Places.{among, triples, slot_at}
 use Rattle.family_triple.specs.Seated.{known_by, opening_of, processes_of, number_of, clock_of, times_of, writes_of, reads_of, IsSeat}
-use Rattle.family_triple.specs.Tables.{IsTurned}
+use Rattle.family_triple.specs.Tables.{IsRotated}
 use Rattle.family_triple.specs.Words.{writes_to, reads_from, IsAtRest, IsRow, IsColumn}
 use Rattle.family_triple.proofs.Calls.{sees_writes, sees_reads, a_write, a_read}
 use Rattle.family_triple.proofs.Rests.{Replaced, rest_write, rest_read}
@@ -32,14 +32,14 @@ module _ {T : Type 0} where
   pub record Wrote (f : TripleFamily T) (s s' : TripleSeat T) (j : ℕ) (x : T) : Type 0 where
     pub own : IsSeat f s' × (s'.who ≡ s.who)
     pub access : IsAccess 1 (clock_of s) (clock_of s') (times_of s) (times_of s') (writes_of s j).times (writes_of s' j).times
-    pub written : IsWrite (writes_of s j) (writes_of s' j) x
-    pub others : KeepsOthers j (writes_of s) (writes_of s') × Keeps (reads_of s) (reads_of s')
+    pub written : IsWriteAccess (writes_of s j) (writes_of s' j) x
+    pub others : KeepsOthers j (writes_of s) (writes_of s') × KeepsEach (reads_of s) (reads_of s')
 
   pub record HasRead (f : TripleFamily T) (s s' : TripleSeat T) (j : ℕ) (x : T) : Type 0 where
     pub own : IsSeat f s' × (s'.who ≡ s.who)
     pub access : IsAccess 1 (clock_of s) (clock_of s') (times_of s) (times_of s') (reads_of s j).times (reads_of s' j).times
-    pub answer : IsRead (opening_of f) (reads_of s j) (reads_of s' j) x
-    pub others : KeepsOthers j (reads_of s) (reads_of s') × Keeps (writes_of s) (writes_of s')
+    pub answer : IsReadAccess (opening_of f) (reads_of s j) (reads_of s' j) x
+    pub others : KeepsOthers j (reads_of s) (reads_of s') × KeepsEach (writes_of s) (writes_of s')
 
   module _ (f : TripleFamily T) (s : TripleSeat T) (own : IsSeat f s) where
     -- the seat after a call
@@ -127,12 +127,12 @@ module _ {T : Type 0} where
           IsAnswer fits rises (opening_of f) (reads_of s j).answers (reads_of s j).told x
       is_answer fits rises x h =
           let seen = sees_reads s.spare s.processes (known_by s) j column_at.notes apart column_at.is in
-          subst (λ (z : T × Reads T). IsAnswer fits rises z.0 z.1.answers z.1.told x) (λ i. ((column_at.opened ∙ own.opening) i, sym seen i)) h
+          subst (λ (z : T × ReadAccesses T). IsAnswer fits rises z.0 z.1.answers z.1.told x) (λ i. ((column_at.opened ∙ own.opening) i, sym seen i)) h
 
     -- a whole write
     pub wrote : (cell : ℕ) → cell ≡ place s.processes s.who j → j < 16 → (x y : T) (slot t : ℕ) (held : List ℕ) (s' : TripleSeat T) →
         (known_by s).clock < t → slot < 3 → s'.seat.inner.me.0 ≡ Has (knows Spent (known_by s) cell (Writer (published row_at.notes slot x t)) t held ∷ []) →
-        Replaced s.seat.inner.me.1 s'.seat.inner.me.1 (among s.who j) (slot_at cell slot, y) → IsTurned held (held_slots s'.seat.inner.me.1) →
+        Replaced s.seat.inner.me.1 s'.seat.inner.me.1 (among s.who j) (slot_at cell slot, y) → IsRotated held (held_slots s'.seat.inner.me.1) →
         s'.seat.inner.table_id ≡ s.seat.inner.table_id → s'.spare ≡ s.spare → s'.processes ≡ s.processes → s'.who ≡ s.who →
         s'.fills ≡ set s.fills j slot → s'.reads ≡ s.reads → Wrote f s s' j x
     wrote cell at few x y slot t held s' later low me new turned table spare processes who filled kept =
@@ -155,8 +155,8 @@ module _ {T : Type 0} where
         let is : u ≡ known_by s' = sym (ap process_of now) in
         let all : (T × ℕ × Process (TripleSight T)) → Type 0 = λ z.
         IsAccess 1 v.clock z.2.clock v.times z.2.times (writes_to o n v j).times (writes_to z.0 z.1 z.2 j).times
-        × IsWrite (writes_to o n v j) (writes_to z.0 z.1 z.2 j) x
-        × KeepsOthers j (writes_to o n v) (writes_to z.0 z.1 z.2) × Keeps (reads_from o n v) (reads_from z.0 z.1 z.2) in
+        × IsWriteAccess (writes_to o n v j) (writes_to z.0 z.1 z.2 j) x
+        × KeepsOthers j (writes_to o n v) (writes_to z.0 z.1 z.2) × KeepsEach (reads_from o n v) (reads_from z.0 z.1 z.2) in
         let h = subst all (λ i. (sym spare i, sym processes i, is i)) did in record {
           own = (
             seat_after f s own s' u s'.seat.inner.me.1 table spare processes who now refl refl
@@ -173,7 +173,7 @@ module _ {T : Type 0} where
         (m : Me T (View (TripleSight T))) (slot : ℕ) (s' : TripleSeat T) → (h : HasLooked fits rises cell (known_by s) column_at.notes cs m slot) →
         s'.seat.inner.me.0 ≡ m.0 →
         Replaced s.seat.inner.me.1 s'.seat.inner.me.1 ((s.processes - 1) + among s.who j) (slot_at cell slot, h.answer) →
-        IsTurned (held_slots ((slot_at cell slot, h.answer) ∷ cs)) (held_slots s'.seat.inner.me.1) →
+        IsRotated (held_slots ((slot_at cell slot, h.answer) ∷ cs)) (held_slots s'.seat.inner.me.1) →
         s'.seat.inner.table_id ≡ s.seat.inner.table_id → s'.spare ≡ s.spare → s'.processes ≡ s.processes → s'.who ≡ s.who →
         s'.fills ≡ s.fills → s'.reads ≡ set s.reads j slot → HasRead f s s' j h.answer
     has_read cell at few fits rises cs m slot s' h me new turned table spare processes who kept found =
@@ -199,8 +199,8 @@ module _ {T : Type 0} where
         let is : u ≡ known_by s' = sym (ap process_of now) in
         let all : (T × ℕ × Process (TripleSight T)) → Type 0 = λ z.
         IsAccess 1 v.clock z.2.clock v.times z.2.times (reads_from o n v j).times (reads_from z.0 z.1 z.2 j).times
-        × IsRead o (reads_from o n v j) (reads_from z.0 z.1 z.2 j) h.answer
-        × KeepsOthers j (reads_from o n v) (reads_from z.0 z.1 z.2) × Keeps (writes_to o n v) (writes_to z.0 z.1 z.2) in
+        × IsReadAccess o (reads_from o n v j) (reads_from z.0 z.1 z.2 j) h.answer
+        × KeepsOthers j (reads_from o n v) (reads_from z.0 z.1 z.2) × KeepsEach (writes_to o n v) (writes_to z.0 z.1 z.2) in
         let r = subst all (λ i. (sym spare i, sym processes i, is i)) did in record {
           own = (
             seat_after f s own s' u s'.seat.inner.me.1 table spare processes who now refl refl
@@ -208,6 +208,6 @@ module _ {T : Type 0} where
             who,
           );
           access = r.0;
-          answer = subst (λ z. IsRead z (reads_of s j) (reads_of s' j) h.answer) own.opening r.1;
+          answer = subst (λ z. IsReadAccess z (reads_of s j) (reads_of s' j) h.answer) own.opening r.1;
           others = (r.2, r.3);
         }

@@ -8,7 +8,7 @@ use Rattle.cell_live.specs.declared.sight.Sight.TheVariants.{Spent, Told, Writer
 use Rattle.cell_triple.specs.declared.notes.WriterNotes.{WriterNotes}
 use Rattle.cell_triple.specs.declared.notes.ReaderNotes.{ReaderNotes}
 use Rattle.cell_triple.specs.Steps.{TripleSight, first_writer, first_reader, receipt_for, hears_of, heard_by}
-use Rattle.family_live.specs.Accesses.{IsHeardRead, Keeps, KeepsOthers, Reads}
+use Rattle.family_live.specs.Accesses.{IsHeardRead, KeepsEach, KeepsOthers, ReadAccesses}
 use Rattle.family_four_slot.specs.declared.notes.Process.{Process}
 use Rattle.family_four_slot.specs.declared.notes.Receipt.{Receipt}
 use Rattle.family_four_slot.specs.Family.{of_cell, heard_by as family_heard}
@@ -100,7 +100,7 @@ module _ {T : Type 0} where
           (column_heard o k ((n - 1) + among v.who j) (get_or reads j 0) (of_cell Spent k v.parts) (of_cell Spent k r.parts) cs (rest.column j lj ne));
     }
 
-    pub writes_stay : Keeps (writes_to o n v) (writes_to o n u)
+    pub writes_stay : KeepsEach (writes_to o n v) (writes_to o n u)
     writes_stay j =
         let at : ℕ = place n v.who j in
         let d : WriterNotes T = first_writer o in
@@ -154,7 +154,7 @@ module _ {T : Type 0} where
           let now : of_cell Spent k u.parts ≡ Reader h = part k ∙ (λ i. hears_of (column.is i) (told i)) in
           let before = sees_reads o n v from g ne column.is in
           let after = sees_reads o n u from h ne now in
-          subst (λ (z : Reads T × Reads T). IsHeardRead z.0 z.1 x.item x.writes) (λ i. (sym before i, sym after i)) (record {
+          subst (λ (z : ReadAccesses T × ReadAccesses T). IsHeardRead z.0 z.1 x.item x.writes) (λ i. (sym before i, sym after i)) (record {
             told = refl;
             heard = refl;
             answers = refl;

@@ -14,12 +14,12 @@ use Rattle.family_four_slot.proofs.Slices.{get_set_here, set_long, set_twice}
 use Rattle.family_triple.specs.Access.{HasLooked}
 use Rattle.family_triple.specs.Places.{slot_at}
 use Rattle.family_triple.specs.Steps.{alters, looks, fetches}
-use Rattle.family_triple.specs.Tables.{HasReader, IsTurned}
+use Rattle.family_triple.specs.Tables.{HasReader, IsRotated}
 
 pub word_is : (k : ℕ) → 8 * k + 8 ≡ 8 * k + 8 + 0
 word_is k = omega arith
 
-pub unturned : {A : Type 0} (xs ys : List A) → ys ≡ xs → IsTurned xs ys
+pub unturned : {A : Type 0} (xs ys : List A) → ys ≡ xs → IsRotated xs ys
 unturned xs ys e = (xs, [], sym (append-nil xs), e)
 
 module _ {T : Type 0} (fits : T → Type 0) (rises : T → T → Type 0) where

@@ -7,7 +7,7 @@ use Rattle.atomic_table.specs.Seated.{TableId}
 use Rattle.history_core.specs.Schedules.{positions}
 use Rattle.cell_live.specs.declared.sight.Sight.TheVariants.{Spent, Writer, Reader}
 use Rattle.cell_triple.specs.Steps.{TripleSight}
-use Rattle.family_live.specs.Accesses.{Writes, Reads, IsUnused}
+use Rattle.family_live.specs.Accesses.{WriteAccesses, ReadAccesses, IsUnused}
 use Rattle.family_live.specs.Ends.{Each, EachTwo, IsSchedule, IsAtomicCell}
 use Rattle.family_four_slot.specs.declared.notes.Process.{Process}
 use Rattle.family_four_slot.specs.declared.notes.View.TheVariants.{Has}
@@ -133,5 +133,5 @@ module _ {T : Type 0} where
         let done = ended.cells a.0 b.0 v u a.1 b.1 k inside row.notes column.notes writes reads in
         let w = sees_writes s.spare s.processes v j row.notes (λ e. ne (sym (e ∙ who_s))) row.is in
         let r = sees_reads t.spare t.processes u i column.notes (λ e. ne (e ∙ who_t)) column.is in
-        subst (λ (z : Writes T × Reads T). IsAtomicCell (opening_of f) z.0 z.1) (λ x. (sym w x, sym r x))
+        subst (λ (z : WriteAccesses T × ReadAccesses T). IsAtomicCell (opening_of f) z.0 z.1) (λ x. (sym w x, sym r x))
         (record { atomic = done.atomic; ended = done.ended; known = done.known })

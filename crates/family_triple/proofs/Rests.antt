@@ -16,7 +16,7 @@ use Rattle.family_four_slot.proofs.Slices.{get_set_here, get_set_else, set_long}
 use Rattle.history_core.specs.Others.{other}
 use Rattle.family_triple.specs.Places.{among, slot_at}
 use Rattle.family_triple.specs.Steps.{goes_on}
-use Rattle.family_triple.specs.Tables.{IsTurned}
+use Rattle.family_triple.specs.Tables.{IsRotated}
 use Rattle.family_triple.specs.Words.{IsRow, IsColumn, IsAtRest}
 use Rattle.family_triple.proofs.Places.{among_small, other_among}
 use Rattle.family_triple.proofs.Calls.{row_apart, column_apart}
@@ -38,7 +38,7 @@ module _ {T : Type 0} (o : T) (n : ℕ) where
   pub rest_write : (v : Process V) (fills fills' reads : List ℕ) (cs cs' : List (ℕ × T)) (j : ℕ) (p : WriterNotes T) (y : T) (clock : ℕ)
       (times held : List ℕ) → j < n → j ≢ v.who → IsAtRest o n v fills reads cs → p.has ≡ 1 → p.opening.value ≡ o → p.slot < 3 →
       length fills' ≡ length fills → get_or fills' j 0 ≡ p.slot → ((i : ℕ) → i ≢ j → get_or fills' i 0 ≡ get_or fills i 0) →
-      Replaced cs cs' (among v.who j) (slot_at (place n v.who j) p.slot, y) → IsTurned held (held_slots cs') →
+      Replaced cs cs' (among v.who j) (slot_at (place n v.who j) p.slot, y) → IsRotated held (held_slots cs') →
       IsAtRest o n (goes_on v (place n v.who j) (Writer p) clock times held) fills' reads cs'
   rest_write v fills fills' reads cs cs' j p y clock times held lj ne r took opened low size number same new turned =
       let k : ℕ = place n v.who j in
@@ -100,7 +100,7 @@ module _ {T : Type 0} (o : T) (n : ℕ) where
   pub rest_read : (v : Process V) (fills reads reads' : List ℕ) (cs cs' : List (ℕ × T)) (j : ℕ) (g : ReaderNotes T) (clock : ℕ)
       (times held : List ℕ) → j < n → j ≢ v.who → IsAtRest o n v fills reads cs → g.has ≡ 1 → g.asked ≡ 0 → g.opening.value ≡ o → g.slot < 3 →
       length reads' ≡ length reads → get_or reads' j 0 ≡ g.slot → ((i : ℕ) → i ≢ j → get_or reads' i 0 ≡ get_or reads i 0) →
-      Replaced cs cs' ((n - 1) + among v.who j) (slot_at (place n j v.who) g.slot, g.at_hand.value) → IsTurned held (held_slots cs') →
+      Replaced cs cs' ((n - 1) + among v.who j) (slot_at (place n j v.who) g.slot, g.at_hand.value) → IsRotated held (held_slots cs') →
       IsAtRest o n (goes_on v (place n j v.who) (Reader g) clock times held) fills reads' cs'
   rest_read v fills reads reads' cs cs' j g clock times held lj ne r took free opened low size number same new turned =
       let k : ℕ = place n j v.who in

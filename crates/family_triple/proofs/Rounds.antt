@@ -3,7 +3,7 @@ use Rattle.std.proofs.Common.{◌≡◌, ◌≢◌, ℕ, zero, suc, ◌+◌, ◌
 use mathlib.Core.Option.{some}
 use lib.ListN.{get_elem?}
 use Rattle.cell_live.specs.Running.{held_slots}
-use Rattle.family_triple.specs.Tables.{IsTurned}
+use Rattle.family_triple.specs.Tables.{IsRotated}
 use Rattle.family_triple.proofs.Looking.{unturned}
 use Rattle.family_triple.proofs.Rests.{Replaced}
 use Rattle.family_triple.proofs.Turns.{turned_round}
@@ -43,13 +43,13 @@ module _ {T : Type 0} where
 
   -- the slot that came first, with any record
   pub turned_front : (cs front back : List (ℕ × T)) (a : ℕ) (r x : T) (held : List ℕ) (now : List (ℕ × T)) → cs ≡ front ++ (a, r) ∷ back →
-      IsTurned held (held_slots cs) → now ≡ (a, x) ∷ (back ++ front) → IsTurned held (held_slots now)
-  turned_front cs front back a r x held now is t e = subst (λ zs. IsTurned held (held_slots zs)) (sym e)
-      (turned_round front ((a, r) ∷ back) held (subst (λ zs. IsTurned held (held_slots zs)) is t))
+      IsRotated held (held_slots cs) → now ≡ (a, x) ∷ (back ++ front) → IsRotated held (held_slots now)
+  turned_front cs front back a r x held now is t e = subst (λ zs. IsRotated held (held_slots zs)) (sym e)
+      (turned_round front ((a, r) ∷ back) held (subst (λ zs. IsRotated held (held_slots zs)) is t))
 
   -- and back
   pub turned_back : (front back : List (ℕ × T)) (y : ℕ × T) (now : List (ℕ × T)) → now ≡ front ++ y ∷ back →
-      IsTurned (held_slots (y ∷ (back ++ front))) (held_slots now)
-  turned_back front back y now e = subst (λ zs. IsTurned (held_slots (y ∷ (back ++ front))) (held_slots zs)) (sym e)
+      IsRotated (held_slots (y ∷ (back ++ front))) (held_slots now)
+  turned_back front back y now e = subst (λ zs. IsRotated (held_slots (y ∷ (back ++ front))) (held_slots zs)) (sym e)
       (turned_round (y ∷ back) front (held_slots (y ∷ (back ++ front)))
       (unturned (held_slots (y ∷ (back ++ front))) (held_slots ((y ∷ back) ++ front)) refl))

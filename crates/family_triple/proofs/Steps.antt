@@ -17,12 +17,12 @@ use Rattle.family_four_slot.specs.declared.notes.Receipt.{Receipt}
 use Rattle.family_four_slot.specs.declared.notes.View.{View}
 use Rattle.family_four_slot.specs.declared.notes.View.TheVariants.{Has}
 use Rattle.family_four_slot.specs.Layouts.{Layout, IsLayout, gather, shift, shift_act, Inside, Distinct, Disjoint, Out}
-use Rattle.family_four_slot.specs.Family.{total, of_cell, knows, cell, holders, Shows, FamilyRule, Tells}
+use Rattle.family_four_slot.specs.Family.{total, of_cell, knows, cell, holders, Shows, FamilyRule, StepTells}
 use Rattle.family_four_slot.proofs.Slices.{gather_set, gather_apart, get_set_here, get_set_else, set_long, map_set, map_same, set_front, within}
 use Rattle.family_four_slot.proofs.Steps.{count_of, shows_set}
 use Rattle.family_four_slot.proofs.Totals.{total_set, total_two}
 use Rattle.family_triple.specs.Steps.{goes_on, alters}
-use Rattle.family_triple.specs.Tables.{IsTurned}
+use Rattle.family_triple.specs.Tables.{IsRotated}
 use Rattle.family_triple.proofs.Acts.{carried_shift, valid_shift, homes_gather, homes_apart, homes_long, proper_shift, Effect, acts_effect}
 use Rattle.family_triple.proofs.Turns.{turned_in, turned_distinct, turned_out}
 
@@ -92,7 +92,7 @@ module _ {S V : Type 0} (blank : V) (l : Layout) (is : IsLayout l) where
     -- the process knows more of one cell; its clock and its times, and the steps made, go on to these
     kept : (s : State S (View V)) (r : F s) (id k i m : ℕ) (v : Process V) (c behind : List (ℕ × S)) (w : V) (a : Act S)
         (t clock : ℕ) (times steps : List ℕ) → get_elem? s.views id ≡ some (Has (v ∷ [])) → i < l.cell_words → k < l.cells →
-        k < length v.parts → Inside l.cell_slots c → IsTurned v.held (held_slots (shift (l.slot k) c ++ behind)) → r.now ≤ t → clock ≤ t →
+        k < length v.parts → Inside l.cell_slots c → IsRotated v.held (held_slots (shift (l.slot k) c ++ behind)) → r.now ≤ t → clock ≤ t →
         t ≡ length steps → ((x who : ℕ) → slice_get steps x ≡ Some who → who < n) → times ≡ positions 1 v.who steps →
         ((j : ℕ) → j ≢ v.who → positions 1 j steps ≡ positions 1 j r.steps) → ProperAll c a →
         Valid (gather (l.slot k) l.cell_slots none s.homes) c a →
@@ -193,10 +193,10 @@ module _ {S V : Type 0} (blank : V) (l : Layout) (is : IsLayout l) where
     -- *A step of the schedule*: its time is the one after all before
     pub steps_at : (s : State S (View V)) (r : F s) (id k m : ℕ) (v : Process V) (c behind : List (ℕ × S)) (then : ℕ → Me S V → Type 0) →
         get_elem? s.views id ≡ some (Has (v ∷ [])) → 0 < l.cell_words → k < l.cells →
-        k < length v.parts → Inside l.cell_slots c → IsTurned v.held (held_slots (shift (l.slot k) c ++ behind)) →
+        k < length v.parts → Inside l.cell_slots c → IsRotated v.held (held_slots (shift (l.slot k) c ++ behind)) →
         Outcome Rule (cell blank l k s.words s.homes r.processes r.receipts) (r.now + 1) v.who (of_cell blank k v.parts, c) m (then (r.now + 1)) →
         Allowed F s id (l.word k 0) (Has (v ∷ []), shift (l.slot k) c ++ behind) m
-        (Tells blank l.slot k v [] behind (λ t _ x. then t x) 0)
+        (StepTells blank l.slot k v [] behind (λ t _ x. then t x) 0)
     steps_at s r id k m v c behind then at li lk has inside turned x =
         let t : ℕ = r.now + 1 in
         let who : ℕ = v.who in
@@ -235,7 +235,7 @@ module _ {S V : Type 0} (blank : V) (l : Layout) (is : IsLayout l) where
     -- *A step outside the schedule*
     pub steps_beside : (s : State S (View V)) (r : F s) (id k m : ℕ) (v : Process V) (c behind : List (ℕ × S)) (then : Me S V → Type 0) →
         get_elem? s.views id ≡ some (Has (v ∷ [])) → 0 < l.cell_words → k < l.cells →
-        k < length v.parts → Inside l.cell_slots c → IsTurned v.held (held_slots (shift (l.slot k) c ++ behind)) →
+        k < length v.parts → Inside l.cell_slots c → IsRotated v.held (held_slots (shift (l.slot k) c ++ behind)) →
         Outcome Rule (cell blank l k s.words s.homes r.processes r.receipts) r.now v.who (of_cell blank k v.parts, c) m then →
         Allowed F s id (l.word k 0) (Has (v ∷ []), shift (l.slot k) c ++ behind) m (TellsBeside l.slot k v behind then)
     steps_beside s r id k m v c behind then at li lk has inside turned x =

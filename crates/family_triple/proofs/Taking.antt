@@ -25,7 +25,7 @@ use Rattle.family_triple.specs.Access.{IsReady}
 use Rattle.history_core.specs.Others.{other}
 use Rattle.family_triple.specs.Places.{among, slot_at}
 use Rattle.family_triple.specs.Steps.{Beside, alters}
-use Rattle.family_triple.specs.Tables.{IsTurned}
+use Rattle.family_triple.specs.Tables.{IsRotated}
 use Rattle.family_triple.specs.Triples.{first_part, first_process}
 use Rattle.family_triple.specs.Words.{writes_by, reads_by, IsRow, IsColumn}
 use Rattle.family_triple.proofs.Calls.{column_apart, not_same, yes_same}
@@ -138,7 +138,7 @@ module _ {T : Type 0} (o : T) (n who : ℕ) where
     pub number : v.who ≡ who
     pub fresh : (v.clock ≡ 0) × (v.times ≡ [])
     pub long : length v.parts ≡ n * n
-    pub held : IsTurned v.held (held_slots me.1)
+    pub held : IsRotated v.held (held_slots me.1)
     pub many : length me.1 ≡ rows + columns
     pub plain : (k : ℕ) → IsPlain o n who k (of_cell Spent k v.parts)
     pub row : Taken (row_cell n who) (bare_writer o) (ready_writer o) 0 o (n - 1) rows 0 v.parts me.1

@@ -6,7 +6,7 @@ use Rattle.cell_live.specs.Running.{snap}
 use Rattle.cell_live.specs.Sights.{receipt_or}
 use Rattle.cell_live.specs.declared.sight.Sight.TheVariants.{Spent, Told as Tells}
 use Rattle.cell_triple.specs.Steps.{TripleSight, receipt_for, hears_of}
-use Rattle.family_live.specs.Accesses.{Writes}
+use Rattle.family_live.specs.Accesses.{WriteAccesses}
 use Rattle.family_four_slot.specs.declared.notes.View.{View}
 use Rattle.family_four_slot.specs.declared.notes.View.TheVariants.{Told}
 use Rattle.family_four_slot.specs.Family.{of_cell, receipt_of}
@@ -52,7 +52,7 @@ module _ {T : Type 0} (f : TripleFamily T) (s : TripleSeat T) (own : IsSeat f s)
       let k : ℕ = place t.processes t.from j in
       let same : k ≡ place s.processes (known_by s).who j = λ i. place (many i) ((who ∙ sym own.who) i) j in
       let is = part t me k ∙ ap receipt_for (ap (λ z. of_cell Spent z (known_by s).parts) same ∙ row.is) in
-      ap (λ z. (receipt_or (dated t.spare) z).writes) is ∙ sym (ap (λ (w : Writes T). known_as w.items w.times)
+      ap (λ z. (receipt_or (dated t.spare) z).writes) is ∙ sym (ap (λ (w : WriteAccesses T). known_as w.items w.times)
       (sees_writes s.spare s.processes (known_by s) j row.notes away row.is))
 
 -- a receipt with another token that knows the same

@@ -21,12 +21,12 @@ use Rattle.family_four_slot.specs.declared.notes.Receipt.{Receipt}
 use Rattle.family_four_slot.specs.declared.notes.View.{View}
 use Rattle.family_four_slot.specs.declared.notes.View.TheVariants.{Told, Has}
 use Rattle.family_four_slot.specs.Layouts.{shift, Inside}
-use Rattle.family_four_slot.specs.Family.{of_cell, knows, cell, Tells}
+use Rattle.family_four_slot.specs.Family.{of_cell, knows, cell, StepTells}
 use Rattle.family_four_slot.proofs.Slices.{gather_get}
 use Rattle.family_triple.specs.Places.{triples, word_at, slot_at}
 use Rattle.family_triple.specs.Triples.{CellRule, TripleFamily}
 use Rattle.family_triple.specs.Steps.{alters, After, Beside, put_takes, get_takes, publishes, looks, fetches}
-use Rattle.family_triple.specs.Tables.{IsTurned}
+use Rattle.family_triple.specs.Tables.{IsRotated}
 use Rattle.family_triple.proofs.Places.{is_layout}
 use Rattle.family_triple.proofs.Steps.{Outcome, Allowed, TellsBeside, steps_at, steps_beside}
 
@@ -103,15 +103,15 @@ module _ {T : Type 0} (fits : T → Type 0) (rises : T → T → Type 0) (o : T)
     -- the steps of the schedule, and the others, at a view that is known
     timed : (s : State T (View W)) (r : F s) (id k m : ℕ) (v : Process W) (w : W) (c behind : List (ℕ × T)) (then : ℕ → Me T W → Type 0) →
         get_elem? s.views id ≡ some (Has (v ∷ [])) → k < (triples n).cells → k < length v.parts → of_cell Spent k v.parts ≡ w → Inside 3 c →
-        IsTurned v.held (held_slots (shift (slot_at k) c ++ behind)) → Outcome Rule (Cell s r k) (r.now + 1) v.who (w, c) m (then (r.now + 1)) →
-        Allowed F s id (word_at k 0) (Has (v ∷ []), shift (slot_at k) c ++ behind) m (Tells Spent slot_at k v [] behind (λ t _ x. then t x) 0)
+        IsRotated v.held (held_slots (shift (slot_at k) c ++ behind)) → Outcome Rule (Cell s r k) (r.now + 1) v.who (w, c) m (then (r.now + 1)) →
+        Allowed F s id (word_at k 0) (Has (v ∷ []), shift (slot_at k) c ++ behind) m (StepTells Spent slot_at k v [] behind (λ t _ x. then t x) 0)
     timed s r id k m v w c behind then at lk has is inside turned out =
         steps_at Spent (triples n) (is_layout n) Rule rule_later n s r id k m v c behind then at (let z : 0 < 1 = omega arith in z) lk has inside
         turned (subst (λ (z : W). Outcome Rule (Cell s r k) (r.now + 1) v.who (z, c) m (then (r.now + 1))) (sym is) out)
 
     untimed : (s : State T (View W)) (r : F s) (id k m : ℕ) (v : Process W) (w : W) (c behind : List (ℕ × T)) (then : Me T W → Type 0) →
         get_elem? s.views id ≡ some (Has (v ∷ [])) → k < (triples n).cells → k < length v.parts → of_cell Spent k v.parts ≡ w → Inside 3 c →
-        IsTurned v.held (held_slots (shift (slot_at k) c ++ behind)) → Outcome Rule (Cell s r k) r.now v.who (w, c) m then →
+        IsRotated v.held (held_slots (shift (slot_at k) c ++ behind)) → Outcome Rule (Cell s r k) r.now v.who (w, c) m then →
         Allowed F s id (word_at k 0) (Has (v ∷ []), shift (slot_at k) c ++ behind) m (TellsBeside slot_at k v behind then)
     untimed s r id k m v w c behind then at lk has is inside turned out =
         steps_beside Spent (triples n) (is_layout n) Rule rule_later n s r id k m v c behind then at (let z : 0 < 1 = omega arith in z) lk has inside
@@ -119,7 +119,7 @@ module _ {T : Type 0} (fits : T → Type 0) (rises : T → T → Type 0) (o : T)
 
     pub put_takes_ok : (slots id word k : ℕ) (me : Me T (View W)) (v : Process W) (p : WriterNotes T) → word ≡ word_at k 0 →
         k < (triples n).cells → k < length v.parts → me.0 ≡ Has (v ∷ []) → of_cell Spent k v.parts ≡ Writer p →
-        IsTurned v.held (held_slots me.1) → p.has ≡ 0 → Allows F slots id me word (λ m. m) (put_takes (step slots word 0 0 none) me)
+        IsRotated v.held (held_slots me.1) → p.has ≡ 0 → Allows F slots id me word (λ m. m) (put_takes (step slots word 0 0 none) me)
     put_takes_ok slots id word k me v p at lk has who is turned bare =
         let cs : List (ℕ × T) = me.1 in
         let here : Allows F slots id (Has (v ∷ []), cs) (word_at k 0) (λ m. m) (put_takes (step slots (word_at k 0) 0 0 none) (Has (v ∷ []), cs)) =
@@ -150,7 +150,7 @@ module _ {T : Type 0} (fits : T → Type 0) (rises : T → T → Type 0) (o : T)
 
     pub get_takes_ok : (slots id word k : ℕ) (me : Me T (View W)) (v : Process W) (g : ReaderNotes T) → word ≡ word_at k 0 →
         k < (triples n).cells → k < length v.parts → me.0 ≡ Has (v ∷ []) → of_cell Spent k v.parts ≡ Reader g →
-        IsTurned v.held (held_slots me.1) → g.has ≡ 0 → Allows F slots id me word (λ m. m) (get_takes (step slots word 0 0 none) me)
+        IsRotated v.held (held_slots me.1) → g.has ≡ 0 → Allows F slots id me word (λ m. m) (get_takes (step slots word 0 0 none) me)
     get_takes_ok slots id word k me v g at lk has who is turned bare =
         let cs : List (ℕ × T) = me.1 in
         let here : Allows F slots id (Has (v ∷ []), cs) (word_at k 0) (λ m. m) (get_takes (step slots (word_at k 0) 0 0 none) (Has (v ∷ []), cs)) =
@@ -181,7 +181,7 @@ module _ {T : Type 0} (fits : T → Type 0) (rises : T → T → Type 0) (o : T)
 
     pub publishes_ok : (slots id word k new : ℕ) (me : Me T (View W)) (v : Process W) (p : WriterNotes T) (x : T) (cs : List (ℕ × T)) →
         word ≡ word_at k 0 → k < (triples n).cells → k < length v.parts → me.0 ≡ Has (v ∷ []) → of_cell Spent k v.parts ≡ Writer p →
-        me.1 ≡ (slot_at k p.slot, x) ∷ cs → IsTurned v.held (held_slots me.1) → p.has ≡ 1 → fits x →
+        me.1 ≡ (slot_at k p.slot, x) ∷ cs → IsRotated v.held (held_slots me.1) → p.has ≡ 1 → fits x →
         rises (last_or p.opening.value p.written) x → new ≡ p.slot + 4 →
         Allows F slots id me word (λ _. new) (publishes (step slots word new 0 none) me)
     publishes_ok slots id word k new me v p x cs at lk has who is slots_are turned took f up to =
@@ -205,12 +205,12 @@ module _ {T : Type 0} (fits : T → Type 0) (rises : T → T → Type 0) (o : T)
         (subst (λ (z : T). rises (last_or z c.0.put.written) x) c.0.openings.0 h.3) h.4 in
         let out = subst (λ z. Outcome Rule (Cell s r k) t v.who (Writer p, own) new (then z t)) (found s r k)
         (y.0, y.1, y.2, y.3, y.4, (y.5, y.6)) in
-        let a = timed s r id k new v (Writer p) own cs (then nn) seen lk has is inside (subst (λ zs. IsTurned v.held (held_slots zs)) slots_are turned)
+        let a = timed s r id k new v (Writer p) own cs (then nn) seen lk has is inside (subst (λ zs. IsRotated v.held (held_slots zs)) slots_are turned)
         out in
         (a.0, a.1, a.2, a.3, more nn (a.0, carried_after mine a.1) a.4)) in
         subst (λ (z : ℕ × Me T (View W)). Allows F slots id z.1 z.0 (λ _. new) (publishes (step slots z.0 new 0 none) z.1))
         (λ j. (sym at j, (sym who j, sym slots_are j))) here where
-          more : (m : ℕ) (u : Me T (View W)) → Tells Spent slot_at k v [] cs (λ t _ z. put_swapped (step 3 0 new 0 none)
+          more : (m : ℕ) (u : Me T (View W)) → StepTells Spent slot_at k v [] cs (λ t _ z. put_swapped (step 3 0 new 0 none)
               (Writer p, (p.slot, x) ∷ []) m z × (clock_of z.0 ≡ t)) 0 u →
               publishes (step slots (word_at k 0) new 0 none) (Has (v ∷ []), (slot_at k p.slot, x) ∷ cs) m u
           more m u h k' v' q x' ds w e is' held' =
@@ -236,7 +236,7 @@ module _ {T : Type 0} (fits : T → Type 0) (rises : T → T → Type 0) (o : T)
     module _ (same : (a : T) → rises a a) (along : (a b c : T) → rises a b → rises b c → rises a c) where
       pub looks_ok : (slots id word k : ℕ) (me : Me T (View W)) (v : Process W) (g : ReaderNotes T) → word ≡ word_at k 0 →
           k < (triples n).cells → k < length v.parts → me.0 ≡ Has (v ∷ []) → of_cell Spent k v.parts ≡ Reader g →
-          IsTurned v.held (held_slots me.1) → g.asked ≡ 0 → Allows F slots id me word (λ m. m) (looks fits rises (step slots word 0 0 none) me)
+          IsRotated v.held (held_slots me.1) → g.asked ≡ 0 → Allows F slots id me word (λ m. m) (looks fits rises (step slots word 0 0 none) me)
       looks_ok slots id word k me v g at lk has who is turned free =
           let cs : List (ℕ × T) = me.1 in
           let here : Allows F slots id (Has (v ∷ []), cs) (word_at k 0) (λ m. m)
@@ -270,7 +270,7 @@ module _ {T : Type 0} (fits : T → Type 0) (rises : T → T → Type 0) (o : T)
           (cases_lt nn 4)) in
           subst (λ (z : ℕ × View W). Allows F slots id (z.1, cs) z.0 (λ m. m) (looks fits rises (step slots z.0 0 0 none) (z.1, cs)))
           (λ i. (sym at i, sym who i)) here where
-            more : (m : ℕ) (u : Me T (View W)) → m < 4 → Tells Spent slot_at k v [] me.1 (λ t _ z.
+            more : (m : ℕ) (u : Me T (View W)) → m < 4 → StepTells Spent slot_at k v [] me.1 (λ t _ z.
                 looked fits rises (step 3 0 0 0 none) (Reader g, []) m z × (clock_of z.0 ≡ t)) 0 u →
                 looks fits rises (step slots (word_at k 0) 0 0 none) (Has (v ∷ []), me.1) m u
             more m u less h k' v' q w e is' =
@@ -318,7 +318,7 @@ module _ {T : Type 0} (fits : T → Type 0) (rises : T → T → Type 0) (o : T)
 
       pub fetches_ok : (slots id word k new : ℕ) (me : Me T (View W)) (v : Process W) (g : ReaderNotes T) (cs : List (ℕ × T)) →
           word ≡ word_at k 0 → k < (triples n).cells → k < length v.parts → me.0 ≡ Has (v ∷ []) → of_cell Spent k v.parts ≡ Reader g →
-          me.1 ≡ (slot_at k g.slot, g.at_hand.value) ∷ cs → IsTurned v.held (held_slots me.1) → g.has ≡ 1 → g.asked ≡ 1 → new ≡ g.slot →
+          me.1 ≡ (slot_at k g.slot, g.at_hand.value) ∷ cs → IsRotated v.held (held_slots me.1) → g.has ≡ 1 → g.asked ≡ 1 → new ≡ g.slot →
           Allows F slots id me word (λ _. new) (fetches fits rises (step slots word new 0 none) me)
       fetches_ok slots id word k new me v g cs at lk has who is slots_are turned took asked to =
           let mine : List (ℕ × T) = (slot_at k g.slot, g.at_hand.value) ∷ cs in
@@ -340,12 +340,12 @@ module _ {T : Type 0} (fits : T → Type 0) (rises : T → T → Type 0) (o : T)
           let y = gets_at fits rises o same along (Cell s r k) c.0 t (omega arith) 3 v.who (Reader g, own) new known.1 h.0 h.1 h.2 h.3 h.4 in
           let out = subst (λ z. Outcome Rule (Cell s r k) t v.who (Reader g, own) new (then z t)) (found s r k)
           (y.0, y.1, y.2, y.3, y.4, (y.5, y.6)) in
-          let a = timed s r id k new v (Reader g) own cs (then nn) seen lk has is inside (subst (λ zs. IsTurned v.held (held_slots zs)) slots_are turned)
+          let a = timed s r id k new v (Reader g) own cs (then nn) seen lk has is inside (subst (λ zs. IsRotated v.held (held_slots zs)) slots_are turned)
           out in
           (a.0, a.1, a.2, a.3, more nn (a.0, carried_after mine a.1) a.4)) in
           subst (λ (z : ℕ × Me T (View W)). Allows F slots id z.1 z.0 (λ _. new) (fetches fits rises (step slots z.0 new 0 none) z.1))
           (λ j. (sym at j, (sym who j, sym slots_are j))) here where
-            more : (m : ℕ) (u : Me T (View W)) → Tells Spent slot_at k v [] cs (λ t _ z. get_swapped fits rises (step 3 0 new 0 none)
+            more : (m : ℕ) (u : Me T (View W)) → StepTells Spent slot_at k v [] cs (λ t _ z. get_swapped fits rises (step 3 0 new 0 none)
                 (Reader g, (g.slot, g.at_hand.value) ∷ []) m z × (clock_of z.0 ≡ t)) 0 u →
                 fetches fits rises (step slots (word_at k 0) new 0 none) (Has (v ∷ []), (slot_at k g.slot, g.at_hand.value) ∷ cs) m u
             more m u h k' v' q x' ds w e is' held' asked' =

@@ -17,15 +17,15 @@ use Rattle.family_four_slot.specs.Family.{of_cell}
 use Rattle.family_triple.specs.Places.{triples}
 
 -- the same list, begun at another place
-abbrev pub IsTurned : {A : Type 0} → List A → List A → Type 0
-IsTurned {A} xs ys = (front : List A) × (back : List A) × (xs ≡ front ++ back) × (ys ≡ back ++ front)
+abbrev pub IsRotated : {A : Type 0} → List A → List A → Type 0
+IsRotated {A} xs ys = (front : List A) × (back : List A) × (xs ≡ front ++ back) × (ys ≡ back ++ front)
 
 module _ {T : Type 0} where
   -- the seat knows what this process does, and has the slots that the view says, from whichever on
   pub record HasProcess (me : Me T (View (TripleSight T))) (k : ℕ) (v : Process (TripleSight T)) : Type 0 where
     pub one : me.0 ≡ Has (v ∷ [])
     pub has : k < length v.parts
-    pub held : IsTurned v.held (held_slots me.1)
+    pub held : IsRotated v.held (held_slots me.1)
 
   -- it writes cell k with these notes, or reads it
   pub record HasWriter (me : Me T (View (TripleSight T))) (k : ℕ) (v : Process (TripleSight T)) (p : WriterNotes T) : Type 0 where

@@ -8,18 +8,18 @@ use Rattle.cell_triple.specs.declared.notes.WriterNotes.{WriterNotes}
 use Rattle.cell_triple.specs.declared.notes.ReaderNotes.{ReaderNotes}
 use Rattle.cell_live.specs.declared.sight.Sight.TheVariants.{Spent, Writer, Reader}
 use Rattle.cell_triple.specs.Steps.{TripleSight, first_writer, first_reader, receipt_for}
-use Rattle.family_live.specs.Accesses.{Writes, Reads}
+use Rattle.family_live.specs.Accesses.{WriteAccesses, ReadAccesses}
 use Rattle.family_four_slot.specs.declared.notes.Process.{Process}
 use Rattle.family_four_slot.specs.Family.{of_cell}
 use Rattle.family_four_slot.specs.Places.{place, writer_of}
 use Rattle.family_triple.specs.Places.{among, slot_at}
-use Rattle.family_triple.specs.Tables.{IsTurned}
+use Rattle.family_triple.specs.Tables.{IsRotated}
 
 module _ {T : Type 0} where
-  abbrev pub writes_by : WriterNotes T → Writes T
+  abbrev pub writes_by : WriterNotes T → WriteAccesses T
   writes_by p = record { items = p.written; times = p.times }
 
-  abbrev pub reads_by : ReaderNotes T → Reads T
+  abbrev pub reads_by : ReaderNotes T → ReadAccesses T
   reads_by g = record { answers = g.answers; numbers = g.numbers; known = g.known; told = g.told; heard = g.heard; times = g.times }
 
 module _ {T : Type 0} (o : T) (n : ℕ) where
@@ -30,10 +30,10 @@ module _ {T : Type 0} (o : T) (n : ℕ) where
   abbrev pub part_from : Process (TripleSight T) → ℕ → TripleSight T
   part_from v j = cond (nat_eq j v.who) Spent (of_cell Spent (place n j v.who) v.parts)
 
-  abbrev pub writes_to : Process (TripleSight T) → ℕ → Writes T
+  abbrev pub writes_to : Process (TripleSight T) → ℕ → WriteAccesses T
   writes_to v j = writes_by (writer_or (first_writer o) (part_to v j))
 
-  abbrev pub reads_from : Process (TripleSight T) → ℕ → Reads T
+  abbrev pub reads_from : Process (TripleSight T) → ℕ → ReadAccesses T
   reads_from v j = reads_by (reader_or (first_reader o) (part_from v j))
 
 module _ {T : Type 0} (o : T) where
@@ -64,7 +64,7 @@ module _ {T : Type 0} (o : T) where
   pub record IsAtRest (n : ℕ) (v : Process (TripleSight T)) (fills reads : List ℕ) (slots : List (ℕ × T)) : Type 0 where
     pub inside : v.who < n
     pub parts : length v.parts ≡ n * n
-    pub held : IsTurned v.held (held_slots slots)
+    pub held : IsRotated v.held (held_slots slots)
     pub many : length slots ≡ 2 * (n - 1)
     pub sized : (length fills ≡ 16) × (length reads ≡ 16)
     pub quiet : (k : ℕ) → writer_of n k ≢ v.who → receipt_for (of_cell Spent k v.parts) ≡ Spent

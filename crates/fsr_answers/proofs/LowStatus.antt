@@ -1,6 +1,6 @@
 -- An answer of `fsr` has status 0 or 1.
 use Rattle.std.proofs.Common.{ℕ, List, Result}
-use Rattle.fsr_runs.specs.Answers.{Gives, HasLowStatus}
+use Rattle.fsr_runs.specs.Answers.{GivesReply, HasLowStatus}
 use Rattle.fsr_runs.specs.declared.fault.Answer.{Answer}
 use Rattle.fsr_runs.specs.declared.fault.Fault.{Fault}
 use Rattle.fsr_words.specs.declared.command.Want.{Want}
@@ -12,10 +12,10 @@ use Rattle.fsr_check_answers.proofs.AnswerLemmas.{low_check}
 use Rattle.fsr_order_answers.proofs.AnswerLemmas.{low_order}
 use Rattle.fsr_play_answers.proofs.AnswerLemmas.{low_play}
 use Rattle.fsr_race_answers.proofs.AnswerLemmas.{low_race}
-use Rattle.fsr_answers.specs.Answers.{IsAnswer}
+use Rattle.fsr_answers.specs.Answers.{IsFsrAnswer}
 
 module _ {F S T : Type 0} (family : FamilyWords F (Posted Band) S T) where
-  pub low_answer : (command : Want) (bytes : List ℕ) (r : Result Answer Fault) → Gives (IsAnswer family command bytes) r → HasLowStatus r
+  pub low_answer : (command : Want) (bytes : List ℕ) (r : Result Answer Fault) → GivesReply (IsFsrAnswer family command bytes) r → HasLowStatus r
   low_answer want.Check bytes r answered = low_check bytes r answered
   low_answer want.Order bytes r answered = low_order bytes r answered
   low_answer want.Play bytes r answered = low_play bytes r answered

@@ -8,12 +8,12 @@ use Rattle.lines_answers.specs.Kinds.{are_lines}
 use Rattle.history_core.specs.declared.band.Band.{Band}
 use Rattle.family_live.specs.declared.family.Family.{Ghosts as FamilyWords}
 use Rattle.board_live.specs.declared.record.Posted.{Posted}
-use Rattle.fsr_answers.specs.Answers.{IsAnswer}
+use Rattle.fsr_answers.specs.Answers.{IsFsrAnswer}
 
 -- what the command makes of the input: words that are no command print nothing, with status 2
-abbrev pub IsOutcome : {F S T : Type 0} → FamilyWords F (Posted Band) S T → Option Want → List ℕ → Answer → Type 0
-IsOutcome family None bytes told = told ≡ nothing_asked
-IsOutcome family (Some want) bytes told = IsToldBy (IsAnswer family want) bytes told
+abbrev pub IsFsrOutcome : {F S T : Type 0} → FamilyWords F (Posted Band) S T → Option Want → List ℕ → Answer → Type 0
+IsFsrOutcome family None bytes told = told ≡ nothing_asked
+IsFsrOutcome family (Some want) bytes told = IsToldBy (IsFsrAnswer family want) bytes told
 
 -- whether an input has no bound: a log in lines, whose order is wanted
 abbrev pub is_unbounded : Option Want → List ℕ → Bool

@@ -1,8 +1,8 @@
 ghost use Rattle.std.specs.Prelude.{◌≡◌, ◌≤◌, ◌+◌, Some, map};
-ghost use Rattle.fsr_runs.specs.Answers.{Gives};
+ghost use Rattle.fsr_runs.specs.Answers.{GivesReply};
 ghost use Rattle.fsr_runs.specs.Run.{CountsTaking, Fails, Runs, TakesDocument, TellsUnlessTaken};
-ghost use Rattle.fsr_answers.specs.Answers.{IsAnswer};
-ghost use Rattle.fsr_answers.specs.Run.{is_unbounded, IsOutcome};
+ghost use Rattle.fsr_answers.specs.Answers.{IsFsrAnswer};
+ghost use Rattle.fsr_answers.specs.Run.{is_unbounded, IsFsrOutcome};
 ghost use Rattle.fsr_words.specs.Command.{command_of};
 ghost use Rattle.fsr_streams.specs.Stream.{HasRoom};
 
@@ -30,7 +30,7 @@ pub fn answer<F: SharedFamily<Posted<Band>>, R: Threads + Sync>(
 where
     F::Seat: Send,
     F::Told: Send,
-    ensures { Gives (IsAnswer ⟦<F as Family<Posted<Band>>>⟧ want bytes.now) result }
+    ensures { GivesReply (IsFsrAnswer ⟦<F as Family<Posted<Band>>>⟧ want bytes.now) result }
 {
     match want {
         Want::Check => check(alloc, bytes),
@@ -57,7 +57,7 @@ where
     requires input { HasRoom (I.failed input.old) }
     requires out { HasRoom (O.failed out.old) }
     requires faults { HasRoom (E.failed faults.old) }
-    ensures runs { Runs (IsOutcome ⟦<F as Family<Posted<Band>>>⟧ (command_of (map S.text words.now)))
+    ensures runs { Runs (IsFsrOutcome ⟦<F as Family<Posted<Band>>>⟧ (command_of (map S.text words.now)))
         (is_unbounded (command_of (map S.text words.now))) (I.remaining input.old) (I.remaining input.new)
         (O.contents out.old) (O.contents out.new) result }
     ensures fails { Fails (I.failed input.old) (I.failed input.new) (O.failed out.old)
@@ -84,7 +84,7 @@ where
     requires input { HasRoom (I.failed input.old) }
     requires out { HasRoom (O.failed out.old) }
     requires faults { HasRoom (E.failed faults.old) }
-    ensures runs { Runs (IsOutcome ⟦<F as Family<Posted<Band>>>⟧ (Some want)) (is_unbounded (Some want)) (I.remaining input.old) (I.remaining input.new)
+    ensures runs { Runs (IsFsrOutcome ⟦<F as Family<Posted<Band>>>⟧ (Some want)) (is_unbounded (Some want)) (I.remaining input.old) (I.remaining input.new)
         (O.contents out.old) (O.contents out.new) result }
     ensures fails { Fails (I.failed input.old) (I.failed input.new) (O.failed out.old)
         (O.failed out.new) result }

@@ -6,7 +6,7 @@ use Rattle.history_core.specs.declared.history.Verdict.TheVariants.{Lawful, List
 use Rattle.history_text.specs.Check.{check_of}
 use Rattle.history_text.specs.declared.document.CheckDocument.{CheckDocument}
 use Rattle.fsr_refusals.specs.declared.refusal.DocError.{DocError}
-use Rattle.fsr_runs.specs.Answers.{AnswersReading, Gives, HasLowStatus}
+use Rattle.fsr_runs.specs.Answers.{AnswersReading, GivesReply, HasLowStatus}
 use Rattle.fsr_runs.specs.declared.fault.Answer.{Answer}
 use Rattle.fsr_runs.specs.declared.fault.Fault.{Fault}
 use Rattle.history_core.proofs.Bands.{HaveSameFields, fields_are_equality}
@@ -36,6 +36,6 @@ low_reading : (d : Result CheckDocument DocError) (a : Answer) → AnswersReadin
 low_reading (Ok document) a answered = low_verdict answered.0 a answered.2
 low_reading (Err refusal) a answered = absurd (cc)
 
-pub low_check : (bytes : List ℕ) (r : Result Answer Fault) → Gives (IsCheckAnswer bytes) r → HasLowStatus r
+pub low_check : (bytes : List ℕ) (r : Result Answer Fault) → GivesReply (IsCheckAnswer bytes) r → HasLowStatus r
 low_check bytes (Ok a) answered = low_reading (check_of bytes) a answered
 low_check bytes (Err e) refused = search rules

@@ -1,5 +1,5 @@
 ghost use Rattle.std.specs.Prelude.{◌≡◌, IfOk};
-ghost use Rattle.fsr_runs.specs.Answers.{Gives};
+ghost use Rattle.fsr_runs.specs.Answers.{GivesReply};
 ghost use Rattle.fsr_check_answers.specs.Check.{AnswersCheck, IsCheckAnswer, printed, status_of};
 
 use fsr_runs::{Answer, Fault};
@@ -9,7 +9,7 @@ use std::alloc::{AllocError, Global};
 
 /// The answer of the command `check` to the bytes of a document: the verdict on its order.
 pub fn check(alloc: Global, bytes: &[u8]) -> Result<Answer, Fault>
-    ensures { Gives (IsCheckAnswer bytes.now) result }
+    ensures { GivesReply (IsCheckAnswer bytes.now) result }
 {
     let document = read_check_leaking(alloc, bytes)?;
     check_history(alloc, &document)
@@ -17,7 +17,7 @@ pub fn check(alloc: Global, bytes: &[u8]) -> Result<Answer, Fault>
 
 /// The verdict on the order of a document.
 fn check_history(alloc: Global, document: &CheckDocument) -> Result<Answer, Fault>
-    ensures { Gives (AnswersCheck document.now) result }
+    ensures { GivesReply (AnswersCheck document.now) result }
 {
     let verdict = check_order(&document.history, document.order.as_slice());
     let answer = print(alloc, verdict)?;

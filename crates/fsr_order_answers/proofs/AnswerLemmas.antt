@@ -1,6 +1,6 @@
 -- The answer to a log has status 0 or 1.
 use Rattle.std.proofs.Common.{rules, arith, ◌≡◌, ◌≤◌, ℕ, List, Bool, true, false, Result, Ok, Err, ap, sym, subst}
-use Rattle.fsr_runs.specs.Answers.{AnswersReading, Gives, HasLowStatus}
+use Rattle.fsr_runs.specs.Answers.{AnswersReading, GivesReply, HasLowStatus}
 use Rattle.fsr_runs.specs.declared.fault.Answer.{Answer}
 use Rattle.fsr_runs.specs.declared.fault.Fault.{Fault}
 use Rattle.history_core.specs.declared.band.Band.{Band}
@@ -24,13 +24,13 @@ low_log : (d : Result (History Band) DocError) (a : Answer) → AnswersReading A
 low_log (Ok log) a answered = low_search answered.0 a answered.2
 low_log (Err refusal) a answered = absurd (cc)
 
-low_answer : (bytes : List ℕ) (r : Result Answer Fault) → Gives (IsLogAnswer bytes) r → HasLowStatus r
+low_answer : (bytes : List ℕ) (r : Result Answer Fault) → GivesReply (IsLogAnswer bytes) r → HasLowStatus r
 low_answer bytes (Ok a) answered = low_log (log_of bytes) a answered
 low_answer bytes (Err e) refused = search rules
 
-low_by : (in_lines : Bool) (bytes : List ℕ) (r : Result Answer Fault) → Gives (IsAnswerBy in_lines bytes) r → HasLowStatus r
+low_by : (in_lines : Bool) (bytes : List ℕ) (r : Result Answer Fault) → GivesReply (IsAnswerBy in_lines bytes) r → HasLowStatus r
 low_by true bytes r answered = low_lines bytes r answered
 low_by false bytes r answered = low_answer bytes r answered
 
-pub low_order : (bytes : List ℕ) (r : Result Answer Fault) → Gives (IsOrderAnswer bytes) r → HasLowStatus r
+pub low_order : (bytes : List ℕ) (r : Result Answer Fault) → GivesReply (IsOrderAnswer bytes) r → HasLowStatus r
 low_order bytes r answered = low_by (are_lines bytes) bytes r answered

@@ -1,7 +1,7 @@
 ghost use Rattle.std.specs.Prelude.{◌≡◌, IfOk};
-ghost use Rattle.fsr_runs.specs.Answers.{Gives};
+ghost use Rattle.fsr_runs.specs.Answers.{GivesReply};
 ghost use Rattle.fsr_order_answers.specs.Order.{AnswersOrder, IsLogAnswer, IsOrderAnswer, printed, status_of};
-ghost use Rattle.history_text.specs.Refusals.{Gives as Reads};
+ghost use Rattle.history_text.specs.Refusals.{GivesReply as Reads};
 ghost use Rattle.log_text.specs.Log.{CanBeSearched, log_of};
 
 use fsr_runs::{Answer, Fault};
@@ -17,7 +17,7 @@ use std::mem::forget;
 /// The answer of the command `order` to the bytes of a document: a lawful order of its log, or the reason why there is none. A log in
 /// lines is told by its first line.
 pub fn order(alloc: Global, bytes: &[u8]) -> Result<Answer, Fault>
-    ensures { Gives (IsOrderAnswer bytes.now) result }
+    ensures { GivesReply (IsOrderAnswer bytes.now) result }
 {
     let in_lines = are_lines(alloc, bytes)?;
     if in_lines {
@@ -29,7 +29,7 @@ pub fn order(alloc: Global, bytes: &[u8]) -> Result<Answer, Fault>
 
 /// The answer to a document of kind `log`.
 fn order_document(alloc: Global, bytes: &[u8]) -> Result<Answer, Fault>
-    ensures { Gives (IsLogAnswer bytes.now) result }
+    ensures { GivesReply (IsLogAnswer bytes.now) result }
 {
     let log = read(alloc, bytes)?;
     order_log(alloc, &log)
@@ -51,7 +51,7 @@ fn read(alloc: Global, bytes: &[u8]) -> Result<History<Band>, DocError>
 /// What is found of a log.
 fn order_log(alloc: Global, log: &History<Band>) -> Result<Answer, Fault>
     requires { CanBeSearched log.now }
-    ensures { Gives (AnswersOrder log.now) result }
+    ensures { GivesReply (AnswersOrder log.now) result }
 {
     let search = search_log(alloc, log)?;
     let answer = print(alloc, &search)?;

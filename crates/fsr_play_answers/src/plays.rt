@@ -1,7 +1,7 @@
 //! Played schedules: the report of each, printed.
 ghost use Rattle.std.specs.Prelude.{IfOk};
-ghost use Rattle.fsr_runs.specs.Answers.{Gives};
-ghost use Rattle.history_text.specs.Refusals.{Gives as Reads};
+ghost use Rattle.fsr_runs.specs.Answers.{GivesReply};
+ghost use Rattle.history_text.specs.Refusals.{GivesReply as Reads};
 ghost use Rattle.matrix_core.specs.Runs.{CanPlay};
 ghost use Rattle.schedule_text.specs.Document.{schedule_of};
 ghost use Rattle.schedule_text.specs.Players.{CanBePlayed};
@@ -23,7 +23,7 @@ use std::mem::forget;
 
 /// The answer of the command `play` to the bytes of a document: the report of its schedule.
 pub fn play(alloc: Global, bytes: &[u8]) -> Result<Answer, Fault>
-    ensures { Gives (IsPlayAnswer bytes.now) result }
+    ensures { GivesReply (IsPlayAnswer bytes.now) result }
 {
     match read(alloc, bytes)? {
         ScheduleDocument::Cell(schedule) => cell(alloc, &schedule),
@@ -47,7 +47,7 @@ fn read(alloc: Global, bytes: &[u8]) -> Result<ScheduleDocument, DocError>
 
 /// The report of a cell's schedule.
 fn cell(alloc: Global, schedule: &CellSchedule<Band>) -> Result<Answer, Fault>
-    ensures { Gives (AnswersCell schedule.now) result }
+    ensures { GivesReply (AnswersCell schedule.now) result }
 {
     let report = play_cell(alloc, schedule)?;
     let answer = print(alloc, Report::Cell(report), 0)?;
@@ -57,7 +57,7 @@ fn cell(alloc: Global, schedule: &CellSchedule<Band>) -> Result<Answer, Fault>
 /// The report of a matrix's schedule, with the terms told where it is titled.
 fn matrix(alloc: Global, schedule: &MatrixSchedule<Band>, titled: bool) -> Result<Answer, Fault>
     requires { CanPlay schedule.now.terms }
-    ensures { Gives (AnswersMatrix schedule.now titled) result }
+    ensures { GivesReply (AnswersMatrix schedule.now titled) result }
 {
     let report = play_matrix(alloc, schedule)?;
     let answer = print(alloc, Report::Matrix { report, titled }, 0)?;
@@ -67,7 +67,7 @@ fn matrix(alloc: Global, schedule: &MatrixSchedule<Band>, titled: bool) -> Resul
 /// The report of a composed board's schedule, likewise.
 fn board(alloc: Global, schedule: &BoardSchedule<Band>, titled: bool) -> Result<Answer, Fault>
     requires { CanPlay schedule.now.terms }
-    ensures { Gives (AnswersBoard schedule.now titled) result }
+    ensures { GivesReply (AnswersBoard schedule.now titled) result }
 {
     let report = play_board(alloc, schedule)?;
     let answer = print(alloc, Report::Board { report, titled }, 0)?;

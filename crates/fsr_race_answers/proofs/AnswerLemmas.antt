@@ -1,6 +1,6 @@
 -- The answer to a race has status 0 or 1.
 use Rattle.std.proofs.Common.{rules, ◌≡◌, ◌≤◌, ℕ, List, Option, Some, None, Result, Ok, Err, ap, arith}
-use Rattle.fsr_runs.specs.Answers.{AnswersReading, Gives, HasLowStatus}
+use Rattle.fsr_runs.specs.Answers.{AnswersReading, GivesReply, HasLowStatus}
 use Rattle.fsr_runs.specs.declared.fault.Answer.{Answer}
 use Rattle.fsr_runs.specs.declared.fault.Fault.{Fault}
 use Rattle.history_core.specs.declared.band.Band.{Band}
@@ -30,6 +30,6 @@ module _ {F S T : Type 0} (family : FamilyWords F (Posted Band) S T) where
       rw same (race_is_low answered.0)
   answer_is_low (Err refusal) a answered = absurd (cc)
 
-  pub low_race : (bytes : List ℕ) (r : Result Answer Fault) → Gives (IsRaceAnswer family bytes) r → HasLowStatus r
+  pub low_race : (bytes : List ℕ) (r : Result Answer Fault) → GivesReply (IsRaceAnswer family bytes) r → HasLowStatus r
   low_race bytes (Ok a) answered = answer_is_low (race_of bytes) a answered
   low_race bytes (Err e) refused = search rules

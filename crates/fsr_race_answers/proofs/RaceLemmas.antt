@@ -29,7 +29,7 @@ use Rattle.board_tasks.specs.Jobs.{AllReady, EachStep}
 use Rattle.board_tasks.specs.Lanes.{AreLanes, IsLane}
 use Rattle.board_tasks.specs.Logs.{Obeys}
 use Rattle.board_tasks.specs.Tasks.{AreCalls, Ran, Replies}
-use Rattle.board_tasks.specs.Worked.{AreAtomic, HaveWorked, logs_of}
+use Rattle.board_tasks.specs.Worked.{AreAtomicLogs, HaveWorked, logs_of}
 use Rattle.board_live.proofs.Passing.{all_new}
 use Rattle.board_tasks.specs.LogOrders.{LogsInOrder}
 use Rattle.board_tasks.proofs.LaneLists.{all_ready, lane_at, lanes_length}
@@ -169,7 +169,7 @@ module _ {F S T : Type 0} (family : FamilyWords F (Posted Band) S T) where
       (broken : Option (ℕ × ℕ)) → n ≡ length scripts
       → IsNew family fits n limit (record { stamp = first_stamp; item = opening }) board passes → AreLanes fits passes scripts lanes
       → before ≡ lanes → EachStep (Ran family fits may_call may_stop board) 0 before after → ended ≡ after
-      → map (λ v. v.items) logs ≡ logs_of ended → IsGreatest (map (λ l. l.pass) ended) last → AreAtomic family board ended last
+      → map (λ v. v.items) logs ≡ logs_of ended → IsGreatest (map (λ l. l.pass) ended) last → AreAtomicLogs family board ended last
       → LogsInOrder board.first.item board.limit (logs_of ended) last
       → counted ≡ logs → tasks ≡ map (λ v. counts_of v.items) counted
       → checked ≡ logs → IsOrigin same_band opening (map (λ v. v.items) checked) origin

@@ -19,7 +19,7 @@ use Rattle.board_tasks.specs.declared.lane.Reply.TheVariants.{Written, Seen, End
 use Rattle.board_tasks.specs.Jobs.{EachStep}
 use Rattle.board_tasks.specs.Lanes.{AreLanes}
 use Rattle.board_tasks.specs.Tasks.{Ran}
-use Rattle.board_tasks.specs.Worked.{AreAtomic, logs_of}
+use Rattle.board_tasks.specs.Worked.{AreAtomicLogs, logs_of}
 use Rattle.board_origins.specs.declared.origin.Origin.{Origin}
 use Rattle.board_origins.specs.declared.origin.Origin.TheVariants.{Sound, Broken}
 use Rattle.board_origins.specs.Origins.{IsOrigin}
@@ -82,7 +82,7 @@ module _ {F S T : Type 0} (family : FamilyWords F (Posted Band) S T) where
     pub begins : AreLanes fits passes scripts lanes
     pub ran : EachStep (Ran family fits may_call may_stop board) 0 lanes ended
     pub greatest : IsGreatest (map (λ l. l.pass) ended) last
-    pub atomic : AreAtomic family board ended last
+    pub atomic : AreAtomicLogs family board ended last
     pub ordered : LogsInOrder opening limit (logs_of ended) last
     pub checked : IsOrigin same_band opening (logs_of ended) Sound
     pub told : report ≡ Race (counts_in ended) None

@@ -1,11 +1,11 @@
 //! Races: the scripts of a document, each run by a task of its own over one board.
 ghost use Rattle.std.specs.Prelude.{◌≡◌, ℕ, IfErr, IfOk, map};
 ghost use Rattle.schedule_text.specs.Players.{CanRace};
-ghost use Rattle.fsr_runs.specs.Answers.{Gives};
+ghost use Rattle.fsr_runs.specs.Answers.{GivesReply};
 ghost use Rattle.fsr_race_answers.specs.Answers.{AnswersRace, IsRaceAnswer, race_status};
 ghost use Rattle.fsr_race_answers.specs.Races.{CountsAll, IsRace, broken_at, counts_of, is_refused, is_seen, is_written, replies};
 ghost use Rattle.board_tasks.specs.Tasks.{Permitted};
-ghost use Rattle.history_text.specs.Refusals.{Gives as Reads};
+ghost use Rattle.history_text.specs.Refusals.{GivesReply as Reads};
 ghost use Rattle.schedule_text.specs.Document.{race_of};
 ghost use Rattle.fsr_runs.specs.declared.fault.Fault.TheVariants.{NoMemory};
 
@@ -33,7 +33,7 @@ pub fn run_race<R: Threads + Sync, F: SharedFamily<Posted<Band>>>(
 where
     F::Seat: Send,
     F::Told: Send,
-    ensures { Gives (IsRaceAnswer ⟦<F as Family<Posted<Band>>>⟧ bytes.now) result }
+    ensures { GivesReply (IsRaceAnswer ⟦<F as Family<Posted<Band>>>⟧ bytes.now) result }
 {
     let document = read(alloc, bytes)?;
     race_to_the_end::<R, F>(rt, alloc, document)
@@ -61,7 +61,7 @@ where
     F::Seat: Send,
     F::Told: Send,
     requires { CanRace document.opening document.limit document.scripts }
-    ensures { Gives (AnswersRace ⟦<F as Family<Posted<Band>>>⟧ document) result }
+    ensures { GivesReply (AnswersRace ⟦<F as Family<Posted<Band>>>⟧ document) result }
 {
     let RaceDocument {
         opening,

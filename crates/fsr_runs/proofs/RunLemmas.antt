@@ -5,9 +5,9 @@ use Rattle.std.proofs.lemmas.List.{take_all}
 use Rattle.std.proofs.KnownBytes.{Consumes-nil, Appends-nil}
 use Rattle.std.specs.Io.{StartsWith}
 use Rattle.std.specs.Io.KnownBytes.{Appends}
-use Rattle.fsr_streams.specs.Transfer.{IsWhole as IsWholeInput, TakesBytes as TakesInput}
-use Rattle.fsr_runs.specs.Answers.{Gives, HasLowStatus}
-use Rattle.fsr_runs.specs.Run.{CountsTaking, Fails, GivesAnswer, IsToldBy, IsWhole, never, Runs, TakesBytes, TakesDocument, fault_status, nothing_asked}
+use Rattle.fsr_streams.specs.Transfer.{IsWholeInput as IsWholeInput, TakesInBound as TakesInput}
+use Rattle.fsr_runs.specs.Answers.{GivesReply, HasLowStatus}
+use Rattle.fsr_runs.specs.Run.{CountsTaking, Fails, GivesAnswer, IsToldBy, IsWholeInput, never, Runs, TakesInBound, TakesDocument, fault_status, nothing_asked}
 use Rattle.fsr_runs.specs.declared.fault.Answer.{Answer}
 use Rattle.fsr_runs.specs.declared.fault.Fault.{Fault}
 use Rattle.fsr_runs.specs.declared.fault.Fault.TheVariants as fault
@@ -16,7 +16,7 @@ use Rattle.fsr_runs.specs.declared.fault.Fault.TheVariants as fault
 
 -- up to its bound an input was taken as a document is
 pub document_taken : (old new : Option (List ℕ)) (taken : List ℕ) → TakesInput old new taken → IsWholeInput taken new
-    → TakesBytes never old new taken × IsWhole never taken new
+    → TakesInBound never old new taken × IsWholeInput never taken new
 document_taken old new taken takes (inl long) = ((takes.0, λ bounded. takes.1), inr (refl, long))
 document_taken old new taken takes (inr end) = ((takes.0, λ bounded. takes.1), inl end)
 
@@ -28,7 +28,7 @@ document_untaken old new status taken = (taken.0, (taken.1.0, λ bounded. taken.
 
 module _ (IsOutcome : List ℕ → Answer → Type 0) (is_unbounded : List ℕ → Bool) where
   -- memory ran out, and nothing went out
-  ends_without_memory : (in_old in_new out : Option (List ℕ)) (taken : List ℕ) → TakesBytes is_unbounded in_old in_new taken
+  ends_without_memory : (in_old in_new out : Option (List ℕ)) (taken : List ℕ) → TakesInBound is_unbounded in_old in_new taken
       → Runs IsOutcome is_unbounded in_old in_new out out 4
   ends_without_memory in_old in_new out taken takes = record {
     taken = taken;
@@ -61,7 +61,7 @@ module _ (IsOutcome : List ℕ → Answer → Type 0) (is_unbounded : List ℕ �
   }
 
   -- a read failed
-  ends_unread : (in_old in_new out : Option (List ℕ)) (taken : List ℕ) → TakesBytes is_unbounded in_old in_new taken
+  ends_unread : (in_old in_new out : Option (List ℕ)) (taken : List ℕ) → TakesInBound is_unbounded in_old in_new taken
       → Runs IsOutcome is_unbounded in_old in_new out out 5
   ends_unread in_old in_new out taken takes = record {
     taken = taken;
@@ -110,7 +110,7 @@ fails_unused input out status ended = record {
 -- ---- runs with an answer
 
 module _ (IsReply : List ℕ → Result Answer Fault → Type 0) (is_unbounded : List ℕ → Bool) (in_old in_new : Option (List ℕ)) (taken : List ℕ)
-    (takes : TakesBytes is_unbounded in_old in_new taken) (whole : IsWhole is_unbounded taken in_new) where
+    (takes : TakesInBound is_unbounded in_old in_new taken) (whole : IsWholeInput is_unbounded taken in_new) where
   -- a fault is answered, and nothing went out
   ends_with_fault : (out : Option (List ℕ)) (f : Fault) → IsReply taken (Err f)
       → Runs (IsToldBy IsReply) is_unbounded in_old in_new out out (fault_status f)
@@ -126,7 +126,7 @@ module _ (IsReply : List ℕ → Result Answer Fault → Type 0) (is_unbounded :
     whole = λ not_two not_four not_five. whole;
   }
 
-  ends_refused : (out : Option (List ℕ)) (f : Fault) → Gives (IsReply taken) (Err f)
+  ends_refused : (out : Option (List ℕ)) (f : Fault) → GivesReply (IsReply taken) (Err f)
       → Runs (IsToldBy IsReply) is_unbounded in_old in_new out out (fault_status f)
   ends_refused out fault.NoMemory refused = ends_without_memory (IsToldBy IsReply) is_unbounded in_old in_new out taken takes
   ends_refused out (fault.Document refusal) refused = ends_with_fault out (fault.Document refusal) (refused (search rules))
@@ -165,7 +165,7 @@ module _ (IsReply : List ℕ → Result Answer Fault → Type 0) (is_unbounded :
   }
 
   ends_given : (out_old out_new : Option (List ℕ)) (failed_old failed_new status : ℕ) (reply : Result Answer Fault)
-      → Gives (IsReply taken) reply → HasLowStatus reply → GivesAnswer reply out_old out_new failed_old failed_new status
+      → GivesReply (IsReply taken) reply → HasLowStatus reply → GivesAnswer reply out_old out_new failed_old failed_new status
       → Runs (IsToldBy IsReply) is_unbounded in_old in_new out_old out_new status
   ends_given out_old out_new failed_old failed_new status (Ok a) answered low (inl told) =
       subst (Runs (IsToldBy IsReply) is_unbounded in_old in_new out_old out_new) (sym told.2) (ends_told out_old out_new a answered low told.0)
@@ -180,11 +180,11 @@ module _ (IsReply : List ℕ → Result Answer Fault → Type 0) (is_unbounded :
 -- the input was answered, as these bytes, and the answer given
 pub ends_answered : (IsReply : List ℕ → Result Answer Fault → Type 0) (is_unbounded : List ℕ → Bool) (in_old in_new out_old out_new : Option (List ℕ)) (taken given : List ℕ)
     (failed_old failed_new status : ℕ) (reply : Result Answer Fault)
-    → TakesBytes is_unbounded in_old in_new taken × IsWhole is_unbounded taken in_new → given ≡ taken → Gives (IsReply given) reply → HasLowStatus reply
+    → TakesInBound is_unbounded in_old in_new taken × IsWholeInput is_unbounded taken in_new → given ≡ taken → GivesReply (IsReply given) reply → HasLowStatus reply
     → GivesAnswer reply out_old out_new failed_old failed_new status → Runs (IsToldBy IsReply) is_unbounded in_old in_new out_old out_new status
 ends_answered IsReply is_unbounded in_old in_new out_old out_new taken given failed_old failed_new status reply takes same answered low told =
     ends_given IsReply is_unbounded in_old in_new taken takes.0 takes.1 out_old out_new failed_old failed_new status reply
-    (subst (λ bytes. Gives (IsReply bytes) reply) same answered) low told
+    (subst (λ bytes. GivesReply (IsReply bytes) reply) same answered) low told
 
 low_fault : (f : Fault) → fault_status f ≤ 4
 low_fault fault.NoMemory = omega arith

@@ -11,9 +11,9 @@ AnswersReading Answers (Ok document) reply = Answers document reply
 AnswersReading Answers (Err refusal) reply = reply ≡ Err (fault.Document refusal)
 
 -- what a call returned is such a reply, unless memory ran out
-abbrev pub Gives : (Result Answer Fault → Type 0) → Result Answer Fault → Type 0
-Gives IsReply (Ok answer) = IsReply (Ok answer)
-Gives IsReply (Err e) = e ≢ fault.NoMemory → IsReply (Err e)
+abbrev pub GivesReply : (Result Answer Fault → Type 0) → Result Answer Fault → Type 0
+GivesReply IsReply (Ok answer) = IsReply (Ok answer)
+GivesReply IsReply (Err e) = e ≢ fault.NoMemory → IsReply (Err e)
 
 -- an answer has status 0 or 1
 abbrev pub HasLowStatus : Result Answer Fault → Type 0

@@ -37,12 +37,12 @@ abbrev pub never : List ℕ → Bool
 never taken = false
 
 -- These bytes were taken, and no more than a run takes, unless they are of a kind without a bound.
-abbrev pub TakesBytes : (List ℕ → Bool) → Option (List ℕ) → Option (List ℕ) → List ℕ → Type 0
-TakesBytes is_unbounded old new taken = Consumes old new taken × (is_unbounded taken ≡ false → length taken ≤ most_taken)
+abbrev pub TakesInBound : (List ℕ → Bool) → Option (List ℕ) → Option (List ℕ) → List ℕ → Type 0
+TakesInBound is_unbounded old new taken = Consumes old new taken × (is_unbounded taken ≡ false → length taken ≤ most_taken)
 
 -- the input was taken to its end, or, where it has a bound, up to that
-abbrev pub IsWhole : (List ℕ → Bool) → List ℕ → Option (List ℕ) → Type 0
-IsWhole is_unbounded taken left = IsAtEnd left ⊎ ((is_unbounded taken ≡ false) × (length taken ≡ most_taken))
+abbrev pub IsWholeInput : (List ℕ → Bool) → List ℕ → Option (List ℕ) → Type 0
+IsWholeInput is_unbounded taken left = IsAtEnd left ⊎ ((is_unbounded taken ≡ false) × (length taken ≡ most_taken))
 
 -- A run ended with this status, in which such an outcome comes of the input, which is taken to its end where it is of a kind without a
 -- bound. in_old and in_new are the bytes that were left of the input before and after, out_old and out_new those that had gone out.
@@ -54,12 +54,12 @@ pub record Runs (IsOutcome : List ℕ → Answer → Type 0) (is_unbounded : Lis
   pub at_most : is_unbounded taken ≡ false → length taken ≤ most_taken
   pub sends : Appends out_old out_new sent
   -- what went out is a front of the text for the whole input, also after a failed write
-  pub front : (sent ≡ []) ⊎ (IsFront IsOutcome taken sent × IsWhole is_unbounded taken in_new)
+  pub front : (sent ≡ []) ⊎ (IsFront IsOutcome taken sent × IsWholeInput is_unbounded taken in_new)
   -- with statuses 2 to 4 nothing goes out
   pub silent : 2 ≤ status → status ≤ 4 → sent ≡ []
   -- but for want of memory and failed streams, the text goes out whole, with its status
   pub told : status ≢ 4 → status ≢ 5 → IsOutcome taken (record { text = sent; status = status })
-  pub whole : status ≢ 2 → status ≢ 4 → status ≢ 5 → IsWhole is_unbounded taken in_new
+  pub whole : status ≢ 2 → status ≢ 4 → status ≢ 5 → IsWholeInput is_unbounded taken in_new
 
 -- The failures of the input and of the output before and after: status 5 is answered exactly where one more was counted, and
 -- both together count one more at most.
@@ -71,13 +71,13 @@ pub record Fails (in_old in_new out_old out_new status : ℕ) : Type 0 where
 
 -- the input was taken whole, or as far as it was before the run ended
 abbrev pub TakesDocument : (List ℕ → Bool) → Option (List ℕ) → Option (List ℕ) → Result (Vec ℕ Global) ℕ → Type 0
-TakesDocument is_unbounded old new (Ok v) = TakesBytes is_unbounded old new v.items × IsWhole is_unbounded v.items new
-TakesDocument is_unbounded old new (Err status) = (taken : List ℕ) × TakesBytes is_unbounded old new taken
+TakesDocument is_unbounded old new (Ok v) = TakesInBound is_unbounded old new v.items × IsWholeInput is_unbounded v.items new
+TakesDocument is_unbounded old new (Err status) = (taken : List ℕ) × TakesInBound is_unbounded old new taken
 
 -- the rest of the input was taken, and stands behind what had been taken; or some of it was
-abbrev pub TakesRest : Option (List ℕ) → Option (List ℕ) → List ℕ → Result (Vec ℕ Global) ℕ → Type 0
-TakesRest old new before (Ok v) = (taken : List ℕ) × Consumes old new taken × (v.items ≡ before ++ taken) × IsAtEnd new
-TakesRest old new before (Err status) = (taken : List ℕ) × Consumes old new taken
+abbrev pub TakesRestOf : Option (List ℕ) → Option (List ℕ) → List ℕ → Result (Vec ℕ Global) ℕ → Type 0
+TakesRestOf old new before (Ok v) = (taken : List ℕ) × Consumes old new taken × (v.items ≡ before ++ taken) × IsAtEnd new
+TakesRestOf old new before (Err status) = (taken : List ℕ) × Consumes old new taken
 
 -- the status is 5 where a read failed, and else that of want of memory
 abbrev pub CountsTaking : ℕ → ℕ → Result (Vec ℕ Global) ℕ → Type 0

@@ -1,5 +1,5 @@
 ghost use Rattle.std.specs.Prelude.{◌≤◌, ◌+◌, ℕ, List, Result};
-ghost use Rattle.fsr_runs.specs.Answers.{Gives, HasLowStatus};
+ghost use Rattle.fsr_runs.specs.Answers.{GivesReply, HasLowStatus};
 ghost use Rattle.fsr_runs.specs.Run.{Fails, IsToldBy, never, Runs};
 ghost use Rattle.fsr_runs.specs.declared.fault.Answer.{Answer};
 ghost use Rattle.fsr_runs.specs.declared.fault.Fault.{Fault};
@@ -17,7 +17,7 @@ pub trait Command {
 
     /// The reply to the bytes of a document, whose status is 0 or 1 where there is an answer.
     fn reply(&self, alloc: Global, bytes: &[u8]) -> Result<Answer, Fault>
-        ensures gives { Gives (is_reply self.now bytes.now) result }
+        ensures gives { GivesReply (is_reply self.now bytes.now) result }
         ensures low { HasLowStatus result };
 }
 

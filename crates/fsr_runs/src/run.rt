@@ -1,5 +1,5 @@
 ghost use Rattle.std.specs.Prelude.{◌≡◌, ◌≤◌, ◌+◌, ◌⊎◌};
-ghost use Rattle.fsr_runs.specs.Run.{CountsTaking, fault_status, GivesAnswer, never, TakesDocument, TakesRest, TellsUnlessTaken};
+ghost use Rattle.fsr_runs.specs.Run.{CountsTaking, fault_status, GivesAnswer, never, TakesDocument, TakesRestOf, TellsUnlessTaken};
 ghost use Rattle.fsr_streams.specs.Stream.{HasRoom};
 
 use crate::{Answer, Fault};
@@ -58,7 +58,7 @@ pub fn take_rest<I: Source, E: Sink>(
 ) -> Result<Vec<u8>, u8>
     requires input { HasRoom (I.failed input.old) }
     requires faults { HasRoom (E.failed faults.old) }
-    ensures taken { TakesRest (I.remaining input.old) (I.remaining input.new) front.items result }
+    ensures taken { TakesRestOf (I.remaining input.old) (I.remaining input.new) front.items result }
     ensures counts { CountsTaking (I.failed input.old) (I.failed input.new) result }
     ensures faults { TellsUnlessTaken (E.failed faults.old) (E.failed faults.new) result }
 {

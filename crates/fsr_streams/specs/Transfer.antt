@@ -18,9 +18,9 @@ IsWhole taken left = (length taken ≡ most_taken) ⊎ IsAtEnd left
 abbrev pub TakesBytes : Option (List ℕ) → Option (List ℕ) → List ℕ → Type 0
 TakesBytes old new taken = Consumes old new taken × (length taken ≤ most_taken)
 
-abbrev pub Takes : Option (List ℕ) → Option (List ℕ) → Result (Vec ℕ Global) InputFault → Type 0
-Takes old new (Ok v) = TakesBytes old new v.items × IsWhole v.items new
-Takes old new (Err e) = (taken : List ℕ) × TakesBytes old new taken
+abbrev pub TakesInput : Option (List ℕ) → Option (List ℕ) → Result (Vec ℕ Global) InputFault → Type 0
+TakesInput old new (Ok v) = TakesBytes old new v.items × IsWhole v.items new
+TakesInput old new (Err e) = (taken : List ℕ) × TakesBytes old new taken
 
 abbrev pub CountsFailure : {T : Type 0} → ℕ → ℕ → Result T InputFault → Type 0
 CountsFailure old new (Ok x) = new ≡ old
@@ -51,7 +51,7 @@ TakesMore most old new before after (Err e) =
     (taken : List ℕ) × Consumes old new taken × (length before + length taken ≤ most)
 
 -- the line went out, or the stream failed after a front of it
-abbrev pub Tells : Option (List ℕ) → Option (List ℕ) → ℕ → ℕ → List ℕ → Type 0
-Tells old new failed_old failed_new line =
+abbrev pub TellsLine : Option (List ℕ) → Option (List ℕ) → ℕ → ℕ → List ℕ → Type 0
+TellsLine old new failed_old failed_new line =
     (Appends old new line × (failed_new ≡ failed_old))
     ⊎ (((sent : List ℕ) × StartsWith line sent × Appends old new sent) × (failed_new ≡ failed_old + 1))

@@ -2,7 +2,7 @@ ghost use Rattle.std.specs.Prelude.{◌≡◌, ◌<◌, ◌≤◌, ◌+◌, [], 
 ghost use Rattle.std.specs.Io.{StartsWith};
 ghost use Rattle.std.specs.Io.KnownBytes.{Appends};
 ghost use Rattle.fsr_streams.specs.Stream.{Counts, HasRoom};
-ghost use Rattle.fsr_streams.specs.Transfer.{CountsFailure, Takes, TakesMore, TakesRest, TakesUpTo, Tells};
+ghost use Rattle.fsr_streams.specs.Transfer.{CountsFailure, TakesInput, TakesMore, TakesRest, TakesUpTo, TellsLine};
 
 use crate::stream::{Failed, Sink, Source};
 use std::alloc::{AllocError, Global};
@@ -23,7 +23,7 @@ pub enum InputFault {
 /// Reads the input to its end, or as far as a run reads a document.
 pub fn read_input<I: Source>(alloc: Global, input: &mut I) -> Result<Vec<u8>, InputFault>
     requires { HasRoom (I.failed input.old) }
-    ensures taken { Takes (I.remaining input.old) (I.remaining input.new) result }
+    ensures taken { TakesInput (I.remaining input.old) (I.remaining input.new) result }
     ensures counts { CountsFailure (I.failed input.old) (I.failed input.new) result }
 {
     let mut bytes = Vec::new(alloc);
@@ -62,7 +62,7 @@ fn read_up_to<I: Source>(input: &mut I, bytes: &mut Vec<u8>, most: usize) -> Res
     Ok(())
 }
 
-/// Takes the next piece of the input, and adds it to the bytes, of which there are no more than so many then. The count is 0 at the end
+/// TakesInput the next piece of the input, and adds it to the bytes, of which there are no more than so many then. The count is 0 at the end
 /// alone.
 fn take_more<I: Source>(
     input: &mut I,
@@ -103,10 +103,10 @@ pub fn write_text<O: Sink>(out: &mut O, text: &[u8]) -> Result<(), Failed>
     Ok(())
 }
 
-/// Tells a line. A failure changes nothing else.
+/// TellsLine a line. A failure changes nothing else.
 pub fn tell<E: Sink>(faults: &mut E, line: &str)
     requires { HasRoom (E.failed faults.old) }
-    ensures told { Tells (E.contents faults.old) (E.contents faults.new) (E.failed faults.old)
+    ensures told { TellsLine (E.contents faults.old) (E.contents faults.new) (E.failed faults.old)
         (E.failed faults.new) line.now }
     ensures once { E.failed faults.new ≤ E.failed faults.old + 1 }
 {

@@ -17,8 +17,8 @@ use Rattle.board_history.specs.Histories.{IsCall}
 use Rattle.board_live.specs.declared.board.Board.{Board}
 use Rattle.board_live.specs.declared.record.Posted.{Posted}
 use Rattle.board_live.specs.Ends.{IsAtomicRun}
-use Rattle.headline_uses.specs.Boards.{EndsWithTheOnlyWrite, IsOnlyWrite, ReadsTheOnlyWrite, RefusesNone, StampsRise}
-use Rattle.headline_uses.specs.Orders.{IsOnlyWrite as IsOnlyWriteAt}
+use Rattle.headline_uses.specs.Boards.{EndsWithTheOnlyWrite, IsOnlyBoardWrite, ReadsTheOnlyWrite, RefusesNone, StampsRiseByTime}
+use Rattle.headline_uses.specs.Orders.{IsOnlyBoardWrite as IsOnlyWriteAt}
 use Rattle.headline_uses.proofs.Latest.{is_there}
 use Rattle.headline_uses.proofs.Listed.{listed}
 use Rattle.headline_uses.proofs.Ordered.{cut, intervals, reads as read_at, waits}
@@ -75,7 +75,7 @@ module _ {V F S T : Type 0} (words : FamilyWords F (Posted V) S T) (board : Boar
       (s.0, c.0, c.1)
 
   -- an operation that is a write is that of the only write
-  same_place : (i k : ℕ) (w : Called V) → IsOnlyWrite board.processes did i k w → (x : Placed run.ops run.stamps i k w) →
+  same_place : (i k : ℕ) (w : Called V) → IsOnlyBoardWrite board.processes did i k w → (x : Placed run.ops run.stamps i k w) →
       IsOnlyWriteAt run.ops x.place
   same_place i k w only x q op at kind =
       let c = of_call q op at in
@@ -105,7 +105,7 @@ module _ {V F S T : Type 0} (words : FamilyWords F (Posted V) S T) (board : Boar
   the_item : (a b : V) → Some a ≡ Some b → a ≡ b
   the_item a b e = same_Some a b e
 
-  reads_it : (i k j m : ℕ) (w r : Called V) → IsOnlyWrite board.processes did i k w → j < board.processes →
+  reads_it : (i k j m : ℕ) (w r : Called V) → IsOnlyBoardWrite board.processes did i k w → j < board.processes →
       slice_get (did j).calls m ≡ Some r → r.kind ≡ Read → w.end < r.begin → r.chosen.item ≡ w.chosen.item
   reads_it i k j m w r only l at reads later =
       let x = placed i k w only.inside only.there in
@@ -120,7 +120,7 @@ module _ {V F S T : Type 0} (words : FamilyWords F (Posted V) S T) (board : Boar
       (x.kind ∙ only.kind) (cut run.order at_x.0 at_y.0 x.place before at_x.1) in
       the_item r.chosen.item w.chosen.item (sym y.item ∙ has.1 ∙ sym has.2 ∙ there ∙ x.item)
 
-  ends_with : (i k : ℕ) (w : Called V) → IsOnlyWrite board.processes did i k w → last.item ≡ w.chosen.item
+  ends_with : (i k : ℕ) (w : Called V) → IsOnlyBoardWrite board.processes did i k w → last.item ≡ w.chosen.item
   ends_with i k w only =
       let x = placed i k w only.inside only.there in
       let at_x = stands i k w x in
@@ -171,6 +171,6 @@ module _ {V F S T : Type 0} (words : FamilyWords F (Posted V) S T) where
   pub refuses_no_write : RefusesNone words
   refuses_no_write board did last j m c some run none l at = refuses_none words board did last run j m c some none l at
 
-  pub stamps_go_up : StampsRise words
+  pub stamps_go_up : StampsRiseByTime words
   stamps_go_up board did last i k j m a b run li lj at_a at_b later =
       stamps_rise words board did last run i k j m a b li lj at_a at_b later

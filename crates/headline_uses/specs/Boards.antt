@@ -14,7 +14,7 @@ use Rattle.board_live.specs.Passes.{IsCall, IsPass}
 use Rattle.board_live.specs.Records.{greater}
 
 -- call k of process i is this one, and no other call of the n processes is a write
-pub record IsOnlyWrite {V : Type 0} (n : ℕ) (did : ℕ → Did V) (i k : ℕ) (write : Called V) : Type 0 where
+pub record IsOnlyBoardWrite {V : Type 0} (n : ℕ) (did : ℕ → Did V) (i k : ℕ) (write : Called V) : Type 0 where
   pub inside : i < n
   pub there : slice_get (did i).calls k ≡ Some write
   pub kind : write.kind ≡ Write
@@ -24,13 +24,13 @@ module _ {V F S T : Type 0} (words : FamilyWords F (Posted V) S T) where
   -- a read that began after the only write had ended has its record
   abbrev pub ReadsTheOnlyWrite : Type 0
   ReadsTheOnlyWrite = (board : Board V F S T) (did : ℕ → Did V) (last : Posted V) (i k j m : ℕ) (write read : Called V) →
-      IsAtomicRun words board did last → IsOnlyWrite board.processes did i k write → j < board.processes →
+      IsAtomicRun words board did last → IsOnlyBoardWrite board.processes did i k write → j < board.processes →
       slice_get (did j).calls m ≡ Some read → read.kind ≡ Read → write.end < read.begin → read.chosen.item ≡ write.chosen.item
 
   -- in the end the register holds the record of the only write
   abbrev pub EndsWithTheOnlyWrite : Type 0
   EndsWithTheOnlyWrite = (board : Board V F S T) (did : ℕ → Did V) (last : Posted V) (i k : ℕ) (write : Called V) →
-      IsAtomicRun words board did last → IsOnlyWrite board.processes did i k write → last.item ≡ write.chosen.item
+      IsAtomicRun words board did last → IsOnlyBoardWrite board.processes did i k write → last.item ≡ write.chosen.item
 
   -- where nothing is written, and the limit isn't 0, no write is refused
   abbrev pub RefusesNone : Type 0
@@ -40,8 +40,8 @@ module _ {V F S T : Type 0} (words : FamilyWords F (Posted V) S T) where
       j < board.processes → slice_get (did j).calls m ≡ Some call → call.kind ≢ Refused
 
   -- a call that began after another one had ended has no smaller stamp
-  abbrev pub StampsRise : Type 0
-  StampsRise = (board : Board V F S T) (did : ℕ → Did V) (last : Posted V) (i k j m : ℕ) (a b : Called V) →
+  abbrev pub StampsRiseByTime : Type 0
+  StampsRiseByTime = (board : Board V F S T) (did : ℕ → Did V) (last : Posted V) (i k j m : ℕ) (a b : Called V) →
       IsAtomicRun words board did last → i < board.processes → j < board.processes → slice_get (did i).calls k ≡ Some a →
       slice_get (did j).calls m ≡ Some b → a.end < b.begin → IsAtMost a.chosen.stamp b.chosen.stamp
 

@@ -8,14 +8,14 @@ use Rattle.board_live.specs.declared.board.Pass.{Pass}
 use Rattle.board_live.specs.declared.record.Posted.{Posted}
 use Rattle.board_live.specs.Ends.{AllAtomic, did_by, HaveAtomicOrder, IsGreatest, standing}
 use Rattle.board_live.specs.Passes.{HasMade}
-use Rattle.headline_uses.specs.Boards.{IsOnlyWrite}
+use Rattle.headline_uses.specs.Boards.{IsOnlyBoardWrite}
 
 module _ {V F S T : Type 0} (words : FamilyWords F (Posted V) S T) (board : Board V F S T) (passes : List (Pass V F S T)) where
   -- whatever calls were made with the passes: a read that began after the only write had ended has its record
   abbrev pub ReadsTheOnlyWriteSoFar : Type 0
   ReadsTheOnlyWriteSoFar = (calls : ℕ → List (Called V)) (i k j m : ℕ) (write read : Called V) →
       ((e : ℕ) (p : Pass V F S T) → slice_get passes e ≡ Some p → HasMade words board p (calls e)) →
-      IsOnlyWrite board.processes (did_by words passes calls) i k write → j < board.processes →
+      IsOnlyBoardWrite board.processes (did_by words passes calls) i k write → j < board.processes →
       slice_get (did_by words passes calls j).calls m ≡ Some read → read.kind ≡ Read → write.end < read.begin →
       read.chosen.item ≡ write.chosen.item
 

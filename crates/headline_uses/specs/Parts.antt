@@ -12,23 +12,23 @@ use Rattle.cell_live.specs.declared.times.Times.{Times}
 use Rattle.cell_live.specs.Histories.{AreOps, IsByNumbers}
 use Rattle.cell_live.specs.Intervals.{AreAtomic, At}
 use Rattle.cell_live.specs.Running.{last_or}
-use Rattle.family_live.specs.Accesses.{IsRead, IsWrite, Reads, Writes}
+use Rattle.family_live.specs.Accesses.{IsReadAccess, IsWriteAccess, ReadAccesses, WriteAccesses}
 use Rattle.board_history.specs.BoardRuns.{Did}
 use Rattle.board_history.specs.Histories.{IsGreatestOwn, own_after}
 use Rattle.board_live.specs.declared.record.Posted.{Posted}
-use Rattle.board_live.specs.Passes.{IsAnswered}
+use Rattle.board_live.specs.Passes.{IsFurtherAnswer}
 
 module _ (T : Type 0) where
   -- a read adds its answer and a number, and no receipt; the number is no less than that of the last write of each that was learnt
   abbrev pub ReadsShow : Type 0
-  ReadsShow = (opening : T) (old new : Reads T) (answer : T) → IsRead opening old new answer →
+  ReadsShow = (opening : T) (old new : ReadAccesses T) (answer : T) → IsReadAccess opening old new answer →
       (new.answers ≡ old.answers ++ answer ∷ []) × (new.told ≡ old.told) × (new.heard ≡ old.heard)
       × (length new.numbers ≡ length old.numbers + 1)
       × ((k : ℕ) (told : Known T) → slice_get new.heard k ≡ Some told → length told.items ≤ last_or 0 new.numbers)
 
   -- a write adds its record
   abbrev pub WritesShow : Type 0
-  WritesShow = (old new : Writes T) (item : T) → IsWrite old new item → new.items ≡ old.items ++ item ∷ []
+  WritesShow = (old new : WriteAccesses T) (item : T) → IsWriteAccess old new item → new.items ≡ old.items ++ item ∷ []
 
   -- an order by number has each place once, no place beyond, and a write before the reads of its number
   abbrev pub NumbersShow : Type 0
@@ -65,8 +65,8 @@ module _ (T : Type 0) where
 
   -- an answer obeys the law, and is no older than the opening, the answer before and what was told
   abbrev pub AnsweredShow : Type 0
-  AnsweredShow = (obeys : T → Bool) (opening : Posted T) (old new : Reads (Posted T)) (answer : Posted T) →
-      IsAnswered obeys opening old new answer →
+  AnsweredShow = (obeys : T → Bool) (opening : Posted T) (old new : ReadAccesses (Posted T)) (answer : Posted T) →
+      IsFurtherAnswer obeys opening old new answer →
       IsTrue (obeys answer.item) × IsAtMost opening.stamp answer.stamp × IsAtMost (last_or opening old.answers).stamp answer.stamp
       × ((k : ℕ) (told : Posted T) → slice_get old.told k ≡ Some told → IsAtMost told.stamp answer.stamp)
       × (new.answers ≡ old.answers ++ answer ∷ [])

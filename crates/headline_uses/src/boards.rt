@@ -1,6 +1,6 @@
 //! What the calls of a board say, one by one and all together when it ends.
 ghost use Rattle.headline_uses.specs.Boards.{EndsWithTheOnlyWrite, ReadsTheOnlyWrite, RefusesNone, SeesTheGreater, SeesWhatWasTold};
-ghost use Rattle.headline_uses.specs.Boards.{ShowsItsOwn, StampsRise, TakesTime};
+ghost use Rattle.headline_uses.specs.Boards.{ShowsItsOwn, StampsRiseByTime, TakesTime};
 ghost use Rattle.headline_uses.specs.Going.{HaveOneGreatest, OrdersShow, RegistersShow};
 ghost use Rattle.headline_uses.specs.Passes.{AllPassesShow, CallsShow, MadeShows, PassesShow};
 ghost use Rattle.history_core.specs.declared.history.Kind.{Kind};
@@ -14,7 +14,7 @@ pub fn ended_boards_show<V: RecordLaw, F: Family<Posted<V>>>()
     ensures reads { ReadsTheOnlyWrite ⟦<F as Family<Posted<V>>>⟧ }
     ensures ends { EndsWithTheOnlyWrite ⟦<F as Family<Posted<V>>>⟧ }
     ensures refuses { RefusesNone ⟦<F as Family<Posted<V>>>⟧ }
-    ensures rises { StampsRise ⟦<F as Family<Posted<V>>>⟧ }
+    ensures rises { StampsRiseByTime ⟦<F as Family<Posted<V>>>⟧ }
 {}
 
 /// A call of a board that goes on saw the greatest record, none older than what its process was told; after it each other process is shown

@@ -22,7 +22,7 @@ use Rattle.history_search.proofs.Atomic.{IsSearched, turned}
 use Rattle.history_thinning.specs.Answers.{IsLawfulBy, NamesKept}
 use Rattle.history_thinning.specs.Thinnings.{Equal, IsThinned, IsThinnedLog, one_term}
 use Rattle.history_thinning.specs.declared.thinned.Thinned.{Thinned}
-use Rattle.history_thinning.specs.inner.Mapped.{AreWrites, found_or, place_in, reason_in}
+use Rattle.history_thinning.specs.inner.Mapped.{AreWritePlaces, found_or, place_in, reason_in}
 use Rattle.history_thinning.proofs.Reasons.{alike, kept_known, place_of, rule_least, searched, write_kept}
 use Rattle.history_thinning.proofs.Restricting.{keep, limit_of, restricted_lawful}
 use Rattle.history_thinning.proofs.Whole.{lawful_whole}
@@ -148,7 +148,7 @@ module _ (limit : ℕ) (log : List (Op ℕ)) (thinned : Thinned) (thin : IsThinn
 
   pub lawful_answer : (order : List ℕ) → IsAnswered AreTested thinned.history.opening thinned.history.terms thinned.history.ops (Order
       order) →
-      (writes : List ℕ) → AreWrites thinned.history.ops thinned.places order (length order) writes →
+      (writes : List ℕ) → AreWritePlaces thinned.history.ops thinned.places order (length order) writes →
       (whole_order : List ℕ) × IsLawfulBy limit log writes whole_order
   lawful_answer order tested writes are =
       let P : (ℕ → ℕ → Type 0) → Type 0 = λ Same.
@@ -212,9 +212,9 @@ module _ (limit : ℕ) (log : List (Op ℕ)) (thinned : Thinned) (thin : IsThinn
   pub lawful_end : (search : Search) (order : List ℕ) →
       IsAnswered AreTested thinned.history.opening thinned.history.terms thinned.history.ops search → search ≡ Order order →
       (ops : List (Op ℕ)) (places listed writes out : List ℕ) → ops ≡ thinned.history.ops → places ≡ thinned.places → listed ≡ order →
-      AreWrites ops places listed (length listed) writes → out ≡ writes → (whole_order : List ℕ) × IsLawfulBy limit log out whole_order
+      AreWritePlaces ops places listed (length listed) writes → out ≡ writes → (whole_order : List ℕ) × IsLawfulBy limit log out whole_order
   lawful_end search order tested es ops places listed writes out eo ep el are e =
-      let P : List (Op ℕ) → List ℕ → List ℕ → Type 0 = λ o p l. AreWrites o p l (length l) writes in
+      let P : List (Op ℕ) → List ℕ → List ℕ → Type 0 = λ o p l. AreWritePlaces o p l (length l) writes in
       let Q : List ℕ → Type 0 = λ w. (whole_order : List ℕ) × IsLawfulBy limit log w whole_order in
       let S : Search → Type 0 = λ z. IsAnswered AreTested thinned.history.opening thinned.history.terms thinned.history.ops z in
       subst Q (sym e) (lawful_answer order (subst S es tested) writes (subst (λ o. P o thinned.places order) eo

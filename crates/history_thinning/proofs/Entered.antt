@@ -19,7 +19,7 @@ use Rattle.history_search.specs.declared.reason.SearchError.TheVariants.{Backwar
 use Rattle.history_search.proofs.Atomic.{of_one, of_opening, shares}
 use Rattle.history_thinning.specs.declared.group.Group.{Group}
 use Rattle.history_thinning.specs.declared.group.Placed.{Placed}
-use Rattle.history_thinning.specs.Answers.{IsLogFault}
+use Rattle.history_thinning.specs.Answers.{IsThinnedFault}
 use Rattle.history_thinning.specs.Thinnings.{Equal}
 use Rattle.history_thinning.specs.inner.Entering.{entry_fault, Grows, is_backwards, write_fault, write_place, written_number}
 use Rattle.history_thinning.specs.inner.Kept.{AreKept, empty_group, IsGroup, IsStoodFor, joined_group, StandsFor}
@@ -283,13 +283,13 @@ module _ (log : List (Op ℕ)) (op : Op ℕ) where
           }
 
     -- the fault of an operation is that of the log up to it
-    pub faulted : (error : SearchError) → entry_fault groups op (length log) ≡ Some error → IsLogFault (log ++ op ∷ []) error
+    pub faulted : (error : SearchError) → entry_fault groups op (length log) ≡ Some error → IsThinnedFault (log ++ op ∷ []) error
     faulted error h = by (is_backwards op.starts op.ends) refl h
       where
         here : slice_get (log ++ op ∷ []) (length log) ≡ Some op
         here = get_last log op (length log) refl
 
-        backwards : is_backwards op.starts op.ends ≡ true → IsLogFault (log ++ op ∷ []) (Backwards (length log))
+        backwards : is_backwards op.starts op.ends ≡ true → IsThinnedFault (log ++ op ∷ []) (Backwards (length log))
         backwards t limit = (
           some_and_from (λ (o : Op ℕ). IsSomeAnd o.ends (λ end. end < o.starts)) (slice_get (log ++ op ∷ []) (length log)) op here
               (backwards_is op.starts op.ends t),
@@ -297,7 +297,7 @@ module _ (log : List (Op ℕ)) (op : Op ℕ) where
         )
 
         opening : is_backwards op.starts op.ends ≡ false → (number : ℕ) → is_write op.kind ≡ true → op.item ≡ Some number →
-            nat_eq number 0 ≡ true → IsLogFault (log ++ op ∷ []) (WritesOpening (length log))
+            nat_eq number 0 ≡ true → IsThinnedFault (log ++ op ∷ []) (WritesOpening (length log))
         opening f number t i z limit = (
           some_and_from (λ (o : Op ℕ). (is_write o.kind ≡ true) × IsOfOpening Equal 0 o) (slice_get (log ++ op ∷ []) (length log)) op here
               (t, of_opening Equal 0 op number i (is_nought number z)),
@@ -306,7 +306,7 @@ module _ (log : List (Op ℕ)) (op : Op ℕ) where
         )
 
         twice : is_backwards op.starts op.ends ≡ false → (number : ℕ) → is_write op.kind ≡ true → op.item ≡ Some number → (first : ℕ) →
-            write_place groups number ≡ Some first → IsLogFault (log ++ op ∷ []) (WritesTwice first (length log))
+            write_place groups number ≡ Some first → IsThinnedFault (log ++ op ∷ []) (WritesTwice first (length log))
         twice f number t i first e limit =
             let w = write_at_place groups number (slice_get groups number) first refl e in
             let k = (kept.each number w.0 w.2).write w.1 w.3 in
@@ -328,15 +328,15 @@ module _ (log : List (Op ℕ)) (op : Op ℕ) where
         written : is_backwards op.starts op.ends ≡ false → (number : ℕ) → is_write op.kind ≡ true → op.item ≡ Some number → (b : Bool) →
             nat_eq number 0 ≡ b → (place : Option ℕ) → write_place groups number ≡ place →
             (if b then Some (WritesOpening (length log)) else option_map (λ first. WritesTwice first (length log)) place) ≡ Some error →
-            IsLogFault (log ++ op ∷ []) error
+            IsThinnedFault (log ++ op ∷ []) error
         written f number t i true z place w e =
-            subst (λ r. IsLogFault (log ++ op ∷ []) r) (same_Some (WritesOpening (length log)) error e) (opening f number t i z)
+            subst (λ r. IsThinnedFault (log ++ op ∷ []) r) (same_Some (WritesOpening (length log)) error e) (opening f number t i z)
         written f number t i false z None w e = cc
         written f number t i false z (Some first) w e =
-            subst (λ r. IsLogFault (log ++ op ∷ []) r) (same_Some (WritesTwice first (length log)) error e) (twice f number t i first w)
+            subst (λ r. IsThinnedFault (log ++ op ∷ []) r) (same_Some (WritesTwice first (length log)) error e) (twice f number t i first w)
 
         writes : is_backwards op.starts op.ends ≡ false → (number : Option ℕ) → written_number op.kind op.item ≡ number →
-            option_and_then (λ n. write_fault groups n (length log)) number ≡ Some error → IsLogFault (log ++ op ∷ []) error
+            option_and_then (λ n. write_fault groups n (length log)) number ≡ Some error → IsThinnedFault (log ++ op ∷ []) error
         writes f None w e = cc
         writes f (Some number) w e =
             let k = write_of_number op.kind op.item number w in
@@ -344,6 +344,6 @@ module _ (log : List (Op ℕ)) (op : Op ℕ) where
 
         by : (b : Bool) → is_backwards op.starts op.ends ≡ b → (if b then Some (Backwards (length log))
             else option_and_then (λ n. write_fault groups n (length log)) (written_number op.kind op.item)) ≡ Some error →
-            IsLogFault (log ++ op ∷ []) error
-        by true t e = subst (λ r. IsLogFault (log ++ op ∷ []) r) (same_Some (Backwards (length log)) error e) (backwards t)
+            IsThinnedFault (log ++ op ∷ []) error
+        by true t e = subst (λ r. IsThinnedFault (log ++ op ∷ []) r) (same_Some (Backwards (length log)) error e) (backwards t)
         by false f e = writes f (written_number op.kind op.item) refl e

@@ -15,7 +15,7 @@ use Rattle.history_core.proofs.Places.{get_after, get_before, get_last, get_push
 use Rattle.history_thinning.specs.declared.group.Group.{Group}
 use Rattle.history_thinning.specs.declared.group.Placed.{Placed}
 use Rattle.history_thinning.specs.inner.Entering.{Grows}
-use Rattle.history_thinning.specs.inner.Gathered.{AreSorted, HasNew, IsApart, is_beyond, IsGathered, is_new, kept_in}
+use Rattle.history_thinning.specs.inner.Gathered.{AreByPlace, HasNew, IsApart, is_beyond, IsGathered, is_new, kept_in}
 use Rattle.history_thinning.specs.inner.Kept.{empty_group}
 
 below : (a b : ℕ) → nat_lt a b ≡ true → a < b
@@ -90,7 +90,7 @@ gathered_sorted groups n kept sorted perm h = record {
       (c.0, slice_get-get_or sorted c.0 m c.1 ∙ ap Some c.2);
 }
 
-pub sorted_is : (kept : List Placed) → IsNonDecreasingBy (λ (m : Placed). m.place) kept → AreSorted kept
+pub sorted_is : (kept : List Placed) → IsNonDecreasingBy (λ (m : Placed). m.place) kept → AreByPlace kept
 sorted_is kept up i j a b ij ea eb =
     let le = up i j a (omega arith) (slice_get_within kept j b eb) in
     let ga : get_or kept i a ≡ a = get_or_from_slice_get kept i a a ea in
@@ -115,7 +115,7 @@ last_is (x ∷ xs) =
     slice_get-get_or (x ∷ xs) (length (x ∷ xs) - 1) 0 (omega arith) in
     inl (get_or (x ∷ xs) (length (x ∷ xs) - 1) 0, e, omega arith)
 
-module _ (kept : List Placed) (sorted : AreSorted kept) (n : ℕ) (m : Placed) (at : slice_get kept n ≡ Some m) (ops : List (Op ℕ))
+module _ (kept : List Placed) (sorted : AreByPlace kept) (n : ℕ) (m : Placed) (at : slice_get kept n ≡ Some m) (ops : List (Op ℕ))
     (places : List ℕ) (h : IsApart kept n ops places) where
   -- none is beyond the last
   up_to_last : (last i p : ℕ) → slice_get places (length places - 1) ≡ Some last → slice_get places i ≡ Some p → p ≤ last

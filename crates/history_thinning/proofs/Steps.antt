@@ -10,7 +10,7 @@ use Rattle.history_search.specs.Reasons.{counts}
 use Rattle.history_search.specs.declared.reason.SearchError.{SearchError}
 use Rattle.history_thinning.specs.declared.group.Group.{Group}
 use Rattle.history_thinning.specs.declared.group.Placed.{Placed}
-use Rattle.history_thinning.specs.Answers.{IsLogFault}
+use Rattle.history_thinning.specs.Answers.{IsThinnedFault}
 use Rattle.history_thinning.specs.Thinnings.{IsThinnedLog, one_term}
 use Rattle.history_thinning.specs.inner.Entering.{counted_number, entry_fault, Grows}
 use Rattle.history_thinning.specs.inner.Gathered.{IsApart, IsGathered}
@@ -43,7 +43,7 @@ module _ (log : List (Op ℕ)) (op : Op ℕ) (place : ℕ) (here : length log �
   test_is : test ≡ entry_fault groups op (length log)
   test_is = tested ∙ ap (λ z. entry_fault z op place) same ∙ ap (λ z. entry_fault groups op z) (sym here)
 
-  pub has_fault : (error : SearchError) → test ≡ Some error → IsLogFault (log ++ op ∷ []) error
+  pub has_fault : (error : SearchError) → test ≡ Some error → IsThinnedFault (log ++ op ∷ []) error
   has_fault error e = faulted log op groups kept error (sym test_is ∙ e)
 
   module _ (fine : (error : SearchError) → test ≡ Some error → ⊥) (number : Option ℕ) (numbered : number ≡ counted_number op) where

@@ -26,7 +26,7 @@ use Rattle.history_search.proofs.Counts.{count_up, counted, front_get, get_front
 use Rattle.history_search.proofs.Loops.{writes_next}
 use Rattle.history_thinning.specs.Answers.{IsLawfulBy}
 use Rattle.history_thinning.specs.Thinnings.{Equal, IsThinned, one_term}
-use Rattle.history_thinning.specs.inner.Mapped.{AreWrites, found_or, place_in}
+use Rattle.history_thinning.specs.inner.Mapped.{AreWritePlaces, found_or, place_in}
 use Rattle.history_thinning.proofs.Reasons.{alike, early_kept, kept_known, place_of, same_index}
 use Rattle.history_thinning.proofs.Restricting.{all_within, one_term_of}
 use Rattle.history_thinning.proofs.Expanding.{and_both, at_has, both, ComesFirst, has_any, is_record, is_whole, IsLed, IsWrittenAt}
@@ -562,7 +562,7 @@ module _ (log kept : List (Op ℕ)) (places : List ℕ) (thin : IsThinned Equal 
 
   -- the whole log's order, with the writes as they were listed
   pub lawful_whole : (limit : ℕ) → IsVerdict Equal 0 (one_term limit) kept order Lawful → (writes : List ℕ) →
-      AreWrites kept places order (length order) writes → IsLawfulBy limit log writes all
+      AreWritePlaces kept places order (length order) writes → IsLawfulBy limit log writes all
   lawful_whole limit lawful writes are = record {
     lawful = (atomic_whole, refuses limit lawful);
     long = are.long ∙ sym same_total ∙ ap (writes_in (λ _. true) log) (take-length all);

@@ -9,20 +9,20 @@ use Rattle.history_core.specs.declared.history.Op.{Op}
 use Rattle.history_core.specs.Orders.{is_write_at, writes_in}
 use Rattle.history_core.proofs.Places.{get_last, get_stays}
 use Rattle.history_search.proofs.Loops.{writes_next}
-use Rattle.history_thinning.specs.inner.Mapped.{AreWrites, place_in}
+use Rattle.history_thinning.specs.inner.Mapped.{AreWritePlaces, place_in}
 
 module _ (ops : List (Op ℕ)) (places order : List ℕ) where
-  pub writes_none : AreWrites ops places order 0 []
+  pub writes_none : AreWritePlaces ops places order 0 []
   writes_none = record { long = refl; listed = λ i p l e t. absurd (omega arith) }
 
-  module _ (n p : ℕ) (at : slice_get order n ≡ Some p) (writes : List ℕ) (h : AreWrites ops places order n writes) where
+  module _ (n p : ℕ) (at : slice_get order n ≡ Some p) (writes : List ℕ) (h : AreWritePlaces ops places order n writes) where
     next : writes_in (λ _. true) ops (take (n + 1) order)
         ≡ writes_in (λ _. true) ops (take n order) + (if is_write_at (slice_get ops p) then 1 else 0)
     next = writes_next ops order n (slice_get_within order n p at)
         ∙ ap (λ q. writes_in (λ _. true) ops (take n order) + (if is_write_at (slice_get ops q) then 1 else 0))
         (get_or_from_slice_get order n p 0 at)
 
-    pub writes_skip : is_write_at (slice_get ops p) ≡ false → AreWrites ops places order (n + 1) writes
+    pub writes_skip : is_write_at (slice_get ops p) ≡ false → AreWritePlaces ops places order (n + 1) writes
     writes_skip f = record {
       long = let e = next ∙ ap (λ b. writes_in (λ _. true) ops (take n order) + (if b then 1 else 0)) f in h.long ∙ omega arith;
       listed = λ i q l e t. elim (cases_lt i n) [
@@ -36,7 +36,7 @@ module _ (ops : List (Op ℕ)) (places order : List ℕ) where
       ];
     }
 
-    pub writes_more : is_write_at (slice_get ops p) ≡ true → AreWrites ops places order (n + 1) (writes ++ place_in places p ∷ [])
+    pub writes_more : is_write_at (slice_get ops p) ≡ true → AreWritePlaces ops places order (n + 1) (writes ++ place_in places p ∷ [])
     writes_more t = record {
       long =
           let e = next ∙ ap (λ b. writes_in (λ _. true) ops (take n order) + (if b then 1 else 0)) t in

@@ -24,9 +24,9 @@ pub record IsLawfulBy (limit : ℕ) (log : List (Op ℕ)) (writes order : List �
       OfOneRecord Equal a b → a.starts ≤ b.starts
 
 -- the answer: such an order exists; or none is lawful, and this is a reason of the first rule that any reason of the whole log has
-abbrev pub IsLogAnswer : ℕ → List (Op ℕ) → LogAnswer → Type 0
-IsLogAnswer limit log (Lawful writes) = (order : List ℕ) × IsLawfulBy limit log writes order
-IsLogAnswer limit log (Unlawful reason) = IsUnlawful Equal 0 limit (one_term limit) log reason
+abbrev pub IsThinnedAnswer : ℕ → List (Op ℕ) → LogAnswer → Type 0
+IsThinnedAnswer limit log (Lawful writes) = (order : List ℕ) × IsLawfulBy limit log writes order
+IsThinnedAnswer limit log (Unlawful reason) = IsUnlawful Equal 0 limit (one_term limit) log reason
 
 -- the operation at this place of the log was kept
 abbrev pub IsKeptAt : List ℕ → ℕ → Type 0
@@ -45,5 +45,5 @@ IsOfKept places (Lawful writes) = Unit {0}
 IsOfKept places (Unlawful reason) = NamesKept places reason
 
 -- what stands in the way of a search of this log: what a search of the whole of it would tell
-abbrev pub IsLogFault : List (Op ℕ) → SearchError → Type 0
-IsLogFault log error = (limit : ℕ) → IsFault Equal 0 (one_term limit) log error
+abbrev pub IsThinnedFault : List (Op ℕ) → SearchError → Type 0
+IsThinnedFault log error = (limit : ℕ) → IsFault Equal 0 (one_term limit) log error

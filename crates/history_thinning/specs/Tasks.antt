@@ -7,8 +7,8 @@ use Rattle.history_core.specs.Orders.{Precedes}
 
 module _ {R : Type 0} where
   -- of two operations of one task the one that the log has first has ended before the other begins
-  abbrev pub TakeTurns : List (Op R) → Type 0
-  TakeTurns log =
+  abbrev pub TasksTakeTurns : List (Op R) → Type 0
+  TasksTakeTurns log =
       (p q : ℕ) (a b : Op R) → slice_get log p ≡ Some a → slice_get log q ≡ Some b → a.who ≡ b.who → p < q → Precedes a b
 
   -- an order has the operations of each task as the log has them

@@ -2,7 +2,7 @@
 
 ghost use Rattle.std.specs.Prelude.{◌≡◌, ◌++◌, ◌≤◌, ◌<◌, ℕ, length, IfOk, OnOk, slice_get, Some};
 ghost use Rattle.history_thinning.specs.declared.group.Placed.{Placed};
-ghost use Rattle.history_thinning.specs.inner.Gathered.{AreSorted, HasNew, IsApart, IsGathered, is_new, is_same};
+ghost use Rattle.history_thinning.specs.inner.Gathered.{AreByPlace, HasNew, IsApart, IsGathered, is_new, is_same};
 ghost use Rattle.history_thinning.specs.inner.Gathered.{kept_in, one_besides, one_or_none};
 
 use crate::group::{Group, Placed};
@@ -12,7 +12,7 @@ use std::alloc::{AllocError, Global};
 /// All that is kept, sorted by place. The groups' memory is given back.
 pub(crate) fn emptied(alloc: Global, groups: Vec<Group>) -> Result<Vec<Placed>, AllocError>
     ensures all { IfOk result (λ v. IsGathered groups.items (length groups.items) v.items) }
-    ensures sorted { IfOk result (λ v. AreSorted v.items) }
+    ensures sorted { IfOk result (λ v. AreByPlace v.items) }
 {
     let kept = gather(alloc, groups.as_slice())?;
     Ok(kept)
@@ -21,7 +21,7 @@ pub(crate) fn emptied(alloc: Global, groups: Vec<Group>) -> Result<Vec<Placed>, 
 /// All that is kept, sorted by place. What is the first to end and the last to begin may stand there twice.
 fn gather(alloc: Global, groups: &[Group]) -> Result<Vec<Placed>, AllocError>
     ensures all { IfOk result (λ v. IsGathered groups.now (length groups.now) v.items) }
-    ensures sorted { IfOk result (λ v. AreSorted v.items) }
+    ensures sorted { IfOk result (λ v. AreByPlace v.items) }
 {
     let mut kept = Vec::new(alloc);
     for group in groups {
@@ -84,7 +84,7 @@ pub(crate) struct Rows {
 
 /// The operations and their places, each once.
 pub(crate) fn apart(alloc: Global, kept: &[Placed]) -> Result<Rows, AllocError>
-    requires { AreSorted kept.now }
+    requires { AreByPlace kept.now }
     ensures { IfOk result (λ a. IsApart kept.now (length kept.now) a.ops.items a.places.items) }
 {
     let mut rows = Rows {

@@ -4,9 +4,9 @@ ghost use Rattle.std.specs.Prelude.{◌≡◌, ℕ, List, length, IfOk, MatchRes
 ghost use Rattle.history_core.specs.Orders.{is_write_at};
 ghost use Rattle.history_core.specs.declared.history.Op.{Op};
 ghost use Rattle.history_search.specs.declared.reason.SearchError.TheVariants.{NoMemory};
-ghost use Rattle.history_thinning.specs.Answers.{IsLogAnswer, IsOfKept};
+ghost use Rattle.history_thinning.specs.Answers.{IsThinnedAnswer, IsOfKept};
 ghost use Rattle.history_thinning.specs.Thinnings.{IsThinnedLog};
-ghost use Rattle.history_thinning.specs.inner.Mapped.{AreWrites, place_in, reason_in};
+ghost use Rattle.history_thinning.specs.inner.Mapped.{AreWritePlaces, place_in, reason_in};
 
 use crate::thinned::{LogAnswer, Thinned};
 use history_core::{Items, Kind, Op};
@@ -17,7 +17,7 @@ use std::alloc::{AllocError, Global};
 pub fn search_thinned(alloc: Global, thinned: &Thinned) -> Result<LogAnswer, SearchError>
     ensures { MatchResult result
         (λ answer. (limit : ℕ) (log : List (Op ℕ)) → IsThinnedLog limit log thinned.now →
-        IsLogAnswer limit log answer × IsOfKept thinned.now.places answer)
+        IsThinnedAnswer limit log answer × IsOfKept thinned.now.places answer)
         (λ error. (limit : ℕ) (log : List (Op ℕ)) → IsThinnedLog limit log thinned.now → error ≡ NoMemory) }
 {
     let places = thinned.places.as_slice();
@@ -46,7 +46,7 @@ fn writes_of(
     places: &[usize],
     order: &[usize],
 ) -> Result<Vec<usize>, AllocError>
-    ensures { IfOk result (λ v. AreWrites ops.now places.now order.now (length order.now) v.items) }
+    ensures { IfOk result (λ v. AreWritePlaces ops.now places.now order.now (length order.now) v.items) }
 {
     let mut writes = Vec::new(alloc);
     for kept in order {

@@ -3,7 +3,7 @@
 ghost use Rattle.std.specs.Prelude.{◌≡◌, ◌++◌, ◌∷◌, [], ℕ, List, true, length, IfErr, IfOk, IsSome, OnErr, OnOk};
 ghost use Rattle.history_core.specs.declared.history.Op.{Op};
 ghost use Rattle.history_search.specs.Reasons.{counts};
-ghost use Rattle.history_thinning.specs.Answers.{IsLogFault};
+ghost use Rattle.history_thinning.specs.Answers.{IsThinnedFault};
 ghost use Rattle.history_thinning.specs.Thinnings.{IsThinnedLog};
 ghost use Rattle.history_thinning.specs.inner.Kept.{IsThinning};
 
@@ -40,7 +40,7 @@ impl Thinner {
         ensures entered { OnOk result ((log : List (Op ℕ)) → length log ≡ place → IsThinning log self.old →
             IsThinning (log ++ op ∷ []) self.new) }
         ensures fault { IfErr result (λ error. (log : List (Op ℕ)) → length log ≡ place → IsThinning log self.old →
-            IsLogFault (log ++ op ∷ []) error) }
+            IsThinnedFault (log ++ op ∷ []) error) }
         ensures unchanged { OnErr result ((log : List (Op ℕ)) → IsThinning log self.old → IsThinning log self.new) }
     {
         if let Some(fault) = entry_fault(self.groups.as_slice(), &op, place) {

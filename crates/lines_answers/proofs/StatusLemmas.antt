@@ -1,6 +1,6 @@
 -- The answer to a log in lines has status 0 or 1.
 use Rattle.std.proofs.Common.{rules, arith, ◌≤◌, ℕ, List, Result, Ok, Err, ap, sym, subst}
-use Rattle.fsr_runs.specs.Answers.{Gives, HasLowStatus}
+use Rattle.fsr_runs.specs.Answers.{GivesReply, HasLowStatus}
 use Rattle.fsr_runs.specs.declared.fault.Answer.{Answer}
 use Rattle.fsr_runs.specs.declared.fault.Fault.{Fault}
 use Rattle.history_thinning.specs.declared.thinned.LogAnswer.{LogAnswer}
@@ -11,6 +11,6 @@ is_low : (found : LogAnswer) → status_of found ≤ 1
 is_low (Lawful writes) = omega arith
 is_low (Unlawful reason) = omega arith
 
-pub low_lines : (bytes : List ℕ) (r : Result Answer Fault) → Gives (IsLinesAnswer bytes) r → HasLowStatus r
+pub low_lines : (bytes : List ℕ) (r : Result Answer Fault) → GivesReply (IsLinesAnswer bytes) r → HasLowStatus r
 low_lines bytes (Ok a) found = subst (λ (s : ℕ). s ≤ 1) (sym (ap (λ (b : Answer). b.status) found.told)) (is_low found.found)
 low_lines bytes (Err e) refused = search rules

@@ -3,7 +3,7 @@ use Rattle.std.specs.Prelude.{◌≡◌, ℕ, List, unwrap_or, Result, Ok, Err}
 use Rattle.fsr_runs.specs.declared.fault.Answer.{Answer}
 use Rattle.fsr_runs.specs.declared.fault.Fault.{Fault}
 use Rattle.history_core.specs.declared.history.Op.{Op}
-use Rattle.history_thinning.specs.Answers.{IsLogAnswer, IsOfKept}
+use Rattle.history_thinning.specs.Answers.{IsThinnedAnswer, IsOfKept}
 use Rattle.history_thinning.specs.declared.thinned.LogAnswer.{LogAnswer}
 use Rattle.history_thinning.specs.declared.thinned.LogAnswer.TheVariants.{Lawful, Unlawful}
 use Rattle.lines_log.specs.Faults.{IsLinesFault}
@@ -26,7 +26,7 @@ pub record Found (bytes : List ℕ) (answer : Answer) : Type 0 where
   pub read : LinesLog
   pub found : LogAnswer
   pub is : IsLinesLog bytes log read
-  pub answered : IsLogAnswer (unwrap_or is.head.limit 1) log found
+  pub answered : IsThinnedAnswer (unwrap_or is.head.limit 1) log found
   pub named : IsOfKept read.thinned.places found
   pub told : answer ≡ printed bytes read found
 

@@ -1,7 +1,7 @@
 ghost use Rattle.std.specs.Prelude.{◌≡◌, ℕ, List, IfOk};
-ghost use Rattle.fsr_runs.specs.Answers.{Gives, HasLowStatus};
+ghost use Rattle.fsr_runs.specs.Answers.{GivesReply, HasLowStatus};
 ghost use Rattle.history_core.specs.declared.history.Op.{Op};
-ghost use Rattle.history_thinning.specs.Answers.{IsLogAnswer, IsOfKept};
+ghost use Rattle.history_thinning.specs.Answers.{IsThinnedAnswer, IsOfKept};
 ghost use Rattle.history_thinning.specs.Thinnings.{IsThinnedLog};
 ghost use Rattle.lines_answers.specs.Answers.{IsLinesAnswer, printed, status_of};
 
@@ -14,7 +14,7 @@ use std::alloc::{AllocError, Global};
 
 /// The answer of the command `order` to the bytes of a log in lines.
 pub fn order_lines(alloc: Global, bytes: &[u8]) -> Result<Answer, Fault>
-    ensures gives { Gives (IsLinesAnswer bytes.now) result }
+    ensures gives { GivesReply (IsLinesAnswer bytes.now) result }
     ensures low { HasLowStatus result }
 {
     let log = match read_lines(alloc, bytes) {
@@ -30,7 +30,7 @@ pub fn order_lines(alloc: Global, bytes: &[u8]) -> Result<Answer, Fault>
 /// What a search finds, printed.
 fn answer_log(alloc: Global, bytes: &[u8], log: &LinesLog) -> Result<Answer, AllocError>
     ensures { IfOk result (λ answer. (limit : ℕ) (ops : List (Op ℕ)) → IsThinnedLog limit ops log.now.thinned →
-        (found : LogAnswer) × IsLogAnswer limit ops found × IsOfKept log.now.thinned.places found × (answer ≡ printed bytes.now log.now found)) }
+        (found : LogAnswer) × IsThinnedAnswer limit ops found × IsOfKept log.now.thinned.places found × (answer ≡ printed bytes.now log.now found)) }
 {
     let found = search(alloc, log)?;
     print(alloc, bytes, log, &found)
@@ -38,7 +38,7 @@ fn answer_log(alloc: Global, bytes: &[u8], log: &LinesLog) -> Result<Answer, All
 
 fn search(alloc: Global, log: &LinesLog) -> Result<LogAnswer, AllocError>
     ensures { IfOk result (λ found. (limit : ℕ) (ops : List (Op ℕ)) → IsThinnedLog limit ops log.now.thinned →
-        IsLogAnswer limit ops found × IsOfKept log.now.thinned.places found) }
+        IsThinnedAnswer limit ops found × IsOfKept log.now.thinned.places found) }
 {
     match search_thinned(alloc, &log.thinned) {
         Ok(found) => Ok(found),

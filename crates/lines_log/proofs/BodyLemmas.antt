@@ -10,21 +10,21 @@ use Rattle.history_core.specs.declared.history.Op.{Op}
 use Rattle.history_text.specs.Refusals.{◌>>=◌}
 use Rattle.fsr_runs.specs.declared.fault.Fault.{Fault}
 use Rattle.lines_tables.specs.Splits.{in_front, IsSplit, lines_of}
-use Rattle.lines_text.specs.Lines.{done, Entry, entry_of, Head, head_of, operation}
+use Rattle.lines_text.specs.Lines.{done, LogLine, entry_of, Head, head_of, operation}
 use Rattle.lines_log.specs.Faults.{IsBodyFault, is_last, IsLineFault}
 use Rattle.lines_log.specs.Logs.{AreAll, AreLines, IsLinesLog, is_refused, judged, judged_line}
 use Rattle.std.specs.Prelude.{is_some, MatchOption, unwrap_or}
 use Rattle.history_thinning.specs.Thinnings.{IsThinnedLog}
 use Rattle.lines_log.specs.declared.lines_log.LinesLog.{LinesLog}
-use Rattle.lines_log.specs.inner.Readings.{IsFinished, IsRead, IsReadWhole, IsUnderWay, is_end, ReadsLine}
+use Rattle.lines_log.specs.inner.Readings.{IsFinished, AreRead, IsReadWhole, IsPartlyRead, is_end, ReadsLine}
 use Rattle.lines_log.specs.declared.reader.Reader.{Reader}
 use Rattle.lines_log.proofs.ReadLemmas.{distinct}
 
 -- with lines behind it a line is no end
-abbrev judged_inside : Bool → ℕ → Result Entry DocError → Result (Option (Op (List ℕ))) DocError
+abbrev judged_inside : Bool → ℕ → Result LogLine DocError → Result (Option (Op (List ℕ))) DocError
 judged_inside limited count entry = entry >>= judged limited count false
 
-never : (limited : Bool) (count : ℕ) (entry : Result Entry DocError) → judged_inside limited count entry ≡ Ok None → ⊥
+never : (limited : Bool) (count : ℕ) (entry : Result LogLine DocError) → judged_inside limited count entry ≡ Ok None → ⊥
 never limited count (Err why) h = cc
 never limited count (Ok (done ops)) h = cc
 never true count (Ok (operation o)) h = cc
@@ -56,8 +56,8 @@ last_of_rest (x ∷ xs) = by_feed (x == 10)
     by_feed true = refl
     by_feed false = of_front (lines_of xs)
 
-pub begun : (opening : List ℕ) (body : List ℕ) (reader : Reader) → IsRead opening [] reader
-    → IsUnderWay opening reader.limited (lines_of body) body reader
+pub begun : (opening : List ℕ) (body : List ℕ) (reader : Reader) → AreRead opening [] reader
+    → IsPartlyRead opening reader.limited (lines_of body) body reader
 begun opening body reader read = record { lines = []; read = read; limits = refl; left = inl refl }
 
 none_left : (rest line behind : List ℕ) → IsSplit rest line behind → rest ≡ [] → ⊥
@@ -65,16 +65,16 @@ none_left rest line behind split none =
     let empty : length rest ≡ 0 = ap length none in omega (arith, empty, split.shorter)
 
 pub one_more : (opening : List ℕ) (limited : Bool) (body : List (List ℕ)) (rest line behind : List ℕ) (old new : Reader)
-    → IsUnderWay opening limited body rest old → IsSplit rest line behind
-    → ((lines : List (List ℕ)) → IsRead opening lines old → ReadsLine opening lines line (is_end behind) old new) → new.limited ≡ old.limited
-    → IsUnderWay opening limited body behind new
+    → IsPartlyRead opening limited body rest old → IsSplit rest line behind
+    → ((lines : List (List ℕ)) → AreRead opening lines old → ReadsLine opening lines line (is_end behind) old new) → new.limited ≡ old.limited
+    → IsPartlyRead opening limited body behind new
 one_more opening limited body rest line behind old new way split reads same = by_left way.left
   where
     at_line : body ≡ way.lines ++ lines_of rest → body ≡ way.lines ++ line ∷ lines_of behind
     at_line going = going ∙ ap (λ (l : List (List ℕ)). way.lines ++ l) split.lines
 
     by_line : body ≡ way.lines ++ line ∷ lines_of behind → ReadsLine opening way.lines line (is_end behind) old new
-        → IsUnderWay opening limited body behind new
+        → IsPartlyRead opening limited body behind new
     by_line here (inl more) = record {
       lines = way.lines ++ line ∷ [];
       read = more;
@@ -96,12 +96,12 @@ one_more opening limited body rest line behind old new way split reads same = by
 
     by_left : (body ≡ way.lines ++ lines_of rest)
         ⊎ ((rest ≡ []) × ((end : List ℕ) × (body ≡ way.lines ++ end ∷ []) × (judged_line limited (length way.lines) true end ≡ Ok None)))
-        → IsUnderWay opening limited body behind new
+        → IsPartlyRead opening limited body behind new
     by_left (inl going) = by_line (at_line going) (reads way.lines way.read)
     by_left (inr ended) = absurd (none_left rest line behind split ended.0)
 
 pub all_read : (opening : List ℕ) (limited : Bool) (body : List (List ℕ)) (rest : List ℕ) (reader : Reader) → rest ≡ []
-    → IsUnderWay opening limited body rest reader → IsReadWhole opening body reader
+    → IsPartlyRead opening limited body rest reader → IsReadWhole opening body reader
 all_read opening limited body rest reader none way = record { lines = way.lines; read = way.read; all = by_left way.left }
   where
     by_left : (body ≡ way.lines ++ lines_of rest)
@@ -112,8 +112,8 @@ all_read opening limited body rest reader none way = record { lines = way.lines;
         inr (ended.1.0, ended.1.1, subst (λ (b : Bool). judged_line b (length way.lines) true ended.1.0 ≡ Ok None) (sym way.limits) ended.1.2)
 
 pub at_fault : (opening : List ℕ) (limited : Bool) (body : List (List ℕ)) (rest line behind : List ℕ) (reader : Reader) (f : Fault)
-    → IsUnderWay opening limited body rest reader → IsSplit rest line behind
-    → ((lines : List (List ℕ)) → IsRead opening lines reader → IsLineFault opening reader.limited lines line (is_end behind) f)
+    → IsPartlyRead opening limited body rest reader → IsSplit rest line behind
+    → ((lines : List (List ℕ)) → AreRead opening lines reader → IsLineFault opening reader.limited lines line (is_end behind) f)
     → IsBodyFault opening limited body f
 at_fault opening limited body rest line behind reader f way split wrong = by_left way.left
   where

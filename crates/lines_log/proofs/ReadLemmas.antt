@@ -13,7 +13,7 @@ use Rattle.history_thinning.specs.inner.Kept.{IsThinning}
 use Rattle.fsr_runs.specs.declared.fault.Fault.{Fault}
 use Rattle.fsr_runs.specs.declared.fault.Fault.TheVariants.{NoMemory}
 use Rattle.history_search.specs.declared.reason.SearchError.{SearchError}
-use Rattle.history_thinning.specs.Answers.{IsLogFault}
+use Rattle.history_thinning.specs.Answers.{IsThinnedFault}
 use Rattle.history_core.proofs.Places.{get_pushed_cases}
 use Rattle.history_core.specs.declared.history.Op.{Op}
 use Rattle.lines_tables.specs.Numberings.{AreDistinct, IsNumbering}
@@ -24,7 +24,7 @@ use Rattle.lines_text.specs.declared.line.LineOp.{LineOp}
 use Rattle.lines_log.specs.Faults.{IsLineFault, IsOverlap, line_at, told_of}
 use Rattle.lines_log.specs.Logs.{AreLines, IsItem, IsNumberedOp, judged_line, unfinished_in}
 use Rattle.lines_log.specs.inner.Numbers.{Grow, IsNumberedNow}
-use Rattle.lines_log.specs.inner.Readings.{IsEntryFault, IsRead}
+use Rattle.lines_log.specs.inner.Readings.{IsEntryFault, AreRead}
 use Rattle.lines_log.specs.declared.reader.Reader.{Reader}
 
 grown_item : (records after : List (List ℕ)) → Grow records after → (said : Option (List ℕ)) (item : Option ℕ) → IsItem records said item
@@ -83,12 +83,12 @@ few_unfinished log = count_by-le-length (λ (o : Op ℕ). is_none o.ends) log
 
 -- an operation was entered
 pub entered : (opening : List ℕ) (lines : List (List ℕ)) (line : List ℕ) (last : Bool) (old new : Reader) (said : Op (List ℕ)) (next : Op ℕ)
-    → (read : IsRead opening lines old) → judged_line old.limited (length lines) last line ≡ Ok (Some said) → new.limited ≡ old.limited
+    → (read : AreRead opening lines old) → judged_line old.limited (length lines) last line ≡ Ok (Some said) → new.limited ≡ old.limited
     → ((records : List (List ℕ)) → IsNumbering records old.numbering → IsNumberedNow records said new.numbering next)
     → (KnowsTasks read.log old.turns → KnowsTasks (read.log ++ next ∷ []) new.turns)
     → (IsThinning read.log old.thinner → IsThinning (read.log ++ next ∷ []) new.thinner)
     → new.count ≡ old.count + 1 → new.unfinished ≡ old.unfinished + (if is_none next.ends then 1 else 0)
-    → IsRead opening (lines ++ line ∷ []) new
+    → AreRead opening (lines ++ line ∷ []) new
 entered opening lines line last old new said next read judged limits numbered turns thins count unfinished =
     let now = numbered read.records read.numbering in
     let are : AreLines old.limited (lines ++ line ∷ []) now.after (read.log ++ next ∷ []) =
@@ -109,14 +109,14 @@ entered opening lines line last old new said next read judged limits numbered tu
 pub distinct : (records : List (List ℕ)) (numbering : Numbering) → IsNumbering records numbering → AreDistinct records
 distinct records numbering numbers = λ text m n at_m at_n. same_Some m n (sym (numbers.known text m at_m) ∙ numbers.known text n at_n)
 
-pub entry_fault : (log : List (Op ℕ)) (error : SearchError) (f : Fault) → IsLogFault log error → (f ≡ NoMemory) ⊎ (f ≡ told_of error)
+pub entry_fault : (log : List (Op ℕ)) (error : SearchError) (f : Fault) → IsThinnedFault log error → (f ≡ NoMemory) ⊎ (f ≡ told_of error)
     → IsEntryFault log f
 entry_fault log error f stands (inl none) = inl none
 entry_fault log error f stands (inr told) = inr (error, stands, told)
 
 -- with the operation the log can't be searched
 pub repeated : (opening : List ℕ) (lines : List (List ℕ)) (line : List ℕ) (last : Bool) (old : Reader) (numbering : Numbering)
-    (said : Op (List ℕ)) (next : Op ℕ) (f : Fault) → (read : IsRead opening lines old)
+    (said : Op (List ℕ)) (next : Op ℕ) (f : Fault) → (read : AreRead opening lines old)
     → judged_line old.limited (length lines) last line ≡ Ok (Some said)
     → ((records : List (List ℕ)) → IsNumbering records old.numbering → IsNumberedNow records said numbering next)
     → IsEntryFault (read.log ++ next ∷ []) f → IsLineFault opening old.limited lines line last f
@@ -157,7 +157,7 @@ item_there records o op may is counted =
 
 -- an operation overlaps one of its task
 pub overlapped : (opening : List ℕ) (lines : List (List ℕ)) (line : List ℕ) (last : Bool) (old : Reader) (numbering : Numbering)
-    (said : Op (List ℕ)) (next : Op ℕ) (place first second : ℕ) → (read : IsRead opening lines old)
+    (said : Op (List ℕ)) (next : Op ℕ) (place first second : ℕ) → (read : AreRead opening lines old)
     → judged_line old.limited (length lines) last line ≡ Ok (Some said)
     → ((records : List (List ℕ)) → IsNumbering records old.numbering → IsNumberedNow records said numbering next)
     → Overlap read.log next place → first ≡ line_at place → second ≡ line_at (length read.log)

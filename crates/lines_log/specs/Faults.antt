@@ -4,7 +4,7 @@ use Rattle.history_core.specs.declared.history.Op.{Op}
 use Rattle.history_search.specs.Searches.{WritesOnce}
 use Rattle.history_search.specs.declared.reason.SearchError.{SearchError}
 use Rattle.history_search.specs.declared.reason.SearchError.TheVariants as search_error
-use Rattle.history_thinning.specs.Answers.{IsLogFault}
+use Rattle.history_thinning.specs.Answers.{IsThinnedFault}
 use Rattle.history_thinning.specs.Thinnings.{Equal}
 use Rattle.fsr_refusals.specs.declared.refusal.DocError.{DocError}
 use Rattle.fsr_refusals.specs.declared.refusal.DocError.TheVariants.{Law, NoMemory as no_memory, NotJson}
@@ -56,7 +56,7 @@ pub record IsRepeat (opening : List ℕ) (limited : Bool) (lines : List (List �
   pub are : AreLines limited (lines ++ line ∷ []) records log
   pub opened : slice_get records 0 ≡ Some opening
   pub distinct : AreDistinct records
-  pub stands : IsLogFault log error
+  pub stands : IsThinnedFault log error
   pub told : f ≡ told_of error
 
 -- a line behind these is refused

@@ -3,7 +3,7 @@ ghost use Rattle.std.specs.Prelude.{◌≡◌, ◌<◌, ◌+◌, ◌^◌, ℕ, L
 ghost use Rattle.history_core.specs.declared.history.Op.{Op};
 ghost use Rattle.lines_log.specs.Faults.{IsBodyFault, IsLinesFault};
 ghost use Rattle.lines_log.specs.Logs.{IsLinesLog};
-ghost use Rattle.lines_log.specs.inner.Readings.{is_end, IsFinished, IsRead, IsReadWhole};
+ghost use Rattle.lines_log.specs.inner.Readings.{is_end, IsFinished, AreRead, IsReadWhole};
 ghost use Rattle.lines_tables.specs.Numberings.{IsNumbering};
 ghost use Rattle.lines_tables.specs.Splits.{lines_of};
 
@@ -49,11 +49,11 @@ pub fn read_lines(alloc: Global, bytes: &[u8]) -> Result<LinesLog, Fault>
 /// Reads the lines behind the header.
 fn read_body(alloc: Global, reader: &mut Reader, body: &[u8]) -> Result<(), Fault>
     requires room { reader.old.count + length body.now + 1 < 2 ^ 64 }
-    requires known { (opening : List ℕ) × IsRead opening [] reader.old }
-    ensures read { OnOk result ((opening : List ℕ) → IsRead opening [] reader.old →
+    requires known { (opening : List ℕ) × AreRead opening [] reader.old }
+    ensures read { OnOk result ((opening : List ℕ) → AreRead opening [] reader.old →
         IsReadWhole opening (lines_of body.now) reader.new) }
     ensures limited { OnOk result (reader.new.limited ≡ reader.old.limited) }
-    ensures fault { IfErr result (λ fault. (opening : List ℕ) → IsRead opening [] reader.old →
+    ensures fault { IfErr result (λ fault. (opening : List ℕ) → AreRead opening [] reader.old →
         IsBodyFault opening reader.old.limited (lines_of body.now) fault) }
 {
     let mut rest = body;

@@ -29,11 +29,11 @@ pub(crate) struct Reader {
 }
 
 impl Reader {
-    ghost use Rattle.lines_log.specs.inner.Readings.{HasRead, IsRead, ReadsLine};
+    ghost use Rattle.lines_log.specs.inner.Readings.{HasReadLines, AreRead, ReadsLine};
 
     /// No line yet.
     pub fn new(alloc: Global, header: LogHeader) -> Result<Reader, AllocError>
-        ensures read { IfOk result (IsRead (string_bytes header.opening) []) }
+        ensures read { IfOk result (AreRead (string_bytes header.opening) []) }
         ensures limited { IfOk result (λ reader. reader.limited ≡ is_some header.limit) }
         ensures none { IfOk result (λ reader. reader.count ≡ 0) }
     {
@@ -52,12 +52,12 @@ impl Reader {
     /// Reads the next line, behind which another one stands or not.
     pub fn read(&mut self, alloc: Global, bytes: &[u8], last: bool) -> Result<(), Fault>
         requires room { self.old.count + 2 < 2 ^ 64 }
-        requires known { HasRead self.old }
-        ensures read { OnOk result ((opening : List ℕ) (lines : List (List ℕ)) → IsRead opening lines self.old →
+        requires known { HasReadLines self.old }
+        ensures read { OnOk result ((opening : List ℕ) (lines : List (List ℕ)) → AreRead opening lines self.old →
             ReadsLine opening lines bytes.now last self.old self.new) }
         ensures limited { OnOk result (self.new.limited ≡ self.old.limited) }
         ensures grows { OnOk result (self.new.count ≤ self.old.count + 1) }
-        ensures fault { IfErr result (λ fault. (opening : List ℕ) (lines : List (List ℕ)) → IsRead opening lines self.old →
+        ensures fault { IfErr result (λ fault. (opening : List ℕ) (lines : List (List ℕ)) → AreRead opening lines self.old →
             IsLineFault opening self.old.limited lines bytes.now last fault) }
     {
         let place = self.count;
@@ -72,14 +72,14 @@ impl Reader {
     fn enter(&mut self, op: LineOp) -> Result<(), Fault>
         requires allowed { IsAllowed op }
         requires room { self.old.count + 2 < 2 ^ 64 }
-        requires known { HasRead self.old }
+        requires known { HasReadLines self.old }
         ensures entered { OnOk result ((opening : List ℕ) (lines : List (List ℕ)) (line : List ℕ) (last : Bool) →
-            IsRead opening lines self.old → judged_line self.old.limited (length lines) last line ≡ Ok (Some (op_seen op)) →
-            IsRead opening (lines ++ line ∷ []) self.new) }
+            AreRead opening lines self.old → judged_line self.old.limited (length lines) last line ≡ Ok (Some (op_seen op)) →
+            AreRead opening (lines ++ line ∷ []) self.new) }
         ensures limited { OnOk result (self.new.limited ≡ self.old.limited) }
         ensures grows { OnOk result (self.new.count ≤ self.old.count + 1) }
         ensures fault { IfErr result (λ fault. (opening : List ℕ) (lines : List (List ℕ)) (line : List ℕ) (last : Bool) →
-            IsRead opening lines self.old → judged_line self.old.limited (length lines) last line ≡ Ok (Some (op_seen op)) →
+            AreRead opening lines self.old → judged_line self.old.limited (length lines) last line ≡ Ok (Some (op_seen op)) →
             IsLineFault opening self.old.limited lines line last fault) }
     {
         let place = self.count;

@@ -14,12 +14,12 @@ abbrev pub AreDistinct : List (List ℕ) → Type 0
 AreDistinct records = (text : List ℕ) (m n : ℕ) → slice_get records m ≡ Some text → slice_get records n ≡ Some text → m ≡ n
 
 -- a record was met: it is of these, or one more
-abbrev pub Meets : List (List ℕ) → List ℕ → List (List ℕ) → Type 0
-Meets records text after = (after ≡ records) ⊎ (after ≡ records ++ text ∷ [])
+abbrev pub MeetsRecord : List (List ℕ) → List ℕ → List (List ℕ) → Type 0
+MeetsRecord records text after = (after ≡ records) ⊎ (after ≡ records ++ text ∷ [])
 
 -- this number was given to the record
-pub record IsNumbered (records : List (List ℕ)) (text : List ℕ) (n : ℕ) (numbering : Numbering) : Type 0 where
+pub record GaveNumber (records : List (List ℕ)) (text : List ℕ) (n : ℕ) (numbering : Numbering) : Type 0 where
   pub after : List (List ℕ)
-  pub meets : Meets records text after
+  pub meets : MeetsRecord records text after
   pub at : slice_get after n ≡ Some text
   pub numbers : IsNumbering after numbering

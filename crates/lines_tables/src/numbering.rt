@@ -12,7 +12,7 @@ pub struct Numbering {
 }
 
 impl Numbering {
-    ghost use Rattle.lines_tables.specs.Numberings.{IsNumbered, IsNumbering};
+    ghost use Rattle.lines_tables.specs.Numberings.{GaveNumber, IsNumbering};
 
     /// The opening has number 0.
     pub fn new(alloc: Global, opening: String) -> Result<Numbering, AllocError>
@@ -26,7 +26,7 @@ impl Numbering {
     /// The number of a record. One that wasn't met gets the next.
     pub fn number(&mut self, text: String) -> Result<usize, AllocError>
         ensures { IfOk result (λ n. (records : List (List ℕ)) → IsNumbering records self.old →
-            IsNumbered records (string_bytes text) n self.new) }
+            GaveNumber records (string_bytes text) n self.new) }
     {
         match self.known(text.as_str()) {
             Some(number) => Ok(number),

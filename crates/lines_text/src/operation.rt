@@ -2,7 +2,7 @@
 ghost use Rattle.std.specs.Prelude.{◌≡◌, true, option_map, is_some, string_bytes, IfOk, OnOk};
 ghost use Rattle.serde_json.specs.View.{view};
 ghost use Rattle.history_text.specs.Refusals.{Gives};
-ghost use Rattle.lines_text.specs.Lines.{allowed, done_in, ends_later, entry_in, entry_of, has_record, line_seen, IsAllowed, MayStand, op_seen, operation_in, record_in};
+ghost use Rattle.lines_text.specs.Lines.{allowed, done_in, ends_later, entry_in, entry_of, has_record, line_seen, IsAllowed, MayFollow, op_seen, operation_in, record_in};
 
 use crate::line::{LineOp, LogLine};
 use crate::record::record_text;
@@ -17,7 +17,7 @@ use std::alloc::Global;
 #[tactic(auto, unfolding(crate::specs::Lines::entry_of))]
 pub fn read_line(alloc: Global, bytes: &[u8]) -> Result<LogLine, DocError>
     ensures said { Gives line_seen result (entry_of bytes.now) }
-    ensures allowed { IfOk result MayStand }
+    ensures allowed { IfOk result MayFollow }
 {
     let value = read_value(alloc, bytes)?;
     line_in(alloc, &value)
@@ -26,7 +26,7 @@ pub fn read_line(alloc: Global, bytes: &[u8]) -> Result<LogLine, DocError>
 #[tactic(auto, unfolding(crate::specs::Lines::entry_in))]
 fn line_in(alloc: Global, value: &Value) -> Result<LogLine, DocError>
     ensures said { Gives line_seen result (entry_in (view value.now)) }
-    ensures allowed { IfOk result MayStand }
+    ensures allowed { IfOk result MayFollow }
 {
     if is_kind(value, "done") {
         let ops = done_in(alloc, value)?;

@@ -1,6 +1,6 @@
 -- The answer with a picture has status 0 or 1.
 use Rattle.std.proofs.Common.{rules, ◌≡◌, ◌≤◌, List, ℕ, Result, Ok, Err, ap, arith}
-use Rattle.fsr_runs.specs.Answers.{AnswersReading, Gives, HasLowStatus}
+use Rattle.fsr_runs.specs.Answers.{AnswersReading, GivesReply, HasLowStatus}
 use Rattle.fsr_runs.specs.declared.fault.Answer.{Answer}
 use Rattle.fsr_runs.specs.declared.fault.Fault.{Fault}
 use Rattle.fsr_refusals.specs.declared.refusal.DocError.{DocError}
@@ -8,7 +8,7 @@ use Rattle.picture_text.specs.declared.scene.Finding.{Finding}
 use Rattle.picture_text.specs.declared.scene.Finding.TheVariants.{Lawful, Broken, NoOrder}
 use Rattle.picture_text.specs.declared.scene.Scene.{Scene}
 use Rattle.schedule_text.specs.declared.document.ScheduleDocument.TheVariants.{Cell, Matrix, Board}
-use Rattle.picture_answers.specs.Answers.{Answers, IsAnswer, document_of, drawn, status_of}
+use Rattle.picture_answers.specs.Answers.{Answers, IsPictureAnswer, document_of, drawn, status_of}
 use Rattle.picture_answers.specs.declared.drawings.Shown.{Shown}
 use Rattle.picture_answers.specs.declared.drawings.Shown.TheVariants as shown
 
@@ -28,6 +28,6 @@ low_reading (Ok (shown.Schedule (Matrix schedule titled))) a answered = low_draw
 low_reading (Ok (shown.Schedule (Board schedule titled))) a answered = low_drawn answered.3 a answered.5
 low_reading (Err refusal) a answered = absurd (cc)
 
-pub low_answer : (bytes : List ℕ) (r : Result Answer Fault) → Gives (IsAnswer bytes) r → HasLowStatus r
+pub low_answer : (bytes : List ℕ) (r : Result Answer Fault) → GivesReply (IsPictureAnswer bytes) r → HasLowStatus r
 low_answer bytes (Ok a) answered = low_reading (document_of bytes) a answered
 low_answer bytes (Err e) refused = search rules

@@ -85,9 +85,9 @@ abbrev pub drawn : Scene → Answer
 drawn scene = record { text = picture_of scene; status = status_of scene.finding }
 
 -- the answer to a history and an order of it
-abbrev pub AnswersCheck : CheckDocument → Result Answer Fault → Type 0
-AnswersCheck document (Ok answer) = (scene : Scene) × ShowsCheck document.history document.order scene × (answer ≡ drawn scene)
-AnswersCheck document (Err fault) = ⊥
+abbrev pub DrawsCheck : CheckDocument → Result Answer Fault → Type 0
+DrawsCheck document (Ok answer) = (scene : Scene) × ShowsCheck document.history document.order scene × (answer ≡ drawn scene)
+DrawsCheck document (Err fault) = ⊥
 
 -- the answer to a log: the picture of the order that was found, or of the reason why there is none; or why no order was looked for
 abbrev pub AnswersLog : History Band → Result Answer Fault → Type 0
@@ -96,49 +96,49 @@ AnswersLog log (Ok answer) =
 AnswersLog log (Err fault) = IsLogFault log fault
 
 -- the answer to the schedule of a cell: the picture of the report of its run, or the first step that has no operation
-abbrev pub AnswersCell : CellSchedule Band → Result Answer Fault → Type 0
-AnswersCell schedule (Ok answer) =
+abbrev pub DrawsCell : CellSchedule Band → Result Answer Fault → Type 0
+DrawsCell schedule (Ok answer) =
     (r : CellReport Band) × IsCellReport schedule r × (scene : Scene) × ShowsCell schedule r scene × (answer ≡ drawn scene)
-AnswersCell schedule (Err (fault.Document refusal)) = ⊥
-AnswersCell schedule (Err (fault.History why)) = ⊥
-AnswersCell schedule (Err (fault.Lines why)) = ⊥
-AnswersCell schedule (Err (fault.Schedule position)) = IsFirstOverrun (cell_span schedule ∷ []) position
-AnswersCell schedule (Err fault.NoMemory) = ⊥
+DrawsCell schedule (Err (fault.Document refusal)) = ⊥
+DrawsCell schedule (Err (fault.History why)) = ⊥
+DrawsCell schedule (Err (fault.Lines why)) = ⊥
+DrawsCell schedule (Err (fault.Schedule position)) = IsFirstOverrun (cell_span schedule ∷ []) position
+DrawsCell schedule (Err fault.NoMemory) = ⊥
 
 -- the answer to the schedule of a matrix, likewise
-abbrev pub AnswersMatrix : MatrixSchedule Band → Result Answer Fault → Type 0
-AnswersMatrix schedule (Ok answer) =
+abbrev pub DrawsMatrix : MatrixSchedule Band → Result Answer Fault → Type 0
+DrawsMatrix schedule (Ok answer) =
     (r : MatrixReport Band) × HasOperations (spans_of schedule.terms) × IsMatrixReport schedule r
     × (scene : Scene) × ShowsMatrix r scene × (answer ≡ drawn scene)
-AnswersMatrix schedule (Err (fault.Document refusal)) = ⊥
-AnswersMatrix schedule (Err (fault.History why)) = ⊥
-AnswersMatrix schedule (Err (fault.Lines why)) = ⊥
-AnswersMatrix schedule (Err (fault.Schedule position)) = IsFirstOverrun (spans_of schedule.terms) position
-AnswersMatrix schedule (Err fault.NoMemory) = ⊥
+DrawsMatrix schedule (Err (fault.Document refusal)) = ⊥
+DrawsMatrix schedule (Err (fault.History why)) = ⊥
+DrawsMatrix schedule (Err (fault.Lines why)) = ⊥
+DrawsMatrix schedule (Err (fault.Schedule position)) = IsFirstOverrun (spans_of schedule.terms) position
+DrawsMatrix schedule (Err fault.NoMemory) = ⊥
 
 -- the answer to the schedule of a composed board, likewise
-abbrev pub AnswersBoard : BoardSchedule Band → Result Answer Fault → Type 0
-AnswersBoard schedule (Ok answer) =
+abbrev pub DrawsBoard : BoardSchedule Band → Result Answer Fault → Type 0
+DrawsBoard schedule (Ok answer) =
     (r : BoardReport Band) × HasOperations (board_spans schedule.terms) × IsBoardReport schedule r
     × (scene : Scene) × ShowsBoard schedule r scene × (answer ≡ drawn scene)
-AnswersBoard schedule (Err (fault.Document refusal)) = ⊥
-AnswersBoard schedule (Err (fault.History why)) = ⊥
-AnswersBoard schedule (Err (fault.Lines why)) = ⊥
-AnswersBoard schedule (Err (fault.Schedule position)) = IsFirstOverrun (board_spans schedule.terms) position
-AnswersBoard schedule (Err fault.NoMemory) = ⊥
+DrawsBoard schedule (Err (fault.Document refusal)) = ⊥
+DrawsBoard schedule (Err (fault.History why)) = ⊥
+DrawsBoard schedule (Err (fault.Lines why)) = ⊥
+DrawsBoard schedule (Err (fault.Schedule position)) = IsFirstOverrun (board_spans schedule.terms) position
+DrawsBoard schedule (Err fault.NoMemory) = ⊥
 
 -- the answer to a schedule
-abbrev pub AnswersSchedule : ScheduleDocument → Result Answer Fault → Type 0
-AnswersSchedule (Cell schedule) reply = AnswersCell schedule reply
-AnswersSchedule (Matrix schedule titled) reply = AnswersMatrix schedule reply
-AnswersSchedule (Board schedule titled) reply = AnswersBoard schedule reply
+abbrev pub DrawsSchedule : ScheduleDocument → Result Answer Fault → Type 0
+DrawsSchedule (Cell schedule) reply = DrawsCell schedule reply
+DrawsSchedule (Matrix schedule titled) reply = DrawsMatrix schedule reply
+DrawsSchedule (Board schedule titled) reply = DrawsBoard schedule reply
 
 -- the answer to what a document stands for
 abbrev pub Answers : Shown → Result Answer Fault → Type 0
-Answers (shown.Check document) reply = AnswersCheck document reply
+Answers (shown.Check document) reply = DrawsCheck document reply
 Answers (shown.Log log) reply = AnswersLog log reply
-Answers (shown.Schedule document) reply = AnswersSchedule document reply
+Answers (shown.Schedule document) reply = DrawsSchedule document reply
 
 -- the answer to the bytes of a document
-abbrev pub IsAnswer : List ℕ → Result Answer Fault → Type 0
-IsAnswer bytes reply = AnswersReading Answers (document_of bytes) reply
+abbrev pub IsPictureAnswer : List ℕ → Result Answer Fault → Type 0
+IsPictureAnswer bytes reply = AnswersReading Answers (document_of bytes) reply

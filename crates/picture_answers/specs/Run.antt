@@ -2,9 +2,9 @@
 use Rattle.std.specs.Prelude.{◌≡◌, ℕ, Bool, true, false, List}
 use Rattle.fsr_runs.specs.Run.{IsToldBy, nothing_asked}
 use Rattle.fsr_runs.specs.declared.fault.Answer.{Answer}
-use Rattle.picture_answers.specs.Answers.{IsAnswer}
+use Rattle.picture_answers.specs.Answers.{IsPictureAnswer}
 
 -- what is made of the input; where words besides the program's name were given, nothing is, with status 2
-abbrev pub IsOutcome : Bool → List ℕ → Answer → Type 0
-IsOutcome false bytes told = told ≡ nothing_asked
-IsOutcome true bytes told = IsToldBy IsAnswer bytes told
+abbrev pub IsPictureOutcome : Bool → List ℕ → Answer → Type 0
+IsPictureOutcome false bytes told = told ≡ nothing_asked
+IsPictureOutcome true bytes told = IsToldBy IsPictureAnswer bytes told

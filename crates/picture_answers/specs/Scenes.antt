@@ -34,7 +34,7 @@ abbrev pub ArePointsOf : List (Op Band) → List ℕ → List ℕ → Type 0
 ArePointsOf ops order points = AreEarliest ops order points ⊎ ((¬ HasPoints ops order) × (points ≡ []))
 
 -- a history with an order of it and its points, and what is said of it; these stamps, lanes and slot accesses
-pub record Shows (history : History Band) (order : List ℕ) (finding : Finding) (stamps : List (Option Stamp)) (lanes : Lanes)
+pub record IsSceneOf (history : History Band) (order : List ℕ) (finding : Finding) (stamps : List (Option Stamp)) (lanes : Lanes)
     (visits : List Visit) (scene : Scene) : Type 0 where
   pub history_is : scene.history ≡ history
   pub order_is : scene.order ≡ order
@@ -51,24 +51,24 @@ finding_of (Some broken) = Broken broken
 -- of a check what breaks the order, if something does
 pub record ShowsCheck (history : History Band) (order : List ℕ) (scene : Scene) : Type 0 where
   pub broken : Option Break
-  pub shown : Shows history order (finding_of broken) [] Actors [] scene
+  pub shown : IsSceneOf history order (finding_of broken) [] Actors [] scene
   pub rule : IsVerdict AreSame history.opening history.terms history.ops order (verdict_of broken)
   pub first : IfSome broken (IsFirstBreak AreSame history.opening history.terms history.ops order)
 
 -- of a log the order that was found, or no order and the reason
 abbrev pub ShowsLog : History Band → Search → Scene → Type 0
-ShowsLog log (Order order) scene = Shows log order Lawful [] Actors [] scene
-ShowsLog log (Unlawful reason) scene = Shows log [] (NoOrder reason) [] Actors [] scene
+ShowsLog log (Order order) scene = IsSceneOf log order Lawful [] Actors [] scene
+ShowsLog log (Unlawful reason) scene = IsSceneOf log [] (NoOrder reason) [] Actors [] scene
 
 abbrev pub ShowsCell : CellSchedule Band → CellReport Band → Scene → Type 0
 ShowsCell schedule report scene =
-    Shows report.history report.order Lawful [] Cell (cell_visits schedule report.history.ops report.slots) scene
+    IsSceneOf report.history report.order Lawful [] Cell (cell_visits schedule report.history.ops report.slots) scene
 
 abbrev pub ShowsMatrix : MatrixReport Band → Scene → Type 0
-ShowsMatrix report scene = Shows report.history report.order Lawful report.stamps Actors [] scene
+ShowsMatrix report scene = IsSceneOf report.history report.order Lawful report.stamps Actors [] scene
 
 -- of a board also its cells, where they fit
 abbrev pub ShowsBoard : BoardSchedule Band → BoardReport Band → Scene → Type 0
 ShowsBoard schedule report scene =
-    Shows report.history report.order Lawful report.stamps (board_lanes schedule.terms)
+    IsSceneOf report.history report.order Lawful report.stamps (board_lanes schedule.terms)
     (board_visits schedule.terms report.history.terms report.history.ops report.slots) scene

@@ -1,10 +1,10 @@
 ghost use Rattle.std.specs.Prelude.{◌≡◌, IfOk};
-ghost use Rattle.fsr_runs.specs.Answers.{Gives};
-ghost use Rattle.history_text.specs.Refusals.{Gives as Reads};
+ghost use Rattle.fsr_runs.specs.Answers.{GivesReply};
+ghost use Rattle.history_text.specs.Refusals.{GivesReply as Reads};
 ghost use Rattle.log_text.specs.Log.{CanBeSearched};
 ghost use Rattle.matrix_core.specs.Runs.{CanPlay};
-ghost use Rattle.picture_answers.specs.Answers.{AnswersBoard, AnswersCell, AnswersCheck, AnswersLog, AnswersMatrix, AnswersSchedule};
-ghost use Rattle.picture_answers.specs.Answers.{CanBeShown, document_of, drawn, IsAnswer, other_in, shown_in, status_of};
+ghost use Rattle.picture_answers.specs.Answers.{DrawsBoard, DrawsCell, DrawsCheck, AnswersLog, DrawsMatrix, DrawsSchedule};
+ghost use Rattle.picture_answers.specs.Answers.{CanBeShown, document_of, drawn, IsPictureAnswer, other_in, shown_in, status_of};
 ghost use Rattle.schedule_text.specs.Players.{CanBePlayed};
 ghost use Rattle.serde_json.specs.View.{view};
 
@@ -35,7 +35,7 @@ pub enum Shown {
 
 /// The picture of the document that the bytes stand for.
 pub fn answer(alloc: Global, bytes: &[u8]) -> Result<Answer, Fault>
-    ensures { Gives (IsAnswer bytes.now) result }
+    ensures { GivesReply (IsPictureAnswer bytes.now) result }
 {
     match read(alloc, bytes)? {
         Shown::Check(document) => check(alloc, document),
@@ -85,7 +85,7 @@ fn other_in(alloc: Global, value: &Value) -> Result<Shown, DocError>
 
 fn play(alloc: Global, document: &ScheduleDocument) -> Result<Answer, Fault>
     requires { CanBePlayed document.now }
-    ensures { Gives (AnswersSchedule document.now) result }
+    ensures { GivesReply (DrawsSchedule document.now) result }
 {
     match document {
         ScheduleDocument::Cell(schedule) => cell(alloc, schedule),
@@ -95,7 +95,7 @@ fn play(alloc: Global, document: &ScheduleDocument) -> Result<Answer, Fault>
 }
 
 fn check(alloc: Global, document: CheckDocument) -> Result<Answer, Fault>
-    ensures { Gives (AnswersCheck document) result }
+    ensures { GivesReply (DrawsCheck document) result }
 {
     let scene = check_scene(alloc, document.history, document.order)?;
     let answer = draw(alloc, &scene)?;
@@ -104,7 +104,7 @@ fn check(alloc: Global, document: CheckDocument) -> Result<Answer, Fault>
 
 fn log(alloc: Global, history: History<Band>) -> Result<Answer, Fault>
     requires { CanBeSearched history }
-    ensures { Gives (AnswersLog history) result }
+    ensures { GivesReply (AnswersLog history) result }
 {
     let search = search_log(alloc, &history)?;
     let scene = log_scene(alloc, history, search)?;
@@ -113,7 +113,7 @@ fn log(alloc: Global, history: History<Band>) -> Result<Answer, Fault>
 }
 
 fn cell(alloc: Global, schedule: &CellSchedule<Band>) -> Result<Answer, Fault>
-    ensures { Gives (AnswersCell schedule.now) result }
+    ensures { GivesReply (DrawsCell schedule.now) result }
 {
     let report = play_cell(alloc, schedule)?;
     let scene = cell_scene(alloc, schedule, report)?;
@@ -123,7 +123,7 @@ fn cell(alloc: Global, schedule: &CellSchedule<Band>) -> Result<Answer, Fault>
 
 fn matrix(alloc: Global, schedule: &MatrixSchedule<Band>) -> Result<Answer, Fault>
     requires { CanPlay schedule.now.terms }
-    ensures { Gives (AnswersMatrix schedule.now) result }
+    ensures { GivesReply (DrawsMatrix schedule.now) result }
 {
     let report = play_matrix(alloc, schedule)?;
     let scene = matrix_scene(alloc, report)?;
@@ -133,7 +133,7 @@ fn matrix(alloc: Global, schedule: &MatrixSchedule<Band>) -> Result<Answer, Faul
 
 fn board(alloc: Global, schedule: &BoardSchedule<Band>) -> Result<Answer, Fault>
     requires { CanPlay schedule.now.terms }
-    ensures { Gives (AnswersBoard schedule.now) result }
+    ensures { GivesReply (DrawsBoard schedule.now) result }
 {
     let report = play_board(alloc, schedule)?;
     let scene = board_scene(alloc, schedule, report)?;

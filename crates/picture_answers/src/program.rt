@@ -1,6 +1,6 @@
 ghost use Rattle.std.specs.Prelude.{◌≡◌, ◌≤◌, ◌+◌, true};
 ghost use Rattle.fsr_runs.specs.Run.{Fails, never, Runs};
-ghost use Rattle.picture_answers.specs.Run.{IsOutcome};
+ghost use Rattle.picture_answers.specs.Run.{IsPictureOutcome};
 ghost use Rattle.fsr_streams.specs.Stream.{HasRoom};
 
 use crate::answer;
@@ -31,7 +31,7 @@ pub fn run<I: Source, O: Sink, E: Sink>(
     requires input { HasRoom (I.failed input.old) }
     requires out { HasRoom (O.failed out.old) }
     requires faults { HasRoom (E.failed faults.old) }
-    ensures runs { Runs (IsOutcome asked) never (I.remaining input.old)
+    ensures runs { Runs (IsPictureOutcome asked) never (I.remaining input.old)
         (I.remaining input.new) (O.contents out.old) (O.contents out.new) result }
     ensures fails { Fails (I.failed input.old) (I.failed input.new) (O.failed out.old)
         (O.failed out.new) result }
@@ -53,7 +53,7 @@ fn run_picture<I: Source, O: Sink, E: Sink>(
     requires input { HasRoom (I.failed input.old) }
     requires out { HasRoom (O.failed out.old) }
     requires faults { HasRoom (E.failed faults.old) }
-    ensures runs { Runs (IsOutcome true) never (I.remaining input.old) (I.remaining input.new)
+    ensures runs { Runs (IsPictureOutcome true) never (I.remaining input.old) (I.remaining input.new)
         (O.contents out.old) (O.contents out.new) result }
     ensures fails { Fails (I.failed input.old) (I.failed input.new) (O.failed out.old)
         (O.failed out.new) result }

@@ -3,7 +3,7 @@
 ghost use Rattle.std.specs.Prelude.{◌≡◌, [], IfOk};
 ghost use Rattle.matrix_core.specs.Runs.{CanPlay};
 ghost use Rattle.picture_shapes.specs.declared.shape.lanes.Lanes.TheVariants.{Actors};
-ghost use Rattle.picture_answers.specs.Scenes.{ArePointsOf, finding_of, Shows, ShowsBoard, ShowsCell, ShowsCheck, ShowsLog, ShowsMatrix};
+ghost use Rattle.picture_answers.specs.Scenes.{ArePointsOf, finding_of, IsSceneOf, ShowsBoard, ShowsCell, ShowsCheck, ShowsLog, ShowsMatrix};
 
 use four_slot_core::{CellReport, CellSchedule};
 use history_core::{Band, History, Items};
@@ -55,7 +55,7 @@ fn plain_scene(
     order: Items<usize>,
     finding: Finding,
 ) -> Result<Scene, AllocError>
-    ensures { IfOk result (Shows history order finding [] Actors []) }
+    ensures { IfOk result (IsSceneOf history order finding [] Actors []) }
 {
     let stamps = Items::new(Vec::new(alloc));
     let visits = Items::new(Vec::new(alloc));
@@ -161,7 +161,7 @@ fn scene_of(
     lanes: Lanes,
     visits: Items<Visit>,
 ) -> Result<Scene, AllocError>
-    ensures { IfOk result (Shows history order finding stamps lanes visits) }
+    ensures { IfOk result (IsSceneOf history order finding stamps lanes visits) }
 {
     let points = points_of(alloc, &history, &order)?;
     Ok(Scene {

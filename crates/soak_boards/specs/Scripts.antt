@@ -9,14 +9,14 @@ use Rattle.board_origins.specs.declared.origin.Origin.TheVariants.{Sound}
 use Rattle.board_origins.specs.Origins.{IsOrigin}
 use Rattle.soak_findings.specs.declared.finding.Tally.{Tally}
 use Rattle.soak_findings.specs.Findings.{counted}
-use Rattle.soak_rounds.specs.Records.{IsWhole}
+use Rattle.soak_rounds.specs.Records.{IsWholeRecord}
 
 -- `words` are those of a record
 module _ {X : Type 0} (words : X → List ℕ) where
   -- writes and reads by turns. The first write has this number, and each next one a number so much greater
   pub data Scripted (first step : ℕ) : ℕ → ℕ → List (Wish X) → Type 0 where
     no_call : Scripted first step 0 first []
-    two_calls : (n number : ℕ) (s : List (Wish X)) (x : X) → Scripted first step n number s → IsWhole (words x) number
+    two_calls : (n number : ℕ) (s : List (Wish X)) (x : X) → Scripted first step n number s → IsWholeRecord (words x) number
         → Scripted first step (n + 1) (counted number step) ((s ++ Write x ∷ []) ++ Read ∷ [])
 
 abbrev pub is_written : {X : Type 0} → Reply X → Bool

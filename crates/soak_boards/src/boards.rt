@@ -3,7 +3,7 @@ ghost use Rattle.std.specs.Prelude.{◌≡◌, ℕ, All, IfOk, length, map, slic
 ghost use Rattle.board_tasks.specs.Logs.{Obeys};
 ghost use Rattle.history_core.specs.declared.wish.Wish.TheVariants.{Write};
 ghost use Rattle.soak_findings.specs.Findings.{counted};
-ghost use Rattle.soak_rounds.specs.Records.{IsWhole, no_law};
+ghost use Rattle.soak_rounds.specs.Records.{IsWholeRecord, no_law};
 ghost use Rattle.soak_boards.specs.Scripts.{is_seen, is_written, IsRound, IsTally, reads_of, Scripted, writes_of};
 
 use board_live::{Board, Posted};
@@ -20,7 +20,7 @@ use std::thread::Threads;
 /// The write with this number.
 fn write<W: Words>(number: u64) -> Wish<Record<W>>
     ensures lawful { Obeys no_law result }
-    ensures write { (x : _) × (result ≡ Write x) × IsWhole (W.listed x.words) number }
+    ensures write { (x : _) × (result ≡ Write x) × IsWholeRecord (W.listed x.words) number }
 {
     Wish::Write(Record::of(number))
 }

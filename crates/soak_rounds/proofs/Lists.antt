@@ -3,8 +3,8 @@ use Rattle.std.proofs.Common.{◌≡◌, ℕ, ◌+◌, List, [], ◌∷◌, ◌+
 use Rattle.std.specs.Prelude.{Option}
 use Rattle.soak_findings.specs.declared.finding.Tally.{Tally}
 use Rattle.soak_findings.specs.Findings.{counted, last_read, no_tally, with_read, with_write}
-use Rattle.soak_rounds.specs.Records.{AreOf, IsWhole}
-use Rattle.soak_rounds.specs.Rounds.{Adds, Noted, no_read, no_write, one_read, one_write, Wrote}
+use Rattle.soak_rounds.specs.Records.{AreOf, IsWholeRecord}
+use Rattle.soak_rounds.specs.Rounds.{Adds, NotedReads, no_read, no_write, one_read, one_write, Wrote}
 
 append_none : {A : Type 0} (xs : List A) → xs ≡ xs ++ []
 append_none [] = refl
@@ -14,11 +14,11 @@ module _ {X : Type 0} (words : X → List ℕ) where
   pub none_written : (last : ℕ) (xs : List X) → Adds (Wrote words last) 0 xs xs no_tally last
   none_written last xs = record { added = []; more = append_none xs; all = refl; of = no_write }
 
-  pub none_read : (last : ℕ) (xs : List X) → Adds (Noted words last) 0 xs xs no_tally last
+  pub none_read : (last : ℕ) (xs : List X) → Adds (NotedReads words last) 0 xs xs no_tally last
   none_read last xs = record { added = []; more = append_none xs; all = refl; of = no_read }
 
   pub one_more_written : (last k n : ℕ) (old now new : List X) (t : Tally) (x : X) → Adds (Wrote words last) k old now t n
-      → new ≡ now ++ x ∷ [] → IsWhole (words x) (counted n 1) → Adds (Wrote words last) (k + 1) old new (with_write t) (counted n 1)
+      → new ≡ now ++ x ∷ [] → IsWholeRecord (words x) (counted n 1) → Adds (Wrote words last) (k + 1) old new (with_write t) (counted n 1)
   one_more_written last k n old now new t x h e is = record {
     added = h.added ++ x ∷ [];
     more = e ∙ ap (λ z. z ++ x ∷ []) h.more ∙ append_assoc old h.added (x ∷ []);
@@ -27,8 +27,8 @@ module _ {X : Type 0} (words : X → List ℕ) where
   }
 
   pub one_more_read : (last k n : ℕ) (old now new : List X) (t : Tally) (x : X) (number : Option ℕ)
-      → Adds (Noted words last) k old now t n → new ≡ now ++ x ∷ [] → AreOf (words x) number
-      → Adds (Noted words last) (k + 1) old new (with_read t n number) (last_read n number)
+      → Adds (NotedReads words last) k old now t n → new ≡ now ++ x ∷ [] → AreOf (words x) number
+      → Adds (NotedReads words last) (k + 1) old new (with_read t n number) (last_read n number)
   one_more_read last k n old now new t x number h e is = record {
     added = h.added ++ x ∷ [];
     more = e ∙ ap (λ z. z ++ x ∷ []) h.more ∙ append_assoc old h.added (x ∷ []);

@@ -4,21 +4,21 @@ use Rattle.cell_live.specs.declared.cell.Calls.{Ghosts as CellWords}
 use Rattle.cell_live.specs.Running.{last_or}
 use Rattle.soak_findings.specs.declared.finding.Tally.{Tally}
 use Rattle.soak_findings.specs.Findings.{counted, last_read, no_tally, with_end, with_read, with_tally, with_write}
-use Rattle.soak_rounds.specs.Records.{AreOf, IsWhole}
+use Rattle.soak_rounds.specs.Records.{AreOf, IsWholeRecord}
 
 -- `words` are those of a record
 module _ {X : Type 0} (words : X → List ℕ) where
   -- records that were written after the write `last`, each with the next number, how they were counted, and the number of the last
   pub data Wrote (last : ℕ) : List X → Tally → ℕ → Type 0 where
     no_write : Wrote last [] no_tally last
-    one_write : (xs : List X) (t : Tally) (n : ℕ) (x : X) → Wrote last xs t n → IsWhole (words x) (counted n 1)
+    one_write : (xs : List X) (t : Tally) (n : ℕ) (x : X) → Wrote last xs t n → IsWholeRecord (words x) (counted n 1)
         → Wrote last (xs ++ x ∷ []) (with_write t) (counted n 1)
 
   -- records that were read after one of the write `last`, how they were counted, and the last write of which one was read
-  pub data Noted (last : ℕ) : List X → Tally → ℕ → Type 0 where
-    no_read : Noted last [] no_tally last
-    one_read : (xs : List X) (t : Tally) (n : ℕ) (x : X) (number : Option ℕ) → Noted last xs t n → AreOf (words x) number
-        → Noted last (xs ++ x ∷ []) (with_read t n number) (last_read n number)
+  pub data NotedReads (last : ℕ) : List X → Tally → ℕ → Type 0 where
+    no_read : NotedReads last [] no_tally last
+    one_read : (xs : List X) (t : Tally) (n : ℕ) (x : X) (number : Option ℕ) → NotedReads last xs t n → AreOf (words x) number
+        → NotedReads last (xs ++ x ∷ []) (with_read t n number) (last_read n number)
 
 -- a list got so many more, of which this holds with what was counted and the last number
 pub record Adds {X : Type 0} (Of : List X → Tally → ℕ → Type 0) (count : ℕ) (old new : List X) (tally : Tally) (last : ℕ) : Type 0 where
@@ -29,7 +29,7 @@ pub record Adds {X : Type 0} (Of : List X → Tally → ℕ → Type 0) (count :
 
 module _ {X C P G T : Type 0} (words : X → List ℕ) (cells : CellWords C X P G T) (calls : ℕ) where
   -- the reader was told of the record that the writer wrote last; nothing was written or read
-  pub record Tells (cell : C) (p q : P) (g h : G) : Type 0 where
+  pub record HasHeardOfLast (cell : C) (p q : P) (g h : G) : Type 0 where
     pub wrote : cells.written q ≡ cells.written p
     pub read : cells.answers h ≡ cells.answers g
     pub told : cells.told h ≡ cells.told g ++ last_or (cells.opening cell) (cells.written p) ∷ []
@@ -38,13 +38,13 @@ module _ {X C P G T : Type 0} (words : X → List ℕ) (cells : CellWords C X P 
   -- read so many after that write. What was counted in them, and the last numbers that were written and read
   pub data Rounds (cell : C) (put : P) (get : G) : ℕ → P → G → ℕ → ℕ → Tally → Type 0 where
     no_round : Rounds cell put get 0 put get 0 0 no_tally
-    one_round : (n : ℕ) (o p q : P) (f g h : G) (w x r s : ℕ) (t a b : Tally) → Rounds cell put get n o f w r t → Tells cell o p f g
+    one_round : (n : ℕ) (o p q : P) (f g h : G) (w x r s : ℕ) (t a b : Tally) → Rounds cell put get n o f w r t → HasHeardOfLast cell o p f g
         → Adds (Wrote words w) calls (cells.written p) (cells.written q) a x
-        → Adds (Noted words w) calls (cells.answers g) (cells.answers h) b s
+        → Adds (NotedReads words w) calls (cells.answers g) (cells.answers h) b s
         → Rounds cell put get (n + 1) q h x s (with_tally t (with_end (with_tally b a) x s))
 
   -- so many rounds with the passes of one cell, since they were new
-  pub record HasRun (count : ℕ) (tally : Tally) : Type 0 where
+  pub record HasSoaked (count : ℕ) (tally : Tally) : Type 0 where
     pub cell : C
     pub puts : P × P
     pub gets : G × G

@@ -3,7 +3,7 @@ ghost use Rattle.std.specs.Prelude.{◌≡◌, ℕ, List, [], ◌∷◌, ◌++�
 ghost use Rattle.soak_findings.specs.declared.finding.Tally.{Tally};
 ghost use Rattle.soak_findings.specs.Findings.{with_end, with_tally};
 ghost use Rattle.soak_rounds.specs.Records.{AreOf};
-ghost use Rattle.soak_rounds.specs.Rounds.{Adds, HasRun, Noted, Wrote};
+ghost use Rattle.soak_rounds.specs.Rounds.{Adds, HasSoaked, NotedReads, Wrote};
 
 use crate::record::{Record, Shared, Words};
 use cell_live::{Calls, Cell};
@@ -100,7 +100,7 @@ impl<'a, W: Shared, C: Cell<Record<W>>> Side for Reader<'a, W, C> {
 
     ghost ready = { λ s. C.is_get s.cell.now s.get };
 
-    ghost ran = { λ s t. (t.cell.now ≡ s.cell.now) × Adds (Noted (λ r. W.listed r.words) s.last) CALLS (C.answers s.get) (C.answers t.get) t.tally t.last };
+    ghost ran = { λ s t. (t.cell.now ≡ s.cell.now) × Adds (NotedReads (λ r. W.listed r.words) s.last) CALLS (C.answers s.get) (C.answers t.get) t.tally t.last };
 
     ghost tally = { λ s. s.tally };
 
@@ -159,7 +159,7 @@ where
     C::Put: Send,
     C::Get: Send,
     C::Told: Send,
-    ensures { IfOk result (HasRun (λ (r : _). W.listed r.words) ⟦<C as Calls<Record<W>>>⟧ CALLS count) }
+    ensures { IfOk result (HasSoaked (λ (r : _). W.listed r.words) ⟦<C as Calls<Record<W>>>⟧ CALLS count) }
 {
     let (cell, put, get) = C::make(alloc, Record::of(0))?;
     let mut writer: Writer<W, C> = Writer {

@@ -1,6 +1,6 @@
 //! Records whose every word tells which write they are of.
 ghost use Rattle.std.specs.Prelude.{◌≡◌, ℕ, ◌<◌, List, length};
-ghost use Rattle.soak_rounds.specs.Records.{AreOf, IsWhole};
+ghost use Rattle.soak_rounds.specs.Records.{AreOf, IsWholeRecord};
 ghost use Rattle.soak_rounds.specs.Records.{no_law};
 
 use board_live::RecordLaw;
@@ -13,7 +13,7 @@ pub trait Words: Copy + Eq {
 
     /// Words that are all this number.
     fn of(number: u64) -> Self
-        ensures { IsWhole (listed result) number };
+        ensures { IsWholeRecord (listed result) number };
 
     fn all(&self) -> &[u64]
         ensures listed { result.now ≡ listed self.now }
@@ -74,7 +74,7 @@ pub struct Record<W> {
 impl<W: Words> Record<W> {
     /// The record of the write with this number.
     pub fn of(number: u64) -> Record<W>
-        ensures { IsWhole (W.listed result.words) number }
+        ensures { IsWholeRecord (W.listed result.words) number }
     {
         Record {
             words: W::of(number),

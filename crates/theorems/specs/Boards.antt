@@ -9,7 +9,7 @@ use Rattle.board_live.specs.declared.board.Pass.{Pass}
 use Rattle.board_live.specs.declared.board.TagsEnded.{TagsEnded}
 use Rattle.board_live.specs.declared.record.Posted.{Posted}
 use Rattle.board_live.specs.Ends.{AllAtomic, HaveAtomicOrder, IsGreatest, standing}
-use Rattle.board_live.specs.Passes.{Chooses, IsCall, IsKnown, kind_of}
+use Rattle.board_live.specs.Passes.{ChoosesStamp, IsCall, IsKnown, kind_of}
 
 module _ {V F S T : Type 0} (words : FamilyWords F (Posted V) S T) where
   -- what is shown of all passes at once: the greatest of their records, the calls atomic by their intervals, and each register
@@ -38,7 +38,7 @@ module _ {V F S T : Type 0} (words : FamilyWords F (Posted V) S T) (obeys : V �
     pub seen : Posted V
     pub writes : IsCall words obeys board (kind_of wrote) between after seen
     pub write_known : IsKnown words board between after seen
-    pub write_chosen : Chooses board.limit between.process item seen after.own wrote
+    pub write_chosen : ChoosesStamp board.limit between.process item seen after.own wrote
     -- all calls that were made are atomic by their intervals, while the board goes on and at its end
     pub so_far : AreShown words board (others ++ after ∷ []) shown
     pub still : map standing final ≡ map standing (others ++ after ∷ [])

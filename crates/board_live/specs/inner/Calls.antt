@@ -4,16 +4,16 @@ use Rattle.std.specs.Prelude.{true, false, if◌then◌else◌}
 use Rattle.cell_live.specs.declared.times.Times.{Times}
 use Rattle.cell_live.specs.Running.{last_or}
 use Rattle.family_live.specs.declared.family.Family.{Ghosts as FamilyWords}
-use Rattle.family_live.specs.Accesses.{IsWrite, Keeps}
+use Rattle.family_live.specs.Accesses.{IsWriteAccess, KeepsEach}
 use Rattle.matrix_core.specs.Lines.{other}
 use Rattle.board_history.specs.Accesses.{IsInterval}
 use Rattle.board_live.specs.declared.record.Posted.{Posted}
-use Rattle.board_live.specs.Passes.{IsAnswered}
+use Rattle.board_live.specs.Passes.{IsFurtherAnswer}
 use Rattle.board_live.specs.Records.{greatest, Rises}
 
 -- these steps are later than the first time, and the last of them is at the second; or there are none
-abbrev pub IsSpan : ℕ → ℕ → List ℕ → Type 0
-IsSpan clock clock' steps = ((steps ≡ []) × (clock' ≡ clock)) ⊎ ((begin : ℕ) × (slice_get steps 0 ≡ Some begin) × (clock < begin)
+abbrev pub IsStretch : ℕ → ℕ → List ℕ → Type 0
+IsStretch clock clock' steps = ((steps ≡ []) × (clock' ≡ clock)) ⊎ ((begin : ℕ) × (slice_get steps 0 ≡ Some begin) × (clock < begin)
     × (begin ≤ clock') × (slice_get steps (length steps - 1) ≡ Some clock'))
 
 -- access number `access` of these steps is the last of the times
@@ -30,36 +30,36 @@ module _ {V F S T : Type 0} (words : FamilyWords F (Posted V) S T) where
     pub who : words.who pass ≡ process
 
   -- the first of the others were read, each once
-  pub record HasRead (obeys : V → Bool) (family : F) (process count : ℕ) (seat seat' : S) (seen seen' : Posted V) : Type 0 where
+  pub record HasReadColumn (obeys : V → Bool) (family : F) (process count : ℕ) (seat seat' : S) (seen seen' : Posted V) : Type 0 where
     pub of : words.is_seat family seat' × (words.who seat' ≡ words.who seat)
     pub steps : List ℕ
     pub long : length steps ≡ count * words.width
     pub times : words.times seat' ≡ words.times seat ++ steps
-    pub span : IsSpan (words.clock seat) (words.clock seat') steps
+    pub span : IsStretch (words.clock seat) (words.clock seat') steps
     pub answers : List (Posted V)
     pub each : length answers ≡ count
     pub reads : (e : ℕ) (answer : Posted V) → slice_get answers e ≡ Some answer →
         IsIntervalOf words.width steps e (words.reads seat (other process e)).times (words.reads seat' (other process e)).times
-        × IsAnswered obeys (words.opening family) (words.reads seat (other process e)) (words.reads seat' (other process e)) answer
+        × IsFurtherAnswer obeys (words.opening family) (words.reads seat (other process e)) (words.reads seat' (other process e)) answer
     pub unread : (e : ℕ) → count ≤ e → words.reads seat' (other process e) ≡ words.reads seat (other process e)
-    pub writes : Keeps (words.writes seat) (words.writes seat')
+    pub writes : KeepsEach (words.writes seat) (words.writes seat')
     pub sees : seen' ≡ greatest seen answers
     pub lawful : IsTrue (obeys seen'.item)
     pub rises : Rises seen seen'
 
   -- the record was written to the first of the others, once to each
-  pub record HasWritten (family : F) (process count : ℕ) (seat seat' : S) (item : Posted V) : Type 0 where
+  pub record HasWrittenRow (family : F) (process count : ℕ) (seat seat' : S) (item : Posted V) : Type 0 where
     pub of : words.is_seat family seat' × (words.who seat' ≡ words.who seat)
     pub steps : List ℕ
     pub long : length steps ≡ count * words.width
     pub times : words.times seat' ≡ words.times seat ++ steps
-    pub span : IsSpan (words.clock seat) (words.clock seat') steps
+    pub span : IsStretch (words.clock seat) (words.clock seat') steps
     pub writes : (e : ℕ) → e < count →
         IsIntervalOf words.width steps e (words.writes seat (other process e)).times (words.writes seat' (other process e)).times
-        × IsWrite (words.writes seat (other process e)) (words.writes seat' (other process e)) item
+        × IsWriteAccess (words.writes seat (other process e)) (words.writes seat' (other process e)) item
     pub unwritten : (e : ℕ) → count ≤ e → words.writes seat' (other process e) ≡ words.writes seat (other process e)
     pub last : (e : ℕ) (first : Posted V) → e < count → last_or first (words.writes seat' (other process e)).items ≡ item
-    pub reads : Keeps (words.reads seat) (words.reads seat')
+    pub reads : KeepsEach (words.reads seat) (words.reads seat')
 
   -- the record was written to each of so many others; or nothing was, since it is the own record, which stands there
   pub record HasRow (family : F) (process count : ℕ) (seat seat' : S) (own item : Posted V) : Type 0 where
@@ -68,10 +68,10 @@ module _ {V F S T : Type 0} (words : FamilyWords F (Posted V) S T) where
     pub steps : List ℕ
     pub long : length steps ≡ (if tells then count * words.width else 0)
     pub times : words.times seat' ≡ words.times seat ++ steps
-    pub span : IsSpan (words.clock seat) (words.clock seat') steps
+    pub span : IsStretch (words.clock seat) (words.clock seat') steps
     pub writes : tells ≡ true → (e : ℕ) → e < count →
         IsIntervalOf words.width steps e (words.writes seat (other process e)).times (words.writes seat' (other process e)).times
-        × IsWrite (words.writes seat (other process e)) (words.writes seat' (other process e)) item
-    pub unwritten : tells ≡ false → Keeps (words.writes seat) (words.writes seat') × (item ≡ own)
+        × IsWriteAccess (words.writes seat (other process e)) (words.writes seat' (other process e)) item
+    pub unwritten : tells ≡ false → KeepsEach (words.writes seat) (words.writes seat') × (item ≡ own)
     pub last : tells ≡ true → (e : ℕ) (first : Posted V) → e < count → last_or first (words.writes seat' (other process e)).items ≡ item
-    pub reads : Keeps (words.reads seat) (words.reads seat')
+    pub reads : KeepsEach (words.reads seat) (words.reads seat')

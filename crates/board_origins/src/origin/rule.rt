@@ -1,6 +1,6 @@
 //! Rules of entries, and the first entry that breaks one.
 ghost use Rattle.std.specs.Prelude.{◌≡◌, Bool, ℕ, IfNone, IfSome, length, map};
-ghost use Rattle.board_origins.specs.Origins.{AllKeep, in_order, IsFirstBreak, IsFirstIn, KeptBefore};
+ghost use Rattle.board_origins.specs.Origins.{AllKeep, in_order, IsFirstBrokenOrigin, IsFirstIn, KeptBefore};
 
 use super::HasLog;
 use board_tasks::{Entry, Reply};
@@ -50,7 +50,7 @@ pub(crate) fn first_break<V: Copy, L: HasLog<V>, U: Rule<V>>(
 ) -> Option<(usize, usize)>
     requires { U.ready rule.now }
     ensures none { IfNone result (AllKeep (U.rule rule.now) (map L.logged logs.now)) }
-    ensures first { IfSome result (λ at. IsFirstBreak (U.rule rule.now) (map L.logged logs.now) at.0 at.1) }
+    ensures first { IfSome result (λ at. IsFirstBrokenOrigin (U.rule rule.now) (map L.logged logs.now) at.0 at.1) }
 {
     for task in 0..logs.len() {
         if let Some(place) = first_in(rule, task, logs[task].entries()) {

@@ -2,7 +2,7 @@
 use Rattle.std.specs.Prelude.{◌≡◌, ◌<◌, ◌≤◌, ◌⊎◌, ℕ, true, false, List, length, Option, Result, Ok, Err, Vec}
 use Rattle.std.specs.declared.alloc.Global.{Global}
 use Rattle.fsr_streams.specs.Transfer.{most_taken}
-use Rattle.fsr_runs.specs.Run.{TakesRest}
+use Rattle.fsr_runs.specs.Run.{TakesRestOf}
 use Rattle.lines_answers.specs.Kinds.{are_lines}
 
 -- the front stays alone: it isn't longer than a document, or not in lines
@@ -15,5 +15,5 @@ IsLong front = (most_taken ≤ length front) × (are_lines front ≡ true)
 
 -- behind a front nothing was taken, or the rest of a long log in lines
 abbrev pub TakesBehind : List ℕ → Option (List ℕ) → Option (List ℕ) → Result (Vec ℕ Global) ℕ → Type 0
-TakesBehind front old new (Ok v) = IsLeft front old new v.items ⊎ (IsLong front × TakesRest old new front (Ok v))
-TakesBehind front old new (Err status) = (new ≡ old) ⊎ (IsLong front × TakesRest old new front (Err status))
+TakesBehind front old new (Ok v) = IsLeft front old new v.items ⊎ (IsLong front × TakesRestOf old new front (Ok v))
+TakesBehind front old new (Err status) = (new ≡ old) ⊎ (IsLong front × TakesRestOf old new front (Err status))

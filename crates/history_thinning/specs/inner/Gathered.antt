@@ -31,8 +31,8 @@ pub record IsGathered (groups : List Group) (n : ℕ) (kept : List Placed) : Typ
       slice_get (kept_in group) k ≡ Some m → (i : ℕ) × (slice_get kept i ≡ Some m)
 
 -- by place
-abbrev pub AreSorted : List Placed → Type 0
-AreSorted kept = (i j : ℕ) (a b : Placed) → i < j → slice_get kept i ≡ Some a → slice_get kept j ≡ Some b → a.place ≤ b.place
+abbrev pub AreByPlace : List Placed → Type 0
+AreByPlace kept = (i j : ℕ) (a b : Placed) → i < j → slice_get kept i ≡ Some a → slice_get kept j ≡ Some b → a.place ≤ b.place
 
 -- the operations of the first n of these, each once, and their places
 pub record IsApart (kept : List Placed) (n : ℕ) (ops : List (Op ℕ)) (places : List ℕ) : Type 0 where

@@ -21,7 +21,7 @@ reason_in places (Crossed a b c d) = Crossed (place_in places a) (place_in place
 reason_in places (Limit refused) = Limit (place_in places refused)
 
 -- the places in the log of the writes among the first n entries of an order of kept operations
-pub record AreWrites (ops : List (Op ℕ)) (places order : List ℕ) (n : ℕ) (writes : List ℕ) : Type 0 where
+pub record AreWritePlaces (ops : List (Op ℕ)) (places order : List ℕ) (n : ℕ) (writes : List ℕ) : Type 0 where
   pub long : length writes ≡ writes_in (λ _. true) ops (take n order)
   pub listed : (i p : ℕ) → i < n → slice_get order i ≡ Some p → is_write_at (slice_get ops p) ≡ true →
       slice_get writes (writes_in (λ _. true) ops (take i order)) ≡ Some (place_in places p)

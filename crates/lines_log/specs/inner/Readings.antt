@@ -6,7 +6,7 @@ use Rattle.lines_tables.specs.Tasks.{KnowsTasks}
 use Rattle.lines_log.specs.Logs.{AreAll, AreLines, judged_line, unfinished_in}
 use Rattle.history_core.specs.declared.history.Op.{Op}
 use Rattle.history_search.specs.declared.reason.SearchError.{SearchError}
-use Rattle.history_thinning.specs.Answers.{IsLogFault}
+use Rattle.history_thinning.specs.Answers.{IsThinnedFault}
 use Rattle.history_thinning.specs.Thinnings.{IsThinnedLog}
 use Rattle.history_thinning.specs.inner.Kept.{IsThinning}
 use Rattle.fsr_runs.specs.declared.fault.Fault.{Fault}
@@ -16,7 +16,7 @@ use Rattle.lines_log.specs.declared.lines_log.LinesLog.{LinesLog}
 use Rattle.lines_log.specs.declared.reader.Reader.{Reader}
 
 -- these lines were read
-pub record IsRead (opening : List ℕ) (lines : List (List ℕ)) (reader : Reader) : Type 0 where
+pub record AreRead (opening : List ℕ) (lines : List (List ℕ)) (reader : Reader) : Type 0 where
   pub records : List (List ℕ)
   pub log : List (Op ℕ)
   pub are : AreLines reader.limited lines records log
@@ -29,22 +29,22 @@ pub record IsRead (opening : List ℕ) (lines : List (List ℕ)) (reader : Reade
 
 -- why an operation isn't entered, with which the log is this one, unless memory ran out
 abbrev pub IsEntryFault : List (Op ℕ) → Fault → Type 0
-IsEntryFault log f = (f ≡ NoMemory) ⊎ ((error : SearchError) × IsLogFault log error × (f ≡ told_of error))
+IsEntryFault log f = (f ≡ NoMemory) ⊎ ((error : SearchError) × IsThinnedFault log error × (f ≡ told_of error))
 
 -- one more line was read: an operation was entered, or it is the end
 abbrev pub ReadsLine : List ℕ → List (List ℕ) → List ℕ → Bool → Reader → Reader → Type 0
 ReadsLine opening lines line last old new =
-    IsRead opening (lines ++ line ∷ []) new
-    ⊎ (IsRead opening lines new × (judged_line old.limited (length lines) last line ≡ Ok None))
+    AreRead opening (lines ++ line ∷ []) new
+    ⊎ (AreRead opening lines new × (judged_line old.limited (length lines) last line ≡ Ok None))
 
 -- some lines were read
-abbrev pub HasRead : Reader → Type 0
-HasRead reader = (opening : List ℕ) × (lines : List (List ℕ)) × IsRead opening lines reader
+abbrev pub HasReadLines : Reader → Type 0
+HasReadLines reader = (opening : List ℕ) × (lines : List (List ℕ)) × AreRead opening lines reader
 
 -- lines of this body were read, and it goes on with the rest; or its end was, and nothing is left
-pub record IsUnderWay (opening : List ℕ) (limited : Bool) (body : List (List ℕ)) (rest : List ℕ) (reader : Reader) : Type 0 where
+pub record IsPartlyRead (opening : List ℕ) (limited : Bool) (body : List (List ℕ)) (rest : List ℕ) (reader : Reader) : Type 0 where
   pub lines : List (List ℕ)
-  pub read : IsRead opening lines reader
+  pub read : AreRead opening lines reader
   pub limits : reader.limited ≡ limited
   pub left : (body ≡ lines ++ lines_of rest)
       ⊎ ((rest ≡ []) × ((end : List ℕ) × (body ≡ lines ++ end ∷ []) × (judged_line limited (length lines) true end ≡ Ok None)))
@@ -52,7 +52,7 @@ pub record IsUnderWay (opening : List ℕ) (limited : Bool) (body : List (List �
 -- the body was read
 pub record IsReadWhole (opening : List ℕ) (body : List (List ℕ)) (reader : Reader) : Type 0 where
   pub lines : List (List ℕ)
-  pub read : IsRead opening lines reader
+  pub read : AreRead opening lines reader
   pub all : AreAll reader.limited body lines
 
 -- whether nothing is left

@@ -2,7 +2,7 @@
 use Rattle.std.specs.Prelude.{List}
 use Rattle.board_live.specs.Passes.{IsPass}
 use Rattle.board_history.specs.BoardRuns.{Called}
-use Rattle.board_control.specs.Turns.{Drives, HasRead, in_order}
+use Rattle.board_control.specs.Turns.{Drives, HasReadInTurn, in_order}
 use Rattle.board_control.specs.declared.control.Control.{Control}
 use Rattle.board_control.proofs.tasks.control.Given as goal
 
@@ -10,6 +10,6 @@ abbrev pub invariant-loop : goal.invariant-loop
 invariant-loop g l = record {
   of : IsPass g.F.Family in_order l.shared.board l.pass;
   calls : List (Called Control);
-  reads : HasRead g.F.Family l.shared.board l.initial.pass calls l.pass;
+  reads : HasReadInTurn g.F.Family l.shared.board l.initial.pass calls l.pass;
   drives : Drives g.M.Motor.was_sent l.initial.motor calls l.motor;
 }

@@ -1,6 +1,6 @@
 -- The column of the family is the board's, by its numbers.
 use Rattle.std.proofs.Common.{◌-◌, subst, rules}
-use Rattle.board_live.specs.inner.Calls.{HasRead}
+use Rattle.board_live.specs.inner.Calls.{HasReadColumn}
 use Rattle.board_live.proofs.Accessing.{column_read}
 use Rattle.board_live.proofs.calls.column.Goals as goal
 
@@ -13,8 +13,8 @@ returns g c =
     let own = c.args.seen.now in
     let new = c.read_all_from.new in
     let of = c.requires.of in
-    subst (λ z. HasRead w obeys family z (c.args.processes - 1) old new.seat own new.seen) of.who
-    (subst (λ z. HasRead w obeys family (w.who old) (z - 1) old new.seat own new.seen) of.all
+    subst (λ z. HasReadColumn w obeys family z (c.args.processes - 1) old new.seat own new.seen) of.who
+    (subst (λ z. HasReadColumn w obeys family (w.who old) (z - 1) old new.seat own new.seen) of.all
     (column_read w obeys family (w.who old) old own of.seat c.requires.lawful (w.processes family - 1) (new.seat, new.seen) c.read_all_from.ensures))
 
 pub read_all_from-requires : goal.read_all_from-requires

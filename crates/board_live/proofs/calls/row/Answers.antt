@@ -1,6 +1,6 @@
 -- The row of the family is the board's, by its numbers.
 use Rattle.std.proofs.Common.{◌-◌, ◌<◌, ◌∙◌, sym, subst, rules}
-use Rattle.board_live.specs.inner.Calls.{HasWritten}
+use Rattle.board_live.specs.inner.Calls.{HasWrittenRow}
 use Rattle.board_live.proofs.Accessing.{row_written, stands_there}
 use Rattle.board_live.proofs.calls.row.Goals as goal
 
@@ -11,8 +11,8 @@ returns g c =
     let old = c.args.seat.now in
     let new = c.write_all_from.new.seat in
     let of = c.requires.of in
-    subst (λ z. HasWritten w family z (c.args.processes - 1) old new c.args.item.now) of.who
-    (subst (λ z. HasWritten w family (w.who old) (z - 1) old new c.args.item.now) of.all
+    subst (λ z. HasWrittenRow w family z (c.args.processes - 1) old new c.args.item.now) of.who
+    (subst (λ z. HasWrittenRow w family (w.who old) (z - 1) old new c.args.item.now) of.all
     (row_written w family (w.who old) old c.args.item.now of.seat (w.processes family - 1) new c.write_all_from.ensures))
 
 pub write_all_from-requires-clause-own : goal.write_all_from-requires-clause-own

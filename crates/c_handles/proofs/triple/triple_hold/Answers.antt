@@ -13,7 +13,7 @@ returns g c =
     let was : c.args.reader.now.live ≢ 0 = search rules in
     let lent : c.reach-side.result.now ≡ c.args.reader.now.loose.side = c.reach-side.ensures.value in
     elim c.match-hold.branch [
-      in-None w ↦ rw (w.result-is, w.at-is) (other (was, λ s e. w.in-None.ensures.none s (lent ∙ e)) refl)
-    | in-Some w ↦
-      let r = w.in-Some.ensures.some in rw (w.result-is, w.at-is) (done r.0 (was, sym lent ∙ r.1) (ap (λ a. a.words) r.2))
+      | in-None w ↦ rw (w.result-is, w.at-is) (other (was, λ s e. w.in-None.ensures.none s (lent ∙ e)) refl)
+      | in-Some w ↦
+          let r = w.in-Some.ensures.some in rw (w.result-is, w.at-is) (done r.0 (was, sym lent ∙ r.1) (ap (λ a. a.words) r.2))
     ]

@@ -9,19 +9,19 @@ use Rattle.history_core.specs.declared.history.History.{History}
 use Rattle.picture_text.specs.declared.scene.Finding.{Finding}
 use Rattle.picture_shapes.specs.declared.shape.lanes.Lanes.TheVariants.{Actors}
 use Rattle.picture_text.specs.declared.scene.Scene.{Scene}
-use Rattle.picture_answers.specs.Scenes.{AreSame, finding_of, Shows, ShowsCheck}
+use Rattle.picture_answers.specs.Scenes.{AreSame, finding_of, IsSceneOf, ShowsCheck}
 use Rattle.picture_answers.proofs.scenes.check_scene.Goals as goal
 
 module _ (history : History Band) (order slice : List ℕ) (broken : Option Break) where
   shows_check : (scene : Scene) (finding : Finding) → slice ≡ order → finding ≡ finding_of broken
-      → Shows history order finding [] Actors [] scene
+      → IsSceneOf history order finding [] Actors [] scene
       → IsVerdict AreSame history.opening history.terms history.ops slice (verdict_of broken)
       → IfSome broken (IsFirstBreak AreSame history.opening history.terms history.ops slice)
       → ShowsCheck history order scene
   shows_check scene finding same found shown rule first =
       let P : List ℕ → Type 0 = λ xs. IsVerdict AreSame history.opening history.terms history.ops xs (verdict_of broken) in
       let Q : List ℕ → Type 0 = λ xs. IfSome broken (IsFirstBreak AreSame history.opening history.terms history.ops xs) in
-      let S : Finding → Type 0 = λ f. Shows history order f [] Actors [] scene in
+      let S : Finding → Type 0 = λ f. IsSceneOf history order f [] Actors [] scene in
       record { broken = broken; shown = subst S found shown; rule = subst P same rule; first = subst Q same first }
 
 pub returns : goal.returns

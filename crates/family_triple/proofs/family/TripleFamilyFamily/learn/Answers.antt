@@ -3,7 +3,7 @@ use Rattle.std.proofs.Common.{◌≡◌, ◌≢◌, ◌<◌, ℕ, [], ◌∷◌,
 use Rattle.cell_triple.specs.Steps.{TripleSight, hears_of}
 use Rattle.cell_live.specs.Running.{snap}
 use Rattle.cell_live.specs.declared.sight.Sight.TheVariants.{Spent, Told as Tells}
-use Rattle.family_live.specs.Accesses.{IsHeardRead, Keeps, KeepsOthers}
+use Rattle.family_live.specs.Accesses.{IsHeardRead, KeepsEach, KeepsOthers}
 use Rattle.family_four_slot.specs.declared.notes.Process.{Process}
 use Rattle.family_four_slot.specs.declared.notes.Receipt.{Receipt}
 use Rattle.family_four_slot.specs.declared.notes.View.TheVariants.{Has}
@@ -64,7 +64,7 @@ returns-clause-others g c =
     let lf : t.from < s.processes = subst (λ z. t.from < z) n told.inside in
     let elsewhere : (k : ℕ) → writer_of s.processes k ≢ t.from → of_cell Spent k r.parts ≡ Spent =
     subst (λ z. (k : ℕ) → writer_of z k ≢ t.from → of_cell Spent k r.parts ≡ Spent) n told.elsewhere in
-    subst (λ z. Keeps (writes_to s.spare s.processes v) (writes_to s.spare s.processes z)
+    subst (λ z. KeepsEach (writes_to s.spare s.processes v) (writes_to s.spare s.processes z)
     × KeepsOthers t.from (reads_from s.spare s.processes v) (reads_from s.spare s.processes z)) (sym (ap process_of me)) (
       writes_stay s.spare s.processes v r s.fills s.reads s.seat.inner.me.1 own.rest,
       others_stay s.spare s.processes v r s.fills s.reads s.seat.inner.me.1 own.rest t.from lf elsewhere,
