@@ -1,5 +1,5 @@
 //! Reading and writing.
-ghost use Rattle.std.specs.Prelude.{◌≡◌, ◌≢◌, ◌+◌, ◌-◌, ◌*◌, ◌<◌, false, length, IfErr, IfOk, IsTrue};
+ghost use Rattle.std.specs.Prelude.{◌≡◌, ◌≢◌, ◌+◌, ◌-◌, ◌*◌, ◌<◌, length, IfErr, IfOk, IsTrue};
 ghost use Rattle.board_live.specs.inner.Calls.{HasReadColumn, HasRow, HasWrittenRow, IsOf};
 ghost use Rattle.cell_live.specs.Running.{last_or};
 ghost use Rattle.history_core.specs.declared.history.Kind.TheVariants.{Read};
@@ -49,8 +49,8 @@ fn row<V: RecordLaw, F: Family<Posted<V>>>(
     family.write_all_from(seat, item);
 }
 
-/// Writes the record to each other process if it is new or above the own record; else they have it.
-#[inline(always)]
+/// Writes the record to each other process, where it is above the own record, which they have.
+#[inline]
 fn tell_row<V: RecordLaw, F: Family<Posted<V>>>(
     family: &F,
     processes: usize,
@@ -59,7 +59,6 @@ fn tell_row<V: RecordLaw, F: Family<Posted<V>>>(
     first: &Posted<V>,
     own: &Posted<V>,
     item: &Posted<V>,
-    is_new: bool,
 )
     requires of { IsOf ⟦<F as Family<Posted<V>>>⟧ family.now processes process seat.old }
     requires opens { F.opening family.now ≡ first.now }
@@ -67,9 +66,9 @@ fn tell_row<V: RecordLaw, F: Family<Posted<V>>>(
     requires rises { Rises own.now item.now }
     requires lawful { IsTrue (V.obeys item.now.item) }
     ensures row { HasRow ⟦<F as Family<Posted<V>>>⟧ family.now process (processes - 1) seat.old seat.new own.now item.now }
-    ensures silent { is_new ≡ false → own.now.stamp ≡ item.now.stamp → seat.new ≡ seat.old }
+    ensures silent { own.now.stamp ≡ item.now.stamp → seat.new ≡ seat.old }
 {
-    if is_new || own.stamp != item.stamp {
+    if own.stamp != item.stamp {
         row(family, processes, process, seat, first, own, item);
     }
 }
@@ -106,7 +105,6 @@ impl<V: RecordLaw, F: Family<Posted<V>>> Board<V, F> {
             &self.first,
             &before,
             &pass.own,
-            false,
         );
         pass.own
     }
@@ -137,19 +135,31 @@ impl<V: RecordLaw, F: Family<Posted<V>>> Board<V, F> {
         );
         let next = pass.own.stamp.next(self.limit, pass.process);
         pass.own.renew(next, item);
-        tell_row(
-            &self.family,
-            self.processes,
-            pass.process,
-            &mut pass.seat,
-            &self.first,
-            &own,
-            &pass.own,
-            next.is_some(),
-        );
         match next {
-            Some(stamp) => Ok(stamp),
-            None => Err(TagsEnded { seen: pass.own }),
+            Some(stamp) => {
+                row(
+                    &self.family,
+                    self.processes,
+                    pass.process,
+                    &mut pass.seat,
+                    &self.first,
+                    &own,
+                    &pass.own,
+                );
+                Ok(stamp)
+            }
+            None => {
+                tell_row(
+                    &self.family,
+                    self.processes,
+                    pass.process,
+                    &mut pass.seat,
+                    &self.first,
+                    &own,
+                    &pass.own,
+                );
+                Err(TagsEnded { seen: pass.own })
+            }
         }
     }
 }

@@ -24,7 +24,7 @@ returns-clause-bounded g c = is_bounded g.F.Family g.V.RecordLaw.obeys c.args.se
 pub returns-clause-quiet : goal.returns-clause-quiet
 returns-clause-quiet g c = λ e.
     let times = g.F.Family.times in
-    let kept : c.tell_row.new.seat ≡ c.column.new.seat = c.tell_row.ensures.silent refl (sym e) in
+    let kept : c.tell_row.new.seat ≡ c.column.new.seat = c.tell_row.ensures.silent (sym e) in
     ap (λ s. length (times s)) kept ∙ ap length c.column.ensures.times
     ∙ length-append (times c.args.pass.now.seat) c.column.ensures.steps
     ∙ ap (λ m. length (times c.args.pass.now.seat) + m) c.column.ensures.long
