@@ -21,7 +21,7 @@ use Rattle.matrix_core.specs.Lines.{first_record}
 use Rattle.matrix_core.proofs.lists.Elements.{get_exists}
 use Rattle.matrix_core.proofs.orders.Listing.{get_map_back}
 use Rattle.board_history.specs.BoardRuns.{Called, Did}
-use Rattle.board_history.specs.OneRegister.{AreEntriesOfOne as CallsOfOne, IsOneOrder, Named, RegisterTakesEntry as CallTakes}
+use Rattle.board_history.specs.OneRegister.{AreOfOne as CallsOfOne, IsOneOrder, Named, Takes as CallTakes}
 use Rattle.board_history.proofs.Registers.{one_order}
 use Rattle.family_live.specs.declared.family.Family.{Ghosts as FamilyWords}
 use Rattle.board_live.specs.declared.board.Board.{Board}

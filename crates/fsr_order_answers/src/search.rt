@@ -1,7 +1,7 @@
 ghost use Rattle.std.specs.Prelude.{◌≡◌, IfOk};
 ghost use Rattle.fsr_runs.specs.Answers.{GivesReply};
 ghost use Rattle.fsr_order_answers.specs.Order.{AnswersOrder, IsLogAnswer, IsOrderAnswer, printed, status_of};
-ghost use Rattle.history_text.specs.Refusals.{GivesReply as Reads};
+ghost use Rattle.history_text.specs.Refusals.{Gives as Reads};
 ghost use Rattle.log_text.specs.Log.{CanBeSearched, log_of};
 
 use fsr_runs::{Answer, Fault};

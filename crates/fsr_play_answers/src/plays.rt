@@ -1,7 +1,7 @@
 //! Played schedules: the report of each, printed.
 ghost use Rattle.std.specs.Prelude.{IfOk};
 ghost use Rattle.fsr_runs.specs.Answers.{GivesReply};
-ghost use Rattle.history_text.specs.Refusals.{GivesReply as Reads};
+ghost use Rattle.history_text.specs.Refusals.{Gives as Reads};
 ghost use Rattle.matrix_core.specs.Runs.{CanPlay};
 ghost use Rattle.schedule_text.specs.Document.{schedule_of};
 ghost use Rattle.schedule_text.specs.Players.{CanBePlayed};

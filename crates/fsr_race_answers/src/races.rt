@@ -5,7 +5,7 @@ ghost use Rattle.fsr_runs.specs.Answers.{GivesReply};
 ghost use Rattle.fsr_race_answers.specs.Answers.{AnswersRace, IsRaceAnswer, race_status};
 ghost use Rattle.fsr_race_answers.specs.Races.{CountsAll, IsRace, broken_at, counts_of, is_refused, is_seen, is_written, replies};
 ghost use Rattle.board_tasks.specs.Tasks.{Permitted};
-ghost use Rattle.history_text.specs.Refusals.{GivesReply as Reads};
+ghost use Rattle.history_text.specs.Refusals.{Gives as Reads};
 ghost use Rattle.schedule_text.specs.Document.{race_of};
 ghost use Rattle.fsr_runs.specs.declared.fault.Fault.TheVariants.{NoMemory};
 

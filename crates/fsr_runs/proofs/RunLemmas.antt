@@ -5,7 +5,7 @@ use Rattle.std.proofs.lemmas.List.{take_all}
 use Rattle.std.proofs.KnownBytes.{Consumes-nil, Appends-nil}
 use Rattle.std.specs.Io.{StartsWith}
 use Rattle.std.specs.Io.KnownBytes.{Appends}
-use Rattle.fsr_streams.specs.Transfer.{IsWholeInput as IsWholeInput, TakesInBound as TakesInput}
+use Rattle.fsr_streams.specs.Transfer.{IsWhole as IsInputWhole, TakesBytes as TakesInput}
 use Rattle.fsr_runs.specs.Answers.{GivesReply, HasLowStatus}
 use Rattle.fsr_runs.specs.Run.{CountsTaking, Fails, GivesAnswer, IsToldBy, IsWholeInput, never, Runs, TakesInBound, TakesDocument, fault_status, nothing_asked}
 use Rattle.fsr_runs.specs.declared.fault.Answer.{Answer}
@@ -15,7 +15,7 @@ use Rattle.fsr_runs.specs.declared.fault.Fault.TheVariants as fault
 -- ---- what was taken
 
 -- up to its bound an input was taken as a document is
-pub document_taken : (old new : Option (List ℕ)) (taken : List ℕ) → TakesInput old new taken → IsWholeInput taken new
+pub document_taken : (old new : Option (List ℕ)) (taken : List ℕ) → TakesInput old new taken → IsInputWhole taken new
     → TakesInBound never old new taken × IsWholeInput never taken new
 document_taken old new taken takes (inl long) = ((takes.0, λ bounded. takes.1), inr (refl, long))
 document_taken old new taken takes (inr end) = ((takes.0, λ bounded. takes.1), inl end)

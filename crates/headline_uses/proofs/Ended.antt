@@ -18,7 +18,7 @@ use Rattle.board_live.specs.declared.board.Board.{Board}
 use Rattle.board_live.specs.declared.record.Posted.{Posted}
 use Rattle.board_live.specs.Ends.{IsAtomicRun}
 use Rattle.headline_uses.specs.Boards.{EndsWithTheOnlyWrite, IsOnlyBoardWrite, ReadsTheOnlyWrite, RefusesNone, StampsRiseByTime}
-use Rattle.headline_uses.specs.Orders.{IsOnlyBoardWrite as IsOnlyWriteAt}
+use Rattle.headline_uses.specs.Orders.{IsOnlyWrite as IsOnlyWriteAt}
 use Rattle.headline_uses.proofs.Latest.{is_there}
 use Rattle.headline_uses.proofs.Listed.{listed}
 use Rattle.headline_uses.proofs.Ordered.{cut, intervals, reads as read_at, waits}

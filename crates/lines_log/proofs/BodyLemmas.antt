@@ -10,7 +10,7 @@ use Rattle.history_core.specs.declared.history.Op.{Op}
 use Rattle.history_text.specs.Refusals.{◌>>=◌}
 use Rattle.fsr_runs.specs.declared.fault.Fault.{Fault}
 use Rattle.lines_tables.specs.Splits.{in_front, IsSplit, lines_of}
-use Rattle.lines_text.specs.Lines.{done, LogLine, entry_of, Head, head_of, operation}
+use Rattle.lines_text.specs.Lines.{done, LineEntry, entry_of, Head, head_of, operation}
 use Rattle.lines_log.specs.Faults.{IsBodyFault, is_last, IsLineFault}
 use Rattle.lines_log.specs.Logs.{AreAll, AreLines, IsLinesLog, is_refused, judged, judged_line}
 use Rattle.std.specs.Prelude.{is_some, MatchOption, unwrap_or}
@@ -21,10 +21,10 @@ use Rattle.lines_log.specs.declared.reader.Reader.{Reader}
 use Rattle.lines_log.proofs.ReadLemmas.{distinct}
 
 -- with lines behind it a line is no end
-abbrev judged_inside : Bool → ℕ → Result LogLine DocError → Result (Option (Op (List ℕ))) DocError
+abbrev judged_inside : Bool → ℕ → Result LineEntry DocError → Result (Option (Op (List ℕ))) DocError
 judged_inside limited count entry = entry >>= judged limited count false
 
-never : (limited : Bool) (count : ℕ) (entry : Result LogLine DocError) → judged_inside limited count entry ≡ Ok None → ⊥
+never : (limited : Bool) (count : ℕ) (entry : Result LineEntry DocError) → judged_inside limited count entry ≡ Ok None → ⊥
 never limited count (Err why) h = cc
 never limited count (Ok (done ops)) h = cc
 never true count (Ok (operation o)) h = cc

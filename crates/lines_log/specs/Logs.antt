@@ -14,7 +14,7 @@ use Rattle.lines_log.specs.declared.lines_log.LinesLog.{LinesLog}
 use Rattle.lines_tables.specs.Numberings.{AreDistinct}
 use Rattle.lines_tables.specs.Splits.{lines_of}
 use Rattle.lines_tables.specs.Tasks.{TakeTurns}
-use Rattle.lines_text.specs.Lines.{LogLine, operation, done, entry_of, Head, head_of}
+use Rattle.lines_text.specs.Lines.{LineEntry, operation, done, entry_of, Head, head_of}
 
 abbrev pub is_refused : Kind → Bool
 is_refused Write = false
@@ -23,7 +23,7 @@ is_refused Refused = true
 
 -- What a line is behind so many operations: an operation, or the end of the log. A write is refused only where the header has a limit,
 -- and the end stands on the last line, with the number of the operations.
-abbrev pub judged : Bool → ℕ → Bool → LogLine → Result (Option (Op (List ℕ))) DocError
+abbrev pub judged : Bool → ℕ → Bool → LineEntry → Result (Option (Op (List ℕ))) DocError
 judged limited count last (operation o) = if limited || not (is_refused o.kind) then Ok (Some o) else Err (Missing key.Limit)
 judged limited count last (done ops) = if last then (if ops == count then Ok None else Err (Law key.Ops)) else Err (Shape key.Kind)
 

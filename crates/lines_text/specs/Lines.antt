@@ -23,9 +23,9 @@ use Rattle.lines_text.specs.declared.line.LineOp.{LineOp}
 -- ---- what a line says
 
 -- an operation, or how many there are
-pub data LogLine : Type 0 where
-  operation : Op (List ℕ) → LogLine
-  done : ℕ → LogLine
+pub data LineEntry : Type 0 where
+  operation : Op (List ℕ) → LineEntry
+  done : ℕ → LineEntry
 
 -- what the log is of
 pub record Head : Type 0 where
@@ -36,7 +36,7 @@ pub record Head : Type 0 where
 abbrev pub op_seen : LineOp → Op (List ℕ)
 op_seen o = record { who = o.who; kind = o.kind; starts = o.begin; ends = o.end; item = option_map string_bytes o.«record» }
 
-abbrev pub line_seen : LogLine → LogLine
+abbrev pub line_seen : LogLine → LineEntry
 line_seen (Operation o) = operation (op_seen o)
 line_seen (Done ops) = done ops
 
@@ -88,7 +88,7 @@ done_in d = do
   there ← required (key.Ops ∷ []) d
   field key.Ops as_whole d
 
-unfoldable pub entry_in : Data → Result LogLine DocError
+unfoldable pub entry_in : Data → Result LineEntry DocError
 entry_in d = if is_kind (codes "done") d then (do
   ops ← done_in d
   Ok (done ops)) else (do
@@ -96,7 +96,7 @@ entry_in d = if is_kind (codes "done") d then (do
     Ok (operation op))
 
 -- what a line says, or its first refusal
-unfoldable pub entry_of : List ℕ → Result LogLine DocError
+unfoldable pub entry_of : List ℕ → Result LineEntry DocError
 entry_of bytes = do
   d ← value_of bytes
   entry_in d

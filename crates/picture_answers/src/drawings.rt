@@ -1,6 +1,6 @@
 ghost use Rattle.std.specs.Prelude.{◌≡◌, IfOk};
 ghost use Rattle.fsr_runs.specs.Answers.{GivesReply};
-ghost use Rattle.history_text.specs.Refusals.{GivesReply as Reads};
+ghost use Rattle.history_text.specs.Refusals.{Gives as Reads};
 ghost use Rattle.log_text.specs.Log.{CanBeSearched};
 ghost use Rattle.matrix_core.specs.Runs.{CanPlay};
 ghost use Rattle.picture_answers.specs.Answers.{DrawsBoard, DrawsCell, DrawsCheck, AnswersLog, DrawsMatrix, DrawsSchedule};
