@@ -100,6 +100,7 @@ Table::new(
 .shared.load::<Takes>(
 .shared.split_seat::<First>(
 .shared.split_seat::<Tells>(
+.shared.split_seat::<Repeats>(
 .shared.join_seat::<Learns>(
 .shared.split_seat::<All>(
 .shared.join_seat::<Gathers>(
@@ -120,6 +121,7 @@ Table::new(
 .shared.swap::<Fetches>(
 .shared.split_seat::<First>(
 .shared.split_seat::<Tells>(
+.shared.split_seat::<Repeats>(
 .shared.join_seat::<Learns>(
 .shared.split_seat::<All>(
 .shared.join_seat::<Gathers>(
