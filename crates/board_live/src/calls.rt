@@ -110,7 +110,7 @@ impl<V: RecordLaw, F: Family<Posted<V>>> Board<V, F> {
     }
 
     /// Gives the item the next stamp above what the own record and the others show, and hands it on. If the greatest tag seen isn't below
-    /// the limit, hands on what was seen, unless it is the own record, which was handed on before.
+    /// the limit, hands on what was seen.
     #[inline]
     pub fn write(&self, pass: &mut Pass<V, F>, item: V) -> Result<Stamp, TagsEnded<V>>
         requires pass { IsPass ⟦<F as Family<Posted<V>>>⟧ V.obeys self.now pass.old }
@@ -119,9 +119,6 @@ impl<V: RecordLaw, F: Family<Posted<V>>> Board<V, F> {
         ensures call { (seen : _) × IsCall ⟦<F as Family<Posted<V>>>⟧ V.obeys self.now (kind_of result) pass.old pass.new seen
             × ChoosesStamp self.now.limit pass.old.process item seen pass.new.own result }
         ensures raised { IfOk result (λ s. IsBelow pass.old.own.stamp s) }
-        // A refused write that has its process's own record takes the steps of its column alone.
-        ensures quiet { IfErr result (λ e. e.seen.stamp ≡ pass.old.own.stamp →
-            length (F.times pass.new.seat) ≡ length (F.times pass.old.seat) + (self.now.processes - 1) * F.width) }
         ensures bounded { IsBounded ⟦<F as Family<Posted<V>>>⟧ self.now pass.old pass.new }
         ensures lawful { IfErr result (λ e. IsTrue (V.obeys e.seen.item)) }
     {
@@ -135,31 +132,18 @@ impl<V: RecordLaw, F: Family<Posted<V>>> Board<V, F> {
         );
         let next = pass.own.stamp.next(self.limit, pass.process);
         pass.own.renew(next, item);
+        row(
+            &self.family,
+            self.processes,
+            pass.process,
+            &mut pass.seat,
+            &self.first,
+            &own,
+            &pass.own,
+        );
         match next {
-            Some(stamp) => {
-                row(
-                    &self.family,
-                    self.processes,
-                    pass.process,
-                    &mut pass.seat,
-                    &self.first,
-                    &own,
-                    &pass.own,
-                );
-                Ok(stamp)
-            }
-            None => {
-                tell_row(
-                    &self.family,
-                    self.processes,
-                    pass.process,
-                    &mut pass.seat,
-                    &self.first,
-                    &own,
-                    &pass.own,
-                );
-                Err(TagsEnded { seen: pass.own })
-            }
+            Some(stamp) => Ok(stamp),
+            None => Err(TagsEnded { seen: pass.own }),
         }
     }
 }

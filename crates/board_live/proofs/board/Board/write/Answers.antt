@@ -1,7 +1,6 @@
 -- The same as a read's, for both ends of a write: what is chosen is the item under the next stamp, or what was seen.
-use Rattle.std.proofs.Common.{◌≡◌, ◌+◌, ◌-◌, length, sym, ◌∙◌, ap, subst, inl, inr, arith, rules}
+use Rattle.std.proofs.Common.{◌≡◌, ◌+◌, ◌-◌, sym, ◌∙◌, ap, subst, inl, inr, arith, rules}
 use Rattle.std.specs.Prelude.{◌<◌, ◌≤◌, IsTrue, MatchOption}
-use Rattle.std.proofs.lemmas.List.{length-append}
 use Rattle.history_core.specs.declared.history.Kind.TheVariants.{Write, Refused}
 use Rattle.stamps.specs.Stamps.{IsBelow}
 use Rattle.stamps.proofs.choices.Stamps.{at_most_below}
@@ -12,7 +11,7 @@ use Rattle.board_live.proofs.Calling.{is_bounded, is_call, is_pass}
 use Rattle.board_live.proofs.Records.{rises_at_most}
 use Rattle.board_live.proofs.board.Board.write.Goals as goal
 
-chose_some : (g : _) (c : goal.After-row g) →
+chose_some : (g : _) (c : goal.In-Some g) →
     c.renew.new.self ≡ record { stamp = c.in-Some.stamp; item = c.args.item }
 chose_some g c = c.renew.ensures ∙ ap (λ n. or_item c.column.new.seen n c.args.item) c.in-Some.is
 
@@ -20,7 +19,7 @@ chose_none : (g : _) (c : goal.After-result-1 g) → c.renew.new.self ≡ c.colu
 chose_none g c = c.renew.ensures ∙ ap (λ n. or_item c.column.new.seen n c.args.item) c.in-None.is
 
 -- what the stamp is, by which arm is taken
-next_some : (g : _) (c : goal.After-row g) → (c.column.new.seen.stamp.tag < c.args.self.now.limit)
+next_some : (g : _) (c : goal.In-Some g) → (c.column.new.seen.stamp.tag < c.args.self.now.limit)
     × (c.in-Some.stamp ≡ record { tag = c.column.new.seen.stamp.tag + 1; writer = c.args.pass.now.process })
 next_some g c = subst (λ r. MatchOption r (c.args.self.now.limit ≤ c.column.new.seen.stamp.tag) (λ s. (c.column.new.seen.stamp.tag < c.args.self.now.limit)
     × (s ≡ record { tag = c.column.new.seen.stamp.tag + 1; writer = c.args.pass.now.process }))) c.in-Some.is c.next-next.ensures
@@ -29,7 +28,7 @@ next_none : (g : _) (c : goal.After-result-1 g) → c.args.self.now.limit ≤ c.
 next_none g c = subst (λ r. MatchOption r (c.args.self.now.limit ≤ c.column.new.seen.stamp.tag) (λ s. (c.column.new.seen.stamp.tag < c.args.self.now.limit)
     × (s ≡ record { tag = c.column.new.seen.stamp.tag + 1; writer = c.args.pass.now.process }))) c.in-None.is c.next-next.ensures
 
-below_next : (g : _) (c : goal.After-row g) → IsBelow c.column.new.seen.stamp c.in-Some.stamp
+below_next : (g : _) (c : goal.In-Some g) → IsBelow c.column.new.seen.stamp c.in-Some.stamp
 below_next g c = subst (λ s. IsBelow c.column.new.seen.stamp s) (sym (next_some g c).1) (inl (omega arith))
 
 pub returns-in-Some-clause-pass : goal.returns-in-Some-clause-pass
@@ -42,7 +41,8 @@ returns-in-Some-clause-pass g c =
 pub returns-in-None-clause-pass : goal.returns-in-None-clause-pass
 returns-in-None-clause-pass g c =
     is_pass g.F.Family g.V.RecordLaw.obeys c.args.self.now c.args.pass.now c.requires.pass Refused c.column.new.seen c.renew.new.self
-    c.column.new.seat c.tell_row.new.seat c.column.ensures c.tell_row.ensures.row
+    c.column.new.seat c.row.new.seat c.column.ensures (row_told g.F.Family c.args.self.now.family c.args.pass.now.process (c.args.self.now.processes - 1)
+    c.column.new.seat c.row.new.seat c.args.pass.now.own c.renew.new.self c.row.ensures)
     (subst (λ (z : Posted _). IsTrue (g.V.RecordLaw.obeys z.item)) (sym (chose_none g c)) c.column.ensures.lawful)
 
 pub returns-in-Some-clause-call : goal.returns-in-Some-clause-call
@@ -67,7 +67,8 @@ returns-in-None-clause-call g c =
     let item = ap (λ (z : Posted _). z.item) chose in (
       seen,
       is_call g.F.Family g.V.RecordLaw.obeys c.args.self.now c.args.pass.now c.requires.pass Refused seen c.renew.new.self c.column.new.seat
-          c.tell_row.new.seat c.column.ensures c.tell_row.ensures.row (inr (sym stamp, sym item)) (λ place. (next_none g c, stamp, item)),
+          c.row.new.seat c.column.ensures (row_told g.F.Family c.args.self.now.family c.args.pass.now.process (c.args.self.now.processes - 1)
+          c.column.new.seat c.row.new.seat c.args.pass.now.own c.renew.new.self c.row.ensures) (inr (sym stamp, sym item)) (λ place. (next_none g c, stamp, item)),
       (next_none g c, chose, chose),
     )
 
@@ -80,7 +81,8 @@ returns-in-Some-clause-bounded g c =
 pub returns-in-None-clause-bounded : goal.returns-in-None-clause-bounded
 returns-in-None-clause-bounded g c =
     is_bounded g.F.Family g.V.RecordLaw.obeys c.args.self.now c.args.pass.now c.requires.pass Refused c.column.new.seen c.renew.new.self
-    c.column.new.seat c.tell_row.new.seat c.column.ensures c.tell_row.ensures.row
+    c.column.new.seat c.row.new.seat c.column.ensures (row_told g.F.Family c.args.self.now.family c.args.pass.now.process (c.args.self.now.processes - 1)
+    c.column.new.seat c.row.new.seat c.args.pass.now.own c.renew.new.self c.row.ensures)
 
 pub returns-in-Some-clause-raised : goal.returns-in-Some-clause-raised
 returns-in-Some-clause-raised g c =
@@ -100,37 +102,11 @@ column-requires-clause-lawful g c = search rules
 pub next-next-requires : goal.next-next-requires
 next-next-requires g c = search rules
 
-pub tell_row-requires-clause-of : goal.tell_row-requires-clause-of
-tell_row-requires-clause-of g c = search rules
-
-pub tell_row-requires-clause-opens : goal.tell_row-requires-clause-opens
-tell_row-requires-clause-opens g c = search rules
-
-pub tell_row-requires-clause-last : goal.tell_row-requires-clause-last
-tell_row-requires-clause-last g c = search rules
-
-pub tell_row-requires-clause-rises : goal.tell_row-requires-clause-rises
-tell_row-requires-clause-rises g c = search rules
-
-pub tell_row-requires-clause-lawful : goal.tell_row-requires-clause-lawful
-tell_row-requires-clause-lawful g c = search rules
-
 pub returns-in-Some-clause-lawful : goal.returns-in-Some-clause-lawful
 returns-in-Some-clause-lawful g c = search rules
 
 pub returns-in-None-clause-raised : goal.returns-in-None-clause-raised
 returns-in-None-clause-raised g c = search rules
-
-pub returns-in-Some-clause-quiet : goal.returns-in-Some-clause-quiet
-returns-in-Some-clause-quiet g c = search rules
-
-pub returns-in-None-clause-quiet : goal.returns-in-None-clause-quiet
-returns-in-None-clause-quiet g c = λ e.
-    let times = g.F.Family.times in
-    let kept : c.tell_row.new.seat ≡ c.column.new.seat = c.tell_row.ensures.silent (sym e) in
-    ap (λ s. length (times s)) kept ∙ ap length c.column.ensures.times
-    ∙ length-append (times c.args.pass.now.seat) c.column.ensures.steps
-    ∙ ap (λ m. length (times c.args.pass.now.seat) + m) c.column.ensures.long
 
 pub row-requires-clause-of : goal.row-requires-clause-of
 row-requires-clause-of g c = search rules
