@@ -97,13 +97,15 @@ class Edit:
 
 
 def lines_of_function(folder, function, texts):
-    """The file of a function below src/, and the number of its line `fn`. None where no file has just one function of its name there."""
+    """The file of a function, and the number of its line `fn`: the first file that has just one function of its name, of those that its
+    path names and those that an edit changes."""
     *path, name = function.split("::")
     files = [f"src/{'/'.join(path[:count])}.rt" for count in range(len(path), 0, -1)] + ["src/lib.rt", "src/main.rt"]
-    for file in (it for it in files if (folder / it).is_file()):
+    for file in (it for it in [*files, *texts] if it.startswith("src/") and (folder / it).is_file()):
         lines = (texts.get(file) or (folder / file).read_text(encoding="utf-8")).splitlines()
         found = [number for number, line in enumerate(lines) if re.match(rf"\s*(?:pub(?:\([^)]*\))? )?fn {name}\b", line)]
-        return (file, lines, found[0]) if len(found) == 1 else None
+        if len(found) == 1:
+            return file, lines, found[0]
     return None
 
 
