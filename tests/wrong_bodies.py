@@ -36,6 +36,8 @@ import tempfile
 from concurrent.futures import ThreadPoolExecutor
 from pathlib import Path
 
+from listed import read_rows
+
 TOP = Path(__file__).resolve().parent.parent
 SOURCES = ("src", "specs", "proofs")
 # What the prover says of a function, and of a place in a file.
@@ -154,14 +156,10 @@ class Crate:
 
 def read_crates():
     """The crates of crates.txt by their names. (A crate stands below those that it is used by.)"""
-    crates, rows = {}, {}
-    for row in (TOP / "crates.txt").read_text(encoding="utf-8").splitlines():
-        head, colon, words = row.partition("#")[0].partition(":")
-        if colon:
-            rows[head.split()[0]] = words.split()
+    crates, rows = {}, read_rows(TOP)
     while rows:
-        name = next(it for it, words in rows.items() if not rows.keys() & {*words})
-        crates[name] = Crate(name, rows.pop(name), crates)
+        name = next(it for it, (_, words) in rows.items() if not rows.keys() & {*words})
+        crates[name] = Crate(name, rows.pop(name)[1], crates)
     return crates
 
 
