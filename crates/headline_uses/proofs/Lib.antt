@@ -11,3 +11,5 @@ mod Listings
 mod Single
 mod Made
 mod Shown
+mod Reasoned
+mod Played

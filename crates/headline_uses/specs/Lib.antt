@@ -1,8 +1,10 @@
 pub mod Boards
 pub mod Cells
 pub mod Going
+pub mod Mechanisms
 pub mod Orders
 pub mod Parts
 pub mod Passes
+pub mod Reasons
 pub mod Reports
 pub mod Runs
