@@ -13,3 +13,4 @@ mod Made
 mod Shown
 mod Reasoned
 mod Played
+mod Boarded

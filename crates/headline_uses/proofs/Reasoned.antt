@@ -33,7 +33,7 @@ until : (o : Option ℕ) (from end : ℕ) → o ≡ Some end → IfSome o (λ en
 until o from end e h = subst (λ z. IfSome z (λ end. from ≤ end)) e h
 
 module _ {R : Type 0} where
-  before : (a b : Op R) → Precedes a b → (end : ℕ) × (a.ends ≡ Some end) × (end < b.starts)
+  pub before : (a b : Op R) → Precedes a b → (end : ℕ) × (a.ends ≡ Some end) × (end < b.starts)
   before a b h = there a.ends h
 
   pub unwritten : UnwrittenShows R

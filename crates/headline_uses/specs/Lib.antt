@@ -1,5 +1,6 @@
 pub mod Boards
 pub mod Cells
+pub mod Composed
 pub mod Going
 pub mod Mechanisms
 pub mod Orders

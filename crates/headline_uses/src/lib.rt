@@ -4,6 +4,7 @@
 
 pub mod boards;
 pub mod cells;
+pub mod composed;
 pub mod going;
 pub mod heard;
 pub mod mechanisms;
