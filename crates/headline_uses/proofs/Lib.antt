@@ -14,3 +14,5 @@ mod Shown
 mod Reasoned
 mod Played
 mod Boarded
+mod Theorems
+mod Logged
