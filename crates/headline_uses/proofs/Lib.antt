@@ -16,3 +16,4 @@ mod Played
 mod Boarded
 mod Theorems
 mod Logged
+mod Handed

@@ -2,6 +2,7 @@ pub mod Boards
 pub mod Cells
 pub mod Composed
 pub mod Going
+pub mod Handles
 pub mod Logs
 pub mod Mechanisms
 pub mod Orders

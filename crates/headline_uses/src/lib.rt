@@ -6,6 +6,7 @@ pub mod boards;
 pub mod cells;
 pub mod composed;
 pub mod going;
+pub mod handles;
 pub mod heard;
 pub mod logs;
 pub mod mechanisms;

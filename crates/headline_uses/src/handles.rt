@@ -1,0 +1,12 @@
+//! What a status through C says of the handle and of the register behind it.
+ghost use Rattle.headline_uses.specs.Handles.{StatusesShow, WrittenShows};
+
+/// Whatever a handle can have, a write with status 0 was made, and with any other status nothing was.
+pub fn statuses_show<D, W>()
+    ensures { StatusesShow D W }
+{}
+
+/// A write that was made is the next one of the register.
+pub fn writes_show<W>()
+    ensures { WrittenShows W }
+{}
