@@ -144,12 +144,12 @@ def depth_of(line):
 
 def propositions(lines):
     """The stretches of a definition's text that are propositions: the types of a record's fields, the right sides of an abbreviation's
-    equations. Each is a first line, a column and a last line, which is the first that stands no deeper."""
+    equations. Each is a first line, a column and a last line, which is the first that stands no deeper and closes no bracket."""
+    def goes_on(line, at):
+        return line.strip() and (depth_of(line) > depth_of(lines[at]) or line.strip()[0] in CLOSES)
+
     def end_of(at):
-        last = at + 1
-        while last < len(lines) and lines[last].strip() and depth_of(lines[last]) > depth_of(lines[at]):
-            last += 1
-        return last
+        return next((it for it in range(at + 1, len(lines)) if not goes_on(lines[it], at)), len(lines))
 
     if any(map(RECORD.match, lines)):
         yield from ((at, FIELD.match(line).end(), end_of(at)) for at, line in enumerate(lines) if FIELD.match(line))
@@ -215,7 +215,9 @@ def edited(path, edits):
     """The text of a file with edits that stand in no other's stretch."""
     text = "\n".join(headlines.lines_of(path))
     for it in sorted(edits, key=lambda it: -it.start):
-        text = f"{text[: it.start]}({it.number} < 0 → {text[it.start : it.end]}){text[it.end :]}"
+        # (in one line, since a bracket over several has rules of its own)
+        said = " ".join(re.sub(r"--.*", "", text[it.start : it.end]).split())
+        text = f"{text[: it.start]}({it.number} < 0 → {said}){text[it.end :]}"
     return text if re.search(r"(?m)^use [^\n]*◌<◌", text) else re.sub(r"(?m)^use ", f"{LESS}\nuse ", text, count=1)
 
 
@@ -351,12 +353,15 @@ def judge(edits, said):
         return {edits[0]: "ill-typed" if any(path.endswith(edits[0].path) for path, _ in errors) else "refused"}, []
     ends, words = {}, set()
     for path, told in errors:
-        words.update(re.findall(r"\w+", told))
         # (a < b is a + 1 ≤ b, and told so where it is computed)
-        named = {int(number) for number in re.findall(r"\b(\d+) < 0\b", told)} | {int(it) - 1 for it in re.findall(r"\b(\d+) ≤ 0\b", told)}
-        for it in edits:
-            if it.number in named and ends.get(it) != "ill-typed":
+        named = {int(it) for it in re.findall(r"\b(\d+) < 0\b", told) + re.findall(r"◌<◌ (\d+) 0\b", told)}
+        named |= {int(it) - 1 for it in re.findall(r"\b(\d+) ≤ 0\b", told)}
+        found = [it for it in edits if it.number in named]
+        for it in found:
+            if ends.get(it) != "ill-typed":
                 ends[it] = "ill-typed" if path.endswith(it.path) else "refused"
+        if not found and "was not checked" not in told and "were not checked" not in told:
+            words.update(re.findall(r"\w+", told))
     return ends, [it for it in edits if it.name in words]
 
 

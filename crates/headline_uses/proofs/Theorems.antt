@@ -9,7 +9,7 @@ use Rattle.history_search.specs.Searches.{IsAnswered, IsFault}
 use Rattle.cell_live.specs.declared.cell.Calls.{Ghosts as CellWords}
 use Rattle.family_live.specs.declared.family.Family.{Ghosts as FamilyWords}
 use Rattle.board_live.specs.declared.record.Posted.{Posted}
-use Rattle.headline_uses.specs.Products.{BoardCalls, BoardShows, CellEnds, CellReads, CellTells, CellWrites, GreatestIsThere}
+use Rattle.headline_uses.specs.Products.{BoardCalls, BoardShows, CellEnds, CellHeeds, CellReads, CellWrites, GreatestIsThere}
 use Rattle.headline_uses.specs.Products.{SearchMissesNone, VerdictIsExact, WritesChoose}
 
 not_below : (s : Stamp) → IsBelow s s → ⊥
@@ -38,7 +38,7 @@ module _ {C T P G R : Type 0} (words : CellWords C T P G R) (fits : T → Type 0
   pub writes : CellWrites words fits rises
   writes cell put get item answer h = (h.wrote, h.written, h.write_timed, h.write_accesses, h.ended)
 
-  pub tells : CellTells words fits rises
+  pub tells : CellHeeds words fits rises
   tells cell put get item answer h = (h.wrote, h.read, h.remembers ∙ h.hears, h.written, h.heeded)
 
   pub reads : CellReads words fits rises

@@ -56,8 +56,8 @@ module _ {C T P G R : Type 0} (words : CellWords C T P G R) (fits : T → Type 0
       × (words.put_accesses wrote ≤ words.put_accesses put + 3) × HaveEnded (words.put_times wrote)
 
   -- a reader that learns hears of what was written up to there, and answers nothing by that
-  abbrev pub CellTells : Type 0
-  CellTells = (cell : C) (put : P) (get : G) (item answer : T) → CellTheorem words fits rises cell put get item answer →
+  abbrev pub CellHeeds : Type 0
+  CellHeeds = (cell : C) (put : P) (get : G) (item answer : T) → CellTheorem words fits rises cell put get item answer →
       (wrote : P) × (read : G) × (words.heard read ≡ words.heard get ++ known_as (words.written wrote) (words.put_times wrote) ∷ [])
       × (words.written wrote ≡ words.written put ++ item ∷ [])
       × AreHeeded (words.heard read) (words.known read) (last_or 0 (words.numbers read))

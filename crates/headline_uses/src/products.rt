@@ -1,6 +1,6 @@
 //! What the theorems of the checker, a cell and a board come to, part by part.
 ghost use Rattle.std.specs.Prelude.{IsTrue};
-ghost use Rattle.headline_uses.specs.Products.{BoardCalls, BoardShows, CellEnds, CellReads, CellTells, CellWrites, GreatestIsThere};
+ghost use Rattle.headline_uses.specs.Products.{BoardCalls, BoardShows, CellEnds, CellHeeds, CellReads, CellWrites, GreatestIsThere};
 ghost use Rattle.headline_uses.specs.Products.{SearchMissesNone, VerdictIsExact, WritesChoose};
 
 use board_live::{Posted, RecordLaw};
@@ -16,7 +16,7 @@ pub fn checkers_show<R: Copy + Ord>()
 /// A cell's write, receipt, read and end do what they say, whatever was done with its passes before.
 pub fn cells_show<T: Lawful, C: Calls<T>>()
     ensures writes { CellWrites ⟦<C as Calls<T>>⟧ T.fits T.rises }
-    ensures tells { CellTells ⟦<C as Calls<T>>⟧ T.fits T.rises }
+    ensures tells { CellHeeds ⟦<C as Calls<T>>⟧ T.fits T.rises }
     ensures reads { CellReads ⟦<C as Calls<T>>⟧ T.fits T.rises }
     ensures ends { CellEnds ⟦<C as Calls<T>>⟧ T.fits T.rises }
 {}
