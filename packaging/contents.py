@@ -16,6 +16,10 @@ import subprocess
 import sys
 
 TOP = os.path.dirname(os.path.dirname(os.path.realpath(__file__)))
+sys.path.insert(0, f"{TOP}/tests")
+
+from listed import read_rows  # noqa: E402
+
 OWN_LICENCE = "MIT OR Apache-2.0"
 ROOTS = {"library": ("c_exports",), "programs": ("fsr", "picture")}
 # The licences that the kit's folders of these ports name in README.md and in their files; a kit's crate that isn't here names none.
@@ -41,27 +45,16 @@ def kit_folder():
     return os.path.dirname(page)
 
 
-def rows():
-    """The crates of crates.txt with those that they stand on."""
-    found = {}
-    with open(f"{TOP}/crates.txt", encoding="utf-8") as file:
-        for row in file:
-            head, colon, words = row.partition("#")[0].partition(":")
-            if colon:
-                found[head.split()[0]] = words.split()
-    return found
-
-
 def crates_of(roots, kit):
     """The names of the repository's crates and of the kit's that these roots stand on."""
-    listed, own, foreign, open_names = rows(), set(), {"std", "core"}, list(roots)
+    listed, own, foreign, open_names = read_rows(TOP), set(), {"std", "core"}, list(roots)
     while open_names:
         name = open_names.pop()
         if name not in listed:
             foreign.add(name)
         elif name not in own:
             own.add(name)
-            open_names += listed[name]
+            open_names += listed[name][1]
     for name in list(foreign):
         below = f"{kit}/rlibs/{name}.rlib/below"
         foreign |= set(os.listdir(below)) if os.path.isdir(below) else set()

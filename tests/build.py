@@ -21,6 +21,8 @@ import sys
 import tempfile
 import time
 
+from listed import read_rows
+
 TOP = os.path.dirname(os.path.dirname(os.path.realpath(__file__)))
 SOURCES = ("src", "specs", "proofs")
 STORED_RUN = ("stdin", "stdout", "args", "status", "data")
@@ -57,13 +59,7 @@ class Crate:
 
 def read_crates():
     """The crates of crates.txt by their names."""
-    crates = {}
-    with open(f"{TOP}/crates.txt", encoding="utf-8") as file:
-        for row in file:
-            head, colon, words = row.partition("#")[0].partition(":")
-            if colon:
-                name = head.split()[0]
-                crates[name] = Crate(row, name, words.split())
+    crates = {name: Crate(row, name, words) for name, (row, words) in read_rows(TOP).items()}
     for crate in crates.values():
         crate.uses = [crates[it] for it in crate.words if it in crates]
     return crates

@@ -1,11 +1,11 @@
 # The controls of tests/checks.py, which compares how many checks each script makes with docs/TESTING.md and looks at how they are run: a
 # script that wasn't run, one without a check or with another number, a line `run NAME` that is gone, a script that nobody runs, and two
-# functions of one name.
+# functions of one name. Before them those of how `./test` counts: its own checks, and what another script says of its sums.
 
 # A run with just the numbers that docs/TESTING.md states.
 stated_numbers() {
-    sed -n -e 's/^\([0-9]*\) crates, \([0-9]*\) wrong bodies .*/rt ci \1\ntests\/wrong_bodies.py \2/p' \
-        -e 's/^| \([0-9]*\) | `\([^`]*\)` |$/\2 \1/p' docs/TESTING.md
+    awk '/^[0-9]+ crates, [0-9]+ wrong bodies / { print "rt ci " $1 - 1 "\nc_exports 1\ntests/wrong_bodies.py " $3 }' docs/TESTING.md
+    sed -n 's/^| \([0-9]*\) | `\([^`]*\)` |$/\2 \1/p' docs/TESTING.md
 }
 
 compares_numbers() {
@@ -39,6 +39,23 @@ else
     failed=$((failed + 1))
 fi
 
+# Another script's sums are taken over, its failures too, and a script without sums is a failure; with each its checks are noted.
+told=$(
+    room=$room/sums passed=1 failed=1
+    counted=$room/counted
+    {
+        mkdir "$room" && run_apart sh -c 'echo said; echo "5 passed, 3 failed"'
+        run_apart sh -c 'echo "5 passed, none failed"'
+        run_apart true
+    } >/dev/null
+    echo "$passed $failed $(tr '\n' ' ' <"$counted")"
+)
+if [ "$told" = '6 6 sh 8 sh 1 true 1 ' ]; then
+    pass "planted: another script's failures are counted"
+else
+    fail "planted: another script's failures are counted" "$told"
+fi
+
 if ! command -v python3 >/dev/null 2>&1; then
     fail "tests/checks.py" "there is no python3"
 else
@@ -53,7 +70,12 @@ else
     catches_number "a check too few" "tests/release.sh made 3 checks, and docs/TESTING.md says 4" 's/^\(tests\/release.sh\) 4$/\1 3/'
     catches_number "wrong bodies that weren't tried" "tests/wrong_bodies.py made 7 checks, and docs/TESTING.md says [0-9]*" \
         's/^\(tests\/wrong_bodies.py\) .*/\1 7/'
+    catches_number "a library that nothing proved" "c_exports wasn't run" '/^c_exports /d'
     catches_number "a script that isn't in the table" "tests/more.sh isn't in the table of docs/TESTING.md" '$a tests/more.sh 5'
+    run_counted=$counted counted=$room/numbers
+    stated_numbers | sed '/^tests\/sources.sh /d' >"$counted"
+    catches "a run with other numbers of checks" "tests/sources.sh wasn't run" compare_checks
+    counted=$run_counted
     stated_numbers >"$room/numbers"
     for script in words growth; do
         catches_in_tree "tests/$script.sh isn't run any more" "./test doesn't run tests/$script.sh" test "/^    run $script\$/d" \

@@ -13,6 +13,8 @@ import re
 import sys
 import textwrap
 
+from listed import read_rows
+
 TOP = os.path.dirname(os.path.dirname(os.path.realpath(__file__)))
 MAP = f"{TOP}/docs/MAP.md"
 MARKS = "<!-- made by tests/map.py -->\n", "<!-- to here -->\n"
@@ -36,13 +38,7 @@ SUBJECTS = {
 
 def stands_on():
     """By each crate's name, what its row of crates.txt names."""
-    rows = {}
-    with open(f"{TOP}/crates.txt", encoding="utf-8") as file:
-        for row in file:
-            head, colon, words = row.partition("#")[0].partition(":")
-            if colon:
-                rows[head.split()[0]] = words.split()
-    return rows
+    return {name: words for name, (_, words) in read_rows(TOP).items()}
 
 
 def all_below(rows, name):

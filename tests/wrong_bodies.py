@@ -36,6 +36,8 @@ import tempfile
 from concurrent.futures import ThreadPoolExecutor
 from pathlib import Path
 
+from listed import read_rows
+
 TOP = Path(__file__).resolve().parent.parent
 SOURCES = ("src", "specs", "proofs")
 # What the prover says of a function, and of a place in a file.
@@ -97,13 +99,15 @@ class Edit:
 
 
 def lines_of_function(folder, function, texts):
-    """The file of a function below src/, and the number of its line `fn`. None where no file has just one function of its name there."""
+    """The file of a function, and the number of its line `fn`: the first file that has just one function of its name, of those that its
+    path names and those that an edit changes."""
     *path, name = function.split("::")
     files = [f"src/{'/'.join(path[:count])}.rt" for count in range(len(path), 0, -1)] + ["src/lib.rt", "src/main.rt"]
-    for file in (it for it in files if (folder / it).is_file()):
+    for file in (it for it in [*files, *texts] if it.startswith("src/") and (folder / it).is_file()):
         lines = (texts.get(file) or (folder / file).read_text(encoding="utf-8")).splitlines()
         found = [number for number, line in enumerate(lines) if re.match(rf"\s*(?:pub(?:\([^)]*\))? )?fn {name}\b", line)]
-        return (file, lines, found[0]) if len(found) == 1 else None
+        if len(found) == 1:
+            return file, lines, found[0]
     return None
 
 
@@ -152,14 +156,10 @@ class Crate:
 
 def read_crates():
     """The crates of crates.txt by their names. (A crate stands below those that it is used by.)"""
-    crates, rows = {}, {}
-    for row in (TOP / "crates.txt").read_text(encoding="utf-8").splitlines():
-        head, colon, words = row.partition("#")[0].partition(":")
-        if colon:
-            rows[head.split()[0]] = words.split()
+    crates, rows = {}, read_rows(TOP)
     while rows:
-        name = next(it for it, words in rows.items() if not rows.keys() & {*words})
-        crates[name] = Crate(name, rows.pop(name), crates)
+        name = next(it for it, (_, words) in rows.items() if not rows.keys() & {*words})
+        crates[name] = Crate(name, rows.pop(name)[1], crates)
     return crates
 
 

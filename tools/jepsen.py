@@ -17,7 +17,6 @@ only log goes to standard output.
 with status 3.
 """
 
-import argparse
 import sys
 
 import edn
@@ -83,12 +82,5 @@ def add_event(history, line, place, event, keyed):
         history.leave(line, who)
 
 
-def main():
-    words = argparse.ArgumentParser(description=__doc__, formatter_class=argparse.RawDescriptionHelpFormatter)
-    words.add_argument("--to", metavar="FOLDER")
-    words.add_argument("history", nargs="?")
-    return lines.run("jepsen", words.parse_args(), read_history)
-
-
 if __name__ == "__main__":
-    sys.exit(main())
+    sys.exit(lines.run("jepsen", __doc__, read_history))

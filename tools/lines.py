@@ -1,5 +1,6 @@
 """What the converters share: from calls and returns to logs in JSON Lines, one for each key."""
 
+import argparse
 import json
 import os
 import re
@@ -124,8 +125,12 @@ def write_logs(history, folder):
             file.write(text_of(history.opening, calls))
 
 
-def run(name, words, read):
+def run(name, page, read):
     """Runs a converter: reads a history from the file or standard input, and writes its logs. Status 3: it can't be said."""
+    parser = argparse.ArgumentParser(description=page, formatter_class=argparse.RawDescriptionHelpFormatter)
+    parser.add_argument("--to", metavar="FOLDER")
+    parser.add_argument("history", nargs="?")
+    words = parser.parse_args()
     try:
         if words.history:
             with open(words.history, encoding="utf-8") as file:

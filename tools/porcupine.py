@@ -17,7 +17,6 @@ events' places. A write without a return stands there without an end, a read wit
 written twice can't be said: the line is told, with status 3.
 """
 
-import argparse
 import json
 import re
 import sys
@@ -154,12 +153,5 @@ def read_history(text):
     return read_json(text)
 
 
-def main():
-    words = argparse.ArgumentParser(description=__doc__, formatter_class=argparse.RawDescriptionHelpFormatter)
-    words.add_argument("--to", metavar="FOLDER")
-    words.add_argument("history", nargs="?")
-    return lines.run("porcupine", words.parse_args(), read_history)
-
-
 if __name__ == "__main__":
-    sys.exit(main())
+    sys.exit(lines.run("porcupine", __doc__, read_history))
