@@ -1,11 +1,12 @@
 -- A status tells which case it was.
 use Rattle.std.proofs.Common.{◌≡◌, ◌≢◌, ℕ, ◌+◌, ◌≤◌, ◌^◌, [], ◌∷◌, ◌++◌, refl, ◌∙◌, ap, arith}
 use Rattle.cell_four_slot.specs.Words.{written_by}
+use Rattle.cell_live.specs.Running.{Name}
 use Rattle.c_registers.specs.FourSlotCalls.{HasWritten}
 use Rattle.c_registers.specs.Handles.{Holding, IsWrite}
 use Rattle.c_registers.specs.Handles as handles
 use Rattle.c_registers.specs.Numbers.{numbered}
-use Rattle.headline_uses.specs.Handles.{StatusesShow, WrittenShows}
+use Rattle.headline_uses.specs.Handles.{PassesOfCellsShow, StatusesShow, WrittenShows}
 
 module _ {D P W : Type 0} (writes : P → D) (last : P → ℕ) (has_written : P → P → W → Type 0) (h k : Holding D) (item : W) where
   done : (n : ℕ) → n ≡ 0 → IsWrite writes last has_written h k item n → (p : P) × (q : P) × (h.live ≢ 0) × (h.side ≡ writes p)
@@ -52,4 +53,10 @@ written p q w h = (
   h.quiet,
   h.moved,
   h.timed,
+)
+
+pub of_cells : {T : Type 0} → PassesOfCellsShow T
+of_cells {T} c p g = (
+  λ h. (ap (λ (n : Name T). n.table) h, ap (λ (n : Name T). n.opening) h),
+  λ h. (ap (λ (n : Name T). n.table) h, ap (λ (n : Name T). n.opening) h),
 )

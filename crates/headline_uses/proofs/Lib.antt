@@ -10,6 +10,7 @@ mod Twice
 mod Listings
 mod Single
 mod Made
+mod Scheduled
 mod Shown
 mod Reasoned
 mod Played

@@ -1,7 +1,11 @@
 -- Consequences of a write through C, by its status (this project's own).
 use Rattle.std.specs.Prelude.{◌≡◌, ◌≢◌, ℕ, ◌+◌, ◌≤◌, ◌^◌, List, [], ◌∷◌, ◌++◌}
 use Rattle.cell_live.specs.Intervals.{IsNextCall}
-use Rattle.cell_four_slot.specs.Words.{pair_shown, put_times, writer_accesses, written_by}
+use Rattle.cell_four_slot.specs.Words.{cell_name, get_notes, is_get_of, is_put_of, opening_of, pair_shown, put_notes, put_times, writer_accesses}
+use Rattle.cell_four_slot.specs.Words.{written_by}
+use Rattle.cell_four_slot.specs.declared.cell.FourSlotCell.{FourSlotCell}
+use Rattle.cell_four_slot.specs.declared.cell.FourSlotGet.{FourSlotGet}
+use Rattle.cell_four_slot.specs.declared.cell.FourSlotPut.{FourSlotPut}
 use Rattle.c_registers.specs.FourSlotCalls.{HasWritten}
 use Rattle.c_registers.specs.Handles.{Holding, IsWrite}
 use Rattle.c_registers.specs.Numbers.{numbered}
@@ -27,3 +31,10 @@ module _ (W : Type 0) where
       × (pair_shown q.put.value ≡ pair_shown p.put.value → writer_accesses q.put.value ≡ writer_accesses p.put.value + 2)
       × (pair_shown q.put.value ≢ pair_shown p.put.value → writer_accesses q.put.value ≡ writer_accesses p.put.value + 3)
       × IsNextCall (put_times p.put.value) (put_times q.put.value)
+
+module _ (T : Type 0) where
+  -- a pass is of a cell if both are of one table, and opened with one record
+  abbrev pub PassesOfCellsShow : Type 0
+  PassesOfCellsShow = (c : FourSlotCell T) (p : FourSlotPut T) (g : FourSlotGet T) →
+      (is_put_of c p → (p.seat.inner.table_id ≡ (cell_name c).table) × ((put_notes p).opening.value ≡ opening_of c))
+      × (is_get_of c g → (g.seat.inner.table_id ≡ (cell_name c).table) × ((get_notes g).opening.value ≡ opening_of c))

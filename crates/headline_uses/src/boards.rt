@@ -1,5 +1,5 @@
 //! What the calls of a board say, one by one and all together when it ends.
-ghost use Rattle.headline_uses.specs.Boards.{EndsWithTheOnlyWrite, ReadsTheOnlyWrite, RefusesNone, SeesTheGreater, SeesWhatWasTold};
+ghost use Rattle.headline_uses.specs.Boards.{ComesOfOneSchedule, EndsWithTheGreatest, EndsWithTheOnlyWrite, ReadsTheOnlyWrite, RefusesNone, SeesTheGreater, SeesWhatWasTold};
 ghost use Rattle.headline_uses.specs.Boards.{ShowsItsOwn, StampsRiseByTime, TakesTime};
 ghost use Rattle.headline_uses.specs.Going.{HaveOneGreatest, OrdersShow, RegistersShow};
 ghost use Rattle.headline_uses.specs.Passes.{AllPassesShow, CallsShow, MadeShows, PassesShow};
@@ -9,12 +9,15 @@ use board_live::{Board, Pass, Posted, RecordLaw};
 use family_live::Family;
 
 /// Of the calls of a board that has ended, whichever processes made them: a read that began after the only write had ended has its
-/// record, which the register holds in the end; no write is refused before one was made; and stamps rise along intervals.
+/// record, which the register holds in the end; no write is refused before one was made; stamps rise along intervals; and all come of one
+/// schedule of steps.
 pub fn ended_boards_show<V: RecordLaw, F: Family<Posted<V>>>()
     ensures reads { ReadsTheOnlyWrite ⟦<F as Family<Posted<V>>>⟧ }
     ensures ends { EndsWithTheOnlyWrite ⟦<F as Family<Posted<V>>>⟧ }
     ensures refuses { RefusesNone ⟦<F as Family<Posted<V>>>⟧ }
     ensures rises { StampsRiseByTime ⟦<F as Family<Posted<V>>>⟧ }
+    ensures greatest { EndsWithTheGreatest ⟦<F as Family<Posted<V>>>⟧ }
+    ensures schedule { ComesOfOneSchedule ⟦<F as Family<Posted<V>>>⟧ }
 {}
 
 /// A call of a board that goes on saw the greatest record, none older than what its process was told; after it each other process is shown

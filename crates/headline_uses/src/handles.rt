@@ -1,5 +1,5 @@
 //! What a status through C says of the handle and of the register behind it.
-ghost use Rattle.headline_uses.specs.Handles.{StatusesShow, WrittenShows};
+ghost use Rattle.headline_uses.specs.Handles.{PassesOfCellsShow, StatusesShow, WrittenShows};
 
 /// Whatever a handle can have, a write with status 0 was made, and with any other status nothing was.
 pub fn statuses_show<D, W>()
@@ -9,4 +9,9 @@ pub fn statuses_show<D, W>()
 /// A write that was made is the next one of the register.
 pub fn writes_show<W>()
     ensures { WrittenShows W }
+{}
+
+/// A pass of a cell is of its table.
+pub fn passes_of_cells_show<T: Copy>()
+    ensures { PassesOfCellsShow T }
 {}
