@@ -1,5 +1,6 @@
 -- What a played board says: its two terms have two parts, and the first choices can be of nothing but the opening and of each other.
-use Rattle.std.proofs.Common.{◌≡◌, ◌≢◌, ◌⊎◌, ℕ, ◌+◌, ◌<◌, ◌≤◌, zero, suc, true, false, Bool, ◌||◌, List, [], ◌∷◌, length, slice_get, Option, None, Some}
+use Rattle.std.proofs.Common.{◌≡◌, ◌≢◌, ◌⊎◌, ℕ, ◌+◌, ◌<◌, ◌≤◌, zero, suc, true, false, Bool, ◌||◌}
+use Rattle.std.proofs.Common.{List, [], ◌∷◌, length, slice_get, Option, None, Some}
 use Rattle.std.proofs.Common.{IsSome, is_some, if◌then◌else◌, refl, sym, ◌∙◌, ap, subst, inl, inr, arith}
 use Rattle.history_core.specs.declared.history.Op.{Op}
 use Rattle.history_core.specs.declared.history.Kind.{Kind}
@@ -84,7 +85,7 @@ module _ {R : Type 0} where
   run at p k t span opening noise ops stamps slot chosen op h there is = (
     h.long,
     λ c. let s = h.sees p k t op there is c in
-      (h.told p k t op there is c, h.written p k t op there is c, (s.answers, s.each, s.answered, s.by_kind)),
+        (h.told p k t op there is c, h.written p k t op there is c, (s.answers, s.each, s.answered, s.by_kind)),
     λ none. (h.untold p k op there is none, h.unchosen p k op there is none),
     λ end e. h.ended p k end op there is e,
     h.unfinished p op there,
@@ -100,7 +101,6 @@ module _ {R : Type 0} where
   rising : (s t : Stamp) (a b : Op R) (p q : ℕ) → MayPrecede s a p t b q → IsAtMost s t
   rising s t a b p q (inl below) = inr below
   rising s t a b p q (inr same) = inl same.0
-
 
   of_one : (s t : Stamp) (a b : Op R) (p q : ℕ) → MayPrecede s a p t b q → s ≡ t → is_write a.kind ≡ false →
       (is_write b.kind ≡ false) × (p ≤ q)
@@ -159,8 +159,8 @@ module _ {R : Type 0} where
       let wrote = (at_first limit d Write past.seen past.seen_item opening write of.0 of.1 past.chosen).1 in
       let took = subst (λ z. ChoosesByKind limit c z chose.seen chose.seen_item) read chose.chosen in
       let takes : IsAtMost d.stamp chose.seen → (c.stamp ≡ d.stamp) × (c.item ≡ d.item) = λ most.
-          let it = after_it opening d chose.seen chose.seen_item chose.from most (ap (λ (x : Stamp). x.tag) wrote) in
-          (took.0 ∙ it.0, took.1 ∙ it.1) in (
+      let it = after_it opening d chose.seen chose.seen_item chose.from most (ap (λ (x : Stamp). x.tag) wrote) in
+      (took.0 ∙ it.0, took.1 ∙ it.1) in (
         λ same. takes (chose.own d (inl refl) same),
         λ earlier. takes (chose.earlier d (inl refl) earlier),
         chose.not_later d (inl refl),

@@ -12,7 +12,8 @@ use Rattle.board_tasks.specs.Tasks.{kind_by, Replies}
 use Rattle.board_tasks.specs.Worked.{EachTells, TellsOfCall}
 use Rattle.board_origins.specs.Origins.{IsFirstBrokenOrigin}
 use Rattle.stamps.specs.declared.stamp.Stamp.{Stamp}
-use Rattle.headline_uses.specs.Logs.{AtomicLogsShow, BreaksFirst, BrokenLogsShow, ChosenShow, EntriesShow, LanesShow, RepliesShow, SoundLogsShow}
+use Rattle.headline_uses.specs.Logs.{AtomicLogsShow, BreaksFirst, BrokenLogsShow, ChosenShow, EntriesShow, LanesShow}
+use Rattle.headline_uses.specs.Logs.{RepliesShow, SoundLogsShow}
 
 module _ {V : Type 0} where
   no_write : (item : V) → Read ≡ Write item → ⊥
@@ -97,4 +98,7 @@ module _ {V : Type 0} (equal : V → V → Bool) where
   }
 
   pub broken : BrokenLogsShow equal
-  broken opening logs task call h = elim h.either [ inl order ↦ inl (breaks _ logs task call order) | inr origin ↦ inr (origin.0, breaks _ logs task call origin.1) ]
+  broken opening logs task call h = elim h.either [
+    | inl order ↦ inl (breaks _ logs task call order)
+    | inr origin ↦ inr (origin.0, breaks _ logs task call origin.1)
+  ]

@@ -73,26 +73,28 @@ module _ {R : Type 0} where
   )
 
   pub numbers : CellNumbersShow R
-  numbers s r i j p q a b h at_a at_b less = (
-    λ k l write_a write_b begins_a begins_b.
-        elim (h.order.sorted i j p q (k + 1) (l + 1) a b at_a at_b less (written (writer_in s r) (reader_in s r) a.kind a.starts k write_a begins_a)
-        (written (writer_in s r) (reader_in s r) b.kind b.starts l write_b begins_b)) [
-          | inl below ↦ omega (arith, below)
-          | inr same ↦ absurd (read_or_write (sym same.1.0 ∙ write_b))
-        ],
-    λ m k read_a write_b begins_a begins_b source.
-        elim (h.order.sorted i j p q (k + 1) (k + 1) a b at_a at_b less (answered (writer_in s r) (reader_in s r) a.kind a.starts m (k + 1) read_a begins_a source)
-        (written (writer_in s r) (reader_in s r) b.kind b.starts k write_b begins_b)) [
-          | inl below ↦ omega (arith, below)
-          | inr same ↦ read_or_write (sym same.1.0 ∙ write_b)
-        ],
-    λ l m n read_a read_b begins_a begins_b source_a source_b.
-        elim (h.order.sorted i j p q n n a b at_a at_b less (answered (writer_in s r) (reader_in s r) a.kind a.starts l n read_a begins_a source_a)
-        (answered (writer_in s r) (reader_in s r) b.kind b.starts m n read_b begins_b source_b)) [
-          | inl below ↦ absurd (omega (arith, below))
-          | inr same ↦ elim same.1.1 [ inl write ↦ absurd (read_or_write (sym read_a ∙ write)) | inr by ↦ by.1 ]
-        ],
-  )
+  numbers s r i j p q a b h at_a at_b less =
+      let w = writer_in s r in
+      let g = reader_in s r in (
+        λ k l write_a write_b begins_a begins_b.
+            elim (h.order.sorted i j p q (k + 1) (l + 1) a b at_a at_b less (written w g a.kind a.starts k write_a begins_a)
+            (written w g b.kind b.starts l write_b begins_b)) [
+              | inl below ↦ omega (arith, below)
+              | inr same ↦ absurd (read_or_write (sym same.1.0 ∙ write_b))
+            ],
+        λ m k read_a write_b begins_a begins_b source.
+            elim (h.order.sorted i j p q (k + 1) (k + 1) a b at_a at_b less (answered w g a.kind a.starts m (k + 1) read_a begins_a source)
+            (written w g b.kind b.starts k write_b begins_b)) [
+              | inl below ↦ omega (arith, below)
+              | inr same ↦ read_or_write (sym same.1.0 ∙ write_b)
+            ],
+        λ l m n read_a read_b begins_a begins_b source_a source_b.
+            elim (h.order.sorted i j p q n n a b at_a at_b less (answered w g a.kind a.starts l n read_a begins_a source_a)
+            (answered w g b.kind b.starts m n read_b begins_b source_b)) [
+              | inl below ↦ absurd (omega (arith, below))
+              | inr same ↦ elim same.1.1 [ inl write ↦ absurd (read_or_write (sym read_a ∙ write)) | inr by ↦ by.1 ]
+            ],
+      )
 
   pub stood : PlacesShow R
   stood ops order i p op h = h
@@ -135,17 +137,17 @@ module _ {R : Type 0} where
     later : IsSafe first noise (w ∷ v ∷ []) r → ¬ Meets w r → ¬ Meets v r → EndsBefore v r.slot r.begins → r.answer ≡ v.item
     later h apart_w apart_v before = elim (h.quiet none_meets) [ inl none ↦ absurd (none.0 1 v refl before) | inr some ↦ last some ]
       where
-      none_meets : (i : ℕ) (u : SlotWrite R) → slice_get (w ∷ v ∷ []) i ≡ Some u → ¬ Meets u r
-      none_meets zero u e meets = apart_w (subst (λ z. Meets z r) (sym (same_Some w u e)) meets)
-      none_meets (suc zero) u e meets = apart_v (subst (λ z. Meets z r) (sym (same_Some v u e)) meets)
-      none_meets (suc (suc i)) u e meets = none-some u e
+        none_meets : (i : ℕ) (u : SlotWrite R) → slice_get (w ∷ v ∷ []) i ≡ Some u → ¬ Meets u r
+        none_meets zero u e meets = apart_w (subst (λ z. Meets z r) (sym (same_Some w u e)) meets)
+        none_meets (suc zero) u e meets = apart_v (subst (λ z. Meets z r) (sym (same_Some v u e)) meets)
+        none_meets (suc (suc i)) u e meets = none-some u e
 
-      last : ((i : ℕ) × (u : SlotWrite R) × (slice_get (w ∷ v ∷ []) i ≡ Some u) × EndsBefore u r.slot r.begins
-          × ((j : ℕ) (u' : SlotWrite R) → i < j → slice_get (w ∷ v ∷ []) j ≡ Some u' → ¬ EndsBefore u' r.slot r.begins)
-          × (r.answer ≡ u.item)) → r.answer ≡ v.item
-      last (zero, u, at, ends, none, is) = absurd (none 1 v (omega arith) refl before)
-      last (suc zero, u, at, ends, none, is) = is ∙ ap (λ (z : SlotWrite R). z.item) (sym (same_Some v u at))
-      last (suc (suc i), u, at, ends, none, is) = absurd (none-some u at)
+        last : ((i : ℕ) × (u : SlotWrite R) × (slice_get (w ∷ v ∷ []) i ≡ Some u) × EndsBefore u r.slot r.begins
+            × ((j : ℕ) (u' : SlotWrite R) → i < j → slice_get (w ∷ v ∷ []) j ≡ Some u' → ¬ EndsBefore u' r.slot r.begins)
+            × (r.answer ≡ u.item)) → r.answer ≡ v.item
+        last (zero, u, at, ends, none, is) = absurd (none 1 v (omega arith) refl before)
+        last (suc zero, u, at, ends, none, is) = is ∙ ap (λ (z : SlotWrite R). z.item) (sym (same_Some v u at))
+        last (suc (suc i), u, at, ends, none, is) = absurd (none-some u at)
 
   pub safe_slots : SafeSlotsShow R
   safe_slots first noise x y answer a b begin end from to = (

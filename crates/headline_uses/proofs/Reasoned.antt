@@ -132,9 +132,9 @@ module _ {R : Type 0} where
   faults opening terms ops place second = (
     λ h. h,
     λ h. let op = there (slice_get ops place) h.0 in
-      let end = there op.0.ends op.2 in (op.0, end.0, op.1, end.1, end.2, forwards_below ops place h.1),
+        let end = there op.0.ends op.2 in (op.0, end.0, op.1, end.1, end.2, forwards_below ops place h.1),
     λ h. let op = there (slice_get ops place) h.0 in
-      (op.0, op.1, op.2.0, is_it op.0.item opening op.2.1, once_below opening ops place h.1, λ n. forwards_below ops n (h.2 n)),
+        (op.0, op.1, op.2.0, is_it op.0.item opening op.2.1, once_below opening ops place h.1, λ n. forwards_below ops n (h.2 n)),
     λ h. let one = one_of h.0.later.item h.0.earlier.item h.0.one in (
       h.0.earlier,
       h.0.later,

@@ -1,5 +1,6 @@
 -- Consequences of how a played board came about, term by term (this project's own).
-use Rattle.std.specs.Prelude.{◌≡◌, ◌≢◌, ◌⊎◌, ℕ, ◌+◌, ◌-◌, ◌*◌, ◌<◌, ◌≤◌, true, false, List, [], ◌∷◌, ◌++◌, length, slice_get, Option, None, Some, IsSome}
+use Rattle.std.specs.Prelude.{◌≡◌, ◌≢◌, ◌⊎◌, ℕ, ◌+◌, ◌-◌, ◌*◌, ◌<◌, ◌≤◌, true, false, List, [], ◌∷◌, ◌++◌, length, slice_get, Option}
+use Rattle.std.specs.Prelude.{None, Some, IsSome}
 use Rattle.history_core.specs.declared.history.Op.{Op}
 use Rattle.history_core.specs.declared.history.Kind.TheVariants.{Write, Read, Refused}
 use Rattle.history_core.specs.Joined.{order_from, terms_from}
@@ -26,7 +27,8 @@ module _ (R : Type 0) where
   -- the report of two terms is what they gave, one after the other, and the second opens with what the first left
   abbrev pub TwoTermsShow : Type 0
   TwoTermsShow = (s : BoardSchedule R) (r : BoardReport R) (a b : MatrixTerm R) → s.terms ≡ a ∷ b ∷ [] → BoardCameAbout s r →
-      (p : BoardPart R) × (q : BoardPart R) × (next : R) × IsBoardPart 0 s.opening s.noise a p × (latest s.opening p.ops p.order ≡ Some next)
+      (p : BoardPart R) × (q : BoardPart R) × (next : R) × IsBoardPart 0 s.opening s.noise a p
+      × (latest s.opening p.ops p.order ≡ Some next)
       × IsBoardPart (length a.steps) next s.noise b q × (r.history.ops ≡ p.ops ++ (q.ops ++ [])) × (r.stamps ≡ p.stamps ++ (q.stamps ++ []))
       × (r.slots ≡ p.slots ++ (q.slots ++ [])) × (r.history.terms ≡ terms_from 0 (history_part p ∷ history_part q ∷ []))
       × (r.order ≡ order_from 0 (history_part p ∷ history_part q ∷ []))
@@ -42,7 +44,8 @@ module _ (R : Type 0) where
       (cell_trace at (board_span term) opening noise chosen i j))
       × ((i j write read k m : ℕ) → other i write ≡ j → write + 1 < length term.plans → other j read ≡ i → read + 1 < length term.plans →
       (IsSameSlot (slot i k (length term.plans - 1 + write)) (slot j m read) →
-      IsSome ((row_accesses at (board_span term) slot i write).at k 1) → IsSome ((column_accesses at (board_span term) slot j read).at m 3) →
+      IsSome ((row_accesses at (board_span term) slot i write).at k 1) →
+      IsSome ((column_accesses at (board_span term) slot j read).at m 3) →
       IsBefore ((row_accesses at (board_span term) slot i write).at k 2) ((column_accesses at (board_span term) slot j read).at m 3)
       ⊎ IsBefore ((column_accesses at (board_span term) slot j read).at m 4) ((row_accesses at (board_span term) slot i write).at k 1))
       × (IsSome ((column_accesses at (board_span term) slot j read).at m 4) → (n : ℕ)
@@ -73,7 +76,8 @@ module _ (R : Type 0) where
   SlotsOfBoardShow = (at i k access : ℕ) (span : Span R) (opening noise : R) (ops : List (Op R)) (stamps : List (Option Stamp))
       (slot : ℕ → ℕ → ℕ → Option ℕ) (chosen : ℕ → ℕ → Stamped R) → IsBoardRun at span opening noise ops stamps slot chosen →
       (slot i k (length span.plans - 1 + access) ≡ slice_get (cell_trace at span opening noise chosen i (other i access)).write_slots k)
-      × (access + 1 < length span.plans → slot i k access ≡ slice_get (cell_trace at span opening noise chosen (other i access) i).read_slots k)
+      × (access + 1 < length span.plans →
+      slot i k access ≡ slice_get (cell_trace at span opening noise chosen (other i access) i).read_slots k)
 
   -- a report has a row of slots for each operation, one of each access
   abbrev pub ListedSlotsShow : Type 0
@@ -90,7 +94,8 @@ module _ (R : Type 0) where
       (p < length ops) × (slice_get stamps p ≡ Some None → times_of p order ≡ 0)
       × (slice_get stamps p ≡ Some (Some s) → is_write a.kind ≡ true → times_of p order ≡ 1)
       × (slice_get stamps p ≡ Some (Some s) → IsSome a.ends → times_of p order ≡ 1)
-      × (i < j → slice_get order j ≡ Some q → slice_get ops q ≡ Some b → slice_get stamps p ≡ Some (Some s) → slice_get stamps q ≡ Some (Some t) →
+      × (i < j → slice_get order j ≡ Some q → slice_get ops q ≡ Some b → slice_get stamps p ≡ Some (Some s) →
+      slice_get stamps q ≡ Some (Some t) →
       IsAtMost s t × (s ≡ t → is_write a.kind ≡ false → (is_write b.kind ≡ false) × (p ≤ q)))
 
   -- a schedule that can be played has a term, each of 2 to 16 processes whose steps are theirs, with a limit, and its steps can be counted

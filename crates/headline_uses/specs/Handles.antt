@@ -1,7 +1,8 @@
 -- Consequences of a write through C, by its status (this project's own).
 use Rattle.std.specs.Prelude.{◌≡◌, ◌≢◌, ℕ, ◌+◌, ◌≤◌, ◌^◌, List, [], ◌∷◌, ◌++◌}
 use Rattle.cell_live.specs.Intervals.{IsNextCall}
-use Rattle.cell_four_slot.specs.Words.{cell_name, get_notes, is_get_of, is_put_of, opening_of, pair_shown, put_notes, put_times, writer_accesses}
+use Rattle.cell_four_slot.specs.Words.{cell_name, get_notes, is_get_of, is_put_of, opening_of, pair_shown, put_notes, put_times}
+use Rattle.cell_four_slot.specs.Words.{writer_accesses}
 use Rattle.cell_four_slot.specs.Words.{written_by}
 use Rattle.cell_four_slot.specs.declared.cell.FourSlotCell.{FourSlotCell}
 use Rattle.cell_four_slot.specs.declared.cell.FourSlotGet.{FourSlotGet}
@@ -15,12 +16,14 @@ module _ (D W : Type 0) where
   -- with status 0 the handle had a side of the cell and has it after the write; with any other it has what it had
   abbrev pub StatusesShow : Type 0
   StatusesShow = (writes : FourSlotWriter W → D) (last : FourSlotWriter W → ℕ) (h k : Holding D) (item : W) →
-      (IsWrite writes last HasWritten h k item 0 → (p : FourSlotWriter W) × (q : FourSlotWriter W) × (h.live ≢ 0) × (h.side ≡ writes p) × (k.live ≢ 0)
+      (IsWrite writes last HasWritten h k item 0 → (p : FourSlotWriter W) × (q : FourSlotWriter W) × (h.live ≢ 0) × (h.side ≡ writes p)
+      × (k.live ≢ 0)
       × (k.side ≡ writes q) × HasWritten p q item)
       × (IsWrite writes last HasWritten h k item 3 → (h.live ≡ 0) × (k.live ≡ 0) × (k.side ≡ h.side))
       × (IsWrite writes last HasWritten h k item 4 → (p : FourSlotWriter W) × (h.live ≢ 0) × (h.side ≡ writes p) × (2 ^ 64 ≤ last p + 1)
       × (k.live ≢ 0) × (k.side ≡ h.side))
-      × (IsWrite writes last HasWritten h k item 5 → (h.live ≢ 0) × ((p : FourSlotWriter W) → h.side ≢ writes p) × (k.live ≢ 0) × (k.side ≡ h.side))
+      × (IsWrite writes last HasWritten h k item 5 → (h.live ≢ 0) × ((p : FourSlotWriter W) → h.side ≢ writes p) × (k.live ≢ 0)
+      × (k.side ≡ h.side))
 
 module _ (W : Type 0) where
   -- the cell is the same, and has the record under the next number, by two accesses or three

@@ -54,7 +54,8 @@ module _ (R : Type 0) where
   abbrev pub CellNumbersShow : Type 0
   CellNumbersShow = (s : CellSchedule R) (r : CellReport R) (i j p q : ℕ) (a b : Op R) → IsRunReport s r →
       StandsAt r.history.ops r.order i p a → StandsAt r.history.ops r.order j q b → i < j →
-      ((k l : ℕ) → a.kind ≡ Write → b.kind ≡ Write → (writer_in s r).at k 0 ≡ Some a.starts → (writer_in s r).at l 0 ≡ Some b.starts → k < l)
+      ((k l : ℕ) → a.kind ≡ Write → b.kind ≡ Write → (writer_in s r).at k 0 ≡ Some a.starts → (writer_in s r).at l 0 ≡ Some b.starts →
+      k < l)
       × ((m k : ℕ) → a.kind ≡ Read → b.kind ≡ Write → (reader_in s r).at m 0 ≡ Some a.starts → (writer_in s r).at k 0 ≡ Some b.starts →
       IsSource (writer_in s r) (reader_in s r) m (k + 1) → ⊥)
       × ((l m n : ℕ) → a.kind ≡ Read → b.kind ≡ Read → (reader_in s r).at l 0 ≡ Some a.starts → (reader_in s r).at m 0 ≡ Some b.starts →

@@ -1,5 +1,6 @@
 //! What the calls of a board say, one by one and all together when it ends.
-ghost use Rattle.headline_uses.specs.Boards.{ComesOfOneSchedule, EndsWithTheGreatest, EndsWithTheOnlyWrite, ReadsTheOnlyWrite, RefusesNone, SeesTheGreater, SeesWhatWasTold};
+ghost use Rattle.headline_uses.specs.Boards.{ComesOfOneSchedule, EndsWithTheGreatest, EndsWithTheOnlyWrite, ReadsTheOnlyWrite};
+ghost use Rattle.headline_uses.specs.Boards.{RefusesNone, SeesTheGreater, SeesWhatWasTold};
 ghost use Rattle.headline_uses.specs.Boards.{ShowsItsOwn, StampsRiseByTime, TakesTime};
 ghost use Rattle.headline_uses.specs.Going.{HaveOneGreatest, OrdersShow, RegistersShow};
 ghost use Rattle.headline_uses.specs.Passes.{AllPassesShow, CallsShow, MadeShows, PassesShow};

@@ -1,5 +1,6 @@
 //! What a played cell says of how it came about, and what a safe slot answers.
-ghost use Rattle.headline_uses.specs.Mechanisms.{CellNumbersShow, CellOrdersShow, FinishedReadsShow, OwnNumbersShow, PlacesShow, RunOfCellShows};
+ghost use Rattle.headline_uses.specs.Mechanisms.{CellNumbersShow, CellOrdersShow, FinishedReadsShow, OwnNumbersShow, PlacesShow};
+ghost use Rattle.headline_uses.specs.Mechanisms.{RunOfCellShows};
 ghost use Rattle.headline_uses.specs.Mechanisms.{SafeSlotsShow, SlotAccessesShow};
 
 /// A played cell's slots and answers are those of its run, and each finished read has the record that was put into its slot last.
