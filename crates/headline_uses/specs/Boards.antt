@@ -6,6 +6,8 @@ use Rattle.history_core.specs.declared.history.Op.{Op}
 use Rattle.stamps.specs.declared.stamp.Stamp.{Stamp}
 use Rattle.stamps.specs.Choices.{IsAtMost}
 use Rattle.matrix_core.specs.Lines.{first_record}
+use Rattle.cell_live.specs.declared.times.Known.{Known}
+use Rattle.cell_live.specs.Intervals.{AreFirst}
 use Rattle.cell_live.specs.Running.{last_or}
 use Rattle.family_live.specs.declared.family.Family.{Ghosts as FamilyWords}
 use Rattle.board_history.specs.BoardRuns.{Called, Did, IsBoardRun}
@@ -86,3 +88,10 @@ module _ {V F S T : Type 0} (words : FamilyWords F (Posted V) S T) where
     -- it took its time after all that its process knew of
     abbrev pub TakesTime : Type 0
     TakesTime = IsCall words obeys board kind old new seen → words.clock old.seat < words.clock new.seat
+
+    -- it forgets no receipt of another process, and knows the writes that each carried
+    abbrev pub ForgetsNoReceipt : Type 0
+    ForgetsNoReceipt = (j k : ℕ) (told : Known (Posted V)) → IsCall words obeys board kind old new seen → j < board.processes →
+        j ≢ old.process → ((words.reads new.seat j).heard ≡ (words.reads old.seat j).heard)
+        × (slice_get (words.reads new.seat j).heard k ≡ Some told →
+        AreFirst told (words.reads new.seat j).known.items (words.reads new.seat j).known.times)
