@@ -5,13 +5,12 @@ takes 10 to 25 processor seconds, and there are dozens.
 
 A definition could be hollowed out where nobody looks: `7 < 0 →` before a part of it makes that part say nothing. The definitions are
 those of the reading sets of docs/HEADLINES.md that are propositions: records, of which each field's type is taken, and abbreviations, of
-which each equation is. A conjunct is what stands between two × behind the last arrow, also in a λ. The edits are made in a copy of
-headline_uses and of what it stands on, which leaves out all functions but its laws, so that a check takes seconds. Each edit has a
-number of its own in
-its premise. Many are tried at once, and those are refused whose premise an error names; the others are tried again, in halves where none
-is named, at last alone, where any error refuses. An edit with which its own file isn't well typed, of a field that is data for instance,
-says nothing and is told as such. An edit of a crate on which headline_uses doesn't stand isn't tried. The edits
-that get through are printed at the end. Status 1 if there is one, 2 if nothing could be tried.
+which each equation is. A conjunct is what stands between two × behind the last arrow, also in a λ. What is data isn't one, nor is `Unit`.
+The edits are made in a copy of headline_uses and of what it stands on, which leaves out all functions but its laws, so that a check takes
+seconds. Each edit has a number of its own in its premise. All are tried at once, and those are refused whose premise an error names; the
+others are tried again. Where none is named, those are tried alone whose definition an error names, and else halves; alone any error
+refuses. An edit with which its own file isn't well typed says nothing and is told as such. An edit of a crate on which headline_uses
+doesn't stand isn't tried. The edits that get through are printed at the end. Status 1 if there is one, 2 if nothing could be tried.
 
 --list prints the edits and tries none. RT_JOBS=N tries N batches side by side, else one.
 """
@@ -33,7 +32,7 @@ TOP = Path(__file__).resolve().parent.parent
 LESS = "use Rattle.std.specs.Prelude.{◌<◌}"
 USES = "headline_uses"
 # How many edits are tried at once.
-SIZE = 150
+SIZE = 1000
 PROVED = r"(?m)^only=(\d+) proved=\1$"
 # Where an item of src/ begins that has code, and the names of a use that are types or constants.
 CODE = re.compile(r"(?:pub(?:\([\w:]+\))? )?(?:const )?(?:unsafe )?(?:extern \"C\" )?fn |impl\b")
@@ -45,8 +44,12 @@ ABBREVIATION = re.compile(r"\s*(?:(?:abbrev|unfoldable|opaque|pub) )+(\S+) :")
 RECORD = re.compile(r"\s*(?:pub )?record ")
 EQUATION = re.compile(r".*? =(?: |$)")
 BINDER = re.compile(r"\(\s*[\w ]+ : [^()]*\)$|\(\s*[\w ]+ : .*\)$", re.S)
-# The type of a field that is data.
-DATA = re.compile(r"(ℕ|Bool|List|Option)\b(?!.*[≡≢≤<])")
+# What a type that is data begins with, if none of these signs stands in it: a name of the kit, or a parameter.
+DATA = re.compile(r"(?:ℕ|Bool|List|Option|[A-Z])\b")
+RELATION = re.compile(r"[≡≢≤<¬⊎]")
+# What is a term by its form: a name or a field, a number.
+TERM = re.compile(r"[a-z_]\w*(?:\.\w+)*$|\d+$")
+NOTHING = "Unit {0}"
 OPENS, CLOSES = "([{", ")]}"
 
 
@@ -100,21 +103,38 @@ def bodies(text, start, end):
         at += 1
 
 
-def conjuncts(text, start, end):
+def is_data(path, said):
+    """Whether a type is data and no proposition: by its first word a type of the kit or of src/, a parameter, or a record of data."""
+    if RELATION.search(said):
+        return False
+    word = said.strip("( ").split(" ")[0].rstrip(")")
+    if DATA.fullmatch(word):
+        # (a parameter with arguments is a proposition)
+        return len(word) > 1 or word == said
+    place = headlines.found_by(path, word)
+    if place is None or place[0].endswith(".rt"):
+        return place is not None
+    lines = headlines.lines_of(place[0])
+    fields = [lines[it] for it in place[2] if FIELD.match(lines[it])]
+    return bool(fields) and all(is_data(place[0], it[FIELD.match(it).end():].split("→")[-1].strip()) for it in fields)
+
+
+def conjuncts(path, text, start, end):
     """The stretches of a proposition before each of which a premise can stand."""
     start, end = stripped(text, *pieces(text, start, end, "→")[-1])
     found = []
     for piece in pieces(text, start, end, "×"):
         first, last = stripped(text, *piece)
-        if first == last or BINDER.match(text[first:last]) or DATA.match(text[first:last]):
+        said = text[first:last]
+        if not said or said == NOTHING or BINDER.match(said) or TERM.match(said) or is_data(path, said):
             continue
         inner = (first + 1, last - 1)
         if is_bracketed(text, first, last) and (len(pieces(text, *inner, "×")) > 1 or len(pieces(text, *inner, "→")) > 1):
-            found += conjuncts(text, *inner)
+            found += conjuncts(path, text, *inner)
             continue
         found.append((first, last))
         for body in bodies(text, first, last):
-            found += [it for it in conjuncts(text, *body) if it != (first, last)]
+            found += [it for it in conjuncts(path, text, *body) if it != (first, last)]
     return found
 
 
@@ -124,12 +144,12 @@ def depth_of(line):
 
 def propositions(lines):
     """The stretches of a definition's text that are propositions: the types of a record's fields, the right sides of an abbreviation's
-    equations. Each is a first line, a column and a last line, which is the first that stands no deeper."""
+    equations. Each is a first line, a column and a last line, which is the first that stands no deeper and closes no bracket."""
+    def goes_on(line, at):
+        return line.strip() and (depth_of(line) > depth_of(lines[at]) or line.strip()[0] in CLOSES)
+
     def end_of(at):
-        last = at + 1
-        while last < len(lines) and lines[last].strip() and depth_of(lines[last]) > depth_of(lines[at]):
-            last += 1
-        return last
+        return next((it for it in range(at + 1, len(lines)) if not goes_on(lines[it], at)), len(lines))
 
     if any(map(RECORD.match, lines)):
         yield from ((at, FIELD.match(line).end(), end_of(at)) for at, line in enumerate(lines) if FIELD.match(line))
@@ -170,7 +190,7 @@ def edits_of(path, name, numbers):
         starts.append(starts[-1] + len(line) + 1)
     text, seen = "\n".join(lines), set()
     for at, column, end in propositions(block):
-        for start, stop in conjuncts(plain, starts[first + at] + column, starts[first + end] - 1):
+        for start, stop in conjuncts(path, plain, starts[first + at] + column, starts[first + end] - 1):
             if (start, stop) not in seen:
                 seen.add((start, stop))
                 yield Edit(path, name, text, start, stop)
@@ -195,7 +215,9 @@ def edited(path, edits):
     """The text of a file with edits that stand in no other's stretch."""
     text = "\n".join(headlines.lines_of(path))
     for it in sorted(edits, key=lambda it: -it.start):
-        text = f"{text[: it.start]}({it.number} < 0 → {text[it.start : it.end]}){text[it.end :]}"
+        # (in one line, since a bracket over several has rules of its own)
+        said = " ".join(re.sub(r"--.*", "", text[it.start : it.end]).split())
+        text = f"{text[: it.start]}({it.number} < 0 → {said}){text[it.end :]}"
     return text if re.search(r"(?m)^use [^\n]*◌<◌", text) else re.sub(r"(?m)^use ", f"{LESS}\nuse ", text, count=1)
 
 
@@ -320,21 +342,27 @@ class Bench:
 
 
 def judge(edits, said):
-    """Of edits tried together how those end of which what was said tells it: `through`, `refused` or `ill-typed`; and those in whose own file
-    there is an error."""
+    """Of edits tried together how those end of which what was said tells it: `through`, `refused` or `ill-typed`; and those that it may be
+    due to, where it tells nothing."""
     if re.search(PROVED, said):
         return {it: "through" for it in edits}, []
     errors = re.findall(r"(?m)^(\S+?\.antt):\d+:\d+: error: (.*(?:\n(?!\S+?:\d+:\d+: |fn |note: |logic ).*)*)", said)
     if not errors:
         sys.exit(f"absurd: no verdict: {said[-2000:]}")
-    own = [it for it in edits if any(path.endswith(it.path) for path, _ in errors)]
     if len(edits) == 1:
-        return {edits[0]: "ill-typed" if own else "refused"}, []
-    named = []
-    for it in edits:
-        premise = re.compile(rf"\b{it.number} < 0\b")
-        named += [it] if any(premise.search(told) and not path.endswith(it.path) for path, told in errors) else []
-    return {it: "refused" for it in named}, own
+        return {edits[0]: "ill-typed" if any(path.endswith(edits[0].path) for path, _ in errors) else "refused"}, []
+    ends, words = {}, set()
+    for path, told in errors:
+        # (a < b is a + 1 ≤ b, and told so where it is computed)
+        named = {int(it) for it in re.findall(r"\b(\d+) < 0\b", told) + re.findall(r"◌<◌ (\d+) 0\b", told)}
+        named |= {int(it) - 1 for it in re.findall(r"\b(\d+) ≤ 0\b", told)}
+        found = [it for it in edits if it.number in named]
+        for it in found:
+            if ends.get(it) != "ill-typed":
+                ends[it] = "ill-typed" if path.endswith(it.path) else "refused"
+        if not found and "was not checked" not in told and "were not checked" not in told:
+            words.update(re.findall(r"\w+", told))
+    return ends, [it for it in edits if it.name in words]
 
 
 def batches(edits, size):
@@ -351,28 +379,22 @@ def batches(edits, size):
 
 
 def settle(bench, edits):
-    """How each of these edits ends. Those that an error names are set aside, as those with an error in their own file, and the others tried
-    again, in halves where there were none."""
-    ends, later, left = {}, [], edits
+    """How each of these edits ends. Those that an error names are set aside, and the others tried again. Where none is named those are tried
+    alone that the errors may be due to, and where none of these is refused, halves."""
+    ends, alone, left = {}, set(), edits
     while left:
-        found, own = judge(left, bench.attempt(left))
+        found, due = judge(left, bench.attempt(left))
+        for it in [] if found else [it for it in due if it not in alone]:
+            alone.add(it)
+            found |= {it: end for it, end in judge([it], bench.attempt([it]))[0].items() if end != "through"}
         for it, end in found.items():
             print(f"{end}: {it}", flush=True)
-        ends.update(found)
-        later += own if len(own) < len(left) else []
-        rest = [it for it in left if it not in ends and it not in later]
-        if len(rest) == len(left):
+        ends |= found
+        if not found:
             middle = len(left) // 2
-            return settle(bench, left[:middle]) | settle(bench, left[middle:]) | ends | settle_each(bench, later, ends)
-        left = rest
-    return ends | settle_each(bench, later, ends)
-
-
-def settle_each(bench, edits, ends):
-    found = {}
-    for it in edits:
-        found |= {} if it in ends else settle(bench, [it])
-    return found
+            return ends | settle(bench, left[:middle]) | settle(bench, left[middle:])
+        left = [it for it in left if it not in ends]
+    return ends
 
 
 def try_all(edits, room, jobs):

@@ -6,6 +6,7 @@ use Rattle.std.proofs.lemmas.Option.{get_or_from_slice_get, none-some, same_Some
 use Rattle.history_core.specs.declared.history.Kind.{Kind}
 use Rattle.stamps.specs.Choices.{IsAtMost}
 use Rattle.matrix_core.specs.Lines.{other}
+use Rattle.cell_live.specs.Intervals.{AreFirst}
 use Rattle.cell_live.specs.Running.{last_or}
 use Rattle.family_live.specs.declared.family.Family.{Ghosts as FamilyWords}
 use Rattle.board_live.specs.declared.board.Board.{Board}
@@ -13,7 +14,7 @@ use Rattle.board_live.specs.declared.board.Pass.{Pass}
 use Rattle.board_live.specs.declared.record.Posted.{Posted}
 use Rattle.board_live.specs.Passes.{IsCall, IsPass}
 use Rattle.board_live.specs.Records.{greater, greatest}
-use Rattle.headline_uses.specs.Boards.{SeesTheGreater, SeesWhatWasTold, ShowsItsOwn, TakesTime}
+use Rattle.headline_uses.specs.Boards.{ForgetsNoReceipt, SeesTheGreater, SeesWhatWasTold, ShowsItsOwn, TakesTime}
 
 last_is : {A : Type 0} (x y : A) (xs : List A) → last_or x (xs ++ y ∷ []) ≡ y
 last_is x y [] = refl
@@ -62,3 +63,9 @@ module _ {V F S T : Type 0} (words : FamilyWords F (Posted V) S T) (obeys : V �
 
   pub takes_time : TakesTime words obeys board kind old new seen
   takes_time call = let a = call.interval.0 in let b = call.interval.1 in let c = call.interval.2 in omega (arith, a, b, c)
+
+  pub forgets_none : ForgetsNoReceipt words obeys board kind old new seen
+  forgets_none j k told call l ne =
+      let h = call.heard j l ne in
+      let reads = words.reads new.seat j in
+      (h.same, λ at. all_there (λ t. AreFirst t reads.known.items reads.known.times) reads.heard k told h.first at)

@@ -10,4 +10,11 @@ mod Twice
 mod Listings
 mod Single
 mod Made
+mod Scheduled
 mod Shown
+mod Reasoned
+mod Played
+mod Boarded
+mod Theorems
+mod Logged
+mod Handed

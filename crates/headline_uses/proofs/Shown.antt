@@ -5,11 +5,12 @@ use Rattle.std.proofs.lemmas.List.{length-append}
 use Rattle.std.proofs.lemmas.List.Elements.{All-get_or}
 use Rattle.std.proofs.lemmas.Option.{get_or_from_slice_get, slice_get_within}
 use Rattle.stamps.specs.Choices.{IsAtMost}
-use Rattle.cell_live.specs.Intervals.{At, IsHeeded}
+use Rattle.cell_live.specs.Intervals.{AreFirst, At, IsHeeded}
 use Rattle.cell_live.specs.Running.{last_or}
 use Rattle.board_live.specs.declared.record.Posted.{Posted}
 use Rattle.board_live.specs.Records.{Rises}
-use Rattle.headline_uses.specs.Parts.{AnsweredShow, CountsShow, GreatestShows, NothingShows, NumbersShow, OpsShow, ReadsShow, WritesShow}
+use Rattle.headline_uses.specs.Parts.{AnsweredShow, CountsShow, FollowsShow, GreatestShows, MindfulShows, NothingShows}
+use Rattle.headline_uses.specs.Parts.{NumbersShow, OpsShow, ReadsShow, WritesShow}
 
 all_there : {A : Type 0} (P : A → Type 0) (xs : List A) (k : ℕ) (x : A) → All P xs → slice_get xs k ≡ Some x → P x
 all_there P xs k x h e = subst P (get_or_from_slice_get xs k x x e) (All-get_or P xs k x (slice_get_within xs k x e) h)
@@ -66,3 +67,10 @@ module _ {T : Type 0} where
 
   pub nothing : NothingShows T
   nothing op b = (λ h. h, λ h. h)
+
+  pub follows : FollowsShow T
+  follows item op = (λ h. h, λ h. h)
+
+  pub mindful : MindfulShows T
+  mindful old new k told h =
+      (h.same, λ at. all_there (λ t. AreFirst t new.known.items new.known.times) new.heard k told h.first at)

@@ -13,7 +13,7 @@ use Rattle.board_live.specs.declared.board.Board.{Board}
 use Rattle.board_live.specs.declared.board.Pass.{Pass}
 use Rattle.board_live.specs.declared.record.Posted.{Posted}
 use Rattle.board_live.specs.Ends.{AllAtomic, did_by, HaveAtomicOrder, IsGreatest, standing}
-use Rattle.headline_uses.specs.Going.{AnswersTheOpening, ReadsTheOnlyWriteSoFar}
+use Rattle.headline_uses.specs.Going.{AnswersTheOpening, ReadsTheOnlyWriteSoFar, RegistersHaveEnded}
 use Rattle.headline_uses.proofs.Ended.{reads_the_only}
 
 not_below : (a b : Stamp) → IsBelow a b → IsAtMost b a → ⊥
@@ -111,3 +111,7 @@ module _ {V F S T : Type 0} (words : FamilyWords F (Posted V) S T) (board : Boar
             let n = found (words.reads q.seat i).numbers k (omega (arith, within, many)) in
             only_opening board.first x (words.writes p.seat j).items n.0 none (h.atomic.source k n.0 x n.1 e),
       )
+
+module _ {V F S T : Type 0} (words : FamilyWords F (Posted V) S T) where
+  pub have_ended : RegistersHaveEnded words
+  have_ended board passes i j p q all at_p at_q ne = let h = all i j p q at_p at_q ne in (h.ended, h.known)

@@ -1,6 +1,7 @@
 -- Consequences of what a board shows while it goes on (this project's own).
-use Rattle.std.specs.Prelude.{◌≡◌, ◌≢◌, ℕ, ◌<◌, List, [], map, slice_get, Some}
+use Rattle.std.specs.Prelude.{◌≡◌, ◌≢◌, ℕ, ◌<◌, List, [], length, map, slice_get, Some}
 use Rattle.history_core.specs.declared.history.Kind.TheVariants.{Read}
+use Rattle.cell_live.specs.Intervals.{AreFirst}
 use Rattle.family_live.specs.declared.family.Family.{Ghosts as FamilyWords}
 use Rattle.board_history.specs.BoardRuns.{Called}
 use Rattle.board_live.specs.declared.board.Board.{Board}
@@ -34,6 +35,13 @@ module _ {V F S T : Type 0} (words : FamilyWords F (Posted V) S T) where
   -- atomic registers show the opening where nothing was told
   abbrev pub RegistersShow : Type 0
   RegistersShow = (board : Board V F S T) (passes : List (Pass V F S T)) → AllAtomic words board passes → AnswersTheOpening words board passes
+
+  -- between calls no write is under way, and what a reader knows of is the first of what was written
+  abbrev pub RegistersHaveEnded : Type 0
+  RegistersHaveEnded = (board : Board V F S T) (passes : List (Pass V F S T)) (i j : ℕ) (p q : Pass V F S T) →
+      AllAtomic words board passes → slice_get passes i ≡ Some p → slice_get passes j ≡ Some q → i ≢ j →
+      (length (words.writes p.seat j).times.ends ≡ length (words.writes p.seat j).times.begins)
+      × AreFirst (words.reads q.seat i).known (words.writes p.seat j).items (words.writes p.seat j).times
 
   -- an atomic order shows the only write to whoever reads after it
   abbrev pub OrdersShow : Type 0

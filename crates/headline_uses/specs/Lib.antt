@@ -1,8 +1,14 @@
 pub mod Boards
 pub mod Cells
+pub mod Composed
 pub mod Going
+pub mod Handles
+pub mod Logs
+pub mod Mechanisms
 pub mod Orders
 pub mod Parts
 pub mod Passes
+pub mod Products
+pub mod Reasons
 pub mod Reports
 pub mod Runs

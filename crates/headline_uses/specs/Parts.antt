@@ -1,7 +1,8 @@
 -- Consequences of accesses of a family, of orders by number and of the counts of atomic calls (this project's own).
 use Rattle.std.specs.Prelude.{◌≡◌, ◌⊎◌, Bool, IsTrue, ℕ, ◌+◌, ◌<◌, ◌≤◌, false, List, [], ◌∷◌, ◌++◌, length, slice_get, Option, Some, None}
 use Rattle.history_core.specs.declared.history.Op.{Op}
-use Rattle.history_core.specs.declared.history.Kind.TheVariants.{Write, Read}
+use Rattle.history_core.specs.declared.history.Kind.TheVariants.{Write, Read, Refused}
+use Rattle.history_core.specs.declared.wish.Wish.TheVariants.{Write as WriteWish, Read as ReadWish}
 use Rattle.history_core.specs.Orders.{is_write}
 use Rattle.history_core.specs.Schedules.{Follows}
 use Rattle.four_slot_core.specs.Accesses.{IsBefore}
@@ -10,13 +11,13 @@ use Rattle.stamps.specs.Choices.{IsAtMost}
 use Rattle.cell_live.specs.declared.times.Known.{Known}
 use Rattle.cell_live.specs.declared.times.Times.{Times}
 use Rattle.cell_live.specs.Histories.{AreOps, IsByNumbers}
-use Rattle.cell_live.specs.Intervals.{AreAtomic, At}
+use Rattle.cell_live.specs.Intervals.{AreAtomic, AreFirst, At}
 use Rattle.cell_live.specs.Running.{last_or}
 use Rattle.family_live.specs.Accesses.{IsReadAccess, IsWriteAccess, ReadAccesses, WriteAccesses}
 use Rattle.board_history.specs.BoardRuns.{Did}
 use Rattle.board_history.specs.Histories.{IsGreatestOwn, own_after}
 use Rattle.board_live.specs.declared.record.Posted.{Posted}
-use Rattle.board_live.specs.Passes.{IsFurtherAnswer}
+use Rattle.board_live.specs.Passes.{IsFurtherAnswer, IsMindful}
 
 module _ (T : Type 0) where
   -- a read adds its answer and a number, and no receipt; the number is no less than that of the last write of each that was learnt
@@ -70,3 +71,14 @@ module _ (T : Type 0) where
       IsTrue (obeys answer.item) × IsAtMost opening.stamp answer.stamp × IsAtMost (last_or opening old.answers).stamp answer.stamp
       × ((k : ℕ) (told : Posted T) → slice_get old.told k ≡ Some told → IsAtMost told.stamp answer.stamp)
       × (new.answers ≡ old.answers ++ answer ∷ [])
+
+  -- an operation does what was planned: a write its item, if it isn't refused, and a read reads
+  abbrev pub FollowsShow : Type 0
+  FollowsShow = (item : T) (op : Op T) →
+      (Follows (Some (WriteWish item)) op → ((op.kind ≡ Write) × (op.item ≡ Some item)) ⊎ (op.kind ≡ Refused))
+      × (Follows (Some ReadWish) op → op.kind ≡ Read)
+
+  -- after a read of a register its process has forgotten no receipt, and knows the writes that each carried
+  abbrev pub MindfulShows : Type 0
+  MindfulShows = (old new : ReadAccesses (Posted T)) (k : ℕ) (told : Known (Posted T)) → IsMindful old new →
+      (new.heard ≡ old.heard) × (slice_get new.heard k ≡ Some told → AreFirst told new.known.items new.known.times)

@@ -4,9 +4,15 @@
 
 pub mod boards;
 pub mod cells;
+pub mod composed;
 pub mod going;
+pub mod handles;
 pub mod heard;
+pub mod logs;
+pub mod mechanisms;
 pub mod orders;
 pub mod parts;
+pub mod products;
+pub mod reasons;
 pub mod reports;
 pub mod runs;

@@ -1,6 +1,7 @@
 //! What an atomic order says of the operations that it lists.
 ghost use Rattle.std.specs.Prelude.{ℕ};
-ghost use Rattle.headline_uses.specs.Orders.{HasWhatIsThere, KeepsIntervals, ListsEachOnce, ListsNothingElse, StaleIsAbsurd, WaitsForTheLimit};
+ghost use Rattle.headline_uses.specs.Orders.{HasWhatIsThere, KeepsIntervals, ListsEachOnce, ListsNothingElse, StaleIsAbsurd};
+ghost use Rattle.headline_uses.specs.Orders.{WaitsForTheLimit};
 ghost use Rattle.headline_uses.specs.Orders.{SawWhatIsThere, StandsOnceAtMost, VerdictsShow};
 
 /// An operation that ended stands at one place of an atomic order, and at no other one. An order lists nothing but operations, and of the

@@ -1,5 +1,5 @@
 -- Each is a part of the call.
-use Rattle.headline_uses.proofs.Calls.{heeds, sees, shows, takes_time}
+use Rattle.headline_uses.proofs.Calls.{forgets_none, heeds, sees, shows, takes_time}
 use Rattle.headline_uses.proofs.boards.calls_show.Goals as goal
 
 pub returns-clause-sees : goal.returns-clause-sees
@@ -14,3 +14,7 @@ returns-clause-shows g c = λ kind. shows g.F.Family g.V.RecordLaw.obeys c.args.
 pub returns-clause-later : goal.returns-clause-later
 returns-clause-later g c =
     λ kind. takes_time g.F.Family g.V.RecordLaw.obeys c.args.board.now kind c.args.old.now c.args.new.now c.args.seen.now
+
+pub returns-clause-receipts : goal.returns-clause-receipts
+returns-clause-receipts g c =
+    λ kind. forgets_none g.F.Family g.V.RecordLaw.obeys c.args.board.now kind c.args.old.now c.args.new.now c.args.seen.now

@@ -1,5 +1,5 @@
 -- Each is a part of the access.
-use Rattle.headline_uses.proofs.Shown.{answered, reads, writes}
+use Rattle.headline_uses.proofs.Shown.{answered, mindful, reads, writes}
 use Rattle.headline_uses.proofs.parts.accesses_show.Goals as goal
 
 pub returns-clause-reads : goal.returns-clause-reads
@@ -10,3 +10,6 @@ returns-clause-writes g c = writes
 
 pub returns-clause-answered : goal.returns-clause-answered
 returns-clause-answered g c = answered
+
+pub returns-clause-mindful : goal.returns-clause-mindful
+returns-clause-mindful g c = mindful

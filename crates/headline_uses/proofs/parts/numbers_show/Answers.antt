@@ -1,5 +1,5 @@
 -- Each is a part of its definition.
-use Rattle.headline_uses.proofs.Shown.{counts, greatest, nothing, operations, order}
+use Rattle.headline_uses.proofs.Shown.{counts, follows, greatest, nothing, operations, order}
 use Rattle.headline_uses.proofs.parts.numbers_show.Goals as goal
 
 pub returns-clause-order : goal.returns-clause-order
@@ -16,3 +16,6 @@ returns-clause-nothing g c = nothing
 
 pub returns-clause-greatest : goal.returns-clause-greatest
 returns-clause-greatest g c = greatest
+
+pub returns-clause-follows : goal.returns-clause-follows
+returns-clause-follows g c = follows
