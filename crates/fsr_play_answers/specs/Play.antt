@@ -31,6 +31,7 @@ AnswersCell schedule (Err (fault.History why)) = ⊥
 AnswersCell schedule (Err (fault.Lines why)) = ⊥
 AnswersCell schedule (Err (fault.Schedule position)) = IsFirstOverrun (cell_span schedule ∷ []) position
 AnswersCell schedule (Err fault.NoMemory) = ⊥
+AnswersCell schedule (Err fault.NoThread) = ⊥
 
 -- the answer to a schedule with these spans, likewise: the text of a report that is made as it should be
 abbrev pub AnswersTerms : {Made : Type 0} → List (Span Band) → (Made → Type 0) → (Made → Report) → Result Answer Fault → Type 0
@@ -40,6 +41,7 @@ AnswersTerms spans IsMade told (Err (fault.History why)) = ⊥
 AnswersTerms spans IsMade told (Err (fault.Lines why)) = ⊥
 AnswersTerms spans IsMade told (Err (fault.Schedule position)) = IsFirstOverrun spans position
 AnswersTerms spans IsMade told (Err fault.NoMemory) = ⊥
+AnswersTerms spans IsMade told (Err fault.NoThread) = ⊥
 
 -- the answer to the schedule of a matrix; titled, where its terms are told
 abbrev pub AnswersMatrix : MatrixSchedule Band → Bool → Result Answer Fault → Type 0

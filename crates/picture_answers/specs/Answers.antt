@@ -104,6 +104,7 @@ DrawsCell schedule (Err (fault.History why)) = ⊥
 DrawsCell schedule (Err (fault.Lines why)) = ⊥
 DrawsCell schedule (Err (fault.Schedule position)) = IsFirstOverrun (cell_span schedule ∷ []) position
 DrawsCell schedule (Err fault.NoMemory) = ⊥
+DrawsCell schedule (Err fault.NoThread) = ⊥
 
 -- the answer to the schedule of a matrix, likewise
 abbrev pub DrawsMatrix : MatrixSchedule Band → Result Answer Fault → Type 0
@@ -115,6 +116,7 @@ DrawsMatrix schedule (Err (fault.History why)) = ⊥
 DrawsMatrix schedule (Err (fault.Lines why)) = ⊥
 DrawsMatrix schedule (Err (fault.Schedule position)) = IsFirstOverrun (spans_of schedule.terms) position
 DrawsMatrix schedule (Err fault.NoMemory) = ⊥
+DrawsMatrix schedule (Err fault.NoThread) = ⊥
 
 -- the answer to the schedule of a composed board, likewise
 abbrev pub DrawsBoard : BoardSchedule Band → Result Answer Fault → Type 0
@@ -126,6 +128,7 @@ DrawsBoard schedule (Err (fault.History why)) = ⊥
 DrawsBoard schedule (Err (fault.Lines why)) = ⊥
 DrawsBoard schedule (Err (fault.Schedule position)) = IsFirstOverrun (board_spans schedule.terms) position
 DrawsBoard schedule (Err fault.NoMemory) = ⊥
+DrawsBoard schedule (Err fault.NoThread) = ⊥
 
 -- the answer to a schedule
 abbrev pub DrawsSchedule : ScheduleDocument → Result Answer Fault → Type 0
