@@ -15,11 +15,11 @@ use soak_findings::{Finding, Tally, exit};
 use soak_rounds::record::{Record, Shared};
 use soak_rounds::{pair, planted};
 use std::alloc::{AllocError, Global};
+use std::io;
 use std::process::ExitCode;
 use std::rt::Clock;
 use std::thread::Threads;
 use std::time::Instant;
-use std::io;
 use thread_probe::can_start;
 
 const FOUR_SLOT: &str = "four_slot";
