@@ -1,5 +1,8 @@
 -- The answer to a document: its picture with its status, or the fault (this project's own).
 use Rattle.std.specs.Prelude.{◌≡◌, ℕ, List, [], ◌∷◌, Option, None, Some, Result, Ok, Err}
+use Rattle.fsr_streams.specs.Exits.{status_of}
+use Rattle.fsr_streams.specs.declared.exit.Exit.{Exit}
+use Rattle.fsr_streams.specs.declared.exit.Exit.TheVariants.{Sound, Unsound}
 use Rattle.fsr_runs.specs.Answers.{AnswersReading}
 use Rattle.fsr_runs.specs.declared.fault.Answer.{Answer}
 use Rattle.fsr_runs.specs.declared.fault.Fault.{Fault}
@@ -75,14 +78,14 @@ CanBeShown (shown.Check document) = Unit {0}
 CanBeShown (shown.Log log) = CanBeSearched log
 CanBeShown (shown.Schedule document) = CanBePlayed document
 
--- the status: 0 where the order is lawful, else 1
-abbrev pub status_of : Finding → ℕ
-status_of Lawful = 0
-status_of (Broken broken) = 1
-status_of (NoOrder reason) = 1
+-- how a run ends that shows what was found
+abbrev pub exit_of : Finding → Exit
+exit_of Lawful = Sound
+exit_of (Broken broken) = Unsound
+exit_of (NoOrder reason) = Unsound
 
 abbrev pub drawn : Scene → Answer
-drawn scene = record { text = picture_of scene; status = status_of scene.finding }
+drawn scene = record { text = picture_of scene; status = status_of (exit_of scene.finding) }
 
 -- the answer to a history and an order of it
 abbrev pub DrawsCheck : CheckDocument → Result Answer Fault → Type 0
