@@ -3,7 +3,7 @@ use Rattle.std.proofs.Common.{◌≡◌, ◌++◌, ◌∷◌, [], length, ap, �
 use Rattle.cell_live.specs.declared.times.Known.{Known}
 use Rattle.cell_live.specs.Intervals.{known_as}
 use Rattle.cell_live.proofs.Heard.{learnt_last, no_older}
-use Rattle.cell_receipts.proofs.followed.Goals as goal
+use Rattle.cell_uses.proofs.receipts.followed.Goals as goal
 
 pub returns-clause-first : goal.returns-clause-first
 returns-clause-first g c =

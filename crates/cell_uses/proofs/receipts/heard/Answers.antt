@@ -2,7 +2,7 @@
 use Rattle.std.proofs.Common.{◌≡◌, ◌++◌, ◌∷◌, [], List, ap, sym, ◌∙◌, subst}
 use Rattle.cell_live.specs.Intervals.{AreAtomic, HaveEnded, IsHeard, IsNextCall}
 use Rattle.cell_live.proofs.Heard.{heard_last}
-use Rattle.cell_receipts.proofs.heard.Goals as goal
+use Rattle.cell_uses.proofs.receipts.heard.Goals as goal
 
 pub returns : goal.returns
 returns g c =

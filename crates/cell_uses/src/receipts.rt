@@ -1,7 +1,5 @@
 //! What the time of a cell's calls buys one task: a read that begins after a receipt was learnt gives the very record that the
 //! receipt names, where no later one was written, whatever the law of the records says.
-#![tactic(auto)]
-
 ghost use Rattle.std.specs.Prelude.{◌≡◌};
 ghost use Rattle.cell_live.specs.Intervals.{IsNoOlder};
 ghost use Rattle.cell_live.specs.Running.{last_or};
