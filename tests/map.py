@@ -23,7 +23,7 @@ SUBJECTS = {
     "The four-slot register, played": "four_slot_core four_slot_play",
     "The matrix and the composed board, played": "stamps matrix_core matrix_play matrix_board_play",
     "Running cells": "cell_live cell_four_slot cell_triple cell_uses",
-    "Families: running registers in one time": "family_live family_four_slot family_triple",
+    "Families: running registers in one time": "family_live family_table family_four_slot family_triple",
     "Running boards": "board_history board_live thread_probe board_tasks board_origins board_receipts board_control board_uses",
     "The library for C": "c_registers c_boards c_handles c_exports",
     "Documents and printed lines": "fsr_streams fsr_refusals fsr_runs history_text log_text lines_tables lines_text lines_log "

@@ -1,10 +1,10 @@
 -- What goes from seat to seat (this project's own).
 use Rattle.std.specs.Prelude.{List, [], ◌∷◌, ◌++◌}
-use Rattle.family_four_slot.specs.declared.notes.Process.{Process}
-use Rattle.family_four_slot.specs.declared.notes.Receipt.{Receipt}
-use Rattle.family_four_slot.specs.declared.notes.View.{View}
-use Rattle.family_four_slot.specs.declared.notes.View.TheVariants.{Told, Has}
-use Rattle.family_four_slot.specs.Family.{receipt_of, heard_by}
+use Rattle.family_table.specs.declared.notes.Process.{Process}
+use Rattle.family_table.specs.declared.notes.Receipt.{Receipt}
+use Rattle.family_table.specs.declared.notes.View.{View}
+use Rattle.family_table.specs.declared.notes.View.TheVariants.{Told, Has}
+use Rattle.family_table.specs.Family.{receipt_of, heard_by}
 
 module _ {V : Type 0} where
   abbrev pub no_one : View V

@@ -1,20 +1,20 @@
 -- Receipts in a family: what one cell allows each time, in all cells at once.
-use Rattle.std.proofs.Common.{◌≡◌, ◌≢◌, ◌⊎◌, ℕ, zero, suc, ◌+◌, ◌<◌, ◌≤◌, max, List, [], ◌∷◌, ◌++◌, map, length, get_or, set, refl, sym, ap, ◌∙◌, subst}
+use Rattle.std.proofs.Common.{◌≡◌, ◌≢◌, ◌⊎◌, ℕ, zero, suc, ◌+◌, ◌<◌, ◌≤◌, max, List, [], ◌∷◌, ◌++◌, map, length, set, refl, sym, ap, ◌∙◌, subst}
 use Rattle.std.proofs.Common.{⊎_elim, inl, inr, arith}
 use Rattle.std.proofs.lemmas.List.{map-append}
-use mathlib.Core.Option.{some, none, Option, some-injective, some-ne-none}
+use mathlib.Core.Option.{some}
 use lib.ListN.{get_elem?}
 use Rattle.atomic_table.specs.Table.{State, Splits, Joins}
 use Rattle.atomic_table.proofs.Lists.{at_set, at_snoc, at_map, at_longer, set_here, set_again}
-use Rattle.family_four_slot.specs.declared.notes.Process.{Process}
-use Rattle.family_four_slot.specs.declared.notes.Receipt.{Receipt}
-use Rattle.family_four_slot.specs.declared.notes.View.{View}
-use Rattle.family_four_slot.specs.declared.notes.View.TheVariants.{Told, Has}
-use Rattle.family_four_slot.specs.Layouts.{Layout, EachOf, IsInCell, Disjoint, Out, Distinct}
-use Rattle.family_four_slot.specs.Family.{total, of_cell, cell, holders, Shows, FamilyRule, heard_parts, receipt_of, heard_by, CellTells, CellHears}
-use Rattle.family_four_slot.proofs.Slices.{within, map_set, set_front, set_long, in_front}
-use Rattle.family_four_slot.proofs.Steps.{count_of, shows_set}
-use Rattle.family_four_slot.proofs.Totals.{total_set, total_snoc, total_two}
+use Rattle.family_table.specs.declared.notes.Process.{Process}
+use Rattle.family_table.specs.declared.notes.Receipt.{Receipt}
+use Rattle.family_table.specs.declared.notes.View.{View}
+use Rattle.family_table.specs.declared.notes.View.TheVariants.{Told, Has}
+use Rattle.family_table.specs.Layouts.{Layout, IsInCell, Disjoint, Out, Distinct}
+use Rattle.family_table.specs.Family.{total, of_cell, cell, holders, Shows, FamilyRule, heard_parts, receipt_of, heard_by, CellTells, CellHears}
+use Rattle.family_table.proofs.Slices.{within, map_set, set_front, set_long, in_front}
+use Rattle.family_table.proofs.Steps.{count_of, shows_set}
+use Rattle.family_table.proofs.Totals.{total_set, total_snoc, total_two}
 
 module _ {A : Type 0} where
   in_snoc : (xs : List A) (y x : A) → IsInCell x (xs ++ y ∷ []) → IsInCell x xs ⊎ (x ≡ y)
@@ -224,3 +224,8 @@ module _ {V : Type 0} (blank : V) (receipt : V → V) (hears : V → V → V) (p
               ))
               (λ (b : (j ≢ who) × (get_elem? P j ≡ some z)). (z, refl, refl, b.1))
               (at_set P who j u z e)
+
+pub heard_long : {V : Type 0} (hears : V → V → V) (vs ws : List V) → length (heard_parts hears vs ws) ≡ length vs
+heard_long hears [] ws = refl
+heard_long hears (v ∷ vs) [] = refl
+heard_long hears (v ∷ vs) (w ∷ ws) = ap suc (heard_long hears vs ws)

@@ -1,15 +1,15 @@
 -- Acts on the slots of a seat: a cell's act on its slots in the table, and an act on slots that lie behind others, which are given back
 -- first and then taken again. Of that only the act stays, since the others were out and are so again.
-use Rattle.std.proofs.Common.{◌≡◌, ◌≢◌, ◌⊎◌, ℕ, zero, suc, ◌+◌, ◌<◌, ◌≤◌, List, [], ◌∷◌, ◌++◌, map, length, get_or, set}
-use Rattle.std.proofs.Common.{refl, sym, ap, ◌∙◌, subst, ⊎_elim, inl, inr, arith}
+use Rattle.std.proofs.Common.{◌≡◌, ◌≢◌, ℕ, zero, suc, ◌<◌, List, [], ◌∷◌, ◌++◌, length, get_or, set}
+use Rattle.std.proofs.Common.{refl, sym, ap, ◌∙◌, subst, inl, inr}
 use mathlib.Core.Option.{some, none, Option, some-injective, some-ne-none}
 use lib.ListN.{get_elem?}
-use Rattle.atomic_table.specs.Table.{Act, keeps, takes, gives, chain, put_back, rest, carried_after, homes_after, Valid}
-use Rattle.atomic_table.proofs.Lists.{at_index, set_here, set_else, set_again}
-use Rattle.cell_live.specs.Acts.{HasOne, Proper}
+use Rattle.atomic_table.specs.Table.{Act, keeps, takes, gives, chain, carried_after, homes_after, Valid}
+use Rattle.atomic_table.proofs.Lists.{set_here, set_else, set_again}
+use Rattle.cell_live.specs.Acts.{Proper}
 use Rattle.cell_live.specs.Running.{held_slots}
-use Rattle.family_four_slot.specs.Layouts.{gather, shift, shift_act, Inside, around, IsInCell, Distinct, Out}
-use Rattle.family_four_slot.proofs.Slices.{gather_at, gather_set, gather_apart, get_there, set_swap, set_twice, set_long, within}
+use Rattle.family_table.specs.Layouts.{gather, shift, shift_act, Inside, around, IsInCell, Distinct, Out}
+use Rattle.family_table.proofs.Slices.{gather_at, gather_set, gather_apart, set_swap, set_twice, set_long, within}
 
 module _ {S : Type 0} where
   -- a cell's act in the table

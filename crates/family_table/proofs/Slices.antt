@@ -1,9 +1,9 @@
 -- Lists by places: what a change of one element does to the elements that were gathered by their places, and to the elements of a map.
-use Rattle.std.proofs.Common.{◌≡◌, ◌≢◌, ◌⊎◌, ℕ, zero, suc, ◌+◌, ◌*◌, ◌<◌, ◌≤◌, List, [], ◌∷◌, ◌++◌, map, length, get_or, set, replicate}
+use Rattle.std.proofs.Common.{◌≡◌, ◌≢◌, ◌⊎◌, ℕ, zero, suc, ◌<◌, ◌≤◌, List, [], ◌∷◌, ◌++◌, map, length, get_or, set, replicate}
 use Rattle.std.proofs.Common.{refl, sym, ap, ◌∙◌, subst, ⊎_elim, inl, inr, arith}
-use mathlib.Core.Option.{some, none, Option, some-injective, some-ne-none}
+use mathlib.Core.Option.{some, some-injective, some-ne-none}
 use lib.ListN.{get_elem?, get_or-replicate}
-use Rattle.family_four_slot.specs.Layouts.{gather, IsInCell, Distinct}
+use Rattle.family_table.specs.Layouts.{gather, IsInCell, Distinct}
 
 module _ {A : Type 0} where
   pub get_set_here : (xs : List A) (i : ℕ) (v d : A) → i < length xs → get_or (set xs i v) i d ≡ v
@@ -165,3 +165,9 @@ same_first k x y xs ys e = ap (first x) e where
   first : {A : Type 0} → A → List (ℕ × A) → A
   first d [] = d
   first d (z ∷ zs) = z.1
+
+-- beyond its end
+pub past : {A : Type 0} (xs : List A) (i : ℕ) (d : A) → length xs ≤ i → get_or xs i d ≡ d
+past [] i d l = refl
+past (x ∷ xs) zero d l = absurd (omega arith)
+past (x ∷ xs) (suc i) d l = past xs i d (omega arith)

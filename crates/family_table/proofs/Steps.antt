@@ -1,7 +1,7 @@
 -- A step on one cell of a family keeps the family's rule: the cell's own step keeps its rule, at a time later than all before, and each
 -- other cell is as it was, at a later time.
-use Rattle.std.proofs.Common.{◌≡◌, ◌≢◌, ◌⊎◌, ℕ, ◌+◌, ◌*◌, ◌<◌, ◌≤◌, List, [], ◌∷◌, ◌++◌, map, length, get_or, set, refl, sym, ap, ◌∙◌, subst}
-use Rattle.std.proofs.Common.{⊎_elim, inl, inr, arith, le_refl, length-append, nat_eq, true, Bool, slice_get, Some, cond}
+use Rattle.std.proofs.Common.{◌≡◌, ◌≢◌, ℕ, ◌+◌, ◌<◌, ◌≤◌, List, [], ◌∷◌, ◌++◌, map, length, get_or, set, refl, sym, ap, ◌∙◌, subst}
+use Rattle.std.proofs.Common.{⊎_elim, arith, le_refl, length-append, nat_eq, true, Bool, slice_get, Some, cond}
 use Rattle.std.proofs.lemmas.List.{map-append}
 use Rattle.history_core.specs.Schedules.{positions}
 use Rattle.history_core.proofs.Positions.{positions_mine, positions_other}
@@ -14,18 +14,18 @@ use Rattle.atomic_table.specs.Table.{State, Me, Act, carried_after, homes_after,
 use Rattle.atomic_table.proofs.Lists.{at_set, at_map, at_longer, set_here, set_else}
 use Rattle.cell_live.specs.Acts.{Proper}
 use Rattle.cell_live.specs.Running.{held_slots}
-use Rattle.family_four_slot.specs.declared.notes.Process.{Process}
-use Rattle.family_four_slot.specs.declared.notes.Receipt.{Receipt}
-use Rattle.family_four_slot.specs.declared.notes.View.{View}
-use Rattle.family_four_slot.specs.declared.notes.View.TheVariants.{Told, Has}
-use Rattle.family_four_slot.specs.Layouts.{Layout, IsLayout, gather, shift, shift_act, Inside, around, IsInCell, Distinct, Disjoint, Out}
-use Rattle.family_four_slot.specs.Family.{total, of_cell, knows, cell, holders, Shows, FamilyRule, CellAllows, StepTells}
-use Rattle.family_four_slot.proofs.Slices.{gather_get, gather_set, gather_apart, get_set_here, get_set_else, set_long, map_set, map_same, set_front}
-use Rattle.family_four_slot.proofs.Slices.{within, distinct_front, in_front}
-use Rattle.family_four_slot.proofs.Acts.{carried_shift, valid_shift, homes_gather, homes_apart, around_carried, around_homes, around_valid}
-use Rattle.family_four_slot.proofs.Acts.{all_avoid, proper_shift, homes_long}
-use Rattle.family_four_slot.proofs.Held.{Effect, act_effect}
-use Rattle.family_four_slot.proofs.Totals.{total_set, total_two}
+use Rattle.family_table.specs.declared.notes.Process.{Process}
+use Rattle.family_table.specs.declared.notes.Receipt.{Receipt}
+use Rattle.family_table.specs.declared.notes.View.{View}
+use Rattle.family_table.specs.declared.notes.View.TheVariants.{Told, Has}
+use Rattle.family_table.specs.Layouts.{Layout, IsLayout, gather, shift, shift_act, Inside, around, Distinct, Disjoint, Out}
+use Rattle.family_table.specs.Family.{total, of_cell, knows, cell, holders, Shows, FamilyRule, CellAllows, StepTells}
+use Rattle.family_table.proofs.Slices.{gather_get, gather_set, gather_apart, get_set_here, get_set_else, set_long, map_set, map_same, set_front}
+use Rattle.family_table.proofs.Slices.{within, distinct_front, in_front}
+use Rattle.family_table.proofs.Acts.{carried_shift, valid_shift, homes_gather, homes_apart, around_carried, around_homes, around_valid}
+use Rattle.family_table.proofs.Acts.{all_avoid, proper_shift, homes_long}
+use Rattle.family_table.proofs.Held.{Effect, act_effect}
+use Rattle.family_table.proofs.Totals.{total_set, total_two}
 
 same_number : (n : ℕ) → nat_eq n n ≡ true
 same_number n = grind (arith, nat_tests)

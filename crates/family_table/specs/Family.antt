@@ -6,12 +6,12 @@ use lib.ListN.{get_elem?}
 use Rattle.history_core.specs.Schedules.{positions}
 use Rattle.cell_live.specs.Acts.{Proper}
 use Rattle.cell_live.specs.Running.{held_slots}
-use Rattle.family_four_slot.specs.declared.notes.Process.{Process}
-use Rattle.family_four_slot.specs.declared.notes.Receipt.{Receipt}
-use Rattle.family_four_slot.specs.declared.notes.View.{View}
-use Rattle.family_four_slot.specs.declared.notes.View.TheVariants.{Told, Has}
-use Rattle.family_four_slot.specs.Layouts.{Layout, EachOf, gather, shift, shift_act, Inside, around, IsInCell, Distinct, Disjoint, Out}
-use Rattle.atomic_table.specs.Table.{State, Me, Act, keeps, takes, gives, chain, carried_after, Valid, stepped}
+use Rattle.family_table.specs.declared.notes.Process.{Process}
+use Rattle.family_table.specs.declared.notes.Receipt.{Receipt}
+use Rattle.family_table.specs.declared.notes.View.{View}
+use Rattle.family_table.specs.declared.notes.View.TheVariants.{Told, Has}
+use Rattle.family_table.specs.Layouts.{Layout, EachOf, gather, shift, IsInCell, Distinct, Disjoint, Out}
+use Rattle.atomic_table.specs.Table.{State, Me, Act, carried_after, Valid, stepped}
 
 -- f of each, added up
 abbrev pub total : {A : Type 0} → (A → ℕ) → List A → ℕ

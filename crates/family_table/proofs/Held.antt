@@ -1,6 +1,6 @@
 -- Which slots are out: with an act of one process each slot that a process has is out still, and with no other one.
-use Rattle.std.proofs.Common.{◌≡◌, ◌≢◌, ◌⊎◌, ℕ, zero, suc, ◌+◌, ◌<◌, ◌≤◌, List, [], ◌∷◌, ◌++◌, map, length, set}
-use Rattle.std.proofs.Common.{refl, sym, ap, ◌∙◌, subst, ⊎_elim, inl, inr, arith}
+use Rattle.std.proofs.Common.{◌≡◌, ◌≢◌, ◌⊎◌, ℕ, List, [], ◌∷◌, ◌++◌, set}
+use Rattle.std.proofs.Common.{sym, ◌∙◌, subst, ⊎_elim}
 use Rattle.std.proofs.lemmas.List.{map-append}
 use Rattle.std.proofs.lemmas.Bool.{cases_eq}
 use mathlib.Core.Option.{some, none, Option, some-injective, some-ne-none}
@@ -9,8 +9,8 @@ use Rattle.atomic_table.specs.Table.{Act, keeps, takes, gives, chain, carried_af
 use Rattle.atomic_table.proofs.Lists.{set_here, set_else}
 use Rattle.cell_live.specs.Acts.{Proper}
 use Rattle.cell_live.specs.Running.{held_slots}
-use Rattle.family_four_slot.specs.Layouts.{shift, shift_act, IsInCell, Distinct, Disjoint, Out}
-use Rattle.family_four_slot.proofs.Slices.{in_more, in_less, in_middle, distinct_more, distinct_less, within}
+use Rattle.family_table.specs.Layouts.{shift, shift_act, IsInCell, Distinct, Disjoint, Out}
+use Rattle.family_table.proofs.Slices.{in_more, in_less, in_middle, distinct_more, distinct_less, within}
 
 -- what an act does to the homes, and to the slots of its seat: nothing, or one slot goes out that was at home, or one comes home
 pub record Effect {S : Type 0} (homes homes' : List (Option S)) (held held' : List ℕ) : Type 0 where

@@ -1,21 +1,22 @@
 -- What is known of processes goes from seat to seat: the rule of the family stays, since only the seats' views change.
-use Rattle.std.proofs.Common.{◌≡◌, ◌≢◌, ◌⊎◌, ℕ, zero, suc, ◌+◌, ◌<◌, ◌≤◌, List, [], ◌∷◌, ◌++◌, map, length, get_or, set, refl, sym, ap, ◌∙◌, subst}
-use Rattle.std.proofs.Common.{⊎_elim, inl, inr, arith, nat_eq, cond, false, slice_get, Some}
+use Rattle.std.proofs.Common.{true, ◌≡◌, ◌≢◌, ℕ, zero, suc, ◌+◌, ◌<◌, ◌≤◌, List, [], ◌∷◌, ◌++◌, map, length, set, refl, sym, ap, ◌∙◌, subst}
+use Rattle.std.proofs.Common.{⊎_elim, arith, nat_eq, cond, false}
 use Rattle.std.proofs.lemmas.Bool.Decides.{nat_tests}
-use mathlib.Core.Option.{some, none, Option, some-injective, some-ne-none}
+use mathlib.Core.Option.{some, some-injective, some-ne-none}
 use lib.ListN.{get_elem?}
-use Rattle.history_core.specs.Schedules.{positions}
 use Rattle.std.proofs.lemmas.Bool.{cases_eq}
 use Rattle.atomic_table.specs.Table.{State, Splits, Joins, opening}
 use Rattle.atomic_table.proofs.Lists.{at_set, at_snoc}
-use Rattle.family_four_slot.specs.declared.notes.Process.{Process}
-use Rattle.family_four_slot.specs.declared.notes.Receipt.{Receipt}
-use Rattle.family_four_slot.specs.declared.notes.View.{View}
-use Rattle.family_four_slot.specs.declared.notes.View.TheVariants.{Told, Has}
-use Rattle.family_four_slot.specs.Layouts.{Layout, EachOf, IsInCell, Distinct}
-use Rattle.family_four_slot.specs.Family.{total, cell, holders, Shows, FamilyRule}
-use Rattle.family_four_slot.proofs.Steps.{count_of}
-use Rattle.family_four_slot.proofs.Totals.{total_set, total_snoc}
+use Rattle.family_table.specs.declared.notes.Process.{Process}
+use Rattle.family_table.specs.declared.notes.View.{View}
+use Rattle.family_table.specs.declared.notes.View.TheVariants.{Has}
+use Rattle.family_table.specs.Layouts.{Layout, EachOf, IsInCell, Distinct}
+use Rattle.family_table.specs.Family.{total, cell, holders, Shows, FamilyRule}
+use Rattle.family_table.proofs.Steps.{count_of}
+use Rattle.family_table.proofs.Totals.{total_set, total_snoc}
+
+pub same_number : (m n : ℕ) → m ≡ n → nat_eq m n ≡ true
+same_number m n e = grind (arith, nat_tests)
 
 pub differ : (m n : ℕ) → m ≢ n → nat_eq m n ≡ false
 differ m n ne = grind (arith, nat_tests)

@@ -5,12 +5,10 @@ use mathlib.Core.Option.{some}
 use lib.ListN.{get_elem?}
 use Rattle.atomic_table.proofs.Lists.{at_longer}
 use Rattle.family_live.specs.Ends.{Each}
-use Rattle.family_four_slot.specs.declared.family.FourSlotSeat.{FourSlotSeat}
-use Rattle.family_four_slot.specs.declared.table.FamilySeat.{FamilySeat}
-use Rattle.family_four_slot.specs.Seats.{joined}
-use Rattle.family_four_slot.specs.declared.notes.Process.{Process}
-use Rattle.family_four_slot.specs.declared.notes.View.{View}
-use Rattle.family_four_slot.specs.declared.notes.View.TheVariants.{Has}
+use Rattle.family_table.specs.Seats.{joined}
+use Rattle.family_table.specs.declared.notes.Process.{Process}
+use Rattle.family_table.specs.declared.notes.View.{View}
+use Rattle.family_table.specs.declared.notes.View.TheVariants.{Has}
 
 module _ {A : Type 0} where
   -- one more of which it holds
@@ -95,8 +93,3 @@ module _ {S V : Type 0} where
   pub put_again : (m a b last : View V × List (ℕ × S)) (p : Process V) →
       m ≡ (joined a.0 b.0, a.1) → a ≡ (Has [], last.1) → b ≡ (Has (p ∷ []), []) → last.0 ≡ Has (p ∷ []) → m ≡ last
   put_again m a b last p is from one was = is ∙ ((λ i. (joined ((from i).0) ((one i).0), (from i).1)) ∙ (λ i. (sym was i, last.1)))
-
--- a seat whose token is as it was is as it was
-pub same_seat : {T : Type 0} (s : FourSlotSeat T) (inner : FamilySeat T) → inner.inner.table_id ≡ s.seat.inner.table_id →
-    inner.inner.id ≡ s.seat.inner.id → inner.inner.me ≡ s.seat.inner.me → record s { seat = inner } ≡ s
-same_seat s inner table id me = λ i. record s { seat = record inner { inner = record inner.inner { table_id = table i; id = id i; me = me i } } }
