@@ -4,7 +4,7 @@
 
 # The code of a file: no comments, no clauses, no space.
 code_of() {
-    clause='^ *\(requires\|ensures\|ghost\) '
+    clause='^ *\(pub \)\{0,1\}\(requires\|ensures\|ghost\) '
     sed -e 's://.*::' -e "/$clause.*}[;,]*\$/d" -e "/$clause/,/}[;,]*\$/d" "$1" | tr -d ' \n'
 }
 
@@ -13,7 +13,7 @@ code_of() {
 calls_in() {
     words='\([^()]*\)'
     [ "$2" = kinds ] && words='\('
-    code_of "$1" | grep -oE "\\.shared\\.[a-z_]+(::<[A-Za-z<>]+>)?$words|slot_mut$words|Table::[a-z_]+$words|close[a-z_]*$words"
+    code_of "$1" | grep -oE "\\.shared\\.[a-z_]+(::<[A-Za-z<>,]+>)?$words|slot_mut$words|Table::[a-z_]+$words|close[a-z_]*$words"
 }
 
 # The word `mod` in the code of a file: a module of table.rt could hold what no list names.
@@ -92,49 +92,42 @@ is_listed crates/cell_triple/src/table.rt
 
 cat >"$room/listed" <<'LIST'
 Table::new(
+.shared.split_seat::<First>(
+.shared.split_seat::<Tells<T,M>>(
+.shared.split_seat::<Repeats>(
+.shared.join_seat::<Learns<T,M>>(
+.shared.split_seat::<All>(
+.shared.join_seat::<Gathers>(
+.shared.load::<Shows<M,K>>(
+close(
+close_with(
+slot_mut(
+slot_mut(
+LIST
+is_listed crates/family_table/src/table.rt kinds
+
+cat >"$room/listed" <<'LIST'
 .shared.load::<Begins<K>>(
 .shared.store::<Stores>(
 .shared.store::<Finishes>(
 .shared.load::<Asks>(
 .shared.store::<Says>(
 .shared.load::<Takes>(
-.shared.split_seat::<First>(
-.shared.split_seat::<Tells>(
-.shared.split_seat::<Repeats>(
-.shared.join_seat::<Learns>(
-.shared.split_seat::<All>(
-.shared.join_seat::<Gathers>(
-.shared.load::<Shows<K>>(
-close(
-close_with(
-slot_mut(
-slot_mut(
 LIST
 is_listed crates/family_four_slot/src/table.rt kinds
 
 cat >"$room/listed" <<'LIST'
-Table::new(
 .shared.load::<PutTakes>(
 .shared.load::<GetTakes>(
 .shared.swap::<Publishes>(
 .shared.load::<Looks>(
 .shared.swap::<Fetches>(
-.shared.split_seat::<First>(
-.shared.split_seat::<Tells>(
-.shared.split_seat::<Repeats>(
-.shared.join_seat::<Learns>(
-.shared.split_seat::<All>(
-.shared.join_seat::<Gathers>(
-.shared.load::<Shows<K>>(
-close(
-close_with(
-slot_mut(
-slot_mut(
 LIST
 is_listed crates/family_triple/src/table.rt kinds
 
 # Elsewhere only what a rule and its kinds of step are made of is taken from `atomic_table`, and what a closed table leaves.
-tables='crates/cell_four_slot/src/table.rt crates/cell_triple/src/table.rt crates/family_four_slot/src/table.rt crates/family_triple/src/table.rt'
+tables='crates/cell_four_slot/src/table.rt crates/cell_triple/src/table.rt crates/family_table/src/table.rt'
+tables="$tables crates/family_four_slot/src/table.rt crates/family_triple/src/table.rt"
 tabled='cell_live cell_four_slot cell_triple family_table family_four_slot family_triple'
 
 # Prints what touches a table in the tree of this folder, beside the files of $tables: they are left out by their whole paths.
@@ -146,7 +139,7 @@ touches_in() {
         case " $tables " in
         *" ${file#"$1"/} "*) continue ;;
         esac
-        code_of "$file" | grep -oE 'atomic_table[^;]*;' | grep -vxE 'atomic_table::(TableRule|Closed|Split|\{Join,Play,Split\});' | sed "s:^:$file\: :"
+        code_of "$file" | grep -oE 'atomic_table[^;]*;' | grep -vxE 'atomic_table::(TableRule|Closed|Play|Split|\{Join,Play,Split\});' | sed "s:^:$file\: :"
         code_of "$file" | grep -oE '\.inner\b|\.shared\b|slot_mut|split_seat|join_seat|(load|store|swap)[a-z_]*::<|peek|fetch_[a-z]+|[a-z_]*exchange[a-z_]*|[a-z_]+_new_seat|close_with|unsafe' | sed "s:^:$file\: :"
     done <"$room/files"
 }

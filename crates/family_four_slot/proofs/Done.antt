@@ -11,7 +11,7 @@ use Rattle.cell_four_slot.specs.Steps.{FourSlotSight, begun_with, stored_by, fin
 use Rattle.cell_live.proofs.ListLaws.{last_snoc}
 use Rattle.family_live.specs.Accesses.{IsAccess, IsReadAccess, IsWriteAccess, KeepsEach, KeepsOthers, ReadAccesses}
 use Rattle.family_four_slot.specs.declared.family.FourSlotFamily.{FourSlotFamily}
-use Rattle.family_four_slot.specs.declared.family.FourSlotSeat.{FourSlotSeat}
+use Rattle.family_four_slot.specs.Seated.{FourSlotSeat}
 use Rattle.family_four_slot.specs.declared.family.Shown.{Shown}
 use Rattle.family_four_slot.specs.declared.family.Stored.{Stored}
 use Rattle.family_table.specs.declared.notes.Process.{Process}
@@ -20,7 +20,8 @@ use Rattle.family_table.specs.Family.{knows}
 use Rattle.family_table.specs.Layouts.{shift}
 use Rattle.family_table.specs.Places.{place}
 use Rattle.family_four_slot.specs.Places.{slot_at}
-use Rattle.family_four_slot.specs.Seated.{known_by, opening_of, processes_of, number_of, clock_of, times_of, writes_of, reads_of, IsSeat}
+use Rattle.family_table.specs.Seated.{known_by, number_of, clock_of, times_of}
+use Rattle.family_four_slot.specs.Seated.{opening_of, processes_of, writes_of, reads_of, IsSeat}
 use Rattle.family_four_slot.specs.Words.{none_shown, writes_to, reads_from, IsAtRest}
 use Rattle.family_table.specs.Views.{process_of}
 use Rattle.family_four_slot.proofs.Calls.{a_write, a_read, sees_reads}

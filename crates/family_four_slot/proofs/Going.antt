@@ -9,14 +9,15 @@ use Rattle.cell_four_slot.specs.declared.notes.ReaderNotes.{ReaderNotes}
 use Rattle.cell_live.specs.declared.sight.Sight.TheVariants.{Spent, Writer, Reader}
 use Rattle.cell_four_slot.specs.Steps.{FourSlotSight}
 use Rattle.family_four_slot.specs.declared.family.FourSlotFamily.{FourSlotFamily}
-use Rattle.family_four_slot.specs.declared.family.FourSlotSeat.{FourSlotSeat}
+use Rattle.family_four_slot.specs.Seated.{FourSlotSeat}
 use Rattle.family_table.specs.declared.notes.Process.{Process}
 use Rattle.family_table.specs.declared.notes.View.{View}
 use Rattle.family_table.specs.declared.notes.View.TheVariants.{Has}
 use Rattle.family_table.specs.Family.{of_cell, knows}
 use Rattle.family_table.specs.Places.{place}
 use Rattle.family_four_slot.specs.Places.{four_slots, word_at}
-use Rattle.family_four_slot.specs.Seated.{known_by, processes_of, number_of, writes_of, IsSeat}
+use Rattle.family_table.specs.Seated.{known_by, number_of}
+use Rattle.family_four_slot.specs.Seated.{processes_of, writes_of, IsSeat}
 use Rattle.family_four_slot.specs.Steps.{After}
 use Rattle.family_four_slot.specs.Tables.{HasProcess, HasWriter, HasReader}
 use Rattle.family_table.specs.Views.{process_of}

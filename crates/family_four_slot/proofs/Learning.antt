@@ -18,7 +18,7 @@ use Rattle.family_four_slot.specs.FourSlots.{Idle}
 use Rattle.family_table.specs.Places.{place, writer_of}
 use Rattle.family_four_slot.specs.Words.{writes_to, reads_from, HasSlots, IsAtRest, IsColumn}
 use Rattle.family_four_slot.proofs.Calls.{sees_reads}
-use Rattle.family_four_slot.proofs.Cells.{deaf, mute}
+use Rattle.family_four_slot.specs.Cells.{deaf, mute}
 use Rattle.family_table.proofs.Seats.{same_number}
 use Rattle.family_table.proofs.Places.{writer_there}
 use Rattle.family_table.proofs.Receipts.{heard_cell}

@@ -1,8 +1,6 @@
 pub mod Calls
-pub mod Cells
 pub mod Columns
 pub mod Done
-pub mod Ends
 pub mod FourSlots
 pub mod Frames
 pub mod Going
@@ -12,7 +10,6 @@ pub mod Parting
 pub mod Places
 pub mod Rests
 pub mod Rows
-pub mod Showing
 pub mod Starts
 pub mod Telling
 pub mod Told

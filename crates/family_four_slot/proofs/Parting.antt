@@ -14,8 +14,8 @@ use Rattle.cell_four_slot.specs.Steps.{FourSlotSight, first_writer, first_reader
 use Rattle.family_live.specs.Accesses.{WriteAccesses, ReadAccesses, IsUnused, no_writes, no_reads}
 use Rattle.family_live.specs.Ends.{Each, EachTwo, IsSchedule, IsAtomicCell}
 use Rattle.family_four_slot.specs.declared.family.FourSlotFamily.{FourSlotFamily}
-use Rattle.family_four_slot.specs.declared.family.FourSlotSeat.{FourSlotSeat}
-use Rattle.family_four_slot.specs.declared.table.FamilySeat.{FamilySeat}
+use Rattle.family_four_slot.specs.Seated.{FourSlotSeat}
+use Rattle.family_table.specs.declared.table.FamilySeat.{FamilySeat}
 use Rattle.family_four_slot.specs.declared.family.Shown.{Shown}
 use Rattle.family_four_slot.specs.declared.family.Stored.{Stored}
 use Rattle.family_table.specs.declared.notes.Process.{Process}
@@ -25,7 +25,8 @@ use Rattle.family_table.specs.Places.{upto}
 use Rattle.family_four_slot.specs.FourSlots.{first_part, first_process, Idle}
 use Rattle.family_table.specs.Places.{place, writer_of, reader_of}
 use Rattle.family_table.specs.Seats.{all_but_first, first_of}
-use Rattle.family_four_slot.specs.Seated.{known_by, opening_of, processes_of, number_of, clock_of, times_of, writes_of, reads_of, IsSeat, IsFirst}
+use Rattle.family_table.specs.Seated.{known_by, number_of, clock_of, times_of}
+use Rattle.family_four_slot.specs.Seated.{opening_of, processes_of, writes_of, reads_of, IsSeat, IsFirst}
 use Rattle.family_four_slot.specs.Tables.{IsEnded}
 use Rattle.family_four_slot.specs.Words.{none_shown, shown_to, writes_to, reads_from, IsAtRest}
 use Rattle.family_table.specs.Views.{process_of}
@@ -48,14 +49,14 @@ unstored = record { shown = replicate 16 (record { bits = 0 ∷ 0 ∷ []; latest
 
 module _ {T : Type 0} where
   -- the seats of the first processes were parted off
-  pub record DealtTo (id : TableId) (n : ℕ) (o : T) (who : ℕ) (rest : FamilySeat T) (seats : List (FourSlotSeat T)) : Type 0 where
+  pub record DealtTo (id : TableId) (n : ℕ) (o : T) (who : ℕ) (rest : FamilySeat T (FourSlotSight T)) (seats : List (FourSlotSeat T)) : Type 0 where
     pub table : rest.inner.table_id ≡ id
     pub me : rest.inner.me ≡ (Has (upto (first_process o n) who (n - who)), [])
     pub long : length seats ≡ who
     pub each : Each (IsFirst id n o) seats
 
   -- one seat more is parted off
-  pub dealt_more : (id : TableId) (n : ℕ) (o : T) (who : ℕ) (rest rest' : FamilySeat T) (seats : List (FourSlotSeat T)) (s : FourSlotSeat T) → who < n →
+  pub dealt_more : (id : TableId) (n : ℕ) (o : T) (who : ℕ) (rest rest' : FamilySeat T (FourSlotSight T)) (seats : List (FourSlotSeat T)) (s : FourSlotSeat T) → who < n →
       DealtTo id n o who rest seats → rest'.inner.table_id ≡ rest.inner.table_id →
       rest'.inner.me ≡ (all_but_first rest.inner.me.0, rest.inner.me.1) → s.seat.inner.table_id ≡ rest.inner.table_id →
       s.seat.inner.me ≡ (first_of rest.inner.me.0, []) → s.spare ≡ o → s.processes ≡ n → s.who ≡ who → s.stored ≡ unstored →
@@ -175,7 +176,7 @@ module _ {T : Type 0} where
 
   -- such a seat is one of the family's, and unused
   pub first_seat : (f : FourSlotFamily T) (n : ℕ) (o : T) (i : ℕ) (s : FourSlotSeat T) → opening_of f ≡ o → processes_of f ≡ n → i < n → n ≤ 16 →
-      IsFirst f.table.inner.shared.table_id n o i s →
+      IsFirst f.table.rows.inner.shared.table_id n o i s →
       (IsSeat f s × (number_of s ≡ i)) × IsUnused (clock_of s) (times_of s) (writes_of s) (reads_of s)
   first_seat f n o i s opens many li most h =
       let is : known_by s ≡ first_process o n i = ap (λ z. process_of z.0) h.me in

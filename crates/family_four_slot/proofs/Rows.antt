@@ -5,14 +5,15 @@ use Rattle.family_live.specs.Accesses.{WriteAccesses}
 use Rattle.family_live.specs.Rows.{OneByOne, IsWriteTo}
 use Rattle.family_live.proofs.Rows.{not_after, not_before, row_own}
 use Rattle.family_four_slot.specs.declared.family.FourSlotFamily.{FourSlotFamily}
-use Rattle.family_four_slot.specs.declared.family.FourSlotSeat.{FourSlotSeat}
+use Rattle.family_four_slot.specs.Seated.{FourSlotSeat}
 use Rattle.family_table.specs.Places.{place}
-use Rattle.family_four_slot.specs.Seated.{opening_of, processes_of, number_of, clock_of, times_of, writes_of, reads_of, IsSeat}
+use Rattle.family_table.specs.Seated.{number_of, clock_of, times_of}
+use Rattle.family_four_slot.specs.Seated.{opening_of, processes_of, writes_of, reads_of, IsSeat}
 
 module _ {T : Type 0} (f : FourSlotFamily T) (start : FourSlotSeat T) where
   pub row_room : IsSeat f start → (start.processes ≤ 16) × (start.who < start.processes)
   row_room own =
-      let few : processes_of f ≤ 16 = f.table.some.1 in
+      let few : processes_of f ≤ 16 = f.table.rows.some.1 in
       let same : start.processes ≡ processes_of f = own.processes in
       (omega arith, subst (λ z. z < start.processes) own.who own.rest.inside)
 

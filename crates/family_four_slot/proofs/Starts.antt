@@ -14,7 +14,7 @@ use Rattle.family_four_slot.specs.FourSlots.{first_part, first_process, first_vi
 use Rattle.family_table.proofs.Slices.{gather_replicate}
 use Rattle.family_four_slot.proofs.Places.{is_layout}
 use Rattle.family_table.proofs.Seats.{family_starts}
-use Rattle.family_four_slot.proofs.Cells.{cell_starts}
+use Rattle.family_four_slot.specs.Cells.{cell_starts}
 use Rattle.family_table.proofs.Firsts.{upto_long, upto_at, upto_get, map_at, map_replicate, replicate_long}
 
 module _ {T : Type 0} (fits : T → Type 0) (rises : T → T → Type 0) (o : T) (n : ℕ) where

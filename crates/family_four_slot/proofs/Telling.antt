@@ -13,20 +13,21 @@ use Rattle.family_table.specs.Family.{of_cell, receipt_of}
 use Rattle.family_table.specs.Places.{place, writer_of}
 use Rattle.family_table.specs.Views.{receipt_in}
 use Rattle.family_four_slot.specs.declared.family.FourSlotFamily.{FourSlotFamily}
-use Rattle.family_four_slot.specs.declared.family.FourSlotSeat.{FourSlotSeat}
-use Rattle.family_four_slot.specs.declared.family.FourSlotTold.{FourSlotTold}
-use Rattle.family_four_slot.specs.declared.table.FamilySeat.{FamilySeat}
-use Rattle.family_four_slot.specs.Seated.{known_by, told_in, carried_by, number_of, processes_of, writes_of, IsSeat, IsTold}
+use Rattle.family_four_slot.specs.Seated.{FourSlotSeat}
+use Rattle.family_four_slot.specs.Seated.{FourSlotTold}
+use Rattle.family_table.specs.declared.table.FamilySeat.{FamilySeat}
+use Rattle.family_table.specs.Seated.{known_by, told_in, number_of}
+use Rattle.family_four_slot.specs.Seated.{carried_by, processes_of, writes_of, IsSeat, IsTold}
 use Rattle.family_table.proofs.Receipts.{receipt_cell}
 use Rattle.family_four_slot.proofs.Calls.{sees_writes}
-use Rattle.family_four_slot.proofs.Cells.{deaf, mute}
+use Rattle.family_four_slot.specs.Cells.{deaf, mute}
 
 module _ {T : Type 0} (f : FourSlotFamily T) (s : FourSlotSeat T) (own : IsSeat f s) where
   part : (t : FourSlotTold T) → t.seat.inner.me ≡ (Told (receipt_of receipt_for (known_by s)), []) → (k : ℕ) →
       of_cell Spent k (told_in t).parts ≡ receipt_for (of_cell Spent k (known_by s).parts)
   part t me k = ap (λ z. of_cell Spent k (receipt_in z.0).parts) me ∙ receipt_cell Spent receipt_for hears_of refl deaf mute k (known_by s).parts
 
-  pub has_told : (t : FourSlotTold T) → t.seat.inner.table_id ≡ f.table.inner.shared.table_id → t.processes ≡ s.processes → t.from ≡ s.who →
+  pub has_told : (t : FourSlotTold T) → t.seat.inner.table_id ≡ f.table.rows.inner.shared.table_id → t.processes ≡ s.processes → t.from ≡ s.who →
       t.seat.inner.me ≡ (Told (receipt_of receipt_for (known_by s)), []) → IsTold f t
   has_told t table many who me = record {
     table = table;
@@ -56,7 +57,7 @@ module _ {T : Type 0} (f : FourSlotFamily T) (s : FourSlotSeat T) (own : IsSeat 
       (sees_writes s.spare s.processes (known_by s) (known_by s).who j row.notes away refl row.is))
 
 -- a receipt with another token that knows the same
-pub told_again : {T : Type 0} (f : FourSlotFamily T) (t : FourSlotTold T) → IsTold f t → (inner : FamilySeat T) →
+pub told_again : {T : Type 0} (f : FourSlotFamily T) (t : FourSlotTold T) → IsTold f t → (inner : FamilySeat T (FourSlotSight T)) →
     inner.inner.table_id ≡ t.seat.inner.table_id → inner.inner.me ≡ t.seat.inner.me → IsTold f (record t { seat = inner })
 told_again {T} f t is inner table me =
     let rest = subst (λ (m : Me T (View (FourSlotSight T))). (m ≡ (Told (receipt_in m.0), []))
@@ -65,6 +66,6 @@ told_again {T} f t is inner table me =
     × ((k : ℕ) → writer_of t.processes k ≢ t.from → of_cell Spent k (receipt_in m.0).parts ≡ Spent)) (sym me) (is.one, is.row, is.elsewhere) in
     record { table = table ∙ is.table; processes = is.processes; inside = is.inside; one = rest.0; row = rest.1; elsewhere = rest.2 }
 
-pub same_told : {T : Type 0} (t : FourSlotTold T) (inner : FamilySeat T) → inner.inner.table_id ≡ t.seat.inner.table_id →
+pub same_told : {T : Type 0} (t : FourSlotTold T) (inner : FamilySeat T (FourSlotSight T)) → inner.inner.table_id ≡ t.seat.inner.table_id →
     inner.inner.id ≡ t.seat.inner.id → inner.inner.me ≡ t.seat.inner.me → record t { seat = inner } ≡ t
 same_told t inner table id me = λ i. record t { seat = record inner { inner = record inner.inner { table_id = table i; id = id i; me = me i } } }

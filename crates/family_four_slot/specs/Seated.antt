@@ -1,7 +1,5 @@
 -- The words of the contract, of the seats of a family of four-slot cells (this project's own).
-use Rattle.std.specs.Prelude.{◌≡◌, ◌≢◌, ℕ, ◌<◌, ◌≤◌, List, [], ◌∷◌, length, slice_get, Some, slice_index}
-use mathlib.Core.Option.{some}
-use lib.ListN.{get_elem?}
+use Rattle.std.specs.Prelude.{◌≡◌, ◌≢◌, ℕ, ◌<◌, ◌≤◌, [], ◌∷◌, length, slice_index}
 use Rattle.atomic_table.specs.Seated.{TableId}
 use Rattle.std.proofs.Common.{arith}
 use Rattle.cell_live.specs.Intervals.{dated}
@@ -13,16 +11,14 @@ use Rattle.cell_live.specs.declared.sight.Sight.TheVariants.{Spent, Told as Tell
 use Rattle.cell_four_slot.specs.Steps.{FourSlotSight}
 use Rattle.family_live.specs.Accesses.{WriteAccesses, ReadAccesses}
 use Rattle.family_four_slot.specs.declared.family.FourSlotFamily.{FourSlotFamily}
-use Rattle.family_four_slot.specs.declared.family.FourSlotSeat.{FourSlotSeat}
-use Rattle.family_four_slot.specs.declared.family.FourSlotTold.{FourSlotTold}
-use Rattle.family_four_slot.specs.declared.table.FamilySeat.{FamilySeat}
-use Rattle.family_table.specs.declared.notes.Process.{Process}
-use Rattle.family_table.specs.declared.notes.Receipt.{Receipt}
+use Rattle.family_four_slot.specs.declared.family.Stored.{Stored}
+use Rattle.family_table.specs.declared.processes.ProcessSeat.{ProcessSeat}
+use Rattle.family_table.specs.declared.processes.ProcessTold.{ProcessTold}
+use Rattle.family_table.specs.Seated.{known_by, told_in}
 use Rattle.family_table.specs.declared.notes.View.TheVariants.{Told, Has}
 use Rattle.family_table.specs.Family.{of_cell}
 use Rattle.family_four_slot.specs.FourSlots.{first_process}
 use Rattle.family_table.specs.Places.{place, writer_of}
-use Rattle.family_table.specs.Views.{process_of, receipt_in}
 use Rattle.family_four_slot.specs.Words.{writes_to, reads_from, shown_to, IsAtRest}
 
 pub three_steps : 0 < 3
@@ -31,25 +27,19 @@ three_steps = omega arith
 pub three_are_few : 3 ≤ 3
 three_are_few = omega arith
 
+module _ (T : Type 0) where
+  abbrev pub FourSlotSeat : Type 0
+  FourSlotSeat = ProcessSeat T (FourSlotSight T) Stored
+
+  abbrev pub FourSlotTold : Type 0
+  FourSlotTold = ProcessTold T (FourSlotSight T)
+
 module _ {T : Type 0} where
   abbrev pub opening_of : FourSlotFamily T → T
-  opening_of f = f.table.inner.shared.key.first
+  opening_of f = f.table.rows.inner.shared.key.first
 
   abbrev pub processes_of : FourSlotFamily T → ℕ
-  processes_of f = f.table.inner.shared.key.processes
-
-  -- what the process of a seat knows
-  abbrev pub known_by : FourSlotSeat T → Process (FourSlotSight T)
-  known_by s = process_of s.seat.inner.me.0
-
-  abbrev pub number_of : FourSlotSeat T → ℕ
-  number_of s = s.who
-
-  abbrev pub clock_of : FourSlotSeat T → ℕ
-  clock_of s = (known_by s).clock
-
-  abbrev pub times_of : FourSlotSeat T → List ℕ
-  times_of s = (known_by s).times
+  processes_of f = f.table.rows.inner.shared.key.processes
 
   abbrev pub writes_of : FourSlotSeat T → ℕ → WriteAccesses T
   writes_of s = writes_to s.spare s.processes (known_by s)
@@ -59,23 +49,14 @@ module _ {T : Type 0} where
 
   -- the seat has one process of the family, between two calls
   pub record IsSeat (f : FourSlotFamily T) (s : FourSlotSeat T) : Type 0 where
-    pub table : s.seat.inner.table_id ≡ f.table.inner.shared.table_id
+    pub table : s.seat.inner.table_id ≡ f.table.rows.inner.shared.table_id
     pub opening : s.spare ≡ opening_of f
     pub processes : s.processes ≡ processes_of f
     pub one : s.seat.inner.me.0 ≡ Has (known_by s ∷ [])
     pub who : (known_by s).who ≡ s.who
     pub rest : IsAtRest s.spare s.processes (known_by s) s.stored s.seat.inner.me.1
 
-  -- what a receipt tells, the record that it names to process j, and all that was written to that one up to then
-  abbrev pub told_in : FourSlotTold T → Receipt (FourSlotSight T)
-  told_in t = receipt_in t.seat.inner.me.0
-
-  abbrev pub sender_of : FourSlotTold T → ℕ
-  sender_of t = t.from
-
-  abbrev pub time_of : FourSlotTold T → ℕ
-  time_of t = (told_in t).clock
-
+  -- the record that a receipt names to process j, and all that was written to that one up to then
   abbrev pub naming : FourSlotTold T → ℕ → Dated T
   naming t j = receipt_or (dated t.spare) (of_cell Spent (place t.processes t.from j) (told_in t).parts)
 
@@ -87,7 +68,7 @@ module _ {T : Type 0} where
 
   -- the receipt is of a process of the family, and tells each other one of its cell alone
   pub record IsTold (f : FourSlotFamily T) (t : FourSlotTold T) : Type 0 where
-    pub table : t.seat.inner.table_id ≡ f.table.inner.shared.table_id
+    pub table : t.seat.inner.table_id ≡ f.table.rows.inner.shared.table_id
     pub processes : t.processes ≡ processes_of f
     pub inside : t.from < t.processes
     pub one : t.seat.inner.me ≡ (Told (told_in t), [])
@@ -105,8 +86,3 @@ module _ {T : Type 0} where
     pub shown : (j : ℕ) → j < 16 → shown_to s.stored j ≡ record { bits = 0 ∷ 0 ∷ []; latest = 0 }
     pub said : (j : ℕ) → j < 16 → slice_index s.stored.said j ≡ 2
     pub long : (length s.stored.shown ≡ 16) × (length s.stored.said ≡ 16)
-
-  -- the seat has the processes of all of these
-  abbrev pub HasAll : FamilySeat T → List (FourSlotSeat T) → Type 0
-  HasAll all seats = (ps : List (Process (FourSlotSight T))) × (all.inner.me.0 ≡ Has ps)
-      × ((i : ℕ) (s : FourSlotSeat T) → slice_get seats i ≡ Some s → (a : ℕ) × (get_elem? ps a ≡ some (known_by s)))

@@ -1,13 +1,10 @@
 -- What the seat of a process has of a cell (this project's own).
-use Rattle.std.specs.Prelude.{◌≡◌, ℕ, ◌<◌, List, [], ◌∷◌, length, slice_get, Some}
-use mathlib.Core.Option.{some}
-use lib.ListN.{get_elem?}
-use Rattle.history_core.specs.Schedules.{positions}
+use Rattle.std.specs.Prelude.{◌≡◌, ℕ, ◌<◌, List, [], ◌∷◌, length}
 use Rattle.four_slot_core.specs.declared.state.Stage.TheVariants as writer
 use Rattle.four_slot_core.specs.declared.state.ReaderStage.TheVariants as reader
 use Rattle.cell_live.specs.Intervals.{AreAtomic, AreFirst, HaveEnded}
 use Rattle.family_four_slot.specs.Places.{four_slots}
-use Rattle.atomic_table.specs.Table.{Me, Step}
+use Rattle.atomic_table.specs.Table.{Me}
 use Rattle.cell_live.specs.Running.{held_slots}
 use Rattle.cell_four_slot.specs.declared.notes.WriterNotes.{WriterNotes}
 use Rattle.cell_four_slot.specs.declared.notes.ReaderNotes.{ReaderNotes}
@@ -17,6 +14,7 @@ use Rattle.family_table.specs.declared.notes.Process.{Process}
 use Rattle.family_table.specs.declared.notes.View.{View}
 use Rattle.family_table.specs.declared.notes.View.TheVariants.{Has}
 use Rattle.family_table.specs.Family.{of_cell}
+use Rattle.family_table.specs.Ends.{AllDone}
 
 module _ {T : Type 0} where
   -- the seat knows what this process does, and has the slots that the view says
@@ -40,15 +38,10 @@ pub record IsDone {T : Type 0} (o : T) (p : WriterNotes T) (g : ReaderNotes T) :
   pub ended : HaveEnded p.times
   pub known : AreFirst g.known p.written p.times
 
--- at the end: one schedule, and the calls of each cell whose two processes the seat has
-pub record IsEnded {T : Type 0} (n : ℕ) (o : T) (ps : List (Process (FourSlotSight T))) : Type 0 where
-  pub steps : List ℕ
-  pub within : (x who : ℕ) → slice_get steps x ≡ Some who → who < n
-  pub made : (a : ℕ) (p : Process (FourSlotSight T)) → get_elem? ps a ≡ some p → p.times ≡ positions 1 p.who steps
-  pub cells : (a b : ℕ) (p q : Process (FourSlotSight T)) → get_elem? ps a ≡ some p → get_elem? ps b ≡ some q → (k : ℕ) →
-      k < (four_slots n).cells → (w : WriterNotes T) (g : ReaderNotes T) → of_cell Spent k p.parts ≡ Writer w → of_cell Spent k q.parts ≡ Reader g →
-      w.stage ≡ writer.W5 → g.stage ≡ reader.R5 → IsDone o w g
+-- the calls of a cell by what its two processes know of it, if none is under way
+abbrev pub Done : {T : Type 0} → T → FourSlotSight T → FourSlotSight T → Type 0
+Done o v w = (p : WriterNotes _) (g : ReaderNotes _) → v ≡ Writer p → w ≡ Reader g → p.stage ≡ writer.W5 → g.stage ≡ reader.R5 → IsDone o p g
 
--- a step that changes nothing shows the calls of the processes that the seat has, in a family of so many that opened with this record
-abbrev pub shows : {T : Type 0} → List T → ℕ → Step T → Me T (View (FourSlotSight T)) → ℕ → Me T (View (FourSlotSight T)) → Type 0
-shows firsts n st m found m' = (m' ≡ m) × ((o : _) (ps : List (Process (FourSlotSight _))) → firsts ≡ o ∷ [] → m.0 ≡ Has ps → IsEnded n o ps)
+-- at the end: one schedule, and the calls of each cell whose two processes the seat has
+abbrev pub IsEnded : {T : Type 0} → ℕ → T → List (Process (FourSlotSight T)) → Type 0
+IsEnded n o ps = AllDone Spent (four_slots n) (Done o) n ps

@@ -7,18 +7,21 @@ ghost use Rattle.family_live.specs.Rows.{IsReadFrom, IsWriteTo};
 ghost use Rattle.family_table.specs.Places.{place};
 ghost use Rattle.family_four_slot.specs.FourSlots.{first_view};
 ghost use Rattle.family_table.specs.declared.notes.View.TheVariants.{Has};
-ghost use Rattle.family_four_slot.specs.Seated.{known_by, IsFirst, HasAll};
-ghost use Rattle.family_four_slot.specs.Shown.{HaveShown};
+ghost use Rattle.family_table.specs.Seated.{known_by};
+ghost use Rattle.family_four_slot.specs.Seated.{IsFirst};
 ghost use Rattle.family_table.specs.declared.notes.Process.{Process};
 ghost use Rattle.cell_four_slot.specs.Steps.{FourSlotSight};
-ghost use Rattle.family_four_slot.specs.Seated.{opening_of, processes_of, number_of, clock_of, times_of, writes_of, reads_of, IsSeat};
-ghost use Rattle.family_four_slot.specs.Seated.{sender_of, time_of, named_by, carried_by, IsTold, three_are_few, three_steps};
+ghost use Rattle.family_table.specs.Seated.{number_of, clock_of, times_of};
+ghost use Rattle.family_four_slot.specs.Seated.{opening_of, processes_of, writes_of, reads_of, IsSeat};
+ghost use Rattle.family_table.specs.Seated.{sender_of, time_of};
+ghost use Rattle.family_four_slot.specs.Seated.{named_by, carried_by, IsTold, three_are_few, three_steps};
 
 use crate::table::{FamilySeat, FamilyTable};
-use cell_four_slot::{bit_of, other_bit, set_bit, slot_of};
+use cell_four_slot::{FourSlotSight, bit_of, other_bit, set_bit, slot_of};
 use cell_live::{Kept, Lawful};
 use family_live::{Family, Sees, SharedFamily};
 use family_table::place;
+use family_table::processes::{ProcessSeat, ProcessTold, gathered, show};
 use std::alloc::{AllocError, Global};
 use std::marker::Brand;
 use std::snapshot::Snapshot;
@@ -33,39 +36,24 @@ pub struct FourSlotFamily<T: Lawful> {
 /// What a process stored last in the words of a register that it writes: the pairs' bits and the pair in `latest`. They lie side by side,
 /// so that a row has one running place for both.
 #[derive(Clone, Copy)]
-struct Shown {
+pub struct Shown {
     bits: [u64; 2],
     latest: u64,
 }
 
 /// What a process stored last in the words of its registers, by the other process: in those that it writes, and in those that it reads
 /// the pair in `reading`, 2 where it has stored none.
-#[derive(Drop)]
-struct Stored {
+#[derive(Clone, Copy)]
+pub struct Stored {
     shown: [Shown; 16],
     said: [u64; 16],
 }
 
 /// The right to write and to read as one of the processes. Of each register from which it has read it holds the slot of its last answer.
-#[derive(Drop)]
-pub struct FourSlotSeat<T: Copy> {
-    seat: FamilySeat<T>,
-    processes: usize,
-    who: usize,
-    stored: Stored,
-    /// The opening: the notes' default in proofs.
-    spare: T,
-}
+pub type FourSlotSeat<T> = ProcessSeat<T, FourSlotSight<T>, Stored>;
 
 /// A receipt of a process for all that it has written.
-#[derive(Drop)]
-pub struct FourSlotTold<T: Copy> {
-    seat: FamilySeat<T>,
-    processes: usize,
-    from: usize,
-    /// The opening: the record's default in proofs.
-    spare: T,
-}
+pub type FourSlotTold<T> = ProcessTold<T, FourSlotSight<T>>;
 
 /// A seat for each process, of the one that has them all.
 fn seats_of<T: Lawful>(
@@ -75,15 +63,15 @@ fn seats_of<T: Lawful>(
     first: T,
     rest: FamilySeat<T>,
 ) -> Result<Vec<FourSlotSeat<T>>, AllocError>
-    requires own { rest.inner.table_id ≡ table.now.inner.shared.table_id }
+    requires own { rest.inner.table_id ≡ table.now.rows.inner.shared.table_id }
     requires all { rest.inner.me ≡ (first_view first n, []) }
-    ensures { IfOk result (λ r. (vec_len r ≡ n) × Each (IsFirst table.now.inner.shared.table_id n first) r.items) }
+    ensures { IfOk result (λ r. (vec_len r ≡ n) × Each (IsFirst table.now.rows.inner.shared.table_id n first) r.items) }
 {
     let mut seats = Vec::with_capacity(alloc, n)?;
     let mut rest = rest;
     for who in 0..n {
-        let seat = table.part(&mut rest);
-        seats.push_reserved(FourSlotSeat {
+        let seat = table.rows.part(&mut rest);
+        seats.push_reserved(ProcessSeat {
             seat,
             processes: n,
             who,
@@ -98,71 +86,6 @@ fn seats_of<T: Lawful>(
         });
     }
     Ok(seats)
-}
-
-/// One seat that has all processes.
-fn gathered<T: Lawful>(table: &FamilyTable<T>, seats: Vec<FourSlotSeat<T>>) -> FamilySeat<T>
-    requires some { 0 < vec_len seats }
-    requires own { Each (λ i s. s.seat.inner.table_id ≡ table.now.inner.shared.table_id) seats.items }
-    requires one { Each (λ i s. s.seat.inner.me.0 ≡ Has (known_by s ∷ [])) seats.items }
-    ensures own { result.inner.table_id ≡ table.now.inner.shared.table_id }
-    ensures all { HasAll result seats.items }
-{
-    let mut seats = seats;
-    let Some(last) = seats.pop() else {
-        unreachable!();
-    };
-    let FourSlotSeat {
-        seat,
-        processes: _,
-        who: _,
-        stored: _,
-        spare: _,
-    } = last;
-    let mut all = seat;
-    for _ in 0..seats.len() {
-        let Some(next) = seats.pop() else {
-            unreachable!();
-        };
-        let FourSlotSeat {
-            seat: other,
-            processes: _,
-            who: _,
-            stored: _,
-            spare: _,
-        } = next;
-        table.gather(&mut all, other);
-    }
-    all
-}
-
-/// Shows what all seats have done so far, where `all` has what those that were taken out before know.
-fn show_all<T: Lawful>(
-    table: &FamilyTable<T>,
-    seats: &mut Vec<FourSlotSeat<T>>,
-    all: FamilySeat<T>,
-) -> FamilySeat<T>
-    requires own { (all.inner.table_id ≡ table.now.inner.shared.table_id)
-        × Each (λ i s. s.seat.inner.table_id ≡ table.now.inner.shared.table_id) seats.old.items }
-    requires one { Each (λ i s. s.seat.inner.me.0 ≡ Has (known_by s ∷ [])) seats.old.items }
-    requires bare { (ps : List (Process (FourSlotSight T))) × (all.inner.me ≡ (Has ps, [])) }
-    ensures same { (seats.new.items ≡ seats.old.items) × (vec_capacity seats.new ≡ vec_capacity seats.old) }
-    ensures all { (result.inner.table_id ≡ all.inner.table_id) × (result.inner.me ≡ all.inner.me) }
-    ensures shown { (ps : List (Process (FourSlotSight T))) → all.inner.me ≡ (Has ps, []) →
-        HaveShown table.now.inner.shared.key.processes table.now.inner.shared.key.first ps seats.old.items }
-{
-    let mut all = all;
-    let Some(mut last) = seats.pop() else {
-        table.so_far(&mut all);
-        return all;
-    };
-    let mut next = table.lift(&mut last.seat);
-    table.put(&mut next, all);
-    let mut next = show_all(table, seats, next);
-    let one = table.part(&mut next);
-    table.put(&mut last.seat, one);
-    seats.push_reserved(last);
-    next
 }
 
 impl<T: Lawful> FourSlotFamily<T> {
@@ -289,8 +212,8 @@ impl<T: Lawful> Family<T> for FourSlotFamily<T> {
     }
 
     fn tell(&self, seat: &mut FourSlotSeat<T>) -> FourSlotTold<T> {
-        let told = self.table.tell(&mut seat.seat);
-        FourSlotTold {
+        let told = self.table.rows.tell(&mut seat.seat);
+        ProcessTold {
             seat: told,
             processes: seat.processes,
             from: seat.who,
@@ -299,8 +222,8 @@ impl<T: Lawful> Family<T> for FourSlotFamily<T> {
     }
 
     fn duplicate(&self, told: &mut FourSlotTold<T>) -> FourSlotTold<T> {
-        let again = self.table.duplicate(&mut told.seat);
-        FourSlotTold {
+        let again = self.table.rows.duplicate(&mut told.seat);
+        ProcessTold {
             seat: again,
             processes: told.processes,
             from: told.from,
@@ -309,13 +232,13 @@ impl<T: Lawful> Family<T> for FourSlotFamily<T> {
     }
 
     fn learn(&self, seat: &mut FourSlotSeat<T>, told: FourSlotTold<T>) {
-        let FourSlotTold {
+        let ProcessTold {
             seat: receipt,
             processes: _,
             from: _,
             spare: _,
         } = told;
-        self.table.hear(&mut seat.seat, receipt);
+        self.table.rows.hear(&mut seat.seat, receipt);
     }
 
     fn so_far(&self, seats: &mut Vec<FourSlotSeat<T>>)
@@ -325,13 +248,7 @@ impl<T: Lawful> Family<T> for FourSlotFamily<T> {
             × Each (λ i s. times_of s ≡ positions 1 i steps) seats.old.items }
         ensures atomic { EachTwo (λ i j s t. IsAtomicCell (opening_of self.now) (writes_of s j) (reads_of t i)) seats.old.items }
     {
-        let Some(mut last) = seats.pop() else {
-            unreachable!();
-        };
-        let all = self.table.lift(&mut last.seat);
-        let all = show_all(&self.table, seats, all);
-        self.table.put(&mut last.seat, all);
-        seats.push_reserved(last);
+        show(&self.table.rows, seats);
     }
 
     fn finish(self, seats: Vec<FourSlotSeat<T>>)
@@ -340,8 +257,9 @@ impl<T: Lawful> Family<T> for FourSlotFamily<T> {
         ensures atomic { EachTwo (λ i j s t. IsAtomicCell (opening_of self) (writes_of s j) (reads_of t i)) seats.items }
     {
         let FourSlotFamily { table } = self;
-        let seat = gathered(&table, seats);
-        table.close(seat);
+        let FamilyTable { rows } = table;
+        let seat = gathered(&rows, seats);
+        rows.close(seat);
     }
 }
 

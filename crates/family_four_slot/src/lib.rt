@@ -10,25 +10,10 @@
 //! `specs/Places.antt`, and what contracts see of a seat in `specs/Seated.antt`.
 #![tactic(auto)]
 
-use atomic_table::TableRule;
-use cell_live::Lawful;
-use family_table::notes::Opened;
-use notes::FamilySight;
-
 mod family;
+pub mod mechanism;
 pub mod notes;
 mod plays;
 mod table;
 
 pub use family::{FourSlotFamily, FourSlotSeat, FourSlotTold};
-
-/// The rule of the table.
-pub struct FamilyLaw;
-
-impl<T: Lawful> TableRule<T, FamilySight<T>, Opened<T>> for FamilyLaw {
-    ghost use Rattle.family_four_slot.specs.FourSlots.{FourSlotFamily, first_view};
-
-    ghost holds = { λ key s. FourSlotFamily T.fits T.rises key.first key.processes s };
-
-    ghost first = { λ key. first_view key.first key.processes };
-}

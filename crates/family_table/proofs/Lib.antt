@@ -1,4 +1,5 @@
 pub mod Acts
+pub mod Ends
 pub mod Firsts
 pub mod Frames
 pub mod Gathering
@@ -6,6 +7,7 @@ pub mod Held
 pub mod Places
 pub mod Receipts
 pub mod Seats
+pub mod Showing
 pub mod Slices
 pub mod Steps
 pub mod Totals

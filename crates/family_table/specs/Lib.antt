@@ -1,5 +1,7 @@
+pub mod Ends
 pub mod Family
 pub mod Layouts
 pub mod Places
+pub mod Seated
 pub mod Seats
 pub mod Views

@@ -18,10 +18,11 @@ use Rattle.family_table.specs.Views.{process_of}
 use Rattle.family_table.proofs.Places.{place_in}
 use Rattle.family_table.proofs.Slices.{get_set_here, get_set_else, set_long}
 use Rattle.family_triple.specs.declared.family.TripleFamily.{TripleFamily}
-use Rattle.family_triple.specs.declared.family.TripleSeat.{TripleSeat}
+use Rattle.family_triple.specs.Seated.{TripleSeat}
 use Rattle.family_triple.specs.Access.{HasLooked}
 use Rattle.family_triple.specs.Places.{among, triples, slot_at}
-use Rattle.family_triple.specs.Seated.{known_by, opening_of, processes_of, number_of, clock_of, times_of, writes_of, reads_of, IsSeat}
+use Rattle.family_table.specs.Seated.{known_by, number_of, clock_of, times_of}
+use Rattle.family_triple.specs.Seated.{opening_of, processes_of, writes_of, reads_of, IsSeat}
 use Rattle.family_triple.specs.Tables.{IsRotated}
 use Rattle.family_triple.specs.Words.{writes_to, reads_from, IsAtRest, IsRow, IsColumn}
 use Rattle.family_triple.proofs.Calls.{sees_writes, sees_reads, a_write, a_read}
@@ -45,7 +46,7 @@ module _ {T : Type 0} where
     -- the seat after a call
     pub seat_after : (s' : TripleSeat T) (u : Process (TripleSight T)) (cs : List (ℕ × T)) → s'.seat.inner.table_id ≡ s.seat.inner.table_id →
         s'.spare ≡ s.spare → s'.processes ≡ s.processes → s'.who ≡ s.who → s'.seat.inner.me.0 ≡ Has (u ∷ []) → s'.seat.inner.me.1 ≡ cs →
-        u.who ≡ (known_by s).who → IsAtRest s.spare s.processes u s'.fills s'.reads cs → IsSeat f s'
+        u.who ≡ (known_by s).who → IsAtRest s.spare s.processes u s'.stored.fills s'.stored.reads cs → IsSeat f s'
     seat_after s' u cs table spare processes who me slots same rest =
         let is : u ≡ known_by s' = sym (ap process_of me) in record {
           table = table ∙ own.table;
@@ -53,7 +54,7 @@ module _ {T : Type 0} where
           processes = processes ∙ own.processes;
           one = me ∙ ap (λ z. Has (z ∷ [])) is;
           who = ap (λ z. z.who) (sym is) ∙ (same ∙ (own.who ∙ sym who));
-          rest = subst (λ (z : T × ℕ × Process (TripleSight T) × List (ℕ × T)). IsAtRest z.0 z.1 z.2 s'.fills s'.reads z.3)
+          rest = subst (λ (z : T × ℕ × Process (TripleSight T) × List (ℕ × T)). IsAtRest z.0 z.1 z.2 s'.stored.fills s'.stored.reads z.3)
               (λ i. (sym spare i, sym processes i, is i, sym slots i)) rest;
         }
 
@@ -65,12 +66,12 @@ module _ {T : Type 0} where
     apart = λ e. other.1 (e ∙ own.who)
 
     abbrev pub row_at : IsRow s.spare (place s.processes (known_by s).who j) (of_cell Spent (place s.processes (known_by s).who j) (known_by s).parts)
-        s.seat.inner.me.1 (among (known_by s).who j) (get_or s.fills j 0)
+        s.seat.inner.me.1 (among (known_by s).who j) (get_or s.stored.fills j 0)
     row_at = own.rest.row j within apart
 
     abbrev pub column_at : IsColumn s.spare (place s.processes j (known_by s).who)
         (of_cell Spent (place s.processes j (known_by s).who) (known_by s).parts) s.seat.inner.me.1
-        ((s.processes - 1) + among (known_by s).who j) (get_or s.reads j 0)
+        ((s.processes - 1) + among (known_by s).who j) (get_or s.stored.reads j 0)
     column_at = own.rest.column j within apart
 
     -- the cell that the seat's process writes, by its number
@@ -134,7 +135,7 @@ module _ {T : Type 0} where
         (known_by s).clock < t → slot < 3 → s'.seat.inner.me.0 ≡ Has (knows Spent (known_by s) cell (Writer (published row_at.notes slot x t)) t held ∷ []) →
         Replaced s.seat.inner.me.1 s'.seat.inner.me.1 (among s.who j) (slot_at cell slot, y) → IsRotated held (held_slots s'.seat.inner.me.1) →
         s'.seat.inner.table_id ≡ s.seat.inner.table_id → s'.spare ≡ s.spare → s'.processes ≡ s.processes → s'.who ≡ s.who →
-        s'.fills ≡ set s.fills j slot → s'.reads ≡ s.reads → Wrote f s s' j x
+        s'.stored.fills ≡ set s.stored.fills j slot → s'.stored.reads ≡ s.stored.reads → Wrote f s s' j x
     wrote cell at few x y slot t held s' later low me new turned table spare processes who filled kept =
         let o : T = s.spare in
         let n : ℕ = s.processes in
@@ -143,12 +144,12 @@ module _ {T : Type 0} where
         let q : WriterNotes T = published row.notes slot x t in
         let k : ℕ = place n v.who j in
         let is_cell : cell ≡ k = row_place cell at in
-        let size : length s.fills ≡ 16 = own.rest.sized.0 in
+        let size : length s.stored.fills ≡ 16 = own.rest.sized.0 in
         let u : Process (TripleSight T) = knows Spent v k (Writer q) t held in
         let now : s'.seat.inner.me.0 ≡ Has (u ∷ []) = me ∙ ap (λ z. Has (knows Spent v z (Writer q) t held ∷ [])) is_cell in
-        let rest = rest_write o n v s.fills (set s.fills j slot) s.reads s.seat.inner.me.1 s'.seat.inner.me.1 j q y t (v.times ++ t ∷ []) held within
-        apart own.rest row.took row.opened low (set_long s.fills j slot) (get_set_here s.fills j slot 0 (omega arith))
-        (λ i ne. get_set_else s.fills j i slot 0 ne)
+        let rest = rest_write o n v s.stored.fills (set s.stored.fills j slot) s.stored.reads s.seat.inner.me.1 s'.seat.inner.me.1 j q y t (v.times ++ t ∷ []) held within
+        apart own.rest row.took row.opened low (set_long s.stored.fills j slot) (get_set_here s.stored.fills j slot 0 (omega arith))
+        (λ i ne. get_set_else s.stored.fills j i slot 0 ne)
         (subst (λ (z : ℕ × ℕ). Replaced s.seat.inner.me.1 s'.seat.inner.me.1 (among z.0 j) (slot_at z.1 slot, y)) (λ i. (sym own.who i, is_cell i)) new)
         turned in
         let did = a_write o n v j row.notes x slot t held own.rest.inside own.rest.parts within apart row.is later in
@@ -175,7 +176,7 @@ module _ {T : Type 0} where
         Replaced s.seat.inner.me.1 s'.seat.inner.me.1 ((s.processes - 1) + among s.who j) (slot_at cell slot, h.answer) →
         IsRotated (held_slots ((slot_at cell slot, h.answer) ∷ cs)) (held_slots s'.seat.inner.me.1) →
         s'.seat.inner.table_id ≡ s.seat.inner.table_id → s'.spare ≡ s.spare → s'.processes ≡ s.processes → s'.who ≡ s.who →
-        s'.fills ≡ s.fills → s'.reads ≡ set s.reads j slot → HasRead f s s' j h.answer
+        s'.stored.fills ≡ s.stored.fills → s'.stored.reads ≡ set s.stored.reads j slot → HasRead f s s' j h.answer
     has_read cell at few fits rises cs m slot s' h me new turned table spare processes who kept found =
         let o : T = s.spare in
         let n : ℕ = s.processes in
@@ -184,13 +185,13 @@ module _ {T : Type 0} where
         let q : ReaderNotes T = answered h.notes h.answer h.time h.number h.writes in
         let k : ℕ = place n j v.who in
         let is_cell : cell ≡ k = column_place cell at in
-        let size : length s.reads ≡ 16 = own.rest.sized.1 in
+        let size : length s.stored.reads ≡ 16 = own.rest.sized.1 in
         let held : List ℕ = held_slots ((slot_at cell slot, h.answer) ∷ cs) in
         let u : Process (TripleSight T) = knows Spent v k (Reader q) h.time held in
         let now : s'.seat.inner.me.0 ≡ Has (u ∷ []) = me ∙ (h.view ∙ ap (λ z. Has (knows Spent v z (Reader q) h.time held ∷ [])) is_cell) in
-        let rest = rest_read o n v s.fills s.reads (set s.reads j slot) s.seat.inner.me.1 s'.seat.inner.me.1 j q h.time (v.times ++ h.time ∷ []) held
+        let rest = rest_read o n v s.stored.fills s.stored.reads (set s.stored.reads j slot) s.seat.inner.me.1 s'.seat.inner.me.1 j q h.time (v.times ++ h.time ∷ []) held
         within apart own.rest (h.kept.0 ∙ column.took) refl (h.kept.1 ∙ column.opened) (subst (λ z. z < 3) (sym h.took.0) h.took.2)
-        (set_long s.reads j slot) (get_set_here s.reads j slot 0 (omega arith) ∙ sym h.took.0) (λ i ne. get_set_else s.reads j i slot 0 ne)
+        (set_long s.stored.reads j slot) (get_set_here s.stored.reads j slot 0 (omega arith) ∙ sym h.took.0) (λ i ne. get_set_else s.stored.reads j i slot 0 ne)
         (subst (λ (z : ℕ × ℕ × ℕ × T). Replaced s.seat.inner.me.1 s'.seat.inner.me.1 ((n - 1) + among z.0 j) (slot_at z.1 z.2, z.3))
         (λ i. (sym own.who i, is_cell i, sym h.took.0 i, sym h.took.1 i)) new)
         turned in

@@ -20,7 +20,7 @@ use Rattle.family_table.proofs.Places.{writer_there}
 use Rattle.family_table.proofs.Receipts.{heard_cell}
 use Rattle.family_triple.specs.Words.{writes_by, reads_by, writes_to, reads_from, IsAtRest, IsColumn}
 use Rattle.family_triple.proofs.Calls.{sees_reads, yes_same, not_same}
-use Rattle.family_triple.proofs.Cells.{deaf, mute}
+use Rattle.family_triple.specs.Cells.{deaf, mute}
 
 module _ {T : Type 0} where
   quiet_heard : (x y : TripleSight T) → receipt_for x ≡ Spent → receipt_for (hears_of x y) ≡ Spent

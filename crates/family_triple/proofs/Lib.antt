@@ -1,8 +1,6 @@
 pub mod Acts
 pub mod Calls
-pub mod Cells
 pub mod Columns
-pub mod Ends
 pub mod Going
 pub mod Learning
 pub mod Looking
@@ -11,7 +9,6 @@ pub mod Places
 pub mod Rests
 pub mod Rounds
 pub mod Rows
-pub mod Showing
 pub mod Starts
 pub mod Steps
 pub mod Taking

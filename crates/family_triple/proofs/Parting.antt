@@ -20,10 +20,11 @@ use Rattle.family_table.proofs.Gathering.{each_more}
 use Rattle.family_table.proofs.Firsts.{upto_next}
 use Rattle.family_table.proofs.Places.{place_in}
 use Rattle.family_triple.specs.declared.family.TripleFamily.{TripleFamily}
-use Rattle.family_triple.specs.declared.family.TripleSeat.{TripleSeat}
-use Rattle.family_triple.specs.declared.table.FamilySeat.{FamilySeat}
+use Rattle.family_triple.specs.Seated.{TripleSeat}
+use Rattle.family_table.specs.declared.table.FamilySeat.{FamilySeat}
 use Rattle.family_triple.specs.Access.{IsReady}
-use Rattle.family_triple.specs.Seated.{known_by, opening_of, processes_of, number_of, clock_of, times_of, writes_of, reads_of, IsSeat, IsFirst}
+use Rattle.family_table.specs.Seated.{known_by, number_of, clock_of, times_of}
+use Rattle.family_triple.specs.Seated.{opening_of, processes_of, writes_of, reads_of, IsSeat, IsFirst}
 use Rattle.family_triple.specs.Tables.{IsEnded}
 use Rattle.family_triple.specs.Triples.{first_process}
 use Rattle.family_triple.specs.Words.{writes_to, reads_from, IsAtRest}
@@ -31,32 +32,32 @@ use Rattle.family_triple.proofs.Calls.{sees_writes, sees_reads}
 
 module _ {T : Type 0} where
   -- the seats of the first processes were parted off
-  pub record DealtTo (id : TableId) (n : ℕ) (o : T) (who : ℕ) (rest : FamilySeat T) (seats : List (TripleSeat T)) : Type 0 where
+  pub record DealtTo (id : TableId) (n : ℕ) (o : T) (who : ℕ) (rest : FamilySeat T (TripleSight T)) (seats : List (TripleSeat T)) : Type 0 where
     pub table : rest.inner.table_id ≡ id
     pub me : rest.inner.me ≡ (Has (upto (first_process o n) who (n - who)), [])
     pub long : length seats ≡ who
     pub each : Each (IsFirst id n o) seats
 
   -- what the next one is
-  pub next_me : (id : TableId) (n : ℕ) (o : T) (who : ℕ) (rest : FamilySeat T) (seats : List (TripleSeat T)) → who < n → DealtTo id n o who rest seats →
+  pub next_me : (id : TableId) (n : ℕ) (o : T) (who : ℕ) (rest : FamilySeat T (TripleSight T)) (seats : List (TripleSeat T)) → who < n → DealtTo id n o who rest seats →
       rest.inner.me ≡ (Has (first_process o n who ∷ upto (first_process o n) (who + 1) (n - (who + 1))), [])
   next_me id n o who rest seats l h = h.me ∙ ap (λ ps. (Has ps, [])) (upto_next (first_process o n) who n l)
 
   -- one seat more is parted off, and took its slots
-  pub dealt_more : (id : TableId) (n : ℕ) (o : T) (who : ℕ) (rest rest' : FamilySeat T) (seats : List (TripleSeat T)) (s : TripleSeat T) → who < n →
+  pub dealt_more : (id : TableId) (n : ℕ) (o : T) (who : ℕ) (rest rest' : FamilySeat T (TripleSight T)) (seats : List (TripleSeat T)) (s : TripleSeat T) → who < n →
       n ≤ 16 → DealtTo id n o who rest seats → rest'.inner.table_id ≡ rest.inner.table_id →
       rest'.inner.me ≡ (all_but_first rest.inner.me.0, rest.inner.me.1) → s.seat.inner.table_id ≡ rest.inner.table_id →
-      IsReady o n who s.seat.inner.me → s.spare ≡ o → s.processes ≡ n → s.who ≡ who → s.fills ≡ replicate 16 0 → s.reads ≡ replicate 16 2 →
+      IsReady o n who s.seat.inner.me → s.spare ≡ o → s.processes ≡ n → s.who ≡ who → s.stored.fills ≡ replicate 16 0 → s.stored.reads ≡ replicate 16 2 →
       DealtTo id n o (who + 1) rest' (seats ++ s ∷ [])
   dealt_more id n o who rest rest' seats s l most h table me mine ready opens many number fills reads =
       let now = next_me id n o who rest seats l h in
       let is : ready.process ≡ known_by s = sym (ap process_of ready.one) in
       let all : Process (TripleSight T) → Type 0 = λ z. (s.seat.inner.me.0 ≡ Has (z ∷ [])) × (z.who ≡ who)
-      × IsAtRest o n z s.fills s.reads s.seat.inner.me.1 × IsUnused z.clock z.times (writes_to o n z) (reads_from o n z) in
+      × IsAtRest o n z s.stored.fills s.stored.reads s.seat.inner.me.1 × IsUnused z.clock z.times (writes_to o n z) (reads_from o n z) in
       let k = subst all is (
         ready.one,
         ready.number,
-        ready.rest s.fills s.reads (ap length fills) (ap length reads)
+        ready.rest s.stored.fills s.stored.reads (ap length fills) (ap length reads)
             (λ j lj. ap (λ xs. get_or xs j 0) fills ∙ get_or-replicate 16 j 0 0 (omega arith))
             (λ j lj. ap (λ xs. get_or xs j 0) reads ∙ get_or-replicate 16 j 2 0 (omega arith)),
         ready.unused,
@@ -78,7 +79,7 @@ module _ {T : Type 0} where
 
   -- such a seat is one of the family's, and unused
   pub first_seat : (f : TripleFamily T) (n : ℕ) (o : T) (i : ℕ) (s : TripleSeat T) → opening_of f ≡ o → processes_of f ≡ n →
-      IsFirst f.table.inner.shared.table_id n o i s →
+      IsFirst f.table.rows.inner.shared.table_id n o i s →
       (IsSeat f s × (number_of s ≡ i)) × IsUnused (clock_of s) (times_of s) (writes_of s) (reads_of s)
   first_seat f n o i s opens many h = (
     (
@@ -88,7 +89,7 @@ module _ {T : Type 0} where
         processes = h.processes ∙ sym many;
         one = h.one;
         who = h.number ∙ sym h.who;
-        rest = subst (λ (z : T × ℕ). IsAtRest z.0 z.1 (known_by s) s.fills s.reads s.seat.inner.me.1)
+        rest = subst (λ (z : T × ℕ). IsAtRest z.0 z.1 (known_by s) s.stored.fills s.stored.reads s.seat.inner.me.1)
             (λ k. (sym h.opening k, sym h.processes k)) h.rest;
       },
       h.who,

@@ -5,13 +5,14 @@ use Rattle.family_live.specs.Accesses.{WriteAccesses}
 use Rattle.family_live.specs.Rows.{OneByOne, IsWriteTo}
 use Rattle.family_live.proofs.Rows.{not_after, not_before, row_own}
 use Rattle.family_triple.specs.declared.family.TripleFamily.{TripleFamily}
-use Rattle.family_triple.specs.declared.family.TripleSeat.{TripleSeat}
-use Rattle.family_triple.specs.Seated.{opening_of, processes_of, number_of, clock_of, times_of, writes_of, reads_of, IsSeat}
+use Rattle.family_triple.specs.Seated.{TripleSeat}
+use Rattle.family_table.specs.Seated.{number_of, clock_of, times_of}
+use Rattle.family_triple.specs.Seated.{opening_of, processes_of, writes_of, reads_of, IsSeat}
 
 module _ {T : Type 0} (f : TripleFamily T) (start : TripleSeat T) where
   pub row_room : IsSeat f start → (start.processes ≤ 16) × (start.who < start.processes)
   row_room own =
-      let few : processes_of f ≤ 16 = f.table.some.1 in
+      let few : processes_of f ≤ 16 = f.table.rows.some.1 in
       let same : start.processes ≡ processes_of f = own.processes in
       (omega arith, subst (λ z. z < start.processes) own.who own.rest.inside)
 

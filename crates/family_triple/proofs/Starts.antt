@@ -15,7 +15,7 @@ use Rattle.family_table.proofs.Firsts.{upto_long, upto_at, upto_get, map_at, map
 use Rattle.family_triple.specs.Places.{triples}
 use Rattle.family_triple.specs.Triples.{first_part, first_process, first_view, CellRule, TripleFamily}
 use Rattle.family_triple.proofs.Places.{is_layout}
-use Rattle.family_triple.proofs.Cells.{cell_starts}
+use Rattle.family_triple.specs.Cells.{cell_starts}
 
 module _ {T : Type 0} (fits : T → Type 0) (rises : T → T → Type 0) (o : T) (n : ℕ) where
   abbrev V : Type 0

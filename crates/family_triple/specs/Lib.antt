@@ -1,8 +1,9 @@
 pub mod Access
+pub mod Cells
+pub mod Ends
 pub mod Places
 pub mod Seated
 pub mod Steps
 pub mod Tables
 pub mod Triples
 pub mod Words
-pub mod Shown

@@ -1,9 +1,6 @@
 -- What the seat of a process has of a cell (this project's own).
-use Rattle.std.specs.Prelude.{◌≡◌, ℕ, ◌<◌, List, [], ◌∷◌, ◌++◌, length, slice_get, Some}
-use mathlib.Core.Option.{some}
-use lib.ListN.{get_elem?}
-use Rattle.history_core.specs.Schedules.{positions}
-use Rattle.atomic_table.specs.Table.{Me, Step}
+use Rattle.std.specs.Prelude.{◌≡◌, ℕ, ◌<◌, List, [], ◌∷◌, ◌++◌, length}
+use Rattle.atomic_table.specs.Table.{Me}
 use Rattle.cell_live.specs.Intervals.{AreAtomic, AreFirst, HaveEnded}
 use Rattle.cell_live.specs.Running.{held_slots}
 use Rattle.cell_triple.specs.declared.notes.WriterNotes.{WriterNotes}
@@ -14,6 +11,7 @@ use Rattle.family_table.specs.declared.notes.Process.{Process}
 use Rattle.family_table.specs.declared.notes.View.{View}
 use Rattle.family_table.specs.declared.notes.View.TheVariants.{Has}
 use Rattle.family_table.specs.Family.{of_cell}
+use Rattle.family_table.specs.Ends.{AllDone}
 use Rattle.family_triple.specs.Places.{triples}
 
 -- the same list, begun at another place
@@ -42,15 +40,10 @@ pub record IsDone {T : Type 0} (o : T) (p : WriterNotes T) (g : ReaderNotes T) :
   pub ended : HaveEnded p.times
   pub known : AreFirst g.known p.written p.times
 
--- at the end: one schedule, and the calls of each cell whose two processes the seat has
-pub record IsEnded {T : Type 0} (n : ℕ) (o : T) (ps : List (Process (TripleSight T))) : Type 0 where
-  pub steps : List ℕ
-  pub within : (x who : ℕ) → slice_get steps x ≡ Some who → who < n
-  pub made : (a : ℕ) (p : Process (TripleSight T)) → get_elem? ps a ≡ some p → p.times ≡ positions 1 p.who steps
-  pub cells : (a b : ℕ) (p q : Process (TripleSight T)) → get_elem? ps a ≡ some p → get_elem? ps b ≡ some q → (k : ℕ) →
-      k < (triples n).cells → (w : WriterNotes T) (g : ReaderNotes T) → of_cell Spent k p.parts ≡ Writer w → of_cell Spent k q.parts ≡ Reader g →
-      IsDone o w g
+-- the calls of a cell by what its two processes know of it
+abbrev pub Done : {T : Type 0} → T → TripleSight T → TripleSight T → Type 0
+Done o v w = (p : WriterNotes _) (g : ReaderNotes _) → v ≡ Writer p → w ≡ Reader g → IsDone o p g
 
--- a step that changes nothing shows the calls of the processes that the seat has, in a family of so many that opened with this record
-abbrev pub shows : {T : Type 0} → List T → ℕ → Step T → Me T (View (TripleSight T)) → ℕ → Me T (View (TripleSight T)) → Type 0
-shows firsts n st m found m' = (m' ≡ m) × ((o : _) (ps : List (Process (TripleSight _))) → firsts ≡ o ∷ [] → m.0 ≡ Has ps → IsEnded n o ps)
+-- at the end: one schedule, and the calls of each cell whose two processes the seat has
+abbrev pub IsEnded : {T : Type 0} → ℕ → T → List (Process (TripleSight T)) → Type 0
+IsEnded n o ps = AllDone Spent (triples n) (Done o) n ps

@@ -6,18 +6,22 @@ ghost use Rattle.family_live.specs.Rows.{IsReadFrom};
 ghost use Rattle.family_table.specs.Places.{place};
 ghost use Rattle.family_table.specs.declared.notes.View.TheVariants.{Has};
 ghost use Rattle.family_triple.specs.Triples.{first_view};
-ghost use Rattle.family_triple.specs.Seated.{known_by, IsFirst, HasAll};
-ghost use Rattle.family_triple.specs.Shown.{HaveShown};
+ghost use Rattle.family_table.specs.Seated.{known_by};
+ghost use Rattle.family_triple.specs.Seated.{IsFirst};
 ghost use Rattle.family_table.specs.declared.notes.Process.{Process};
 ghost use Rattle.cell_triple.specs.Steps.{TripleSight};
-ghost use Rattle.family_triple.specs.Seated.{opening_of, processes_of, number_of, clock_of, times_of, writes_of, reads_of, IsSeat};
-ghost use Rattle.family_triple.specs.Seated.{sender_of, time_of, named_by, carried_by, IsTold, one_is_few, one_step};
+ghost use Rattle.family_table.specs.Seated.{number_of, clock_of, times_of};
+ghost use Rattle.family_triple.specs.Seated.{opening_of, processes_of, writes_of, reads_of, IsSeat};
+ghost use Rattle.family_table.specs.Seated.{sender_of, time_of};
+ghost use Rattle.family_triple.specs.Seated.{named_by, carried_by, IsTold, one_is_few, one_step};
 
 use crate::slots::{among, newest, take_slots, turn_by};
 use crate::table::{FamilySeat, FamilyTable, slot_place};
 use cell_live::{Kept, Lawful};
+use cell_triple::TripleSight;
 use family_live::{Family, Sees, SharedFamily};
 use family_table::place;
+use family_table::processes::{ProcessSeat, ProcessTold, gathered, show};
 use std::alloc::{AllocError, Global};
 
 /// Registers of a triple buffer each, in one table. A write makes one control access, a swap, and a read one or two.
@@ -26,29 +30,19 @@ pub struct TripleFamily<T: Lawful> {
     table: FamilyTable<T>,
 }
 
-/// The right to write and to read as one of the processes. Of each register that it writes it holds a slot, and of each that it reads the
-/// slot of its last answer.
-#[derive(Drop)]
-pub struct TripleSeat<T: Copy> {
-    seat: FamilySeat<T>,
-    processes: usize,
-    who: usize,
-    /// The slot of the register to each process that the next write fills, and of the one from each process the slot of the last answer.
+/// The slot of the register to each process that the next write fills, and of the one from each process the slot of the last answer.
+#[derive(Clone, Copy)]
+pub struct Slots {
     fills: [u64; 16],
     reads: [u64; 16],
-    /// The opening: the notes' default in proofs.
-    spare: T,
 }
 
+/// The right to write and to read as one of the processes. Of each register that it writes it holds a slot, and of each that it reads the
+/// slot of its last answer.
+pub type TripleSeat<T> = ProcessSeat<T, TripleSight<T>, Slots>;
+
 /// A receipt of a process for all that it has written.
-#[derive(Drop)]
-pub struct TripleTold<T: Copy> {
-    seat: FamilySeat<T>,
-    processes: usize,
-    from: usize,
-    /// The opening: the record's default in proofs.
-    spare: T,
-}
+pub type TripleTold<T> = ProcessTold<T, TripleSight<T>>;
 
 /// A seat for each process, of the one that has them all.
 fn seats_of<T: Lawful>(
@@ -58,94 +52,29 @@ fn seats_of<T: Lawful>(
     first: T,
     rest: FamilySeat<T>,
 ) -> Result<Vec<TripleSeat<T>>, AllocError>
-    requires key { table.now.inner.shared.key ≡ record { first = first; processes = n } }
-    requires own { rest.inner.table_id ≡ table.now.inner.shared.table_id }
+    requires key { table.now.rows.inner.shared.key ≡ record { first = first; processes = n } }
+    requires own { rest.inner.table_id ≡ table.now.rows.inner.shared.table_id }
     requires all { rest.inner.me ≡ (first_view first n, []) }
     requires few { n ≤ 16 }
-    ensures { IfOk result (λ r. (vec_len r ≡ n) × Each (IsFirst table.now.inner.shared.table_id n first) r.items) }
+    ensures { IfOk result (λ r. (vec_len r ≡ n) × Each (IsFirst table.now.rows.inner.shared.table_id n first) r.items) }
 {
     let mut seats = Vec::with_capacity(alloc, n)?;
     let mut rest = rest;
     for who in 0..n {
-        let mut seat = table.part(&mut rest);
+        let mut seat = table.rows.part(&mut rest);
         take_slots(table, &mut seat, n, who);
-        seats.push_reserved(TripleSeat {
+        seats.push_reserved(ProcessSeat {
             seat,
             processes: n,
             who,
-            fills: [0; 16],
-            reads: [2; 16],
+            stored: Slots {
+                fills: [0; 16],
+                reads: [2; 16],
+            },
             spare: first,
         });
     }
     Ok(seats)
-}
-
-/// One seat that has all processes.
-fn gathered<T: Lawful>(table: &FamilyTable<T>, seats: Vec<TripleSeat<T>>) -> FamilySeat<T>
-    requires some { 0 < vec_len seats }
-    requires own { Each (λ i s. s.seat.inner.table_id ≡ table.now.inner.shared.table_id) seats.items }
-    requires one { Each (λ i s. s.seat.inner.me.0 ≡ Has (known_by s ∷ [])) seats.items }
-    ensures own { result.inner.table_id ≡ table.now.inner.shared.table_id }
-    ensures all { HasAll result seats.items }
-{
-    let mut seats = seats;
-    let Some(last) = seats.pop() else {
-        unreachable!();
-    };
-    let TripleSeat {
-        seat,
-        processes: _,
-        who: _,
-        fills: _,
-        reads: _,
-        spare: _,
-    } = last;
-    let mut all = seat;
-    for _ in 0..seats.len() {
-        let Some(next) = seats.pop() else {
-            unreachable!();
-        };
-        let TripleSeat {
-            seat: other,
-            processes: _,
-            who: _,
-            fills: _,
-            reads: _,
-            spare: _,
-        } = next;
-        table.gather(&mut all, other);
-    }
-    all
-}
-
-/// Shows what all seats have done so far, where `all` has what those that were taken out before know.
-fn show_all<T: Lawful>(
-    table: &FamilyTable<T>,
-    seats: &mut Vec<TripleSeat<T>>,
-    all: FamilySeat<T>,
-) -> FamilySeat<T>
-    requires own { (all.inner.table_id ≡ table.now.inner.shared.table_id)
-        × Each (λ i s. s.seat.inner.table_id ≡ table.now.inner.shared.table_id) seats.old.items }
-    requires one { Each (λ i s. s.seat.inner.me.0 ≡ Has (known_by s ∷ [])) seats.old.items }
-    requires bare { (ps : List (Process (TripleSight T))) × (all.inner.me ≡ (Has ps, [])) }
-    ensures same { (seats.new.items ≡ seats.old.items) × (vec_capacity seats.new ≡ vec_capacity seats.old) }
-    ensures all { (result.inner.table_id ≡ all.inner.table_id) × (result.inner.me ≡ all.inner.me) }
-    ensures shown { (ps : List (Process (TripleSight T))) → all.inner.me ≡ (Has ps, []) →
-        HaveShown table.now.inner.shared.key.processes table.now.inner.shared.key.first ps seats.old.items }
-{
-    let mut all = all;
-    let Some(mut last) = seats.pop() else {
-        table.so_far(&mut all);
-        return all;
-    };
-    let mut next = table.lift(&mut last.seat);
-    table.put(&mut next, all);
-    let mut next = show_all(table, seats, next);
-    let one = table.part(&mut next);
-    table.put(&mut last.seat, one);
-    seats.push_reserved(last);
-    next
 }
 
 impl<T: Lawful> TripleFamily<T> {
@@ -162,9 +91,11 @@ impl<T: Lawful> TripleFamily<T> {
         let others = seat.processes - 1;
         let before = others + among(seat.who, from);
         turn_by(table, &mut seat.seat, before);
-        let slot = newest(table, &mut seat.seat, cell, seat.reads[from]);
-        seat.reads[from] = slot;
-        table.show(&mut seat.seat, slot_place(cell, slot), seen);
+        let slot = newest(table, &mut seat.seat, cell, seat.stored.reads[from]);
+        seat.stored.reads[from] = slot;
+        table
+            .rows
+            .show(&mut seat.seat, slot_place(cell, slot), seen);
         turn_by(table, &mut seat.seat, 2 * others - before);
     }
 }
@@ -218,12 +149,14 @@ impl<T: Lawful> Family<T> for TripleFamily<T> {
         let cell = place(seat.processes, seat.who, to);
         let others = seat.processes - 1;
         let before = among(seat.who, to);
-        let slot = seat.fills[to];
+        let slot = seat.stored.fills[to];
         turn_by(table, &mut seat.seat, before);
-        table.fill(&mut seat.seat, slot_place(cell, slot), item);
+        table
+            .rows
+            .fill(&mut seat.seat, slot_place(cell, slot), item);
         let middle = table.publish(&mut seat.seat, cell, slot + 4);
         turn_by(table, &mut seat.seat, 2 * others - before);
-        seat.fills[to] = middle % 4;
+        seat.stored.fills[to] = middle % 4;
     }
 
     #[inline(always)]
@@ -256,8 +189,8 @@ impl<T: Lawful> Family<T> for TripleFamily<T> {
     }
 
     fn tell(&self, seat: &mut TripleSeat<T>) -> TripleTold<T> {
-        let told = self.table.tell(&mut seat.seat);
-        TripleTold {
+        let told = self.table.rows.tell(&mut seat.seat);
+        ProcessTold {
             seat: told,
             processes: seat.processes,
             from: seat.who,
@@ -266,8 +199,8 @@ impl<T: Lawful> Family<T> for TripleFamily<T> {
     }
 
     fn duplicate(&self, told: &mut TripleTold<T>) -> TripleTold<T> {
-        let again = self.table.duplicate(&mut told.seat);
-        TripleTold {
+        let again = self.table.rows.duplicate(&mut told.seat);
+        ProcessTold {
             seat: again,
             processes: told.processes,
             from: told.from,
@@ -276,13 +209,13 @@ impl<T: Lawful> Family<T> for TripleFamily<T> {
     }
 
     fn learn(&self, seat: &mut TripleSeat<T>, told: TripleTold<T>) {
-        let TripleTold {
+        let ProcessTold {
             seat: receipt,
             processes: _,
             from: _,
             spare: _,
         } = told;
-        self.table.hear(&mut seat.seat, receipt);
+        self.table.rows.hear(&mut seat.seat, receipt);
     }
 
     fn so_far(&self, seats: &mut Vec<TripleSeat<T>>)
@@ -292,13 +225,7 @@ impl<T: Lawful> Family<T> for TripleFamily<T> {
             × Each (λ i s. times_of s ≡ positions 1 i steps) seats.old.items }
         ensures atomic { EachTwo (λ i j s t. IsAtomicCell (opening_of self.now) (writes_of s j) (reads_of t i)) seats.old.items }
     {
-        let Some(mut last) = seats.pop() else {
-            unreachable!();
-        };
-        let all = self.table.lift(&mut last.seat);
-        let all = show_all(&self.table, seats, all);
-        self.table.put(&mut last.seat, all);
-        seats.push_reserved(last);
+        show(&self.table.rows, seats);
     }
 
     fn finish(self, seats: Vec<TripleSeat<T>>)
@@ -307,8 +234,9 @@ impl<T: Lawful> Family<T> for TripleFamily<T> {
         ensures atomic { EachTwo (λ i j s t. IsAtomicCell (opening_of self) (writes_of s j) (reads_of t i)) seats.items }
     {
         let TripleFamily { table } = self;
-        let seat = gathered(&table, seats);
-        table.close(seat);
+        let FamilyTable { rows } = table;
+        let seat = gathered(&rows, seats);
+        rows.close(seat);
     }
 }
 

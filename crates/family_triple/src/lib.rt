@@ -6,26 +6,11 @@
 //! schedule.
 #![tactic(auto)]
 
-use atomic_table::TableRule;
-use cell_live::Lawful;
-use family_table::notes::Opened;
-use notes::FamilySight;
-
 mod family;
+pub mod mechanism;
 pub mod notes;
 mod plays;
 mod slots;
 mod table;
 
 pub use family::{TripleFamily, TripleSeat, TripleTold};
-
-/// The rule of the table.
-pub struct FamilyLaw;
-
-impl<T: Lawful> TableRule<T, FamilySight<T>, Opened<T>> for FamilyLaw {
-    ghost use Rattle.family_triple.specs.Triples.{TripleFamily, first_view};
-
-    ghost holds = { λ key s. TripleFamily T.fits T.rises key.first key.processes s };
-
-    ghost first = { λ key. first_view key.first key.processes };
-}

@@ -51,12 +51,12 @@ pub(crate) fn take_slots<T: Lawful>(
     n: usize,
     who: usize,
 )
-    requires own { seat.old.inner.table_id ≡ table.now.inner.shared.table_id }
-    requires key { table.now.inner.shared.key.processes ≡ n }
+    requires own { seat.old.inner.table_id ≡ table.now.rows.inner.shared.table_id }
+    requires key { table.now.rows.inner.shared.key.processes ≡ n }
     requires inside { who < n }
-    requires first { seat.old.inner.me ≡ (Has (first_process table.now.inner.shared.key.first n who ∷ []), []) }
+    requires first { seat.old.inner.me ≡ (Has (first_process table.now.rows.inner.shared.key.first n who ∷ []), []) }
     ensures own { seat.new.inner.table_id ≡ seat.old.inner.table_id }
-    ensures ready { IsReady table.now.inner.shared.key.first n who seat.new.inner.me }
+    ensures ready { IsReady table.now.rows.inner.shared.key.first n who seat.new.inner.me }
 {
     for at in 0..n - 1 {
         table.take_put(seat, place(n, who, other(who, at)));
@@ -76,8 +76,8 @@ pub(crate) fn newest<T: Lawful>(
     cell: usize,
     slot: u64,
 ) -> u64
-    requires own { seat.old.inner.table_id ≡ table.now.inner.shared.table_id }
-    requires place { cell < (triples table.now.inner.shared.key.processes).cells }
+    requires own { seat.old.inner.table_id ≡ table.now.rows.inner.shared.table_id }
+    requires place { cell < (triples table.now.rows.inner.shared.key.processes).cells }
     requires idle { (v : Process (TripleSight T)) × (g : ReaderNotes T) × (cs : List (ℕ × T)) × HasReader seat.old.inner.me cell v g
         × (seat.old.inner.me.1 ≡ (slot_at cell g.slot, g.at_hand.value) ∷ cs) × (g.has ≡ 1) × (g.asked ≡ 0) × (g.slot < 3) × (slot ≡ g.slot) }
     ensures own { seat.new.inner.table_id ≡ seat.old.inner.table_id }

@@ -17,9 +17,9 @@ loop-who-preserved g c =
     let h = c.loop-who.invariant.0 in
     let l : c.loop-who.who < c.args.n = omega (arith, c.loop-who-test.true, c.loop-who.auto.who-end) in
     let part = c.part-seat.ensures in (
-      subst (DealtTo c.args.table.now.inner.shared.table_id c.args.n c.args.first (c.loop-who.who + 1) c.part-seat.new.seat)
+      subst (DealtTo c.args.table.now.rows.inner.shared.table_id c.args.n c.args.first (c.loop-who.who + 1) c.part-seat.new.seat)
           (sym c.push_reserved.ensures.items)
-          (dealt_more c.args.table.now.inner.shared.table_id c.args.n c.args.first c.loop-who.who c.loop-who.rest c.part-seat.new.seat
+          (dealt_more c.args.table.now.rows.inner.shared.table_id c.args.n c.args.first c.loop-who.who c.loop-who.rest c.part-seat.new.seat
           c.loop-who.seats.items
           (record {
             seat = c.part-seat.result;

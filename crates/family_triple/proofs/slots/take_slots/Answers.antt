@@ -11,7 +11,7 @@ use Rattle.family_triple.proofs.slots.take_slots.Goals as goal
 
 pub loop-at-init : goal.loop-at-init
 loop-at-init g c =
-    let o = c.args.table.now.inner.shared.key.first in
+    let o = c.args.table.now.rows.inner.shared.key.first in
     (refl, subst (Taking o c.args.n c.args.who 0 0) (sym c.requires.first) (start o c.args.n c.args.who c.requires.inside))
 
 pub take_put-requires-clause-bare : goal.take_put-requires-clause-bare
@@ -24,7 +24,7 @@ take_put-requires-clause-bare g c =
     let low : row_cell n who at < n * n = row_in n who at c.requires.inside la in
     let is : c.place.result ≡ row_cell n who at = c.place.ensures ∙ ap (place n who) c.other.ensures in (
       h.v,
-      first_writer c.args.table.now.inner.shared.key.first,
+      first_writer c.args.table.now.rows.inner.shared.key.first,
       record {
         process = record { one = h.one; has = subst (λ (z : ℕ × ℕ). z.0 < z.1) (λ i. (sym is i, sym h.long i)) low; held = h.held };
         notes = ap (λ z. of_cell Spent z h.v.parts) is ∙ h.row.still at (omega arith) la;
@@ -35,7 +35,7 @@ take_put-requires-clause-bare g c =
 pub loop-at-preserved : goal.loop-at-preserved
 loop-at-preserved g c =
     let h = c.loop-at.invariant.1 in
-    let o = c.args.table.now.inner.shared.key.first in
+    let o = c.args.table.now.rows.inner.shared.key.first in
     let n = c.args.n in
     let who = c.args.who in
     let at = c.loop-at.at in
@@ -59,7 +59,7 @@ take_get-requires-clause-bare g c =
     let low : column_cell n who at < n * n = column_in n who at c.requires.inside la in
     let is : c.place-in-loop-at-2.result ≡ column_cell n who at = c.place-in-loop-at-2.ensures ∙ ap (λ z. place n z who) c.other-in-loop-at-2.ensures in (
       h.v,
-      first_reader c.args.table.now.inner.shared.key.first,
+      first_reader c.args.table.now.rows.inner.shared.key.first,
       record {
         process = record { one = h.one; has = subst (λ (z : ℕ × ℕ). z.0 < z.1) (λ i. (sym is i, sym h.long i)) low; held = h.held };
         notes = ap (λ z. of_cell Spent z h.v.parts) is ∙ h.column.still at (omega arith) la;
@@ -70,7 +70,7 @@ take_get-requires-clause-bare g c =
 pub loop-at-2-preserved : goal.loop-at-2-preserved
 loop-at-2-preserved g c =
     let h = c.loop-at-2.invariant.1 in
-    let o = c.args.table.now.inner.shared.key.first in
+    let o = c.args.table.now.rows.inner.shared.key.first in
     let n = c.args.n in
     let who = c.args.who in
     let at = c.loop-at-2.at in
@@ -86,7 +86,7 @@ loop-at-2-preserved g c =
 
 pub returns-clause-ready : goal.returns-clause-ready
 returns-clause-ready g c =
-    let o = c.args.table.now.inner.shared.key.first in
+    let o = c.args.table.now.rows.inner.shared.key.first in
     let all : c.loop-at-2.at ≡ c.args.n - 1 = omega (arith, c.loop-at-2-test.false, c.loop-at-2.auto.at-end) in
     took_all o c.args.n c.args.who c.loop-at-2.seat.inner.me c.requires.inside
     (subst (λ z. Taking o c.args.n c.args.who (c.args.n - 1) z c.loop-at-2.seat.inner.me) all c.loop-at-2.invariant.1)

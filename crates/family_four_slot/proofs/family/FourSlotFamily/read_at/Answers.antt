@@ -9,7 +9,7 @@ use Rattle.cell_four_slot.proofs.Slots.{slot_low}
 use Rattle.family_table.specs.declared.notes.Process.{Process}
 use Rattle.family_table.specs.Family.{knows}
 use Rattle.family_four_slot.specs.Places.{slot_at}
-use Rattle.family_four_slot.specs.Seated.{known_by}
+use Rattle.family_table.specs.Seated.{known_by}
 use Rattle.family_four_slot.specs.Steps.{After, has_asked}
 use Rattle.family_four_slot.specs.Words.{HasSlots}
 use Rattle.family_table.proofs.Slices.{set_long}

@@ -10,7 +10,8 @@ use Rattle.family_table.specs.declared.notes.View.TheVariants.{Has}
 use Rattle.family_table.specs.Family.{heard_by, of_cell}
 use Rattle.family_table.specs.Places.{place, writer_of}
 use Rattle.family_table.specs.Seats.{learnt_by}
-use Rattle.family_four_slot.specs.Seated.{known_by, told_in, naming}
+use Rattle.family_table.specs.Seated.{known_by, told_in}
+use Rattle.family_four_slot.specs.Seated.{naming}
 use Rattle.family_table.specs.Views.{process_of}
 use Rattle.family_four_slot.specs.Words.{writes_to, reads_from}
 use Rattle.family_four_slot.proofs.Going.{seat_after}

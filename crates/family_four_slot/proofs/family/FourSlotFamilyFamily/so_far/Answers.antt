@@ -1,109 +1,25 @@
--- The last seat is lent, the others with it, and what the one seat is shown is of all of them.
-use Rattle.std.proofs.Common.{◌≡◌, ℕ, [], ◌∷◌, ◌++◌, append-nil, length, refl, sym, ◌∙◌, subst}
-use mathlib.Core.Option.{some}
-use lib.ListN.{get_elem?}
-use Rattle.family_live.specs.Ends.{Each}
-use Rattle.family_four_slot.specs.declared.family.FourSlotSeat.{FourSlotSeat}
-use Rattle.family_table.specs.declared.notes.View.TheVariants.{Has}
-use Rattle.family_four_slot.specs.Seated.{known_by}
-use Rattle.family_table.proofs.Gathering.{stood, each_more, each_fewer, put_again}
-use Rattle.family_four_slot.proofs.Showing.{same_seat}
+-- What the seats are shown together is of all of them.
+use Rattle.std.proofs.Common.{arith}
 use Rattle.family_four_slot.proofs.Parting.{all_scheduled, all_atomic}
 use Rattle.family_four_slot.proofs.family.FourSlotFamilyFamily.so_far.Goals as goal
 
-pub lift-all-requires-clause-own : goal.lift-all-requires-clause-own
-lift-all-requires-clause-own g c =
-    let seats = c.args.seats.now.items in
-    let left = c.pop.new.self.items in
-    let at = stood seats seats left [] c.in-Some.last (sym (append-nil seats)) c.in-Some.ensures.items in
-    (c.requires.1 (length left) c.in-Some.last at).0.table
+pub show-requires-clause-some : goal.show-requires-clause-some
+show-requires-clause-some g c =
+    let some = c.args.self.now.table.rows.some.0 in
+    omega (arith, c.requires.0)
 
-pub lift-all-requires-clause-some : goal.lift-all-requires-clause-some
-lift-all-requires-clause-some g c =
-    let seats = c.args.seats.now.items in
-    let left = c.pop.new.self.items in
-    let last = c.in-Some.last in
-    let at = stood seats seats left [] last (sym (append-nil seats)) c.in-Some.ensures.items in
-    (known_by last ∷ [], (c.requires.1 (length left) last at).0.one)
+pub show-requires-clause-own : goal.show-requires-clause-own
+show-requires-clause-own g c = λ i s e. (c.requires.1 i s e).0.table
 
-pub show_all-all-requires-clause-own : goal.show_all-all-requires-clause-own
-show_all-all-requires-clause-own g c =
-    let seats = c.args.seats.now.items in
-    let left = c.pop.new.self.items in
-    let last = c.in-Some.last in
-    let at = stood seats seats left [] last (sym (append-nil seats)) c.in-Some.ensures.items in (
-      c.lift-all.ensures.own.2 ∙ (c.requires.1 (length left) last at).0.table,
-      each_fewer (λ i s. s.seat.inner.table_id ≡ c.args.self.now.table.inner.shared.table_id) seats left last c.in-Some.ensures.items
-          (λ i s e. (c.requires.1 i s e).0.table),
-    )
-
-pub show_all-all-requires-clause-one : goal.show_all-all-requires-clause-one
-show_all-all-requires-clause-one g c =
-    let seats = c.args.seats.now.items in
-    each_fewer (λ i s. s.seat.inner.me.0 ≡ Has (known_by s ∷ [])) seats c.pop.new.self.items c.in-Some.last c.in-Some.ensures.items
-    (λ i s e. (c.requires.1 i s e).0.one)
-
-pub show_all-all-requires-clause-bare : goal.show_all-all-requires-clause-bare
-show_all-all-requires-clause-bare g c =
-    let seats = c.args.seats.now.items in
-    let left = c.pop.new.self.items in
-    let last = c.in-Some.last in
-    let at = stood seats seats left [] last (sym (append-nil seats)) c.in-Some.ensures.items in
-    let one = (c.requires.1 (length left) last at).0.one in
-    (known_by last ∷ [], c.lift-all.ensures.lifted.1 ∙ (λ i. (one i, [])))
-
-pub put-requires-clause-own : goal.put-requires-clause-own
-put-requires-clause-own g c =
-    let seats = c.args.seats.now.items in
-    let left = c.pop.new.self.items in
-    let last = c.in-Some.last in
-    let at = stood seats seats left [] last (sym (append-nil seats)) c.in-Some.ensures.items in
-    let table = (c.requires.1 (length left) last at).0.table in
-    (c.lift-all.ensures.own.0 ∙ table, c.show_all-all.ensures.all.0 ∙ (c.lift-all.ensures.own.2 ∙ table))
-
-pub put-requires-clause-bare : goal.put-requires-clause-bare
-put-requires-clause-bare g c =
-    let seats = c.args.seats.now.items in
-    let left = c.pop.new.self.items in
-    let last = c.in-Some.last in
-    let at = stood seats seats left [] last (sym (append-nil seats)) c.in-Some.ensures.items in
-    let one = (c.requires.1 (length left) last at).0.one in
-    (known_by last ∷ [], c.show_all-all.ensures.all.1 ∙ (c.lift-all.ensures.lifted.1 ∙ (λ i. (one i, []))))
-
-pub returns-clause-same : goal.returns-clause-same
-returns-clause-same g c =
-    let seats = c.args.seats.now.items in
-    let left = c.pop.new.self.items in
-    let last = c.in-Some.last in
-    let at = stood seats seats left [] last (sym (append-nil seats)) c.in-Some.ensures.items in
-    let one = (c.requires.1 (length left) last at).0.one in
-    let me = put_again _ _ _ _ _ c.put.ensures.joined c.lift-all.ensures.lifted.0
-    (c.show_all-all.ensures.all.1 ∙ (c.lift-all.ensures.lifted.1 ∙ (λ i. (one i, [])))) one in
-    let again = same_seat last c.put.new.seat (c.put.ensures.own.0 ∙ c.lift-all.ensures.own.0) (c.put.ensures.own.1 ∙ c.lift-all.ensures.own.1) me in (
-      c.push_reserved.ensures.items ∙ ((λ i. c.show_all-all.ensures.same.0 i ++ again i ∷ []) ∙ sym c.in-Some.ensures.items),
-      c.push_reserved.ensures.capacity ∙ (c.show_all-all.ensures.same.1 ∙ c.pop.ensures.capacity),
-    )
+pub show-requires-clause-one : goal.show-requires-clause-one
+show-requires-clause-one g c = λ i s e. (c.requires.1 i s e).0.one
 
 pub returns-clause-scheduled : goal.returns-clause-scheduled
 returns-clause-scheduled g c =
-    let seats = c.args.seats.now.items in
-    let left = c.pop.new.self.items in
-    let last = c.in-Some.last in
-    let at = stood seats seats left [] last (sym (append-nil seats)) c.in-Some.ensures.items in
-    let one = (c.requires.1 (length left) last at).0.one in
-    let h = c.show_all-all.ensures.shown (known_by last ∷ []) (c.lift-all.ensures.lifted.1 ∙ (λ i. (one i, []))) in
-    let P = λ (i : ℕ) (s : FourSlotSeat g.row.T.Denot). (b : ℕ) × (get_elem? h.0 b ≡ some (known_by s)) in
-    all_scheduled c.args.self.now seats c.requires.1 h.0
-    (subst (λ xs. Each P xs) (sym c.in-Some.ensures.items) (each_more P left last (λ i s e. h.3 i s e) (h.2 0 (known_by last) refl))) h.1
+    let h = c.show.ensures.shown in
+    all_scheduled c.args.self.now c.args.seats.now.items c.requires.1 h.0 h.2 h.1
 
 pub returns-clause-atomic : goal.returns-clause-atomic
 returns-clause-atomic g c =
-    let seats = c.args.seats.now.items in
-    let left = c.pop.new.self.items in
-    let last = c.in-Some.last in
-    let at = stood seats seats left [] last (sym (append-nil seats)) c.in-Some.ensures.items in
-    let one = (c.requires.1 (length left) last at).0.one in
-    let h = c.show_all-all.ensures.shown (known_by last ∷ []) (c.lift-all.ensures.lifted.1 ∙ (λ i. (one i, []))) in
-    let P = λ (i : ℕ) (s : FourSlotSeat g.row.T.Denot). (b : ℕ) × (get_elem? h.0 b ≡ some (known_by s)) in
-    all_atomic c.args.self.now seats c.requires.1 h.0
-    (subst (λ xs. Each P xs) (sym c.in-Some.ensures.items) (each_more P left last (λ i s e. h.3 i s e) (h.2 0 (known_by last) refl))) h.1
+    let h = c.show.ensures.shown in
+    all_atomic c.args.self.now c.args.seats.now.items c.requires.1 h.0 h.2 h.1

@@ -6,7 +6,7 @@ use Rattle.family_table.specs.declared.notes.View.TheVariants.{Told}
 use Rattle.family_table.specs.Family.{receipt_of}
 use Rattle.family_table.specs.Seats.{told_by}
 use Rattle.family_table.specs.Views.{receipt_in}
-use Rattle.family_four_slot.specs.Seated.{known_by}
+use Rattle.family_table.specs.Seated.{known_by}
 use Rattle.family_four_slot.proofs.Telling.{has_told, tells_all}
 use Rattle.family_four_slot.proofs.family.FourSlotFamilyFamily.tell.Goals as goal
 

@@ -26,5 +26,5 @@ store-requires g c =
 pub returns-clause-stored : goal.returns-clause-stored
 returns-clause-stored g c =
     let b = c.base.ensures in
-    subst (λ z. stores_on (step c.args.self.now.inner.shared.table_id.slots z c.args.index 0 none) c.args.seat.now.inner.me c.args.index c.store.new.seat.me)
+    subst (λ z. stores_on (step c.args.self.now.rows.inner.shared.table_id.slots z c.args.index 0 none) c.args.seat.now.inner.me c.args.index c.store.new.seat.me)
     (omega arith) c.store.ensures.2

@@ -2,7 +2,7 @@
 use Rattle.std.proofs.Common.{◌≡◌, ◌+◌, ◌*◌, ◌-◌, ◌<◌, ℕ, List, ◌∷◌, ◌++◌, set, length, sym, ap, ◌∙◌, refl, arith}
 use Rattle.cell_triple.specs.declared.notes.ReaderNotes.{ReaderNotes}
 use Rattle.family_triple.specs.Places.{among, slot_at}
-use Rattle.family_triple.specs.Seated.{known_by}
+use Rattle.family_table.specs.Seated.{known_by}
 use Rattle.family_triple.specs.Tables.{HasReader}
 use Rattle.family_triple.proofs.Going.{column_at, column_inside, column_long, column_notes, column_slot, is_answer, has_read}
 use Rattle.family_triple.proofs.Rounds.{few_cells, replaced, behind_long, turned_front, turned_back}
@@ -66,7 +66,7 @@ slot_place-requires g c =
       notes = column_notes f s own c.args.from other cell at;
     } in
     let looked = c.newest-slot.ensures.looked (known_by s) q (back ++ front) reader slots column.low (sym column.numbered) in
-    (few_cells f.table.inner.shared.key.processes cell f.table.some.1 (column_inside f s own c.args.from other cell at), looked.took.2)
+    (few_cells f.table.rows.inner.shared.key.processes cell f.table.rows.some.1 (column_inside f s own c.args.from other cell at), looked.took.2)
 
 pub show-requires-clause-held : goal.show-requires-clause-held
 show-requires-clause-held g c =
@@ -133,7 +133,7 @@ returns g c =
     looked.slots ∙ ap (λ z. (z, looked.answer) ∷ (back ++ front)) (sym c.slot_place.ensures) in
     let slot : ℕ = c.newest-slot.result in
     let y : ℕ × g.row.T.Denot = (slot_at cell slot, looked.answer) in
-    let few : c.args.from < 16 = omega (arith, other.0, f.table.some.1) in
+    let few : c.args.from < 16 = omega (arith, other.0, f.table.rows.some.1) in
     let behind : length (y ∷ back) ≡ 2 * (s.processes - 1) - before =
     behind_long s.seat.inner.me.1 front back (slot_at cell q.slot, q.at_hand.value) y before (2 * (s.processes - 1)) cut.2 turns own.rest.many in
     let last = c.turn_by-2.ensures.turned (y ∷ back) front (ap (λ z. z.1) c.show.ensures.same ∙ looked.slots) behind in
@@ -141,7 +141,7 @@ returns g c =
     let same : c.turn_by-2.new.seat.inner.table_id ≡ s.seat.inner.table_id =
     c.turn_by-2.ensures.own ∙ (c.show.ensures.own ∙ (c.newest-slot.ensures.own ∙ c.turn_by.ensures.own)) in
     let h = has_read f s own c.args.from other cell at few g.T.Lawful.fits g.T.Lawful.rises (back ++ front) c.newest-slot.new.seat.inner.me slot
-    (record s { seat = c.turn_by-2.new.seat; reads = set s.reads c.args.from slot }) looked
+    (record s { seat = c.turn_by-2.new.seat; stored = record s.stored { reads = set s.stored.reads c.args.from slot } }) looked
     (ap (λ z. z.0) last ∙ ap (λ z. z.0) c.show.ensures.same)
     (replaced s.seat.inner.me.1 c.turn_by-2.new.seat.inner.me.1 front back (slot_at cell q.slot, q.at_hand.value) y place cut.2 is cut.3)
     (turned_back front back y c.turn_by-2.new.seat.inner.me.1 is) same refl refl refl refl refl in

@@ -10,7 +10,8 @@ use Rattle.family_table.specs.declared.notes.View.TheVariants.{Has}
 use Rattle.family_table.specs.Family.{heard_by, of_cell}
 use Rattle.family_table.specs.Places.{place, writer_of}
 use Rattle.family_table.specs.Seats.{learnt_by}
-use Rattle.family_triple.specs.Seated.{known_by, told_in, naming}
+use Rattle.family_table.specs.Seated.{known_by, told_in}
+use Rattle.family_triple.specs.Seated.{naming}
 use Rattle.family_table.specs.Views.{process_of}
 use Rattle.family_triple.specs.Words.{writes_to, reads_from}
 use Rattle.family_triple.proofs.Going.{seat_after}
@@ -26,7 +27,7 @@ returns-clause-own g c =
     let me : c.hear.new.seat.inner.me.0 ≡ Has (heard_by hears_of v r ∷ []) =
     ap (λ z. z.0) c.hear.ensures.joined ∙ (λ i. learnt_by hears_of (own.one i) ((ap (λ z. z.0) c.requires.own.1.one) i)) in (
       seat_after c.args.self.now s own (record s { seat = c.hear.new.seat }) (heard_by hears_of v r) s.seat.inner.me.1 c.hear.ensures.own refl refl refl me
-          (ap (λ z. z.1) c.hear.ensures.joined) refl (rest_heard s.spare s.processes v r s.fills s.reads s.seat.inner.me.1 own.rest),
+          (ap (λ z. z.1) c.hear.ensures.joined) refl (rest_heard s.spare s.processes v r s.stored.fills s.stored.reads s.seat.inner.me.1 own.rest),
       refl,
     )
 
@@ -48,7 +49,7 @@ returns-clause-heard g c = λ away.
     subst (λ z. IsHeardRead (reads_from s.spare s.processes v t.from) (reads_from s.spare s.processes z t.from) (naming t s.who).item
     (naming t s.who).writes)
     (sym (ap process_of me))
-    (is_heard s.spare s.processes v r s.fills s.reads s.seat.inner.me.1 own.rest t.from lf (naming t s.who) (λ e. away (e ∙ own.who)) row)
+    (is_heard s.spare s.processes v r s.stored.fills s.stored.reads s.seat.inner.me.1 own.rest t.from lf (naming t s.who) (λ e. away (e ∙ own.who)) row)
 
 pub returns-clause-others : goal.returns-clause-others
 returns-clause-others g c =
@@ -66,6 +67,6 @@ returns-clause-others g c =
     subst (λ z. (k : ℕ) → writer_of z k ≢ t.from → of_cell Spent k r.parts ≡ Spent) n told.elsewhere in
     subst (λ z. KeepsEach (writes_to s.spare s.processes v) (writes_to s.spare s.processes z)
     × KeepsOthers t.from (reads_from s.spare s.processes v) (reads_from s.spare s.processes z)) (sym (ap process_of me)) (
-      writes_stay s.spare s.processes v r s.fills s.reads s.seat.inner.me.1 own.rest,
-      others_stay s.spare s.processes v r s.fills s.reads s.seat.inner.me.1 own.rest t.from lf elsewhere,
+      writes_stay s.spare s.processes v r s.stored.fills s.stored.reads s.seat.inner.me.1 own.rest,
+      others_stay s.spare s.processes v r s.stored.fills s.stored.reads s.seat.inner.me.1 own.rest t.from lf elsewhere,
     )

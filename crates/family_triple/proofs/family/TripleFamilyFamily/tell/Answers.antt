@@ -6,7 +6,7 @@ use Rattle.family_table.specs.declared.notes.View.TheVariants.{Told}
 use Rattle.family_table.specs.Family.{receipt_of}
 use Rattle.family_table.specs.Seats.{told_by}
 use Rattle.family_table.specs.Views.{receipt_in}
-use Rattle.family_triple.specs.Seated.{known_by}
+use Rattle.family_table.specs.Seated.{known_by}
 use Rattle.family_triple.proofs.Telling.{has_told, tells_all}
 use Rattle.family_triple.proofs.family.TripleFamilyFamily.tell.Goals as goal
 

@@ -3,7 +3,8 @@ use Rattle.std.proofs.Common.{◌≡◌, ◌+◌, ◌-◌, subst, arith}
 use Rattle.family_live.specs.Rows.{IsWriteTo}
 use Rattle.family_live.specs.Rows.OneByOne.{no_call}
 use Rattle.family_live.proofs.Rows.{one_after, one_before}
-use Rattle.family_triple.specs.Seated.{processes_of, number_of, clock_of, times_of, writes_of, reads_of, IsSeat}
+use Rattle.family_table.specs.Seated.{number_of, clock_of, times_of}
+use Rattle.family_triple.specs.Seated.{processes_of, writes_of, reads_of, IsSeat}
 use Rattle.family_triple.proofs.Rows.{Row, row_after, row_before, row_room, row_seat}
 use Rattle.family_triple.proofs.family.TripleFamilyFamily.write_all_from.Goals as goal
 

@@ -4,7 +4,7 @@ use Rattle.cell_live.specs.Running.{last_or, held_slots}
 use Rattle.cell_triple.specs.declared.notes.WriterNotes.{WriterNotes}
 use Rattle.family_table.specs.declared.notes.View.TheVariants.{Has}
 use Rattle.family_triple.specs.Places.{among, slot_at}
-use Rattle.family_triple.specs.Seated.{known_by}
+use Rattle.family_table.specs.Seated.{known_by}
 use Rattle.family_triple.proofs.Going.{row_at, row_long, row_notes, row_slot, row_written, wrote}
 use Rattle.family_triple.proofs.Looking.{word_is}
 use Rattle.family_triple.proofs.Rounds.{replaced, behind_long, turned_front, turned_back}
@@ -97,7 +97,7 @@ returns g c =
     let e = c.publish-middle.ensures.swapped cell (known_by s) p item (back ++ front) (word_is cell) one (row_notes f s own c.args.to other cell at)
     slots in
     let y : ℕ × g.row.T.Denot = (slot_at cell slot, e.0) in
-    let few : c.args.to < 16 = omega (arith, other.0, f.table.some.1) in
+    let few : c.args.to < 16 = omega (arith, other.0, f.table.rows.some.1) in
     let behind : length (y ∷ back) ≡ 2 * (s.processes - 1) - c.among-before.result =
     behind_long s.seat.inner.me.1 front back (slot_at cell p.slot, row.record_there) y c.among-before.result (2 * (s.processes - 1)) cut.2
     (cut.3 ∙ sym c.among-before.ensures) own.rest.many in
@@ -106,7 +106,7 @@ returns g c =
     let same : c.turn_by-2.new.seat.inner.table_id ≡ s.seat.inner.table_id =
     c.turn_by-2.ensures.own ∙ (c.publish-middle.ensures.own ∙ (c.fill.ensures.own ∙ c.turn_by.ensures.own)) in
     let h = wrote f s own c.args.to other cell at few item e.0 slot e.1 (held_slots (y ∷ (back ++ front)))
-    (record s { seat = c.turn_by-2.new.seat; fills = set s.fills c.args.to slot }) e.4.0 e.2 (ap (λ z. z.0) last ∙ e.4.1)
+    (record s { seat = c.turn_by-2.new.seat; stored = record s.stored { fills = set s.stored.fills c.args.to slot } }) e.4.0 e.2 (ap (λ z. z.0) last ∙ e.4.1)
     (replaced s.seat.inner.me.1 c.turn_by-2.new.seat.inner.me.1 front back (slot_at cell p.slot, row.record_there) y (among s.who c.args.to) cut.2 is cut.3)
     (turned_back front back y c.turn_by-2.new.seat.inner.me.1 is) same refl refl refl refl refl in
     record { own = h.own; access = h.access; written = h.written; others = h.others }

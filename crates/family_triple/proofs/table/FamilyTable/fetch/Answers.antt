@@ -20,5 +20,5 @@ swap-requires g c =
 pub returns-clause-swapped : goal.returns-clause-swapped
 returns-clause-swapped g c =
     let b = c.word_of.ensures in
-    subst (λ z. fetches g.T.Lawful.fits g.T.Lawful.rises (step c.args.self.now.inner.shared.table_id.slots z c.args.new 0 none) c.args.seat.now.inner.me
+    subst (λ z. fetches g.T.Lawful.fits g.T.Lawful.rises (step c.args.self.now.rows.inner.shared.table_id.slots z c.args.new 0 none) c.args.seat.now.inner.me
     c.swap.result c.swap.new.seat.me) (omega arith) c.swap.ensures.2

@@ -20,5 +20,5 @@ load-requires g c =
 pub returns-clause-took : goal.returns-clause-took
 returns-clause-took g c =
     let b = c.word_of.ensures in
-    subst (λ z. get_takes (step c.args.self.now.inner.shared.table_id.slots z 0 0 none) c.args.seat.now.inner.me c.load.result
+    subst (λ z. get_takes (step c.args.self.now.rows.inner.shared.table_id.slots z 0 0 none) c.args.seat.now.inner.me c.load.result
     c.load.new.seat.me) (omega arith) c.load.ensures.2

@@ -1,6 +1,0 @@
--- The load is told what the family opened with.
-use Rattle.std.proofs.Common.{[], ◌∷◌}
-use Rattle.family_four_slot.proofs.table.FamilyTable.so_far.Given as goal
-
-abbrev pub ghosts-load_calls : goal.ghosts-load_calls
-ghosts-load_calls g a = record { first = a.self.now.inner.shared.key.first ∷ []; processes = a.self.now.inner.shared.key.processes }

@@ -1,0 +1,46 @@
+//! What a family of four-slot cells is of.
+ghost use Rattle.std.specs.Prelude.{refl};
+ghost use Rattle.cell_live.specs.declared.sight.Sight.TheVariants.{Spent};
+ghost use Rattle.cell_four_slot.specs.Steps.{hears_of, receipt_for};
+ghost use Rattle.family_four_slot.specs.Places.{four_slots};
+ghost use Rattle.family_four_slot.specs.FourSlots.{CellRule, Idle, first_view};
+ghost use Rattle.family_four_slot.specs.Tables.{Done};
+ghost use Rattle.family_four_slot.specs.Cells.{cell_tells, cell_hears, deaf, mute};
+ghost use Rattle.family_four_slot.specs.Ends.{cell_ends};
+
+use cell_four_slot::FourSlotSight;
+use cell_live::Lawful;
+use family_table::mechanism::Mechanism;
+
+/// The mechanism of the registers.
+pub struct FourSlotMechanism;
+
+impl<T: Lawful> Mechanism<T, FourSlotSight<T>> for FourSlotMechanism {
+    ghost layout = { four_slots };
+
+    ghost blank = { Spent };
+
+    ghost keeps = { CellRule T.fits T.rises };
+
+    ghost first = { first_view };
+
+    ghost idle = { Idle };
+
+    ghost receipt = { receipt_for };
+
+    ghost hears = { hears_of };
+
+    ghost done = { Done };
+
+    ghost plain = { refl };
+
+    ghost deaf = { deaf };
+
+    ghost mute = { mute };
+
+    ghost tells = { λ o. cell_tells T.fits T.rises o };
+
+    ghost learns = { λ o. cell_hears T.fits T.rises o };
+
+    ghost ends = { λ o. cell_ends T.fits T.rises o };
+}

@@ -1,0 +1,56 @@
+-- What the last state of a family shows of the processes that a seat has: one schedule, and each register's calls.
+use Rattle.std.proofs.Common.{◌≡◌, ℕ, List, [], ◌∷◌, map, refl, sym, subst}
+use mathlib.Core.Option.{some}
+use lib.ListN.{get_elem?}
+use Rattle.atomic_table.specs.Table.{State, Me, Step, Allows, keeps, Final, Seen}
+use Rattle.atomic_table.proofs.Lists.{at_map, at_longer}
+use Rattle.family_table.specs.declared.notes.Process.{Process}
+use Rattle.family_table.specs.declared.notes.Receipt.{Receipt}
+use Rattle.family_table.specs.declared.notes.View.{View}
+use Rattle.family_table.specs.declared.notes.View.TheVariants.{Has}
+use Rattle.family_table.specs.Ends.{AllDone, CellEnds, shows}
+use Rattle.family_table.specs.Family.{of_cell, cell, Shows, FamilyRule}
+use Rattle.family_table.specs.Layouts.{Layout}
+use Rattle.family_table.proofs.Seats.{each_at}
+use Rattle.family_table.proofs.Slices.{same_one, set_found, set_there}
+
+module _ {T V : Type 0} (blank : V) (layout : ℕ → Layout) (Rule : T → ℕ → State T V → Type 0) (done : T → V → V → Type 0)
+    (ends : (o : T) → CellEnds (Rule o) (done o)) (o : T) (n : ℕ) where
+  abbrev F : State T (View V) → Type 0
+  F s = FamilyRule blank (layout n) (Rule o) n s
+
+  abbrev Ended : List (Process V) → Type 0
+  Ended ps = AllDone blank (layout n) (done o) n ps
+
+  family_shows : (id : ℕ) (x : View V) (ps : List (Process V)) (s : State T (View V)) → F s → get_elem? s.views id ≡ some x → x ≡ Has ps → Ended ps
+  family_shows id x ps s r seen is =
+      let known = subst (Shows r.processes r.receipts) is (r.shows id x seen) in
+      let at : (a : ℕ) (p : Process V) → get_elem? ps a ≡ some p → get_elem? r.processes p.who ≡ some p =
+      λ a p e. each_at (λ (q : Process V). get_elem? r.processes q.who ≡ some q) ps a p known e in
+      record {
+        steps = r.steps;
+        within = r.within;
+        made = λ a p e. r.made p.who p (at a p e);
+        cells = λ a b p q d e k lk.
+            let c : State T V = cell blank (layout n) k s.words s.homes r.processes r.receipts in
+            let told : List V = map (λ (z : Receipt V). of_cell blank k z.parts) r.receipts in
+            let G : Process V → V = λ (z : Process V). of_cell blank k z.parts in
+            let view : (a' : ℕ) (z : Process V) → get_elem? ps a' ≡ some z → get_elem? c.views z.who ≡ some (G z) =
+            λ a' z h. at_longer (map G r.processes) told z.who (G z) (at_map G r.processes z.who z (at a' z h)) in
+            ends o r.now c p.who q.who (G p) (G q) (r.cells k lk) (view a p d) (view b q e);
+      }
+
+  pub family_ends : (id : ℕ) (x : View V) (ps : List (Process V)) (ws : List ℕ) (xs : List T) → x ≡ Has ps → Final (Seen F id x) ws xs → Ended ps
+  family_ends id x ps ws xs is f = family_shows id x ps f.0 f.1.0 f.1.1 is
+
+  -- a load that keeps the view may show it
+  pub shows_ok : (slots id word : ℕ) (me : Me T (View V)) (st : Step T) →
+      Allows F slots id me word (λ z. z) (shows blank layout done (o ∷ []) n st me)
+  shows_ok slots id word me st = λ s r long at low. (
+    me.0,
+    keeps,
+    record {},
+    subst (λ (z : List ℕ × List (View V)). F (record { words = z.0; homes = s.homes; views = z.1 }))
+        (λ i. (sym (set_found s.words word 0) i, sym (set_there s.views id me.0 at) i)) r,
+    (refl, λ o' ps e is. subst (λ z. AllDone blank (layout n) (done z) n ps) (same_one o o' e) (family_shows id me.0 ps s r at is)),
+  )

@@ -1,0 +1,23 @@
+-- Copies of a word and of the record are a family at the start.
+use Rattle.std.proofs.Common.{rules, ◌≡◌, ◌*◌, ◌+◌, List, ℕ, replicate, sym, subst, ◌∙◌, true, is_ok, vec_len}
+use Rattle.atomic_table.specs.Table.{opening}
+use Rattle.family_table.specs.Family.{FamilyRule}
+use Rattle.family_table.proofs.Firsts.{filled}
+use Rattle.family_table.proofs.table.Rows.new.Goals as goal
+
+pub new-requires : goal.new-requires
+new-requires g c =
+    let n : ℕ = c.args.processes in
+    let o : g.row.T.Denot = c.args.first in
+    let m = g.M.Mechanism in
+    let one : is_ok c.resize.result ≡ true = search rules in
+    let two : is_ok c.resize-2.result ≡ true = search rules in
+    let words : c.as_slice.result.now ≡ replicate (c.args.stride * (n * n) + 8) c.args.word =
+    c.as_slice.ensures.value ∙ filled _ (c.args.stride * (n * n) + 8) (vec_len c.new-words.result) c.new-words.result.items c.resize.new.self.items c.args.word one (search rules)
+    (search rules) c.resize.ensures.items in
+    let slots : c.resize-2.new.self.items ≡ replicate (c.args.slots * (n * n)) o =
+    filled _ (c.args.slots * (n * n)) (vec_len c.new-records.result) c.new-records.result.items c.resize-2.new.self.items o two (search rules) (search rules)
+    c.resize-2.ensures.items in
+    subst (λ (z : List ℕ × List g.row.T.Denot). FamilyRule m.blank (m.layout n) (m.keeps o) n
+    (opening z.0 z.1 (m.first o n))) (λ i. (sym words i, sym slots i))
+    c.requires.starts

@@ -1,0 +1,222 @@
+//! The table of a family, what goes from seat to seat, and what a seat does with its slots. The steps of a mechanism stand with it.
+ghost use Rattle.std.specs.Prelude.{◌≡◌, ℕ, ◌+◌, ◌*◌, ◌<◌, ◌≤◌, List, [], ◌∷◌, replicate, IfOk};
+ghost use Rattle.atomic_table.specs.Table.{opening};
+ghost use Rattle.family_table.specs.declared.notes.Process.{Process};
+ghost use Rattle.family_table.specs.declared.notes.Receipt.{Receipt};
+ghost use Rattle.family_table.specs.declared.notes.View.TheVariants.{Told, Has};
+ghost use Rattle.family_table.specs.Ends.{AllDone};
+ghost use Rattle.family_table.specs.Family.{of_cell, FamilyRule};
+ghost use Rattle.family_table.specs.Seats.{all_but_first, all_of, first_of, no_process, told_by, learnt_by, joined};
+
+use crate::mechanism::{FamilyLaw, Mechanism};
+use crate::notes::{Opened, Opening, View};
+use crate::plays::{All, First, Gathers, Learns, Repeats, Shows, Tells};
+use atomic_table::{Seat, Table};
+use cell_live::empty;
+use family_live::Sees;
+use std::alloc::{AllocError, Global};
+use std::marker::Brand;
+
+/// The words and slots of all registers. Eight words that nobody stores to come first.
+#[derive(Drop)]
+pub struct Rows<T: Copy, V, M: Mechanism<T, V>> {
+    pub inner: Table<T, View<V>, Opened<T>, FamilyLaw<M>, Global>,
+    pub ghost there: { 0 < inner.shared.table_id.words },
+    pub ghost some: { (2 ≤ inner.shared.key.processes) × (inner.shared.key.processes ≤ 16) },
+}
+
+/// A seat at the table.
+#[derive(Drop)]
+pub struct FamilySeat<T: Copy, V> {
+    pub inner: Seat<T, View<V>>,
+}
+
+impl<T: Copy, V, M: Mechanism<T, V>> Rows<T, V, M> {
+    /// A table of the registers of so many processes, which all hold this record, and a seat that has all processes. A register takes
+    /// `stride` words, which hold `word` at first.
+    pub fn new(
+        alloc: Global,
+        processes: usize,
+        first: T,
+        stride: usize,
+        word: u64,
+        slots: usize,
+    ) -> Result<(Self, FamilySeat<T, V>), AllocError>
+        requires some { (2 ≤ processes) × (processes ≤ 16) }
+        requires small { (stride ≤ 16) × (slots ≤ 4) }
+        requires starts { FamilyRule M.blank (M.layout processes) (M.keeps first) processes
+            (opening (replicate (stride * (processes * processes) + 8) word) (replicate (slots * (processes * processes)) first)
+            (M.first first processes)) }
+        ensures key { IfOk result (λ r. r.0.inner.shared.key ≡ record { first = first; processes = processes }) }
+        ensures sized { IfOk result (λ r. r.0.inner.shared.table_id.words ≡ stride * (processes * processes) + 8) }
+        ensures seat { IfOk result (λ r. (r.1.inner.table_id ≡ r.0.inner.shared.table_id) × (r.1.inner.me ≡ (M.first first processes, []))) }
+    {
+        let cells = processes * processes;
+        let mut words = Vec::new(alloc);
+        words
+            .resize(stride * cells + 8, word)
+            .map_err(|_| AllocError)?;
+        let mut records = Vec::new(alloc);
+        records
+            .resize(slots * cells, first)
+            .map_err(|_| AllocError)?;
+        let (table, seat) = Table::new(
+            alloc,
+            words.as_slice(),
+            records,
+            &Opened { first, processes },
+        )
+        .map_err(|_| AllocError)?;
+        Ok((Rows { inner: table }, FamilySeat { inner: seat }))
+    }
+
+    /// Parts the first process of a seat off.
+    pub fn part(&self, seat: &mut FamilySeat<T, V>) -> FamilySeat<T, V>
+        requires own { seat.old.inner.table_id ≡ self.now.inner.shared.table_id }
+        requires some { (p : Process V) × (ps : List (Process V)) × (seat.old.inner.me.0 ≡ Has (p ∷ ps)) }
+        ensures own { (seat.new.inner.table_id ≡ seat.old.inner.table_id) × (result.inner.table_id ≡ seat.old.inner.table_id) }
+        ensures parted { (seat.new.inner.me ≡ (all_but_first seat.old.inner.me.0, seat.old.inner.me.1))
+            × (result.inner.me ≡ (first_of seat.old.inner.me.0, [])) }
+    {
+        let parted = self.inner.shared.split_seat::<First>(&mut seat.inner);
+        FamilySeat { inner: parted }
+    }
+
+    /// Parts a receipt of a process off.
+    pub fn tell(&self, seat: &mut FamilySeat<T, V>) -> FamilySeat<T, V>
+        requires own { seat.old.inner.table_id ≡ self.now.inner.shared.table_id }
+        requires idle { (v : Process V) × (seat.old.inner.me.0 ≡ Has (v ∷ [])) × ((k : ℕ) → M.idle (of_cell M.blank k v.parts)) }
+        ensures own { (seat.new.inner.table_id ≡ seat.old.inner.table_id) × (result.inner.table_id ≡ seat.old.inner.table_id) }
+        ensures parted { (seat.new.inner.me ≡ seat.old.inner.me) × (result.inner.me ≡ (told_by M.receipt seat.old.inner.me.0, [])) }
+    {
+        let parted = self.inner.shared.split_seat::<Tells<T, M>>(&mut seat.inner);
+        FamilySeat { inner: parted }
+    }
+
+    /// Parts a second receipt off a receipt, which tells the same.
+    pub fn duplicate(&self, receipt: &mut FamilySeat<T, V>) -> FamilySeat<T, V>
+        requires own { receipt.old.inner.table_id ≡ self.now.inner.shared.table_id }
+        requires receipt { (r : Receipt V) × (receipt.old.inner.me ≡ (Told r, [])) }
+        ensures own { (receipt.new.inner.table_id ≡ receipt.old.inner.table_id) × (receipt.new.inner.id ≡ receipt.old.inner.id)
+            × (result.inner.table_id ≡ receipt.old.inner.table_id) }
+        ensures same { (receipt.new.inner.me ≡ receipt.old.inner.me) × (result.inner.me ≡ receipt.old.inner.me) }
+    {
+        let again = self.inner.shared.split_seat::<Repeats>(&mut receipt.inner);
+        FamilySeat { inner: again }
+    }
+
+    /// Joins a receipt into the seat of a process.
+    pub fn hear(&self, seat: &mut FamilySeat<T, V>, receipt: FamilySeat<T, V>)
+        requires own { (seat.old.inner.table_id ≡ self.now.inner.shared.table_id)
+            × (receipt.inner.table_id ≡ self.now.inner.shared.table_id) }
+        requires idle { (v : Process V) × (seat.old.inner.me.0 ≡ Has (v ∷ [])) × ((k : ℕ) → M.idle (of_cell M.blank k v.parts)) }
+        requires receipt { (r : Receipt V) × (receipt.inner.me ≡ (Told r, [])) }
+        ensures own { seat.new.inner.table_id ≡ seat.old.inner.table_id }
+        ensures joined { seat.new.inner.me ≡ (learnt_by M.hears seat.old.inner.me.0 receipt.inner.me.0, seat.old.inner.me.1) }
+    {
+        let FamilySeat { inner: receipt } = receipt;
+        self.inner
+            .shared
+            .join_seat::<Learns<T, M>>(&mut seat.inner, receipt);
+    }
+
+    /// Takes what a seat knows of processes off it. Its slots stay with it.
+    pub fn lift(&self, seat: &mut FamilySeat<T, V>) -> FamilySeat<T, V>
+        requires own { seat.old.inner.table_id ≡ self.now.inner.shared.table_id }
+        requires some { (ps : List (Process V)) × (seat.old.inner.me.0 ≡ Has ps) }
+        ensures own { (seat.new.inner.table_id ≡ seat.old.inner.table_id) × (seat.new.inner.id ≡ seat.old.inner.id)
+            × (result.inner.table_id ≡ seat.old.inner.table_id) }
+        ensures lifted { (seat.new.inner.me ≡ (no_process seat.old.inner.me.0, seat.old.inner.me.1))
+            × (result.inner.me ≡ (all_of seat.old.inner.me.0, [])) }
+    {
+        let bare = self.inner.shared.split_seat::<All>(&mut seat.inner);
+        FamilySeat { inner: bare }
+    }
+
+    /// Joins what a seat with no slots knows of processes into another.
+    pub fn put(&self, seat: &mut FamilySeat<T, V>, bare: FamilySeat<T, V>)
+        requires own { (seat.old.inner.table_id ≡ self.now.inner.shared.table_id)
+            × (bare.inner.table_id ≡ self.now.inner.shared.table_id) }
+        requires some { (ps : List (Process V)) × (seat.old.inner.me.0 ≡ Has ps) }
+        requires bare { (ps : List (Process V)) × (bare.inner.me ≡ (Has ps, [])) }
+        ensures own { (seat.new.inner.table_id ≡ seat.old.inner.table_id) × (seat.new.inner.id ≡ seat.old.inner.id) }
+        ensures joined { seat.new.inner.me ≡ (joined seat.old.inner.me.0 bare.inner.me.0, seat.old.inner.me.1) }
+    {
+        let FamilySeat { inner: bare } = bare;
+        self.inner
+            .shared
+            .join_seat::<Gathers>(&mut seat.inner, bare);
+    }
+
+    /// Joins what another seat knows of processes into this one. The other's slots stay out.
+    pub fn gather(&self, seat: &mut FamilySeat<T, V>, other: FamilySeat<T, V>)
+        requires own { (seat.old.inner.table_id ≡ self.now.inner.shared.table_id)
+            × (other.inner.table_id ≡ self.now.inner.shared.table_id) }
+        requires some { (ps : List (Process V)) × (seat.old.inner.me.0 ≡ Has ps) }
+        requires other { (ps : List (Process V)) × (other.inner.me.0 ≡ Has ps) }
+        ensures own { seat.new.inner.table_id ≡ seat.old.inner.table_id }
+        ensures joined { seat.new.inner.me ≡ (joined seat.old.inner.me.0 other.inner.me.0, seat.old.inner.me.1) }
+    {
+        let mut other = other;
+        let bare = self.lift(&mut other);
+        self.put(seat, bare);
+    }
+
+    /// A load that tells what the processes of a seat have done so far. Nothing changes.
+    fn load_calls<K: Opening<T>>(&self, seat: &mut FamilySeat<T, V>)
+        requires own { seat.old.inner.table_id ≡ self.now.inner.shared.table_id }
+        requires opening { (K.first ≡ self.now.inner.shared.key.first ∷ []) × (K.processes ≡ self.now.inner.shared.key.processes) }
+        ensures own { (seat.new.inner.table_id ≡ seat.old.inner.table_id) × (seat.new.inner.id ≡ seat.old.inner.id) }
+        ensures same { seat.new.inner.me ≡ seat.old.inner.me }
+        ensures shown { (ps : List (Process V)) → seat.old.inner.me.0 ≡ Has ps →
+            AllDone M.blank (M.layout self.now.inner.shared.key.processes) (M.done self.now.inner.shared.key.first) self.now.inner.shared.key.processes ps }
+    {
+        self.inner.shared.load::<Shows<M, K>>(&mut seat.inner, 0);
+    }
+
+    /// Shows what the processes of a seat have done so far. Nothing changes.
+    pub fn so_far(&self, seat: &mut FamilySeat<T, V>)
+        requires own { seat.old.inner.table_id ≡ self.now.inner.shared.table_id }
+        ensures own { (seat.new.inner.table_id ≡ seat.old.inner.table_id) × (seat.new.inner.id ≡ seat.old.inner.id) }
+        ensures same { seat.new.inner.me ≡ seat.old.inner.me }
+        ensures shown { (ps : List (Process V)) → seat.old.inner.me.0 ≡ Has ps →
+            AllDone M.blank (M.layout self.now.inner.shared.key.processes) (M.done self.now.inner.shared.key.first) self.now.inner.shared.key.processes ps }
+    {
+        self.load_calls::<Brand>(seat);
+    }
+
+    /// Frees the table.
+    pub fn close(self, seat: FamilySeat<T, V>)
+        requires { seat.inner.table_id ≡ self.inner.shared.table_id }
+        ensures { (ps : List (Process V)) → seat.inner.me.0 ≡ Has ps →
+            AllDone M.blank (M.layout self.inner.shared.key.processes) (M.done self.inner.shared.key.first) self.inner.shared.key.processes ps }
+    {
+        let Rows { inner: table } = self;
+        let FamilySeat { inner: seat } = seat;
+        empty(table.close_with(seat));
+    }
+
+    /// Copies the record into the slot.
+    #[inline]
+    pub fn fill(&self, seat: &mut FamilySeat<T, V>, slot: usize, item: &T)
+        requires own { seat.old.inner.table_id ≡ self.now.inner.shared.table_id }
+        requires held { (x : T) × (cs : List (ℕ × T)) × (seat.old.inner.me.1 ≡ (slot, x) ∷ cs) }
+        ensures own { seat.new.inner.table_id ≡ seat.old.inner.table_id }
+        ensures filled { (x : T) (cs : List (ℕ × T)) → seat.old.inner.me.1 ≡ (slot, x) ∷ cs →
+            seat.new.inner.me ≡ (seat.old.inner.me.0, (slot, item.now) ∷ cs) }
+    {
+        *seat.inner.slot_mut(&self.inner.shared, slot) = *item;
+    }
+
+    /// Shows the record where it lies.
+    #[inline]
+    pub fn show<L: Sees<T>>(&self, seat: &mut FamilySeat<T, V>, slot: usize, seen: &mut L)
+        requires own { seat.old.inner.table_id ≡ self.now.inner.shared.table_id }
+        requires held { (x : T) × (cs : List (ℕ × T)) × (seat.old.inner.me.1 ≡ (slot, x) ∷ cs) }
+        ensures own { seat.new.inner.table_id ≡ seat.old.inner.table_id }
+        ensures same { seat.new.inner.me ≡ seat.old.inner.me }
+        ensures shown { (item : T) (cs : List (ℕ × T)) → seat.old.inner.me.1 ≡ (slot, item) ∷ cs → L.sees seen.old item seen.new }
+    {
+        seen.see(&*seat.inner.slot_mut(&self.inner.shared, slot));
+    }
+}
