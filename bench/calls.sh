@@ -29,5 +29,10 @@ count() {
     for places; do
         count "$name" write "$places"
         count "$name" read "$places"
+        case $name in
+        *board*) continue ;;
+        triple*) count "$name" hold "$places" ;;
+        esac
+        count "$name" look "$places"
     done
 done

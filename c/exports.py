@@ -1,7 +1,8 @@
-"""The exports of the library for C, made from two texts: for each cell and size of record the same six calls, of a triple buffer one
-more, and for each family and size of a board's record the same five.
+"""What the library for C has once more for each size of record and each cell. The exports: for each cell and size the same six calls, of a
+triple buffer one more, and for each family and size of a board's record the same five. And crates/c_handles/src/pick.rt, which finds
+among the sides that a handle may have the one of a size and of a cell's reader or writer.
 
-    exports.py write     writes crates/c_exports/src/exports.rt and exports/
+    exports.py write     writes them: pick.rt, and crates/c_exports/src/exports.rt and exports/
     exports.py check     compares them, and what c/nidzaru.h declares and c/tests/control.c has, with the text below
 """
 
@@ -11,12 +12,17 @@ import sys
 
 TOP = os.path.dirname(os.path.dirname(os.path.realpath(__file__)))
 EXPORTS = os.path.join(TOP, "crates/c_exports/src/exports")
+# The first line of each file that is made.
+MADE = "// made by c/exports.py\n"
 SIZES = (8, 24, 64, 128, 256, 1024, 4096)
 BOARD_SIZES = (24, 256, 4096)
 CELLS = {
-    "four_slot": {"words": "A four-slot cell", "prefix": "", "specs": "FourSlotCalls", "name": "four_slot", "party": "", "holds": ""},
-    "triple": {"words": "A triple buffer", "prefix": "triple_", "specs": "TripleCalls", "name": "triple", "party": "Triple", "holds": ", at_hand"},
+    "four_slot": {"words": "A four-slot cell", "prefix": "", "specs": "FourSlotCalls", "name": "four_slot", "type": "FourSlot", "party": "", "holds": ""},
+    "triple": {"words": "A triple buffer", "prefix": "triple_", "specs": "TripleCalls", "name": "triple", "type": "Triple", "party": "Triple", "holds": ", at_hand"},
 }
+
+# What each side of a cell does.
+SIDES = {"Writer": "Writes", "Reader": "Reads"}
 
 FAMILIES = {
     "board": {"words": "A board over four-slot cells", "prefix": "", "family": "FourSlot", "variant": "Board"},
@@ -24,8 +30,7 @@ FAMILIES = {
 }
 
 HEAD = """//! The exports: for each cell and size a make, a write, a read, a look and an end of either side, and of a triple buffer a hold; for
-//! each family and size of a board a make, a write, two reads and an end; and the library's version. The files of cells and boards are
-//! made by c/exports.py.
+//! each family and size of a board a make, a write, two reads and an end; and the library's version.
 """
 
 TEXT = """//! {words} with records of {bytes} bytes.
@@ -174,6 +179,127 @@ pub extern "C" fn nidzaru_{prefix}board_{size}_end(alloc: Global, place: &mut Ha
 }}
 """
 
+PICK_HEAD = """//! Which part of a `Side` a call is for: the size by its record, then the cell and the side by the party's type.
+ghost use Rattle.std.specs.Prelude.{{◌≡◌, ◌≢◌, IfSome, IfNone}};
+ghost use Rattle.std.specs.Borrow.{{LendsIf, sem}};
+ghost use Rattle.std.proofs.Common.{{rules}};
+ghost use Rattle.c_handles.specs.declared.side.Side.{{Side}};
+ghost use Rattle.c_handles.specs.declared.side.Party.{{Party}};
+ghost use Rattle.c_handles.specs.declared.side.Side.TheVariants.{{{variants}}};
+ghost use Rattle.c_handles.specs.declared.side.Party.TheVariants.{{{parties}}};
+ghost use Rattle.c_handles.specs.contracts.side.Side as sides;
+ghost use Rattle.c_handles.specs.contracts.side.Party as parties;
+
+use crate::record::{{{records}}};
+use crate::side::{{Party, Side}};
+use c_registers::{{{sides}}};
+
+/// A record of one of the sizes.
+pub trait Record: Copy {{
+    // The side that a party of this size is.
+    ghost side: {{ Party Self → Side }};
+
+    /// The party of this size, if the side is of this size.
+    fn party(among: &mut Side) -> Option<&mut Party<Self>>
+        ensures* writes_back {{ sem 𝓛 (LendsIf sides.the_row (parties.the_row Self.row Self.Clone) among.entry result side among.old) }}
+        ensures some {{ IfSome result (λ p. among.old ≡ side p.now) }}
+        ensures none {{ IfNone result ((p : Party Self) → among.old ≢ side p) }};
+
+    /// The side that the party is.
+    fn into_side(party: Party<Self>) -> Side
+        ensures {{ result ≡ side party }};
+
+    // No other party is the same side.
+    ghost only: {{ (p q : Party Self) → side p ≡ side q → p ≡ q }};
+}}
+"""
+
+PICK_RECORD = """
+impl Record for Record{size} {{
+    ghost side = {{ Of{size} }};
+
+    fn party(among: &mut Side) -> Option<&mut Party<Record{size}>> {{
+        if let Side::Of{size}(party) = among {{
+            Some(party)
+        }} else {{
+            None
+        }}
+    }}
+
+    fn into_side(party: Party<Record{size}>) -> Side
+        ensures {{ result ≡ Of{size} party }}
+    {{
+        Side::Of{size}(party)
+    }}
+
+    ghost only = {{ Prim.search rules }};
+}}
+"""
+
+PICK_ROLES = """
+/// A party of one kind, over records of one type.
+pub trait Role<W: Copy>: Sized + Drop {
+    // The party that it is.
+    ghost party: { Self → Party W };
+
+    /// What the party has, if it is of this kind.
+    fn of(among: &mut Party<W>) -> Option<&mut Self>
+        ensures* writes_back { sem 𝓛 (LendsIf (parties.the_row W.row W.Clone) Self.row among.entry result party among.old) }
+        ensures some { IfSome result (λ s. among.old ≡ party s.now) }
+        ensures none { IfNone result ((s : Self) → among.old ≢ party s) };
+
+    /// The party.
+    fn into_party(self) -> Party<W>
+        ensures { result ≡ party self };
+}
+"""
+
+PICK_ROLE = """
+impl<W: Copy> Role<W> for {side}<W> {{
+    ghost party = {{ {party} }};
+
+    fn of(among: &mut Party<W>) -> Option<&mut {side}<W>> {{
+        if let Party::{party}(side) = among {{
+            Some(side)
+        }} else {{
+            None
+        }}
+    }}
+
+    fn into_party(self) -> Party<W> {{
+        Party::{party}(self)
+    }}
+}}
+"""
+
+PICK = """
+/// The side of one kind and size that lies in `among`, if it is one.
+pub fn pick<'a, W: Record + 'a, S: Role<W> + 'a>(among: &'a mut Side) -> Option<&'a mut S>
+    ensures* writes_back { sem 𝓛 (LendsIf sides.the_row S.row among.entry result (λ s. W.side (S.party s)) among.old) }
+    ensures some { IfSome result (λ s. among.old ≡ W.side (S.party s.now)) }
+    ensures none { IfNone result ((s : S) → among.old ≢ W.side (S.party s)) }
+{
+    match W::party(among) {
+        None => None,
+        Some(party) => S::of(party),
+    }
+}
+"""
+
+PICK_OFFER = """
+impl<W: Record> Offers<{side}<W>> for Side {{
+    ghost side = {{ λ s. W.side ({party} s) }};
+
+    fn of(&mut self) -> Option<&mut {side}<W>> {{
+        pick::<W, {side}<W>>(self)
+    }}
+
+    fn whole(variant: {side}<W>) -> Side {{
+        W::into_side(Party::{party}(variant))
+    }}
+}}
+"""
+
 
 def export(size, cell):
     calls = ("end_reader", "end_writer", *(["hold"] if cell["holds"] else []), "look", "make", "read", "write")
@@ -189,8 +315,29 @@ def board_export(size, family):
     return BOARD_TEXT.format(size=size, bytes=f"{size:,}", names=", ".join(sorted(names)), **family)
 
 
+def pick():
+    """The text of pick.rt."""
+    sides = [(f"{cell['type']}{side}", f"{cell['party']}{does}") for cell in CELLS.values() for side, does in SIDES.items()]
+    head = PICK_HEAD.format(
+        variants=", ".join(f"Of{size}" for size in SIZES),
+        parties=", ".join(party for _, party in sides),
+        records=", ".join(f"Record{size}" for size in SIZES),
+        sides=", ".join(sorted(["Offers", *(side for side, _ in sides)])),
+    )
+    records = [PICK_RECORD.format(size=size) for size in SIZES]
+    roles = [PICK_ROLE.format(side=side, party=party) for side, party in sides]
+    offers = [PICK_OFFER.format(side=side, party=party) for side, party in sides]
+    return "".join([head, *records, PICK_ROLES, *roles, PICK, *offers])
+
+
+def made():
+    """The files by their names below crates/."""
+    files = {f"c_exports/src/{name}": text for name, text in exports().items()}
+    return {name: MADE + text for name, text in {"c_handles/src/pick.rt": pick(), **files}.items()}
+
+
 def exports():
-    """The files by their names below crates/c_exports/src."""
+    """The exports by their names below crates/c_exports/src."""
     files = {
         f"exports/{name}_{size}.rt": export(size, cell)
         for name, cell in CELLS.items()
@@ -219,14 +366,13 @@ def read(*path):
 
 
 def faults():
-    source = os.path.dirname(EXPORTS)
-    files = exports()
+    files = made()
     for name, text in files.items():
-        path = os.path.join(source, name)
-        if not os.path.exists(path) or words(read(path)) != words(text):
-            yield f"crates/c_exports/src/{name} isn't the text of c/exports.py"
-    there = {f"exports/{name}" for name in os.listdir(EXPORTS)} - {"exports/version.rt"}
-    yield from (f"crates/c_exports/src/{name} is made by nothing" for name in sorted(there - set(files)))
+        path = os.path.join(TOP, "crates", name)
+        if not os.path.exists(path) or not read(path).startswith(MADE) or words(read(path)) != words(text):
+            yield f"crates/{name} isn't the text of c/exports.py"
+    there = {f"c_exports/src/exports/{name}" for name in os.listdir(EXPORTS) if name != "version.rt"}
+    yield from (f"crates/{name} is made by nothing" for name in sorted(there - set(files)))
     cells = [f"{cell['prefix']}{size}" for cell in CELLS.values() for size in SIZES]
     held = [f"{cell['prefix']}{size}" for cell in CELLS.values() for size in SIZES if cell["holds"]]
     if re.findall(r"^NIDZARU_DECLARE_HOLD\((\w+)\)", read(TOP, "c/nidzaru.h"), re.M) != held:
@@ -244,12 +390,12 @@ def faults():
 
 
 if sys.argv[1:] == ["write"]:
-    for name, text in exports().items():
-        with open(os.path.join(os.path.dirname(EXPORTS), name), "w", encoding="utf-8") as file:
+    for name, text in made().items():
+        with open(os.path.join(TOP, "crates", name), "w", encoding="utf-8") as file:
             file.write(text)
 elif sys.argv[1:] == ["check"]:
     found = list(faults())
-    print("\n".join(found) or f"{(6 * len(CELLS) + 1) * len(SIZES)} exports of {len(CELLS) * len(SIZES)} cells, {5 * len(boards())} of {len(boards())} boards")
+    print("\n".join(found) or f"pick.rt, {(6 * len(CELLS) + 1) * len(SIZES)} exports of {len(CELLS) * len(SIZES)} cells, {5 * len(boards())} of {len(boards())} boards")
     sys.exit(1 if found else 0)
 else:
     sys.exit(__doc__)

@@ -70,6 +70,25 @@ test_shared_object() {
     fi
 }
 
+# Whether an object says that it keeps to Intel's CET: indirect branches that are tracked, or a shadow stack.
+claims_cet() {
+    readelf --notes "$1" | grep -q 'IBT\|SHSTK'
+}
+
+# The library, which isn't made for it, says nothing of it, and an object that does is seen.
+test_cet() {
+    name="the library says nothing of Intel's CET"
+    if claims_cet "$installed/lib/libnidzaru.a"; then
+        fail "$name" "it says that it keeps to it"
+    elif ! cc -fcf-protection=full -c c/tests/inside.c $flags -o "$room/inside.o" >"$room/built" 2>&1; then
+        fail "$name" "no object that does was built: $(head -n 3 "$room/built" | tr '\n' ' ')"
+    elif claims_cet "$room/inside.o"; then
+        pass "$name"
+    else
+        fail "$name" "nor does an object that is made for it"
+    fi
+}
+
 test_in_c() {
     wants=passed
     run_here "c/tests/test.c ($c)" "$c" -std=c11 -D_GNU_SOURCE $strict -O2 c/tests/test.c $flags -o "$room/program"
@@ -190,6 +209,7 @@ else
         take_over "c/tests/refused.py"
     done
     test_packages
+    test_cet
     c/tests/sanitize.sh 500 "$installed/lib/libnidzaru.a" >"$room/watched" 2>&1
     sed '$d' "$room/watched"
     take_counts "$room/watched" "c/tests/sanitize.sh"

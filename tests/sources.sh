@@ -135,7 +135,7 @@ is_listed crates/family_triple/src/table.rt kinds
 
 # Elsewhere only what a rule and its kinds of step are made of is taken from `atomic_table`, and what a closed table leaves.
 tables='crates/cell_four_slot/src/table.rt crates/cell_triple/src/table.rt crates/family_four_slot/src/table.rt crates/family_triple/src/table.rt'
-tabled='cell_live cell_four_slot cell_triple family_four_slot family_triple'
+tabled='cell_live cell_four_slot cell_triple family_table family_four_slot family_triple'
 
 # Prints what touches a table in the tree of this folder, beside the files of $tables: they are left out by their whole paths.
 touches_in() {

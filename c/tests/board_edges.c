@@ -26,6 +26,11 @@ static const calls *board_of(size_t size, int triple) {
     return 0;
 }
 
+/* A record is passed where it lies only if it fills the library's and is aligned to 8. */
+NIDZARU_ASSERT(NIDZARU_WATCHED || (NIDZARU_BOARD_PASSES(24, 8) && NIDZARU_BOARD_PASSES(4096, 64)), "records that are passed where they lie");
+NIDZARU_ASSERT(!NIDZARU_BOARD_PASSES(24, 4) && !NIDZARU_BOARD_PASSES(8, 8) && !NIDZARU_BOARD_PASSES(256, 1) && !NIDZARU_BOARD_PASSES(64, 8),
+               "records that are copied");
+
 static int is_stamp(nidzaru_stamp s, uint64_t tag, uint64_t writer) { return s.tag == tag && s.writer == writer; }
 
 /* Of all the library's calls just those of one family and size know this place, and what they give is the record with zeros behind it. */

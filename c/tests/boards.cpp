@@ -219,8 +219,49 @@ template <class T> struct guarded {
     std::uint64_t behind = 0x1234;
 };
 
+#if __cplusplus >= 202002L
+// A final class and a union that leave room for a neighbour behind what they have.
+class closed final {
+    double low = 0, high = 0;
+    std::int32_t serial = 0;
+
+  public:
+    closed() = default;
+    explicit closed(std::int32_t n) : low(-n), high(n), serial(n) {}
+    bool is(std::int32_t n) const { return low == -n && high == n && serial == n; }
+};
+union loose {
+    char text[20];
+    std::uint64_t number;
+    loose() : text() {}
+    explicit loose(std::int32_t n) : text() { std::memcpy(text + 16, &n, sizeof n); }
+    bool is(std::int32_t n) const { return std::memcmp(text + 16, &n, sizeof n) == 0; }
+};
+template <class T> struct beside {
+    [[no_unique_address]] T x;
+    std::int32_t kept = 42;
+};
+static_assert(sizeof(beside<closed>) == 24 && sizeof(closed) == 24, "the neighbour of a final class lies in its tail");
+static_assert(sizeof(beside<loose>) == 24 && sizeof(loose) == 24, "the neighbour of a union lies in its tail");
+
+template <class T, cell C> void neighbours() {
+    stamp given;
+    std::uint64_t number = 0;
+    beside<T> b;
+    auto places = nidzaru::make_board<2, C>(T(1));
+    check(!places[0].read(b.x, given) && b.x.is(1) && b.kept == 42, "what lies in a tail stays");
+    check(!places[0].write(T(2), given) && !places[1].read_since(given, b.x, given) && b.x.is(2) && b.kept == 42, "and since a stamp");
+    auto [w, r] = nidzaru::make<T, C>(T(3));
+    check(!r.read(b.x, number) && b.x.is(3) && b.kept == 42, "and by a register's read");
+}
+#endif
+
 template <cell C> void odd_records() {
     stamp given;
+#if __cplusplus >= 202002L
+    neighbours<closed, C>();
+    neighbours<loose, C>();
+#endif
     {
         auto places = nidzaru::make_board<2, C>(base(1));
         derived d;

@@ -38,6 +38,20 @@ static int sum(const void *bytes, size_t count) {
 REGISTER(wholes, struct whole)
 REGISTER(parts, struct part)
 
+/* What a hold gives, where it lies. */
+NIDZARU_HOLD(parts);
+static int held_filled(void) {
+    parts_writer w = NIDZARU_EMPTY;
+    parts_reader r = NIDZARU_EMPTY;
+    struct part first = {{1, 2, 3}};
+    const struct part *at;
+    uint64_t n;
+    int odd;
+    if (parts_make(&first, &w, &r) || parts_write(&w, &first) || parts_hold(&r, &at, &n)) return -1;
+    odd = sum(&at, sizeof at) + sum(at, sizeof *at) + sum(&n, sizeof n) + sum(&r.handle, sizeof r.handle);
+    return parts_end_writer(&w) || parts_end_reader(&r) ? -1 : odd;
+}
+
 #define BOARD(name, type)                                                                                             \
     static int name##_filled(void) {                                                                                  \
         name##_place p[2] = {NIDZARU_EMPTY, NIDZARU_EMPTY};                                                           \
@@ -56,7 +70,7 @@ BOARD(part_boards, struct part)
 int main(int count, char **words) {
     int wrong = count != 2;
     if (!wrong && !strcmp(words[1], "refused")) wrong = wholes_filled(1) >= 0;
-    else wrong |= wholes_filled(0) < 0 || parts_filled(0) < 0 || whole_boards_filled() < 0 || part_boards_filled() < 0;
+    else wrong |= wholes_filled(0) < 0 || parts_filled(0) < 0 || held_filled() < 0 || whole_boards_filled() < 0 || part_boards_filled() < 0;
     puts(wrong ? "FAILED" : "passed");
     return wrong;
 }

@@ -1,11 +1,12 @@
 /* Held reads of a triple buffer: the address leads to the whole record, with its number, and what lies there stays until the reader's
- * next call, however much is written meanwhile. */
+ * next call, however much is written meanwhile. usage: held [WRITES] */
 #include "nidzaru.h"
 #include <pthread.h>
+#include <sched.h>
 #include <stdio.h>
+#include <stdlib.h>
 
-enum { WRITES = 200000 };
-
+static uint64_t writes = 200000;
 static int failed;
 
 static void check(int holds, const char *name, const char *what) {
@@ -101,13 +102,20 @@ NIDZARU_HOLD(pages);
 
 static pages_writer page_writer;
 
+/* How many records the reader has met. The writer waits for two of them, by what orders nothing that ThreadSanitizer knows of. */
+static int met;
+static void wait_until_met(int count) {
+    while (__atomic_load_n(&met, __ATOMIC_RELAXED) < count && !__atomic_load_n(&failed, __ATOMIC_RELAXED)) sched_yield();
+}
+
 static void *write_pages(void *unused) {
     static struct page page;
     uint64_t n;
     int i;
-    for (n = 1; n <= WRITES; n++) {
+    for (n = 1; n <= writes; n++) {
         for (i = 0; i < 512; i++) page.words[i] = n;
         if (pages_write(&page_writer, &page)) break;
+        if (n == 1 || n == writes / 2) wait_until_met(n == 1 ? 1 : 2);
     }
     return unused;
 }
@@ -123,23 +131,24 @@ static void test_threads(void) {
     static struct page opening;
     static pages_reader reader;
     const struct page *at = 0;
-    uint64_t number = 0, last = 0, news = 0;
+    uint64_t number = 0, last = 0;
     pthread_t thread;
     check(!pages_make(&opening, &page_writer, &reader), "threads", "make");
     check(!pthread_create(&thread, 0, write_pages, 0), "threads", "start");
-    while (number < WRITES && !failed) {
+    while (number < writes && !failed) {
         check(!pages_hold(&reader, &at, &number), "threads", "hold");
         check(number >= last, "threads", "a number fell");
         check(is_page(at, number) && is_page(at, number), "threads", "a held record changed");
-        news += number > last;
+        if (number > last) __atomic_fetch_add(&met, 1, __ATOMIC_RELAXED);
         last = number;
     }
     check(!pthread_join(thread, 0), "threads", "join");
-    check(news > 1, "threads", "no two records were met");
+    check(met > 1, "threads", "no two records were met");
     check(!pages_end_writer(&page_writer) && !pages_end_reader(&reader), "threads", "ends");
 }
 
-int main(void) {
+int main(int count, char **words) {
+    if (count > 1) writes = strtoull(words[1], 0, 10);
     test_byte();
     test_of8();
     test_of24();
@@ -150,6 +159,6 @@ int main(void) {
     test_of4096();
     test_four_slots();
     test_threads();
-    if (!failed) puts("passed");
+    puts(failed ? "FAILED" : "passed");
     return failed != 0;
 }

@@ -1,5 +1,5 @@
-/* Under ThreadSanitizer. Pairs of a plain store and a plain load in two threads whose only order is one call: a read, a look, news, or a
- * board's read, of a register or board whose handles were moved or not. In one half of the pairs the write stands still behind the library's
+/* Under ThreadSanitizer. Pairs of a plain store and a plain load in two threads whose only order is one call: a read, a look, news, a hold,
+ * or a board's read, of a register or board whose handles were moved or not. In one half of the pairs the write stands still behind the library's
  * own call, until the other thread has read and loaded; in the other half the read stands still before it, until the other thread has stored
  * and written. So an order that is told after the write, or looked for before the read, is a race in each run.
  * usage: pairs clean       nothing is to be reported
@@ -11,9 +11,11 @@
 #include <stdio.h>
 
 NIDZARU_REGISTER(cells, uint64_t);
+NIDZARU_TRIPLE_REGISTER(loans, uint64_t);
+NIDZARU_HOLD(loans);
 NIDZARU_BOARD(boards, uint64_t);
 
-enum call { READ, LOOK, NEWS, BOARD_READ, BOARD_READ_SINCE, BOARD_NEWS, CALLS, NONE };
+enum call { READ, LOOK, NEWS, HOLD, BOARD_READ, BOARD_READ_SINCE, BOARD_NEWS, CALLS, NONE };
 enum { ROUNDS = 8 };
 
 /* The pair that runs now. */
@@ -22,6 +24,8 @@ static int waits_before_read, *at, wrong;
 static int shared[CALLS * ROUNDS + 1];
 static cells_writer writer;
 static cells_reader reader;
+static loans_writer lender;
+static loans_reader holder;
 static boards_place places[2];
 
 /* Steps that order nothing that ThreadSanitizer knows of, and a call of the library that stands still between them, once. */
@@ -54,6 +58,8 @@ static void stand_still(int before_read) {
 WRITES(8_write, (nidzaru_side *s, const void *x), (s, x))
 READS(8_read, (nidzaru_side *s, void *x, uint64_t *n), (s, x, n))
 READS(8_look, (nidzaru_side *s, uint64_t *n), (s, n))
+WRITES(triple_8_write, (nidzaru_side *s, const void *x), (s, x))
+READS(triple_8_look, (nidzaru_side *s, uint64_t *n), (s, n))
 WRITES(board_24_write, (nidzaru_side *s, const void *x, nidzaru_stamp *n), (s, x, n))
 READS(board_24_read, (nidzaru_side *s, void *x, nidzaru_stamp *n), (s, x, n))
 READS(board_24_read_since, (nidzaru_side *s, const nidzaru_stamp *l, void *x, nidzaru_stamp *n), (s, l, x, n))
@@ -63,7 +69,9 @@ static void *store_and_write(void *unused) {
     nidzaru_stamp given;
     if (waits_before_read) wait_for(1);
     *at = 1;
-    wrong |= call < BOARD_READ ? cells_write(&writer, &item) : boards_write(&places[0], &item, &given);
+    wrong |= call == HOLD ? loans_write(&lender, &item)
+             : call < HOLD ? cells_write(&writer, &item)
+                           : boards_write(&places[0], &item, &given);
     if (waits_before_read || call == NONE) reach(2);
     return unused;
 }
@@ -73,10 +81,12 @@ static int read_it(void) {
     const nidzaru_stamp least = {1, 0};
     nidzaru_stamp given = {0, 0};
     uint64_t item = 0, number = 0;
+    const uint64_t *at = &item;
     switch (call) {
     case READ: return cells_read(&reader, &item, &number) || number != 1 || item != 7;
     case LOOK: return cells_look(&reader, &number) || number != 1;
     case NEWS: return cells_news(&reader, &item, &number) || number != 1 || item != 7;
+    case HOLD: return loans_hold(&holder, &at, &number) || number != 1 || *at != 7;
     case BOARD_READ: return boards_read(&places[1], &item, &given) || given.tag != 1 || item != 7;
     case BOARD_READ_SINCE: return boards_read_since(&places[1], least, &item, &given) || given.tag != 1 || item != 7;
     case BOARD_NEWS: return boards_news(&places[1], &item, &given) || given.tag != 1 || item != 7;
@@ -99,16 +109,23 @@ static void *read_and_load(void *unused) {
 static int make(int moved) {
     static const cells_writer no_writer = NIDZARU_EMPTY;
     static const cells_reader no_reader = NIDZARU_EMPTY;
+    static const loans_writer no_lender = NIDZARU_EMPTY;
+    static const loans_reader no_holder = NIDZARU_EMPTY;
     static const boards_place no_place = NIDZARU_EMPTY;
     cells_writer w = no_writer;
     cells_reader r = no_reader;
+    loans_writer v = no_lender;
+    loans_reader q = no_holder;
     boards_place p[2] = {NIDZARU_EMPTY, NIDZARU_EMPTY};
     const uint64_t opening = 0;
     writer = no_writer;
     reader = no_reader;
+    lender = no_lender;
+    holder = no_holder;
     places[0] = places[1] = no_place;
-    if (!moved) return cells_make(&opening, &writer, &reader) || boards_make(&opening, places, 2);
-    return cells_make(&opening, &w, &r) || boards_make(&opening, p, 2) || cells_move_writer(&writer, &w) || cells_move_reader(&reader, &r)
+    if (!moved) return cells_make(&opening, &writer, &reader) || loans_make(&opening, &lender, &holder) || boards_make(&opening, places, 2);
+    return cells_make(&opening, &w, &r) || loans_make(&opening, &v, &q) || boards_make(&opening, p, 2) || cells_move_writer(&writer, &w)
+           || cells_move_reader(&reader, &r) || loans_move_writer(&lender, &v) || loans_move_reader(&holder, &q)
            || boards_move(&places[0], &p[0]) || boards_move(&places[1], &p[1]);
 }
 
@@ -125,8 +142,8 @@ static int run(int round) {
     pthread_create(&b, 0, read_and_load, 0);
     pthread_join(a, &one);
     pthread_join(b, &two);
-    return unmade || one || two || wrong || cells_end_writer(&writer) || cells_end_reader(&reader) || boards_end(&places[0])
-           || boards_end(&places[1]);
+    return unmade || one || two || wrong || cells_end_writer(&writer) || cells_end_reader(&reader) || loans_end_writer(&lender)
+           || loans_end_reader(&holder) || boards_end(&places[0]) || boards_end(&places[1]);
 }
 
 int main(int count, char **words) {

@@ -22,7 +22,7 @@ sys.path.insert(0, HERE)
 import refused  # noqa: E402
 
 MEMORY = ["malloc", "realloc", "free"]
-PAUSED = ["8_write", "8_read", "8_look", "board_24_write", "board_24_read", "board_24_read_since"]
+PAUSED = ["8_write", "8_read", "8_look", "triple_8_write", "triple_8_look", "board_24_write", "board_24_read", "board_24_read_since"]
 PAUSED_RUST = [name.replace("8_", "24_") for name in PAUSED]
 PASSED = [f"{cell}{call}" for cell in ("24_", "triple_24_", "board_24_", "triple_board_24_") for call in ("make", "write")]
 
@@ -41,6 +41,7 @@ PROGRAMS = {
     "edges": (C11, "edges.c", [], wraps(MEMORY)),
     "boards": (C11, "boards.c", ["20"], wraps(MEMORY)),
     "board_edges": (C11, "board_edges.c", [], wraps(MEMORY)),
+    "held": (C11, "held.c", ["2000"], []),
     "test.cpp": (CPP17, "test.cpp", ["300"], wraps(MEMORY)),
     "objects": (CPP17, "boards.cpp", ["20"], wraps(MEMORY)),
     "objects, C++20": (CPP20, "boards.cpp", ["20"], wraps(MEMORY)),
@@ -64,7 +65,15 @@ B_SINCE = (
 )
 B_NEWS = B_SINCE.replace("_read_since(name##_place *place, nidzaru_stamp least,", "_news(name##_place *place,")
 B_END = "int name##_end(name##_place *place) { if (!place) return NIDZARU_NULL; "
-NO_CHECK = "NIDZARU_CHECKED int name##_{0}(", "NIDZARU_INLINE int name##_{0}("
+NO_CHECK = "NIDZARU_CHECKED int name##_{0}", "NIDZARU_INLINE int name##_{0}"
+# The calls whose status the compiler sees to, and how their functions begin.
+STATUSES = [
+    *[(call, f"{call}(") for call in ("look", "hold", "move_writer", "move_reader", "make_limited", "read_since", "move")],
+    ("make", "make(const name##_record *first, name##_writer"),
+    *[(call, f"{call}(name##_{side}") for call, side in (("write", "writer"), ("read", "reader"), ("news", "reader"))],
+    ("a board's make", "make(const name##_record *first, name##_place"),
+    *[(f"a board's {call}", f"{call}(name##_place") for call in ("write", "read", "news")],
+]
 
 
 def after_write(handle, arguments):
@@ -107,8 +116,13 @@ HEADER = [
         "#define NIDZARU_CHECKED NIDZARU_INLINE",
         "refused statuses c",
     ),
-    *[(f"the status of {call}", NO_CHECK[0].format(call), NO_CHECK[1].format(call), "refused statuses c")
-      for call in ("look", "move_writer", "make_limited", "read_since", "move")],
+    *[(f"the status of {call}", NO_CHECK[0].format(begins), NO_CHECK[1].format(begins), "refused statuses c") for call, begins in STATUSES],
+    (
+        "a wide record that is held",
+        'NIDZARU_ASSERT(NIDZARU_ALIGNMENT(name##_record) <= 8, "a record that is read',
+        'NIDZARU_ASSERT(NIDZARU_ALIGNMENT(name##_record) <= 16, "a record that is read',
+        "refused records c",
+    ),
     (
         "a writer in a reader's handle",
         "(name##_reader *to, name##_reader *from)",
@@ -136,6 +150,40 @@ HEADER = [
         "edges",
         "records that are copied",
     ),
+    (
+        "records of a board aligned to 4 where they lie",
+        "(size) == NIDZARU_BOARD_SIZE(size) && (alignment) >= 8)",
+        "(size) == NIDZARU_BOARD_SIZE(size) && (alignment) >= 4)",
+        "board_edges",
+        "records that are copied",
+    ),
+    *[(f"{name} over four slots", f"(name, type) {functions}(name, type, 1)", f"(name, type) {functions}(name, type, 0)", test)
+      for name, functions, test in (
+          ("triple buffers", "NIDZARU_FUNCTIONS", "edges"),
+          ("a board of triple buffers", "NIDZARU_BOARD_FUNCTIONS", "board_edges"))],
+    (
+        "a hold without a look",
+        "status = NIDZARU_PICK(1, size, look, (&r->side, &given)); if (!status) status = nidzaru_pick_hold",
+        "status = nidzaru_pick_hold",
+        "held",
+    ),
+    (
+        "a hold that looks alone",
+        "if (!status) status = nidzaru_pick_hold(size, &r->side, &held);",
+        "",
+        "held",
+    ),
+    ("a hold of another size", "size == 64 ? nidzaru_triple_64_hold(side, at)", "size == 64 ? nidzaru_triple_24_hold(side, at)", "held"),
+    ("a hold without its number", "*at = held; *number = given;", "*at = held;", "held"),
+    ("a held record of a refused call", "if (!status) *at = NIDZARU_TO(const name##_record *, held);",
+     "*at = NIDZARU_TO(const name##_record *, held);", "held"),
+    (
+        "a copied reader holds",
+        COPIED.format("reader") + " status = nidzaru_sized_hold(",
+        "status = nidzaru_sized_hold(",
+        "held",
+    ),
+    ("a hold at no address", "if (!reader || !at || !number) return", "if (!reader || !number) return", "held"),
     ("no handle is a copy", "handle->side.live && handle->home != handle", "handle->side.live && !handle->home", "calls"),
     ("an empty handle is a copy", "return handle->side.live && handle->home != handle", "return handle->home != handle", "calls"),
     ("a copied writer", WRITE + COPIED.format("writer"), WRITE, "edges"),
@@ -220,13 +268,17 @@ HEADER = [
         "sizeof(type)); return nidzaru_sized_board_write(",
         "calls",
     ),
-    (
-        "a tail that isn't zeros",
-        "/ 8] = {0}; memcpy(words, NIDZARU_TO(const void *, item), sizeof(name##_record)); return nidzaru_sized_write(",
-        "/ 8]; memset(words, 1, sizeof words); memcpy(words, NIDZARU_TO(const void *, item), "
-        "sizeof(name##_record)); return nidzaru_sized_write(",
-        "passed",
-    ),
+    *[(f"a tail that isn't zeros, of {what}",
+       f"/ 8] = {{0}};{before} memcpy(words, NIDZARU_TO(const void *, {record}), sizeof(name##_record)); return nidzaru_sized_{call}(",
+       f"/ 8]; memset(words, 1, sizeof words);{before} memcpy(words, NIDZARU_TO(const void *, {record}), sizeof(name##_record)); "
+       f"return nidzaru_sized_{call}(", "passed")
+      for what, record, call, before in (
+          ("a write", "item", "write", ""),
+          ("a board's write", "item", "board_write", ""),
+          ("an opening", "first", "make", " if (!first || !writer || !reader) return NIDZARU_NULL;"),
+          ("a board's opening", "first", "board_make",
+           " nidzaru_handle *handles[16] = {NIDZARU_NOWHERE}; size_t i; if (!first || !places) return NIDZARU_NULL; "
+           "for (i = 0; i < count && i < 16; i++) handles[i] = &places[i].handle;"))],
     (
         "a base read where it lies",
         "#define NIDZARU_IN_PLACE(type) (NIDZARU_PASSES(sizeof(type), alignof(type)) && "
@@ -240,6 +292,12 @@ HEADER = [
         "NIDZARU_BOARD_PASSES(sizeof(type), alignof(type))",
         "objects",
     ),
+    (
+        "a final class has its tail for itself",
+        "template <class T, bool derivable> struct probe { enum { shares = true };",
+        "template <class T, bool derivable> struct probe { enum { shares = false };",
+        "objects, C++20",
+    ),
     ("nothing has a tail of others", "enum { value = (__is_class(T) ||", "enum { value = 0 && (__is_class(T) ||", "objects"),
     (
         "a release that isn't asked for",
@@ -252,6 +310,12 @@ HEADER = [
     ("an order told after a board's write", *after_write("place", "(&place->side, item, &given)"), "pairs"),
     ("an order looked for before a read", *before_read("r", "read", "(&r->side, item, &given)"), "pairs"),
     ("an order looked for before a look", *before_read("r", "look", "(&r->side, number)"), "pairs"),
+    (
+        "an order looked for before a hold",
+        "status = NIDZARU_PICK(1, size, look, (&r->side, &given)); if (!status) status = nidzaru_pick_hold(size, &r->side, &held); nidzaru_see(r);",
+        "nidzaru_see(r); status = NIDZARU_PICK(1, size, look, (&r->side, &given)); if (!status) status = nidzaru_pick_hold(size, &r->side, &held);",
+        "pairs",
+    ),
     ("an order looked for before a board's read", *before_read("place", "read", "(&place->side, item, &given)"), "pairs"),
     ("an order looked for before read_since", *before_read("place", "read_since", "(&place->side, &least, item, stamp)"), "pairs"),
     ("an order that stays behind", "to->order = from->order;", "to->order = NIDZARU_NOWHERE;", "pairs"),
@@ -264,6 +328,7 @@ HEADER = [
         "NIDZARU_FILLED(&given, sizeof given); *number = given;",
         "filled",
     ),
+    ("a hold that counts as unfilled", "NIDZARU_FILLED(held, size);", "", "filled"),
     ("a look that counts as unfilled", "if (!status) NIDZARU_FILLED(number, sizeof *number);", "", "filled"),
     (
         "a board's read that counts as unfilled",
@@ -294,6 +359,9 @@ CLASSES = [
         "objects",
         "readers move",
     ),
+    *[(f"a copyable {kind}", f"{kind}({kind} &&) = default;",
+       f"{kind}({kind} &&) = default; {kind}(const {kind} &from) : side() {{ take(const_cast<{kind} &>(from)); }}", "objects", f"{kind}s move")
+      for kind in ("writer", "place")],
     *[(f"an assigned {kind} without what it saw", member(kind) + " last = from.last;", member(kind), test)
       for kind, test in (("reader", "test.cpp"), ("place", "objects"))],
     ("empty places where memory is refused", "if (status) throw std::bad_alloc();", "", "objects"),
@@ -323,6 +391,11 @@ CLASSES = [
         "copy.words);",
         "objects",
     ),
+    *[(f"the last stamp of {what}", f"&handle, {at}, &last);{more}", f"&handle, {at}, &given);{more}", "objects") for what, at, more in (
+        ("a write", "std::addressof(item)", " } else { record copy(item); status = nidzaru_sized_board_write("),
+        ("a copied write", "copy.words", " } if (!status) given = last; return status; } // Gives one whole record, and then its stamp"),
+        ("a read", "std::addressof(item)", " } else { record copy; status = nidzaru_sized_board_read("),
+        ("a copied read", "copy.words", " if (!status) detail::give(std::addressof(item), copy.words); } if (!status) given = last;"))],
     (
         "the last stamp of latest",
         "if (nidzaru_sized_board_read(record::triple, record::size, &handle, copy.words, &last)) return std::nullopt;",
@@ -341,13 +414,48 @@ CLASSES = [
     ("a class's old news", "return !look(number) && number > last;", "return !look(number) && number >= last;", "objects"),
     ("a place's old news", "return last > before ? item", "return last >= before ? item", "objects"),
     ("a place that always has news", "copy.words, &given) && given > last;", "copy.words, &given) && given >= last;", "objects"),
+    ("a member that isn't initialized", "friend struct detail::board_making; stamp last = {};", "friend struct detail::board_making; stamp last;",
+     "refused strict C++17 c++"),
+    ("stamps: ==", "nidzaru_stamp_compare(a, b) == 0", "a.tag == b.tag", "objects"),
+    ("stamps: !=", "nidzaru_stamp_compare(a, b) != 0", "a.tag != b.tag", "objects"),
+    ("stamps: <", "nidzaru_stamp_compare(a, b) < 0", "nidzaru_stamp_compare(a, b) <= 0", "objects"),
+    ("stamps: >", "nidzaru_stamp_compare(a, b) > 0", "nidzaru_stamp_compare(a, b) >= 0", "objects"),
     ("stamps: <=", "nidzaru_stamp_compare(a, b) <= 0", "nidzaru_stamp_compare(a, b) < 0", "objects"),
     ("stamps: >=", "nidzaru_stamp_compare(a, b) >= 0", "nidzaru_stamp_compare(a, b) > 0", "objects"),
     ("stamps: <=>", "return order <=> same;", "return same <=> order;", "objects, C++20"),
     ("a side that is always there", "return handle.side.live != 0;", "return true;", "objects"),
     ("a side as a number", "explicit operator bool()", "operator bool()", "refused calls c++"),
     *[(f"the answer of {call}", f"[[nodiscard]] {call}", call, "refused calls c++") for call in (
-        "int write(const T &item) noexcept", "int read_since(", "int look(", "stamp last_stamp()", "std::uint64_t number() const")],
+        "explicit operator bool()", "int write(const T &item) noexcept", "int read(T &item, std::uint64_t", "int look(", "const T *hold()",
+        "std::optional<T> latest() noexcept { record copy; if (nidzaru_sized_read(", "std::optional<T> news() noexcept { return has_news()",
+        "bool has_news() noexcept { std::uint64_t", "std::uint64_t number() const",
+        "int write(const T &item, stamp", "int read(T &item, stamp", "int read_since(",
+        "std::optional<T> latest() noexcept { record copy; if (nidzaru_sized_board_read(",
+        "std::optional<T> news() noexcept { const stamp before", "bool has_news() noexcept { record copy;", "stamp last_stamp()",
+        "sides<T, C> make(", "sides<T> make(", "sides<T, cell::triple> make_triple(", "std::optional<sides<T>> try_make(",
+        "std::optional<sides<T, cell::triple>> try_make_triple(", "std::optional<places<T, N, C>> try_make_board(",
+        "places<T, N, C> make_board(")],
+    (
+        "a wide record that a class holds",
+        'static_assert(alignof(T) <= 8, "a record that is read',
+        'static_assert(alignof(T) <= 16, "a record that is read',
+        "refused records c++",
+    ),
+    ("a hold of four slots", "static_assert(C == cell::triple, ", "static_assert(true, ", "refused records c++"),
+    (
+        "a held record that is changed",
+        "const T *hold() noexcept {",
+        "T *hold() noexcept { return const_cast<T *>(hold_it()); } const T *hold_it() noexcept {",
+        "refused calls c++",
+    ),
+    (
+        "a class's hold without its number",
+        "if (nidzaru_sized_hold(record::size, &handle, &at, &last)) return nullptr;",
+        "std::uint64_t given; if (nidzaru_sized_hold(record::size, &handle, &at, &given)) return nullptr;",
+        "test.cpp",
+    ),
+    ("a hold of a reader without a side", "if (nidzaru_sized_hold(record::size, &handle, &at, &last)) return nullptr;",
+     "static const T none{}; at = &none; (void)nidzaru_sized_hold(record::size, &handle, &at, &last);", "test.cpp"),
     (
         "a class's make beside the user's",
         "return nidzaru::make<T, cell::four_slot>(first);",
@@ -374,14 +482,35 @@ CRATE = [
     ("a writer of shorter lifetimes", LIB, "of: PhantomData<(fn(T), M)>", "of: PhantomData<(fn() -> T, M)>", "doc Writer"),
     ("a reader of longer lifetimes", LIB, "of: PhantomData<(fn() -> T, M)>", "of: PhantomData<(fn(T), M)>", "doc Reader"),
     ("a place of shorter lifetimes", BOARDS, "of: PhantomData<(fn(T) -> T, M)>", "of: PhantomData<(fn() -> T, M)>", "doc Place"),
+    ("a place of longer lifetimes", BOARDS, "of: PhantomData<(fn(T) -> T, M)>", "of: PhantomData<(fn(T), M)>", "doc Place"),
     ("a mechanism of one's own", LIB, "pub trait Mechanism: sealed::Sealed + Send", "pub trait Mechanism: Send", "doc IsSealed"),
+    *[(f"a {what} that is shared", RAW, f"unsafe impl Send for {side} {{}}",
+       f"unsafe impl Send for {side} {{}} unsafe impl Sync for {side} {{}}", f"doc {name}")
+      for what, side, name in (("writer", "WritingSide", "Writer"), ("reader", "ReadingSide", "Reader"), ("place", "BoardPlace", "Place"))],
+    *[(f"an end of {what} that release builds don't look at", RAW,
+       f"fn drop(&mut self) {{ {note} let status = ignore(|| unsafe {{ (self.end)(&mut self.side) }}); assert_eq!(",
+       "fn drop(&mut self) { let status = ignore(|| unsafe { (self.end)(&mut self.side) }); debug_assert_eq!(", "lib --release")
+      for what, note in (
+          ("a writer", "// The side is live, and is not used again."),
+          ("a reader", "// As above."),
+          ("a place", "// The place is live, and is not used again."))],
     (
-        "a writer that is shared",
+        "a wide record that is held",
         RAW,
-        "unsafe impl Send for WritingSide {}",
-        "unsafe impl Send for WritingSide {} unsafe impl Sync for WritingSide {}",
-        "doc Writer",
+        "const { assert!(align_of::<T>() <= 8, ",
+        "const { assert!(align_of::<T>() <= 16, ",
+        "doc Reader",
     ),
+    (
+        "a hold without a look",
+        RAW,
+        "match (calls.look)(&mut reader.side, &mut number) { DONE => hold_for(calls.size)(&mut reader.side, &mut at), status => status, }",
+        "hold_for(calls.size)(&mut reader.side, &mut at)",
+        "test calls",
+    ),
+    ("a hold that looks alone", RAW, "DONE => hold_for(calls.size)(&mut reader.side, &mut at),", "DONE => DONE,", "test calls"),
+    ("a hold without its number", LIB, "self.last = number; item } } impl", "let _ = number; item } } impl", "test calls"),
+    ("a hold of another size", RAW, "64 => nidzaru_triple_64_hold,", "64 => nidzaru_triple_24_hold,", "test calls"),
     (
         "a place that goes without an end",
         RAW,
@@ -451,7 +580,7 @@ CRATE = [
           ("a read", "reader.order.see(||", "read", "&mut reader.side, item.as_mut_ptr()"),
           ("a read into place", "reader.order.see(||", "read", "&mut reader.side, ptr::from_mut(item)"),
           ("a copied read", "reader.order.see(||", "read", "&mut reader.side, words.as_mut_ptr()"),
-          ("a look", "reader.order.see(||", "look", "&mut reader.side"),
+          ("a look", "reader.order.see(||", "look", "&mut reader.side, &mut number) }));"),
           ("a place's write", "place.order.show(||", "write", "&mut place.side, ptr::from_ref(item)"),
           ("a place's copied write", "place.order.show(||", "write", "&mut place.side, words.as_ptr()"),
           ("a place's read", "place.order.see(||", "read", "&mut place.side, item.as_mut_ptr()"),
@@ -459,6 +588,7 @@ CRATE = [
           ("a place's copied read", "place.order.see(||", "read", "&mut place.side, words.as_mut_ptr()"),
           ("a place's read_since", "place.order.see(||", "read_since", "&mut place.side"),
       )],
+    ("no order by a hold", RAW, "reader.order.see(|| unsafe { match (calls.look)", "ignore(|| unsafe { match (calls.look)", "races"),
 ]
 
 
@@ -546,7 +676,7 @@ class Room:
 
     def cargo(self, words):
         kind, *names = words.split()
-        targets = {"doc": ["--doc", *names], "test": ["--test", *names], "lib": ["--lib"]}[kind]
+        targets = {"doc": ["--doc", *names], "test": ["--test", *names], "lib": ["--lib", *names]}[kind]
         status, said = self.call(
             ["cargo", "test", "--offline", "--quiet", "--manifest-path", f"{self.crate}/Cargo.toml", *targets],
             env={**os.environ, "PKG_CONFIG_PATH": f"{self.folder}/lib", "CARGO_TARGET_DIR": f"{self.folder}/target"},

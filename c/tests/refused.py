@@ -24,6 +24,7 @@ STRICT_CPP = STRICT + "-Wold-style-cast -Wzero-as-null-pointer-constant -Weffc++
 SIZES = "at most 4096 bytes"
 PLAIN = "neither const nor volatile"
 COPIES = "trivially copyable"
+HELD = "aligned to at most 8"
 
 C_TYPES = """
 struct ok { double low, high; }; struct most { char bytes[4096]; };
@@ -46,16 +47,24 @@ C_MACROS = [
             ("const volatile double", PLAIN),
         ]
     )
+] + [
+    ("NIDZARU_TRIPLE_REGISTER(held_ok, struct ok); NIDZARU_HOLD(held_ok);", None),
+    ("NIDZARU_TRIPLE_REGISTER(held_most, struct most); NIDZARU_HOLD(held_most);", None),
+    ("NIDZARU_TRIPLE_REGISTER(held_wide, struct wide); NIDZARU_HOLD(held_wide);", HELD),
 ]
-C_DECLARED = "NIDZARU_REGISTER(ds, double); NIDZARU_REGISTER(es, double); NIDZARU_BOARD(bs, double); NIDZARU_BOARD(qs, double);"
-C_ARGUMENTS = "double *x, uint64_t *n, nidzaru_stamp *s, nidzaru_stamp l"
-C_HANDLES = "ds_writer *w, ds_reader *r, bs_place *p, es_writer *ew, es_reader *er, qs_place *q"
+C_DECLARED = (
+    "NIDZARU_REGISTER(ds, double); NIDZARU_REGISTER(es, double); NIDZARU_BOARD(bs, double); NIDZARU_BOARD(qs, double); "
+    "NIDZARU_TRIPLE_REGISTER(ts, double); NIDZARU_HOLD(ts);"
+)
+C_ARGUMENTS = "double *x, uint64_t *n, nidzaru_stamp *s, nidzaru_stamp l, const double **at"
+C_HANDLES = "ds_writer *w, ds_reader *r, bs_place *p, es_writer *ew, es_reader *er, qs_place *q, ts_reader *tr"
 C_CALLS = [
     ("ds_make(x, w, r)", UNUSED),
     ("ds_write(w, x)", UNUSED),
     ("ds_read(r, x, n)", UNUSED),
     ("ds_look(r, n)", UNUSED),
     ("ds_news(r, x, n)", UNUSED),
+    ("ts_hold(tr, at, n)", UNUSED),
     ("ds_move_writer(w, w)", UNUSED),
     ("ds_move_reader(r, r)", UNUSED),
     ("ds_end_writer(w)", None),
@@ -83,6 +92,8 @@ C_MIXED = [
     ("(void)!ds_write(r, x)", MIXED),
     ("(void)!ds_write(ew, x)", MIXED),
     ("(void)!bs_read(q, x, s)", MIXED),
+    ("(void)!ts_hold(tr, at, n)", None),
+    ("(void)!ts_hold(r, at, n)", MIXED),
     ("(void)!ds_write(w, vx)", "discards|discarded|invalid conversion|incompatible|cannot convert|no matching function"),
     ("(void)!ds_make(vx, w, r)", "discards|discarded|invalid conversion|incompatible|cannot convert|no matching function"),
 ]
@@ -143,13 +154,19 @@ CPP_ROWS = [
     ("nidzaru::place<fixed<2>> f2; fixed<2> x{1}; nidzaru::stamp s; (void)!f2.read(x, s);", "there is latest|assign"),
     ("nidzaru::place<fixed<3>> f3; fixed<3> x{1}; nidzaru::stamp s; (void)!f3.read_since(s, x, s);", "assigns it"),
     ("nidzaru::place<fixed<4>> f4; (void)f4.latest(); (void)f4.news();", None),
+    ("nidzaru::reader<fixed<5>, nidzaru::cell::triple> f5; if (f5.hold()) return;", None),
+    ("nidzaru::reader<wide<800>, nidzaru::cell::triple> h1; if (h1.hold()) return;", HELD),
+    ("nidzaru::reader<ok<801>> h2; if (h2.hold()) return;", "a triple buffer has hold"),
 ]
 CPP_DECLARED = """
 using writer = nidzaru::writer<double>; using reader = nidzaru::reader<double>; using place = nidzaru::place<double>;
 using triple_writer = nidzaru::writer<double, nidzaru::cell::triple>;
+using triple_reader = nidzaru::reader<double, nidzaru::cell::triple>;
 using triple_place = nidzaru::place<double, nidzaru::cell::triple>;
 """
-CPP_ARGUMENTS = "writer &w, reader &r, place &p, double &x, std::uint64_t &n, nidzaru::stamp &s, triple_writer &tw, triple_place &tp"
+CPP_ARGUMENTS = (
+    "writer &w, reader &r, place &p, double &x, std::uint64_t &n, nidzaru::stamp &s, triple_writer &tw, triple_reader &tr, triple_place &tp"
+)
 CPP_CALLS = [
     ("w.write(x)", UNUSED),
     ("r.read(x, n)", UNUSED),
@@ -158,6 +175,9 @@ CPP_CALLS = [
     ("r.look(n)", UNUSED),
     ("r.has_news()", UNUSED),
     ("r.number()", UNUSED),
+    ("tr.hold()", UNUSED),
+    ("*tr.hold() = x", "read-only|not assignable"),
+    ("w.operator bool()", UNUSED),
     ("w.end()", None),
     ("r.end()", None),
     ("p.write(x, s)", UNUSED),
@@ -199,11 +219,12 @@ STRICT_CPP_ROWS = [
     ("nidzaru::writer<double> a; nidzaru::reader<double, nidzaru::cell::triple> b; nidzaru::place<float> c; if (a && b && c) return", None),
     ("nidzaru::stamp s{1, 2}; if (s < nidzaru::stamp() || s != s || s >= s) return", None),
     ("auto [w, r] = nidzaru::make(1.5); double x = 0; std::uint64_t n; if (w.write(x) || r.read(x, n) || r.look(n) || r.has_news()) return", None),
-    ("auto [w, r] = nidzaru::make_triple(1.5f); if (w.write(1) || r.latest() || r.news()) return", None),
+    ("auto [w, r] = nidzaru::make_triple(1.5f); if (w.write(1) || r.latest() || r.news() || r.hold()) return", None),
     ("auto p = nidzaru::make_board<2>(1.5); double x; nidzaru::stamp s; if (p[0].write(1, s) || p[0].read(x, s) || p[0].news()) return", None),
     ("auto p = nidzaru::make_board<2>(1.5f); float x; nidzaru::stamp s; if (p[0].read_since(s, x, s) || p[0].has_news()) return", None),
     ("reals_writer w = NIDZARU_EMPTY; reals_reader r = NIDZARU_EMPTY; double x = 1; if (reals_make(&x, &w, &r)) return", None),
     ("planks_place p[2] = {NIDZARU_EMPTY, NIDZARU_EMPTY}; float x = 1; if (planks_make(&x, p, 2)) return", None),
+    ("loans_reader r = NIDZARU_EMPTY; const double *at = nullptr; std::uint64_t n = 0; if (loans_hold(&r, &at, &n)) return", None),
     ("int used = *nidzaru_status_text(NIDZARU_DONE); if (used) return", None),
 ]
 
@@ -216,7 +237,9 @@ def functions(rows, arguments):
 # A page: what it shows, its language and flags, what stands above its rows, and the rows.
 C_HEAD = '#include "nidzaru.h"\n'
 CPP_HEAD = '#include "nidzaru.hpp"\n#include <utility>\n'
-STRICT_TYPES = "NIDZARU_REGISTER(reals, double);\nNIDZARU_TRIPLE_BOARD(planks, float);\n"
+STRICT_TYPES = (
+    "NIDZARU_REGISTER(reals, double);\nNIDZARU_TRIPLE_BOARD(planks, float);\nNIDZARU_TRIPLE_REGISTER(loans, double);\nNIDZARU_HOLD(loans);\n"
+)
 C_FULL = f"{C_HANDLES}, {C_ARGUMENTS}"
 PAGES = [
     ("records", C, ["-std=c11"], C_HEAD + C_TYPES, C_MACROS),
@@ -232,6 +255,9 @@ PAGES = [
         for k, (type_, wants) in enumerate([
             ("ok<1>", None), ("large<1>", SIZES), ("wide<1>", None), ("text<1>", COPIES), ("rooted<1>", COPIES),
             ("volatile ok<1>", PLAIN), ("const ok<1>", PLAIN), ("const volatile ok<1>", PLAIN)])
+    ] + [
+        ("using held = ok<2>; NIDZARU_TRIPLE_REGISTER(helds, held); NIDZARU_HOLD(helds);", None),
+        ("using held_wide = wide<2>; NIDZARU_TRIPLE_REGISTER(held_wides, held_wide); NIDZARU_HOLD(held_wides);", HELD),
     ]),
     ("calls", CPP, ["-std=c++17"], CPP_HEAD + CPP_DECLARED, functions(CPP_CALLS, CPP_ARGUMENTS)),
     ("without exceptions", CPP, ["-std=c++17", "-fno-exceptions"], CPP_HEAD, functions(BARE, "")),

@@ -231,6 +231,24 @@ void functions() {
     check(!numbers_end_writer(&nw) && !numbers_end_reader(&nr), "ends");
 }
 
+// What is held lies there whole until the reader's next call, and its number is the reader's.
+template <class T> void holds(T (*of)(std::uint64_t), bool (*same)(const T &, const T &)) {
+    auto [w, r] = nidzaru::make_triple(of(0));
+    const T *at = r.hold();
+    check(at && same(*at, of(0)) && r.number() == 0, "the opening is held");
+    const long took = asked;
+    for (std::uint64_t n = 1; n <= 100; n++) {
+        check(!w.write(of(2 * n - 1)) && !w.write(of(2 * n)) && same(*at, of(2 * n - 2)) && r.number() == 2 * n - 2, "what was held stays");
+        at = r.hold();
+        check(at && same(*at, of(2 * n)) && r.number() == 2 * n && r.hold() == at && !r.has_news(), "what is held");
+    }
+    check(asked == took, "a hold took memory");
+    auto moved = std::move(r);
+    check(!r.hold() && r.number() == 200, "a reader without a side holds nothing");
+    at = moved.hold();
+    check(!w.end() && at && same(*at, of(200)) && moved.number() == 200, "a reader that was moved");
+}
+
 template <nidzaru::cell C> void memory() {
     bool done = false;
     for (long at = 1; !done; at++) {
@@ -275,6 +293,17 @@ int main(int count, char **words) {
     threads<nidzaru::cell::triple, whole>(many, whole_of, same_whole);
     threads<nidzaru::cell::four_slot, small>(many, small_of, same_small);
     threads<nidzaru::cell::triple, small>(many, small_of, same_small);
+    holds<whole>(whole_of, same_whole);
+    holds<small>(small_of, same_small);
+    holds<double>([](std::uint64_t n) { return double(n); }, [](const double &a, const double &b) { return a == b; });
+    using page = std::array<std::uint64_t, 512>;
+    holds<page>(
+        [](std::uint64_t n) {
+            page x;
+            x.fill(n);
+            return x;
+        },
+        [](const page &a, const page &b) { return a == b; });
     moves();
     moves_into_live();
     news();

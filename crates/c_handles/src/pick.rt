@@ -1,3 +1,4 @@
+// made by c/exports.py
 //! Which part of a `Side` a call is for: the size by its record, then the cell and the side by the party's type.
 ghost use Rattle.std.specs.Prelude.{◌≡◌, ◌≢◌, IfSome, IfNone};
 ghost use Rattle.std.specs.Borrow.{LendsIf, sem};

@@ -14,6 +14,10 @@ use std::sync::{Arc, Wait};
 use std::thread::{Threads, join_mut};
 use std::{io, thread};
 
+mod receipts;
+
+use receipts::{followed, heard};
+
 /// A reading with its limits.
 #[derive(Clone, Copy)]
 struct Sample {
@@ -207,6 +211,32 @@ where
     Ok((number, sample))
 }
 
+/// Where a door stands. Any angle may follow any other.
+#[derive(Clone, Copy)]
+struct Door {
+    angle: u64,
+}
+
+impl Lawful for Door {
+    ghost fits = { λ _. Unit {0} };
+
+    ghost rises = { λ _ _. Unit {0} };
+
+    ghost reflexive = { λ _. tt };
+
+    ghost transitive = { λ _ _ _ _ _. tt };
+}
+
+/// A door stands at 90 and is moved to 40. Gives what its reader follows before, and the angle that it hears of.
+fn moved<C: Calls<Door>>(alloc: Global) -> Result<(u64, u64, u64), AllocError>
+    ensures { IfOk result (λ angles. angles.2 ≡ 40) }
+{
+    let (cell, mut put, mut get) = C::make(alloc, Door { angle: 90 })?;
+    let (first, second) = followed::<Door, C>(&cell, &mut put, &mut get);
+    let last = heard::<Door, C>(cell, put, get, Door { angle: 40 });
+    Ok((first.angle, second.angle, last.angle))
+}
+
 fn main(rt: HostRuntime) -> io::Result<()> {
     let (number, sample) = told::<_, FourSlotCell<Sample>>(rt, rt.alloc())?;
     println!(rt;
@@ -219,5 +249,7 @@ fn main(rt: HostRuntime) -> io::Result<()> {
         "triple buffer: 1,000 samples or more: {}, and the last one was read: {}",
         1_000 <= number,
         sample.number == number
-    )
+    )?;
+    let (first, second, last) = moved::<TripleCell<Door>>(rt.alloc())?;
+    println!(rt; "a door stands at {first}, {second} and {last}")
 }

@@ -14,15 +14,18 @@ use Rattle.cell_live.specs.Intervals.{AreHeeded, IsNextAnswer}
 use Rattle.cell_live.proofs.ListLaws.{last_snoc}
 use Rattle.family_live.specs.Accesses.{IsAccess, IsReadAccess, IsWriteAccess, KeepsEach, KeepsOthers, ReadAccesses}
 use Rattle.family_four_slot.specs.declared.family.Stored.{Stored}
-use Rattle.family_four_slot.specs.declared.notes.Process.{Process}
-use Rattle.family_four_slot.specs.Layouts.{shift}
-use Rattle.family_four_slot.specs.Places.{place, slot_at}
-use Rattle.family_four_slot.specs.Family.{of_cell, knows}
+use Rattle.family_table.specs.declared.notes.Process.{Process}
+use Rattle.family_table.specs.Layouts.{shift}
+use Rattle.family_table.specs.Places.{place}
+use Rattle.family_four_slot.specs.Places.{slot_at}
+use Rattle.family_table.specs.Family.{of_cell, knows}
 use Rattle.family_four_slot.specs.Words.{writes_to, reads_from, IsAtRest, HasSlots}
-use Rattle.family_four_slot.proofs.Places.{place_in}
-use Rattle.family_four_slot.proofs.Seats.{differ}
-use Rattle.family_four_slot.proofs.Frames.{row_apart, column_apart, other_writes, other_reads, same_writes, same_reads}
-use Rattle.family_four_slot.proofs.Rests.{IsChanged, IsNewRow, IsNewColumn, changed, changed_again, rest_write, rest_read}
+use Rattle.family_table.proofs.Places.{place_in}
+use Rattle.family_table.proofs.Seats.{differ}
+use Rattle.family_table.proofs.Places.{row_apart, column_apart}
+use Rattle.family_four_slot.proofs.Frames.{other_writes, other_reads, same_writes, same_reads}
+use Rattle.family_table.proofs.Frames.{IsChanged, changed, changed_again}
+use Rattle.family_four_slot.proofs.Rests.{IsNewRow, IsNewColumn, rest_write, rest_read}
 
 joined : (xs : List ℕ) (a b c : ℕ) → ((xs ++ a ∷ []) ++ b ∷ []) ++ c ∷ [] ≡ xs ++ a ∷ b ∷ c ∷ []
 joined [] a b c = refl

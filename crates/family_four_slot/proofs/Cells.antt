@@ -1,25 +1,18 @@
 -- A four-slot cell of a family: at the start two processes have its notes; a process at rest tells a receipt and learns one.
-use Rattle.std.proofs.Common.{◌≡◌, ◌≢◌, ◌⊎◌, ℕ, zero, suc, ◌+◌, ◌-◌, ◌*◌, ◌<◌, ◌≤◌, Bool, true, false, nat_eq, cond, List, [], ◌∷◌, ◌++◌, map, length, set}
-use Rattle.std.proofs.Common.{refl, sym, ap, ◌∙◌, subst, arith, ⊎_elim, inl, inr, le_refl, le_trans}
-use Rattle.std.proofs.lemmas.Bool.{cases_eq}
+use Rattle.std.proofs.Common.{◌≡◌, ℕ, Bool, true, false, nat_eq, cond, List, [], ◌∷◌, ◌++◌, set}
+use Rattle.std.proofs.Common.{refl, sym, subst, arith, ⊎_elim}
 use Rattle.std.proofs.lemmas.Bool.Decides.{nat_tests}
-use mathlib.Core.Option.{none, some, some-injective, some-ne-none}
+use mathlib.Core.Option.{some}
 use lib.ListN.{get_elem?}
-use Rattle.atomic_table.specs.Table.{State, opening}
-use Rattle.atomic_table.proofs.Lists.{at_set, at_snoc, at_longer, set_again, set_else, set_here}
-use Rattle.four_slot_core.specs.declared.state.ReaderStage.TheVariants as reader
-use Rattle.std.specs.declared.snapshot.Snapshot.{Snapshot}
-use Rattle.cell_live.specs.declared.times.Dated.{Dated}
-use Rattle.cell_four_slot.specs.declared.notes.WriterNotes.{WriterNotes}
-use Rattle.cell_four_slot.specs.declared.notes.ReaderNotes.{ReaderNotes}
+use Rattle.atomic_table.specs.Table.{State}
+use Rattle.atomic_table.proofs.Lists.{at_snoc, set_again}
 use Rattle.cell_live.specs.declared.sight.Sight.TheVariants.{Spent, Told, Writer, Reader, Both}
-use Rattle.cell_four_slot.specs.Rule.{FourSlotRule, Sees}
-use Rattle.cell_four_slot.specs.Steps.{FourSlotSight, first_sight, first_writer, first_reader, receipt_for, hears_of}
-use Rattle.family_four_slot.specs.Family.{CellTells, CellHears}
+use Rattle.cell_four_slot.specs.Rule.{Sees}
+use Rattle.cell_four_slot.specs.Steps.{FourSlotSight, first_writer, first_reader, receipt_for, hears_of}
+use Rattle.family_table.specs.Family.{CellTells, CellHears}
 use Rattle.family_four_slot.specs.FourSlots.{CellRule, Idle, first_part}
-use Rattle.family_four_slot.specs.Places.{writer_of, reader_of}
+use Rattle.family_table.specs.Places.{writer_of, reader_of}
 use Rattle.cell_four_slot.proofs.Keeps.{shown_number, reseated_at, tells_at, hears_at, parted_at}
-use Rattle.family_four_slot.proofs.Slices.{within}
 
 module _ {T : Type 0} (fits : T → Type 0) (rises : T → T → Type 0) (o : T) where
   abbrev V : Type 0

@@ -4,7 +4,7 @@ use Rattle.family_live.specs.Rows.{OneByOne, IsReadFrom}
 use Rattle.family_live.proofs.Rows.{column_own}
 use Rattle.family_four_slot.specs.declared.family.FourSlotFamily.{FourSlotFamily}
 use Rattle.family_four_slot.specs.declared.family.FourSlotSeat.{FourSlotSeat}
-use Rattle.family_four_slot.specs.Places.{place}
+use Rattle.family_table.specs.Places.{place}
 use Rattle.family_four_slot.specs.Seated.{opening_of, number_of, clock_of, times_of, writes_of, reads_of, IsSeat}
 
 module _ {T L : Type 0} (f : FourSlotFamily T) (fits : T → Type 0) (rises : T → T → Type 0) (sees : L → T → L → Type 0) where

@@ -14,16 +14,18 @@ use Rattle.family_four_slot.specs.declared.family.FourSlotFamily.{FourSlotFamily
 use Rattle.family_four_slot.specs.declared.family.FourSlotSeat.{FourSlotSeat}
 use Rattle.family_four_slot.specs.declared.family.Shown.{Shown}
 use Rattle.family_four_slot.specs.declared.family.Stored.{Stored}
-use Rattle.family_four_slot.specs.declared.notes.Process.{Process}
-use Rattle.family_four_slot.specs.declared.notes.View.TheVariants.{Has}
-use Rattle.family_four_slot.specs.Family.{knows}
-use Rattle.family_four_slot.specs.Layouts.{shift}
-use Rattle.family_four_slot.specs.Places.{place, slot_at}
+use Rattle.family_table.specs.declared.notes.Process.{Process}
+use Rattle.family_table.specs.declared.notes.View.TheVariants.{Has}
+use Rattle.family_table.specs.Family.{knows}
+use Rattle.family_table.specs.Layouts.{shift}
+use Rattle.family_table.specs.Places.{place}
+use Rattle.family_four_slot.specs.Places.{slot_at}
 use Rattle.family_four_slot.specs.Seated.{known_by, opening_of, processes_of, number_of, clock_of, times_of, writes_of, reads_of, IsSeat}
-use Rattle.family_four_slot.specs.Words.{none_shown, process_of, writes_to, reads_from, IsAtRest}
+use Rattle.family_four_slot.specs.Words.{none_shown, writes_to, reads_from, IsAtRest}
+use Rattle.family_table.specs.Views.{process_of}
 use Rattle.family_four_slot.proofs.Calls.{a_write, a_read, sees_reads}
 use Rattle.family_four_slot.proofs.Going.{within, apart, row_at, row_place, row_notes, column_at, column_place, column_notes, seat_after}
-use Rattle.family_four_slot.proofs.Slices.{get_set_here, get_set_else, set_long}
+use Rattle.family_table.proofs.Slices.{get_set_here, get_set_else, set_long}
 use Rattle.family_four_slot.proofs.Rests.{IsNewRow, IsNewColumn}
 
 module _ {T : Type 0} where

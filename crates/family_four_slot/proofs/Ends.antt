@@ -15,16 +15,16 @@ use Rattle.cell_live.specs.declared.sight.Sight.TheVariants.{Spent, Writer, Read
 use Rattle.cell_four_slot.specs.Rule.{FourSlotRule, IsTimed, number_in, named_slot}
 use Rattle.cell_four_slot.specs.Steps.{FourSlotSight}
 use Rattle.cell_four_slot.proofs.Timing.{timed_atomic}
-use Rattle.family_four_slot.specs.declared.notes.Process.{Process}
-use Rattle.family_four_slot.specs.declared.notes.Receipt.{Receipt}
-use Rattle.family_four_slot.specs.declared.notes.View.{View}
-use Rattle.family_four_slot.specs.declared.notes.View.TheVariants.{Has}
+use Rattle.family_table.specs.declared.notes.Process.{Process}
+use Rattle.family_table.specs.declared.notes.Receipt.{Receipt}
+use Rattle.family_table.specs.declared.notes.View.{View}
+use Rattle.family_table.specs.declared.notes.View.TheVariants.{Has}
 use Rattle.family_four_slot.specs.Places.{four_slots}
-use Rattle.family_four_slot.specs.Family.{of_cell, cell, Shows}
+use Rattle.family_table.specs.Family.{of_cell, cell, Shows}
 use Rattle.family_four_slot.specs.FourSlots.{FourSlotFamily}
 use Rattle.family_four_slot.specs.Tables.{IsEnded, IsDone, shows}
-use Rattle.family_four_slot.proofs.Seats.{each_at}
-use Rattle.family_four_slot.proofs.Slices.{same_one, set_found, set_there}
+use Rattle.family_table.proofs.Seats.{each_at}
+use Rattle.family_table.proofs.Slices.{same_one, set_found, set_there}
 
 module _ {T : Type 0} (fits : T → Type 0) (rises : T → T → Type 0) (o : T) where
   abbrev V : Type 0

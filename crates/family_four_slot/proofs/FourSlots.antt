@@ -12,17 +12,17 @@ use Rattle.cell_four_slot.specs.declared.notes.WriterNotes.{WriterNotes}
 use Rattle.cell_four_slot.specs.declared.notes.ReaderNotes.{ReaderNotes}
 use Rattle.cell_live.specs.declared.sight.Sight.TheVariants.{Spent, Writer, Reader}
 use Rattle.cell_four_slot.specs.Steps.{FourSlotSight, begins, stores, finishes_counting, asks, says_counting, takes, slot_of_choice}
-use Rattle.family_four_slot.specs.declared.notes.Process.{Process}
-use Rattle.family_four_slot.specs.declared.notes.View.{View}
-use Rattle.family_four_slot.specs.declared.notes.View.TheVariants.{Has}
-use Rattle.family_four_slot.specs.Layouts.{shift, Inside}
+use Rattle.family_table.specs.declared.notes.Process.{Process}
+use Rattle.family_table.specs.declared.notes.View.{View}
+use Rattle.family_table.specs.declared.notes.View.TheVariants.{Has}
+use Rattle.family_table.specs.Layouts.{shift, Inside}
 use Rattle.family_four_slot.specs.Places.{four_slots, word_at, slot_at}
-use Rattle.family_four_slot.specs.Family.{of_cell, CellAllows, StepTells}
+use Rattle.family_table.specs.Family.{of_cell, CellAllows, StepTells}
 use Rattle.family_four_slot.specs.FourSlots.{When, CellRule, FourSlotFamily}
 use Rattle.cell_four_slot.proofs.Keeps.{begins_at, stores_at, finishes_at, asks_at, says_at, takes_at}
 use Rattle.cell_four_slot.proofs.Slots.{bit_low, slot_low}
 use Rattle.family_four_slot.proofs.Places.{is_layout}
-use Rattle.family_four_slot.proofs.Steps.{family_allows}
+use Rattle.family_table.proofs.Steps.{family_allows}
 
 module _ {T : Type 0} (fits : T → Type 0) (rises : T → T → Type 0) (o : T) where
   abbrev V : Type 0

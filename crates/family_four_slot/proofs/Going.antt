@@ -10,18 +10,21 @@ use Rattle.cell_live.specs.declared.sight.Sight.TheVariants.{Spent, Writer, Read
 use Rattle.cell_four_slot.specs.Steps.{FourSlotSight}
 use Rattle.family_four_slot.specs.declared.family.FourSlotFamily.{FourSlotFamily}
 use Rattle.family_four_slot.specs.declared.family.FourSlotSeat.{FourSlotSeat}
-use Rattle.family_four_slot.specs.declared.notes.Process.{Process}
-use Rattle.family_four_slot.specs.declared.notes.View.{View}
-use Rattle.family_four_slot.specs.declared.notes.View.TheVariants.{Has}
-use Rattle.family_four_slot.specs.Family.{of_cell, knows}
-use Rattle.family_four_slot.specs.Places.{place, four_slots, word_at}
+use Rattle.family_table.specs.declared.notes.Process.{Process}
+use Rattle.family_table.specs.declared.notes.View.{View}
+use Rattle.family_table.specs.declared.notes.View.TheVariants.{Has}
+use Rattle.family_table.specs.Family.{of_cell, knows}
+use Rattle.family_table.specs.Places.{place}
+use Rattle.family_four_slot.specs.Places.{four_slots, word_at}
 use Rattle.family_four_slot.specs.Seated.{known_by, processes_of, number_of, writes_of, IsSeat}
 use Rattle.family_four_slot.specs.Steps.{After}
 use Rattle.family_four_slot.specs.Tables.{HasProcess, HasWriter, HasReader}
-use Rattle.family_four_slot.specs.Words.{process_of, shown_to, IsAtRest, IsRow, IsColumn}
+use Rattle.family_table.specs.Views.{process_of}
+use Rattle.family_four_slot.specs.Words.{shown_to, IsAtRest, IsRow, IsColumn}
 use Rattle.family_four_slot.proofs.Calls.{sees_writes}
-use Rattle.family_four_slot.proofs.Places.{place_in, bit_word}
-use Rattle.family_four_slot.proofs.Slices.{get_set_here, set_long}
+use Rattle.family_table.proofs.Places.{place_in}
+use Rattle.family_four_slot.proofs.Places.{bit_word}
+use Rattle.family_table.proofs.Slices.{get_set_here, set_long}
 
 -- the word of `latest`, and that of a pair's bit
 pub first_word : (cell : ℕ) → 16 * cell + 8 ≡ word_at cell 0

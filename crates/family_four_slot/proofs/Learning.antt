@@ -1,5 +1,5 @@
 -- A process learns a receipt: it knows of a later time, and was told one record more by the sender. All else stays.
-use Rattle.std.proofs.Common.{◌≡◌, ◌≢◌, ℕ, zero, suc, ◌+◌, ◌*◌, ◌<◌, ◌≤◌, cond, List, [], ◌∷◌, ◌++◌, length, get_or, refl, sym, ap, ◌∙◌, subst, arith, ⊎_elim, mul-le-mul_right}
+use Rattle.std.proofs.Common.{◌≡◌, ◌≢◌, ℕ, ◌+◌, ◌*◌, ◌<◌, ◌≤◌, cond, List, length, get_or, refl, sym, ap, ◌∙◌, subst, arith, ⊎_elim, mul-le-mul_right}
 use Rattle.std.proofs.lemmas.Bool.{cases_eq, cases_lt}
 use Rattle.four_slot_core.specs.declared.state.ReaderStage.TheVariants as reader
 use Rattle.cell_live.specs.Running.{snap}
@@ -11,28 +11,20 @@ use Rattle.cell_live.specs.declared.sight.Sight.TheVariants.{Spent, Told, Writer
 use Rattle.cell_four_slot.specs.Steps.{FourSlotSight, first_writer, first_reader, receipt_for, heard_by as cell_heard, hears_of, word_said}
 use Rattle.family_live.specs.Accesses.{IsHeardRead, KeepsEach, KeepsOthers, ReadAccesses}
 use Rattle.family_four_slot.specs.declared.family.Stored.{Stored}
-use Rattle.family_four_slot.specs.declared.notes.Process.{Process}
-use Rattle.family_four_slot.specs.declared.notes.Receipt.{Receipt}
-use Rattle.family_four_slot.specs.Family.{of_cell, heard_parts, heard_by}
+use Rattle.family_table.specs.declared.notes.Process.{Process}
+use Rattle.family_table.specs.declared.notes.Receipt.{Receipt}
+use Rattle.family_table.specs.Family.{of_cell, heard_by}
 use Rattle.family_four_slot.specs.FourSlots.{Idle}
-use Rattle.family_four_slot.specs.Places.{place, writer_of}
+use Rattle.family_table.specs.Places.{place, writer_of}
 use Rattle.family_four_slot.specs.Words.{writes_to, reads_from, HasSlots, IsAtRest, IsColumn}
 use Rattle.family_four_slot.proofs.Calls.{sees_reads}
 use Rattle.family_four_slot.proofs.Cells.{deaf, mute}
-use Rattle.family_four_slot.proofs.Frames.{same_number}
-use Rattle.family_four_slot.proofs.Places.{writer_there}
-use Rattle.family_four_slot.proofs.Receipts.{heard_cell}
-use Rattle.family_four_slot.proofs.Seats.{differ}
-
-pub past : {A : Type 0} (xs : List A) (i : ℕ) (d : A) → length xs ≤ i → get_or xs i d ≡ d
-past [] i d l = refl
-past (x ∷ xs) zero d l = absurd (omega arith)
-past (x ∷ xs) (suc i) d l = past xs i d (omega arith)
-
-pub heard_long : {V : Type 0} (hears : V → V → V) (vs ws : List V) → length (heard_parts hears vs ws) ≡ length vs
-heard_long hears [] ws = refl
-heard_long hears (v ∷ vs) [] = refl
-heard_long hears (v ∷ vs) (w ∷ ws) = ap suc (heard_long hears vs ws)
+use Rattle.family_table.proofs.Seats.{same_number}
+use Rattle.family_table.proofs.Places.{writer_there}
+use Rattle.family_table.proofs.Receipts.{heard_cell}
+use Rattle.family_table.proofs.Seats.{differ}
+use Rattle.family_table.proofs.Slices.{past}
+use Rattle.family_table.proofs.Receipts.{heard_long}
 
 module _ {T : Type 0} where
   idle_heard : (x y : FourSlotSight T) → Idle x → Idle (hears_of x y)

@@ -1,4 +1,3 @@
-pub mod Acts
 pub mod Calls
 pub mod Cells
 pub mod Columns
@@ -6,20 +5,14 @@ pub mod Done
 pub mod Ends
 pub mod FourSlots
 pub mod Frames
-pub mod Gathering
 pub mod Going
-pub mod Held
 pub mod Learning
 pub mod Merged
 pub mod Parting
 pub mod Places
-pub mod Receipts
 pub mod Rests
 pub mod Rows
-pub mod Seats
-pub mod Slices
+pub mod Showing
 pub mod Starts
-pub mod Steps
 pub mod Telling
 pub mod Told
-pub mod Totals

@@ -17,18 +17,18 @@ use Rattle.cell_four_slot.specs.declared.notes.ReaderNotes.{ReaderNotes}
 use Rattle.cell_four_slot.specs.Steps.{FourSlotSight, stored_by, finished_with, asked_by, said_with, slot_of_choice, word_said}
 use Rattle.cell_four_slot.proofs.Keeps.{said_there, shown_there}
 use Rattle.cell_four_slot.proofs.Slots.{bit_low}
-use Rattle.family_four_slot.specs.declared.notes.Process.{Process}
-use Rattle.family_four_slot.specs.declared.notes.Receipt.{Receipt}
-use Rattle.family_four_slot.specs.declared.notes.View.{View}
-use Rattle.family_four_slot.specs.declared.notes.View.TheVariants.{Has}
-use Rattle.family_four_slot.specs.Layouts.{shift}
+use Rattle.family_table.specs.declared.notes.Process.{Process}
+use Rattle.family_table.specs.declared.notes.Receipt.{Receipt}
+use Rattle.family_table.specs.declared.notes.View.{View}
+use Rattle.family_table.specs.declared.notes.View.TheVariants.{Has}
+use Rattle.family_table.specs.Layouts.{shift}
 use Rattle.family_four_slot.specs.Places.{four_slots, word_at, slot_at}
-use Rattle.family_four_slot.specs.Family.{of_cell, cell}
+use Rattle.family_table.specs.Family.{of_cell, cell}
 use Rattle.family_four_slot.specs.FourSlots.{FourSlotFamily}
 use Rattle.family_four_slot.specs.Steps.{After, asks_on, stores_on, has_asked, has_stored}
-use Rattle.family_four_slot.proofs.Acts.{homes_long}
+use Rattle.family_table.proofs.Acts.{homes_long}
 use Rattle.family_four_slot.proofs.Places.{is_layout}
-use Rattle.family_four_slot.proofs.Slices.{get_set_here, get_set_else, set_long, set_twice, within}
+use Rattle.family_table.proofs.Slices.{get_set_here, get_set_else, set_long, set_twice, within}
 use Rattle.family_four_slot.proofs.Told.{has_one, writes_one, reads_one, asks_ok, says_ok, stores_ok, finishes_ok}
 
 module _ {S V : Type 0} (holds : State S V → Type 0) where

@@ -18,25 +18,24 @@ use Rattle.family_four_slot.specs.declared.family.FourSlotSeat.{FourSlotSeat}
 use Rattle.family_four_slot.specs.declared.table.FamilySeat.{FamilySeat}
 use Rattle.family_four_slot.specs.declared.family.Shown.{Shown}
 use Rattle.family_four_slot.specs.declared.family.Stored.{Stored}
-use Rattle.family_four_slot.specs.declared.notes.Process.{Process}
-use Rattle.family_four_slot.specs.declared.notes.View.TheVariants.{Has}
-use Rattle.family_four_slot.specs.Family.{of_cell}
-use Rattle.family_four_slot.specs.FourSlots.{upto, first_part, first_process, Idle}
-use Rattle.family_four_slot.specs.Places.{place, writer_of, reader_of}
-use Rattle.family_four_slot.specs.Seats.{all_but_first, first_of}
+use Rattle.family_table.specs.declared.notes.Process.{Process}
+use Rattle.family_table.specs.declared.notes.View.TheVariants.{Has}
+use Rattle.family_table.specs.Family.{of_cell}
+use Rattle.family_table.specs.Places.{upto}
+use Rattle.family_four_slot.specs.FourSlots.{first_part, first_process, Idle}
+use Rattle.family_table.specs.Places.{place, writer_of, reader_of}
+use Rattle.family_table.specs.Seats.{all_but_first, first_of}
 use Rattle.family_four_slot.specs.Seated.{known_by, opening_of, processes_of, number_of, clock_of, times_of, writes_of, reads_of, IsSeat, IsFirst}
 use Rattle.family_four_slot.specs.Tables.{IsEnded}
-use Rattle.family_four_slot.specs.Words.{none_shown, process_of, shown_to, writes_to, reads_from, IsAtRest}
+use Rattle.family_four_slot.specs.Words.{none_shown, shown_to, writes_to, reads_from, IsAtRest}
+use Rattle.family_table.specs.Views.{process_of}
 use Rattle.family_four_slot.proofs.Calls.{sees_writes, sees_reads}
-use Rattle.family_four_slot.proofs.Frames.{same_number}
-use Rattle.family_four_slot.proofs.Gathering.{each_more}
-use Rattle.family_four_slot.proofs.Places.{place_in, writer_there, reader_there}
-use Rattle.family_four_slot.proofs.Seats.{differ}
-use Rattle.family_four_slot.proofs.Starts.{upto_long, upto_get}
-
--- as many as there are of these in turn, the first one in front
-pub upto_next : {A : Type 0} (f : ℕ → A) (i n : ℕ) → i < n → upto f i (n - i) ≡ f i ∷ upto f (i + 1) (n - (i + 1))
-upto_next f i n l = ap (upto f i) (let e : n - i ≡ suc (n - (i + 1)) = omega arith in e)
+use Rattle.family_table.proofs.Seats.{same_number}
+use Rattle.family_table.proofs.Gathering.{each_more}
+use Rattle.family_table.proofs.Places.{place_in, writer_there, reader_there}
+use Rattle.family_table.proofs.Seats.{differ}
+use Rattle.family_table.proofs.Firsts.{upto_long, upto_get}
+use Rattle.family_table.proofs.Firsts.{upto_next}
 
 all_same : {A : Type 0} (m j : ℕ) (x d : A) → j < m → get_or (replicate m x) j d ≡ x
 all_same zero j x d l = absurd (omega arith)

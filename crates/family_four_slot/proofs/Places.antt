@@ -1,30 +1,8 @@
 -- Each cell has places of its own, one writer and one reader.
-use Rattle.std.proofs.Common.{◌≡◌, ◌≢◌, ℕ, zero, suc, ◌+◌, ◌*◌, ◌<◌, ◌≤◌}
-use Rattle.std.proofs.Common.{refl, sym, ap, ◌∙◌, arith, mul-le-mul_right, suc-mul}
-use Rattle.std.proofs.lemmas.Nat.{div-mul-add, mod-mul-add}
-use Rattle.family_four_slot.specs.Layouts.{Layout, IsLayout}
-use Rattle.family_four_slot.specs.Places.{place, writer_of, reader_of, offset, word_at, slot_at, four_slots}
-
-pub writer_there : (n i j : ℕ) → i < n → j < n → j ≢ i → writer_of n (place n i j) ≡ i
-writer_there n i j li lj ne = div-mul-add i n j lj
-
-pub reader_there : (n i j : ℕ) → i < n → j < n → j ≢ i → reader_of n (place n i j) ≡ j
-reader_there n i j li lj ne = mod-mul-add i n j lj
-
-pub place_in : (n i j : ℕ) → i < n → j < n → j ≢ i → place n i j < n * n
-place_in n i j li lj ne =
-    let m : suc i * n ≤ n * n = mul-le-mul_right n li in
-    let e : suc i * n ≡ i * n + n = omega (arith, suc_mul i n) in
-    omega arith where
-      suc_mul : (a b : ℕ) → suc a * b ≡ a * b + b
-      suc_mul a b = suc-mul a b
-
--- cells are different where their writers or their readers are
-pub place_apart : (n i j i' j' : ℕ) → i < n → j < n → j ≢ i → i' < n → j' < n → j' ≢ i' → place n i j ≡ place n i' j' → (i ≡ i') × (j ≡ j')
-place_apart n i j i' j' li lj ne li' lj' ne' e = (
-  sym (writer_there n i j li lj ne) ∙ (ap (writer_of n) e ∙ writer_there n i' j' li' lj' ne'),
-  sym (reader_there n i j li lj ne) ∙ (ap (reader_of n) e ∙ reader_there n i' j' li' lj' ne'),
-)
+use Rattle.std.proofs.Common.{◌≡◌, ℕ, zero, suc, ◌+◌, ◌*◌, ◌<◌, ◌≤◌}
+use Rattle.std.proofs.Common.{refl, sym, ap, arith}
+use Rattle.family_table.specs.Layouts.{IsLayout}
+use Rattle.family_four_slot.specs.Places.{offset, word_at, slot_at, four_slots}
 
 offset_small : (i : ℕ) → i < 4 → offset i ≤ 8
 offset_small zero l = omega arith

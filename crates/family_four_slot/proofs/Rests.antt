@@ -1,5 +1,5 @@
 -- Between two calls: a call on one cell leaves what the process knows of each other cell, and the slots that its seat has of them.
-use Rattle.std.proofs.Common.{◌≡◌, ◌≢◌, ℕ, ◌<◌, ◌≤◌, List, [], ◌∷◌, ◌++◌, length, get_or, refl, sym, ap, ◌∙◌, subst, arith, ⊎_elim}
+use Rattle.std.proofs.Common.{◌≡◌, ◌≢◌, ℕ, ◌<◌, ◌≤◌, List, [], ◌∷◌, ◌++◌, length, get_or, refl, sym, ap, ◌∙◌, subst, ⊎_elim}
 use Rattle.std.proofs.lemmas.Bool.{cases_eq}
 use Rattle.std.specs.Prelude.{Option, None, Some}
 use Rattle.four_slot_core.specs.declared.state.Slot.{Slot}
@@ -13,22 +13,17 @@ use Rattle.cell_live.specs.declared.sight.Sight.TheVariants.{Spent, Writer, Read
 use Rattle.cell_four_slot.specs.Steps.{FourSlotSight, bit_words, slot_of_choice, word_said, receipt_for}
 use Rattle.cell_four_slot.proofs.Slots.{slot_low}
 use Rattle.family_four_slot.specs.declared.family.Stored.{Stored}
-use Rattle.family_four_slot.specs.declared.notes.Process.{Process}
-use Rattle.family_four_slot.specs.Layouts.{shift}
-use Rattle.family_four_slot.specs.Places.{place, slot_at, writer_of}
-use Rattle.family_four_slot.specs.Family.{of_cell, knows}
+use Rattle.family_table.specs.declared.notes.Process.{Process}
+use Rattle.family_table.specs.Layouts.{shift}
+use Rattle.family_table.specs.Places.{place, writer_of}
+use Rattle.family_four_slot.specs.Places.{slot_at}
+use Rattle.family_table.specs.Family.{of_cell}
 use Rattle.family_four_slot.specs.FourSlots.{Idle}
 use Rattle.family_four_slot.specs.declared.family.Shown.{Shown}
 use Rattle.family_four_slot.specs.Words.{none_shown, shown_to, IsAtRest, IsRow, IsColumn, HasSlots}
-use Rattle.family_four_slot.proofs.Places.{place_apart, is_layout, writer_there}
-use Rattle.family_four_slot.proofs.Slices.{get_set_here, get_set_else, set_long}
-
--- one cell's notes change, and nothing else of what is known of cells
-pub record IsChanged {V : Type 0} (blank : V) (v u : Process V) (k : ℕ) (w : V) : Type 0 where
-  pub who : u.who ≡ v.who
-  pub long : length u.parts ≡ length v.parts
-  pub here : of_cell blank k u.parts ≡ w
-  pub others : (j : ℕ) → j ≢ k → of_cell blank j u.parts ≡ of_cell blank j v.parts
+use Rattle.family_table.proofs.Places.{place_apart, writer_there}
+use Rattle.family_four_slot.proofs.Places.{is_layout}
+use Rattle.family_table.proofs.Frames.{IsChanged}
 
 -- a seat remembers what it stored last in the cell to process j, or in the one from it, and of the others what it did
 pub record IsNewRow (kept kept' : Stored) (j : ℕ) (bits : List ℕ) (latest : ℕ) : Type 0 where
@@ -42,25 +37,6 @@ pub record IsNewColumn (kept kept' : Stored) (j said : ℕ) : Type 0 where
   pub others : (i : ℕ) → i ≢ j → get_or kept'.said i 0 ≡ get_or kept.said i 0
   pub long : length kept'.said ≡ length kept.said
   pub shown : kept'.shown ≡ kept.shown
-
-module _ {V : Type 0} (blank : V) where
-  pub changed : (v : Process V) (k t : ℕ) (w : V) (held : List ℕ) → k < length v.parts → IsChanged blank v (knows blank v k w t held) k w
-  changed v k t w held l = record {
-    who = refl;
-    long = set_long v.parts k w;
-    here = get_set_here v.parts k w blank l;
-    others = λ j ne. get_set_else v.parts k j w blank ne;
-  }
-
-  pub changed_again : (v u : Process V) (k t : ℕ) (x w : V) (held : List ℕ) → k < length v.parts → IsChanged blank v u k x →
-      IsChanged blank v (knows blank u k w t held) k w
-  changed_again v u k t x w held l c =
-      let long : length u.parts ≡ length v.parts = c.long in record {
-        who = c.who;
-        long = set_long u.parts k w ∙ c.long;
-        here = get_set_here u.parts k w blank (omega arith);
-        others = λ j ne. get_set_else u.parts k j w blank ne ∙ c.others j ne;
-      }
 
 -- of two elements of a list, one is taken away
 module _ {A : Type 0} where

@@ -1,12 +1,12 @@
 -- A row on its way: what its next write needs.
-use Rattle.std.proofs.Common.{◌≡◌, ◌≢◌, ℕ, ◌+◌, ◌*◌, ◌-◌, ◌<◌, ◌≤◌, sym, ap, ◌∙◌, subst, arith}
+use Rattle.std.proofs.Common.{◌≡◌, ℕ, ◌-◌, ◌<◌, ◌≤◌, sym, ap, ◌∙◌, subst, arith}
 use Rattle.cell_live.specs.Running.{last_or}
 use Rattle.family_live.specs.Accesses.{WriteAccesses}
 use Rattle.family_live.specs.Rows.{OneByOne, IsWriteTo}
 use Rattle.family_live.proofs.Rows.{not_after, not_before, row_own}
 use Rattle.family_four_slot.specs.declared.family.FourSlotFamily.{FourSlotFamily}
 use Rattle.family_four_slot.specs.declared.family.FourSlotSeat.{FourSlotSeat}
-use Rattle.family_four_slot.specs.Places.{place}
+use Rattle.family_table.specs.Places.{place}
 use Rattle.family_four_slot.specs.Seated.{opening_of, processes_of, number_of, clock_of, times_of, writes_of, reads_of, IsSeat}
 
 module _ {T : Type 0} (f : FourSlotFamily T) (start : FourSlotSeat T) where

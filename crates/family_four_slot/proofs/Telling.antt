@@ -1,5 +1,5 @@
 -- A receipt tells of each cell of its process's row what the process wrote last, and of other cells nothing.
-use Rattle.std.proofs.Common.{◌≡◌, ◌≢◌, ◌<◌, ℕ, List, [], ◌∷◌, refl, sym, ap, ◌∙◌, subst, map}
+use Rattle.std.proofs.Common.{◌≡◌, ◌≢◌, ◌<◌, ℕ, [], refl, sym, ap, ◌∙◌, subst}
 use Rattle.atomic_table.specs.Table.{Me}
 use Rattle.cell_live.specs.Intervals.{dated, known_as}
 use Rattle.cell_live.specs.Running.{snap}
@@ -7,17 +7,17 @@ use Rattle.cell_live.specs.Sights.{receipt_or}
 use Rattle.cell_live.specs.declared.sight.Sight.TheVariants.{Spent, Told as Tells}
 use Rattle.cell_four_slot.specs.Steps.{FourSlotSight, receipt_for, hears_of}
 use Rattle.family_live.specs.Accesses.{WriteAccesses}
-use Rattle.family_four_slot.specs.declared.notes.View.{View}
-use Rattle.family_four_slot.specs.declared.notes.View.TheVariants.{Told}
-use Rattle.family_four_slot.specs.Family.{of_cell, receipt_of}
-use Rattle.family_four_slot.specs.Places.{place, writer_of}
-use Rattle.family_four_slot.specs.Words.{receipt_in}
+use Rattle.family_table.specs.declared.notes.View.{View}
+use Rattle.family_table.specs.declared.notes.View.TheVariants.{Told}
+use Rattle.family_table.specs.Family.{of_cell, receipt_of}
+use Rattle.family_table.specs.Places.{place, writer_of}
+use Rattle.family_table.specs.Views.{receipt_in}
 use Rattle.family_four_slot.specs.declared.family.FourSlotFamily.{FourSlotFamily}
 use Rattle.family_four_slot.specs.declared.family.FourSlotSeat.{FourSlotSeat}
 use Rattle.family_four_slot.specs.declared.family.FourSlotTold.{FourSlotTold}
 use Rattle.family_four_slot.specs.declared.table.FamilySeat.{FamilySeat}
 use Rattle.family_four_slot.specs.Seated.{known_by, told_in, carried_by, number_of, processes_of, writes_of, IsSeat, IsTold}
-use Rattle.family_four_slot.proofs.Receipts.{receipt_cell}
+use Rattle.family_table.proofs.Receipts.{receipt_cell}
 use Rattle.family_four_slot.proofs.Calls.{sees_writes}
 use Rattle.family_four_slot.proofs.Cells.{deaf, mute}
 

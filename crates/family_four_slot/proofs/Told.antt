@@ -14,12 +14,12 @@ use Rattle.cell_live.specs.declared.sight.Sight.TheVariants.{Spent, Writer, Read
 use Rattle.cell_live.specs.Intervals.{AreHeeded}
 use Rattle.cell_four_slot.specs.Steps.{FourSlotSight, clock_of, begun_with, stored_by, finished_with, asked_by, said_with, got_by, slot_of_choice, HasAnswered}
 use Rattle.cell_four_slot.specs.Steps.{begins as cell_begins, stores as cell_stores, finishes_counting as cell_finishes, asks as cell_asks, says_counting as cell_says, takes as cell_takes}
-use Rattle.family_four_slot.specs.declared.notes.Process.{Process}
-use Rattle.family_four_slot.specs.declared.notes.View.{View}
-use Rattle.family_four_slot.specs.declared.notes.View.TheVariants.{Told, Has}
-use Rattle.family_four_slot.specs.Layouts.{shift}
+use Rattle.family_table.specs.declared.notes.Process.{Process}
+use Rattle.family_table.specs.declared.notes.View.{View}
+use Rattle.family_table.specs.declared.notes.View.TheVariants.{Told, Has}
+use Rattle.family_table.specs.Layouts.{shift}
 use Rattle.family_four_slot.specs.Places.{four_slots, word_at, slot_at}
-use Rattle.family_four_slot.specs.Family.{of_cell, knows, StepTells}
+use Rattle.family_table.specs.Family.{of_cell, knows, StepTells}
 use Rattle.family_four_slot.specs.FourSlots.{When, FourSlotFamily}
 use Rattle.family_four_slot.specs.Steps.{After, begins, stores, finishes_counting, asks, says_counting, takes}
 use Rattle.family_four_slot.proofs.Places.{is_layout}

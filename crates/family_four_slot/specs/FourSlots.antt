@@ -1,21 +1,18 @@
 -- A family of four-slot cells (this project's own).
-use Rattle.std.specs.Prelude.{◌≡◌, ℕ, zero, suc, ◌+◌, ◌-◌, ◌*◌, ◌≤◌, nat_eq, cond, List, [], ◌∷◌}
+use Rattle.std.specs.Prelude.{◌≡◌, ℕ, ◌*◌, ◌≤◌, nat_eq, cond, []}
 use Rattle.atomic_table.specs.Table.{State, Me}
 use Rattle.four_slot_core.specs.declared.state.Stage.TheVariants as writer
 use Rattle.four_slot_core.specs.declared.state.ReaderStage.TheVariants as reader
-use Rattle.cell_live.specs.declared.sight.Sight.TheVariants.{Spent, Told, Writer, Reader, Both}
+use Rattle.cell_live.specs.declared.sight.Sight.TheVariants.{Spent, Writer, Reader}
 use Rattle.cell_four_slot.specs.Rule.{FourSlotRule}
 use Rattle.cell_four_slot.specs.Steps.{FourSlotSight, first_writer, first_reader, clock_of}
-use Rattle.family_four_slot.specs.declared.notes.Process.{Process}
-use Rattle.family_four_slot.specs.declared.notes.View.{View}
-use Rattle.family_four_slot.specs.declared.notes.View.TheVariants.{Has}
-use Rattle.family_four_slot.specs.Family.{FamilyRule}
-use Rattle.family_four_slot.specs.Places.{four_slots, writer_of, reader_of}
-
--- m of these in turn
-abbrev pub upto : {A : Type 0} → (ℕ → A) → ℕ → ℕ → List A
-upto f i zero = []
-upto f i (suc m) = f i ∷ upto f (i + 1) m
+use Rattle.family_table.specs.declared.notes.Process.{Process}
+use Rattle.family_table.specs.declared.notes.View.{View}
+use Rattle.family_table.specs.declared.notes.View.TheVariants.{Has}
+use Rattle.family_table.specs.Family.{FamilyRule}
+use Rattle.family_four_slot.specs.Places.{four_slots}
+use Rattle.family_table.specs.Places.{writer_of, reader_of}
+use Rattle.family_table.specs.Places.{upto}
 
 module _ {T : Type 0} where
   -- what a process knows of cell k at the start

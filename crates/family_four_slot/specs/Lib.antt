@@ -1,10 +1,7 @@
-pub mod Family
 pub mod FourSlots
-pub mod Layouts
 pub mod Places
 pub mod Seated
-pub mod Seats
+pub mod Shown
 pub mod Steps
 pub mod Tables
 pub mod Words
-pub mod Shown

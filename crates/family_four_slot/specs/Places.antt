@@ -1,17 +1,7 @@
--- The cells of a family of processes, and where they lie (this project's own): process i has a row of cells, one for each process,
--- and process j reads the cells of its column. The writer's words of a cell lie on a line of eight words, and the reader's word on the next
-use Rattle.std.specs.Prelude.{ℕ, zero, suc, ◌+◌, ◌*◌, ◌/◌, ◌%◌}
-use Rattle.family_four_slot.specs.Layouts.{Layout}
-
--- the cell that process i writes and process j reads. A process has a cell that would be its own, and that nobody uses
-abbrev pub place : ℕ → ℕ → ℕ → ℕ
-place n i j = i * n + j
-
-abbrev pub writer_of : ℕ → ℕ → ℕ
-writer_of n k = k / n
-
-abbrev pub reader_of : ℕ → ℕ → ℕ
-reader_of n k = k % n
+-- Where the four-slot cells of a family lie (this project's own): the writer's words of a cell on a line of eight words, and the reader's
+-- word on the next
+use Rattle.std.specs.Prelude.{ℕ, zero, suc, ◌+◌, ◌*◌}
+use Rattle.family_table.specs.Layouts.{Layout}
 
 -- the words of a cell: `latest`, `reading`, and the bits of the pairs
 abbrev pub offset : ℕ → ℕ

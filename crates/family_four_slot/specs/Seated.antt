@@ -16,13 +16,14 @@ use Rattle.family_four_slot.specs.declared.family.FourSlotFamily.{FourSlotFamily
 use Rattle.family_four_slot.specs.declared.family.FourSlotSeat.{FourSlotSeat}
 use Rattle.family_four_slot.specs.declared.family.FourSlotTold.{FourSlotTold}
 use Rattle.family_four_slot.specs.declared.table.FamilySeat.{FamilySeat}
-use Rattle.family_four_slot.specs.declared.notes.Process.{Process}
-use Rattle.family_four_slot.specs.declared.notes.Receipt.{Receipt}
-use Rattle.family_four_slot.specs.declared.notes.View.TheVariants.{Told, Has}
-use Rattle.family_four_slot.specs.Family.{of_cell}
+use Rattle.family_table.specs.declared.notes.Process.{Process}
+use Rattle.family_table.specs.declared.notes.Receipt.{Receipt}
+use Rattle.family_table.specs.declared.notes.View.TheVariants.{Told, Has}
+use Rattle.family_table.specs.Family.{of_cell}
 use Rattle.family_four_slot.specs.FourSlots.{first_process}
-use Rattle.family_four_slot.specs.Places.{place, writer_of}
-use Rattle.family_four_slot.specs.Words.{process_of, receipt_in, writes_to, reads_from, shown_to, IsAtRest}
+use Rattle.family_table.specs.Places.{place, writer_of}
+use Rattle.family_table.specs.Views.{process_of, receipt_in}
+use Rattle.family_four_slot.specs.Words.{writes_to, reads_from, shown_to, IsAtRest}
 
 pub three_steps : 0 < 3
 three_steps = omega arith

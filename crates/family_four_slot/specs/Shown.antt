@@ -3,7 +3,7 @@ use Rattle.std.specs.Prelude.{◌≡◌, ℕ, List, slice_get, Some}
 use mathlib.Core.Option.{some}
 use lib.ListN.{get_elem?}
 use Rattle.cell_four_slot.specs.Steps.{FourSlotSight}
-use Rattle.family_four_slot.specs.declared.notes.Process.{Process}
+use Rattle.family_table.specs.declared.notes.Process.{Process}
 use Rattle.family_four_slot.specs.declared.family.FourSlotSeat.{FourSlotSeat}
 use Rattle.family_four_slot.specs.Tables.{IsEnded}
 use Rattle.family_four_slot.specs.Seated.{known_by}

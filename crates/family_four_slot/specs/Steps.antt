@@ -11,12 +11,12 @@ use Rattle.cell_four_slot.specs.declared.notes.WriterNotes.{WriterNotes}
 use Rattle.cell_four_slot.specs.declared.notes.ReaderNotes.{ReaderNotes}
 use Rattle.cell_live.specs.declared.sight.Sight.TheVariants.{Spent, Writer, Reader}
 use Rattle.cell_four_slot.specs.Steps.{FourSlotSight, begun_with, stored_by, finished_with, asked_by, said_with, got_by, slot_of_choice, word_said, HasAnswered}
-use Rattle.family_four_slot.specs.declared.notes.Process.{Process}
-use Rattle.family_four_slot.specs.declared.notes.View.{View}
-use Rattle.family_four_slot.specs.declared.notes.View.TheVariants.{Has}
-use Rattle.family_four_slot.specs.Layouts.{shift}
+use Rattle.family_table.specs.declared.notes.Process.{Process}
+use Rattle.family_table.specs.declared.notes.View.{View}
+use Rattle.family_table.specs.declared.notes.View.TheVariants.{Has}
+use Rattle.family_table.specs.Layouts.{shift}
 use Rattle.family_four_slot.specs.Places.{word_at, slot_at}
-use Rattle.family_four_slot.specs.Family.{of_cell, knows}
+use Rattle.family_table.specs.Family.{of_cell, knows}
 
 abbrev Sat : Type 0 → Type 0
 Sat T = Me T (View (FourSlotSight T))

@@ -1,5 +1,5 @@
 -- What contracts see of a family of four-slot cells (this project's own).
-use Rattle.std.specs.Prelude.{◌≡◌, ◌≢◌, ℕ, ◌*◌, ◌<◌, ◌≤◌, nat_eq, cond, List, [], ◌∷◌, ◌++◌, length, slice_index_or, slice_index}
+use Rattle.std.specs.Prelude.{◌≡◌, ◌≢◌, ℕ, ◌*◌, ◌<◌, ◌≤◌, nat_eq, cond, List, [], ◌++◌, length, slice_index_or, slice_index}
 use Rattle.four_slot_core.specs.declared.state.Stage.TheVariants as writer
 use Rattle.four_slot_core.specs.declared.state.ReaderStage.TheVariants as reader
 use Rattle.four_slot_core.specs.Events.{bit_number}
@@ -12,31 +12,12 @@ use Rattle.cell_four_slot.specs.Steps.{FourSlotSight, first_writer, first_reader
 use Rattle.family_live.specs.Accesses.{WriteAccesses, ReadAccesses}
 use Rattle.family_four_slot.specs.declared.family.Shown.{Shown}
 use Rattle.family_four_slot.specs.declared.family.Stored.{Stored}
-use Rattle.family_four_slot.specs.declared.notes.Process.{Process}
-use Rattle.family_four_slot.specs.declared.notes.Receipt.{Receipt}
-use Rattle.family_four_slot.specs.declared.notes.View.{View}
-use Rattle.family_four_slot.specs.declared.notes.View.TheVariants.{Told, Has}
-use Rattle.family_four_slot.specs.Layouts.{shift}
-use Rattle.family_four_slot.specs.Places.{place, slot_at, writer_of}
-use Rattle.family_four_slot.specs.Family.{of_cell}
+use Rattle.family_table.specs.declared.notes.Process.{Process}
+use Rattle.family_table.specs.Layouts.{shift}
+use Rattle.family_table.specs.Places.{place, writer_of}
+use Rattle.family_four_slot.specs.Places.{slot_at}
+use Rattle.family_table.specs.Family.{of_cell}
 use Rattle.family_four_slot.specs.FourSlots.{Idle}
-
-module _ {V : Type 0} where
-  -- the process that a view has, and the receipt
-  abbrev pub no_process : Process V
-  no_process = record { who = 0; clock = 0; times = []; held = []; parts = [] }
-
-  abbrev pub first_or : Process V → List (Process V) → Process V
-  first_or d [] = d
-  first_or d (p ∷ ps) = p
-
-  abbrev pub process_of : View V → Process V
-  process_of (Told r) = no_process
-  process_of (Has ps) = first_or no_process ps
-
-  abbrev pub receipt_in : View V → Receipt V
-  receipt_in (Told r) = r
-  receipt_in (Has ps) = record { clock = 0; parts = [] }
 
 module _ {T : Type 0} (o : T) (n : ℕ) where
   -- what a process wrote to process j, and what it read from it. It has no cell of its own

@@ -6,13 +6,14 @@
 //! the load or the store before it makes both steps, and they take two positions of the schedule. So an access has three steps
 //! whatever it found.
 //!
-//! The rule that words, slots and seats keep between any two steps stands in `specs/Family.antt` and `specs/FourSlots.antt`, where each cell
-//! lies in `specs/Places.antt`, and what contracts see of a seat in `specs/Seated.antt`.
+//! The rule that words, slots and seats keep between any two steps stands in `specs/FourSlots.antt`, where each cell lies in
+//! `specs/Places.antt`, and what contracts see of a seat in `specs/Seated.antt`.
 #![tactic(auto)]
 
 use atomic_table::TableRule;
 use cell_live::Lawful;
-use notes::{FamilySight, Opened};
+use family_table::notes::Opened;
+use notes::FamilySight;
 
 mod family;
 pub mod notes;
@@ -20,7 +21,6 @@ mod plays;
 mod table;
 
 pub use family::{FourSlotFamily, FourSlotSeat, FourSlotTold};
-pub use table::place;
 
 /// The rule of the table.
 pub struct FamilyLaw;

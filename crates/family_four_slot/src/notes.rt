@@ -1,51 +1,6 @@
-//! What the seats of a family know, and what its table is told once. No value of the first three types is made.
-ghost use Rattle.std.specs.Prelude.{ℕ, List, []};
-
+//! What the seats of a family of four-slot cells know.
 use cell_four_slot::FourSlotSight;
-use std::collections::LinkedList;
-use std::marker::Brand;
-
-/// What a process knows: its number, the last time of which it knows, the times of its steps, the slots that its seat has, and what
-/// it knows of each cell.
-pub struct Process<V> {
-    pub who: u64,
-    pub clock: u64,
-    pub times: LinkedList<u64>,
-    pub held: LinkedList<u64>,
-    pub parts: LinkedList<V>,
-}
-
-/// What a receipt tells: a time, and of each cell what its sender tells the reader.
-pub struct Receipt<V> {
-    pub clock: u64,
-    pub parts: LinkedList<V>,
-}
-
-/// What a seat knows: a receipt, or what some processes know.
-pub enum View<V> {
-    Told(Receipt<V>),
-    Has(LinkedList<Process<V>>),
-}
-
-/// The record that all cells open with, and how many processes there are.
-#[derive(Drop)]
-pub struct Opened<T: Copy> {
-    pub first: T,
-    pub processes: usize,
-}
-
-/// What a family opened with, which a step that changes nothing shows together with all calls so far.
-pub trait Opening<T> {
-    ghost first: { List T };
-
-    ghost processes: { ℕ };
-}
-
-impl<T> Opening<T> for Brand {
-    ghost first = { [] };
-
-    ghost processes = { 0 };
-}
+use family_table::notes::View;
 
 /// What a seat of a family of four-slot cells knows.
 pub type FamilySight<T> = View<FourSlotSight<T>>;

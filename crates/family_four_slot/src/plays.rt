@@ -3,11 +3,12 @@ ghost use Rattle.std.specs.Prelude.{List, []};
 ghost use Rattle.cell_four_slot.specs.Steps.{hears_of, receipt_for};
 ghost use Rattle.family_four_slot.specs.Steps.{begins, stores_on, finishes, asks_on, says, takes};
 ghost use Rattle.family_four_slot.specs.Tables.{shows};
-ghost use Rattle.family_four_slot.specs.Seats.{all_but_first, first_of, no_process, all_of, told_by, learnt_by, joined, no_one};
+ghost use Rattle.family_table.specs.Seats.{all_but_first, first_of, no_process, all_of, told_by, learnt_by, joined, no_one};
 
-use crate::notes::{FamilySight, Opening};
+use crate::notes::FamilySight;
 use atomic_table::{Join, Play, Split};
 use cell_live::Lawful;
+use family_table::notes::Opening;
 use std::marker::{Brand, PhantomData};
 
 /// The record of a write, which its first load tells the view.

@@ -12,20 +12,20 @@ ghost use Rattle.cell_four_slot.specs.declared.notes.WriterNotes.{WriterNotes};
 ghost use Rattle.cell_four_slot.specs.declared.notes.ReaderNotes.{ReaderNotes};
 ghost use Rattle.cell_live.specs.declared.sight.Sight.TheVariants.{Writer, Reader, Spent};
 ghost use Rattle.cell_four_slot.specs.Steps.{FourSlotSight, slot_of_choice, word_said};
-ghost use Rattle.family_four_slot.specs.declared.notes.Process.{Process};
-ghost use Rattle.family_four_slot.specs.Layouts.{shift};
-ghost use Rattle.family_four_slot.specs.Places.{four_slots, place, slot_at};
+ghost use Rattle.family_table.specs.declared.notes.Process.{Process};
+ghost use Rattle.family_table.specs.Layouts.{shift};
+ghost use Rattle.family_four_slot.specs.Places.{four_slots, slot_at};
 ghost use Rattle.family_four_slot.specs.FourSlots.{first_view, Idle};
 ghost use Rattle.family_four_slot.specs.Steps.{begins, stores_on, publishes, finishes, asks_on, announces, says, takes};
 ghost use Rattle.family_four_slot.specs.Tables.{HasWriter, HasReader, IsEnded};
-ghost use Rattle.family_four_slot.specs.declared.notes.Receipt.{Receipt};
-ghost use Rattle.family_four_slot.specs.declared.notes.View.TheVariants.{Told, Has};
-ghost use Rattle.family_four_slot.specs.Family.{of_cell};
-ghost use Rattle.family_four_slot.specs.Seats.{all_but_first, all_of, first_of, no_process, told_by, learnt_by, joined};
+ghost use Rattle.family_table.specs.declared.notes.Receipt.{Receipt};
+ghost use Rattle.family_table.specs.declared.notes.View.TheVariants.{Told, Has};
+ghost use Rattle.family_table.specs.Family.{of_cell};
+ghost use Rattle.family_table.specs.Seats.{all_but_first, all_of, first_of, no_process, told_by, learnt_by, joined};
 ghost use Rattle.cell_four_slot.specs.Steps.{hears_of, receipt_for};
 
 use crate::FamilyLaw;
-use crate::notes::{FamilySight, Opened, Opening};
+use crate::notes::FamilySight;
 use crate::plays::{
     All, Asks, Begins, Finishes, First, Gathers, Item, Learns, Repeats, Says, Shows, Stores, Takes,
     Tells,
@@ -33,6 +33,7 @@ use crate::plays::{
 use atomic_table::{Seat, Table};
 use cell_live::{Lawful, empty};
 use family_live::Sees;
+use family_table::notes::{Opened, Opening};
 use std::alloc::{AllocError, Global};
 use std::marker::Brand;
 use std::snapshot::Snapshot;
@@ -67,15 +68,6 @@ fn slot_place(cell: usize, slot: usize) -> usize
     ensures { result ≡ slot_at cell slot }
 {
     4 * cell + slot
-}
-
-/// The cell that process `i` writes and process `j` reads.
-#[inline]
-pub fn place(processes: usize, i: usize, j: usize) -> usize
-    requires { (processes ≤ 16) × (i < processes) × (j < processes) }
-    ensures { result ≡ place processes i j }
-{
-    i * processes + j
 }
 
 impl<T: Lawful> FamilyTable<T> {

@@ -8,8 +8,8 @@ use Rattle.atomic_table.specs.Table.{Act, keeps, takes, gives, chain, carried_af
 use Rattle.atomic_table.proofs.Lists.{set_here, set_else}
 use Rattle.cell_live.specs.Acts.{ProperAll}
 use Rattle.cell_live.specs.Running.{held_slots}
-use Rattle.family_four_slot.specs.Layouts.{gather, shift, shift_act, Inside, IsInCell, Distinct, Disjoint, Out}
-use Rattle.family_four_slot.proofs.Slices.{gather_at, gather_set, gather_apart, set_long, within}
+use Rattle.family_table.specs.Layouts.{gather, shift, shift_act, Inside, IsInCell, Distinct, Disjoint, Out}
+use Rattle.family_table.proofs.Slices.{gather_at, gather_set, gather_apart, set_long, within}
 
 module _ {S : Type 0} where
   pub carried_shift : (f : ℕ → ℕ) (c others : List (ℕ × S)) (a : Act S) → ProperAll c a →

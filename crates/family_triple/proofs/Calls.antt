@@ -13,11 +13,11 @@ use Rattle.cell_triple.specs.declared.notes.ReaderNotes.{ReaderNotes}
 use Rattle.cell_live.specs.declared.sight.Sight.TheVariants.{Spent, Writer, Reader}
 use Rattle.cell_triple.specs.Steps.{TripleSight, first_writer, first_reader, published, answered, HasAnswered}
 use Rattle.family_live.specs.Accesses.{IsAccess, IsReadAccess, IsWriteAccess, KeepsEach, KeepsOthers, ReadAccesses, WriteAccesses}
-use Rattle.family_four_slot.specs.declared.notes.Process.{Process}
-use Rattle.family_four_slot.specs.Family.{of_cell, knows}
-use Rattle.family_four_slot.specs.Places.{place}
-use Rattle.family_four_slot.proofs.Places.{place_in, place_apart}
-use Rattle.family_four_slot.proofs.Slices.{get_set_here, get_set_else}
+use Rattle.family_table.specs.declared.notes.Process.{Process}
+use Rattle.family_table.specs.Family.{of_cell, knows}
+use Rattle.family_table.specs.Places.{place}
+use Rattle.family_table.proofs.Places.{place_in, place_apart}
+use Rattle.family_table.proofs.Slices.{get_set_here, get_set_else}
 use Rattle.family_triple.specs.Steps.{alters}
 use Rattle.family_triple.specs.Words.{writes_by, reads_by, writes_to, reads_from}
 

@@ -10,8 +10,8 @@ use Rattle.cell_live.specs.declared.sight.Sight.TheVariants.{Spent, Told, Writer
 use Rattle.cell_triple.specs.Rule.{Sees}
 use Rattle.cell_triple.specs.Steps.{TripleSight, first_writer, first_reader, receipt_for, hears_of}
 use Rattle.cell_triple.proofs.Keeps.{reseated_by, tells_by, hears_by, starts_by}
-use Rattle.family_four_slot.specs.Family.{CellTells, CellHears}
-use Rattle.family_four_slot.specs.Places.{writer_of, reader_of}
+use Rattle.family_table.specs.Family.{CellTells, CellHears}
+use Rattle.family_table.specs.Places.{writer_of, reader_of}
 use Rattle.family_triple.specs.Triples.{CellRule, Any, first_part}
 
 module _ {T : Type 0} (fits : T → Type 0) (rises : T → T → Type 0) (o : T) where

@@ -4,7 +4,7 @@ use Rattle.family_live.specs.Rows.{OneByOne, IsReadFrom}
 use Rattle.family_live.proofs.Rows.{column_own}
 use Rattle.family_triple.specs.declared.family.TripleFamily.{TripleFamily}
 use Rattle.family_triple.specs.declared.family.TripleSeat.{TripleSeat}
-use Rattle.family_four_slot.specs.Places.{place}
+use Rattle.family_table.specs.Places.{place}
 use Rattle.family_triple.specs.Seated.{opening_of, number_of, clock_of, times_of, writes_of, reads_of, IsSeat}
 
 module _ {T L : Type 0} (f : TripleFamily T) (fits : T → Type 0) (rises : T → T → Type 0) (sees : L → T → L → Type 0) where

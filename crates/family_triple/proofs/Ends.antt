@@ -10,13 +10,13 @@ use Rattle.cell_live.specs.declared.sight.Sight.TheVariants.{Spent, Writer, Read
 use Rattle.cell_triple.specs.Rule.{TripleRule}
 use Rattle.cell_triple.specs.Steps.{TripleSight}
 use Rattle.cell_triple.proofs.Timing.{timed_atomic}
-use Rattle.family_four_slot.specs.declared.notes.Process.{Process}
-use Rattle.family_four_slot.specs.declared.notes.Receipt.{Receipt}
-use Rattle.family_four_slot.specs.declared.notes.View.{View}
-use Rattle.family_four_slot.specs.declared.notes.View.TheVariants.{Has}
-use Rattle.family_four_slot.specs.Family.{of_cell, cell, Shows}
-use Rattle.family_four_slot.proofs.Seats.{each_at}
-use Rattle.family_four_slot.proofs.Slices.{same_one, set_found, set_there}
+use Rattle.family_table.specs.declared.notes.Process.{Process}
+use Rattle.family_table.specs.declared.notes.Receipt.{Receipt}
+use Rattle.family_table.specs.declared.notes.View.{View}
+use Rattle.family_table.specs.declared.notes.View.TheVariants.{Has}
+use Rattle.family_table.specs.Family.{of_cell, cell, Shows}
+use Rattle.family_table.proofs.Seats.{each_at}
+use Rattle.family_table.proofs.Slices.{same_one, set_found, set_there}
 use Rattle.family_triple.specs.Places.{triples}
 use Rattle.family_triple.specs.Triples.{TripleFamily}
 use Rattle.family_triple.specs.Tables.{IsEnded, IsDone, shows}

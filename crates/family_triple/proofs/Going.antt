@@ -9,14 +9,14 @@ use Rattle.cell_triple.specs.declared.notes.WriterNotes.{WriterNotes}
 use Rattle.cell_triple.specs.declared.notes.ReaderNotes.{ReaderNotes}
 use Rattle.cell_triple.specs.Steps.{TripleSight, published, answered}
 use Rattle.family_live.specs.Accesses.{IsAccess, IsReadAccess, IsWriteAccess, KeepsEach, KeepsOthers, ReadAccesses}
-use Rattle.family_four_slot.specs.declared.notes.Process.{Process}
-use Rattle.family_four_slot.specs.declared.notes.View.{View}
-use Rattle.family_four_slot.specs.declared.notes.View.TheVariants.{Has}
-use Rattle.family_four_slot.specs.Family.{of_cell, knows}
-use Rattle.family_four_slot.specs.Places.{place}
-use Rattle.family_four_slot.specs.Words.{process_of}
-use Rattle.family_four_slot.proofs.Places.{place_in}
-use Rattle.family_four_slot.proofs.Slices.{get_set_here, get_set_else, set_long}
+use Rattle.family_table.specs.declared.notes.Process.{Process}
+use Rattle.family_table.specs.declared.notes.View.{View}
+use Rattle.family_table.specs.declared.notes.View.TheVariants.{Has}
+use Rattle.family_table.specs.Family.{of_cell, knows}
+use Rattle.family_table.specs.Places.{place}
+use Rattle.family_table.specs.Views.{process_of}
+use Rattle.family_table.proofs.Places.{place_in}
+use Rattle.family_table.proofs.Slices.{get_set_here, get_set_else, set_long}
 use Rattle.family_triple.specs.declared.family.TripleFamily.{TripleFamily}
 use Rattle.family_triple.specs.declared.family.TripleSeat.{TripleSeat}
 use Rattle.family_triple.specs.Access.{HasLooked}

@@ -9,14 +9,15 @@ use Rattle.cell_triple.specs.declared.notes.WriterNotes.{WriterNotes}
 use Rattle.cell_triple.specs.declared.notes.ReaderNotes.{ReaderNotes}
 use Rattle.cell_triple.specs.Steps.{TripleSight, first_writer, first_reader, receipt_for, hears_of, heard_by}
 use Rattle.family_live.specs.Accesses.{IsHeardRead, KeepsEach, KeepsOthers, ReadAccesses}
-use Rattle.family_four_slot.specs.declared.notes.Process.{Process}
-use Rattle.family_four_slot.specs.declared.notes.Receipt.{Receipt}
-use Rattle.family_four_slot.specs.Family.{of_cell, heard_by as family_heard}
-use Rattle.family_four_slot.specs.Places.{place, writer_of}
+use Rattle.family_table.specs.declared.notes.Process.{Process}
+use Rattle.family_table.specs.declared.notes.Receipt.{Receipt}
+use Rattle.family_table.specs.Family.{of_cell, heard_by as family_heard}
+use Rattle.family_table.specs.Places.{place, writer_of}
 use Rattle.family_triple.specs.Places.{among}
-use Rattle.family_four_slot.proofs.Learning.{past, heard_long}
-use Rattle.family_four_slot.proofs.Places.{writer_there}
-use Rattle.family_four_slot.proofs.Receipts.{heard_cell}
+use Rattle.family_table.proofs.Slices.{past}
+use Rattle.family_table.proofs.Receipts.{heard_long}
+use Rattle.family_table.proofs.Places.{writer_there}
+use Rattle.family_table.proofs.Receipts.{heard_cell}
 use Rattle.family_triple.specs.Words.{writes_by, reads_by, writes_to, reads_from, IsAtRest, IsColumn}
 use Rattle.family_triple.proofs.Calls.{sees_reads, yes_same, not_same}
 use Rattle.family_triple.proofs.Cells.{deaf, mute}

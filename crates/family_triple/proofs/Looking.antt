@@ -6,11 +6,11 @@ use Rattle.cell_live.specs.Running.{held_slots}
 use Rattle.cell_live.specs.declared.sight.Sight.TheVariants.{Spent, Reader}
 use Rattle.cell_triple.specs.declared.notes.ReaderNotes.{ReaderNotes}
 use Rattle.cell_triple.specs.Steps.{TripleSight, looked_by, asked_by, fetched, answered}
-use Rattle.family_four_slot.specs.declared.notes.Process.{Process}
-use Rattle.family_four_slot.specs.declared.notes.View.{View}
-use Rattle.family_four_slot.specs.declared.notes.View.TheVariants.{Has}
-use Rattle.family_four_slot.specs.Family.{knows}
-use Rattle.family_four_slot.proofs.Slices.{get_set_here, set_long, set_twice}
+use Rattle.family_table.specs.declared.notes.Process.{Process}
+use Rattle.family_table.specs.declared.notes.View.{View}
+use Rattle.family_table.specs.declared.notes.View.TheVariants.{Has}
+use Rattle.family_table.specs.Family.{knows}
+use Rattle.family_table.proofs.Slices.{get_set_here, set_long, set_twice}
 use Rattle.family_triple.specs.Access.{HasLooked}
 use Rattle.family_triple.specs.Places.{slot_at}
 use Rattle.family_triple.specs.Steps.{alters, looks, fetches}

@@ -9,16 +9,16 @@ use Rattle.cell_live.specs.declared.sight.Sight.TheVariants.{Spent, Writer, Read
 use Rattle.cell_triple.specs.Steps.{TripleSight}
 use Rattle.family_live.specs.Accesses.{WriteAccesses, ReadAccesses, IsUnused}
 use Rattle.family_live.specs.Ends.{Each, EachTwo, IsSchedule, IsAtomicCell}
-use Rattle.family_four_slot.specs.declared.notes.Process.{Process}
-use Rattle.family_four_slot.specs.declared.notes.View.TheVariants.{Has}
-use Rattle.family_four_slot.specs.Family.{of_cell}
-use Rattle.family_four_slot.specs.FourSlots.{upto}
-use Rattle.family_four_slot.specs.Places.{place}
-use Rattle.family_four_slot.specs.Seats.{all_but_first}
-use Rattle.family_four_slot.specs.Words.{process_of}
-use Rattle.family_four_slot.proofs.Gathering.{each_more}
-use Rattle.family_four_slot.proofs.Parting.{upto_next}
-use Rattle.family_four_slot.proofs.Places.{place_in}
+use Rattle.family_table.specs.declared.notes.Process.{Process}
+use Rattle.family_table.specs.declared.notes.View.TheVariants.{Has}
+use Rattle.family_table.specs.Family.{of_cell}
+use Rattle.family_table.specs.Places.{upto}
+use Rattle.family_table.specs.Places.{place}
+use Rattle.family_table.specs.Seats.{all_but_first}
+use Rattle.family_table.specs.Views.{process_of}
+use Rattle.family_table.proofs.Gathering.{each_more}
+use Rattle.family_table.proofs.Firsts.{upto_next}
+use Rattle.family_table.proofs.Places.{place_in}
 use Rattle.family_triple.specs.declared.family.TripleFamily.{TripleFamily}
 use Rattle.family_triple.specs.declared.family.TripleSeat.{TripleSeat}
 use Rattle.family_triple.specs.declared.table.FamilySeat.{FamilySeat}

@@ -2,7 +2,7 @@
 use Rattle.std.proofs.Common.{◌≡◌, ◌≢◌, ℕ, ◌+◌, ◌-◌, ◌*◌, ◌<◌, ◌≤◌, nat_lt, cond, true, false, ap, ◌∙◌, ⊎_elim, arith}
 use Rattle.std.proofs.lemmas.Bool.Decides.{nat_tests}
 use Rattle.std.proofs.lemmas.Bool.{cases_lt}
-use Rattle.family_four_slot.specs.Layouts.{IsLayout}
+use Rattle.family_table.specs.Layouts.{IsLayout}
 use Rattle.history_core.specs.Others.{other}
 use Rattle.family_triple.specs.Places.{among, triples, word_at, slot_at}
 

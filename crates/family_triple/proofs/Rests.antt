@@ -8,11 +8,11 @@ use Rattle.cell_live.specs.declared.sight.Sight.TheVariants.{Spent, Writer, Read
 use Rattle.cell_triple.specs.declared.notes.WriterNotes.{WriterNotes}
 use Rattle.cell_triple.specs.declared.notes.ReaderNotes.{ReaderNotes}
 use Rattle.cell_triple.specs.Steps.{TripleSight, receipt_for}
-use Rattle.family_four_slot.specs.declared.notes.Process.{Process}
-use Rattle.family_four_slot.specs.Family.{of_cell}
-use Rattle.family_four_slot.specs.Places.{place, writer_of}
-use Rattle.family_four_slot.proofs.Places.{place_in, place_apart, writer_there}
-use Rattle.family_four_slot.proofs.Slices.{get_set_here, get_set_else, set_long}
+use Rattle.family_table.specs.declared.notes.Process.{Process}
+use Rattle.family_table.specs.Family.{of_cell}
+use Rattle.family_table.specs.Places.{place, writer_of}
+use Rattle.family_table.proofs.Places.{place_in, place_apart, writer_there}
+use Rattle.family_table.proofs.Slices.{get_set_here, get_set_else, set_long}
 use Rattle.history_core.specs.Others.{other}
 use Rattle.family_triple.specs.Places.{among, slot_at}
 use Rattle.family_triple.specs.Steps.{goes_on}

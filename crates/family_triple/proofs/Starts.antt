@@ -1,25 +1,21 @@
 -- Words without a mark and copies of the record are a family at the start.
-use Rattle.std.proofs.Common.{◌≡◌, ℕ, zero, suc, ◌+◌, ◌*◌, List, [], ◌∷◌, ◌++◌, map, length, replicate}
+use Rattle.std.proofs.Common.{◌≡◌, ℕ, ◌+◌, ◌*◌, List, [], ◌∷◌, ◌++◌, map, replicate}
 use Rattle.std.proofs.Common.{refl, sym, ap, ◌∙◌, subst, arith, append-nil}
 use mathlib.Core.Option.{none, some}
 use Rattle.atomic_table.specs.Table.{opening}
 use Rattle.cell_live.specs.declared.sight.Sight.TheVariants.{Spent}
 use Rattle.cell_triple.specs.Steps.{TripleSight}
-use Rattle.family_four_slot.specs.declared.notes.Process.{Process}
-use Rattle.family_four_slot.specs.Layouts.{gather}
-use Rattle.family_four_slot.specs.Family.{of_cell}
-use Rattle.family_four_slot.specs.FourSlots.{upto}
-use Rattle.family_four_slot.proofs.Slices.{gather_replicate}
-use Rattle.family_four_slot.proofs.Seats.{family_starts}
-use Rattle.family_four_slot.proofs.Starts.{upto_long, upto_at, upto_get, map_at, map_replicate}
+use Rattle.family_table.specs.declared.notes.Process.{Process}
+use Rattle.family_table.specs.Layouts.{gather}
+use Rattle.family_table.specs.Family.{of_cell}
+use Rattle.family_table.specs.Places.{upto}
+use Rattle.family_table.proofs.Slices.{gather_replicate}
+use Rattle.family_table.proofs.Seats.{family_starts}
+use Rattle.family_table.proofs.Firsts.{upto_long, upto_at, upto_get, map_at, map_replicate, replicate_long}
 use Rattle.family_triple.specs.Places.{triples}
 use Rattle.family_triple.specs.Triples.{first_part, first_process, first_view, CellRule, TripleFamily}
 use Rattle.family_triple.proofs.Places.{is_layout}
 use Rattle.family_triple.proofs.Cells.{cell_starts}
-
-replicate_long : {A : Type 0} (n : ℕ) (x : A) → length (replicate n x) ≡ n
-replicate_long zero x = refl
-replicate_long (suc n) x = ap suc (replicate_long n x)
 
 module _ {T : Type 0} (fits : T → Type 0) (rises : T → T → Type 0) (o : T) (n : ℕ) where
   abbrev V : Type 0

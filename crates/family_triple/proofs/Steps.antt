@@ -12,15 +12,15 @@ use Rattle.atomic_table.specs.Table.{State, Me, Act, carried_after, homes_after,
 use Rattle.atomic_table.proofs.Lists.{at_set, set_here}
 use Rattle.cell_live.specs.Acts.{ProperAll}
 use Rattle.cell_live.specs.Running.{held_slots}
-use Rattle.family_four_slot.specs.declared.notes.Process.{Process}
-use Rattle.family_four_slot.specs.declared.notes.Receipt.{Receipt}
-use Rattle.family_four_slot.specs.declared.notes.View.{View}
-use Rattle.family_four_slot.specs.declared.notes.View.TheVariants.{Has}
-use Rattle.family_four_slot.specs.Layouts.{Layout, IsLayout, gather, shift, shift_act, Inside, Distinct, Disjoint, Out}
-use Rattle.family_four_slot.specs.Family.{total, of_cell, knows, cell, holders, Shows, FamilyRule, StepTells}
-use Rattle.family_four_slot.proofs.Slices.{gather_set, gather_apart, get_set_here, get_set_else, set_long, map_set, map_same, set_front, within}
-use Rattle.family_four_slot.proofs.Steps.{count_of, shows_set}
-use Rattle.family_four_slot.proofs.Totals.{total_set, total_two}
+use Rattle.family_table.specs.declared.notes.Process.{Process}
+use Rattle.family_table.specs.declared.notes.Receipt.{Receipt}
+use Rattle.family_table.specs.declared.notes.View.{View}
+use Rattle.family_table.specs.declared.notes.View.TheVariants.{Has}
+use Rattle.family_table.specs.Layouts.{Layout, IsLayout, gather, shift, shift_act, Inside, Distinct, Disjoint, Out}
+use Rattle.family_table.specs.Family.{total, of_cell, knows, cell, holders, Shows, FamilyRule, StepTells}
+use Rattle.family_table.proofs.Slices.{gather_set, gather_apart, get_set_here, get_set_else, set_long, map_set, map_same, set_front, within}
+use Rattle.family_table.proofs.Steps.{count_of, shows_set}
+use Rattle.family_table.proofs.Totals.{total_set, total_two}
 use Rattle.family_triple.specs.Steps.{goes_on, alters}
 use Rattle.family_triple.specs.Tables.{IsRotated}
 use Rattle.family_triple.proofs.Acts.{carried_shift, valid_shift, homes_gather, homes_apart, homes_long, proper_shift, Effect, acts_effect}

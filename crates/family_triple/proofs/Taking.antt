@@ -12,15 +12,15 @@ use Rattle.cell_live.specs.Sights.{writer_or, reader_or}
 use Rattle.cell_live.specs.declared.sight.Sight.TheVariants.{Spent, Writer, Reader}
 use Rattle.cell_triple.specs.Steps.{TripleSight, first_writer, first_reader, receipt_for}
 use Rattle.family_live.specs.Accesses.{no_writes, no_reads}
-use Rattle.family_four_slot.specs.declared.notes.Process.{Process}
-use Rattle.family_four_slot.specs.declared.notes.View.{View}
-use Rattle.family_four_slot.specs.declared.notes.View.TheVariants.{Has}
-use Rattle.family_four_slot.specs.Family.{of_cell}
-use Rattle.family_four_slot.specs.FourSlots.{upto}
-use Rattle.family_four_slot.specs.Places.{place, writer_of, reader_of}
-use Rattle.family_four_slot.proofs.Places.{place_in, place_apart, writer_there, reader_there}
-use Rattle.family_four_slot.proofs.Slices.{get_set_here, get_set_else, set_long}
-use Rattle.family_four_slot.proofs.Starts.{upto_long, upto_get}
+use Rattle.family_table.specs.declared.notes.Process.{Process}
+use Rattle.family_table.specs.declared.notes.View.{View}
+use Rattle.family_table.specs.declared.notes.View.TheVariants.{Has}
+use Rattle.family_table.specs.Family.{of_cell}
+use Rattle.family_table.specs.Places.{upto}
+use Rattle.family_table.specs.Places.{place, writer_of, reader_of}
+use Rattle.family_table.proofs.Places.{place_in, place_apart, writer_there, reader_there}
+use Rattle.family_table.proofs.Slices.{get_set_here, get_set_else, set_long}
+use Rattle.family_table.proofs.Firsts.{upto_long, upto_get}
 use Rattle.family_triple.specs.Access.{IsReady}
 use Rattle.history_core.specs.Others.{other}
 use Rattle.family_triple.specs.Places.{among, slot_at}

@@ -7,17 +7,17 @@ use Rattle.cell_live.specs.Sights.{receipt_or}
 use Rattle.cell_live.specs.declared.sight.Sight.TheVariants.{Spent, Told as Tells}
 use Rattle.cell_triple.specs.Steps.{TripleSight, receipt_for, hears_of}
 use Rattle.family_live.specs.Accesses.{WriteAccesses}
-use Rattle.family_four_slot.specs.declared.notes.View.{View}
-use Rattle.family_four_slot.specs.declared.notes.View.TheVariants.{Told}
-use Rattle.family_four_slot.specs.Family.{of_cell, receipt_of}
-use Rattle.family_four_slot.specs.Places.{place, writer_of}
-use Rattle.family_four_slot.specs.Words.{receipt_in}
+use Rattle.family_table.specs.declared.notes.View.{View}
+use Rattle.family_table.specs.declared.notes.View.TheVariants.{Told}
+use Rattle.family_table.specs.Family.{of_cell, receipt_of}
+use Rattle.family_table.specs.Places.{place, writer_of}
+use Rattle.family_table.specs.Views.{receipt_in}
 use Rattle.family_triple.specs.declared.family.TripleFamily.{TripleFamily}
 use Rattle.family_triple.specs.declared.family.TripleSeat.{TripleSeat}
 use Rattle.family_triple.specs.declared.family.TripleTold.{TripleTold}
 use Rattle.family_triple.specs.declared.table.FamilySeat.{FamilySeat}
 use Rattle.family_triple.specs.Seated.{known_by, told_in, carried_by, number_of, processes_of, writes_of, IsSeat, IsTold}
-use Rattle.family_four_slot.proofs.Receipts.{receipt_cell}
+use Rattle.family_table.proofs.Receipts.{receipt_cell}
 use Rattle.family_triple.proofs.Calls.{sees_writes}
 use Rattle.family_triple.proofs.Cells.{deaf, mute}
 

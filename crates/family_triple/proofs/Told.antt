@@ -16,13 +16,13 @@ use Rattle.cell_live.specs.declared.sight.Sight.TheVariants.{Spent, Writer, Read
 use Rattle.cell_triple.specs.Steps.{TripleSight, clock_of, published, looked_by, asked_by, fetched, answered, MayAnswer, HasAnswered}
 use Rattle.cell_triple.specs.Steps.{put_took, get_took, put_swapped, looked, get_swapped}
 use Rattle.cell_triple.proofs.Keeps.{put_takes_at, get_takes_at, puts_at, asks_at, decides_at, gets_at}
-use Rattle.family_four_slot.specs.declared.notes.Process.{Process}
-use Rattle.family_four_slot.specs.declared.notes.Receipt.{Receipt}
-use Rattle.family_four_slot.specs.declared.notes.View.{View}
-use Rattle.family_four_slot.specs.declared.notes.View.TheVariants.{Told, Has}
-use Rattle.family_four_slot.specs.Layouts.{shift, Inside}
-use Rattle.family_four_slot.specs.Family.{of_cell, knows, cell, StepTells}
-use Rattle.family_four_slot.proofs.Slices.{gather_get}
+use Rattle.family_table.specs.declared.notes.Process.{Process}
+use Rattle.family_table.specs.declared.notes.Receipt.{Receipt}
+use Rattle.family_table.specs.declared.notes.View.{View}
+use Rattle.family_table.specs.declared.notes.View.TheVariants.{Told, Has}
+use Rattle.family_table.specs.Layouts.{shift, Inside}
+use Rattle.family_table.specs.Family.{of_cell, knows, cell, StepTells}
+use Rattle.family_table.proofs.Slices.{gather_get}
 use Rattle.family_triple.specs.Places.{triples, word_at, slot_at}
 use Rattle.family_triple.specs.Triples.{CellRule, TripleFamily}
 use Rattle.family_triple.specs.Steps.{alters, After, Beside, put_takes, get_takes, publishes, looks, fetches}

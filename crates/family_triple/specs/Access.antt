@@ -8,10 +8,10 @@ use Rattle.cell_live.specs.declared.sight.Sight.TheVariants.{Spent, Reader}
 use Rattle.cell_triple.specs.declared.notes.ReaderNotes.{ReaderNotes}
 use Rattle.cell_triple.specs.Steps.{TripleSight, answered, MayAnswer, HasAnswered}
 use Rattle.family_live.specs.Accesses.{IsUnused}
-use Rattle.family_four_slot.specs.declared.notes.Process.{Process}
-use Rattle.family_four_slot.specs.declared.notes.View.{View}
-use Rattle.family_four_slot.specs.declared.notes.View.TheVariants.{Has}
-use Rattle.family_four_slot.specs.Family.{knows}
+use Rattle.family_table.specs.declared.notes.Process.{Process}
+use Rattle.family_table.specs.declared.notes.View.{View}
+use Rattle.family_table.specs.declared.notes.View.TheVariants.{Has}
+use Rattle.family_table.specs.Family.{knows}
 use Rattle.family_triple.specs.Places.{slot_at}
 use Rattle.family_triple.specs.Words.{IsAtRest, writes_to, reads_from}
 

@@ -1,7 +1,7 @@
 -- Where the cells of a family of triple buffers lie: the word of each on a line of eight words, and its three slots side by side (this
 -- project's own).
 use Rattle.std.specs.Prelude.{ℕ, ◌+◌, ◌-◌, ◌*◌, nat_lt, cond}
-use Rattle.family_four_slot.specs.Layouts.{Layout}
+use Rattle.family_table.specs.Layouts.{Layout}
 
 -- the number of a process among the others of this one
 abbrev pub among : ℕ → ℕ → ℕ

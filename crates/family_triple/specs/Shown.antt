@@ -3,7 +3,7 @@ use Rattle.std.specs.Prelude.{◌≡◌, ℕ, List, slice_get, Some}
 use mathlib.Core.Option.{some}
 use lib.ListN.{get_elem?}
 use Rattle.cell_triple.specs.Steps.{TripleSight}
-use Rattle.family_four_slot.specs.declared.notes.Process.{Process}
+use Rattle.family_table.specs.declared.notes.Process.{Process}
 use Rattle.family_triple.specs.declared.family.TripleSeat.{TripleSeat}
 use Rattle.family_triple.specs.Tables.{IsEnded}
 use Rattle.family_triple.specs.Seated.{known_by}

@@ -9,10 +9,10 @@ use Rattle.cell_triple.specs.declared.notes.WriterNotes.{WriterNotes}
 use Rattle.cell_triple.specs.declared.notes.ReaderNotes.{ReaderNotes}
 use Rattle.cell_live.specs.declared.sight.Sight.TheVariants.{Spent, Writer, Reader}
 use Rattle.cell_triple.specs.Steps.{TripleSight, published, looked_by, asked_by, fetched, answered, MayAnswer, HasAnswered}
-use Rattle.family_four_slot.specs.declared.notes.Process.{Process}
-use Rattle.family_four_slot.specs.declared.notes.View.{View}
-use Rattle.family_four_slot.specs.declared.notes.View.TheVariants.{Has}
-use Rattle.family_four_slot.specs.Family.{of_cell, knows}
+use Rattle.family_table.specs.declared.notes.Process.{Process}
+use Rattle.family_table.specs.declared.notes.View.{View}
+use Rattle.family_table.specs.declared.notes.View.TheVariants.{Has}
+use Rattle.family_table.specs.Family.{of_cell, knows}
 use Rattle.family_triple.specs.Places.{word_at, slot_at}
 
 -- What a process knows after a step on cell k: with a clock and times to which it goes on; and after a step that isn't in the schedule

@@ -4,12 +4,12 @@ use Rattle.atomic_table.specs.Table.{State}
 use Rattle.cell_live.specs.declared.sight.Sight.TheVariants.{Spent, Writer, Reader}
 use Rattle.cell_triple.specs.Rule.{TripleRule}
 use Rattle.cell_triple.specs.Steps.{TripleSight, first_writer, first_reader}
-use Rattle.family_four_slot.specs.declared.notes.Process.{Process}
-use Rattle.family_four_slot.specs.declared.notes.View.{View}
-use Rattle.family_four_slot.specs.declared.notes.View.TheVariants.{Has}
-use Rattle.family_four_slot.specs.Family.{FamilyRule}
-use Rattle.family_four_slot.specs.FourSlots.{upto}
-use Rattle.family_four_slot.specs.Places.{writer_of, reader_of}
+use Rattle.family_table.specs.declared.notes.Process.{Process}
+use Rattle.family_table.specs.declared.notes.View.{View}
+use Rattle.family_table.specs.declared.notes.View.TheVariants.{Has}
+use Rattle.family_table.specs.Family.{FamilyRule}
+use Rattle.family_table.specs.Places.{upto}
+use Rattle.family_table.specs.Places.{writer_of, reader_of}
 use Rattle.family_triple.specs.Places.{triples}
 
 module _ {T : Type 0} where

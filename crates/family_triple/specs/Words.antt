@@ -9,9 +9,9 @@ use Rattle.cell_triple.specs.declared.notes.ReaderNotes.{ReaderNotes}
 use Rattle.cell_live.specs.declared.sight.Sight.TheVariants.{Spent, Writer, Reader}
 use Rattle.cell_triple.specs.Steps.{TripleSight, first_writer, first_reader, receipt_for}
 use Rattle.family_live.specs.Accesses.{WriteAccesses, ReadAccesses}
-use Rattle.family_four_slot.specs.declared.notes.Process.{Process}
-use Rattle.family_four_slot.specs.Family.{of_cell}
-use Rattle.family_four_slot.specs.Places.{place, writer_of}
+use Rattle.family_table.specs.declared.notes.Process.{Process}
+use Rattle.family_table.specs.Family.{of_cell}
+use Rattle.family_table.specs.Places.{place, writer_of}
 use Rattle.family_triple.specs.Places.{among, slot_at}
 use Rattle.family_triple.specs.Tables.{IsRotated}
 

@@ -3,12 +3,12 @@ ghost use Rattle.std.specs.Prelude.{◌≡◌, ◌≢◌, ℕ, ◌≤◌, ◌<�
 ghost use Rattle.history_core.specs.Schedules.{positions};
 ghost use Rattle.family_live.specs.Ends.{Each, EachTwo, IsSchedule, IsAtomicCell};
 ghost use Rattle.family_live.specs.Rows.{IsReadFrom};
-ghost use Rattle.family_four_slot.specs.Places.{place};
-ghost use Rattle.family_four_slot.specs.declared.notes.View.TheVariants.{Has};
+ghost use Rattle.family_table.specs.Places.{place};
+ghost use Rattle.family_table.specs.declared.notes.View.TheVariants.{Has};
 ghost use Rattle.family_triple.specs.Triples.{first_view};
 ghost use Rattle.family_triple.specs.Seated.{known_by, IsFirst, HasAll};
 ghost use Rattle.family_triple.specs.Shown.{HaveShown};
-ghost use Rattle.family_four_slot.specs.declared.notes.Process.{Process};
+ghost use Rattle.family_table.specs.declared.notes.Process.{Process};
 ghost use Rattle.cell_triple.specs.Steps.{TripleSight};
 ghost use Rattle.family_triple.specs.Seated.{opening_of, processes_of, number_of, clock_of, times_of, writes_of, reads_of, IsSeat};
 ghost use Rattle.family_triple.specs.Seated.{sender_of, time_of, named_by, carried_by, IsTold, one_is_few, one_step};
@@ -16,8 +16,8 @@ ghost use Rattle.family_triple.specs.Seated.{sender_of, time_of, named_by, carri
 use crate::slots::{among, newest, take_slots, turn_by};
 use crate::table::{FamilySeat, FamilyTable, slot_place};
 use cell_live::{Kept, Lawful};
-use family_four_slot::place;
 use family_live::{Family, Sees, SharedFamily};
+use family_table::place;
 use std::alloc::{AllocError, Global};
 
 /// Registers of a triple buffer each, in one table. A write makes one control access, a swap, and a read one or two.

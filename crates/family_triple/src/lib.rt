@@ -8,7 +8,7 @@
 
 use atomic_table::TableRule;
 use cell_live::Lawful;
-use family_four_slot::notes::Opened;
+use family_table::notes::Opened;
 use notes::FamilySight;
 
 mod family;

@@ -1,13 +1,13 @@
 //! What each step tells, and what goes from seat to seat.
 ghost use Rattle.cell_triple.specs.Steps.{hears_of, receipt_for};
-ghost use Rattle.family_four_slot.specs.Seats.{all_but_first, first_of, no_process, all_of, told_by, learnt_by, joined, no_one};
+ghost use Rattle.family_table.specs.Seats.{all_but_first, first_of, no_process, all_of, told_by, learnt_by, joined, no_one};
 ghost use Rattle.family_triple.specs.Tables.{shows};
 ghost use Rattle.family_triple.specs.Steps.{put_takes, get_takes, publishes, looks, fetches};
 
 use crate::notes::FamilySight;
 use atomic_table::{Join, Play, Split};
 use cell_live::Lawful;
-use family_four_slot::notes::Opening;
+use family_table::notes::Opening;
 use std::marker::PhantomData;
 
 pub(crate) struct PutTakes;

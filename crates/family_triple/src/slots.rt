@@ -3,8 +3,8 @@
 ghost use Rattle.std.specs.Prelude.{◌≡◌, ◌≢◌, ℕ, ◌+◌, ◌*◌, ◌-◌, ◌<◌, ◌≤◌, List, [], ◌∷◌, ◌++◌, length};
 ghost use Rattle.cell_triple.specs.declared.notes.ReaderNotes.{ReaderNotes};
 ghost use Rattle.cell_triple.specs.Steps.{TripleSight};
-ghost use Rattle.family_four_slot.specs.declared.notes.Process.{Process};
-ghost use Rattle.family_four_slot.specs.declared.notes.View.TheVariants.{Has};
+ghost use Rattle.family_table.specs.declared.notes.Process.{Process};
+ghost use Rattle.family_table.specs.declared.notes.View.TheVariants.{Has};
 ghost use Rattle.family_triple.specs.Access.{HasLooked, IsReady};
 ghost use Rattle.history_core.specs.Others.{other};
 ghost use Rattle.family_triple.specs.Places.{among, triples, slot_at};
@@ -13,7 +13,7 @@ ghost use Rattle.family_triple.specs.Triples.{first_process};
 
 use crate::table::{FamilySeat, FamilyTable};
 use cell_live::Lawful;
-use family_four_slot::place;
+use family_table::place;
 
 /// The number of process `j` among the others of process `i`.
 #[inline]

@@ -7,10 +7,10 @@ ghost use Rattle.cell_live.specs.Running.{last_or};
 ghost use Rattle.cell_triple.specs.declared.notes.WriterNotes.{WriterNotes};
 ghost use Rattle.cell_triple.specs.declared.notes.ReaderNotes.{ReaderNotes};
 ghost use Rattle.cell_triple.specs.Steps.{TripleSight, hears_of, receipt_for};
-ghost use Rattle.family_four_slot.specs.declared.notes.Process.{Process};
-ghost use Rattle.family_four_slot.specs.declared.notes.Receipt.{Receipt};
-ghost use Rattle.family_four_slot.specs.declared.notes.View.TheVariants.{Told, Has};
-ghost use Rattle.family_four_slot.specs.Seats.{all_but_first, all_of, first_of, no_process, told_by, learnt_by, joined};
+ghost use Rattle.family_table.specs.declared.notes.Process.{Process};
+ghost use Rattle.family_table.specs.declared.notes.Receipt.{Receipt};
+ghost use Rattle.family_table.specs.declared.notes.View.TheVariants.{Told, Has};
+ghost use Rattle.family_table.specs.Seats.{all_but_first, all_of, first_of, no_process, told_by, learnt_by, joined};
 ghost use Rattle.family_triple.specs.Places.{triples, slot_at};
 ghost use Rattle.family_triple.specs.Triples.{first_view};
 ghost use Rattle.family_triple.specs.Steps.{put_takes, get_takes, publishes, looks, fetches};
@@ -24,8 +24,8 @@ use crate::plays::{
 };
 use atomic_table::{Seat, Table};
 use cell_live::{Lawful, empty};
-use family_four_slot::notes::{Opened, Opening};
 use family_live::Sees;
+use family_table::notes::{Opened, Opening};
 use std::alloc::{AllocError, Global};
 use std::marker::Brand;
 

@@ -4,15 +4,12 @@
 use board_live::Posted;
 use family_four_slot::FourSlotFamily;
 use fsr_answers::run;
-use fsr_runs::FSR;
-use fsr_streams::{Over, tell};
+use fsr_runs::{FSR, Fault, tell_fault};
+use fsr_streams::Over;
 use fsr_words::words_of;
 use history_core::Band;
 use std::process::ExitCode;
 use thread_probe::can_start;
-
-/// The status where a thread can't start.
-const NO_THREAD: u8 = 6;
 
 /// A race of 16 tasks needs as many threads besides the caller's.
 const MOST_THREADS: usize = 15;
@@ -32,8 +29,8 @@ fn main(rt: HostRuntime) -> ExitCode {
         Err(status) => return ExitCode::from(status),
     };
     if races(words.as_slice()) && !can_start(&rt, MOST_THREADS) {
-        tell(&mut faults, "fsr: a thread can't start\n");
-        return ExitCode::from(NO_THREAD);
+        let status = tell_fault(rt.alloc(), &FSR, &mut faults, &Fault::NoThread);
+        return ExitCode::from(status);
     }
     let mut input = Over::new(rt.stdin());
     let mut out = Over::new(rt.stdout());

@@ -1,5 +1,6 @@
 -- The answer to a history with an order of it, from what the calls of `check` gave, and that its status is 0 or 1.
 use Rattle.std.proofs.Common.{rules, arith, ◌≡◌, ◌≤◌, ℕ, List, Result, Ok, Err, ap, sym, subst}
+use Rattle.fsr_streams.specs.Exits.{status_of}
 use Rattle.history_core.specs.Orders.{IsVerdict}
 use Rattle.history_core.specs.declared.history.Verdict.{Verdict}
 use Rattle.history_core.specs.declared.history.Verdict.TheVariants.{Lawful, Listing, Precedence, Reading, Limit}
@@ -10,7 +11,7 @@ use Rattle.fsr_runs.specs.Answers.{AnswersReading, GivesReply, HasLowStatus}
 use Rattle.fsr_runs.specs.declared.fault.Answer.{Answer}
 use Rattle.fsr_runs.specs.declared.fault.Fault.{Fault}
 use Rattle.history_core.proofs.Bands.{HaveSameFields, fields_are_equality}
-use Rattle.fsr_check_answers.specs.Check.{AnswersCheck, IsCheckAnswer, printed, status_of}
+use Rattle.fsr_check_answers.specs.Check.{AnswersCheck, IsCheckAnswer, exit_of, printed}
 
 -- the verdict was told
 pub answers_check : (document : CheckDocument) (given : List ℕ) (v : Verdict) (a : Answer) → given ≡ document.order
@@ -22,7 +23,7 @@ answers_check document given v a same is_verdict is_printed =
     let by_value = subst (λ Same. IsVerdict Same document.history.opening document.history.terms ops document.order v) fields_are_equality on_order in
     (v, by_value, is_printed)
 
-verdict_is_low : (v : Verdict) → status_of v ≤ 1
+verdict_is_low : (v : Verdict) → status_of (exit_of v) ≤ 1
 verdict_is_low Lawful = omega arith
 verdict_is_low Listing = omega arith
 verdict_is_low Precedence = omega arith

@@ -1,5 +1,8 @@
 -- The answer to a document of kind `check`: the verdict on its order with its status, or the fault (this project's own).
 use Rattle.std.specs.Prelude.{◌≡◌, ℕ, List, Result, Ok, Err}
+use Rattle.fsr_streams.specs.Exits.{status_of}
+use Rattle.fsr_streams.specs.declared.exit.Exit.{Exit}
+use Rattle.fsr_streams.specs.declared.exit.Exit.TheVariants as exit
 use Rattle.history_core.specs.Orders.{IsVerdict}
 use Rattle.history_core.specs.declared.band.Band.{Band}
 use Rattle.history_core.specs.declared.history.History.{History}
@@ -12,17 +15,17 @@ use Rattle.fsr_runs.specs.Answers.{AnswersReading}
 use Rattle.fsr_runs.specs.declared.fault.Answer.{Answer}
 use Rattle.fsr_runs.specs.declared.fault.Fault.{Fault}
 
--- the status of a verdict: 0 where the order is lawful, else 1
-abbrev pub status_of : Verdict → ℕ
-status_of Lawful = 0
-status_of Listing = 1
-status_of Precedence = 1
-status_of Reading = 1
-status_of Limit = 1
+-- how a run with this verdict ends
+abbrev pub exit_of : Verdict → Exit
+exit_of Lawful = exit.Sound
+exit_of Listing = exit.Unsound
+exit_of Precedence = exit.Unsound
+exit_of Reading = exit.Unsound
+exit_of Limit = exit.Unsound
 
 -- the line of a verdict, with its status
 abbrev pub printed : Verdict → Answer
-printed v = record { text = verdict_text v; status = status_of v }
+printed v = record { text = verdict_text v; status = status_of (exit_of v) }
 
 -- the verdict on an order of a history of bands
 abbrev pub IsVerdictOn : History Band → List ℕ → Verdict → Type 0

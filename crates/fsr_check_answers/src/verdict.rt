@@ -1,8 +1,9 @@
 ghost use Rattle.std.specs.Prelude.{◌≡◌, IfOk};
 ghost use Rattle.fsr_runs.specs.Answers.{GivesReply};
-ghost use Rattle.fsr_check_answers.specs.Check.{AnswersCheck, IsCheckAnswer, printed, status_of};
+ghost use Rattle.fsr_check_answers.specs.Check.{AnswersCheck, IsCheckAnswer, exit_of, printed};
 
 use fsr_runs::{Answer, Fault};
+use fsr_streams::Exit;
 use history_core::{Items, Verdict, check_order};
 use history_text::{CheckDocument, read_check_leaking, verdict_text};
 use std::alloc::{AllocError, Global};
@@ -29,15 +30,15 @@ fn print(alloc: Global, verdict: Verdict) -> Result<Answer, AllocError>
     ensures { IfOk result (λ answer. answer ≡ printed verdict) }
 {
     let text = Items::new(Vec::from_slice(alloc, verdict_text(verdict).as_bytes())?);
-    let status = status_of(verdict);
+    let status = exit_of(verdict).status();
     Ok(Answer { text, status })
 }
 
-fn status_of(verdict: Verdict) -> u8
-    ensures { result ≡ status_of verdict }
+fn exit_of(verdict: Verdict) -> Exit
+    ensures { result ≡ exit_of verdict }
 {
     match verdict {
-        Verdict::Lawful => 0,
-        _ => 1,
+        Verdict::Lawful => Exit::Sound,
+        _ => Exit::Unsound,
     }
 }

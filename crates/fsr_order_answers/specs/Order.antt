@@ -32,6 +32,7 @@ AnswersOrder log (Err (fault.History why)) = IsLogFault log (fault.History why)
 AnswersOrder log (Err (fault.Lines why)) = ⊥
 AnswersOrder log (Err (fault.Schedule position)) = ⊥
 AnswersOrder log (Err fault.NoMemory) = ⊥
+AnswersOrder log (Err fault.NoThread) = ⊥
 
 -- the answer to the bytes of a document of kind `log`
 abbrev pub IsLogAnswer : List ℕ → Result Answer Fault → Type 0

@@ -1,5 +1,7 @@
 -- The answer to a document of a schedule: the text of the report of its run, or the fault (this project's own).
 use Rattle.std.specs.Prelude.{◌≡◌, ℕ, Bool, List, [], ◌∷◌, Result, Ok, Err}
+use Rattle.fsr_streams.specs.Exits.{status_of}
+use Rattle.fsr_streams.specs.declared.exit.Exit.TheVariants.{Sound}
 use Rattle.fsr_runs.specs.Answers.{AnswersReading}
 use Rattle.fsr_runs.specs.declared.fault.Answer.{Answer}
 use Rattle.fsr_runs.specs.declared.fault.Fault.{Fault}
@@ -15,31 +17,37 @@ use Rattle.matrix_core.specs.Runs.{board_spans, spans_of}
 use Rattle.matrix_play.specs.MatrixReports.{IsMatrixReport}
 use Rattle.matrix_core.specs.declared.schedule.BoardSchedule.{BoardSchedule}
 use Rattle.matrix_core.specs.declared.schedule.MatrixSchedule.{MatrixSchedule}
-use Rattle.fsr_report_answers.specs.Printed.{printed}
+use Rattle.report_text.specs.Text.{text_of}
 use Rattle.report_text.specs.declared.report.Report.{Report}
 use Rattle.report_text.specs.declared.report.Report.TheVariants as report
 use Rattle.schedule_text.specs.Document.{schedule_of}
 use Rattle.schedule_text.specs.declared.document.ScheduleDocument.{ScheduleDocument}
 use Rattle.schedule_text.specs.declared.document.ScheduleDocument.TheVariants.{Cell, Matrix, Board}
 
+-- the text of the report of a schedule, with the status of one that was played
+abbrev pub printed : Report → Answer
+printed r = record { text = text_of r; status = status_of Sound }
+
 -- the answer to the schedule of a cell: the text of the report of its run, or the first step that has no operation
 abbrev pub AnswersCell : CellSchedule Band → Result Answer Fault → Type 0
 AnswersCell schedule (Ok answer) =
-    (r : CellReport Band) × IsCellReport schedule r × (answer ≡ printed (report.Cell r) 0)
+    (r : CellReport Band) × IsCellReport schedule r × (answer ≡ printed (report.Cell r))
 AnswersCell schedule (Err (fault.Document refusal)) = ⊥
 AnswersCell schedule (Err (fault.History why)) = ⊥
 AnswersCell schedule (Err (fault.Lines why)) = ⊥
 AnswersCell schedule (Err (fault.Schedule position)) = IsFirstOverrun (cell_span schedule ∷ []) position
 AnswersCell schedule (Err fault.NoMemory) = ⊥
+AnswersCell schedule (Err fault.NoThread) = ⊥
 
 -- the answer to a schedule with these spans, likewise: the text of a report that is made as it should be
 abbrev pub AnswersTerms : {Made : Type 0} → List (Span Band) → (Made → Type 0) → (Made → Report) → Result Answer Fault → Type 0
-AnswersTerms {Made} spans IsMade told (Ok answer) = (r : Made) × HasOperations spans × IsMade r × (answer ≡ printed (told r) 0)
+AnswersTerms {Made} spans IsMade told (Ok answer) = (r : Made) × HasOperations spans × IsMade r × (answer ≡ printed (told r))
 AnswersTerms spans IsMade told (Err (fault.Document refusal)) = ⊥
 AnswersTerms spans IsMade told (Err (fault.History why)) = ⊥
 AnswersTerms spans IsMade told (Err (fault.Lines why)) = ⊥
 AnswersTerms spans IsMade told (Err (fault.Schedule position)) = IsFirstOverrun spans position
 AnswersTerms spans IsMade told (Err fault.NoMemory) = ⊥
+AnswersTerms spans IsMade told (Err fault.NoThread) = ⊥
 
 -- the answer to the schedule of a matrix; titled, where its terms are told
 abbrev pub AnswersMatrix : MatrixSchedule Band → Bool → Result Answer Fault → Type 0

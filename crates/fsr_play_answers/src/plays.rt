@@ -1,24 +1,24 @@
 //! Played schedules: the report of each, printed.
-ghost use Rattle.std.specs.Prelude.{IfOk};
+ghost use Rattle.std.specs.Prelude.{◌≡◌, IfOk};
 ghost use Rattle.fsr_runs.specs.Answers.{GivesReply};
 ghost use Rattle.history_text.specs.Refusals.{Gives as Reads};
 ghost use Rattle.matrix_core.specs.Runs.{CanPlay};
 ghost use Rattle.schedule_text.specs.Document.{schedule_of};
 ghost use Rattle.schedule_text.specs.Players.{CanBePlayed};
-ghost use Rattle.fsr_play_answers.specs.Play.{AnswersBoard, AnswersCell, AnswersMatrix, IsPlayAnswer};
+ghost use Rattle.fsr_play_answers.specs.Play.{AnswersBoard, AnswersCell, AnswersMatrix, IsPlayAnswer, printed};
 
 use four_slot_core::CellSchedule;
 use four_slot_play::play_cell;
-use fsr_report_answers::print;
 use fsr_runs::{Answer, Fault};
+use fsr_streams::Exit;
 use history_core::Band;
 use history_text::{DocError, read_value};
 use matrix_board_play::play_board;
 use matrix_core::{BoardSchedule, MatrixSchedule};
 use matrix_play::play_matrix;
-use report_text::Report;
+use report_text::{Report, report_text_leaking};
 use schedule_text::{ScheduleDocument, schedule_document};
-use std::alloc::Global;
+use std::alloc::{AllocError, Global};
 use std::mem::forget;
 
 /// The answer of the command `play` to the bytes of a document: the report of its schedule.
@@ -50,7 +50,7 @@ fn cell(alloc: Global, schedule: &CellSchedule<Band>) -> Result<Answer, Fault>
     ensures { GivesReply (AnswersCell schedule.now) result }
 {
     let report = play_cell(alloc, schedule)?;
-    let answer = print(alloc, Report::Cell(report), 0)?;
+    let answer = print(alloc, Report::Cell(report))?;
     Ok(answer)
 }
 
@@ -60,7 +60,7 @@ fn matrix(alloc: Global, schedule: &MatrixSchedule<Band>, titled: bool) -> Resul
     ensures { GivesReply (AnswersMatrix schedule.now titled) result }
 {
     let report = play_matrix(alloc, schedule)?;
-    let answer = print(alloc, Report::Matrix { report, titled }, 0)?;
+    let answer = print(alloc, Report::Matrix { report, titled })?;
     Ok(answer)
 }
 
@@ -70,6 +70,15 @@ fn board(alloc: Global, schedule: &BoardSchedule<Band>, titled: bool) -> Result<
     ensures { GivesReply (AnswersBoard schedule.now titled) result }
 {
     let report = play_board(alloc, schedule)?;
-    let answer = print(alloc, Report::Board { report, titled }, 0)?;
+    let answer = print(alloc, Report::Board { report, titled })?;
     Ok(answer)
+}
+
+/// The text of the report of a schedule, with the status of one that was played.
+fn print(alloc: Global, report: Report) -> Result<Answer, AllocError>
+    ensures { IfOk result (λ answer. answer ≡ printed report) }
+{
+    let text = report_text_leaking(alloc, report)?;
+    let status = Exit::Sound.status();
+    Ok(Answer { text, status })
 }

@@ -1,5 +1,6 @@
 -- The answer to a race has status 0 or 1.
 use Rattle.std.proofs.Common.{rules, ◌≡◌, ◌≤◌, ℕ, List, Option, Some, None, Result, Ok, Err, ap, arith}
+use Rattle.fsr_streams.specs.Exits.{status_of}
 use Rattle.fsr_runs.specs.Answers.{AnswersReading, GivesReply, HasLowStatus}
 use Rattle.fsr_runs.specs.declared.fault.Answer.{Answer}
 use Rattle.fsr_runs.specs.declared.fault.Fault.{Fault}
@@ -11,13 +12,13 @@ use Rattle.report_text.specs.declared.report.Report.{Report}
 use Rattle.report_text.specs.declared.report.Report.TheVariants as report
 use Rattle.schedule_text.specs.Document.{race_of}
 use Rattle.schedule_text.specs.declared.document.RaceDocument.{RaceDocument}
-use Rattle.fsr_race_answers.specs.Answers.{AnswersRace, IsRaceAnswer, origin_status, race_status}
+use Rattle.fsr_race_answers.specs.Answers.{AnswersRace, IsRaceAnswer, exit_of, origin_exit}
 
-origin_is_low : (broken : Option (ℕ × ℕ)) → origin_status broken ≤ 1
+origin_is_low : (broken : Option (ℕ × ℕ)) → status_of (origin_exit broken) ≤ 1
 origin_is_low None = omega arith
 origin_is_low (Some broken) = omega arith
 
-race_is_low : (r : Report) → race_status r ≤ 1
+race_is_low : (r : Report) → status_of (exit_of r) ≤ 1
 race_is_low (report.Cell r) = omega arith
 race_is_low (report.Matrix r titled) = omega arith
 race_is_low (report.Board r titled) = omega arith
@@ -26,7 +27,7 @@ race_is_low (report.Race tasks broken) = origin_is_low broken
 module _ {F S T : Type 0} (family : FamilyWords F (Posted Band) S T) where
   answer_is_low : (d : Result RaceDocument DocError) (a : Answer) → AnswersReading (AnswersRace family) d (Ok a) → a.status ≤ 1
   answer_is_low (Ok document) a answered =
-      let same : a.status ≡ race_status answered.0 = ap (λ b. b.status) answered.2 in
+      let same : a.status ≡ status_of (exit_of answered.0) = ap (λ b. b.status) answered.2 in
       rw same (race_is_low answered.0)
   answer_is_low (Err refusal) a answered = absurd (cc)
 

@@ -1,8 +1,8 @@
 -- What a race tells of scripts that were run whole: each entry of a log answers its wish, so the counts are those of the wishes. And
 -- lanes of a new board have worked with fresh passes, so their calls are atomic, and their logs sound.
-use Rattle.std.proofs.Common.{◌≡◌, Bool, ℕ, ◌+◌, ◌<◌, List, [], ◌∷◌, ◌++◌, length, get_or, map, take, refl}
+use Rattle.std.proofs.Common.{◌≡◌, Bool, ℕ, ◌+◌, ◌<◌, List, [], ◌∷◌, ◌++◌, length, map, take, refl}
 use Rattle.std.proofs.Common.{sym, ◌∙◌, ap, subst, arith, ⊎_elim, Global}
-use Rattle.std.specs.Prelude.{Option, None, All, IsTrue, Vec, cond, count_by}
+use Rattle.std.specs.Prelude.{Option, None, Vec, cond, count_by}
 use mathlib.Core.List.{map-map}
 use Rattle.std.proofs.lemmas.List.{length-map, take_all}
 use Rattle.std.proofs.lemmas.List.Sums.{sum_by-cons}
@@ -27,7 +27,6 @@ use Rattle.board_tasks.specs.declared.lane.Reply.{Reply}
 use Rattle.board_tasks.specs.declared.lane.Reply.TheVariants.{Written, Seen, Ended}
 use Rattle.board_tasks.specs.Jobs.{AllReady, EachStep}
 use Rattle.board_tasks.specs.Lanes.{AreLanes, IsLane}
-use Rattle.board_tasks.specs.Logs.{Obeys}
 use Rattle.board_tasks.specs.Tasks.{AreCalls, Ran, Replies}
 use Rattle.board_tasks.specs.Worked.{AreAtomicLogs, HaveWorked, logs_of}
 use Rattle.board_live.proofs.Passing.{all_new}
@@ -39,7 +38,6 @@ use Rattle.board_origins.specs.declared.origin.Origin.TheVariants.{Sound}
 use Rattle.board_origins.specs.Origins.{IsOrigin}
 use Rattle.board_origins.specs.Told.{AreOfRun}
 use Rattle.board_origins.proofs.SoundRuns.{atomic_run}
-use Rattle.schedule_text.specs.Plans.{wish_fits}
 use Rattle.fsr_race_answers.specs.Races.{CountsAll, CountsScript, IsRace, broken_at, counts_in, counts_of, is_read}
 use Rattle.fsr_race_answers.specs.Races.{is_refused, is_seen, is_write, is_written, replies, same_band}
 use Rattle.report_text.specs.declared.report.Counts.{Counts}

@@ -1,26 +1,33 @@
 -- The answer to a document of a race: the text of what the race tells, or the fault (this project's own).
 use Rattle.std.specs.Prelude.{◌≡◌, ℕ, List, Option, Some, None, Result, Ok, Err}
+use Rattle.fsr_streams.specs.Exits.{status_of}
+use Rattle.fsr_streams.specs.declared.exit.Exit.{Exit}
+use Rattle.fsr_streams.specs.declared.exit.Exit.TheVariants.{Sound, Unsound}
 use Rattle.fsr_runs.specs.Answers.{AnswersReading}
 use Rattle.fsr_runs.specs.declared.fault.Answer.{Answer}
 use Rattle.fsr_runs.specs.declared.fault.Fault.{Fault}
 use Rattle.history_core.specs.declared.band.Band.{Band}
 use Rattle.family_live.specs.declared.family.Family.{Ghosts as FamilyWords}
 use Rattle.board_live.specs.declared.record.Posted.{Posted}
-use Rattle.fsr_report_answers.specs.Printed.{printed}
+use Rattle.report_text.specs.Text.{text_of}
 use Rattle.report_text.specs.declared.report.Report.{Report}
 use Rattle.report_text.specs.declared.report.Report.TheVariants as report
 use Rattle.schedule_text.specs.Document.{race_of}
 use Rattle.schedule_text.specs.declared.document.RaceDocument.{RaceDocument}
 use Rattle.fsr_race_answers.specs.Races.{IsRace}
 
--- the status of a race: 0 where each record has its origin, else 1
-abbrev pub origin_status : Option (ℕ × ℕ) → ℕ
-origin_status None = 0
-origin_status (Some broken) = 1
+-- how a race ends: as sound where each record has its origin
+abbrev pub origin_exit : Option (ℕ × ℕ) → Exit
+origin_exit None = Sound
+origin_exit (Some broken) = Unsound
 
-abbrev pub race_status : Report → ℕ
-race_status (report.Race tasks broken) = origin_status broken
-race_status other = 0
+abbrev pub exit_of : Report → Exit
+exit_of (report.Race tasks broken) = origin_exit broken
+exit_of other = Sound
+
+-- the text of what a race tells, with its status
+abbrev pub printed : Report → Answer
+printed r = record { text = text_of r; status = status_of (exit_of r) }
 
 -- over a board of this family
 module _ {F S T : Type 0} (family : FamilyWords F (Posted Band) S T) where
@@ -28,7 +35,7 @@ module _ {F S T : Type 0} (family : FamilyWords F (Posted Band) S T) where
   abbrev pub AnswersRace : RaceDocument → Result Answer Fault → Type 0
   AnswersRace document (Ok answer) =
       (r : Report) × IsRace family (λ task call. Unit {0}) (λ task call. ⊥) document.opening document.limit document.scripts r
-      × (answer ≡ printed r (race_status r))
+      × (answer ≡ printed r)
   AnswersRace document (Err fault) = ⊥
 
   -- the answer of the command `race` to the bytes of a document

@@ -2,7 +2,7 @@
 ghost use Rattle.std.specs.Prelude.{◌≡◌, ℕ, IfErr, IfOk, map};
 ghost use Rattle.schedule_text.specs.Players.{CanRace};
 ghost use Rattle.fsr_runs.specs.Answers.{GivesReply};
-ghost use Rattle.fsr_race_answers.specs.Answers.{AnswersRace, IsRaceAnswer, race_status};
+ghost use Rattle.fsr_race_answers.specs.Answers.{AnswersRace, IsRaceAnswer, exit_of};
 ghost use Rattle.fsr_race_answers.specs.Races.{CountsAll, IsRace, broken_at, counts_of, is_refused, is_seen, is_written, replies};
 ghost use Rattle.board_tasks.specs.Tasks.{Permitted};
 ghost use Rattle.history_text.specs.Refusals.{Gives as Reads};
@@ -13,11 +13,11 @@ use board_live::{Board, BoardError, Posted};
 use board_origins::{Origin, check_origin};
 use board_tasks::{Entry, Gate, OpenGate, Reply, finish_lanes, make_lanes, run_tasks};
 use family_live::{Family, SharedFamily};
-use fsr_report_answers::print;
 use fsr_runs::{Answer, Fault};
+use fsr_streams::Exit;
 use history_core::{Band, Items, Wish};
 use history_text::{DocError, read_value};
-use report_text::{Counts, Report};
+use report_text::{Counts, Report, report_text_leaking};
 use schedule_text::{RaceDocument, race_document};
 use std::alloc::{AllocError, Global};
 use std::mem::forget;
@@ -69,20 +69,20 @@ where
         scripts,
     } = document;
     let report = race::<R, OpenGate, F>(rt, alloc, opening, limit, scripts, &OpenGate)?;
-    let status = race_status(&report);
-    let answer = print(alloc, report, status)?;
-    Ok(answer)
+    let status = exit_of(&report).status();
+    let text = report_text_leaking(alloc, report)?;
+    Ok(Answer { text, status })
 }
 
-fn race_status(report: &Report) -> u8
-    ensures { result ≡ race_status report.now }
+fn exit_of(report: &Report) -> Exit
+    ensures { result ≡ exit_of report.now }
 {
     match report {
         Report::Race {
             broken: Some(_),
             ..
-        } => 1,
-        _ => 0,
+        } => Exit::Unsound,
+        _ => Exit::Sound,
     }
 }
 

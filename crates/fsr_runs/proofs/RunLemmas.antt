@@ -1,16 +1,17 @@
 -- The ends of a run: each says what was taken and what went out, and why the status tells it.
 use Rattle.std.proofs.Common.{rules, ◌≡◌, ◌⊎◌, inl, inr, ◌≤◌, ◌<◌, ℕ, Bool, List, [], length, Option, Result, Ok, Err, refl, arith}
-use Rattle.std.proofs.Common.{subst, sym, ⊎_elim}
+use Rattle.std.proofs.Common.{subst, sym, ⊎_elim, ◌∙◌, ◌≢◌}
 use Rattle.std.proofs.lemmas.List.{take_all}
 use Rattle.std.proofs.KnownBytes.{Consumes-nil, Appends-nil}
 use Rattle.std.specs.Io.{StartsWith}
 use Rattle.std.specs.Io.KnownBytes.{Appends}
 use Rattle.fsr_streams.specs.Transfer.{IsWhole as IsInputWhole, TakesBytes as TakesInput}
 use Rattle.fsr_runs.specs.Answers.{GivesReply, HasLowStatus}
-use Rattle.fsr_runs.specs.Run.{CountsTaking, Fails, GivesAnswer, IsToldBy, IsWholeInput, never, Runs, TakesInBound, TakesDocument, fault_status, nothing_asked}
+use Rattle.fsr_runs.specs.Run.{CountsTaking, Fails, GivesAnswer, IsToldBy, IsWholeInput, never, Runs, TakesInBound, TakesDocument, TellsFault, fault_status, nothing_asked}
 use Rattle.fsr_runs.specs.declared.fault.Answer.{Answer}
 use Rattle.fsr_runs.specs.declared.fault.Fault.{Fault}
 use Rattle.fsr_runs.specs.declared.fault.Fault.TheVariants as fault
+use Rattle.fsr_runs.specs.declared.run.Program.{Program}
 
 -- ---- what was taken
 
@@ -23,6 +24,22 @@ document_taken old new taken takes (inr end) = ((takes.0, λ bounded. takes.1), 
 pub document_untaken : (old new : Option (List ℕ)) (status : ℕ) → (taken : List ℕ) × TakesInput old new taken
     → TakesDocument never old new (Err status)
 document_untaken old new status taken = (taken.0, (taken.1.0, λ bounded. taken.1.1))
+
+-- ---- what a fault is told by
+
+-- its own status, or that of want of memory
+pub status_told : (program : Program) (f : Fault) (old new : Option (List ℕ)) (failed_old failed_new status : ℕ)
+    → TellsFault program f old new failed_old failed_new status → (status ≡ fault_status f) ⊎ (status ≡ 4)
+status_told program fault.NoMemory old new failed_old failed_new status told = inl told.1
+status_told program fault.NoThread old new failed_old failed_new status told = inl told.1
+status_told program (fault.Document refusal) old new failed_old failed_new status (inl told) = inl told.1.1
+status_told program (fault.Document refusal) old new failed_old failed_new status (inr memory) = inr memory.1
+status_told program (fault.History why) old new failed_old failed_new status (inl told) = inl told.1.1
+status_told program (fault.History why) old new failed_old failed_new status (inr memory) = inr memory.1
+status_told program (fault.Lines why) old new failed_old failed_new status (inl told) = inl told.1.1
+status_told program (fault.Lines why) old new failed_old failed_new status (inr memory) = inr memory.1
+status_told program (fault.Schedule position) old new failed_old failed_new status (inl told) = inl told.1.1
+status_told program (fault.Schedule position) old new failed_old failed_new status (inr memory) = inr memory.1
 
 -- ---- runs without an answer
 
@@ -37,7 +54,7 @@ module _ (IsOutcome : List ℕ → Answer → Type 0) (is_unbounded : List ℕ �
     at_most = takes.1;
     sends = Appends-nil out;
     front = inl refl;
-    silent = λ low high. refl;
+    silent = λ two other. refl;
     told = λ not_four not_five. absurd (not_four refl);
     whole = λ not_two not_four not_five. absurd (not_four refl);
   }
@@ -55,7 +72,7 @@ module _ (IsOutcome : List ℕ → Answer → Type 0) (is_unbounded : List ℕ �
     at_most = λ bounded. omega arith;
     sends = Appends-nil out;
     front = inl refl;
-    silent = λ low high. refl;
+    silent = λ two other. refl;
     told = λ not_four not_five. outcome;
     whole = λ not_two not_four not_five. absurd (not_two refl);
   }
@@ -70,7 +87,7 @@ module _ (IsOutcome : List ℕ → Answer → Type 0) (is_unbounded : List ℕ �
     at_most = takes.1;
     sends = Appends-nil out;
     front = inl refl;
-    silent = λ low high. refl;
+    silent = λ two other. refl;
     told = λ not_four not_five. absurd (not_five refl);
     whole = λ not_two not_four not_five. absurd (not_five refl);
   }
@@ -121,7 +138,7 @@ module _ (IsReply : List ℕ → Result Answer Fault → Type 0) (is_unbounded :
     at_most = takes.1;
     sends = Appends-nil out;
     front = inl refl;
-    silent = λ low high. refl;
+    silent = λ two other. refl;
     told = λ not_four not_five. (Err f, answered, refl);
     whole = λ not_two not_four not_five. whole;
   }
@@ -133,6 +150,7 @@ module _ (IsReply : List ℕ → Result Answer Fault → Type 0) (is_unbounded :
   ends_refused out (fault.History why) refused = ends_with_fault out (fault.History why) (refused (search rules))
   ends_refused out (fault.Lines why) refused = ends_with_fault out (fault.Lines why) (refused (search rules))
   ends_refused out (fault.Schedule position) refused = ends_with_fault out (fault.Schedule position) (refused (search rules))
+  ends_refused out fault.NoThread refused = ends_with_fault out fault.NoThread (refused (search rules))
 
   -- the text went out whole
   ends_told : (out_old out_new : Option (List ℕ)) (a : Answer) → IsReply taken (Ok a) → a.status ≤ 1 → Appends out_old out_new a.text
@@ -144,7 +162,7 @@ module _ (IsReply : List ℕ → Result Answer Fault → Type 0) (is_unbounded :
     at_most = takes.1;
     sends = sends;
     front = inr ((a, (Ok a, answered, refl), take_all (length a.text) a.text (omega arith)), whole);
-    silent = λ two four. absurd (omega (arith, two, low));
+    silent = λ two other. absurd (omega (arith, two, low));
     told = λ not_four not_five. (Ok a, answered, refl);
     whole = λ not_two not_four not_five. whole;
   }
@@ -159,7 +177,7 @@ module _ (IsReply : List ℕ → Result Answer Fault → Type 0) (is_unbounded :
     at_most = takes.1;
     sends = sends;
     front = inr ((a, (Ok a, answered, refl), front), whole);
-    silent = λ two four. absurd (omega (arith, four));
+    silent = λ two other. absurd (other refl);
     told = λ not_four not_five. absurd (not_five refl);
     whole = λ not_two not_four not_five. absurd (not_five refl);
   }
@@ -186,12 +204,13 @@ ends_answered IsReply is_unbounded in_old in_new out_old out_new taken given fai
     ends_given IsReply is_unbounded in_old in_new taken takes.0 takes.1 out_old out_new failed_old failed_new status reply
     (subst (λ bytes. GivesReply (IsReply bytes) reply) same answered) low told
 
-low_fault : (f : Fault) → fault_status f ≤ 4
-low_fault fault.NoMemory = omega arith
-low_fault (fault.Document refusal) = omega arith
-low_fault (fault.History why) = omega arith
-low_fault (fault.Lines why) = omega arith
-low_fault (fault.Schedule position) = omega arith
+no_stream : (f : Fault) → fault_status f ≢ 5
+no_stream fault.NoMemory = λ five. absurd (omega (arith, five))
+no_stream (fault.Document refusal) = λ five. absurd (omega (arith, five))
+no_stream (fault.History why) = λ five. absurd (omega (arith, five))
+no_stream (fault.Lines why) = λ five. absurd (omega (arith, five))
+no_stream (fault.Schedule position) = λ five. absurd (omega (arith, five))
+no_stream fault.NoThread = λ five. absurd (omega (arith, five))
 
 pub fails_answered : (in_old in_new out_old out_new status : ℕ) (old new : Option (List ℕ)) (reply : Result Answer Fault) → in_new ≡ in_old
     → HasLowStatus reply → GivesAnswer reply old new out_old out_new status → Fails in_old in_new out_old out_new status
@@ -209,7 +228,7 @@ fails_answered in_old in_new out_old out_new status old new (Ok a) same low (inr
 }
 fails_answered in_old in_new out_old out_new status old new (Err f) same low told = record {
   five = (
-    λ (five : status ≡ 5). absurd (⊎_elim (λ (e : status ≡ fault_status f). omega (arith, five, e, low_fault f)) (λ (e : status ≡ 4). omega (arith, five, e)) told.2),
+    λ (five : status ≡ 5). absurd (⊎_elim (λ (e : status ≡ fault_status f). absurd (no_stream f (sym e ∙ five))) (λ (e : status ≡ 4). omega (arith, five, e)) told.2),
     ⊎_elim (λ (rose : in_old < in_new). absurd (omega (arith, rose, same))) (λ (rose : out_old < out_new). absurd (omega (arith, rose, told.1))),
   );
   once = omega (arith, same, told.1);

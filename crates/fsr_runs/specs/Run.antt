@@ -3,17 +3,26 @@ use Rattle.std.specs.Prelude.{◌≡◌, ◌≢◌, ◌≤◌, ◌<◌, ◌+◌,
 use Rattle.std.specs.declared.alloc.Global.{Global}
 use Rattle.std.specs.Io.{StartsWith}
 use Rattle.std.specs.Io.KnownBytes.{Consumes, Appends, IsAtEnd}
-use Rattle.fsr_streams.specs.Transfer.{most_taken}
+use Rattle.fsr_streams.specs.Exits.{status_of}
+use Rattle.fsr_streams.specs.Transfer.{most_taken, TellsLine}
+use Rattle.fsr_streams.specs.declared.exit.Exit.{Exit}
+use Rattle.fsr_streams.specs.declared.exit.Exit.TheVariants as exit
 use Rattle.fsr_runs.specs.declared.fault.Answer.{Answer}
 use Rattle.fsr_runs.specs.declared.fault.Fault.{Fault}
-use Rattle.fsr_runs.specs.declared.fault.Fault.TheVariants.{Document, History, Lines, Schedule, NoMemory}
+use Rattle.fsr_runs.specs.declared.run.Program.{Program}
+use Rattle.fsr_runs.specs.declared.fault.Fault.TheVariants.{Document, History, Lines, Schedule, NoMemory, NoThread}
+
+-- how a run with this fault ends
+abbrev pub exit_of : Fault → Exit
+exit_of (Document refusal) = exit.Refused
+exit_of (History fault) = exit.Refused
+exit_of (Lines fault) = exit.Refused
+exit_of (Schedule position) = exit.Refused
+exit_of NoMemory = exit.NoMemory
+exit_of NoThread = exit.NoThread
 
 abbrev pub fault_status : Fault → ℕ
-fault_status (Document refusal) = 3
-fault_status (History fault) = 3
-fault_status (Lines fault) = 3
-fault_status (Schedule position) = 3
-fault_status NoMemory = 4
+fault_status fault = status_of (exit_of fault)
 
 -- what goes out with which status: of a fault nothing
 abbrev pub told_by : Result Answer Fault → Answer
@@ -22,7 +31,7 @@ told_by (Err fault) = record { text = []; status = fault_status fault }
 
 -- what comes of a run that is asked for nothing that the program does: nothing, with status 2
 abbrev pub nothing_asked : Answer
-nothing_asked = record { text = []; status = 2 }
+nothing_asked = record { text = []; status = status_of exit.NoCommand }
 
 -- what comes of an input that has such replies
 abbrev pub IsToldBy : (List ℕ → Result Answer Fault → Type 0) → List ℕ → Answer → Type 0
@@ -55,8 +64,8 @@ pub record Runs (IsOutcome : List ℕ → Answer → Type 0) (is_unbounded : Lis
   pub sends : Appends out_old out_new sent
   -- what went out is a front of the text for the whole input, also after a failed write
   pub front : (sent ≡ []) ⊎ (IsFront IsOutcome taken sent × IsWholeInput is_unbounded taken in_new)
-  -- with statuses 2 to 4 nothing goes out
-  pub silent : 2 ≤ status → status ≤ 4 → sent ≡ []
+  -- with a status from 2 nothing goes out, but for a front before a write failed
+  pub silent : 2 ≤ status → status ≢ 5 → sent ≡ []
   -- but for want of memory and failed streams, the text goes out whole, with its status
   pub told : status ≢ 4 → status ≢ 5 → IsOutcome taken (record { text = sent; status = status })
   pub whole : status ≢ 2 → status ≢ 4 → status ≢ 5 → IsWholeInput is_unbounded taken in_new
@@ -96,3 +105,16 @@ GivesAnswer (Ok answer) old new failed_old failed_new status =
     ⊎ (((sent : List ℕ) × StartsWith answer.text sent × Appends old new sent) × (failed_new ≡ failed_old + 1) × (status ≡ 5))
 GivesAnswer (Err fault) old new failed_old failed_new status =
     (new ≡ old) × (failed_new ≡ failed_old) × ((status ≡ fault_status fault) ⊎ (status ≡ 4))
+
+-- the line of a fault went out, with its status
+abbrev pub TellsAs : Fault → List ℕ → Option (List ℕ) → Option (List ℕ) → ℕ → ℕ → ℕ → Type 0
+TellsAs fault line old new failed_old failed_new status = TellsLine old new failed_old failed_new line × (status ≡ fault_status fault)
+
+-- The line of a fault went out, or the stream failed within it. That of want of memory and that of a thread that can't start are the
+-- program's own. Where there is no memory for another line, that of want of memory went out, with its status.
+abbrev pub TellsFault : Program → Fault → Option (List ℕ) → Option (List ℕ) → ℕ → ℕ → ℕ → Type 0
+TellsFault program NoMemory = TellsAs NoMemory program.no_memory.now
+TellsFault program NoThread = TellsAs NoThread program.no_thread.now
+TellsFault program fault = λ old new failed_old failed_new status.
+    ((line : List ℕ) × TellsAs fault line old new failed_old failed_new status)
+    ⊎ TellsAs NoMemory program.no_memory.now old new failed_old failed_new status

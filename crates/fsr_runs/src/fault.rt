@@ -3,6 +3,7 @@ ghost use Rattle.fsr_runs.specs.Faults.{play_fault, refusal_fault};
 ghost use Rattle.fsr_runs.specs.declared.fault.Fault.TheVariants.{NoMemory};
 
 use fsr_refusals::DocError;
+use fsr_streams::Exit;
 use history_core::{Items, PlayError};
 use std::alloc::AllocError;
 use thiserror::Error;
@@ -67,19 +68,25 @@ pub enum Fault {
     Schedule { position: u64 },
     #[error("out of memory")]
     NoMemory,
+    /// Nothing was run, since a thread can't start.
+    #[error("a thread can't start")]
+    NoThread,
 }
 
 impl Fault {
     ghost use Rattle.std.specs.Prelude.{◌≡◌};
-    ghost use Rattle.fsr_runs.specs.Run.{fault_status};
+    ghost use Rattle.fsr_runs.specs.Run.{exit_of};
 
-    /// The status that the program ends with.
-    pub fn status(&self) -> u8
-        ensures { result ≡ fault_status self.now }
+    /// How a run with this fault ends.
+    pub fn exit(&self) -> Exit
+        ensures { result ≡ exit_of self.now }
     {
         match self {
-            Fault::Document(_) | Fault::History(_) | Fault::Lines(_) | Fault::Schedule { .. } => 3,
-            Fault::NoMemory => 4,
+            Fault::Document(_) | Fault::History(_) | Fault::Lines(_) | Fault::Schedule { .. } => {
+                Exit::Refused
+            }
+            Fault::NoMemory => Exit::NoMemory,
+            Fault::NoThread => Exit::NoThread,
         }
     }
 }

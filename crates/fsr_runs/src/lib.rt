@@ -7,4 +7,4 @@ mod run;
 
 pub use command::{Command, run_command};
 pub use fault::{Answer, Fault, HistoryFault, LinesFault};
-pub use run::{FSR, Program, give_answer, take_document, take_rest};
+pub use run::{FSR, Program, give_answer, take_document, take_rest, tell_fault};

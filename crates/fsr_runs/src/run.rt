@@ -1,18 +1,19 @@
-ghost use Rattle.std.specs.Prelude.{◌≡◌, ◌≤◌, ◌+◌, ◌⊎◌};
-ghost use Rattle.fsr_runs.specs.Run.{CountsTaking, fault_status, GivesAnswer, never, TakesDocument, TakesRestOf, TellsUnlessTaken};
+ghost use Rattle.std.specs.Prelude.{◌≡◌, ◌≤◌, ◌+◌};
+ghost use Rattle.fsr_runs.specs.Run.{CountsTaking, GivesAnswer, never, TakesDocument, TakesRestOf, TellsFault, TellsUnlessTaken};
 ghost use Rattle.fsr_streams.specs.Stream.{HasRoom};
 
 use crate::{Answer, Fault};
-use fsr_streams::{InputFault, Sink, Source, read_input, read_rest, tell, write_text};
+use fsr_streams::{Exit, InputFault, Sink, Source, read_input, read_rest, tell, write_text};
 use std::alloc::Global;
 
-/// The name of a program, and the lines that it tells where a stream fails or memory runs out.
+/// The name of a program, and the lines that it tells where a stream fails, memory runs out or a thread can't start.
 #[derive(Clone, Copy, Debug)]
 pub struct Program {
     pub name: &'static str,
     pub read_failed: &'static str,
     pub write_failed: &'static str,
     pub no_memory: &'static str,
+    pub no_thread: &'static str,
 }
 
 /// `fsr`.
@@ -21,6 +22,7 @@ pub const FSR: Program = Program {
     read_failed: "fsr: read failed\n",
     write_failed: "fsr: write failed\n",
     no_memory: "fsr: out of memory\n",
+    no_thread: "fsr: a thread can't start\n",
 };
 
 /// Reads the input whole, or as far as a run reads a document; or tells why it was not read and gives the status that the run ends with.
@@ -40,11 +42,11 @@ pub fn take_document<I: Source, E: Sink>(
         Ok(bytes) => Ok(bytes),
         Err(InputFault::Failed) => {
             tell(faults, program.read_failed);
-            Err(5)
+            Err(Exit::Stream.status())
         }
         Err(InputFault::NoMemory) => {
             tell(faults, program.no_memory);
-            Err(4)
+            Err(Exit::NoMemory.status())
         }
     }
 }
@@ -68,11 +70,11 @@ pub fn take_rest<I: Source, E: Sink>(
         Err(fault) => match fault {
             InputFault::Failed => {
                 tell(faults, program.read_failed);
-                Err(5)
+                Err(Exit::Stream.status())
             }
             InputFault::NoMemory => {
                 tell(faults, program.no_memory);
-                Err(4)
+                Err(Exit::NoMemory.status())
             }
         },
     }
@@ -96,27 +98,31 @@ pub fn give_answer<O: Sink, E: Sink>(
             Ok(()) => answer.status,
             Err(_) => {
                 tell(faults, program.write_failed);
-                5
+                Exit::Stream.status()
             }
         },
         Err(fault) => tell_fault(alloc, program, faults, &fault),
     }
 }
 
-/// Tells the fault, and gives its status, or that of want of memory where its line found none.
-fn tell_fault<E: Sink>(alloc: Global, program: &Program, faults: &mut E, fault: &Fault) -> u8
+/// Tells the fault, and gives its status, or that of want of memory where its line found none. The lines of want of memory and of a thread
+/// that can't start need none.
+pub fn tell_fault<E: Sink>(alloc: Global, program: &Program, faults: &mut E, fault: &Fault) -> u8
     requires { HasRoom (E.failed faults.old) }
-    ensures status { (result ≡ fault_status fault.now) ⊎ (result ≡ 4) }
+    ensures told { TellsFault program.now fault.now (E.contents faults.old) (E.contents faults.new) (E.failed faults.old)
+        (E.failed faults.new) result }
     ensures once { E.failed faults.new ≤ E.failed faults.old + 1 }
 {
-    match format!(in alloc; "{}: {fault}\n", program.name) {
-        Ok(line) => {
-            tell(faults, line.as_str());
-            fault.status()
-        }
-        Err(_) => {
-            tell(faults, program.no_memory);
-            4
-        }
+    match fault {
+        Fault::NoMemory => tell(faults, program.no_memory),
+        Fault::NoThread => tell(faults, program.no_thread),
+        _ => match format!(in alloc; "{}: {fault}\n", program.name) {
+            Ok(line) => tell(faults, line.as_str()),
+            Err(_) => {
+                tell(faults, program.no_memory);
+                return Exit::NoMemory.status();
+            }
+        },
     }
+    fault.exit().status()
 }

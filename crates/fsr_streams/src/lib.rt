@@ -1,8 +1,11 @@
-//! The streams of a program: its input is read whole, its text written whole, and their failures are counted.
+//! The streams of a program, and how it ends: its input is read whole, its text written whole, their failures are counted, and each end has
+//! its status.
 #![tactic(auto)]
 
+mod exit;
 mod stream;
 mod transfer;
 
+pub use exit::Exit;
 pub use stream::{Failed, Over, Sink, Source};
 pub use transfer::{InputFault, read_input, read_rest, tell, write_text};

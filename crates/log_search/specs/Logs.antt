@@ -27,6 +27,7 @@ IsLogFault log (fault.History (history.WritesOpening place)) = StandsInTheWay lo
 IsLogFault log (fault.Schedule position) = ⊥
 IsLogFault log (fault.Lines why) = ⊥
 IsLogFault log fault.NoMemory = Unit {0}
+IsLogFault log fault.NoThread = ⊥
 
 -- a log has one term, and its operations run forwards
 abbrev pub IsOfLog : SearchError → Type 0

@@ -1,7 +1,7 @@
 //! `picture`: draws a history with an order of it, or the report of a schedule, that comes as a document on standard input.
 #![tactic(auto)]
 
-use fsr_streams::{Over, tell};
+use fsr_streams::{Exit, Over, tell};
 use picture_answers::{PICTURE, run};
 use std::io::ErrorKind;
 use std::process::ExitCode;
@@ -14,7 +14,7 @@ fn main(rt: HostRuntime) -> ExitCode {
         Err(e) => {
             if e.kind() == ErrorKind::OutOfMemory {
                 tell(&mut faults, PICTURE.no_memory);
-                return ExitCode::from(4);
+                return ExitCode::from(Exit::NoMemory.status());
             }
             2
         }

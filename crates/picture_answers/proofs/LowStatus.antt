@@ -1,5 +1,6 @@
 -- The answer with a picture has status 0 or 1.
 use Rattle.std.proofs.Common.{rules, ◌≡◌, ◌≤◌, List, ℕ, Result, Ok, Err, ap, arith}
+use Rattle.fsr_streams.specs.Exits.{status_of}
 use Rattle.fsr_runs.specs.Answers.{AnswersReading, GivesReply, HasLowStatus}
 use Rattle.fsr_runs.specs.declared.fault.Answer.{Answer}
 use Rattle.fsr_runs.specs.declared.fault.Fault.{Fault}
@@ -8,17 +9,17 @@ use Rattle.picture_text.specs.declared.scene.Finding.{Finding}
 use Rattle.picture_text.specs.declared.scene.Finding.TheVariants.{Lawful, Broken, NoOrder}
 use Rattle.picture_text.specs.declared.scene.Scene.{Scene}
 use Rattle.schedule_text.specs.declared.document.ScheduleDocument.TheVariants.{Cell, Matrix, Board}
-use Rattle.picture_answers.specs.Answers.{Answers, IsPictureAnswer, document_of, drawn, status_of}
+use Rattle.picture_answers.specs.Answers.{Answers, IsPictureAnswer, document_of, drawn, exit_of}
 use Rattle.picture_answers.specs.declared.drawings.Shown.{Shown}
 use Rattle.picture_answers.specs.declared.drawings.Shown.TheVariants as shown
 
-low_finding : (finding : Finding) → status_of finding ≤ 1
+low_finding : (finding : Finding) → status_of (exit_of finding) ≤ 1
 low_finding Lawful = omega arith
 low_finding (Broken broken) = omega arith
 low_finding (NoOrder reason) = omega arith
 
 low_drawn : (scene : Scene) (a : Answer) → a ≡ drawn scene → a.status ≤ 1
-low_drawn scene a is_drawn = let same : a.status ≡ status_of scene.finding = ap (λ b. b.status) is_drawn in rw same (low_finding scene.finding)
+low_drawn scene a is_drawn = let same : a.status ≡ status_of (exit_of scene.finding) = ap (λ b. b.status) is_drawn in rw same (low_finding scene.finding)
 
 low_reading : (d : Result Shown DocError) (a : Answer) → AnswersReading Answers d (Ok a) → a.status ≤ 1
 low_reading (Ok (shown.Check document)) a answered = low_drawn answered.0 a answered.2

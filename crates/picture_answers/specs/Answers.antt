@@ -1,5 +1,8 @@
 -- The answer to a document: its picture with its status, or the fault (this project's own).
 use Rattle.std.specs.Prelude.{◌≡◌, ℕ, List, [], ◌∷◌, Option, None, Some, Result, Ok, Err}
+use Rattle.fsr_streams.specs.Exits.{status_of}
+use Rattle.fsr_streams.specs.declared.exit.Exit.{Exit}
+use Rattle.fsr_streams.specs.declared.exit.Exit.TheVariants.{Sound, Unsound}
 use Rattle.fsr_runs.specs.Answers.{AnswersReading}
 use Rattle.fsr_runs.specs.declared.fault.Answer.{Answer}
 use Rattle.fsr_runs.specs.declared.fault.Fault.{Fault}
@@ -75,14 +78,14 @@ CanBeShown (shown.Check document) = Unit {0}
 CanBeShown (shown.Log log) = CanBeSearched log
 CanBeShown (shown.Schedule document) = CanBePlayed document
 
--- the status: 0 where the order is lawful, else 1
-abbrev pub status_of : Finding → ℕ
-status_of Lawful = 0
-status_of (Broken broken) = 1
-status_of (NoOrder reason) = 1
+-- how a run ends that shows what was found
+abbrev pub exit_of : Finding → Exit
+exit_of Lawful = Sound
+exit_of (Broken broken) = Unsound
+exit_of (NoOrder reason) = Unsound
 
 abbrev pub drawn : Scene → Answer
-drawn scene = record { text = picture_of scene; status = status_of scene.finding }
+drawn scene = record { text = picture_of scene; status = status_of (exit_of scene.finding) }
 
 -- the answer to a history and an order of it
 abbrev pub DrawsCheck : CheckDocument → Result Answer Fault → Type 0
@@ -104,6 +107,7 @@ DrawsCell schedule (Err (fault.History why)) = ⊥
 DrawsCell schedule (Err (fault.Lines why)) = ⊥
 DrawsCell schedule (Err (fault.Schedule position)) = IsFirstOverrun (cell_span schedule ∷ []) position
 DrawsCell schedule (Err fault.NoMemory) = ⊥
+DrawsCell schedule (Err fault.NoThread) = ⊥
 
 -- the answer to the schedule of a matrix, likewise
 abbrev pub DrawsMatrix : MatrixSchedule Band → Result Answer Fault → Type 0
@@ -115,6 +119,7 @@ DrawsMatrix schedule (Err (fault.History why)) = ⊥
 DrawsMatrix schedule (Err (fault.Lines why)) = ⊥
 DrawsMatrix schedule (Err (fault.Schedule position)) = IsFirstOverrun (spans_of schedule.terms) position
 DrawsMatrix schedule (Err fault.NoMemory) = ⊥
+DrawsMatrix schedule (Err fault.NoThread) = ⊥
 
 -- the answer to the schedule of a composed board, likewise
 abbrev pub DrawsBoard : BoardSchedule Band → Result Answer Fault → Type 0
@@ -126,6 +131,7 @@ DrawsBoard schedule (Err (fault.History why)) = ⊥
 DrawsBoard schedule (Err (fault.Lines why)) = ⊥
 DrawsBoard schedule (Err (fault.Schedule position)) = IsFirstOverrun (board_spans schedule.terms) position
 DrawsBoard schedule (Err fault.NoMemory) = ⊥
+DrawsBoard schedule (Err fault.NoThread) = ⊥
 
 -- the answer to a schedule
 abbrev pub DrawsSchedule : ScheduleDocument → Result Answer Fault → Type 0

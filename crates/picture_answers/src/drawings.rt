@@ -4,7 +4,7 @@ ghost use Rattle.history_text.specs.Refusals.{Gives as Reads};
 ghost use Rattle.log_text.specs.Log.{CanBeSearched};
 ghost use Rattle.matrix_core.specs.Runs.{CanPlay};
 ghost use Rattle.picture_answers.specs.Answers.{DrawsBoard, DrawsCell, DrawsCheck, AnswersLog, DrawsMatrix, DrawsSchedule};
-ghost use Rattle.picture_answers.specs.Answers.{CanBeShown, document_of, drawn, IsPictureAnswer, other_in, shown_in, status_of};
+ghost use Rattle.picture_answers.specs.Answers.{CanBeShown, document_of, drawn, exit_of, IsPictureAnswer, other_in, shown_in};
 ghost use Rattle.schedule_text.specs.Players.{CanBePlayed};
 ghost use Rattle.serde_json.specs.View.{view};
 
@@ -12,6 +12,7 @@ use crate::scenes::{board_scene, cell_scene, check_scene, log_scene, matrix_scen
 use four_slot_core::CellSchedule;
 use four_slot_play::play_cell;
 use fsr_runs::{Answer, Fault};
+use fsr_streams::Exit;
 use history_core::{Band, History, Items};
 use history_text::{CheckDocument, DocError, check_document, read_value};
 use log_search::search_log;
@@ -145,16 +146,16 @@ fn board(alloc: Global, schedule: &BoardSchedule<Band>) -> Result<Answer, Fault>
 fn draw(alloc: Global, scene: &Scene) -> Result<Answer, AllocError>
     ensures { IfOk result (λ answer. answer ≡ drawn scene.now) }
 {
-    let status = status_of(scene.finding);
+    let status = exit_of(scene.finding).status();
     let text = Items::new(picture_text(alloc, scene)?);
     Ok(Answer { text, status })
 }
 
-fn status_of(finding: Finding) -> u8
-    ensures { result ≡ status_of finding }
+fn exit_of(finding: Finding) -> Exit
+    ensures { result ≡ exit_of finding }
 {
     match finding {
-        Finding::Lawful => 0,
-        Finding::Broken(_) | Finding::NoOrder(_) => 1,
+        Finding::Lawful => Exit::Sound,
+        Finding::Broken(_) | Finding::NoOrder(_) => Exit::Unsound,
     }
 }

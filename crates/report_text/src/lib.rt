@@ -12,4 +12,4 @@ mod text;
 pub use line::Line;
 pub use pieces::{put_item, put_number, put_stamp};
 pub use report::{Counts, Report};
-pub use text::report_text;
+pub use text::{report_text, report_text_leaking};

@@ -5,11 +5,22 @@ use crate::lines::{push_history, push_order};
 use crate::marks::Marks;
 use crate::races::{push_origin, push_tasks};
 use crate::{Counts, Report};
-use history_core::{Band, History};
+use history_core::{Band, History, Items};
 use std::alloc::{AllocError, Global};
+use std::mem::forget;
 
 /// The greatest number of operations for which room is made before they are printed.
 const MOST_ROOM: usize = 100_000;
+
+/// The printed lines of a report, which is left unfreed: a run prints one and ends, and of a board each operation has a list of slots,
+/// which go with the process.
+pub fn report_text_leaking(alloc: Global, report: Report) -> Result<Items<u8>, AllocError>
+    ensures { IfOk result (λ text. text ≡ text_of report) }
+{
+    let text = report_text(alloc, &report);
+    forget(report);
+    Ok(Items::new(text?))
+}
 
 /// The printed lines of a report. Where a played report has no entry for an operation, as no report of a player has it,
 /// a dash stands in its place.

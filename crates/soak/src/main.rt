@@ -10,15 +10,16 @@ use cell_triple::TripleCell;
 use family_four_slot::FourSlotFamily;
 use family_live::SharedFamily;
 use family_triple::TripleFamily;
-use soak_findings::{Finding, Tally, status};
+use fsr_streams::Exit;
+use soak_findings::{Finding, Tally, exit};
 use soak_rounds::record::{Record, Shared};
 use soak_rounds::{pair, planted};
 use std::alloc::{AllocError, Global};
+use std::io;
 use std::process::ExitCode;
 use std::rt::Clock;
 use std::thread::Threads;
 use std::time::Instant;
-use std::{fmt, io};
 use thread_probe::can_start;
 
 const FOUR_SLOT: &str = "four_slot";
@@ -36,48 +37,19 @@ fn main(rt: HostRuntime) -> ExitCode {
         Ok(words) => command(&rt, rt.alloc(), words.as_slice()),
         Err(e) => Err(e),
     };
-    let stop = match &ended {
-        Ok(_) => return ExitCode::from(status(&ended)),
-        Err(e) => Stop::of(e.kind()),
-    };
-    let _told = eprintln!(&rt; "soak: {stop}");
-    ExitCode::from(stop.status())
-}
-
-/// Why a soak can't go on. The statuses are those of `fsr`.
-#[derive(Clone, Copy)]
-enum Stop {
-    NoMemory,
-    /// Its text can't be written, or the words or the clock can't be read.
-    Stream,
-    NoThread,
-}
-
-impl Stop {
-    fn of(kind: io::ErrorKind) -> Stop {
-        match kind {
-            io::ErrorKind::OutOfMemory => Stop::NoMemory,
-            io::ErrorKind::WouldBlock => Stop::NoThread,
-            _ => Stop::Stream,
-        }
+    let exit = exit(&ended);
+    if ended.is_err() {
+        let _told = eprintln!(&rt; "soak: {}", why(exit));
     }
-
-    fn status(self) -> u8 {
-        match self {
-            Stop::NoMemory => 4,
-            Stop::Stream => 5,
-            Stop::NoThread => 6,
-        }
-    }
+    ExitCode::from(exit.status())
 }
 
-impl fmt::Display for Stop {
-    fn fmt<W: fmt::Write>(&self, f: &mut fmt::Formatter<W>) -> fmt::Result {
-        f.write_str(match self {
-            Stop::NoMemory => "out of memory",
-            Stop::Stream => "a stream or the clock failed",
-            Stop::NoThread => "a thread can't start",
-        })
+/// Why a soak can't go on.
+fn why(exit: Exit) -> &'static str {
+    match exit {
+        Exit::NoMemory => "out of memory",
+        Exit::NoThread => "a thread can't start",
+        _ => "a stream or the clock failed",
     }
 }
 

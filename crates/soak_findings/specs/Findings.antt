@@ -1,6 +1,12 @@
 -- What a soak may find (this project's own).
 use Rattle.std.specs.Prelude.{ℕ, ◌+◌, Option, Some, None, Result, Ok, Err, nat_lt, if◌then◌else◌, min}
 use Rattle.std.specs.Option.{option_or}
+use Rattle.std.specs.IoError.{error_kind}
+use Rattle.std.specs.declared.io.Error.{Error}
+use Rattle.std.specs.declared.io.ErrorKind.{ErrorKind}
+use Rattle.std.specs.declared.io.ErrorKind.TheVariants as kind
+use Rattle.fsr_streams.specs.declared.exit.Exit.{Exit}
+use Rattle.fsr_streams.specs.declared.exit.Exit.TheVariants as exit
 use Rattle.soak_findings.specs.declared.finding.Finding.{Finding}
 use Rattle.soak_findings.specs.declared.finding.Finding.TheVariants.{Torn, Older, Foreign}
 use Rattle.soak_findings.specs.declared.finding.Tally.{Tally}
@@ -44,8 +50,15 @@ with_tally t u = record { writes = counted t.writes u.writes; reads = counted t.
 abbrev pub with_end : Tally → ℕ → ℕ → Tally
 with_end t written read = record { writes = t.writes; reads = t.reads; found = option_or t.found (wrong_end written read) }
 
--- the exit status of a soak that ended so
-abbrev pub status_of : {E : Type 0} → Result (Option Finding) E → ℕ
-status_of (Ok None) = 0
-status_of (Ok (Some found)) = 1
-status_of (Err error) = 2
+-- ---- how a soak ends
+
+-- what an error of this kind stops: a thread that can't start would block
+abbrev pub stop_of : ErrorKind → Exit
+stop_of kind.OutOfMemory = exit.NoMemory
+stop_of kind.WouldBlock = exit.NoThread
+stop_of rest = exit.Stream
+
+abbrev pub exit_of : Result (Option Finding) Error → Exit
+exit_of (Ok None) = exit.Sound
+exit_of (Ok (Some found)) = exit.Unsound
+exit_of (Err error) = stop_of (error_kind error)

@@ -1,7 +1,8 @@
 //! What a soak found.
 ghost use Rattle.std.specs.Prelude.{◌≡◌, ℕ};
-ghost use Rattle.soak_findings.specs.Findings.{last_read, no_tally, status_of, with_end, with_read, with_tally, with_write, wrong_end, wrong_read};
+ghost use Rattle.soak_findings.specs.Findings.{exit_of, last_read, no_tally, stop_of, with_end, with_read, with_tally, with_write, wrong_end, wrong_read};
 
+use fsr_streams::Exit;
 use std::{fmt, io};
 
 /// A record that no reader may see.
@@ -108,13 +109,24 @@ fn wrong_end(written: u64, read: u64) -> Option<Finding>
     }
 }
 
-/// The exit status of a soak that ended so: 0 only where nothing was found.
-pub fn status(ended: &io::Result<Option<Finding>>) -> u8
-    ensures { result ≡ status_of ended.now }
+/// How a soak that ended so ends: as one that is sound only where nothing was found.
+pub fn exit(ended: &io::Result<Option<Finding>>) -> Exit
+    ensures { result ≡ exit_of ended.now }
 {
     match ended {
-        Ok(None) => 0,
-        Ok(Some(_)) => 1,
-        Err(_) => 2,
+        Ok(None) => Exit::Sound,
+        Ok(Some(_)) => Exit::Unsound,
+        Err(error) => stop(error.kind()),
+    }
+}
+
+/// How a soak ends that an error of this kind stops.
+fn stop(kind: io::ErrorKind) -> Exit
+    ensures { result ≡ stop_of kind }
+{
+    match kind {
+        io::ErrorKind::OutOfMemory => Exit::NoMemory,
+        io::ErrorKind::WouldBlock => Exit::NoThread,
+        _ => Exit::Stream,
     }
 }

@@ -11,7 +11,6 @@ use std::test::Fail;
 use std::thread::{Threads, join_mut};
 
 mod beside;
-mod heard;
 mod in_place;
 mod torn;
 

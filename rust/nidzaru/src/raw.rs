@@ -560,6 +560,17 @@ fn read_place_since_by<T: Copy, const N: usize>(calls: &BoardCalls, place: &mut 
 mod tests {
     use super::*;
 
+    /// In every build: a side whose end isn't done is a fault of this crate.
+    #[test]
+    fn an_end_that_is_not_done_is_told() {
+        let goes = |it: Box<dyn FnOnce()>| std::panic::catch_unwind(std::panic::AssertUnwindSafe(it)).is_err();
+        let (end_writer, end_reader) = (calls_for(24, false).end_writer, calls_for(24, false).end_reader);
+        let end = board_calls_for(24, false).end;
+        assert!(goes(Box::new(move || drop(WritingSide { side: Side::EMPTY, order: Order::new(), end: end_writer }))));
+        assert!(goes(Box::new(move || drop(ReadingSide { side: Side::EMPTY, order: Order::new(), end: end_reader }))));
+        assert!(goes(Box::new(move || drop(BoardPlace { side: Side::EMPTY, order: Order::new(), end }))));
+    }
+
     #[test]
     fn a_write_is_refused_when_numbers_are_used_up() {
         assert!(is_written(DONE));

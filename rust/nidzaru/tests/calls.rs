@@ -94,6 +94,37 @@ fn each_call_at_each_size() {
     calls(triple_register(Some(1.5)), Some(1.5), None);
 }
 
+/// What is held lies there whole until the reader's next call, with the reader's number, and no hold takes memory.
+fn holds<T: Copy + Send + PartialEq + std::fmt::Debug>(of: impl Fn(u8) -> T) {
+    let (mut writer, mut reader) = triple_register(of(0)).unwrap();
+    assert_eq!((*reader.hold(), reader.number()), (of(0), 0));
+    let took = ASKED.get();
+    for n in (2..=100).step_by(2) {
+        let held = reader.hold();
+        writer.write(&of(n - 1)).unwrap();
+        writer.write(&of(n)).unwrap();
+        assert_eq!(*held, of(n - 2));
+        assert_eq!((reader.number(), reader.has_news()), (u64::from(n) - 2, true));
+        assert_eq!((*reader.hold(), reader.number(), reader.has_news()), (of(n), u64::from(n), false));
+        let (at, again) = (std::ptr::from_ref(reader.hold()), std::ptr::from_ref(reader.hold()));
+        assert_eq!(at, again);
+    }
+    assert_eq!(ASKED.get(), took, "a hold took memory");
+    drop(writer);
+    assert_eq!((*reader.hold(), reader.number()), (of(100), 100));
+}
+
+#[test]
+fn held_records_at_each_size() {
+    macro_rules! hold_sizes {
+        ($($size:literal)*) => {$(holds(|n| [n; $size]);)*};
+    }
+    hold_sizes!(1 7 8 9 23 24 25 63 64 65 127 128 129 255 256 257 1023 1024 1025 4095 4096);
+    holds(|n| [u64::from(n); 512]);
+    holds(|n| (n, f64::from(n)));
+    holds(|_| ());
+}
+
 #[test]
 fn a_record_may_have_no_bytes() {
     let (mut writer, mut reader) = register(()).unwrap();

@@ -1,12 +1,12 @@
 //! Under ThreadSanitizer, as c/tests/pairs.c for C. Pairs of a plain store and a plain load in two threads whose only order is one call: a
-//! read, a look, news, or a board's read, by sides and places that were moved since they were made. In one half of the pairs the write stands
+//! read, a look, news, a hold, or a board's read, by sides and places that were moved since they were made. In one half of the pairs the write stands
 //! still behind the library's own call, until the other thread has read and loaded; in the other half the read stands still before it, until
 //! the other thread has stored and written. So an order that is told after the write, or looked for before the read, is a race in each run.
 //! usage: pairs clean       nothing is to be reported
 //!        pairs unread      one pair without its call: a race, which is to be reported
 //! Link with the --wrap words of tests/rust.sh.
 
-use nidzaru::{Place, Reader, Since, Stamp, Writer};
+use nidzaru::{Place, Reader, Since, Stamp, Triple, Writer};
 use std::cell::UnsafeCell;
 use std::ffi::c_void;
 use std::process::ExitCode;
@@ -22,6 +22,7 @@ enum Call {
     Copied,
     Look,
     News,
+    Hold,
     Read,
     PlaceReadInto,
     ReadSince,
@@ -30,12 +31,13 @@ enum Call {
     None,
 }
 
-const CALLS: [Call; 10] = [
+const CALLS: [Call; 11] = [
     Call::Latest,
     Call::ReadInto,
     Call::Copied,
     Call::Look,
     Call::News,
+    Call::Hold,
     Call::Read,
     Call::PlaceReadInto,
     Call::ReadSince,
@@ -87,6 +89,8 @@ macro_rules! stands_still {
 stands_still!(false, __real_nidzaru_24_write, __wrap_nidzaru_24_write, side, item);
 stands_still!(true, __real_nidzaru_24_read, __wrap_nidzaru_24_read, side, item, number);
 stands_still!(true, __real_nidzaru_24_look, __wrap_nidzaru_24_look, side, number);
+stands_still!(false, __real_nidzaru_triple_24_write, __wrap_nidzaru_triple_24_write, side, item);
+stands_still!(true, __real_nidzaru_triple_24_look, __wrap_nidzaru_triple_24_look, side, number);
 stands_still!(false, __real_nidzaru_board_24_write, __wrap_nidzaru_board_24_write, side, item, stamp);
 stands_still!(true, __real_nidzaru_board_24_read, __wrap_nidzaru_board_24_read, side, item, stamp);
 stands_still!(true, __real_nidzaru_board_24_read_since, __wrap_nidzaru_board_24_read_since, side, least, item, stamp);
@@ -105,6 +109,7 @@ type Halves = [u32; 6];
 struct Round {
     words: (Writer<Words>, Reader<Words>),
     halves: (Writer<Halves>, Reader<Halves>),
+    lent: (Writer<Words, Triple>, Reader<Words, Triple>),
     places: Vec<Place<Words>>,
     small: Vec<Place<Halves>>,
 }
@@ -114,6 +119,7 @@ impl Round {
         Round {
             words: nidzaru::register([0; 3]).unwrap(),
             halves: nidzaru::register([0; 6]).unwrap(),
+            lent: nidzaru::triple_register([0; 3]).unwrap(),
             places: nidzaru::board(2, [0; 3]).unwrap(),
             small: nidzaru::board(2, [0; 6]).unwrap(),
         }
@@ -131,7 +137,8 @@ fn load(shared: &Shared) -> u64 {
 }
 
 fn pair(call: Call, before_read: bool, shared: &'static Shared) -> bool {
-    let Round { words: (mut writer, mut reader), halves: (mut half_writer, mut half_reader), mut places, mut small } = Round::new();
+    let Round { words, halves, lent: (mut lender, mut holder), mut places, mut small } = Round::new();
+    let ((mut writer, mut reader), (mut half_writer, mut half_reader)) = (words, halves);
     let (mut place, mut other) = (places.pop().unwrap(), places.pop().unwrap());
     let (mut half, mut other_half) = (small.pop().unwrap(), small.pop().unwrap());
     reach(0);
@@ -144,6 +151,7 @@ fn pair(call: Call, before_read: bool, shared: &'static Shared) -> bool {
         store(shared);
         match call {
             Call::Copied => half_writer.write(&[7; 6]).unwrap(),
+            Call::Hold => lender.write(&[7; 3]).unwrap(),
             Call::PlaceCopied => drop(half.write(&[7; 6]).unwrap()),
             Call::Read | Call::PlaceReadInto | Call::ReadSince | Call::PlaceNews => drop(place.write(&[7; 3]).unwrap()),
             _ => writer.write(&[7; 3]).unwrap(),
@@ -151,7 +159,7 @@ fn pair(call: Call, before_read: bool, shared: &'static Shared) -> bool {
         if before_read || call == Call::None {
             reach(2);
         }
-        (writer, half_writer, place, half)
+        (writer, half_writer, lender, place, half)
     });
     let loading = thread::spawn(move || {
         if !before_read && call != Call::None {
@@ -164,6 +172,7 @@ fn pair(call: Call, before_read: bool, shared: &'static Shared) -> bool {
             Call::Copied => half_reader.latest() == [7; 6],
             Call::Look => reader.look() == 1,
             Call::News => reader.news() == Some([7; 3]),
+            Call::Hold => *holder.hold() == [7; 3] && holder.number() == 1,
             Call::Read => other.read() == [7; 3],
             Call::PlaceReadInto => other.read_into(&mut item).tag == 1 && item == [7; 3],
             Call::ReadSince => other.read_since(Stamp::new(1, 1)) == Since::Fresh([7; 3]),
@@ -178,7 +187,7 @@ fn pair(call: Call, before_read: bool, shared: &'static Shared) -> bool {
         if !before_read {
             reach(2);
         }
-        drop((reader, half_reader, other, other_half));
+        drop((reader, half_reader, holder, other, other_half));
         read && loaded
     });
     drop(storing.join().unwrap());

@@ -1,3 +1,4 @@
+// made by c/exports.py
 //! A board over four-slot cells with records of 24 bytes.
 ghost use Rattle.c_registers.specs.Handles.{IsEnd};
 ghost use Rattle.c_boards.specs.Places.{IsBoardMake, IsBoardWrite, IsBoardRead, IsBoardReadSince};

@@ -1,3 +1,4 @@
+// made by c/exports.py
 //! A four-slot cell with records of 4,096 bytes.
 ghost use Rattle.c_registers.specs.FourSlotCalls.{IsMade, HasWritten, HasRead};
 ghost use Rattle.c_registers.specs.Handles.{IsMake, IsWrite, IsRead, IsLook, IsEnd};

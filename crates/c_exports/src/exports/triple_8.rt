@@ -1,3 +1,4 @@
+// made by c/exports.py
 //! A triple buffer with records of 8 bytes.
 ghost use Rattle.c_registers.specs.TripleCalls.{IsMade, HasWritten, HasRead, at_hand};
 ghost use Rattle.c_registers.specs.Handles.{IsMake, IsWrite, IsRead, IsLook, IsHold, IsEnd};

@@ -1,3 +1,4 @@
+// made by c/exports.py
 //! A board over triple buffers with records of 4,096 bytes.
 ghost use Rattle.c_registers.specs.Handles.{IsEnd};
 ghost use Rattle.c_boards.specs.Places.{IsBoardMake, IsBoardWrite, IsBoardRead, IsBoardReadSince};

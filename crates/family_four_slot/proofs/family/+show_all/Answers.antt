@@ -4,10 +4,11 @@ use mathlib.Core.Option.{some}
 use lib.ListN.{get_elem?}
 use Rattle.family_live.specs.Ends.{Each}
 use Rattle.family_four_slot.specs.declared.family.FourSlotSeat.{FourSlotSeat}
-use Rattle.family_four_slot.specs.declared.notes.View.TheVariants.{Has}
-use Rattle.family_four_slot.specs.Seats.{all_but_first, first_of}
+use Rattle.family_table.specs.declared.notes.View.TheVariants.{Has}
+use Rattle.family_table.specs.Seats.{all_but_first, first_of}
 use Rattle.family_four_slot.specs.Seated.{known_by}
-use Rattle.family_four_slot.proofs.Gathering.{stood, each_more, each_fewer, joined_in, put_again, same_seat}
+use Rattle.family_table.proofs.Gathering.{stood, each_more, each_fewer, joined_in, put_again}
+use Rattle.family_four_slot.proofs.Showing.{same_seat}
 use Rattle.family_four_slot.proofs.family.+show_all.Goals as goal
 
 pub lift-next-requires-clause-own : goal.lift-next-requires-clause-own

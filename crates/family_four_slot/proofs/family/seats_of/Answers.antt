@@ -1,8 +1,9 @@
 -- Each turn parts the next process off.
 use Rattle.std.proofs.Common.{◌+◌, ◌<◌, ap, ◌∙◌, refl, sym, subst, arith}
-use Rattle.family_four_slot.specs.declared.notes.View.TheVariants.{Has}
+use Rattle.family_table.specs.declared.notes.View.TheVariants.{Has}
 use Rattle.family_four_slot.specs.FourSlots.{first_process}
-use Rattle.family_four_slot.proofs.Parting.{DealtTo, dealt_more, upto_next, unstored}
+use Rattle.family_four_slot.proofs.Parting.{DealtTo, dealt_more, unstored}
+use Rattle.family_table.proofs.Firsts.{upto_next}
 use Rattle.family_four_slot.proofs.family.seats_of.Goals as goal
 
 pub part-seat-requires-clause-some : goal.part-seat-requires-clause-some

@@ -1,5 +1,5 @@
 -- The first processes have their seats, and the others are in the one that is left.
-use Rattle.std.proofs.Common.{◌≡◌, ◌≤◌}
+use Rattle.std.proofs.Common.{◌≡◌}
 use Rattle.std.specs.Prelude.{vec_capacity}
 use Rattle.family_four_slot.proofs.Parting.{DealtTo}
 use Rattle.family_four_slot.proofs.family.seats_of.Given as goal

@@ -1,8 +1,8 @@
 -- Each turn takes the last seat, whose process goes into the one.
 use Rattle.std.proofs.Common.{◌≡◌, ◌+◌, ◌∷◌, [], append-nil, length, length-append, ap, ◌∙◌, sym, arith}
-use Rattle.family_four_slot.specs.Seats.{joined}
+use Rattle.family_table.specs.Seats.{joined}
 use Rattle.family_triple.specs.Seated.{known_by}
-use Rattle.family_four_slot.proofs.Gathering.{stood, gathered_one, gathered_more, gathered_all}
+use Rattle.family_table.proofs.Gathering.{stood, gathered_one, gathered_more, gathered_all}
 use Rattle.family_triple.proofs.family.gathered.Goals as goal
 
 pub loop-init : goal.loop-init

@@ -1,7 +1,7 @@
 -- The processes of the last seats are in one.
 use Rattle.std.proofs.Common.{◌≡◌, ◌+◌, length}
 use Rattle.family_triple.specs.Seated.{known_by}
-use Rattle.family_four_slot.proofs.Gathering.{GatheredFrom}
+use Rattle.family_table.proofs.Gathering.{GatheredFrom}
 use Rattle.family_triple.proofs.family.gathered.Given as goal
 
 abbrev pub invariant-loop : goal.invariant-loop

@@ -1,7 +1,7 @@
 -- Each turn parts the next process off, which takes its slots.
 use Rattle.std.proofs.Common.{◌+◌, ◌<◌, ◌∷◌, [], ap, ◌∙◌, refl, sym, subst, arith, replicate}
-use Rattle.family_four_slot.specs.declared.notes.View.TheVariants.{Has}
-use Rattle.family_four_slot.specs.Seats.{first_of}
+use Rattle.family_table.specs.declared.notes.View.TheVariants.{Has}
+use Rattle.family_table.specs.Seats.{first_of}
 use Rattle.family_triple.specs.Access.{IsReady}
 use Rattle.family_triple.specs.Triples.{first_process}
 use Rattle.family_triple.proofs.Parting.{DealtTo, dealt_more, next_me}

@@ -2,8 +2,8 @@
 use Rattle.std.proofs.Common.{◌≡◌, ◌+◌, ◌-◌, ◌*◌, ◌<◌, ℕ, ◌∙◌, ap, refl, sym, subst, arith}
 use Rattle.cell_live.specs.declared.sight.Sight.TheVariants.{Spent}
 use Rattle.cell_triple.specs.Steps.{first_writer, first_reader}
-use Rattle.family_four_slot.specs.Family.{of_cell}
-use Rattle.family_four_slot.specs.Places.{place}
+use Rattle.family_table.specs.Family.{of_cell}
+use Rattle.family_table.specs.Places.{place}
 use Rattle.family_triple.specs.Places.{word_at}
 use Rattle.family_triple.proofs.Looking.{word_is}
 use Rattle.family_triple.proofs.Taking.{Taking, start, took_row, took_column, took_all, row_in, column_in, row_cell, column_cell}

@@ -6,13 +6,13 @@ use Rattle.cell_four_slot.specs.Steps.{asked_by, said_with, got_by, FourSlotSigh
 use Rattle.cell_four_slot.specs.declared.notes.ReaderNotes.{ReaderNotes}
 use Rattle.cell_live.specs.declared.sight.Sight.TheVariants.{Spent, Reader}
 use Rattle.cell_four_slot.proofs.Slots.{slot_low}
-use Rattle.family_four_slot.specs.declared.notes.Process.{Process}
-use Rattle.family_four_slot.specs.Family.{knows}
+use Rattle.family_table.specs.declared.notes.Process.{Process}
+use Rattle.family_table.specs.Family.{knows}
 use Rattle.family_four_slot.specs.Places.{slot_at}
 use Rattle.family_four_slot.specs.Seated.{known_by}
 use Rattle.family_four_slot.specs.Steps.{After, has_asked}
 use Rattle.family_four_slot.specs.Words.{HasSlots}
-use Rattle.family_four_slot.proofs.Slices.{set_long}
+use Rattle.family_table.proofs.Slices.{set_long}
 use Rattle.family_four_slot.proofs.Done.{has_read, is_answer}
 use Rattle.family_four_slot.proofs.Going.{pair_low, pair_word, reader_after, column_at, column_place, column_inside, column_long, column_notes, column_reader}
 use Rattle.family_four_slot.proofs.family.FourSlotFamily.read_at.Goals as goal

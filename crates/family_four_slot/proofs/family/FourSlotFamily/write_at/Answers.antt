@@ -7,8 +7,8 @@ use Rattle.cell_four_slot.specs.Steps.{begun_with, FourSlotSight}
 use Rattle.cell_four_slot.specs.declared.notes.WriterNotes.{WriterNotes}
 use Rattle.cell_live.specs.declared.sight.Sight.TheVariants.{Spent, Writer}
 use Rattle.cell_four_slot.proofs.Slots.{slot_low}
-use Rattle.family_four_slot.specs.declared.notes.Process.{Process}
-use Rattle.family_four_slot.specs.Family.{knows}
+use Rattle.family_table.specs.declared.notes.Process.{Process}
+use Rattle.family_table.specs.Family.{knows}
 use Rattle.family_four_slot.specs.Places.{slot_at}
 use Rattle.family_four_slot.specs.Seated.{known_by}
 use Rattle.family_four_slot.specs.Steps.{After}

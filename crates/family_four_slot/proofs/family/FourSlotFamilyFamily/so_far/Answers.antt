@@ -4,9 +4,10 @@ use mathlib.Core.Option.{some}
 use lib.ListN.{get_elem?}
 use Rattle.family_live.specs.Ends.{Each}
 use Rattle.family_four_slot.specs.declared.family.FourSlotSeat.{FourSlotSeat}
-use Rattle.family_four_slot.specs.declared.notes.View.TheVariants.{Has}
+use Rattle.family_table.specs.declared.notes.View.TheVariants.{Has}
 use Rattle.family_four_slot.specs.Seated.{known_by}
-use Rattle.family_four_slot.proofs.Gathering.{stood, each_more, each_fewer, put_again, same_seat}
+use Rattle.family_table.proofs.Gathering.{stood, each_more, each_fewer, put_again}
+use Rattle.family_four_slot.proofs.Showing.{same_seat}
 use Rattle.family_four_slot.proofs.Parting.{all_scheduled, all_atomic}
 use Rattle.family_four_slot.proofs.family.FourSlotFamilyFamily.so_far.Goals as goal
 

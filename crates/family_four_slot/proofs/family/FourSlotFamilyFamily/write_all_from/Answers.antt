@@ -1,5 +1,5 @@
 -- Each turn writes to one more of the others.
-use Rattle.std.proofs.Common.{◌≡◌, ◌+◌, ◌-◌, ◌<◌, subst, sym, arith, rules}
+use Rattle.std.proofs.Common.{◌≡◌, ◌+◌, ◌-◌, subst, arith}
 use Rattle.family_live.specs.Rows.{IsWriteTo}
 use Rattle.family_live.specs.Rows.OneByOne.{no_call}
 use Rattle.family_live.proofs.Rows.{one_after, one_before}

@@ -1,5 +1,4 @@
 -- The register's cell is found, and the rest is the write there.
-use Rattle.std.proofs.Common.{rules}
 use Rattle.family_four_slot.proofs.family.FourSlotFamilyFamily.write_from.Goals as goal
 
 pub returns : goal.returns

@@ -3,8 +3,8 @@ use Rattle.std.proofs.Common.{◌≡◌, ◌<◌, ℕ, length, sym, ap, ◌∙�
 use Rattle.cell_live.specs.declared.sight.Sight.TheVariants.{Spent}
 use Rattle.cell_four_slot.specs.Steps.{FourSlotSight, asked_by, word_said}
 use Rattle.cell_four_slot.specs.declared.notes.ReaderNotes.{ReaderNotes}
-use Rattle.family_four_slot.specs.declared.notes.Process.{Process}
-use Rattle.family_four_slot.specs.Family.{of_cell}
+use Rattle.family_table.specs.declared.notes.Process.{Process}
+use Rattle.family_table.specs.Family.{of_cell}
 use Rattle.family_four_slot.proofs.Going.{first_word, reader_after}
 use Rattle.family_four_slot.proofs.Told.{has_one, reads_one}
 use Rattle.family_four_slot.proofs.table.FamilyTable.announce.Goals as goal

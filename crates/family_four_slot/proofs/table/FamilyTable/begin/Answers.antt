@@ -1,5 +1,5 @@
 -- The load of `reading` begins a write.
-use Rattle.std.proofs.Common.{refl, arith, ◌≡◌, ◌+◌, ◌*◌, ◌<◌}
+use Rattle.std.proofs.Common.{arith}
 use Rattle.family_four_slot.proofs.Told.{begins_ok}
 use Rattle.family_four_slot.proofs.table.FamilyTable.begin.Goals as goal
 

@@ -1,12 +1,12 @@
 -- A receipt is told once more.
-use Rattle.std.proofs.Common.{◌≡◌, ◌<◌, [], arith, subst, sym, ap, ◌∙◌, refl}
+use Rattle.std.proofs.Common.{arith, subst, sym, ap, ◌∙◌, refl}
 use Rattle.atomic_table.specs.Table.{Splits}
 use Rattle.cell_live.specs.declared.sight.Sight.TheVariants.{Spent}
 use Rattle.cell_four_slot.specs.Steps.{receipt_for, hears_of}
 use Rattle.family_four_slot.specs.Places.{four_slots}
 use Rattle.family_four_slot.specs.FourSlots.{CellRule, FourSlotFamily, Idle}
 use Rattle.family_four_slot.proofs.Cells.{deaf, mute}
-use Rattle.family_four_slot.proofs.Receipts.{family_repeats}
+use Rattle.family_table.proofs.Receipts.{family_repeats}
 use Rattle.family_four_slot.proofs.table.FamilyTable.duplicate.Goals as goal
 
 pub split_seat-again-requires : goal.split_seat-again-requires

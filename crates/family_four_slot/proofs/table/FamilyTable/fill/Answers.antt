@@ -1,7 +1,6 @@
 -- The slot comes first, and what lies behind it stays.
-use Rattle.std.proofs.Common.{[], ◌∷◌, ap, ◌∙◌, ◌≡◌, List, ℕ, sym, ◌+◌, ◌*◌, ◌<◌, arith}
+use Rattle.std.proofs.Common.{◌∷◌, ap, ◌∙◌, ◌≡◌, sym}
 use Rattle.atomic_table.specs.Table.{rest}
-use Rattle.family_four_slot.specs.Places.{slot_at}
 use Rattle.family_four_slot.proofs.table.FamilyTable.fill.Goals as goal
 
 pub slot_mut-requires : goal.slot_mut-requires

@@ -1,15 +1,15 @@
 -- A process at rest learns a receipt.
-use Rattle.std.proofs.Common.{◌≡◌, arith, ◌∷◌, subst, sym, ◌<◌, refl, ap}
+use Rattle.std.proofs.Common.{arith, subst, sym, refl, ap}
 use Rattle.atomic_table.specs.Table.{Joins}
 use Rattle.cell_live.specs.declared.sight.Sight.TheVariants.{Spent}
 use Rattle.cell_four_slot.specs.Steps.{receipt_for, hears_of}
 use Rattle.cell_four_slot.specs.Steps.{FourSlotSight}
-use Rattle.family_four_slot.specs.declared.notes.View.{View}
+use Rattle.family_table.specs.declared.notes.View.{View}
 use Rattle.family_four_slot.specs.Places.{four_slots}
 use Rattle.family_four_slot.specs.FourSlots.{CellRule, FourSlotFamily, Idle}
-use Rattle.family_four_slot.specs.Seats.{learnt_by, no_one}
+use Rattle.family_table.specs.Seats.{learnt_by, no_one}
 use Rattle.family_four_slot.proofs.Cells.{cell_hears, deaf, mute}
-use Rattle.family_four_slot.proofs.Receipts.{family_learns}
+use Rattle.family_table.proofs.Receipts.{family_learns}
 use Rattle.family_four_slot.proofs.table.FamilyTable.hear.Goals as goal
 
 pub join_seat-requires : goal.join_seat-requires

@@ -1,8 +1,9 @@
 -- Zeros and copies of the record are a family at the start.
-use Rattle.std.proofs.Common.{rules, ◌≡◌, ◌*◌, ◌+◌, ◌-◌, List, ℕ, [], replicate, sym, subst, ◌∙◌, true, is_ok, vec_len}
+use Rattle.std.proofs.Common.{rules, ◌≡◌, ◌*◌, ◌+◌, List, ℕ, replicate, sym, subst, ◌∙◌, true, is_ok, vec_len}
 use Rattle.atomic_table.specs.Table.{opening}
 use Rattle.family_four_slot.specs.FourSlots.{FourSlotFamily, first_view}
-use Rattle.family_four_slot.proofs.Starts.{filled, four_slots_start}
+use Rattle.family_table.proofs.Firsts.{filled}
+use Rattle.family_four_slot.proofs.Starts.{four_slots_start}
 use Rattle.family_four_slot.proofs.table.FamilyTable.new.Goals as goal
 
 pub new-requires : goal.new-requires

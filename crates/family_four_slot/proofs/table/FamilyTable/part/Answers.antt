@@ -1,11 +1,11 @@
 -- The first process of a seat goes to a new one.
-use Rattle.std.proofs.Common.{◌≡◌, arith, ◌∷◌, subst, sym, ◌<◌}
+use Rattle.std.proofs.Common.{arith, subst, sym}
 use Rattle.atomic_table.specs.Table.{Splits}
 use Rattle.cell_live.specs.declared.sight.Sight.TheVariants.{Spent}
 use Rattle.family_four_slot.specs.Places.{four_slots}
 use Rattle.family_four_slot.specs.FourSlots.{CellRule, FourSlotFamily}
-use Rattle.family_four_slot.specs.Seats.{all_but_first, first_of}
-use Rattle.family_four_slot.proofs.Seats.{parts_first}
+use Rattle.family_table.specs.Seats.{all_but_first, first_of}
+use Rattle.family_table.proofs.Seats.{parts_first}
 use Rattle.family_four_slot.proofs.table.FamilyTable.part.Goals as goal
 
 pub split_seat-parted-requires : goal.split_seat-parted-requires

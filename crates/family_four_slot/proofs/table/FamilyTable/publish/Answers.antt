@@ -4,8 +4,8 @@ use Rattle.four_slot_core.specs.Events.{bit_number}
 use Rattle.cell_live.specs.declared.sight.Sight.TheVariants.{Spent, Writer}
 use Rattle.cell_four_slot.specs.Steps.{FourSlotSight, stored_by, finished_with}
 use Rattle.cell_four_slot.specs.declared.notes.WriterNotes.{WriterNotes}
-use Rattle.family_four_slot.specs.declared.notes.Process.{Process}
-use Rattle.family_four_slot.specs.Family.{of_cell}
+use Rattle.family_table.specs.declared.notes.Process.{Process}
+use Rattle.family_table.specs.Family.{of_cell}
 use Rattle.family_four_slot.specs.Steps.{After, has_stored}
 use Rattle.family_four_slot.proofs.Going.{first_word, pair_low, pair_word, writer_after}
 use Rattle.family_four_slot.proofs.Told.{has_one, writes_one}

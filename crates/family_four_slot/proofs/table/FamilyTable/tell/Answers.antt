@@ -1,13 +1,13 @@
 -- A process at rest tells what it has done.
-use Rattle.std.proofs.Common.{◌≡◌, arith, ◌∷◌, subst, sym, ◌<◌, refl}
+use Rattle.std.proofs.Common.{arith, subst, sym, refl}
 use Rattle.atomic_table.specs.Table.{Splits}
 use Rattle.cell_live.specs.declared.sight.Sight.TheVariants.{Spent}
 use Rattle.cell_four_slot.specs.Steps.{receipt_for, hears_of}
 use Rattle.family_four_slot.specs.Places.{four_slots}
 use Rattle.family_four_slot.specs.FourSlots.{CellRule, FourSlotFamily, Idle}
-use Rattle.family_four_slot.specs.Seats.{told_by}
+use Rattle.family_table.specs.Seats.{told_by}
 use Rattle.family_four_slot.proofs.Cells.{cell_tells, deaf, mute}
-use Rattle.family_four_slot.proofs.Receipts.{family_tells}
+use Rattle.family_table.proofs.Receipts.{family_tells}
 use Rattle.family_four_slot.proofs.table.FamilyTable.tell.Goals as goal
 
 pub split_seat-parted-requires : goal.split_seat-parted-requires

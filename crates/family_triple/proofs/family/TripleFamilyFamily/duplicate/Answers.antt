@@ -1,11 +1,11 @@
 -- Both receipts know what the one did.
-use Rattle.std.proofs.Common.{◌≡◌, refl, ap}
+use Rattle.std.proofs.Common.{refl, ap}
 use Rattle.cell_live.specs.Intervals.{dated}
 use Rattle.cell_live.specs.Sights.{receipt_or}
 use Rattle.cell_live.specs.declared.sight.Sight.TheVariants.{Spent}
-use Rattle.family_four_slot.specs.Family.{of_cell}
-use Rattle.family_four_slot.specs.Places.{place}
-use Rattle.family_four_slot.specs.Words.{receipt_in}
+use Rattle.family_table.specs.Family.{of_cell}
+use Rattle.family_table.specs.Places.{place}
+use Rattle.family_table.specs.Views.{receipt_in}
 use Rattle.family_triple.proofs.Telling.{told_again, same_told}
 use Rattle.family_triple.proofs.family.TripleFamilyFamily.duplicate.Goals as goal
 

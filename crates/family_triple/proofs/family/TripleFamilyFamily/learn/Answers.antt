@@ -4,14 +4,14 @@ use Rattle.cell_triple.specs.Steps.{TripleSight, hears_of}
 use Rattle.cell_live.specs.Running.{snap}
 use Rattle.cell_live.specs.declared.sight.Sight.TheVariants.{Spent, Told as Tells}
 use Rattle.family_live.specs.Accesses.{IsHeardRead, KeepsEach, KeepsOthers}
-use Rattle.family_four_slot.specs.declared.notes.Process.{Process}
-use Rattle.family_four_slot.specs.declared.notes.Receipt.{Receipt}
-use Rattle.family_four_slot.specs.declared.notes.View.TheVariants.{Has}
-use Rattle.family_four_slot.specs.Family.{heard_by, of_cell}
-use Rattle.family_four_slot.specs.Places.{place, writer_of}
-use Rattle.family_four_slot.specs.Seats.{learnt_by}
+use Rattle.family_table.specs.declared.notes.Process.{Process}
+use Rattle.family_table.specs.declared.notes.Receipt.{Receipt}
+use Rattle.family_table.specs.declared.notes.View.TheVariants.{Has}
+use Rattle.family_table.specs.Family.{heard_by, of_cell}
+use Rattle.family_table.specs.Places.{place, writer_of}
+use Rattle.family_table.specs.Seats.{learnt_by}
 use Rattle.family_triple.specs.Seated.{known_by, told_in, naming}
-use Rattle.family_four_slot.specs.Words.{process_of}
+use Rattle.family_table.specs.Views.{process_of}
 use Rattle.family_triple.specs.Words.{writes_to, reads_from}
 use Rattle.family_triple.proofs.Going.{seat_after}
 use Rattle.family_triple.proofs.Learning.{rest_heard, writes_stay, others_stay, is_heard}

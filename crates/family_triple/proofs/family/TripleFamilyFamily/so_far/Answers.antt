@@ -4,9 +4,9 @@ use mathlib.Core.Option.{some}
 use lib.ListN.{get_elem?}
 use Rattle.family_live.specs.Ends.{Each}
 use Rattle.family_triple.specs.declared.family.TripleSeat.{TripleSeat}
-use Rattle.family_four_slot.specs.declared.notes.View.TheVariants.{Has}
+use Rattle.family_table.specs.declared.notes.View.TheVariants.{Has}
 use Rattle.family_triple.specs.Seated.{known_by}
-use Rattle.family_four_slot.proofs.Gathering.{stood, each_more, each_fewer, put_again}
+use Rattle.family_table.proofs.Gathering.{stood, each_more, each_fewer, put_again}
 use Rattle.family_triple.proofs.Parting.{all_scheduled, all_atomic}
 use Rattle.family_triple.proofs.Showing.{same_seat}
 use Rattle.family_triple.proofs.family.TripleFamilyFamily.so_far.Goals as goal

@@ -1,11 +1,11 @@
 -- The receipt is that of the process.
 use Rattle.std.proofs.Common.{◌≡◌, [], refl, ap, ◌∙◌}
 use Rattle.cell_triple.specs.Steps.{TripleSight, receipt_for}
-use Rattle.family_four_slot.specs.declared.notes.Receipt.{Receipt}
-use Rattle.family_four_slot.specs.declared.notes.View.TheVariants.{Told}
-use Rattle.family_four_slot.specs.Family.{receipt_of}
-use Rattle.family_four_slot.specs.Seats.{told_by}
-use Rattle.family_four_slot.specs.Words.{receipt_in}
+use Rattle.family_table.specs.declared.notes.Receipt.{Receipt}
+use Rattle.family_table.specs.declared.notes.View.TheVariants.{Told}
+use Rattle.family_table.specs.Family.{receipt_of}
+use Rattle.family_table.specs.Seats.{told_by}
+use Rattle.family_table.specs.Views.{receipt_in}
 use Rattle.family_triple.specs.Seated.{known_by}
 use Rattle.family_triple.proofs.Telling.{has_told, tells_all}
 use Rattle.family_triple.proofs.family.TripleFamilyFamily.tell.Goals as goal

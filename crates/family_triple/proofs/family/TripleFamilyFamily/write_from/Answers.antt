@@ -2,7 +2,7 @@
 use Rattle.std.proofs.Common.{◌≡◌, ◌+◌, ◌*◌, ◌-◌, ◌%◌, ◌<◌, ℕ, List, [], ◌∷◌, ◌++◌, set, length, sym, ap, ◌∙◌, subst, refl, arith}
 use Rattle.cell_live.specs.Running.{last_or, held_slots}
 use Rattle.cell_triple.specs.declared.notes.WriterNotes.{WriterNotes}
-use Rattle.family_four_slot.specs.declared.notes.View.TheVariants.{Has}
+use Rattle.family_table.specs.declared.notes.View.TheVariants.{Has}
 use Rattle.family_triple.specs.Places.{among, slot_at}
 use Rattle.family_triple.specs.Seated.{known_by}
 use Rattle.family_triple.proofs.Going.{row_at, row_long, row_notes, row_slot, row_written, wrote}

@@ -1,12 +1,12 @@
 -- A receipt is told once more.
-use Rattle.std.proofs.Common.{◌≡◌, ◌<◌, [], arith, subst, sym, ap, ◌∙◌, refl}
+use Rattle.std.proofs.Common.{arith, subst, sym, ap, ◌∙◌, refl}
 use Rattle.atomic_table.specs.Table.{Splits}
 use Rattle.cell_live.specs.declared.sight.Sight.TheVariants.{Spent}
 use Rattle.cell_triple.specs.Steps.{receipt_for, hears_of}
 use Rattle.family_triple.specs.Places.{triples}
 use Rattle.family_triple.specs.Triples.{CellRule, TripleFamily, Any}
 use Rattle.family_triple.proofs.Cells.{deaf, mute}
-use Rattle.family_four_slot.proofs.Receipts.{family_repeats}
+use Rattle.family_table.proofs.Receipts.{family_repeats}
 use Rattle.family_triple.proofs.table.FamilyTable.duplicate.Goals as goal
 
 pub split_seat-again-requires : goal.split_seat-again-requires

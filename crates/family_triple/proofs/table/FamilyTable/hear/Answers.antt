@@ -4,12 +4,12 @@ use Rattle.atomic_table.specs.Table.{Joins}
 use Rattle.cell_live.specs.declared.sight.Sight.TheVariants.{Spent}
 use Rattle.cell_triple.specs.Steps.{receipt_for, hears_of}
 use Rattle.cell_triple.specs.Steps.{TripleSight}
-use Rattle.family_four_slot.specs.declared.notes.View.{View}
+use Rattle.family_table.specs.declared.notes.View.{View}
 use Rattle.family_triple.specs.Places.{triples}
 use Rattle.family_triple.specs.Triples.{CellRule, TripleFamily, Any}
-use Rattle.family_four_slot.specs.Seats.{learnt_by, no_one}
+use Rattle.family_table.specs.Seats.{learnt_by, no_one}
 use Rattle.family_triple.proofs.Cells.{cell_hears, deaf, mute}
-use Rattle.family_four_slot.proofs.Receipts.{family_learns}
+use Rattle.family_table.proofs.Receipts.{family_learns}
 use Rattle.family_triple.proofs.table.FamilyTable.hear.Goals as goal
 
 pub join_seat-requires : goal.join_seat-requires

@@ -4,8 +4,8 @@ use Rattle.atomic_table.specs.Table.{Splits}
 use Rattle.cell_live.specs.declared.sight.Sight.TheVariants.{Spent}
 use Rattle.family_triple.specs.Places.{triples}
 use Rattle.family_triple.specs.Triples.{CellRule, TripleFamily}
-use Rattle.family_four_slot.specs.Seats.{no_process, all_of}
-use Rattle.family_four_slot.proofs.Seats.{parts_all}
+use Rattle.family_table.specs.Seats.{no_process, all_of}
+use Rattle.family_table.proofs.Seats.{parts_all}
 use Rattle.family_triple.proofs.table.FamilyTable.lift.Goals as goal
 
 pub split_seat-bare-requires : goal.split_seat-bare-requires

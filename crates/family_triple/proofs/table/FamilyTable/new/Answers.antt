@@ -2,7 +2,7 @@
 use Rattle.std.proofs.Common.{rules, ◌≡◌, ◌*◌, ◌+◌, List, ℕ, replicate, sym, subst, ◌∙◌, true, is_ok, vec_len}
 use Rattle.atomic_table.specs.Table.{opening}
 use Rattle.family_triple.specs.Triples.{TripleFamily, first_view}
-use Rattle.family_four_slot.proofs.Starts.{filled}
+use Rattle.family_table.proofs.Firsts.{filled}
 use Rattle.family_triple.proofs.Starts.{triples_start}
 use Rattle.family_triple.proofs.table.FamilyTable.new.Goals as goal
 

@@ -4,8 +4,8 @@ use Rattle.atomic_table.specs.Table.{Splits}
 use Rattle.cell_live.specs.declared.sight.Sight.TheVariants.{Spent}
 use Rattle.family_triple.specs.Places.{triples}
 use Rattle.family_triple.specs.Triples.{CellRule, TripleFamily}
-use Rattle.family_four_slot.specs.Seats.{all_but_first, first_of}
-use Rattle.family_four_slot.proofs.Seats.{parts_first}
+use Rattle.family_table.specs.Seats.{all_but_first, first_of}
+use Rattle.family_table.proofs.Seats.{parts_first}
 use Rattle.family_triple.proofs.table.FamilyTable.part.Goals as goal
 
 pub split_seat-parted-requires : goal.split_seat-parted-requires

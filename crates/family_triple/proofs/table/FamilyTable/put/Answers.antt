@@ -3,11 +3,11 @@ use Rattle.std.proofs.Common.{arith, subst, sym, ap}
 use Rattle.atomic_table.specs.Table.{Joins}
 use Rattle.cell_live.specs.declared.sight.Sight.TheVariants.{Spent}
 use Rattle.cell_triple.specs.Steps.{TripleSight}
-use Rattle.family_four_slot.specs.declared.notes.View.{View}
+use Rattle.family_table.specs.declared.notes.View.{View}
 use Rattle.family_triple.specs.Places.{triples}
 use Rattle.family_triple.specs.Triples.{CellRule, TripleFamily}
-use Rattle.family_four_slot.specs.Seats.{joined, no_one}
-use Rattle.family_four_slot.proofs.Seats.{family_joins}
+use Rattle.family_table.specs.Seats.{joined, no_one}
+use Rattle.family_table.proofs.Seats.{family_joins}
 use Rattle.family_triple.proofs.table.FamilyTable.put.Goals as goal
 
 pub join_seat-requires : goal.join_seat-requires

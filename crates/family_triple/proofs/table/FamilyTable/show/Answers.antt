@@ -1,7 +1,7 @@
 -- What is shown there is what the seat has.
 use Rattle.std.proofs.Common.{◌∷◌, ap, ◌∙◌, sym, subst}
 use Rattle.atomic_table.specs.Table.{rest}
-use Rattle.family_four_slot.proofs.Slices.{same_first}
+use Rattle.family_table.proofs.Slices.{same_first}
 use Rattle.family_triple.proofs.table.FamilyTable.show.Goals as goal
 
 pub slot_mut-requires : goal.slot_mut-requires

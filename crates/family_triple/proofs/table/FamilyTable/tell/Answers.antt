@@ -5,9 +5,9 @@ use Rattle.cell_live.specs.declared.sight.Sight.TheVariants.{Spent}
 use Rattle.cell_triple.specs.Steps.{receipt_for, hears_of}
 use Rattle.family_triple.specs.Places.{triples}
 use Rattle.family_triple.specs.Triples.{CellRule, TripleFamily, Any}
-use Rattle.family_four_slot.specs.Seats.{told_by}
+use Rattle.family_table.specs.Seats.{told_by}
 use Rattle.family_triple.proofs.Cells.{cell_tells, deaf, mute}
-use Rattle.family_four_slot.proofs.Receipts.{family_tells}
+use Rattle.family_table.proofs.Receipts.{family_tells}
 use Rattle.family_triple.proofs.table.FamilyTable.tell.Goals as goal
 
 pub split_seat-parted-requires : goal.split_seat-parted-requires

@@ -1,0 +1,11 @@
+pub mod Acts
+pub mod Firsts
+pub mod Frames
+pub mod Gathering
+pub mod Held
+pub mod Places
+pub mod Receipts
+pub mod Seats
+pub mod Slices
+pub mod Steps
+pub mod Totals
