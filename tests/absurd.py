@@ -1,5 +1,5 @@
 """Puts an absurd premise before each conjunct of the headlines' definitions, and sees whether a proof breaks. By hand: each of its checks
-takes 10 to 25 processor seconds, and there are dozens.
+takes 15 to 30 processor seconds, and there are dozens.
 
     absurd.py [--headline N] [--definition NAME] [--max N] [--list]
 
@@ -113,7 +113,8 @@ def is_data(path, said):
         return len(word) > 1 or word == said
     place = headlines.found_by(path, word)
     if place is None or place[0].endswith(".rt"):
-        return place is not None
+        # (of the kit a type without arguments is data)
+        return place is not None or re.fullmatch(r"[A-Z]\w*", said) is not None
     lines = headlines.lines_of(place[0])
     fields = [lines[it] for it in place[2] if FIELD.match(lines[it])]
     return bool(fields) and all(is_data(place[0], it[FIELD.match(it).end():].split("→")[-1].strip()) for it in fields)
@@ -379,8 +380,8 @@ def batches(edits, size):
 
 
 def settle(bench, edits):
-    """How each of these edits ends. Those that an error names are set aside, and the others tried again. Where none is named those are tried
-    alone that the errors may be due to, and where none of these is refused, halves."""
+    """How each of these edits ends. Those that an error names are set aside, and the others tried again. Where none is named, those are
+    tried alone that the errors may be due to, and where none of these is refused, halves."""
     ends, alone, left = {}, set(), edits
     while left:
         found, due = judge(left, bench.attempt(left))
