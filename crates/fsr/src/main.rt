@@ -1,4 +1,5 @@
-//! `fsr`: checks an order of a history, finds one of a log, plays a schedule, or runs a race, that comes as a document on standard input.
+//! `fsr`: checks an order of a history, finds one of a log, plays a schedule, or runs a race, that comes as a document in a file or on
+//! standard input.
 #![tactic(auto)]
 
 use board_live::Posted;
@@ -6,13 +7,17 @@ use family_four_slot::FourSlotFamily;
 use fsr_answers::run;
 use fsr_runs::FSR;
 use fsr_streams::{Over, tell};
-use fsr_words::words_of;
+use fsr_words::{file_of, tell_unopened, words_of};
 use history_core::Band;
+use std::fs;
 use std::process::ExitCode;
 use thread_probe::can_start;
 
 /// The status where a thread can't start.
 const NO_THREAD: u8 = 6;
+
+/// The status where memory runs out.
+const NO_MEMORY: u8 = 4;
 
 /// A race of 16 tasks needs as many threads besides the caller's.
 const MOST_THREADS: usize = 15;
@@ -20,7 +25,7 @@ const MOST_THREADS: usize = 15;
 /// Whether the words are those of a race. If no thread could start its tasks would run in turn, and show nothing.
 fn races(words: &[String]) -> bool {
     match words {
-        [_, command] => command.as_str() == "race",
+        [_, command] | [_, command, _] => command.as_str() == "race",
         _ => false,
     }
 }
@@ -35,15 +40,37 @@ fn main(rt: HostRuntime) -> ExitCode {
         tell(&mut faults, "fsr: a thread can't start\n");
         return ExitCode::from(NO_THREAD);
     }
-    let mut input = Over::new(rt.stdin());
+    let Ok(file) = file_of(rt.alloc(), words.as_slice()) else {
+        tell(&mut faults, FSR.no_memory);
+        return ExitCode::from(NO_MEMORY);
+    };
     let mut out = Over::new(rt.stdout());
-    let status = run::<FourSlotFamily<Posted<Band>>, _, _, _, _, _>(
-        &rt,
-        rt.alloc(),
-        words.as_slice(),
-        &mut input,
-        &mut out,
-        &mut faults,
-    );
+    let status = match file {
+        None => {
+            let mut input = Over::new(rt.stdin());
+            run::<FourSlotFamily<Posted<Band>>, _, _, _, _, _>(
+                &rt,
+                rt.alloc(),
+                words.as_slice(),
+                &mut input,
+                &mut out,
+                &mut faults,
+            )
+        }
+        Some(name) => match fs::open(&rt, name) {
+            Ok(file) => {
+                let mut input = Over::new(file);
+                run::<FourSlotFamily<Posted<Band>>, _, _, _, _, _>(
+                    &rt,
+                    rt.alloc(),
+                    words.as_slice(),
+                    &mut input,
+                    &mut out,
+                    &mut faults,
+                )
+            }
+            Err(_) => tell_unopened(rt.alloc(), FSR.no_memory, name, &mut faults),
+        },
+    };
     ExitCode::from(status)
 }
