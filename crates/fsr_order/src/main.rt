@@ -1,14 +1,53 @@
-//! `fsr_order`: `fsr order` alone, a program without words, which is built without what the other commands need.
+//! `fsr_order`: `fsr order` alone, which is built without what the other commands need.
 #![tactic(auto)]
 
 use fsr_order_answers::run;
-use fsr_streams::Over;
+use fsr_runs::FSR;
+use fsr_streams::{Over, tell};
+use fsr_words::{Want, command_of, file_of, tell_refusal, tell_unopened, words_of};
+use std::fs;
 use std::process::ExitCode;
 
+/// The status of words that are another command.
+const NOT_ASKED: u8 = 2;
+
+/// The status where memory runs out.
+const NO_MEMORY: u8 = 4;
+
 fn main(rt: HostRuntime) -> ExitCode {
-    let mut input = Over::new(rt.stdin());
-    let mut out = Over::new(rt.stdout());
     let mut faults = Over::new(rt.stderr());
-    let status = run(rt.alloc(), &mut input, &mut out, &mut faults);
+    let words = match words_of(&rt, FSR.no_memory, &mut faults) {
+        Ok(words) => words,
+        Err(status) => return ExitCode::from(status),
+    };
+    let show = match command_of(rt.alloc(), words.as_slice()) {
+        Ok(Want::Order(show)) => show,
+        Ok(_) => {
+            tell(&mut faults, "fsr_order: has the command order alone\n");
+            return ExitCode::from(NOT_ASKED);
+        }
+        Err(refusal) => {
+            let status = tell_refusal(rt.alloc(), FSR.no_memory, refusal, &mut faults);
+            return ExitCode::from(status);
+        }
+    };
+    let Ok(file) = file_of(rt.alloc(), words.as_slice()) else {
+        tell(&mut faults, FSR.no_memory);
+        return ExitCode::from(NO_MEMORY);
+    };
+    let mut out = Over::new(rt.stdout());
+    let status = match file {
+        None => {
+            let mut input = Over::new(rt.stdin());
+            run(rt.alloc(), show, &mut input, &mut out, &mut faults)
+        }
+        Some(name) => match fs::open(&rt, name) {
+            Ok(file) => {
+                let mut input = Over::new(file);
+                run(rt.alloc(), show, &mut input, &mut out, &mut faults)
+            }
+            Err(_) => tell_unopened(rt.alloc(), FSR.no_memory, name, &mut faults),
+        },
+    };
     ExitCode::from(status)
 }
