@@ -2,17 +2,11 @@
 #![tactic(auto)]
 
 use fsr_order_answers::run;
-use fsr_runs::FSR;
-use fsr_streams::{Over, tell};
+use fsr_runs::{FSR, Fault, tell_fault};
+use fsr_streams::{Exit, Over, tell};
 use fsr_words::{Want, command_of, file_of, tell_refusal, tell_unopened, words_of};
 use std::fs;
 use std::process::ExitCode;
-
-/// The status of words that are another command.
-const NOT_ASKED: u8 = 2;
-
-/// The status where memory runs out.
-const NO_MEMORY: u8 = 4;
 
 fn main(rt: HostRuntime) -> ExitCode {
     let mut faults = Over::new(rt.stderr());
@@ -24,7 +18,7 @@ fn main(rt: HostRuntime) -> ExitCode {
         Ok(Want::Order(show)) => show,
         Ok(_) => {
             tell(&mut faults, "fsr_order: has the command order alone\n");
-            return ExitCode::from(NOT_ASKED);
+            return ExitCode::from(Exit::NoCommand.status());
         }
         Err(refusal) => {
             let status = tell_refusal(rt.alloc(), FSR.no_memory, refusal, &mut faults);
@@ -32,8 +26,8 @@ fn main(rt: HostRuntime) -> ExitCode {
         }
     };
     let Ok(file) = file_of(rt.alloc(), words.as_slice()) else {
-        tell(&mut faults, FSR.no_memory);
-        return ExitCode::from(NO_MEMORY);
+        let status = tell_fault(rt.alloc(), &FSR, &mut faults, &Fault::NoMemory);
+        return ExitCode::from(status);
     };
     let mut out = Over::new(rt.stdout());
     let status = match file {
