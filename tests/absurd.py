@@ -6,6 +6,7 @@ takes 15 to 30 processor seconds, and there are dozens.
 A definition could be hollowed out where nobody looks: `7 < 0 →` before a part of it makes that part say nothing. The definitions are
 those of the reading sets of docs/HEADLINES.md that are propositions: records, of which each field's type is taken, and abbreviations, of
 which each equation is. A conjunct is what stands between two × behind the last arrow, also in a λ. What is data isn't one, nor is `Unit`.
+Of a proposition with constructors each premise of these is one.
 The edits are made in a copy of headline_uses and of what it stands on, which leaves out all functions but its laws, so that a check takes
 seconds. Each edit has a number of its own in its premise. All are tried at once, and those are refused whose premise an error names; the
 others are tried again. Where none is named, those are tried alone whose definition an error names, and else halves; alone any error
@@ -42,6 +43,8 @@ USED_ALONE = re.compile(r"(?m)^(?:pub(?:\([\w:]+\))? )?use (?!std\b)(?:\w+::)+[a
 FIELD = re.compile(r"\s*pub (\S+) : ")
 ABBREVIATION = re.compile(r"\s*(?:(?:abbrev|unfoldable|opaque|pub) )+(\S+) :")
 RECORD = re.compile(r"\s*(?:pub )?record ")
+CASES = re.compile(r"\s*(?:pub )?data ")
+CONSTRUCTOR = re.compile(r"\s*\w+ : ")
 EQUATION = re.compile(r".*? =(?: |$)")
 BINDER = re.compile(r"\(\s*[\w ]+ : [^()]*\)$|\(\s*[\w ]+ : .*\)$", re.S)
 # What a type that is data begins with, if none of these signs stands in it: a name of the kit, or a parameter.
@@ -167,6 +170,19 @@ def propositions(lines):
             yield at, equation.end(), end_of(at)
 
 
+def constructors(lines):
+    """The stretches of the types of a definition's constructors, as above."""
+    heads = [at for at, line in enumerate(lines) if CASES.match(line)]
+    for head in heads:
+        own = [at for at in range(head + 1, len(lines)) if depth_of(lines[at]) == depth_of(lines[head]) + 2 and CONSTRUCTOR.match(lines[at])]
+        yield from ((at, CONSTRUCTOR.match(lines[at]).end(), end) for at, end in zip(own, [*own[1:], len(lines)]))
+
+
+def premises(text, start, end):
+    """The stretches of what a constructor takes, but for data."""
+    return [it for it in (stripped(text, *piece) for piece in pieces(text, start, end, "→")[:-1]) if not BINDER.match(text[it[0] : it[1]])]
+
+
 class Edit:
     """A premise before one conjunct of a definition: its number, its file and definition, and where in the file the conjunct stands."""
 
@@ -190,11 +206,16 @@ def edits_of(path, name, numbers):
     for line in lines:
         starts.append(starts[-1] + len(line) + 1)
     text, seen = "\n".join(lines), set()
-    for at, column, end in propositions(block):
-        for start, stop in conjuncts(path, plain, starts[first + at] + column, starts[first + end] - 1):
-            if (start, stop) not in seen:
-                seen.add((start, stop))
-                yield Edit(path, name, text, start, stop)
+
+    def place(at, column, end):
+        return starts[first + at] + column, starts[first + end] - 1
+
+    found = [it for stretch in propositions(block) for it in conjuncts(path, plain, *place(*stretch))]
+    found += [it for stretch in constructors(block) for it in premises(plain, *place(*stretch))]
+    for start, stop in found:
+        if (start, stop) not in seen:
+            seen.add((start, stop))
+            yield Edit(path, name, text, start, stop)
 
 
 def all_edits(headline, definition):

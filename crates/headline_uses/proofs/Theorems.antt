@@ -9,7 +9,7 @@ use Rattle.history_search.specs.Searches.{IsAnswered, IsFault}
 use Rattle.cell_live.specs.declared.cell.Calls.{Ghosts as CellWords}
 use Rattle.family_live.specs.declared.family.Family.{Ghosts as FamilyWords}
 use Rattle.board_live.specs.declared.record.Posted.{Posted}
-use Rattle.headline_uses.specs.Products.{BoardCalls, BoardShows, CellEnds, CellHeeds, CellReads, CellWrites, GreatestIsThere}
+use Rattle.headline_uses.specs.Products.{BoardCalls, BoardShows, CellHeeds, CellIsEnded, CellReads, CellWrites, GreatestIsThere}
 use Rattle.headline_uses.specs.Products.{SearchMissesNone, VerdictIsExact, WritesChoose}
 
 not_below : (s : Stamp) → IsBelow s s → ⊥
@@ -45,7 +45,7 @@ module _ {C T P G R : Type 0} (words : CellWords C T P G R) (fits : T → Type 0
   reads cell put get item answer h =
       (h.learnt, h.read, h.still, h.answers, h.lawful, h.read_timed, h.read_accesses, h.numbered)
 
-  pub ends : CellEnds words fits rises
+  pub ends : CellIsEnded words fits rises
   ends cell put get item answer h = (h.wrote, h.read, h.settled, h.atomic, h.known)
 
 module _ {V F S T : Type 0} (words : FamilyWords F (Posted V) S T) (obeys : V → Bool) where

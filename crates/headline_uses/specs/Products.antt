@@ -72,8 +72,8 @@ module _ {C T P G R : Type 0} (words : CellWords C T P G R) (fits : T → Type 0
       (words.answers read) (words.get_times read) answer
 
   -- at the end all answers are settled and all calls atomic, and the writes known are the first of those made
-  abbrev pub CellEnds : Type 0
-  CellEnds = (cell : C) (put : P) (get : G) (item answer : T) → CellTheorem words fits rises cell put get item answer →
+  abbrev pub CellIsEnded : Type 0
+  CellIsEnded = (cell : C) (put : P) (get : G) (item answer : T) → CellTheorem words fits rises cell put get item answer →
       (wrote : P) × (read : G) × Settled (words.opening cell ∷ words.written wrote) (words.answers read)
       × AreAtomic (words.opening cell) (words.written wrote) (words.put_times wrote) (words.answers read) (words.numbers read)
       (words.get_times read) × AreFirst (words.known read) (words.written wrote) (words.put_times wrote)

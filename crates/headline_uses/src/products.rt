@@ -1,6 +1,6 @@
 //! What the theorems of the checker, a cell and a board come to, part by part.
 ghost use Rattle.std.specs.Prelude.{IsTrue};
-ghost use Rattle.headline_uses.specs.Products.{BoardCalls, BoardShows, CellEnds, CellHeeds, CellReads, CellWrites, GreatestIsThere};
+ghost use Rattle.headline_uses.specs.Products.{BoardCalls, BoardShows, CellHeeds, CellIsEnded, CellReads, CellWrites, GreatestIsThere};
 ghost use Rattle.headline_uses.specs.Products.{SearchMissesNone, VerdictIsExact, WritesChoose};
 
 use board_live::{Posted, RecordLaw};
@@ -18,7 +18,7 @@ pub fn cells_show<T: Lawful, C: Calls<T>>()
     ensures writes { CellWrites ⟦<C as Calls<T>>⟧ T.fits T.rises }
     ensures tells { CellHeeds ⟦<C as Calls<T>>⟧ T.fits T.rises }
     ensures reads { CellReads ⟦<C as Calls<T>>⟧ T.fits T.rises }
-    ensures ends { CellEnds ⟦<C as Calls<T>>⟧ T.fits T.rises }
+    ensures ends { CellIsEnded ⟦<C as Calls<T>>⟧ T.fits T.rises }
 {}
 
 /// A board's read and write are calls of known records, and its calls are atomic while it goes on and at its end.

@@ -13,7 +13,7 @@ use Rattle.board_live.specs.Passes.{ChoosesStamp, IsCall, IsKnown, kind_of}
 
 module _ {V F S T : Type 0} (words : FamilyWords F (Posted V) S T) where
   -- what is shown of all passes at once: the greatest of their records, the calls atomic by their intervals, and each register
-  pub record AreShown (board : Board V F S T) (passes : List (Pass V F S T)) (last : Posted V) : Type 0 where
+  pub record AllAreShown (board : Board V F S T) (passes : List (Pass V F S T)) (last : Posted V) : Type 0 where
     pub greatest : IsGreatest passes last
     pub order : HaveAtomicOrder words board passes last
     pub registers : AllAtomic words board passes
@@ -40,6 +40,6 @@ module _ {V F S T : Type 0} (words : FamilyWords F (Posted V) S T) (obeys : V �
     pub write_known : IsKnown words board between after seen
     pub write_chosen : ChoosesStamp board.limit between.process item seen after.own wrote
     -- all calls that were made are atomic by their intervals, while the board goes on and at its end
-    pub so_far : AreShown words board (others ++ after ∷ []) shown
+    pub so_far : AllAreShown words board (others ++ after ∷ []) shown
     pub still : map standing final ≡ map standing (others ++ after ∷ [])
-    pub ended : AreShown words board final last
+    pub ended : AllAreShown words board final last

@@ -2,7 +2,7 @@
 use Rattle.std.proofs.Common.{◌∙◌, map, sym, ap, subst}
 use Rattle.board_live.specs.Ends.{AllPasses, standing}
 use Rattle.theorems.proofs.Rejoined.{last_pass, rejoined}
-use Rattle.theorems.specs.Boards.{AreShown}
+use Rattle.theorems.specs.Boards.{AllAreShown}
 use Rattle.theorems.proofs.boards.board_theorem.Goals as goal
 
 pub read-seen-requires : goal.read-seen-requires
@@ -19,7 +19,7 @@ so_far-shown-requires g c =
 
 pub returns : goal.returns
 returns g c =
-    let shown : AreShown g.F.Family c.args.board c.push_reserved.new.self.items c.so_far-shown.result = record {
+    let shown : AllAreShown g.F.Family c.args.board c.push_reserved.new.self.items c.so_far-shown.result = record {
       greatest = c.so_far-shown.ensures.last;
       order = c.so_far-shown.ensures.atomic;
       registers = c.so_far-shown.ensures.registers;
@@ -38,7 +38,7 @@ returns g c =
       writes = c.write-wrote.ensures.call.1;
       write_known = c.write-wrote.ensures.call.1.known;
       write_chosen = c.write-wrote.ensures.call.2;
-      so_far = subst (λ z. AreShown g.F.Family c.args.board z c.so_far-shown.result) c.push_reserved.ensures.items shown;
+      so_far = subst (λ z. AllAreShown g.F.Family c.args.board z c.so_far-shown.result) c.push_reserved.ensures.items shown;
       still = c.so_far-shown.ensures.same ∙ ap (λ z. map standing z) c.push_reserved.ensures.items;
       ended = record { greatest = c.finish-last.ensures.last; order = c.finish-last.ensures.atomic; registers = c.finish-last.ensures.registers };
     }
