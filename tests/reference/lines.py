@@ -218,7 +218,7 @@ def find_limit(log, opening, groups):
     have no refused write and needn't stand behind one that has, or behind one of those behind it, and so on."""
     refused = [it for it in groups.values() if it.refused]
     if opening and opening.refused:
-        return "limit", [opening.refused], 0
+        return "limit", [opening.refused]
     if not refused:
         return None
     ended, behind = min(it.ended for it in refused), 0
@@ -228,7 +228,7 @@ def find_limit(log, opening, groups):
         ended = min(ended, it.ended)
         behind += not it.refused
     most = 1 + len(groups) - len(refused) - behind
-    return ("limit", [refused[0].refused], most) if most < log.limit else None
+    return ("limit", [refused[0].refused]) if most < log.limit else None
 
 
 def search(log):
@@ -247,35 +247,17 @@ def line_of(it):
     return f"line {it.line}: who {it.who} {it.kind} {it.begin}..{end} record {shown(it.record)}"
 
 
-def sentence_of(log, rule, named, count):
-    def ended(a, b):
-        return f"line {a.line} ended at {a.end}, line {b.line} began at {b.begin}"
-
-    first = named[0]
-    if rule == "unwritten":
-        return f"Line {first.line} gave {shown(first.record)}, which is neither the opening nor written."
-    if rule == "early":
-        return f"Line {first.line} gave {shown(first.record)} before its write began ({ended(*named)})."
-    if rule == "stale":
-        return f"Line {named[1].line} gave the opening after an operation of {shown(first.record)} ({ended(*named)})."
-    if rule == "crossed":
-        one, other = shown(first.record), shown(named[1].record)
-        return f"Record {one} has to stand before {other} ({ended(*named[:2])}), and {other} before {one} ({ended(*named[2:])})."
-    return f"At most {count} writes can stand before the first refused write, the limit is {log.limit}."
-
-
 def answer(log):
     """The status and the printed text of a log."""
     found, ops = search(log), log.ops
     said = ["lawful"]
     if found:
-        rule, named, *count = found
+        rule, named = found
         shows = {it.line: it for it in named}
         if rule != "limit":
             records = {it.record for it in named}
             shows.update({it.line: it for it in ops if it.kind == "write" and it.record in records})
-        said = [f"unlawful {rule} {' '.join(str(it.line) for it in named)}", *[line_of(shows[line]) for line in sorted(shows)],
-                sentence_of(log, rule, named, *count or [0])]
+        said = [f"unlawful {rule} {' '.join(str(it.line) for it in named)}", *[line_of(shows[line]) for line in sorted(shows)]]
     unfinished, written = sum(it.end is None for it in ops), sum(it.kind == "write" for it in ops)
     said.append(f"{len(ops)} operations, {unfinished} unfinished, {written} records")
     return 1 if found else 0, "\n".join(said) + "\n"
