@@ -148,21 +148,14 @@ static size_t most_bytes(size_t size) { return 100 * (16 + NIDZARU_BOARD_SIZE(si
         name##_memory();                                                                                              \
     }
 
-#define BYTES(n)                                                                                                      \
-    typedef struct { unsigned char bytes[n]; } bytes##n;                                                              \
-    EDGE(four##n, bytes##n, NIDZARU_BOARD, 0)                                                                         \
-    EDGE(triple##n, bytes##n, NIDZARU_TRIPLE_BOARD, 1)
-#define WORDS(n)                                                                                                      \
-    typedef struct { uint64_t words[n]; } words##n;                                                                   \
-    EDGE(four_words##n, words##n, NIDZARU_BOARD, 0)                                                                   \
-    EDGE(triple_words##n, words##n, NIDZARU_TRIPLE_BOARD, 1)
+#define FOUR_SLOT NIDZARU_BOARD
+#define TRIPLE NIDZARU_TRIPLE_BOARD
+
 /* The sizes: each greatest one that goes into a record of the library, and one beyond. */
 #define ALL_BYTES(each)                                                                                               \
     each(1) each(8) each(23) each(24) each(25) each(255) each(256) each(257) each(4095) each(4096)
-/* The same in words of 8 bytes, which are passed where they lie if they fill the library's record. */
+/* The same in words. */
 #define ALL_WORDS(each) each(1) each(2) each(3) each(4) each(31) each(32) each(33) each(511) each(512)
-#define RUN_BYTES(n) four##n##_all(); triple##n##_all();
-#define RUN_WORDS(n) four_words##n##_all(); triple_words##n##_all();
 
 ALL_BYTES(BYTES)
 ALL_WORDS(WORDS)

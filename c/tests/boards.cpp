@@ -3,6 +3,7 @@
 // "passed". Link with --wrap=malloc,--wrap=realloc,--wrap=free.
 #include "memory.hpp"
 #include "nidzaru.hpp"
+#include "records.hpp"
 
 #include <cstdlib>
 #include <stdexcept>
@@ -178,36 +179,6 @@ template <cell C> void inside_records() {
     }
 }
 
-// A class whose last four bytes a derived one may use, one that nothing derives from, a union, and what can't be assigned.
-class base {
-    double low = 0, high = 0;
-    std::int32_t serial = 0;
-
-  public:
-    base() = default;
-    explicit base(std::int32_t n) : low(-n), high(n), serial(n) {}
-    bool is(std::int32_t n) const { return low == -n && high == n && serial == n; }
-};
-struct derived : base {
-    std::int32_t kept = 42;
-};
-static_assert(sizeof(derived) == sizeof(base) && sizeof(base) == 24, "what is derived keeps something in the tail");
-struct last_one final {
-    double value;
-    std::int32_t n;
-};
-union either {
-    std::uint64_t number;
-    double value;
-};
-struct fixed {
-    const std::uint64_t value;
-};
-struct elsewhere {
-    std::uint64_t words[3];
-    elsewhere *operator&() { return nullptr; }
-    const elsewhere *operator&() const { return nullptr; }
-};
 NIDZARU_BOARD(bases, base);
 NIDZARU_TRIPLE_BOARD(last_ones, last_one);
 NIDZARU_BOARD(eithers, either);
@@ -265,8 +236,8 @@ template <cell C> void odd_records() {
     {
         auto places = nidzaru::make_board<2, C>(base(1));
         derived d;
-        check(!places[0].read(d, given) && d.is(1) && d.kept == 42, "what is derived keeps its tail");
-        check(!places[0].write(base(2), given) && !places[1].read_since(given, d, given) && d.is(2) && d.kept == 42, "and since a stamp");
+        check(!places[0].read(d, given) && d.is(1) && d.kept == 41, "what is derived keeps its tail");
+        check(!places[0].write(base(2), given) && !places[1].read_since(given, d, given) && d.is(2) && d.kept == 41, "and since a stamp");
         check(places[1].latest()->is(2), "and the latest");
     }
     {
@@ -301,7 +272,7 @@ void functions() {
     derived d;
     nidzaru_stamp its = {0, 0};
     check(!bases_make(&first, b, 2) && !bases_write(b, &second, &its), "a board of a class");
-    check(!bases_read(b + 1, &d, &its) && d.is(2) && d.kept == 42, "the macro's read leaves the tail");
+    check(!bases_read(b + 1, &d, &its) && d.is(2) && d.kept == 41, "the macro's read leaves the tail");
     d = derived();
     d.kept = 43;
     check(!bases_read_since(b + 1, its, &d, &its) && d.is(2) && d.kept == 43, "and read_since");

@@ -200,22 +200,15 @@ enum { GUARD = 64 };
         name##_memory();                                                                                                      \
     }
 
-#define BYTES(n)                                                                                                              \
-    typedef struct { unsigned char bytes[n]; } bytes##n;                                                                      \
-    EDGE(four##n, bytes##n, NIDZARU_REGISTER, 0)                                                                              \
-    EDGE(triple##n, bytes##n, NIDZARU_TRIPLE_REGISTER, 1)
-#define WORDS(n)                                                                                                              \
-    typedef struct { uint64_t words[n]; } words##n;                                                                           \
-    EDGE(four_words##n, words##n, NIDZARU_REGISTER, 0)                                                                        \
-    EDGE(triple_words##n, words##n, NIDZARU_TRIPLE_REGISTER, 1)
+#define FOUR_SLOT NIDZARU_REGISTER
+#define TRIPLE NIDZARU_TRIPLE_REGISTER
+
 /* The sizes: each greatest one that goes into a record of the library, and one beyond. */
 #define ALL_BYTES(each)                                                                                                       \
     each(1) each(8) each(9) each(24) each(25) each(64) each(65) each(128) each(129) each(256) each(257) each(1024) each(1025) \
     each(4096)
-/* The same in words of 8 bytes, which are passed where they lie if they fill the library's record. */
+/* The same in words. */
 #define ALL_WORDS(each) each(1) each(2) each(3) each(8) each(9) each(16) each(32) each(128) each(512)
-#define RUN_BYTES(n) four##n##_all(); triple##n##_all();
-#define RUN_WORDS(n) four_words##n##_all(); triple_words##n##_all();
 
 ALL_BYTES(BYTES)
 ALL_WORDS(WORDS)

@@ -54,4 +54,18 @@ static void fill(void *bytes, size_t count, int seed) {
     for (size_t k = 0; k < count; k++) ((unsigned char *)bytes)[k] = (unsigned char)(seed + 7 * (int)k + 1);
 }
 
+/* A test defines EDGE(NAME, TYPE, KIND, TRIPLE), the test NAME of one type over a register or a board of that kind, and which kinds
+ * FOUR_SLOT and TRIPLE are. These are such tests of records of so many bytes, and of so many words of 8 bytes, which are passed where they
+ * lie if they fill the library's record; and the calls of all. */
+#define BYTES(n)                                                                                                              \
+    typedef struct { unsigned char bytes[n]; } bytes##n;                                                                      \
+    EDGE(four##n, bytes##n, FOUR_SLOT, 0)                                                                                     \
+    EDGE(triple##n, bytes##n, TRIPLE, 1)
+#define WORDS(n)                                                                                                              \
+    typedef struct { uint64_t words[n]; } words##n;                                                                           \
+    EDGE(four_words##n, words##n, FOUR_SLOT, 0)                                                                               \
+    EDGE(triple_words##n, words##n, TRIPLE, 1)
+#define RUN_BYTES(n) four##n##_all(); triple##n##_all();
+#define RUN_WORDS(n) four_words##n##_all(); triple_words##n##_all();
+
 #endif

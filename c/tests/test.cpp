@@ -2,6 +2,7 @@
 // functions of the macro in C++; refused memory. Link with --wrap=malloc,--wrap=realloc,--wrap=free.
 #include "memory.hpp"
 #include "nidzaru.hpp"
+#include "records.hpp"
 
 #include <cstdlib>
 #include <memory>
@@ -113,45 +114,6 @@ void news() {
     check(r.number() == 2, "the last number stays");
 }
 
-// Its & gives another place.
-struct elsewhere {
-    std::uint64_t words[3];
-    elsewhere *operator&() { return nullptr; }
-    const elsewhere *operator&() const { return nullptr; }
-};
-
-// A class whose last four bytes a derived one may use.
-class base {
-    double low = 0, high = 0;
-    std::int32_t serial = 0;
-
-  public:
-    base() = default;
-    explicit base(std::int32_t n) : low(-n), high(n), serial(n) {}
-    bool is(std::int32_t n) const { return low == -n && high == n && serial == n; }
-};
-
-struct derived : base {
-    std::int32_t kept = 41;
-};
-
-static_assert(sizeof(derived) == sizeof(base) && sizeof(base) == 24, "what is derived keeps something in the tail");
-
-// It can't be assigned.
-struct fixed {
-    const std::uint64_t value;
-};
-
-struct last final {
-    double value;
-    std::int32_t n;
-};
-
-union either {
-    std::uint64_t number;
-    double value;
-};
-
 enum class mode : unsigned char { off, on };
 
 template <nidzaru::cell C> void odd_types() {
@@ -178,8 +140,8 @@ template <nidzaru::cell C> void odd_types() {
         check(w.write(fixed{2}) == NIDZARU_DONE && r.latest()->value == 2, "a record that can't be assigned");
     }
     {
-        auto [w, r] = nidzaru::make<last, C>(last{1.0, 1});
-        last x{};
+        auto [w, r] = nidzaru::make<last_one, C>(last_one{1.0, 1});
+        last_one x{};
         std::uint64_t n;
         check(w.write({2.0, 2}) == NIDZARU_DONE && r.read(x, n) == NIDZARU_DONE && x.value == 2.0 && x.n == 2, "a final class");
     }
