@@ -57,7 +57,7 @@ static void only_these(const char *name, size_t size, int triple, nidzaru_side *
     }
 }
 
-enum { GUARD = 64, PLACES = 3 };
+enum { PLACES = 3 };
 
 /* The most bytes that `make` of three places asks for: records of the library with their stamps, of six cells and three passes, and
  * what is the same for every size. */
@@ -65,20 +65,7 @@ static size_t most_bytes(size_t size) { return 100 * (16 + NIDZARU_BOARD_SIZE(si
 
 #define EDGE(name, type, board, triple)                                                                               \
     board(name, type);                                                                                                \
-    typedef struct {                                                                                                  \
-        _Alignas(8) unsigned char before[GUARD];                                                                      \
-        type x;                                                                                                       \
-        unsigned char after[GUARD];                                                                                   \
-    } name##_guarded;                                                                                                 \
-    static int name##_is(const name##_guarded *g, int seed) {                                                         \
-        type wanted;                                                                                                  \
-        fill(&wanted, sizeof wanted, seed);                                                                           \
-        return is_all(g->before, GUARD, 0xa5) && is_all(g->after, GUARD, 0xa5) && !memcmp(&wanted, &g->x, sizeof wanted); \
-    }                                                                                                                 \
-    static void name##_set(name##_guarded *g, int seed) {                                                             \
-        memset(g, 0xa5, sizeof *g);                                                                                   \
-        fill(&g->x, sizeof g->x, seed);                                                                               \
-    }                                                                                                                 \
+    GUARDED(name, type)                                                                                               \
     /* This place is live, and the last record is that of `seed`, under this stamp. */                                \
     static void name##_lives(name##_place *p, int seed, nidzaru_stamp last, const char *what) {                       \
         name##_guarded out;                                                                                           \

@@ -71,24 +71,9 @@ NIDZARU_ASSERT(!NIDZARU_PASSES(24, 4) && !NIDZARU_PASSES(8, 1) && !NIDZARU_PASSE
  * for every size. A four-slot register's words lie in a table of 32, so that the two sides' words share no cache line. */
 static size_t most_bytes(size_t size, int triple) { return 13 * (8 + NIDZARU_SIZE(size)) + 300 + (triple ? 0 : 28 * 8); }
 
-enum { GUARD = 64 };
-
 #define EDGE(name, type, register_of, triple)                                                                                 \
     register_of(name, type);                                                                                                  \
-    typedef struct {                                                                                                          \
-        _Alignas(8) unsigned char before[GUARD];                                                                              \
-        type x;                                                                                                               \
-        unsigned char after[GUARD];                                                                                           \
-    } name##_guarded;                                                                                                         \
-    static int name##_is(const name##_guarded *g, int seed) {                                                                 \
-        type wanted;                                                                                                          \
-        fill(&wanted, sizeof wanted, seed);                                                                                   \
-        return is_all(g->before, GUARD, 0xa5) && is_all(g->after, GUARD, 0xa5) && !memcmp(&wanted, &g->x, sizeof wanted);     \
-    }                                                                                                                         \
-    static void name##_set(name##_guarded *g, int seed) {                                                                     \
-        memset(g, 0xa5, sizeof *g);                                                                                           \
-        fill(&g->x, sizeof g->x, seed);                                                                                       \
-    }                                                                                                                         \
+    GUARDED(name, type)                                                                                                       \
     /* No call that gets these handles does anything: each answers `status`. */                                               \
     static void name##_refuses(name##_writer *w, name##_reader *r, int status, const char *what) {                            \
         name##_guarded item, out;                                                                                             \

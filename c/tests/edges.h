@@ -54,6 +54,25 @@ static void fill(void *bytes, size_t count, int seed) {
     for (size_t k = 0; k < count; k++) ((unsigned char *)bytes)[k] = (unsigned char)(seed + 7 * (int)k + 1);
 }
 
+/* A record of a type between guard bytes, whether it is that of a seed and they are as they were, and such a one. */
+enum { GUARD = 64 };
+
+#define GUARDED(name, type)                                                                                                   \
+    typedef struct {                                                                                                          \
+        _Alignas(8) unsigned char before[GUARD];                                                                              \
+        type x;                                                                                                               \
+        unsigned char after[GUARD];                                                                                           \
+    } name##_guarded;                                                                                                         \
+    static int name##_is(const name##_guarded *g, int seed) {                                                                 \
+        type wanted;                                                                                                          \
+        fill(&wanted, sizeof wanted, seed);                                                                                   \
+        return is_all(g->before, GUARD, 0xa5) && is_all(g->after, GUARD, 0xa5) && !memcmp(&wanted, &g->x, sizeof wanted);     \
+    }                                                                                                                         \
+    static void name##_set(name##_guarded *g, int seed) {                                                                     \
+        memset(g, 0xa5, sizeof *g);                                                                                           \
+        fill(&g->x, sizeof g->x, seed);                                                                                       \
+    }
+
 /* A test defines EDGE(NAME, TYPE, KIND, TRIPLE), the test NAME of one type over a register or a board of that kind, and which kinds
  * FOUR_SLOT and TRIPLE are. These are such tests of records of so many bytes, and of so many words of 8 bytes, which are passed where they
  * lie if they fill the library's record; and the calls of all. */
