@@ -6,7 +6,8 @@ for document in examples/*.json examples/*.jsonl tests/schedules/*.json tests/ra
     command=$(command_for "$document")
     sees "$document" fsr "$document" "${document%.json*}.txt" "$command"
     case $command in
-    check | order) sees "$document, by fsr_$command" "fsr_$command" "$document" "${document%.json*}.txt" ;;
+    check) sees "$document, by fsr_check" fsr_check "$document" "${document%.json*}.txt" ;;
+    order) sees "$document, by fsr_order" fsr_order "$document" "${document%.json*}.txt" order ;;
     esac
 done
 

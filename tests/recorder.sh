@@ -14,7 +14,7 @@ strict='-Wall -Wextra -Wpedantic -Wconversion -Wshadow -Werror -pthread -I c'
 
 # The built program that reads lines, as words of a command.
 built=
-for program in crates/fsr_order/out/fsr_order 'crates/fsr/out/fsr order'; do
+for program in 'crates/fsr_order/out/fsr_order order' 'crates/fsr/out/fsr order'; do
     if [ -x "${program%% *}" ] && printf '{"kind":"lines","opening":0}\n' | $program >"$room/tried" 2>/dev/null \
         && grep -qx lawful "$room/tried"; then
         built=$program
@@ -37,7 +37,6 @@ judges() {
     pass "$title"
 }
 built_word=${built:+built}
-case $built in *' order') order=order ;; *) order= ;; esac
 
 # Records a register by a program with these words, and judges the log.
 records() {
@@ -153,7 +152,9 @@ if ! command -v python3 >/dev/null 2>&1; then
     fail "the recorder" "there is no python3"
 else
     counts "the plain judge of lines against all orders" python3 tests/reference/compare_lines.py --logs 2500
-    [ -z "$built" ] || counts "fsr order against all orders" python3 tests/reference/compare_small_lines.py "${built%% *}" $order --logs 1000
+    for word in ${built:+'' --order --small}; do
+        counts "fsr order${word:+ $word} against all orders" python3 tests/reference/compare_small_lines.py --logs 1000 -- $built $word
+    done
     counts "converters" python3 tests/converters.py
     library=
     [ -z "$prefix" ] || library="-DLIBRARY $(PKG_CONFIG_PATH=$prefix/lib/pkgconfig pkg-config --libs nidzaru)"

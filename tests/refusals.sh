@@ -30,7 +30,8 @@ tells() {
     printf '%b\n' "$line" >"$room/wanted"
     ends fsr "$1" || return 1
     case $1 in
-    check | order) ends "fsr_$1" ;;
+    check) ends fsr_check ;;
+    order) ends fsr_order order ;;
     esac
 }
 

@@ -2,7 +2,8 @@
 
     compare_small_lines.py PROGRAM [--logs N] [--seed S] [WORD ..]
 
-The program is run with these words. The last line is how many logs had the same bytes and status, by kind of ending; the first
+The program is run with these words. With `--order` among them the order of the writes has to be one of a lawful order, and with `--small`
+the small log has to be that of a reason, which breaks the same rule. The last line is how many logs had the same bytes and status, by kind of ending; the first
 difference ends the run with status 1, with the log kept in the file that is named. Which reason of a rule is told is free: it has to be one
 by the reference, which tries every order.
 """
@@ -16,8 +17,9 @@ import subprocess
 import sys
 import tempfile
 
-import small_lines
 import make_documents
+import searches
+import small_lines
 
 NAMES = (lambda k: k, lambda k: [k], lambda k: [0, k], lambda k: f"record \u00e9 {k}", lambda k: [k] * 64)
 KEYS = ("who", "kind", "begin", "end", "record")
@@ -78,7 +80,20 @@ def text_of(source, log):
     return data
 
 
-def agree(data, found, wanted):
+def is_small(data, text, rule, reasons):
+    """Whether the text is the small log of one of these reasons of the rule, and its own first rule is the same."""
+    made = json.loads(text)
+    ops = [{**each, "record": tuple(each["record"])} for each in made["ops"]]
+    return text in {small_lines.small(data, lines) for lines in reasons} and searches.search((0, 0, 0), made["limit"], ops)[0] == rule
+
+
+def agree(data, found, wanted, words):
+    if "--small" in words and wanted[2] == 0:
+        return found == ("", "", 0)
+    if "--small" in words and wanted[2] == 1:
+        return found[1:] == wanted[1:] and is_small(data, found[0], *wanted[0])
+    if "--order" in words and wanted[2] == 0:
+        return found[1:] == wanted[1:] and small_lines.is_order_of_writes(data, found[0])
     if wanted[2] != 1:
         return found == wanted
     words = found[0].split("\n")[0].split()
@@ -96,7 +111,7 @@ def ending_of(wanted):
 def main():
     parser = argparse.ArgumentParser()
     parser.add_argument("program")
-    parser.add_argument("words", nargs="*")
+    parser.add_argument("words", nargs="*", help="behind --, if one begins with a dash")
     parser.add_argument("--logs", type=int, default=2000)
     parser.add_argument("--seed", type=int, default=1)
     given = parser.parse_args()
@@ -109,7 +124,7 @@ def main():
         wanted = small_lines.answer(data)
         done = subprocess.run([given.program, *given.words], input=data, capture_output=True, check=False)
         found = done.stdout.decode(), done.stderr.decode(), done.returncode
-        if not agree(data, found, wanted):
+        if not agree(data, found, wanted, given.words):
             with tempfile.NamedTemporaryFile(prefix="log", suffix=".jsonl", delete=False) as file:
                 file.write(data)
             print(f"log {number} of seed {given.seed}: {file.name}", "the program:", *found, "the reference:", *wanted, sep="\n")

@@ -44,15 +44,54 @@ def told(data, reason):
     """What is printed of a reason, whose first word is the rule and whose others are lines."""
     opening, limit, ops = read(data)
     lines = [int(word) for word in reason[1:]]
-    shown = {ops[line - 2]["record"] for line in lines} - {None}
-    named = [line for line in range(2, len(ops) + 2)
-             if line in lines or ops[line - 2]["kind"] == "write" and ops[line - 2]["record"] in shown]
     texts = data.decode().split("\n")
-    shows = "".join(f"line {line}: {texts[line - 1]}\n" for line in named)
-    return f"unlawful {' '.join(reason)}\n" + shows + sentence(reason[0], lines, limit, ops) + counts(opening, ops)
+    shows = "".join(f"line {line}: {texts[line - 1]}\n" for line in named_by(lines, ops))
+    return f"unlawful {' '.join(reason)}\n" + shows + sentence(reason[0], lines, opening, limit, ops) + counts(opening, ops)
 
 
-def sentence(rule, lines, limit, ops):
+def named_by(lines, ops):
+    """The lines of a reason and those of the writes of their records."""
+    shown = {ops[line - 2]["record"] for line in lines} - {None}
+    return [line for line in range(2, len(ops) + 2)
+            if line in lines or ops[line - 2]["kind"] == "write" and ops[line - 2]["record"] in shown]
+
+
+def most_before(opening, ops):
+    """How many writes can stand before the first refused write, in an order that is lawful but for the limit."""
+    firsts = []
+    for order in searches.atomic_orders(opening, ops):
+        kinds = [ops[place]["kind"] for place in order]
+        firsts.append(kinds[:kinds.index("refused")].count("write"))
+    return max(firsts)
+
+
+def small(data, lines):
+    """What `--small` prints of a log that has this reason: a document of kind `log` of the lines that it names. Records have the numbers in
+    which the log has them first, and tasks those of their first operations among these."""
+    opening, limit, ops = read(data)
+    numbers = {opening: 0}
+    for each in ops:
+        if each["record"] is not None:
+            numbers.setdefault(each["record"], len(numbers))
+    shown = [ops[line - 2] for line in named_by(lines, ops)]
+    tasks = [each["who"] for each in shown]
+    texts = [json.dumps({"who": tasks.index(each["who"]), "kind": each["kind"], "begin": each["begin"], "end": each["end"],
+                         "record": [numbers[each["record"]]] * 3}, separators=(",", ":")) for each in shown]
+    return f'{{"kind":"log","opening":[0,0,0],"limit":{limit or 1},"ops":[\n ' + ",\n ".join(texts) + "]}\n"
+
+
+def is_order_of_writes(data, text):
+    """Whether a lawful log is told with the lines of its writes, in an order that belongs to a lawful one."""
+    opening, limit, ops = read(data)
+    head, foot = "lawful\nwrites:", "\n" + counts(opening, ops)
+    if not text.startswith(head) or not text.endswith(foot):
+        return False
+    told = [int(word) - 2 for word in text[len(head):-len(foot)].split()]
+    return any(not searches.early_refusals(limit or 1, ops, order) and told == [place for place in order if ops[place]["kind"] == "write"]
+               for order in searches.atomic_orders(opening, ops))
+
+
+def sentence(rule, lines, opening, limit, ops):
     """Why the operations on these lines show it, with the times."""
 
     def apart(one, other):
@@ -67,7 +106,8 @@ def sentence(rule, lines, limit, ops):
         return f"Line {lines[1]} gave the opening behind an operation of another record: {apart(*lines)}.\n"
     if rule == "crossed":
         return f"Each of two records has to stand before the other: {apart(*lines[:2])}; {apart(*lines[2:])}.\n"
-    return f"In every order fewer writes than the limit of {limit or 1} stand before line {first} or a refused write in front of it.\n"
+    return (f"Of the writes at most {most_before(opening, ops)} can stand before line {first} or a refused write in front of it, "
+            f"and the limit is {limit or 1}.\n")
 
 
 def read(data):

@@ -67,7 +67,8 @@ impl<T: Lawful> FamilyTable<T> {
         requires lawful { T.fits first }
         requires some { (2 ≤ processes) × (processes ≤ 16) }
         ensures key { IfOk result (λ r. r.0.rows.inner.shared.key ≡ record { first = first; processes = processes }) }
-        ensures seat { IfOk result (λ r. (r.1.inner.table_id ≡ r.0.rows.inner.shared.table_id) × (r.1.inner.me ≡ (first_view first processes, []))) }
+        ensures seat { IfOk result (λ r. (r.1.inner.table_id ≡ r.0.rows.inner.shared.table_id)
+            × (r.1.inner.me ≡ (first_view first processes, []))) }
     {
         let (rows, seat) = Rows::new(alloc, processes, first, 16, 0, 4)?;
         Ok((FamilyTable { rows }, seat))
@@ -84,10 +85,12 @@ impl<T: Lawful> FamilyTable<T> {
         requires own { seat.old.inner.table_id ≡ self.now.rows.inner.shared.table_id }
         requires place { cell < (four_slots self.now.rows.inner.shared.key.processes).cells }
         requires item { K.item ≡ item.value ∷ [] }
-        requires idle { (v : Process (FourSlotSight T)) × (p : WriterNotes T) × HasWriter seat.old.inner.me cell v p × (p.stage ≡ W5) × T.fits item.value
+        requires idle { (v : Process (FourSlotSight T)) × (p : WriterNotes T) × HasWriter seat.old.inner.me cell v p × (p.stage ≡ W5)
+            × T.fits item.value
             × T.rises (last_or p.opening.value p.written) item.value }
         ensures own { seat.new.inner.table_id ≡ seat.old.inner.table_id }
-        ensures begun { begins K.item (step self.now.rows.inner.shared.table_id.slots (16 * cell + 8 + 8) 0 0 none) seat.old.inner.me result seat.new.inner.me }
+        ensures begun { begins K.item (step self.now.rows.inner.shared.table_id.slots (16 * cell + 8 + 8) 0 0 none)
+            seat.old.inner.me result seat.new.inner.me }
     {
         self.rows
             .inner
@@ -148,7 +151,8 @@ impl<T: Lawful> FamilyTable<T> {
         requires stored { (v : Process (FourSlotSight T)) × (p : WriterNotes T) × HasWriter seat.old.inner.me cell v p × (p.stage ≡ W4)
             × (pair ≡ bit_number p.slot.pair) }
         ensures own { seat.new.inner.table_id ≡ seat.old.inner.table_id }
-        ensures finished { finishes (step self.now.rows.inner.shared.table_id.slots (16 * cell + 8) pair 0 none) seat.old.inner.me pair seat.new.inner.me }
+        ensures finished { finishes (step self.now.rows.inner.shared.table_id.slots (16 * cell + 8) pair 0 none)
+            seat.old.inner.me pair seat.new.inner.me }
     {
         self.rows
             .inner
@@ -185,7 +189,8 @@ impl<T: Lawful> FamilyTable<T> {
         requires place { cell < (four_slots self.now.rows.inner.shared.key.processes).cells }
         requires idle { (v : Process (FourSlotSight T)) × (g : ReaderNotes T) × (before : List (ℕ × T)) × (behind : List (ℕ × T))
             × HasReader seat.old.inner.me cell v g
-            × (seat.old.inner.me.1 ≡ before ++ (shift (slot_at cell) (slot_of_choice g.chosen g.at_hand.value) ++ behind)) × (g.stage ≡ R5) }
+            × (seat.old.inner.me.1 ≡ before ++ (shift (slot_at cell) (slot_of_choice g.chosen g.at_hand.value) ++ behind))
+            × (g.stage ≡ R5) }
         ensures own { seat.new.inner.table_id ≡ seat.old.inner.table_id }
         ensures asked { asks_on (step self.now.rows.inner.shared.table_id.slots (16 * cell + 8) 0 0 none) seat.old.inner.me result
             seat.new.inner.me }
@@ -206,7 +211,8 @@ impl<T: Lawful> FamilyTable<T> {
             × (seat.old.inner.me.1 ≡ before ++ (shift (slot_at cell) (slot_of_choice g.chosen g.at_hand.value) ++ behind)) × (g.stage ≡ R1)
             × (pair ≡ bit_number g.slot.pair) }
         ensures own { seat.new.inner.table_id ≡ seat.old.inner.table_id }
-        ensures said { says (step self.now.rows.inner.shared.table_id.slots (16 * cell + 8 + 8) pair 0 none) seat.old.inner.me pair seat.new.inner.me }
+        ensures said { says (step self.now.rows.inner.shared.table_id.slots (16 * cell + 8 + 8) pair 0 none)
+            seat.old.inner.me pair seat.new.inner.me }
     {
         self.rows
             .inner
@@ -258,7 +264,8 @@ impl<T: Lawful> FamilyTable<T> {
         requires held { (x : T) × (cs : List (ℕ × T)) × (seat.old.inner.me.1 ≡ (slot_at cell slot, x) ∷ cs) }
         ensures own { seat.new.inner.table_id ≡ seat.old.inner.table_id }
         ensures same { seat.new.inner.me ≡ seat.old.inner.me }
-        ensures shown { (item : T) (cs : List (ℕ × T)) → seat.old.inner.me.1 ≡ (slot_at cell slot, item) ∷ cs → L.sees seen.old item seen.new }
+        ensures shown { (item : T) (cs : List (ℕ × T)) → seat.old.inner.me.1 ≡ (slot_at cell slot, item) ∷ cs →
+            L.sees seen.old item seen.new }
     {
         self.rows.show(seat, slot_place(cell, slot), seen);
     }

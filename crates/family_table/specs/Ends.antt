@@ -20,7 +20,8 @@ pub record AllDone {V : Type 0} (blank : V) (l : Layout) (done : V → V → Typ
       done (of_cell blank k p.parts) (of_cell blank k q.parts)
 
 -- a step that changes nothing shows the calls of the processes that the seat has, in a family of so many that opened with this record
-abbrev pub shows : {T V : Type 0} → V → (ℕ → Layout) → (T → V → V → Type 0) → List T → ℕ → Step T → Me T (View V) → ℕ → Me T (View V) → Type 0
+abbrev pub shows : {T V : Type 0} → V → (ℕ → Layout) → (T → V → V → Type 0) → List T → ℕ → Step T → Me T (View V) → ℕ →
+    Me T (View V) → Type 0
 shows blank layout done firsts n st m found m' = (m' ≡ m)
     × ((o : _) (ps : List (Process _)) → firsts ≡ o ∷ [] → m.0 ≡ Has ps → AllDone blank (layout n) (done o) n ps)
 

@@ -33,8 +33,8 @@ module _ {T V X : Type 0} where
   HasAll all seats = (ps : List (Process V)) × (all.inner.me.0 ≡ Has ps) × AreAmong ps seats
 
   -- the calls so far are shown of processes among which are those of these seats; and those that a seat has
-  abbrev pub AreShown : (List (Process V) → Type 0) → List (ProcessSeat T V X) → Type 0
-  AreShown done seats = (qs : List (Process V)) × done qs × AreAmong qs seats
+  abbrev pub AllShown : (List (Process V) → Type 0) → List (ProcessSeat T V X) → Type 0
+  AllShown done seats = (qs : List (Process V)) × done qs × AreAmong qs seats
 
   abbrev pub HaveShown : (List (Process V) → Type 0) → List (Process V) → List (ProcessSeat T V X) → Type 0
   HaveShown done ps seats = (qs : List (Process V)) × done qs

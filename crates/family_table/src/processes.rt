@@ -4,7 +4,7 @@ ghost use Rattle.family_live.specs.Ends.{Each};
 ghost use Rattle.family_table.specs.declared.notes.Process.{Process};
 ghost use Rattle.family_table.specs.declared.notes.View.TheVariants.{Has};
 ghost use Rattle.family_table.specs.Ends.{AllDone};
-ghost use Rattle.family_table.specs.Seated.{known_by, AreShown, HasAll, HaveShown};
+ghost use Rattle.family_table.specs.Seated.{known_by, AllShown, HasAll, HaveShown};
 
 use crate::mechanism::Mechanism;
 use crate::table::{FamilySeat, Rows};
@@ -108,7 +108,7 @@ pub fn show<T: Copy, V, M: Mechanism<T, V>, X: Copy>(
     requires own { Each (λ i s. s.seat.inner.table_id ≡ rows.now.inner.shared.table_id) seats.old.items }
     requires one { Each (λ i s. s.seat.inner.me.0 ≡ Has (known_by s ∷ [])) seats.old.items }
     ensures same { (seats.new.items ≡ seats.old.items) × (vec_capacity seats.new ≡ vec_capacity seats.old) }
-    ensures shown { AreShown (AllDone M.blank (M.layout rows.now.inner.shared.key.processes) (M.done rows.now.inner.shared.key.first)
+    ensures shown { AllShown (AllDone M.blank (M.layout rows.now.inner.shared.key.processes) (M.done rows.now.inner.shared.key.first)
         rows.now.inner.shared.key.processes) seats.old.items }
 {
     let Some(mut last) = seats.pop() else {

@@ -49,7 +49,8 @@ impl<T: Copy, V, M: Mechanism<T, V>> Rows<T, V, M> {
             (M.first first processes)) }
         ensures key { IfOk result (λ r. r.0.inner.shared.key ≡ record { first = first; processes = processes }) }
         ensures sized { IfOk result (λ r. r.0.inner.shared.table_id.words ≡ stride * (processes * processes) + 8) }
-        ensures seat { IfOk result (λ r. (r.1.inner.table_id ≡ r.0.inner.shared.table_id) × (r.1.inner.me ≡ (M.first first processes, []))) }
+        ensures seat { IfOk result (λ r. (r.1.inner.table_id ≡ r.0.inner.shared.table_id)
+            × (r.1.inner.me ≡ (M.first first processes, []))) }
     {
         let cells = processes * processes;
         let mut words = Vec::new(alloc);
@@ -169,7 +170,8 @@ impl<T: Copy, V, M: Mechanism<T, V>> Rows<T, V, M> {
         ensures own { (seat.new.inner.table_id ≡ seat.old.inner.table_id) × (seat.new.inner.id ≡ seat.old.inner.id) }
         ensures same { seat.new.inner.me ≡ seat.old.inner.me }
         ensures shown { (ps : List (Process V)) → seat.old.inner.me.0 ≡ Has ps →
-            AllDone M.blank (M.layout self.now.inner.shared.key.processes) (M.done self.now.inner.shared.key.first) self.now.inner.shared.key.processes ps }
+            AllDone M.blank (M.layout self.now.inner.shared.key.processes) (M.done self.now.inner.shared.key.first)
+            self.now.inner.shared.key.processes ps }
     {
         self.inner.shared.load::<Shows<M, K>>(&mut seat.inner, 0);
     }
@@ -180,7 +182,8 @@ impl<T: Copy, V, M: Mechanism<T, V>> Rows<T, V, M> {
         ensures own { (seat.new.inner.table_id ≡ seat.old.inner.table_id) × (seat.new.inner.id ≡ seat.old.inner.id) }
         ensures same { seat.new.inner.me ≡ seat.old.inner.me }
         ensures shown { (ps : List (Process V)) → seat.old.inner.me.0 ≡ Has ps →
-            AllDone M.blank (M.layout self.now.inner.shared.key.processes) (M.done self.now.inner.shared.key.first) self.now.inner.shared.key.processes ps }
+            AllDone M.blank (M.layout self.now.inner.shared.key.processes) (M.done self.now.inner.shared.key.first)
+            self.now.inner.shared.key.processes ps }
     {
         self.load_calls::<Brand>(seat);
     }
@@ -189,7 +192,8 @@ impl<T: Copy, V, M: Mechanism<T, V>> Rows<T, V, M> {
     pub fn close(self, seat: FamilySeat<T, V>)
         requires { seat.inner.table_id ≡ self.inner.shared.table_id }
         ensures { (ps : List (Process V)) → seat.inner.me.0 ≡ Has ps →
-            AllDone M.blank (M.layout self.inner.shared.key.processes) (M.done self.inner.shared.key.first) self.inner.shared.key.processes ps }
+            AllDone M.blank (M.layout self.inner.shared.key.processes) (M.done self.inner.shared.key.first)
+            self.inner.shared.key.processes ps }
     {
         let Rows { inner: table } = self;
         let FamilySeat { inner: seat } = seat;

@@ -59,7 +59,8 @@ impl<T: Lawful> FamilyTable<T> {
         requires lawful { T.fits first }
         requires some { (2 ≤ processes) × (processes ≤ 16) }
         ensures key { IfOk result (λ r. r.0.rows.inner.shared.key ≡ record { first = first; processes = processes }) }
-        ensures seat { IfOk result (λ r. (r.1.inner.table_id ≡ r.0.rows.inner.shared.table_id) × (r.1.inner.me ≡ (first_view first processes, []))) }
+        ensures seat { IfOk result (λ r. (r.1.inner.table_id ≡ r.0.rows.inner.shared.table_id)
+            × (r.1.inner.me ≡ (first_view first processes, []))) }
     {
         let (rows, seat) = Rows::new(alloc, processes, first, 8, 1, 3)?;
         Ok((FamilyTable { rows }, seat))
@@ -100,7 +101,8 @@ impl<T: Lawful> FamilyTable<T> {
     pub(super) fn publish(&self, seat: &mut FamilySeat<T>, cell: usize, new: u64) -> u64
         requires own { seat.old.inner.table_id ≡ self.now.rows.inner.shared.table_id }
         requires place { cell < (triples self.now.rows.inner.shared.key.processes).cells }
-        requires filled { (v : Process (TripleSight T)) × (p : WriterNotes T) × (x : T) × (cs : List (ℕ × T)) × HasWriter seat.old.inner.me cell v p
+        requires filled { (v : Process (TripleSight T)) × (p : WriterNotes T) × (x : T) × (cs : List (ℕ × T))
+            × HasWriter seat.old.inner.me cell v p
             × (seat.old.inner.me.1 ≡ (slot_at cell p.slot, x) ∷ cs) × (p.has ≡ 1) × T.fits x
             × T.rises (last_or p.opening.value p.written) x × (new ≡ p.slot + 4) }
         ensures own { seat.new.inner.table_id ≡ seat.old.inner.table_id }

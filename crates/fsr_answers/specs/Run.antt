@@ -17,7 +17,7 @@ IsFsrOutcome family (Some want) bytes told = IsToldBy (IsFsrAnswer family want) 
 
 -- whether an input has no bound: a log in lines, whose order is wanted
 abbrev pub is_unbounded : Option Want → List ℕ → Bool
-is_unbounded (Some want.Order) = are_lines
+is_unbounded (Some (want.Order show)) = are_lines
 is_unbounded (Some want.Check) = never
 is_unbounded (Some want.Play) = never
 is_unbounded (Some want.Race) = never

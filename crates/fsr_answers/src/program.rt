@@ -34,7 +34,7 @@ where
 {
     match want {
         Want::Check => check(alloc, bytes),
-        Want::Order => order(alloc, bytes),
+        Want::Order(show) => order(alloc, show, bytes),
         Want::Play => play(alloc, bytes),
         Want::Race => run_race::<R, F>(rt, alloc, bytes),
     }
@@ -114,7 +114,7 @@ fn take_input<I: Source, E: Sink>(
     ensures faults { TellsUnlessTaken (E.failed faults.old) (E.failed faults.new) result }
 {
     match want {
-        Want::Order => take_log(alloc, input, faults),
+        Want::Order(_) => take_log(alloc, input, faults),
         Want::Check | Want::Play | Want::Race => take_document(alloc, &FSR, input, faults),
     }
 }

@@ -8,6 +8,7 @@ use Rattle.history_core.specs.declared.history.History.{History}
 use Rattle.fsr_refusals.specs.declared.refusal.DocError.{DocError}
 use Rattle.lines_answers.proofs.StatusLemmas.{low_lines}
 use Rattle.lines_answers.specs.Kinds.{are_lines}
+use Rattle.fsr_words.specs.declared.command.Show.{Show}
 use Rattle.log_text.specs.Log.{log_of}
 use Rattle.history_search.specs.declared.reason.Search.{Search}
 use Rattle.history_search.specs.declared.reason.Search.TheVariants.{Order, Unlawful}
@@ -28,9 +29,9 @@ low_answer : (bytes : List ℕ) (r : Result Answer Fault) → GivesReply (IsLogA
 low_answer bytes (Ok a) answered = low_log (log_of bytes) a answered
 low_answer bytes (Err e) refused = search rules
 
-low_by : (in_lines : Bool) (bytes : List ℕ) (r : Result Answer Fault) → GivesReply (IsAnswerBy in_lines bytes) r → HasLowStatus r
-low_by true bytes r answered = low_lines bytes r answered
-low_by false bytes r answered = low_answer bytes r answered
+low_by : (show : Show) (in_lines : Bool) (bytes : List ℕ) (r : Result Answer Fault) → GivesReply (IsAnswerBy show in_lines bytes) r → HasLowStatus r
+low_by show true bytes r answered = low_lines show bytes r answered
+low_by show false bytes r answered = low_answer bytes r answered
 
-pub low_order : (bytes : List ℕ) (r : Result Answer Fault) → GivesReply (IsOrderAnswer bytes) r → HasLowStatus r
-low_order bytes r answered = low_by (are_lines bytes) bytes r answered
+pub low_order : (show : Show) (bytes : List ℕ) (r : Result Answer Fault) → GivesReply (IsOrderAnswer show bytes) r → HasLowStatus r
+low_order show bytes r answered = low_by show (are_lines bytes) bytes r answered

@@ -9,6 +9,7 @@ use Rattle.history_core.specs.declared.band.Band.{Band}
 use Rattle.history_core.specs.declared.history.History.{History}
 use Rattle.lines_answers.specs.Answers.{IsLinesAnswer}
 use Rattle.lines_answers.specs.Kinds.{are_lines}
+use Rattle.fsr_words.specs.declared.command.Show.{Show}
 use Rattle.log_search.specs.Logs.{IsLogFault, IsLogSearch}
 use Rattle.log_search.specs.Text.{search_text}
 use Rattle.log_text.specs.Log.{log_of}
@@ -39,10 +40,10 @@ abbrev pub IsLogAnswer : List ℕ → Result Answer Fault → Type 0
 IsLogAnswer bytes reply = AnswersReading AnswersOrder (log_of bytes) reply
 
 -- the answer by the kind: whether the document is a log in lines
-abbrev pub IsAnswerBy : Bool → List ℕ → Result Answer Fault → Type 0
-IsAnswerBy true bytes reply = IsLinesAnswer bytes reply
-IsAnswerBy false bytes reply = IsLogAnswer bytes reply
+abbrev pub IsAnswerBy : Show → Bool → List ℕ → Result Answer Fault → Type 0
+IsAnswerBy show true bytes reply = IsLinesAnswer show bytes reply
+IsAnswerBy show false bytes reply = IsLogAnswer bytes reply
 
 -- the answer of the command `order` to the bytes of a document
-abbrev pub IsOrderAnswer : List ℕ → Result Answer Fault → Type 0
-IsOrderAnswer bytes reply = IsAnswerBy (are_lines bytes) bytes reply
+abbrev pub IsOrderAnswer : Show → List ℕ → Result Answer Fault → Type 0
+IsOrderAnswer show bytes reply = IsAnswerBy show (are_lines bytes) bytes reply

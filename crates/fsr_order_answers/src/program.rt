@@ -8,12 +8,14 @@ use crate::input::take_log;
 use crate::search::order;
 use fsr_runs::{FSR, give_answer};
 use fsr_streams::{Sink, Source};
+use fsr_words::Show;
 use std::alloc::Global;
 
 /// Runs `fsr order` over its streams, and gives the status that it ends with. The text goes to `out`, and what is to be told besides
 /// goes to `faults`, whose failures change no status.
 pub fn run<I: Source, O: Sink, E: Sink>(
     alloc: Global,
+    show: Show,
     input: &mut I,
     out: &mut O,
     faults: &mut E,
@@ -21,7 +23,7 @@ pub fn run<I: Source, O: Sink, E: Sink>(
     requires input { HasRoom (I.failed input.old) }
     requires out { HasRoom (O.failed out.old) }
     requires faults { HasRoom (E.failed faults.old) }
-    ensures runs { Runs (IsToldBy IsOrderAnswer) are_lines (I.remaining input.old) (I.remaining input.new)
+    ensures runs { Runs (IsToldBy (IsOrderAnswer show)) are_lines (I.remaining input.old) (I.remaining input.new)
         (O.contents out.old) (O.contents out.new) result }
     ensures fails { Fails (I.failed input.old) (I.failed input.new) (O.failed out.old)
         (O.failed out.new) result }
@@ -29,7 +31,7 @@ pub fn run<I: Source, O: Sink, E: Sink>(
 {
     match take_log(alloc, input, faults) {
         Ok(bytes) => {
-            let reply = order(alloc, bytes.as_slice());
+            let reply = order(alloc, show, bytes.as_slice());
             give_answer(alloc, &FSR, reply, out, faults)
         }
         Err(status) => status,

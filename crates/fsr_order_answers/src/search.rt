@@ -5,6 +5,7 @@ ghost use Rattle.history_text.specs.Refusals.{Gives as Reads};
 ghost use Rattle.log_text.specs.Log.{CanBeSearched, log_of};
 
 use fsr_runs::{Answer, Fault};
+use fsr_words::Show;
 use history_core::{Band, History, Items};
 use history_search::Search;
 use history_text::{DocError, read_value};
@@ -15,13 +16,13 @@ use std::alloc::{AllocError, Global};
 use std::mem::forget;
 
 /// The answer of the command `order` to the bytes of a document: a lawful order of its log, or the reason why there is none. A log in
-/// lines is told by its first line.
-pub fn order(alloc: Global, bytes: &[u8]) -> Result<Answer, Fault>
-    ensures { GivesReply (IsOrderAnswer bytes.now) result }
+/// lines is told by its first line, and for it alone there is a choice of what is printed.
+pub fn order(alloc: Global, show: Show, bytes: &[u8]) -> Result<Answer, Fault>
+    ensures { GivesReply (IsOrderAnswer show bytes.now) result }
 {
     let in_lines = are_lines(alloc, bytes)?;
     if in_lines {
-        order_lines(alloc, bytes)
+        order_lines(alloc, show, bytes)
     } else {
         order_document(alloc, bytes)
     }

@@ -1,16 +1,17 @@
 -- What a parse says of the words: the command line of `fsr` is one of those whose parse clap's contract gives exactly.
 use Rattle.std.proofs.Common.{rules, ◌≡◌, ◌≢◌, inl, inr, List, [], ◌∷◌, ap, refl, sym, ◌∙◌, true, false, Option, Some, None}
-use Rattle.std.proofs.Common.{option_map, subst, option_and_then, ◌⊎◌, inr, ℕ}
+use Rattle.std.proofs.Common.{option_map, subst, ◌⊎◌, inr, ℕ, Bool, codes}
+use Rattle.std.specs.Str.{bytes_eq}
 use Rattle.std.proofs.lemmas.Option.{none-some, same_Some}
 use Rattle.clap.specs.Words.{App, Row, Text, fault_of, is_simple, is_simple_and_free, kind_of, subcommand_of, HasMatchesOf, HasKind, Kinds}
-use Rattle.clap.specs.Words.{subcommand_name_of, subcommand_rows_of}
+use Rattle.clap.specs.Words.{first_of, subcommand_name_of, subcommand_rows_of}
 use Rattle.clap.specs.Walk.{is_empty}
 use Rattle.clap.specs.declared.error.Error.{Error}
 use Rattle.clap.specs.declared.error.kind.ErrorKind.TheVariants as kind
 use Rattle.clap.specs.declared.parser.matches.ArgMatches.{ArgMatches}
 use Rattle.clap.proofs.OnLiterals.{clap_on_literals}
 use Rattle.fsr_words.specs.declared.command.Want.{Want}
-use Rattle.fsr_words.specs.Command.{fsr, command_of, want_named, Refuses, TellsRefusal}
+use Rattle.fsr_words.specs.Command.{fsr, command_of, file_in, file_of, is_true, want_in, want_named, Refuses, TellsRefusal}
 use Rattle.fsr_words.specs.declared.command.NoCommand.{NoCommand}
 use Rattle.fsr_words.specs.declared.command.NoCommand.TheVariants.{NoMemory, Refused, Unknown}
 
@@ -30,36 +31,40 @@ option_map-option_map f g (Some x) = refl
 name-rows : (m : ArgMatches) → subcommand_name_of m ≡ option_map (λ p. p.0) (subcommand_rows_of m)
 name-rows m = option_map-option_map (λ p. p.0) _ _
 
-want_in : (name : Text) (want : Option Want) (o : Option (Text × List Row)) → Some name ≡ option_map (λ p. p.0) o
-    → want_named name ≡ want → option_and_then (λ found. want_named found.0) o ≡ want
-want_in name want None e named = absurd (none-some name (sym e))
-want_in name want (Some p) e named = ap want_named (sym (same_Some name p.0 e)) ∙ named
+want_among : (o : Option (Text × List Row)) (name : Text) (rows : List Row) → Some name ≡ option_map (λ p. p.0) o
+    → Some rows ≡ option_map (λ p. p.1) o → want_named name rows ≡ want_in o
+want_among None name rows named found = absurd (none-some name (sym named))
+want_among (Some p) name rows named found =
+    ap (λ (n : Text). want_named n rows) (same_Some name p.0 named) ∙ ap (λ (r : List Row). want_named p.0 r) (same_Some rows p.1 found)
 
-rows_of_fsr : (a : App) (words : List Text) (m : ArgMatches) → a ≡ fsr → HasMatchesOf a words m
-    → subcommand_name_of m ≡ option_map (λ p. p.0) (subcommand_of fsr words)
-rows_of_fsr a words m is_fsr matches =
-    name-rows m ∙ ap (option_map (λ p. p.0)) ((matches (ap is_simple is_fsr ∙ fsr_is_simple)).1 ∙ ap (λ b. subcommand_of b words) is_fsr)
+-- the name and the matches of a subcommand give its command, and where there is none there is no command
+pub want_of_subcommand : (m : ArgMatches) (name : Text) (rows : List Row) (want : Option Want) → Some name ≡ subcommand_name_of m
+    → Some rows ≡ option_map (λ p. p.1) (subcommand_rows_of m) → want ≡ want_named name rows → want ≡ want_in (subcommand_rows_of m)
+want_of_subcommand m name rows want named found is = is ∙ want_among (subcommand_rows_of m) name rows (named ∙ name-rows m) found
 
-none_in : (o : Option (Text × List Row)) → None ≡ option_map (λ p. p.0) o → option_and_then (λ found. want_named found.0) o ≡ None
-none_in None e = refl
-none_in (Some p) e = absurd (none-some p.0 e)
+pub want_nowhere : (o : Option (Text × List Row)) → None ≡ option_map (λ p. p.1) o → None ≡ want_in o
+want_nowhere None e = refl
+want_nowhere (Some p) e = absurd (none-some p.1 e)
 
--- the parse succeeded, and met no name
-pub unnamed : (a : App) (words : List Text) (m : ArgMatches) → a ≡ fsr → (is_simple_and_free a ≡ true → fault_of a words ≡ [])
-    → HasMatchesOf a words m → None ≡ subcommand_name_of m → command_of words ≡ None
-unnamed a words m is_fsr faults matches met =
+-- a flag is there if its value is `true`
+pub told_by_value : (o : Option Text) (value : Text) (told : Bool) → Some value ≡ o → told ≡ bytes_eq value (codes "true") → told ≡ is_true o
+told_by_value None value told e is = absurd (none-some value (sym e))
+told_by_value (Some v) value told e is = is ∙ ap (λ (t : Text). bytes_eq t (codes "true")) (same_Some value v e)
+
+pub told_by_none : (o : Option Text) → None ≡ o → false ≡ is_true o
+told_by_none None e = refl
+told_by_none (Some v) e = absurd (none-some v e)
+
+-- the parse succeeded, and its subcommand gives this command, or none
+pub parsed : (a : App) (words : List Text) (m : ArgMatches) (want : Option Want) → a ≡ fsr
+    → (is_simple_and_free a ≡ true → fault_of a words ≡ []) → HasMatchesOf a words m → want ≡ want_in (subcommand_rows_of m)
+    → command_of words ≡ want
+parsed a words m want is_fsr faults matches is =
     let no_fault : fault_of fsr words ≡ [] =
     ap (λ b. fault_of b words) (sym is_fsr) ∙ faults (ap is_simple_and_free is_fsr ∙ fsr_is_free) in
-    rw no_fault (none_in (subcommand_of fsr words) (met ∙ rows_of_fsr a words m is_fsr matches))
-
--- the parse succeeded, and met a name
-pub found : (a : App) (words : List Text) (m : ArgMatches) (name : Text) (want : Option Want) → a ≡ fsr
-    → (is_simple_and_free a ≡ true → fault_of a words ≡ []) → HasMatchesOf a words m
-    → Some name ≡ subcommand_name_of m → want_named name ≡ want → command_of words ≡ want
-found a words m name want is_fsr faults matches met named =
-    let no_fault : fault_of fsr words ≡ [] =
-    ap (λ b. fault_of b words) (sym is_fsr) ∙ faults (ap is_simple_and_free is_fsr ∙ fsr_is_free) in
-    rw no_fault (want_in name want (subcommand_of fsr words) (met ∙ rows_of_fsr a words m is_fsr matches) named)
+    let rows : subcommand_rows_of m ≡ subcommand_of fsr words =
+    (matches (ap is_simple is_fsr ∙ fsr_is_simple)).1 ∙ ap (λ b. subcommand_of b words) is_fsr in
+    rw no_fault (sym (is ∙ ap want_in rows))
 
 some_kind : (kinds : Kinds) (e : Error) → kind_of e ≢ kind.OutOfMemory → HasKind kinds e → is_empty kinds ≡ false
 some_kind kinds e other (inl memory) = absurd (other memory)
@@ -82,3 +87,33 @@ ends_refused NoMemory found status refuses told = inr told
 ends_refused (Refused e) found status refuses (inl two) = inl (two, refuses)
 ends_refused (Refused e) found status refuses (inr four) = inr four
 ends_refused Unknown found status refuses two = inl (two, refuses)
+
+-- the matches of the subcommand name a file, or there is no subcommand
+pub file_among : (o : Option (Text × List Row)) (rows : List Row) (file : Option Text) → Some rows ≡ option_map (λ p. p.1) o
+    → file ≡ first_of (codes "FILE") rows → file ≡ file_in o
+file_among None rows file e is = absurd (none-some rows (sym e))
+file_among (Some p) rows file e is = is ∙ ap (first_of (codes "FILE")) (same_Some rows p.1 e)
+
+pub file_nowhere : (o : Option (Text × List Row)) → None ≡ option_map (λ p. p.1) o → None ≡ file_in o
+file_nowhere None e = refl
+file_nowhere (Some p) e = absurd (none-some p.1 e)
+
+-- the parse succeeded, and its subcommand's matches name this file, or none
+pub file_parsed : (a : App) (words : List Text) (m : ArgMatches) (file : Option Text) → a ≡ fsr
+    → (is_simple_and_free a ≡ true → fault_of a words ≡ []) → HasMatchesOf a words m → file ≡ file_in (subcommand_rows_of m)
+    → file ≡ file_of words
+file_parsed a words m file is_fsr faults matches is =
+    let no_fault : fault_of fsr words ≡ [] =
+    ap (λ b. fault_of b words) (sym is_fsr) ∙ faults (ap is_simple_and_free is_fsr ∙ fsr_is_free) in
+    let rows : subcommand_rows_of m ≡ subcommand_of fsr words =
+    (matches (ap is_simple is_fsr ∙ fsr_is_simple)).1 ∙ ap (λ b. subcommand_of b words) is_fsr in
+    rw no_fault (is ∙ ap file_in rows)
+
+-- the parse failed, and memory was not at fault
+pub file_unparsed : (a : App) (words : List Text) (e : Error) → a ≡ fsr → (is_simple_and_free a ≡ true → HasKind (fault_of a words) e)
+    → kind_of e ≢ kind.OutOfMemory
+    → None ≡ file_of words
+file_unparsed a words e is_fsr faults other =
+    let has : HasKind (fault_of fsr words) e =
+    subst (λ b. HasKind (fault_of b words) e) is_fsr (faults (ap is_simple_and_free is_fsr ∙ fsr_is_free)) in
+    rw (some_kind _ e other has) refl

@@ -1,32 +1,69 @@
 -- The command that the words name, as clap matches them (this project's own).
-use Rattle.std.specs.Prelude.{◌≡◌, ◌⊎◌, ℕ, List, codes, true, Option, Some, None, option_and_then, if◌then◌else◌}
+use Rattle.std.specs.Prelude.{◌≡◌, ◌⊎◌, ℕ, Bool, List, codes, true, false, Option, Some, None, option_and_then, if◌then◌else◌}
 use Rattle.std.specs.Str.{bytes_eq}
-use Rattle.clap.specs.Words.{App, Text, new_app, with_subcommand, fault_of, subcommand_of}
+use Rattle.clap.specs.Words.{App, Row, Rule, Shape, Text, first_of, new_app, new_rule, with_rule, with_subcommand, fault_of, subcommand_of}
 use Rattle.clap.specs.Walk.{is_empty}
 use Rattle.clap.specs.Simple.{on_top}
+use Rattle.clap.specs.declared.builder.action.ArgAction.TheVariants.{SetTrue}
+use Rattle.fsr_words.specs.declared.command.Show.{Show}
 use Rattle.fsr_words.specs.declared.command.NoCommand.{NoCommand}
 use Rattle.fsr_words.specs.declared.command.NoCommand.TheVariants.{Refused, Unknown, NoMemory}
 use Rattle.fsr_words.specs.declared.command.Want.{Want}
 use Rattle.fsr_words.specs.declared.command.Want.TheVariants.{Check, Order, Play, Race}
 
--- the command line of `fsr`: one of the subcommands is required, and none has an argument
-abbrev pub over_histories : App
-over_histories = with_subcommand (with_subcommand (on_top (λ s. record s { subcommand_required = true }) (new_app (codes "fsr")))
-    (new_app (codes "check")).top) (new_app (codes "order")).top
+-- a subcommand that may have the name of a file
+abbrev pub over_a_document : Text → Shape
+over_a_document name = (with_rule (new_app name) (new_rule (codes "FILE"))).top
 
+-- a word that is there or not
+abbrev pub flag : Text → Rule
+flag name = record (new_rule name) { long = Some name; action = Some SetTrue }
+
+-- the subcommand that may be told what to print
+abbrev pub over_a_log : Shape
+over_a_log = (with_rule (with_rule (with_rule (new_app (codes "order")) (new_rule (codes "FILE"))) (flag (codes "order")))
+    (flag (codes "small"))).top
+
+-- the command line of `fsr`: one of the subcommands is required
 abbrev pub fsr : App
-fsr = with_subcommand (with_subcommand over_histories (new_app (codes "play")).top) (new_app (codes "race")).top
+fsr =
+    let none : App = on_top (λ s. record s { subcommand_required = true }) (new_app (codes "fsr")) in
+    with_subcommand (with_subcommand (with_subcommand (with_subcommand none (over_a_document (codes "check")))
+    over_a_log) (over_a_document (codes "play"))) (over_a_document (codes "race"))
 
-abbrev pub want_named : Text → Option Want
-want_named name = if bytes_eq name (codes "check") then Some Check
-    else (if bytes_eq name (codes "order") then Some Order
+abbrev pub is_true : Option Text → Bool
+is_true None = false
+is_true (Some value) = bytes_eq value (codes "true")
+
+-- whether a flag is there
+abbrev pub is_told : Text → List Row → Bool
+is_told name rows = is_true (first_of name rows)
+
+abbrev pub show_in : List Row → Show
+show_in rows = record { order = is_told (codes "order") rows; small = is_told (codes "small") rows }
+
+abbrev pub want_named : Text → List Row → Option Want
+want_named name rows = if bytes_eq name (codes "check") then Some Check
+    else (if bytes_eq name (codes "order") then Some (Order (show_in rows))
     else (if bytes_eq name (codes "play") then Some Play
     else (if bytes_eq name (codes "race") then Some Race
     else None)))
 
+-- the command of a subcommand with these matches
+abbrev pub want_in : Option (Text × List Row) → Option Want
+want_in found = option_and_then (λ p. want_named p.0 p.1) found
+
 -- nothing where clap refuses the words
 abbrev pub command_of : List Text → Option Want
-command_of words = if is_empty (fault_of fsr words) then option_and_then (λ found. want_named found.0) (subcommand_of fsr words) else None
+command_of words = if is_empty (fault_of fsr words) then want_in (subcommand_of fsr words) else None
+
+-- the file that a subcommand with these matches names
+abbrev pub file_in : Option (Text × List Row) → Option Text
+file_in found = option_and_then (λ p. first_of (codes "FILE") p.1) found
+
+-- nothing where clap refuses the words, or no file is named
+abbrev pub file_of : List Text → Option Text
+file_of words = if is_empty (fault_of fsr words) then file_in (subcommand_of fsr words) else None
 
 -- the words are no command, unless memory ran out
 abbrev pub Refuses : NoCommand → Option Want → Type 0

@@ -1,17 +1,26 @@
-ghost use Rattle.std.specs.Prelude.{◌≡◌, ◌≢◌, None, Some, map, IfOk, IfErr};
-ghost use Rattle.clap.specs.Words.{app_of};
-ghost use Rattle.fsr_words.specs.Command.{fsr, command_of, over_histories, want_named, Refuses};
+ghost use Rattle.std.specs.Prelude.{◌≡◌, ◌≢◌, None, Some, false, map, option_map, IfOk, IfErr};
+ghost use Rattle.clap.specs.Words.{app_of, found_of, rows_of, rule_of, subcommand_rows_of, with_subcommand};
+ghost use Rattle.fsr_words.specs.Command.{fsr, command_of, file_in, file_of, flag, is_told, over_a_document, over_a_log, show_in, want_in, want_named, Refuses};
 
 use clap::error::ErrorKind;
-use clap::{Command, Error};
+use clap::{Arg, ArgAction, ArgMatches, Command, Error};
 use std::alloc::{AllocError, Global};
 use std::convert::AsStr;
+
+/// What `order` prints of a log in lines besides the verdict.
+#[derive(Clone, Copy, Debug, PartialEq, Eq)]
+pub struct Show {
+    /// The lines of the writes, in the order that was found.
+    pub order: bool,
+    /// In place of all else a small log that has no order, if this one has none.
+    pub small: bool,
+}
 
 /// A command of `fsr`. Each takes documents of its own kinds.
 #[derive(Clone, Copy, Debug, PartialEq, Eq)]
 pub enum Want {
     Check,
-    Order,
+    Order(Show),
     Play,
     Race,
 }
@@ -26,42 +35,121 @@ pub enum NoCommand {
     NoMemory,
 }
 
-/// The command line of `fsr` with its commands over histories alone.
-fn line_over_histories<'a>(alloc: Global) -> Result<Command<'a>, AllocError>
-    ensures { IfOk result (λ c. app_of c ≡ over_histories) }
+/// The help that names what each command reads.
+const FORMATS: &str = "What each command reads, as docs/FORMATS.md has it:
+  check  a history with an order of it, a document of kind `check`
+  order  a log, in lines (JSON Lines of kind `lines`) or as a document of kind `log`
+  play   a schedule, a document of kind `cell`, `matrix` or `board`
+  race   the scripts of tasks, a document of kind `race`";
+
+/// The command line with one command more, over a document, which is read from standard input where no file is named.
+fn with_command<'a>(
+    alloc: Global,
+    line: Command<'a>,
+    name: &'a str,
+    about: &'a str,
+) -> Result<Command<'a>, AllocError>
+    ensures { IfOk result (λ c. app_of c ≡ with_subcommand (app_of line.entry) (over_a_document name.entry.now)) }
 {
-    let check = Command::new(alloc, "check").about("Checks that an order of a history is atomic");
-    let order = Command::new(alloc, "order").about(
-        "Finds a lawful order of a log, or tells why there is none",
+    let file = Arg::new(alloc, "FILE").help("The document, in place of standard input");
+    let command = Command::new(alloc, name).about(about).arg(file)?;
+    line.subcommand(command)
+}
+
+/// The command line with the command `order` more, which may be told what to print.
+fn with_order<'a>(alloc: Global, line: Command<'a>) -> Result<Command<'a>, AllocError>
+    ensures { IfOk result (λ c. app_of c ≡ with_subcommand (app_of line.entry) over_a_log) }
+{
+    let file = Arg::new(alloc, "FILE").help("The document, in place of standard input");
+    let order = flag(alloc, "order").help(
+        "Of a log in lines also the lines of the writes, in the order that was found",
     );
-    Command::new(alloc, "fsr")
-        .about("Reads a document on standard input")
-        .subcommand_required(true)
-        .subcommand(check)?
-        .subcommand(order)
+    let small = flag(alloc, "small").help(
+        "Of a log in lines a small one without an order, or nothing, in place of all else",
+    );
+    let command = Command::new(alloc, "order")
+        .about("Finds a lawful order of a log, or tells why there is none")
+        .arg(file)?
+        .arg(order)?
+        .arg(small)?;
+    line.subcommand(command)
+}
+
+/// A word that is there or not.
+fn flag<'a>(alloc: Global, name: &'a str) -> Arg<'a>
+    ensures rule { rule_of result ≡ flag name.entry.now }
+    ensures local { result.global ≡ false }
+{
+    Arg::new(alloc, name).long(name).action(ArgAction::SetTrue)
 }
 
 /// The command line of `fsr`, which has this name in what clap tells, whatever the file is called.
 fn command_line<'a>(alloc: Global) -> Result<Command<'a>, AllocError>
     ensures { IfOk result (λ c. app_of c ≡ fsr) }
 {
-    line_over_histories(alloc)?
-        .subcommand(Command::new(alloc, "play").about("Plays a schedule and reports its history"))?
-        .subcommand(Command::new(alloc, "race").about(
-            "Runs tasks over a board and checks their logs",
-        ))?
-        .bin_name("fsr")
+    let line = Command::new(alloc, "fsr")
+        .about("Reads a document from a file or from standard input")
+        .after_help(FORMATS)
+        .subcommand_required(true);
+    let line = with_command(
+        alloc,
+        line,
+        "check",
+        "Checks that an order of a history is atomic",
+    )?;
+    let line = with_order(alloc, line)?;
+    let line = with_command(
+        alloc,
+        line,
+        "play",
+        "Plays a schedule and reports its history",
+    )?;
+    let line = with_command(
+        alloc,
+        line,
+        "race",
+        "Runs tasks over a board and checks their logs",
+    )?;
+    line.bin_name("fsr")
 }
 
-fn want_named(name: &str) -> Option<Want>
-    ensures { result ≡ want_named name.now }
+fn want_in(matches: &ArgMatches<'_>) -> Option<Want>
+    ensures { result ≡ want_in (subcommand_rows_of matches.now) }
+{
+    match matches.subcommand() {
+        Some((name, found)) => want_named(name, found),
+        None => None,
+    }
+}
+
+fn want_named(name: &str, found: &ArgMatches<'_>) -> Option<Want>
+    ensures { result ≡ want_named name.now (rows_of (found_of found.now)) }
 {
     match name {
         "check" => Some(Want::Check),
-        "order" => Some(Want::Order),
+        "order" => Some(Want::Order(show_in(found))),
         "play" => Some(Want::Play),
         "race" => Some(Want::Race),
         _ => None,
+    }
+}
+
+fn show_in(found: &ArgMatches<'_>) -> Show
+    ensures { result ≡ show_in (rows_of (found_of found.now)) }
+{
+    Show {
+        order: is_told(found, "order"),
+        small: is_told(found, "small"),
+    }
+}
+
+/// Whether a flag is there.
+fn is_told(found: &ArgMatches<'_>, flag: &str) -> bool
+    ensures { result ≡ is_told flag.now (rows_of (found_of found.now)) }
+{
+    match found.get_str(flag) {
+        Some(value) => value == "true",
+        None => false,
     }
 }
 
@@ -74,11 +162,8 @@ pub fn command_of<'a, S: AsStr>(alloc: Global, words: &'a [S]) -> Result<Want, N
         return Err(NoCommand::NoMemory);
     };
     match line.try_get_matches_from(words) {
-        Ok(matches) => match matches.subcommand_name() {
-            Some(name) => match want_named(name) {
-                Some(want) => Ok(want),
-                None => Err(NoCommand::Unknown),
-            },
+        Ok(matches) => match want_in(&matches) {
+            Some(want) => Ok(want),
             None => Err(NoCommand::Unknown),
         },
         Err(e) => {
@@ -88,5 +173,31 @@ pub fn command_of<'a, S: AsStr>(alloc: Global, words: &'a [S]) -> Result<Want, N
                 Err(NoCommand::Refused(e))
             }
         }
+    }
+}
+
+/// The file that the words name for the document, if they are a command.
+pub fn file_of<'a, S: AsStr>(alloc: Global, words: &'a [S]) -> Result<Option<&'a str>, AllocError>
+    ensures { IfOk result (λ file. option_map (λ name. name.now) file ≡ file_of (map S.text words.now)) }
+{
+    let line = command_line(alloc)?;
+    match line.try_get_matches_from(words) {
+        Ok(matches) => Ok(file_in(&matches)),
+        Err(e) => {
+            if e.kind() == ErrorKind::OutOfMemory {
+                Err(AllocError)
+            } else {
+                Ok(None)
+            }
+        }
+    }
+}
+
+fn file_in<'a>(matches: &ArgMatches<'a>) -> Option<&'a str>
+    ensures { option_map (λ name. name.now) result ≡ file_in (subcommand_rows_of matches.now) }
+{
+    match matches.subcommand() {
+        Some((_, found)) => found.get_str("FILE"),
+        None => None,
     }
 }

@@ -1,4 +1,4 @@
-ghost use Rattle.std.specs.Prelude.{◌≡◌, ◌≤◌, ◌+◌};
+ghost use Rattle.std.specs.Prelude.{◌≡◌, ◌≤◌, ◌+◌, ◌⊎◌};
 ghost use Rattle.fsr_words.specs.Command.{TellsRefusal};
 ghost use Rattle.fsr_streams.specs.Stream.{HasRoom};
 
@@ -34,5 +34,23 @@ pub fn tell_refusal<E: Sink>(
                 4
             }
         },
+    }
+}
+
+/// Tells that a file can't be opened, or that memory ran out, and gives the status that the run ends with: that of a failed read.
+pub fn tell_unopened<E: Sink>(alloc: Global, no_memory: &str, file: &str, faults: &mut E) -> u8
+    requires { HasRoom (E.failed faults.old) }
+    ensures status { (result ≡ 5) ⊎ (result ≡ 4) }
+    ensures faults { E.failed faults.new ≤ E.failed faults.old + 1 }
+{
+    match format!(in alloc; "fsr: can't open {file}\n") {
+        Ok(line) => {
+            tell(faults, line.as_str());
+            5
+        }
+        Err(_) => {
+            tell(faults, no_memory);
+            4
+        }
     }
 }

@@ -1,4 +1,5 @@
 pub mod CountLemmas
 pub mod FrontLemmas
+mod LimitLemmas
 pub mod PlaceLemmas
 pub mod StatusLemmas

@@ -6,11 +6,12 @@ use Rattle.fsr_runs.specs.declared.fault.Fault.{Fault}
 use Rattle.history_thinning.specs.declared.thinned.LogAnswer.{LogAnswer}
 use Rattle.history_thinning.specs.declared.thinned.LogAnswer.TheVariants.{Lawful, Unlawful}
 use Rattle.lines_answers.specs.Answers.{IsLinesAnswer, status_of}
+use Rattle.fsr_words.specs.declared.command.Show.{Show}
 
 is_low : (found : LogAnswer) → status_of found ≤ 1
 is_low (Lawful writes) = omega arith
 is_low (Unlawful reason) = omega arith
 
-pub low_lines : (bytes : List ℕ) (r : Result Answer Fault) → GivesReply (IsLinesAnswer bytes) r → HasLowStatus r
-low_lines bytes (Ok a) found = subst (λ (s : ℕ). s ≤ 1) (sym (ap (λ (b : Answer). b.status) found.told)) (is_low found.found)
-low_lines bytes (Err e) refused = search rules
+pub low_lines : (show : Show) (bytes : List ℕ) (r : Result Answer Fault) → GivesReply (IsLinesAnswer show bytes) r → HasLowStatus r
+low_lines show bytes (Ok a) found = subst (λ (s : ℕ). s ≤ 1) (sym (ap (λ (b : Answer). b.status) found.told)) (is_low found.found)
+low_lines show bytes (Err e) refused = search rules

@@ -9,28 +9,32 @@ use Rattle.history_thinning.specs.declared.thinned.LogAnswer.TheVariants.{Lawful
 use Rattle.lines_log.specs.Faults.{IsLinesFault}
 use Rattle.lines_log.specs.Logs.{IsLinesLog}
 use Rattle.lines_log.specs.declared.lines_log.LinesLog.{LinesLog}
-use Rattle.lines_answers.specs.Text.{lines_text}
+use Rattle.fsr_words.specs.declared.command.Show.{Show}
+use Rattle.lines_answers.specs.Limits.{IsCounted}
+use Rattle.lines_answers.specs.Text.{shown_text}
 
 abbrev pub status_of : LogAnswer → ℕ
 status_of (Lawful writes) = 0
 status_of (Unlawful reason) = 1
 
 -- the text of what was found, with its status
-abbrev pub printed : List ℕ → LinesLog → LogAnswer → Answer
-printed bytes read found = record { text = lines_text bytes read found; status = status_of found }
+abbrev pub printed : Show → List ℕ → LinesLog → ℕ → LogAnswer → Answer
+printed show bytes read most found = record { text = shown_text show bytes read most found; status = status_of found }
 
 -- what was found of the whole log that the bytes stand for: a lawful order of it, or that there is none, with a reason, whose operations
--- are kept
-pub record Found (bytes : List ℕ) (answer : Answer) : Type 0 where
+-- are kept; and of a log that is unlawful by its limit how many writes can stand before the first refused write
+pub record Found (show : Show) (bytes : List ℕ) (answer : Answer) : Type 0 where
   pub log : List (Op ℕ)
   pub read : LinesLog
   pub found : LogAnswer
   pub is : IsLinesLog bytes log read
   pub answered : IsThinnedAnswer (unwrap_or is.head.limit 1) log found
   pub named : IsOfKept read.thinned.places found
-  pub told : answer ≡ printed bytes read found
+  pub most : ℕ
+  pub counted : IsCounted (unwrap_or is.head.limit 1) log found most
+  pub told : answer ≡ printed show bytes read most found
 
 -- the answer to the bytes of a log in lines
-abbrev pub IsLinesAnswer : List ℕ → Result Answer Fault → Type 0
-IsLinesAnswer bytes (Ok answer) = Found bytes answer
-IsLinesAnswer bytes (Err f) = IsLinesFault bytes f
+abbrev pub IsLinesAnswer : Show → List ℕ → Result Answer Fault → Type 0
+IsLinesAnswer show bytes (Ok answer) = Found show bytes answer
+IsLinesAnswer show bytes (Err f) = IsLinesFault bytes f

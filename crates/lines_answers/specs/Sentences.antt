@@ -51,14 +51,15 @@ crossed_text thinned a b c d =
     codes "Each of two records has to stand before the other: " ++ apart_text thinned a b ++ codes "; " ++ apart_text thinned c d
     ++ codes ".\n"
 
-abbrev pub limit_text : Thinned → ℕ → List ℕ
-limit_text thinned refused =
-    number_text (codes "In every order fewer writes than the limit of ") (limit_of thinned)
-    ++ number_text (codes " stand before line ") (line_at refused) ++ codes " or a refused write in front of it.\n"
+-- so many writes can stand before the first refused write
+abbrev pub limit_text : Thinned → ℕ → ℕ → List ℕ
+limit_text thinned most refused =
+    number_text (codes "Of the writes at most ") most ++ number_text (codes " can stand before line ") (line_at refused)
+    ++ number_text (codes " or a refused write in front of it, and the limit is ") (limit_of thinned) ++ codes ".\n"
 
-abbrev pub sentence_text : Thinned → Reason → List ℕ
-sentence_text thinned (Unwritten read) = unwritten_text read
-sentence_text thinned (Early read write) = early_text thinned read write
-sentence_text thinned (Stale before read) = stale_text thinned before read
-sentence_text thinned (Crossed a b c d) = crossed_text thinned a b c d
-sentence_text thinned (Limit refused) = limit_text thinned refused
+abbrev pub sentence_text : Thinned → ℕ → Reason → List ℕ
+sentence_text thinned most (Unwritten read) = unwritten_text read
+sentence_text thinned most (Early read write) = early_text thinned read write
+sentence_text thinned most (Stale before read) = stale_text thinned before read
+sentence_text thinned most (Crossed a b c d) = crossed_text thinned a b c d
+sentence_text thinned most (Limit refused) = limit_text thinned most refused

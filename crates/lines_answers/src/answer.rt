@@ -4,36 +4,41 @@ ghost use Rattle.history_core.specs.declared.history.Op.{Op};
 ghost use Rattle.history_thinning.specs.Answers.{IsThinnedAnswer, IsOfKept};
 ghost use Rattle.history_thinning.specs.Thinnings.{IsThinnedLog};
 ghost use Rattle.lines_answers.specs.Answers.{IsLinesAnswer, printed, status_of};
+ghost use Rattle.lines_answers.specs.Limits.{IsCounted};
 
-use crate::text::lines_text;
+use crate::limit::counted;
+use crate::text::shown_text;
 use fsr_runs::{Answer, Fault};
+use fsr_words::Show;
 use history_core::Items;
 use history_thinning::{LogAnswer, search_thinned};
 use lines_log::{LinesLog, read_lines};
 use std::alloc::{AllocError, Global};
 
 /// The answer of the command `order` to the bytes of a log in lines.
-pub fn order_lines(alloc: Global, bytes: &[u8]) -> Result<Answer, Fault>
-    ensures gives { GivesReply (IsLinesAnswer bytes.now) result }
+pub fn order_lines(alloc: Global, show: Show, bytes: &[u8]) -> Result<Answer, Fault>
+    ensures gives { GivesReply (IsLinesAnswer show bytes.now) result }
     ensures low { HasLowStatus result }
 {
     let log = match read_lines(alloc, bytes) {
         Ok(log) => log,
         Err(fault) => return Err(fault),
     };
-    match answer_log(alloc, bytes, &log) {
+    match answer_log(alloc, show, bytes, &log) {
         Ok(answer) => Ok(answer),
         Err(_) => Err(Fault::NoMemory),
     }
 }
 
 /// What a search finds, printed.
-fn answer_log(alloc: Global, bytes: &[u8], log: &LinesLog) -> Result<Answer, AllocError>
+fn answer_log(alloc: Global, show: Show, bytes: &[u8], log: &LinesLog) -> Result<Answer, AllocError>
     ensures { IfOk result (λ answer. (limit : ℕ) (ops : List (Op ℕ)) → IsThinnedLog limit ops log.now.thinned →
-        (found : LogAnswer) × IsThinnedAnswer limit ops found × IsOfKept log.now.thinned.places found × (answer ≡ printed bytes.now log.now found)) }
+        (found : LogAnswer) × (most : ℕ) × IsThinnedAnswer limit ops found × IsOfKept log.now.thinned.places found ×
+        IsCounted limit ops found most × (answer ≡ printed show bytes.now log.now most found)) }
 {
     let found = search(alloc, log)?;
-    print(alloc, bytes, log, &found)
+    let most = counted(alloc, &log.thinned, &found)?;
+    print(alloc, show, bytes, log, most, &found)
 }
 
 fn search(alloc: Global, log: &LinesLog) -> Result<LogAnswer, AllocError>
@@ -49,13 +54,15 @@ fn search(alloc: Global, log: &LinesLog) -> Result<LogAnswer, AllocError>
 /// The lines of what was found, with its status.
 fn print(
     alloc: Global,
+    show: Show,
     bytes: &[u8],
     log: &LinesLog,
+    most: u64,
     found: &LogAnswer,
 ) -> Result<Answer, AllocError>
-    ensures { IfOk result (λ answer. answer ≡ printed bytes.now log.now found.now) }
+    ensures { IfOk result (λ answer. answer ≡ printed show bytes.now log.now most found.now) }
 {
-    let text = lines_text(alloc, bytes, log, found)?;
+    let text = shown_text(alloc, show, bytes, log, most, found)?;
     let status = status_of(found);
     Ok(Answer {
         text: Items::new(text),

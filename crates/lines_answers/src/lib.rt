@@ -4,8 +4,10 @@
 mod answer;
 mod kind;
 pub mod laws;
+mod limit;
 mod named;
 mod sentence;
+mod small;
 mod text;
 
 pub use answer::order_lines;

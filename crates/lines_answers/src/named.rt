@@ -1,11 +1,13 @@
 //! Which of the kept operations a reason names.
-ghost use Rattle.std.specs.Prelude.{◌≡◌, ◌==◌, nat_eq, slice_get};
+ghost use Rattle.std.specs.Prelude.{◌≡◌, ◌==◌, nat_eq, slice_get, IfOk};
 ghost use Rattle.std.specs.List.{list_any, position};
 ghost use Rattle.lines_answers.specs.KeptAt.{kept_at};
-ghost use Rattle.lines_answers.specs.Text.{in_kept, is_item, is_named, is_named_next, is_next, next_of, same_item, writes_one_of};
+ghost use Rattle.lines_answers.specs.Named.{in_kept, is_item, is_named, places_of, same_item, writes_one_of};
+ghost use Rattle.lines_answers.specs.Text.{is_named_next, is_next, next_of};
 
 use history_core::{Kind, Op};
 use history_search::Reason;
+use std::alloc::{AllocError, Global};
 
 /// A reason by the kept operations, which are at these places of the log.
 pub(crate) fn in_kept(places: &[usize], reason: Reason) -> Reason
@@ -32,6 +34,19 @@ pub(crate) fn in_kept(places: &[usize], reason: Reason) -> Reason
         Reason::Limit { refused } => Reason::Limit {
             refused: kept_at(places, refused),
         },
+    }
+}
+
+/// The places that a reason names.
+pub(crate) fn places_of(alloc: Global, reason: Reason) -> Result<Vec<usize>, AllocError>
+    ensures { IfOk result (λ places. places.items ≡ places_of reason) }
+{
+    match reason {
+        Reason::Unwritten { read } => Vec::from_slice(alloc, &[read]),
+        Reason::Early { read, write } => Vec::from_slice(alloc, &[read, write]),
+        Reason::Stale { before, read } => Vec::from_slice(alloc, &[before, read]),
+        Reason::Crossed { a, b, c, d } => Vec::from_slice(alloc, &[a, b, c, d]),
+        Reason::Limit { refused } => Vec::from_slice(alloc, &[refused]),
     }
 }
 
@@ -82,7 +97,7 @@ pub(crate) fn next_of(places: &[usize], next: usize, place: usize) -> usize
 }
 
 /// Whether a kept operation is one of these, or the write of the record of one.
-fn is_named(ops: &[Op<usize>], places: &[usize], place: usize) -> bool
+pub(crate) fn is_named(ops: &[Op<usize>], places: &[usize], place: usize) -> bool
     ensures { result ≡ is_named ops.now places.now place }
 {
     is_one_of(places, place) || writes_one_of(ops, places, ops.get(place).copied())

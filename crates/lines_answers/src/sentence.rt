@@ -14,16 +14,17 @@ use std::alloc::AllocError;
 pub(crate) fn push_sentence(
     text: &mut Vec<u8>,
     thinned: &Thinned,
+    most: u64,
     reason: Reason,
 ) -> Result<(), AllocError>
-    ensures { OnOk result (text.new.items ≡ text.old.items ++ sentence_text thinned.now reason) }
+    ensures { OnOk result (text.new.items ≡ text.old.items ++ sentence_text thinned.now most reason) }
 {
     match reason {
         Reason::Unwritten { read } => push_unwritten(text, read),
         Reason::Early { read, write } => push_early(text, thinned, read, write),
         Reason::Stale { before, read } => push_stale(text, thinned, before, read),
         Reason::Crossed { a, b, c, d } => push_crossed(text, thinned, a, b, c, d),
-        Reason::Limit { refused } => push_limit(text, thinned, refused),
+        Reason::Limit { refused } => push_limit(text, thinned, most, refused),
     }
 }
 
@@ -86,17 +87,22 @@ fn push_crossed(
     text.extend_from_slice(b".\n")
 }
 
-#[tactic(auto, unfolding(crate::specs::Sentences::limit_text), using(std::proofs::Common::append_assoc))]
-fn push_limit(text: &mut Vec<u8>, thinned: &Thinned, refused: usize) -> Result<(), AllocError>
-    ensures { OnOk result (text.new.items ≡ text.old.items ++ limit_text thinned.now refused) }
+fn push_limit(
+    text: &mut Vec<u8>,
+    thinned: &Thinned,
+    most: u64,
+    refused: usize,
+) -> Result<(), AllocError>
+    ensures { OnOk result (text.new.items ≡ text.old.items ++ limit_text thinned.now most refused) }
 {
+    push_u64(text, "Of the writes at most ", most)?;
+    push_line_of(text, " can stand before line ", refused)?;
     push_u64(
         text,
-        "In every order fewer writes than the limit of ",
+        " or a refused write in front of it, and the limit is ",
         limit_of(thinned),
     )?;
-    push_line_of(text, " stand before line ", refused)?;
-    text.extend_from_slice(b" or a refused write in front of it.\n")
+    push_words(text, ".\n")
 }
 
 /// One operation had ended when the other began.
@@ -110,13 +116,13 @@ fn push_apart(text: &mut Vec<u8>, thinned: &Thinned, a: usize, b: usize) -> Resu
     push_u64(text, " began at ", begin_at(thinned, b))
 }
 
-fn push_words(text: &mut Vec<u8>, words: &str) -> Result<(), AllocError>
+pub(crate) fn push_words(text: &mut Vec<u8>, words: &str) -> Result<(), AllocError>
     ensures { OnOk result (text.new.items ≡ text.old.items ++ words.now) }
 {
     text.extend_from_slice(words.as_bytes())
 }
 
-fn push_line_of(text: &mut Vec<u8>, words: &str, place: usize) -> Result<(), AllocError>
+pub(crate) fn push_line_of(text: &mut Vec<u8>, words: &str, place: usize) -> Result<(), AllocError>
     ensures { OnOk result (text.new.items ≡ text.old.items ++ number_text words.now (line_at place)) }
 {
     let line = line_of(place)?;
@@ -124,7 +130,7 @@ fn push_line_of(text: &mut Vec<u8>, words: &str, place: usize) -> Result<(), All
 }
 
 #[tactic(auto, using(std::proofs::Common::append_assoc))]
-fn push_u64(text: &mut Vec<u8>, words: &str, number: u64) -> Result<(), AllocError>
+pub(crate) fn push_u64(text: &mut Vec<u8>, words: &str, number: u64) -> Result<(), AllocError>
     ensures { OnOk result (text.new.items ≡ text.old.items ++ number_text words.now number) }
 {
     let mut buffer = Buffer::new();
@@ -158,7 +164,7 @@ fn begin_at(thinned: &Thinned, place: usize) -> u64
 }
 
 /// The limit of the one term.
-fn limit_of(thinned: &Thinned) -> u64
+pub(crate) fn limit_of(thinned: &Thinned) -> u64
     ensures { result ≡ limit_of thinned.now }
 {
     match thinned.history.terms.as_slice().get(0) {

@@ -1,12 +1,16 @@
 //! The printed lines.
 ghost use Rattle.std.specs.Prelude.{◌≡◌, ◌++◌, IfOk, OnOk};
 ghost use Rattle.std.specs.Fmt.{decimal};
-ghost use Rattle.lines_answers.specs.Text.{body_of, count_text, counts_text, in_lines, line_text, lines_text, named_text, places_of, unlawful_text, verdict_text};
+ghost use Rattle.lines_answers.specs.Sentences.{number_text};
+ghost use Rattle.lines_answers.specs.Text.{body_of, count_text, counts_text, in_lines, lawful_text, line_text, lines_text, named_text, shown_text, unlawful_text, verdict_text, write_lines, writes_text};
+ghost use Rattle.lines_log.specs.Faults.{line_at};
 ghost use Rattle.lines_tables.specs.Splits.{lines_of};
 ghost use Rattle.log_search.specs.Text.{reason_text};
 
-use crate::named::{in_kept, is_named_next, next_of};
-use crate::sentence::push_sentence;
+use crate::named::{in_kept, is_named_next, next_of, places_of};
+use crate::sentence::{push_line_of, push_sentence};
+use crate::small::small_text;
+use fsr_words::Show;
 use history_core::Op;
 use history_search::{Reason, Search};
 use history_thinning::{LogAnswer, Thinned};
@@ -17,31 +21,82 @@ use log_search::search_text;
 use std::alloc::{AllocError, Global};
 
 /// All that is printed of what was found.
-pub(crate) fn lines_text(
+pub(crate) fn shown_text(
     alloc: Global,
+    show: Show,
     bytes: &[u8],
     log: &LinesLog,
+    most: u64,
     found: &LogAnswer,
 ) -> Result<Vec<u8>, AllocError>
-    ensures { IfOk result (λ text. text.items ≡ lines_text bytes.now log.now found.now) }
+    ensures { IfOk result (λ text. text.items ≡ shown_text show bytes.now log.now most found.now) }
 {
-    let mut text = verdict_text(alloc, bytes, &log.thinned, found)?;
+    if show.small {
+        small_text(alloc, &log.thinned, found)
+    } else {
+        lines_text(alloc, show.order, bytes, log, most, found)
+    }
+}
+
+/// The answer.
+fn lines_text(
+    alloc: Global,
+    order: bool,
+    bytes: &[u8],
+    log: &LinesLog,
+    most: u64,
+    found: &LogAnswer,
+) -> Result<Vec<u8>, AllocError>
+    ensures { IfOk result (λ text. text.items ≡ lines_text order bytes.now log.now most found.now) }
+{
+    let mut text = verdict_text(alloc, order, bytes, &log.thinned, most, found)?;
     push_counts(&mut text, log.ops, log.unfinished, log.records)?;
     Ok(text)
 }
 
 fn verdict_text(
     alloc: Global,
+    order: bool,
     bytes: &[u8],
     thinned: &Thinned,
+    most: u64,
     found: &LogAnswer,
 ) -> Result<Vec<u8>, AllocError>
-    ensures { IfOk result (λ text. text.items ≡ verdict_text bytes.now thinned.now found.now) }
+    ensures { IfOk result (λ text. text.items ≡ verdict_text order bytes.now thinned.now most found.now) }
 {
     match found {
-        LogAnswer::Lawful { .. } => Vec::from_slice(alloc, b"lawful\n"),
-        LogAnswer::Unlawful { reason } => unlawful_text(alloc, bytes, thinned, *reason),
+        LogAnswer::Lawful { writes } => lawful_text(alloc, order, writes.as_slice()),
+        LogAnswer::Unlawful { reason } => unlawful_text(alloc, bytes, thinned, most, *reason),
     }
+}
+
+fn lawful_text(alloc: Global, order: bool, writes: &[usize]) -> Result<Vec<u8>, AllocError>
+    ensures { IfOk result (λ text. text.items ≡ lawful_text order writes.now) }
+{
+    let mut text = Vec::from_slice(alloc, b"lawful\n")?;
+    if order {
+        push_writes(&mut text, writes)?;
+    }
+    Ok(text)
+}
+
+/// The lines of the writes, in the order that was found.
+#[tactic(auto, using(std::proofs::Common::append_assoc))]
+fn push_writes(text: &mut Vec<u8>, writes: &[usize]) -> Result<(), AllocError>
+    ensures { OnOk result (text.new.items ≡ text.old.items ++ writes_text writes.now) }
+{
+    text.extend_from_slice(b"writes:")?;
+    push_write_lines(text, writes)?;
+    text.extend_from_slice(b"\n")
+}
+
+fn push_write_lines(text: &mut Vec<u8>, writes: &[usize]) -> Result<(), AllocError>
+    ensures { OnOk result (text.new.items ≡ text.old.items ++ write_lines writes.now) }
+{
+    for place in writes {
+        push_line_of(text, " ", *place)?;
+    }
+    Ok(())
 }
 
 #[tactic(auto, using(std::proofs::Common::append_assoc))]
@@ -49,16 +104,17 @@ fn unlawful_text(
     alloc: Global,
     bytes: &[u8],
     thinned: &Thinned,
+    most: u64,
     reason: Reason,
 ) -> Result<Vec<u8>, AllocError>
-    ensures { IfOk result (λ text. text.items ≡ unlawful_text bytes.now thinned.now reason) }
+    ensures { IfOk result (λ text. text.items ≡ unlawful_text bytes.now thinned.now most reason) }
 {
     let ops = thinned.history.ops.as_slice();
     let places = thinned.places.as_slice();
     let mut text = reason_text(alloc, reason)?;
     let named = places_of(alloc, in_kept(places, reason))?;
     push_named(&mut text, body_of(bytes), ops, places, named.as_slice())?;
-    push_sentence(&mut text, thinned, reason)?;
+    push_sentence(&mut text, thinned, most, reason)?;
     Ok(text)
 }
 
@@ -94,18 +150,6 @@ fn in_lines(reason: Reason) -> Result<Reason, AllocError>
             refused: line_of(refused)?,
         },
     })
-}
-
-fn places_of(alloc: Global, reason: Reason) -> Result<Vec<usize>, AllocError>
-    ensures { IfOk result (λ places. places.items ≡ places_of reason) }
-{
-    match reason {
-        Reason::Unwritten { read } => Vec::from_slice(alloc, &[read]),
-        Reason::Early { read, write } => Vec::from_slice(alloc, &[read, write]),
-        Reason::Stale { before, read } => Vec::from_slice(alloc, &[before, read]),
-        Reason::Crossed { a, b, c, d } => Vec::from_slice(alloc, &[a, b, c, d]),
-        Reason::Limit { refused } => Vec::from_slice(alloc, &[refused]),
-    }
 }
 
 /// The lines behind the header.
