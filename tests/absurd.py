@@ -3,15 +3,15 @@ takes 15 to 30 processor seconds, and there are dozens.
 
     absurd.py [--headline N] [--definition NAME] [--max N] [--list]
 
-A definition could be hollowed out where nobody looks: `7 < 0 →` before a part of it makes that part say nothing. The definitions are
-those of the reading sets of docs/HEADLINES.md that are propositions: records, of which each field's type is taken, and abbreviations, of
-which each equation is. A conjunct is what stands between two × behind the last arrow, also in a λ. What is data isn't one, nor is `Unit`.
-Of a proposition with constructors each premise of these is one.
-The edits are made in a copy of headline_uses and of what it stands on, which leaves out all functions but its laws, so that a check takes
-seconds. Each edit has a number of its own in its premise. All are tried at once, and those are refused whose premise an error names; the
-others are tried again. Where none is named, those are tried alone whose definition an error names, and else halves; alone any error
-refuses. An edit with which its own file isn't well typed says nothing and is told as such. An edit of a crate on which headline_uses
-doesn't stand isn't tried. The edits that get through are printed at the end. Status 1 if there is one, 2 if nothing could be tried.
+A definition could be hollowed out where nobody looks: `7 < 0 →` before a part of it makes that part say nothing. The definitions are those
+of the reading sets of docs/HEADLINES.md that are propositions: records, of which each field's type is taken, and abbreviations, of which
+each equation is. A conjunct is what stands between two × behind the last arrow, also in a λ. What is data isn't one, nor is `Unit`. Of a
+proposition with constructors each premise of these is one. The edits are made in a copy of headline_uses and of what it stands on, which
+leaves out all functions but its laws, so that a check takes seconds. Each edit has a number of its own in its premise. All are tried at
+once, and those are refused whose premise an error names; the others are tried again. Where none is named, those are tried alone whose
+definition an error names, and else halves; alone any error refuses. An edit with which its own file isn't well typed says nothing and is
+told as such. An edit of a crate on which headline_uses doesn't stand isn't tried. The edits that get through are printed at the end. Status
+1 if there is one, 2 if nothing could be tried.
 
 --list prints the edits and tries none. RT_JOBS=N tries N batches side by side, else one.
 """
@@ -32,8 +32,6 @@ import headlines
 TOP = Path(__file__).resolve().parent.parent
 LESS = "use Rattle.std.specs.Prelude.{◌<◌}"
 USES = "headline_uses"
-# How many edits are tried at once.
-SIZE = 1000
 PROVED = r"(?m)^only=(\d+) proved=\1$"
 # Where an item of src/ begins that has code, and the names of a use that are types or constants.
 CODE = re.compile(r"(?:pub(?:\([\w:]+\))? )?(?:const )?(?:unsafe )?(?:extern \"C\" )?fn |impl\b")
@@ -433,7 +431,7 @@ def try_all(edits, room, jobs):
             benches.put(bench)
 
     with concurrent.futures.ThreadPoolExecutor(jobs) as workers:
-        for found in workers.map(settled, batches(edits, SIZE)):
+        for found in workers.map(settled, batches(edits, -(-len(edits) // jobs))):
             ends.update(found)
     return ends
 
