@@ -180,8 +180,8 @@ where
     );
 }
 
-/// Runs both tasks until each has taken 1,000 turns or more. Then the sensor's receipt says "no older than this", and the control loop's next
-/// answer isn't. Gives the number of the last sample that was written, and this answer.
+/// Runs both tasks until each has taken 1,000 turns or more. Then the sensor's receipt says "no older than this", and the control loop's
+/// next answer isn't. Gives the number of the last sample that was written, and this answer.
 fn told<R: Threads + Wait + Sync + Copy + Send + 'static, C: Cell<Sample>>(
     rt: R,
     alloc: Global,

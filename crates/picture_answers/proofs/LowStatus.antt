@@ -19,7 +19,8 @@ low_finding (Broken broken) = omega arith
 low_finding (NoOrder reason) = omega arith
 
 low_drawn : (scene : Scene) (a : Answer) → a ≡ drawn scene → a.status ≤ 1
-low_drawn scene a is_drawn = let same : a.status ≡ status_of (exit_of scene.finding) = ap (λ b. b.status) is_drawn in rw same (low_finding scene.finding)
+low_drawn scene a is_drawn = let same : a.status ≡ status_of (exit_of scene.finding) = ap (λ b. b.status) is_drawn in
+    rw same (low_finding scene.finding)
 
 low_reading : (d : Result Shown DocError) (a : Answer) → AnswersReading Answers d (Ok a) → a.status ≤ 1
 low_reading (Ok (shown.Check document)) a answered = low_drawn answered.0 a answered.2

@@ -3,7 +3,8 @@
 ghost use Rattle.std.specs.Prelude.{◌≡◌, [], IfOk};
 ghost use Rattle.matrix_core.specs.Runs.{CanPlay};
 ghost use Rattle.picture_shapes.specs.declared.shape.lanes.Lanes.TheVariants.{Actors};
-ghost use Rattle.picture_answers.specs.Scenes.{ArePointsOf, finding_of, IsSceneOf, ShowsBoard, ShowsCell, ShowsCheck, ShowsLog, ShowsMatrix};
+ghost use Rattle.picture_answers.specs.Scenes.{ArePointsOf, finding_of, IsSceneOf, ShowsBoard, ShowsCell, ShowsCheck, ShowsLog};
+ghost use Rattle.picture_answers.specs.Scenes.{ShowsMatrix};
 
 use four_slot_core::{CellReport, CellSchedule};
 use history_core::{Band, History, Items};

@@ -25,6 +25,7 @@ returns-clause-second g c =
     let get = c.read-second.new.get in
     let kept : calls.heard get ≡ before ++ told ∷ [] = c.read-second.ensures.heeds.0 ∙ (c.read-first.ensures.heeds.0
     ∙ (c.learn.ensures.heard ∙ ap (λ z. before ++ z ∷ []) c.tell-receipt.ensures.tells)) in
-    no_older (calls.opening c.args.cell.now) c.read-second.result (calls.heard get) (length before) _ _ _ _ _ _ c.read-second.ensures.heeds.1
+    no_older (calls.opening c.args.cell.now) c.read-second.result (calls.heard get) (length before) _ _ _ _ _
+    _ c.read-second.ensures.heeds.1
     c.read-second.ensures.numbered (calls.written c.args.put.now) (calls.put_times c.args.put.now)
     (learnt_last before (calls.heard get) told kept)
