@@ -1,5 +1,6 @@
 # Words that are no command: those that are not UTF-8 have a line of their own, and a standard error that takes nothing leaves
-# the status at 2. What clap tells of a command. The runs of `picture` outside its text, which are told as those of `fsr`.
+# the status at 2. What clap tells of a command. Files that are named, and what `order` is told to print. The runs of `picture` outside its
+# text, which are told as those of `fsr`.
 
 # Runs `fsr` with these words. Standard error goes to the file named first.
 refuses_words() {
@@ -56,14 +57,17 @@ refuses_unread error: checks
 refuses_unread error: --version
 refuses_unread error: check check
 refuses_unread error: check -x
-refuses_unread error: play w
+refuses_unread error: check examples/lawful.json examples/lawful.json
+refuses_unread error: check --order
+refuses_unread error: order --ordr
+refuses_unread error: order --order --order
 refuses_unread 'Reads a document' help
 refuses_unread 'Reads a document' -h
 refuses_unread 'Reads a document' --help
 refuses_unread 'Checks that' check --help
 
 # Sees that `fsr` tells this first line of a command, and how it is used.
-#   helps COMMAND LINE
+#   helps COMMAND LINE WORDS
 helps() {
     title="fsr $1 --help"
     if ! has_program fsr; then
@@ -74,17 +78,118 @@ helps() {
     status=$?
     if [ "$status" != 2 ] || [ -s "$room/out" ]; then
         fail "$title" "it ended with status $status and not 2, or something stands on standard output"
-    elif [ "$(head -n 1 "$room/err")" != "$2" ] || ! grep -qx "Usage: fsr $1" "$room/err"; then
+    elif [ "$(head -n 1 "$room/err")" != "$2" ] || ! grep -qx "Usage: fsr $1 $3" "$room/err"; then
         fail "$title" "$(head -c 200 "$room/err")"
     else
         pass "$title"
     fi
 }
 
-helps check "Checks that an order of a history is atomic"
-helps order "Finds a lawful order of a log, or tells why there is none"
-helps play "Plays a schedule and reports its history"
-helps race "Runs tasks over a board and checks their logs"
+helps check "Checks that an order of a history is atomic" "[FILE]"
+helps order "Finds a lawful order of a log, or tells why there is none" "[OPTIONS] [FILE]"
+helps play "Plays a schedule and reports its history" "[FILE]"
+helps race "Runs tasks over a board and checks their logs" "[FILE]"
+
+title="the formats in fsr --help"
+if has_program fsr && "$built/fsr/out/fsr" --help 2>&1 </dev/null | grep -q '^  order .*`lines`.*`log`'; then
+    pass "$title"
+else
+    fail "$title" "it doesn't name what order reads"
+fi
+
+# Sees that `fsr` ends with this status and has what stands in $room/wanted on this stream and nothing on the other. Its input is a folder,
+# of which each read fails.
+#   ends_fsr STATUS STREAM WORDS..
+ends_fsr() {
+    wanted_status=$1 stream=$2 other=err
+    shift 2
+    [ "$stream" = out ] || other=out
+    title="fsr $(echo "$*" | sed "s|$room/||g")"
+    if ! has_program fsr; then
+        fail "$title" "fsr wasn't built"
+        return
+    fi
+    "$built/fsr/out/fsr" "$@" <examples >"$room/out" 2>"$room/err"
+    status=$?
+    if [ "$status" = "$wanted_status" ] && cmp -s "$room/$stream" "$room/wanted" && [ ! -s "$room/$other" ]; then
+        pass "$title"
+    else
+        fail "$title" "it ended with status $status and not $wanted_status: $(head -c 300 "$room/out" "$room/err")"
+    fi
+}
+
+# Of a file that is named the answer is what it is of the same bytes on standard input.
+#   reads_file COMMAND FILE
+reads_file() {
+    cp "${2%.json*}.txt" "$room/wanted"
+    wanted_status=0
+    [ ! -f "${2%.json*}.status" ] || wanted_status=$(cat "${2%.json*}.status")
+    if [ "$wanted_status" -ge 2 ]; then ends_fsr "$wanted_status" err "$1" "$2"; else ends_fsr "$wanted_status" out "$1" "$2"; fi
+}
+
+reads_file check examples/lawful.json
+reads_file check examples/unlawful.json
+reads_file order examples/crossed.json
+reads_file order examples/lines.jsonl
+reads_file order examples/lines_early.jsonl
+reads_file order examples/lines_touching.jsonl
+reads_file play examples/cell.json
+reads_file race examples/race.json
+echo "fsr: can't open $room/nowhere" >"$room/wanted"
+ends_fsr 5 err order "$room/nowhere"
+ends_fsr 5 err check "$room/nowhere"
+echo "fsr: read failed" >"$room/wanted"
+ends_fsr 5 err order examples
+
+# Line 3 ended before line 2 began, so its record stands first.
+cat >"$room/turned.jsonl" <<'LOG'
+{"kind":"lines","opening":0}
+{"who":0,"kind":"write","begin":10,"end":20,"record":2}
+{"who":1,"kind":"write","begin":0,"end":5,"record":1}
+{"who":2,"kind":"read","begin":6,"end":7,"record":1}
+LOG
+printf 'lawful\nwrites: 3 2\n3 operations, 0 unfinished, 3 records\n' >"$room/wanted"
+ends_fsr 0 out order --order "$room/turned.jsonl"
+: >"$room/wanted"
+ends_fsr 0 out order --small "$room/turned.jsonl"
+ends_fsr 0 out order --order --small "$room/turned.jsonl"
+# The read of the opening is behind the write of line 2. That of line 4 has no part in it.
+cat >"$room/stale.jsonl" <<'LOG'
+{"kind":"lines","opening":0}
+{"who":40,"kind":"write","begin":0,"end":4,"record":7}
+{"who":7,"kind":"read","begin":6,"end":8,"record":[0]}
+{"who":7,"kind":"write","begin":20,"end":21,"record":9}
+LOG
+cat >"$room/wanted" <<'DOCUMENT'
+{"kind":"log","opening":[0,0,0],"limit":1,"ops":[
+ {"who":0,"kind":"write","begin":0,"end":4,"record":[1,1,1]},
+ {"who":1,"kind":"read","begin":6,"end":8,"record":[0,0,0]}]}
+DOCUMENT
+ends_fsr 1 out order --small "$room/stale.jsonl"
+cp "$room/out" "$room/small.json"
+echo 'unlawful stale 0 1' >"$room/wanted"
+ends_fsr 1 out order "$room/small.json"
+title="a picture of a small log"
+if has_program picture && "$built/picture/out/picture" <"$room/small.json" >"$room/out" 2>"$room/err" && grep -q 'unlawful stale' "$room/out"; then
+    pass "$title"
+else
+    fail "$title" "$(head -c 200 "$room/err")"
+fi
+# The write of line 4 begins when the refused one has ended, so that of line 2 alone can stand before it.
+cat >"$room/limit.jsonl" <<'LOG'
+{"kind":"lines","opening":0,"limit":3}
+{"who":0,"kind":"write","begin":0,"end":1,"record":1}
+{"who":1,"kind":"refused","begin":2,"end":3,"record":1}
+{"who":0,"kind":"write","begin":5,"end":6,"record":2}
+LOG
+cat >"$room/wanted" <<'REASON'
+unlawful limit 3
+line 2: {"who":0,"kind":"write","begin":0,"end":1,"record":1}
+line 3: {"who":1,"kind":"refused","begin":2,"end":3,"record":1}
+Of the writes at most 1 can stand before line 3 or a refused write in front of it, and the limit is 3.
+3 operations, 0 unfinished, 3 records
+REASON
+ends_fsr 1 out order "$room/limit.jsonl"
 
 # Sees how `picture` ends with these words: the status, and the line on standard error.
 #   ends_picture TITLE INPUT OUTPUT STATUS LINE WORDS..
@@ -133,7 +238,9 @@ done
 # beside the line.
 catches "words that are a command" "status 0 and not 2" refuses_words "$room/err" a check
 catches "another beginning" "it ended with status 2" refuses_unread 'Writes a document' help
-catches "another first line" "Checks that an order" helps check "Checks that no order of a history is atomic"
+printf 'lawful\nwrites: 2 3\n3 operations, 0 unfinished, 3 records\n' >"$room/wanted"
+catches "another order of the writes" "status 0 and not 0" ends_fsr 0 out order --order "$room/turned.jsonl"
+catches "another first line" "Checks that an order" helps check "Checks that no order of a history is atomic" "[FILE]"
 catches "a picture that is drawn" "status 0 and not 2" ends_picture a examples/lawful.json "$room/drawn" 2 "$no_words"
 make_stub picture <<'STUB'
 echo more; echo 'picture: read failed' >&2; exit 5

@@ -115,7 +115,7 @@ def read(data):
     lines = data.split(b"\n")
     if lines[-1] == b"":
         lines.pop()
-    header = value_of(lines[0], 1)
+    header = header_of(lines[0])
     opening = record_of(asked(header, "opening", 1))
     if opening is None:
         raise Fault("line 1: shape of opening")
@@ -134,6 +134,14 @@ def read(data):
         take_turn(ops, lasts, number)
         take_write(opening, ops[-1], written, number)
     return opening, limit, ops
+
+
+def header_of(line):
+    """The first line. If it isn't JSON the whole text isn't either, and no log in lines."""
+    try:
+        return documents.read_json(line)
+    except documents.Refused:
+        raise Fault("document: not JSON") from None
 
 
 def take_turn(ops, lasts, number):

@@ -1,5 +1,4 @@
-//! `fsr`: checks an order of a history, finds one of a log, plays a schedule, or runs a race, that comes as a document in a file or on
-//! standard input.
+//! `fsr`: checks an order of a history, finds one of a log, plays a schedule, or runs a race.
 #![tactic(auto)]
 
 use board_live::Posted;

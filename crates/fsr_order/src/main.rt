@@ -1,4 +1,4 @@
-//! `fsr_order`: `fsr order` alone, which is built without what the other commands need.
+//! `fsr_order`: `fsr order` alone, without what the other commands need.
 #![tactic(auto)]
 
 use fsr_order_answers::run;
