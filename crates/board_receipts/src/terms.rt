@@ -1,5 +1,6 @@
 //! Boards in turn.
 ghost use Rattle.std.specs.Prelude.{IfOk};
+ghost use Rattle.board_live.specs.Deals.{OpensWith};
 ghost use Rattle.board_live.specs.Ends.{AllPasses};
 ghost use Rattle.board_receipts.specs.Terms.{GoesOn, TermsJoin};
 
@@ -23,7 +24,8 @@ pub fn renew_after<V: RecordLaw, F: Family<Posted<V>>>(
     limit: u64,
 ) -> Result<(Board<V, F>, Vec<Pass<V, F>>), BoardError>
     requires { AllPasses ⟦<F as Family<Posted<V>>>⟧ V.obeys board passes.items }
-    ensures { IfOk result (λ r. GoesOn ⟦<F as Family<Posted<V>>>⟧ board passes.items r.0) }
+    ensures goes_on { IfOk result (λ r. GoesOn ⟦<F as Family<Posted<V>>>⟧ board passes.items r.0) }
+    ensures opens { (last : Posted V) × OpensWith ⟦<F as Family<Posted<V>>>⟧ V.obeys n limit last.item result }
 {
     let last = board.finish(passes);
     let made = Board::renew(alloc, n, limit, last)?;
