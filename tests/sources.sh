@@ -1,6 +1,7 @@
-# What no contract of the running cells and of their families can refuse, looked for in their sources. Each, and family_table
-# below both families, has one file, table.rt, that touches its table. That file makes just these calls, each with its kind of step: an access that tells the view nothing, a swap where a
-# store belongs, a load with no seat or one more call would be another list. It has no loop. No other file touches the table.
+# What no contract of the running cells and of their families can refuse, looked for in their sources. Each, and family_table below both
+# families, has one file, table.rt, that touches its table. That file makes just these calls, each with its kind of step: an access that
+# tells the view nothing, a swap where a store belongs, a load with no seat or one more call would be another list. It has no loop. No other
+# file touches the table.
 
 # The code of a file: no comments, no clauses, no space.
 code_of() {
