@@ -1,6 +1,6 @@
 # The controls of tests/checks.py, which compares how many checks each script makes with docs/TESTING.md and looks at how they are run: a
 # script that wasn't run, one without a check or with another number, a line `run NAME` that is gone, a script that nobody runs, and two
-# functions of one name. Before them those of how `./test` counts: its own checks, and what another script says of its sums.
+# functions of one name. Before them those of how `./test` counts: its own checks, what another script says of its sums, and the library.
 
 # A run with just the numbers that docs/TESTING.md states.
 stated_numbers() {
@@ -54,6 +54,29 @@ if [ "$told" = '6 6 sh 8 sh 1 true 1 ' ]; then
     pass "planted: another script's failures are counted"
 else
     fail "planted: another script's failures are counted" "$told"
+fi
+
+# The library counts as proved if its build passes and the prover's last line has no other word.
+told=$(
+    said='logic=proved functions=7 axioms=3 target=x86_64-unknown-linux-gnu cpu=x86-64-v2 sum=1f native=nat,char,string logic-built=trusted'
+    said="$said libraries-built=trusted statements=trusted" more= built=0
+    build_over_gate() {
+        echo "$said$more" >&2
+        return $built
+    }
+    {
+        prove_library && whole=yes
+        more=' incremental=trusted'
+        prove_library && worded=yes
+        more= built=1
+        prove_library && unbuilt=yes
+    } >/dev/null
+    echo "${whole:-no} ${worded:-no} ${unbuilt:-no}"
+)
+if [ "$told" = 'yes no no' ]; then
+    pass "planted: a library that isn't proved whole"
+else
+    fail "planted: a library that isn't proved whole" "$told"
 fi
 
 if ! command -v python3 >/dev/null 2>&1; then
