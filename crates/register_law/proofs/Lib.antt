@@ -1,0 +1,3 @@
+pub mod Times
+mod Alone
+mod Falling
