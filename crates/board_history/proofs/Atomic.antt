@@ -8,8 +8,8 @@ use Rattle.std.proofs.lemmas.Option.{same_Some, slice_get_within}
 use Rattle.history_core.specs.declared.history.Op.{Op}
 use Rattle.history_core.specs.Orders.{IsAtomicOrder, Precedes, RefusesLawfully}
 use Rattle.history_core.proofs.Played.{later_operation}
-use Rattle.four_slot_core.specs.ReadNumbers.{IsReadOf}
-use Rattle.four_slot_core.proofs.Pushed.{of_before, to_before}
+use Rattle.register_law.specs.Registers.{intervals, IsReadOf}
+use Rattle.register_law.proofs.Times.{of_before, to_before}
 use Rattle.stamps.specs.declared.stamp.Stamp.{Stamp}
 use Rattle.stamps.specs.declared.stamp.Stamped.{Stamped}
 use Rattle.stamps.specs.Choices.{AllChoose, Choice, Chooses, ChoosesByKind, HasChoices, IsAtMost, IsChoiceOf, IsEarlier, IsFrom, IsIn}
@@ -19,7 +19,7 @@ use Rattle.matrix_core.specs.Listings.{IsInOrder}
 use Rattle.matrix_core.proofs.lines.Others.{other_differs, other_inside, other_reached}
 use Rattle.matrix_core.proofs.lists.Elements.{get_exists}
 use Rattle.matrix_core.proofs.orders.Terms.{term_atomic, term_lawful}
-use Rattle.board_history.specs.BoardRuns.{AreReads, AreWrites, Called, Did, intervals, IsBoardRun, IsRegister, own_before, records, Sees, told}
+use Rattle.board_history.specs.BoardRuns.{AreReads, AreWrites, Called, Did, IsBoardRun, IsRegister, own_before, records, Sees, told}
 use Rattle.board_history.specs.Histories.{IsCall, IsHistory}
 use Rattle.board_history.proofs.Rising.{first_least, greatest_each, greatest_first, greatest_is, own_next, own_rises, own_zero}
 use Rattle.board_history.proofs.Sorts.{sort, sort_in, Strict, strict_sort}

@@ -8,7 +8,7 @@ use Rattle.history_core.proofs.Places.{get_after, get_before, get_last, get_push
 use Rattle.history_core.proofs.Played.{later_operation}
 use Rattle.stamps.specs.declared.stamp.Stamped.{Stamped}
 use Rattle.stamps.specs.Choices.{ChoosesByKind}
-use Rattle.matrix_core.specs.CellAnswers.{greatest}
+use Rattle.stamps.specs.Stamps.{greatest}
 use Rattle.matrix_core.specs.Lines.{other}
 use Rattle.matrix_core.proofs.lists.Elements.{get_exists}
 use Rattle.board_history.specs.Accesses.{HasDoneNothing, IsInterval, MakesCall}

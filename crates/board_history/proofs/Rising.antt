@@ -8,9 +8,8 @@ use Rattle.history_core.specs.declared.history.Kind.TheVariants.{Write, Read, Re
 use Rattle.stamps.specs.declared.stamp.Stamp.{Stamp}
 use Rattle.stamps.specs.declared.stamp.Stamped.{Stamped}
 use Rattle.stamps.specs.Choices.{Choice, ChoosesByKind, IsAtMost}
-use Rattle.stamps.specs.Stamps.{first_stamp, greater, IsBelow}
 use Rattle.stamps.proofs.choices.Stamps.{at_most_trans, greater_first, greater_is, greater_second, stamp_same}
-use Rattle.matrix_core.specs.CellAnswers.{greatest}
+use Rattle.stamps.specs.Stamps.{first_stamp, greater, greatest, IsBelow}
 use Rattle.matrix_core.specs.Lines.{first_record}
 use Rattle.matrix_core.proofs.lists.Elements.{get_exists}
 use Rattle.board_history.specs.BoardRuns.{Called, Did, IsBoardRun, own_before}

@@ -6,8 +6,7 @@ use Rattle.stamps.specs.declared.stamp.Stamped.{Stamped}
 use Rattle.stamps.specs.Choices.{ChoosesByKind}
 use Rattle.history_core.specs.declared.history.Kind.TheVariants.{Write, Read}
 use Rattle.history_core.specs.Schedules.{positions}
-use Rattle.four_slot_core.specs.Accesses.{IsBefore}
-use Rattle.four_slot_core.specs.ReadNumbers.{IsReadOf}
+use Rattle.register_law.specs.Registers.{IsBefore, IsReadOf}
 use Rattle.board_history.specs.BoardRuns.{AreReads, AreWrites, Called, IsBoardRun, IsProcess, IsRegister, own_before, Sees}
 use Rattle.board_history.specs.BoardRuns.{steps_before, steps_of_call, told}
 use Rattle.board_history.proofs.Growing.{not_both}

@@ -3,7 +3,7 @@
 use Rattle.std.specs.Prelude.{◌≡◌, ℕ, ◌+◌, ◌-◌, ◌*◌, ◌<◌, List, [], ◌∷◌, ◌++◌, length, slice_get, Some, true, false}
 use Rattle.stamps.specs.declared.stamp.Stamped.{Stamped}
 use Rattle.stamps.specs.Choices.{ChoosesByKind}
-use Rattle.matrix_core.specs.CellAnswers.{greatest}
+use Rattle.stamps.specs.Stamps.{greatest}
 use Rattle.matrix_core.specs.Lines.{other}
 use Rattle.board_history.specs.BoardRuns.{Answered, Called, Did, own_before, steps_of_call, Written}
 

@@ -1,7 +1,7 @@
 -- A run of a board whose processes make their steps in one time: what each process did, as lists. Each call reads the register of
 -- each other process for it, rising, and chooses; and then it tells what it chose, to the register of each other process, rising, or it
--- doesn't, where it chose the record that its process had before. A register is atomic by its intervals (L. Lamport, On Interprocess Communication, Parts I and II, Distributed Computing 1, 1986); the rules of the matrix are
--- this project's own.
+-- doesn't, where it chose the record that its process had before. Each register is regular by its intervals (L. Lamport, On Interprocess
+-- Communication, Parts I and II, Distributed Computing 1, 1986); the rules of the matrix are this project's own.
 use Rattle.std.specs.Prelude.{◌≡◌, ◌≢◌, ℕ, ◌+◌, ◌-◌, ◌*◌, ◌<◌, ◌≤◌, List, [], ◌∷◌, length, slice_get, Some, zero, suc}
 use Rattle.std.specs.Prelude.{Bool, true, false, if◌then◌else◌}
 use Rattle.history_core.specs.declared.history.Kind.{Kind}
@@ -9,12 +9,8 @@ use Rattle.history_core.specs.Schedules.{positions}
 use Rattle.stamps.specs.declared.stamp.Stamped.{Stamped}
 use Rattle.matrix_core.specs.Lines.{other}
 use Rattle.stamps.specs.Choices.{ChoosesByKind}
-use Rattle.matrix_core.specs.CellAnswers.{greatest}
-use Rattle.four_slot_core.specs.ReadNumbers.{Intervals, IsReadOf}
-
--- the intervals of accesses that began and ended at these times
-abbrev pub intervals : List ℕ → List ℕ → Intervals
-intervals begins ends = record { begins = slice_get begins; ends = slice_get ends }
+use Rattle.stamps.specs.Stamps.{greatest}
+use Rattle.register_law.specs.Registers.{intervals, IsRegular}
 
 -- the steps of a call: so many reads, and as many writes where it tells what it chose, of so many steps each
 abbrev pub steps_of_call : ℕ → ℕ → Bool → ℕ
@@ -114,17 +110,13 @@ module _ {V : Type 0} where
         ChoosesByKind limit (record { place = place; who = i; kind = c.kind; stamp = c.chosen.stamp; item = c.chosen.item })
         c.kind c.seen.stamp c.seen.item
 
-  -- *An atomic register* of one writer and one reader: each answer is the record with its number, which is at least that of each write
-  -- that ended before the read began, and the write with it began before the read ended
-  pub record IsRegister (first : Stamped V) (writes : Written V) (reads : Answered V) : Type 0 where
-    pub source : (m number : ℕ) (x : Stamped V) → slice_get reads.numbers m ≡ Some number → slice_get reads.items m ≡ Some x →
-        slice_get (first ∷ writes.items) number ≡ Some x
-    pub read_of : (m number : ℕ) → slice_get reads.numbers m ≡ Some number →
-        IsReadOf (intervals writes.begins writes.ends) (intervals reads.begins reads.ends) m number
-    pub numbered : length reads.numbers ≡ length reads.items
+  -- what one process wrote to another and this one read is a regular register
+  abbrev pub IsRegister : Stamped V → Written V → Answered V → Type 0
+  IsRegister first writes reads =
+      IsRegular first writes.items (intervals writes.begins writes.ends) reads.items reads.numbers (intervals reads.begins reads.ends)
 
   -- *A run of a board*: the steps of its processes make a schedule, each process made its calls, and each register between two
-  -- processes is atomic
+  -- processes is regular
   pub record IsBoardRun (width n limit : ℕ) (first : Stamped V) (steps : List ℕ) (did : ℕ → Did V) : Type 0 where
     pub size : (2 ≤ n) × (n ≤ 16) × (0 < width)
     pub within : (step who : ℕ) → slice_get steps step ≡ Some who → who < n

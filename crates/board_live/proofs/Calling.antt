@@ -16,7 +16,7 @@ use Rattle.family_live.specs.Accesses.{IsWriteAccess}
 use Rattle.stamps.specs.declared.stamp.Stamped.{Stamped}
 use Rattle.stamps.specs.Choices.{ChoosesByKind, IsAtMost}
 use Rattle.stamps.proofs.choices.Stamps.{at_most_trans}
-use Rattle.matrix_core.specs.CellAnswers.{greatest as greatest_stamped}
+use Rattle.stamps.specs.Stamps.{greatest as greatest_stamped}
 use Rattle.matrix_core.specs.Lines.{other}
 use Rattle.matrix_core.proofs.lines.Others.{other_differs, other_inside, other_reached}
 use Rattle.matrix_core.proofs.lists.Elements.{get_exists}

@@ -9,7 +9,7 @@ use Rattle.stamps.specs.Stamps.{greater as greater_stamped, IsBelow, is_below}
 use Rattle.board_live.specs.declared.record.Posted.{Posted}
 use Rattle.stamps.specs.Choices.{IsAtMost}
 use Rattle.stamps.proofs.choices.Stamps.{at_most_trans, below_itself, greater_second}
-use Rattle.matrix_core.specs.CellAnswers.{greatest as greatest_stamped}
+use Rattle.stamps.specs.Stamps.{greatest as greatest_stamped}
 use Rattle.board_live.specs.Records.{greater, greatest, Rises, rises_itself, rises_on, stamped}
 
 by_test : {V : Type 0} (a b : Posted V) (t : Bool) → stamped (if t then b else a) ≡ (if t then stamped b else stamped a)

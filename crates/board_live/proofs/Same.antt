@@ -6,7 +6,7 @@ use Rattle.cell_live.specs.declared.times.Known.{Known}
 use Rattle.family_live.specs.declared.family.Family.{Ghosts as FamilyWords}
 use Rattle.family_live.specs.Accesses.{IsHeardRead, KeepsEach, KeepsOthers}
 use Rattle.stamps.specs.declared.stamp.Stamped.{Stamped}
-use Rattle.matrix_core.specs.CellAnswers.{greatest}
+use Rattle.stamps.specs.Stamps.{greatest}
 use Rattle.matrix_core.specs.Lines.{other}
 use Rattle.matrix_core.proofs.lines.Others.{other_differs}
 use Rattle.board_history.specs.BoardRuns.{Answered, AreReads, AreWrites, Called, Did, IsProcess, own_before, records}

@@ -31,18 +31,18 @@ register : {V : Type 0} (first : Posted V) (w : WriteAccesses (Posted V)) (r : R
 register first w r h = record {
   source = λ m number x a b. source m number x a b;
   read_of = λ m number a.
-      let x = h.atomic.read_of m number a in
+      let x = h.atomic.regular.read_of m number a in
       record { late = λ k b. x.late k b; begun = λ k e. x.begun k e };
-  numbered = h.atomic.numbered ∙ sym (length-map r.answers stamped);
+  numbered = h.atomic.regular.numbered ∙ sym (length-map r.answers stamped);
 }
   where
     source : (m number : ℕ) (x : Stamped _) → slice_get r.numbers m ≡ Some number → slice_get (map stamped r.answers) m ≡ Some x →
         slice_get (stamped first ∷ map stamped w.items) number ≡ Some x
     source m number x a b =
-        let l : m < length r.answers = let z = slice_get_within r.numbers m number a in let y = h.atomic.numbered in omega arith in
+        let l : m < length r.answers = let z = slice_get_within r.numbers m number a in let y = h.atomic.regular.numbered in omega arith in
         let p = get_exists r.answers m l in
         let same : Some (stamped p.0) ≡ Some x = ap (option_map stamped) (sym p.1) ∙ sym (slice_get-map stamped r.answers m) ∙ b in
-        slice_get-map stamped (first ∷ w.items) number ∙ ap (option_map stamped) (h.atomic.source m number p.0 a p.1) ∙ same
+        slice_get-map stamped (first ∷ w.items) number ∙ ap (option_map stamped) (h.atomic.regular.source m number p.0 a p.1) ∙ same
 
 module _ {V F S T : Type 0} (words : FamilyWords F (Posted V) S T) (obeys : V → Bool) (board : Board V F S T)
     (passes : List (Pass V F S T)) (all : AllPasses words obeys board passes) where

@@ -1,10 +1,9 @@
 -- Records with stamps: their order, and the greatest of several (this project's own).
 use Rattle.std.specs.Prelude.{◌≡◌, ◌⊎◌, List, Option, Some, None, if◌then◌else◌}
-use Rattle.std.specs.List.{fold}
 use Rattle.std.proofs.Common.{refl, ◌∙◌, inl, inr, arith}
 use Rattle.stamps.specs.declared.stamp.Stamp.{Stamp}
 use Rattle.stamps.specs.declared.stamp.Stamped.{Stamped}
-use Rattle.stamps.specs.Stamps.{IsBelow, is_below}
+use Rattle.stamps.specs.Stamps.{greater_by, greatest_by, IsBelow}
 use Rattle.board_live.specs.declared.record.Posted.{Posted}
 
 -- the record as a played board has it
@@ -17,11 +16,11 @@ Rises a b = IsBelow a.stamp b.stamp ⊎ ((a.stamp ≡ b.stamp) × (a.item ≡ b.
 
 -- the greater of two by stamp, the first where the stamps are equal
 abbrev pub greater : {V : Type 0} → Posted V → Posted V → Posted V
-greater a b = if is_below a.stamp b.stamp then b else a
+greater {V} = greater_by (λ (p : Posted V). p.stamp)
 
 -- the greatest of a record and of others, the first of equal stamps
 abbrev pub greatest : {V : Type 0} → Posted V → List (Posted V) → Posted V
-greatest own answers = fold greater own answers
+greatest {V} = greatest_by (λ (p : Posted V). p.stamp)
 
 -- the item under this stamp, or the record where there is none
 abbrev pub or_item : {V : Type 0} → Posted V → Option Stamp → V → Posted V

@@ -14,10 +14,9 @@ use Rattle.history_core.specs.declared.wish.Wish.TheVariants.{Write, Read}
 use Rattle.stamps.specs.declared.stamp.Stamp.{Stamp}
 use Rattle.stamps.specs.declared.stamp.Stamped.{Stamped}
 use Rattle.stamps.specs.Choices.{ChoosesByKind, IsAtMost}
-use Rattle.stamps.specs.Stamps.{first_stamp, greater, is_below}
 use Rattle.stamps.proofs.choices.Stamps.{at_most_trans, greater_first}
 use Rattle.cell_live.specs.Running.{last_or}
-use Rattle.matrix_core.specs.CellAnswers.{greatest}
+use Rattle.stamps.specs.Stamps.{first_stamp, greater, greatest, is_below}
 use Rattle.matrix_core.specs.Lines.{first_record}
 use Rattle.matrix_core.proofs.lists.Elements.{get_exists}
 use Rattle.matrix_core.proofs.orders.Listing.{get_map_back}

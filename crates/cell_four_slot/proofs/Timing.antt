@@ -10,8 +10,8 @@ use Rattle.four_slot_core.specs.declared.state.ReaderStage.{ReaderStage}
 use Rattle.four_slot_core.specs.declared.state.ReaderStage.TheVariants as reader
 use Rattle.four_slot_core.specs.Freshness.{IsBegun}
 use Rattle.four_slot_core.proofs.Pushed.{get_before, get_within}
-use Rattle.cell_live.specs.Intervals.{At, begun_at, passed_at, ended_at, intervals, known_as, AreAtomic, IsHeeded}
-use Rattle.four_slot_core.specs.ReadNumbers.{IsReadOf}
+use Rattle.cell_live.specs.Intervals.{At, begun_at, passed_at, ended_at, known_as, AreAtomic, IsHeeded}
+use Rattle.register_law.specs.Registers.{intervals, IsReadOf}
 use Rattle.cell_live.specs.declared.times.Dated.{Dated}
 use Rattle.cell_live.specs.declared.times.Known.{Known}
 use Rattle.cell_four_slot.specs.declared.notes.WriterNotes.{WriterNotes}
@@ -301,7 +301,7 @@ module _ {T : Type 0} (o : T) where
   -- at any moment a read with a number is one of a board's cells
   pub timed_read_of : (p : WriterNotes T) (g : ReaderNotes T) (now shown pair : ℕ) (w : Stage) (r : ReaderStage) →
       IsTimed o p g now w r shown pair → length g.answers ≤ length g.times.begins → (m n : ℕ) → At g.numbers m n →
-      IsReadOf (intervals p.times) (intervals g.times) m n
+      IsReadOf (intervals p.times.begins p.times.ends) (intervals g.times.begins g.times.ends) m n
   timed_read_of p g now shown pair w r h enough m n at =
       let numbered : length g.numbers ≡ length g.answers = h.numbered in
       let ended : length g.times.ends ≡ length g.answers = h.ended_reads in
@@ -318,7 +318,7 @@ module _ {T : Type 0} (o : T) where
   begun_enough reader.R5 n = omega arith
 
   pub timed_at_any : (p : WriterNotes T) (g : ReaderNotes T) (now shown pair : ℕ) (w : Stage) (r : ReaderStage) →
-      IsTimed o p g now w r shown pair → (m n : ℕ) → At g.numbers m n → IsReadOf (intervals p.times) (intervals g.times) m n
+      IsTimed o p g now w r shown pair → (m n : ℕ) → At g.numbers m n → IsReadOf (intervals p.times.begins p.times.ends) (intervals g.times.begins g.times.ends) m n
   timed_at_any p g now shown pair w r h = timed_read_of p g now shown pair w r h
       (let e : length g.times.begins ≡ begun_number r (length g.answers) = h.begun_reads in
       let l : length g.answers ≤ begun_number r (length g.answers) = begun_enough r (length g.answers) in
@@ -341,15 +341,13 @@ module _ {T : Type 0} (o : T) where
   pub timed_atomic : (p : WriterNotes T) (g : ReaderNotes T) (now shown pair : ℕ) (w : Stage) →
       IsTimed o p g now w reader.R5 shown pair → AreAtomic o p.written p.times g.answers g.numbers g.times
   timed_atomic p g now shown pair w h = record {
-    source = h.source;
-    read_of = timed_at_any p g now shown pair w reader.R5 h;
+    regular = record { source = h.source; read_of = timed_at_any p g now shown pair w reader.R5 h; numbered = h.numbered };
     rising = h.rising;
     writes_in_turn = h.put_turn;
     reads_in_turn = h.get_turn;
     writes_begun = h.begun_writes;
     writes_ended = writes_ended p g now shown pair w reader.R5 h;
     reads_counted = (h.begun_reads, h.ended_reads);
-    numbered = h.numbered;
   }
 
   -- at the end, where the reader has begun one more read to give its slot back
@@ -367,18 +365,20 @@ module _ {T : Type 0} (o : T) where
         writes_begun = h.begun_writes;
         writes_ended = writes_ended p (said_with (asked_by g b t) i u) now shown pair writer.W5 reader.R2 h;
         reads_counted = (same, ended);
-        numbered = numbered;
         writes_in_turn = h.put_turn;
         reads_in_turn = record {
           forwards = λ k c e at there. h.get_turn.forwards k c e (longer k c at) there;
           follows = λ k e c at there. h.get_turn.follows k e c at (longer (k + 1) c there);
         };
-        source = h.source;
-        read_of = λ m n at.
-            let inside : m < length g.numbers = slice_get_within g.numbers m n at in
-            let c = get_within g.times.begins m (let l : m < length g.times.begins = omega arith in l) in
-            let e = get_within g.times.ends m (let l : m < length g.times.ends = omega arith in l) in
-            read_of p.times.begins p.times.ends g.times.begins g.times.ends m n c.0 e.0 c.1 e.1
-            (h.late m n c.0 at (longer m c.0 c.1)) (h.begun m n e.0 at e.1);
+        regular = record {
+          source = h.source;
+          read_of = λ m n at.
+              let inside : m < length g.numbers = slice_get_within g.numbers m n at in
+              let c = get_within g.times.begins m (let l : m < length g.times.begins = omega arith in l) in
+              let e = get_within g.times.ends m (let l : m < length g.times.ends = omega arith in l) in
+              read_of p.times.begins p.times.ends g.times.begins g.times.ends m n c.0 e.0 c.1 e.1
+              (h.late m n c.0 at (longer m c.0 c.1)) (h.begun m n e.0 at e.1);
+          numbered = numbered;
+        };
         rising = h.rising;
       }

@@ -5,8 +5,8 @@ ghost use Rattle.atomic_table.specs.Table.{State};
 ghost use Rattle.four_slot_core.specs.Events.{opening_state};
 ghost use Rattle.four_slot_core.specs.Interleaving.{Leads};
 ghost use Rattle.four_slot_core.specs.Invariant.{IsSound, latest_slot};
-ghost use Rattle.cell_live.specs.Intervals.{AreFirst, At, intervals};
-ghost use Rattle.four_slot_core.specs.ReadNumbers.{IsReadOf};
+ghost use Rattle.cell_live.specs.Intervals.{AreFirst, At};
+ghost use Rattle.register_law.specs.Registers.{intervals, IsReadOf};
 ghost use Rattle.cell_four_slot.specs.Rule.{InTable, InViews, UpTo, number_in, control_writes, control_reads};
 ghost use Rattle.cell_four_slot.specs.Spread.{gathered};
 ghost use Rattle.cell_four_slot.specs.Steps.{FourSlotSight};
@@ -32,7 +32,7 @@ pub fn four_slot_rule_shows<T: Lawful>()
     ensures counted { (o : T) (s : State T (FourSlotSight T)) (r : ⟦<FourSlot as TableRule<T, notes::FourSlotSight<T>, T>>⟧.holds o s) →
         (r.cell.put.accesses ≤ control_writes r.cell.put.events) × (r.cell.get.accesses ≤ control_reads r.cell.get.events) }
     ensures timed { (o : T) (s : State T (FourSlotSight T)) (r : ⟦<FourSlot as TableRule<T, notes::FourSlotSight<T>, T>>⟧.holds o s) (m n : ℕ) →
-        At r.cell.get.numbers m n → IsReadOf (intervals r.cell.put.times) (intervals r.cell.get.times) m n }
+        At r.cell.get.numbers m n → IsReadOf (intervals r.cell.put.times.begins r.cell.put.times.ends) (intervals r.cell.get.times.begins r.cell.get.times.ends) m n }
     ensures rising { (o : T) (s : State T (FourSlotSight T)) (r : ⟦<FourSlot as TableRule<T, notes::FourSlotSight<T>, T>>⟧.holds o s)
         (i j a b : ℕ) → At r.cell.get.numbers i a → At r.cell.get.numbers j b → i ≤ j → a ≤ b }
     ensures known { (o : T) (s : State T (FourSlotSight T)) (r : ⟦<FourSlot as TableRule<T, notes::FourSlotSight<T>, T>>⟧.holds o s) →

@@ -1,7 +1,8 @@
 -- What a receipt buys its reader, by the intervals alone.
-use Rattle.std.proofs.Common.{◌≡◌, ℕ, suc, ◌+◌, ◌<◌, ◌≤◌, List, [], ◌∷◌, ◌++◌, length, slice_get, Some, refl, sym, ap, ◌∙◌, arith, length-append}
+use Rattle.std.proofs.Common.{◌≡◌, ℕ, suc, ◌<◌, ◌≤◌, List, [], ◌∷◌, ◌++◌, length, slice_get, Some, refl, sym, ap, ◌∙◌, arith, length-append}
 use Rattle.std.proofs.lemmas.Option.{slice_get_within, same_Some}
-use Rattle.four_slot_core.proofs.Pushed.{get_last, to_before}
+use Rattle.four_slot_core.proofs.Pushed.{get_last}
+use Rattle.register_law.proofs.Times.{to_before}
 use Rattle.std.proofs.Common.{subst}
 use Rattle.std.proofs.lemmas.List.Elements.{All-get_or}
 use Rattle.std.proofs.lemmas.Option.{get_or_from_slice_get}
@@ -21,7 +22,7 @@ heard_last o written answers numbers writes reads last earlier heard old n item 
     let three = length-append old (n ∷ []) in
     let four = length-append last.ends (wrote.end ∷ []) in
     let five = length-append heard.begins (read.begin ∷ []) in
-    let same : length numbers ≡ length (answers ++ answer ∷ []) = h.numbered in
+    let same : length numbers ≡ length (answers ++ answer ∷ []) = h.regular.numbered in
     let numbers_long : length numbers ≡ length (old ++ n ∷ []) = ap length more in
     let ends_long : length writes.ends ≡ length (last.ends ++ wrote.end ∷ []) = ap length wrote.ends in
     let begins_long : length reads.begins ≡ length (heard.begins ++ read.begin ∷ []) = ap length read.begins in
@@ -38,10 +39,10 @@ heard_last o written answers numbers writes reads last earlier heard old n item 
     let clock : writes.clock ≡ wrote.end = wrote.clock in
     let told : writes.clock ≤ heard.clock = learnt.heard in
     let after : heard.clock < read.begin = read.after in
-    let low : k < n = (h.read_of m n at).late k (to_before (slice_get writes.ends k) (slice_get reads.begins m) wrote.end ended
+    let low : k < n = (h.regular.read_of m n at).late k (to_before (slice_get writes.ends k) (slice_get reads.begins m) wrote.end ended
     (λ y e. let s : read.begin ≡ y = same_Some read.begin y (sym begun ∙ e) in let z : wrote.end < y = omega arith in z)) in
     let here : slice_get (answers ++ answer ∷ []) m ≡ Some answer = get_last answers answer m refl in
-    let source : slice_get (o ∷ (written ++ item ∷ [])) n ≡ Some answer = h.source m n answer at here in
+    let source : slice_get (o ∷ (written ++ item ∷ [])) n ≡ Some answer = h.regular.source m n answer at here in
     let inside : n < length (o ∷ (written ++ item ∷ [])) = slice_get_within (o ∷ (written ++ item ∷ [])) n answer source in
     let is : n ≡ suc k = omega arith in
     same_Some answer item (sym source ∙ (ap (slice_get (o ∷ (written ++ item ∷ []))) is ∙ get_last written item k refl))

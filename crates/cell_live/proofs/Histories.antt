@@ -1,23 +1,20 @@
 -- The order by number of a cell's calls is atomic, by the law of orders by number.
-use Rattle.std.proofs.Common.{◌≡◌, ◌⊎◌, ℕ, zero, suc, ◌+◌, ◌<◌, ◌≤◌, Bool, true, false, List, [], ◌∷◌, length, slice_get, Option, None, Some}
+use Rattle.std.proofs.Common.{◌≡◌, ◌⊎◌, ℕ, zero, suc, ◌+◌, ◌<◌, ◌≤◌, true, false, List, ◌∷◌, length, slice_get, Option, None, Some}
 use Rattle.std.proofs.Common.{refl, sym, ap, ◌∙◌, subst, ⊎_elim, inl, inr, arith, ◌-◌}
 use Rattle.std.specs.Prelude.{IsSome, IfSome}
 use Rattle.std.proofs.lemmas.Bool.{cases_lt}
 use Rattle.std.proofs.lemmas.Option.{slice_get_within, none-some, same_Some}
 use Rattle.history_core.specs.declared.history.Op.{Op}
-use Rattle.history_core.specs.declared.history.Kind.{Kind}
-use Rattle.history_core.specs.declared.history.Kind.TheVariants.{Write, Read}
-use Rattle.history_core.specs.Numbers.{IsByNumber, StandsAt}
+use Rattle.history_core.specs.Numbers.{IsByNumber}
 use Rattle.history_core.specs.Orders.{IsAtomicOrder, is_write, Precedes}
 use Rattle.history_core.proofs.Latest.{HasItemByNumber, reads_by_number}
 use Rattle.history_core.proofs.Listed.{some_and_of}
 use Rattle.history_core.proofs.Listing.{listing_from}
 use Rattle.history_core.proofs.Numbered.{keeps_by_number}
-use Rattle.four_slot_core.specs.Accesses.{IsBefore}
-use Rattle.four_slot_core.proofs.Pushed.{get_within, of_before, to_before}
+use Rattle.register_law.proofs.Times.{of_before, to_before}
+use Rattle.four_slot_core.proofs.Pushed.{get_within}
 use Rattle.cell_live.specs.declared.times.Times.{Times}
-use Rattle.cell_live.specs.Intervals.{At, InTurn, intervals, AreAtomic}
-use Rattle.four_slot_core.specs.ReadNumbers.{IsReadOf}
+use Rattle.cell_live.specs.Intervals.{At, InTurn, AreAtomic}
 use Rattle.cell_live.specs.Histories.{IsWriteOp, IsReadOp, AreOps, IsByNumbers}
 
 -- as many calls have ended as have begun, or one less
@@ -132,7 +129,7 @@ module _ {T : Type 0} (opening : T) (written : List T) (writes : Times) (answers
       omega arith
   rise a b x y (inl u) (inr v) pre =
       let l = end_before a b pre in
-      let z : u.k < y = (h.read_of v.m y v.number).late u.k (to_before (slice_get writes.ends u.k) (slice_get reads.begins v.m) l.0
+      let z : u.k < y = (h.regular.read_of v.m y v.number).late u.k (to_before (slice_get writes.ends u.k) (slice_get reads.begins v.m) l.0
       (sym u.is.ends ∙ l.1) (λ c at. subst (λ t. l.0 < t) (same_Some b.starts c (sym v.is.starts ∙ at)) l.2)) in
       let e : x ≡ u.k + 1 = u.number in
       omega arith
@@ -144,7 +141,7 @@ module _ {T : Type 0} (opening : T) (written : List T) (writes : Times) (answers
       no_later zero e end ended l f = omega arith
       no_later (suc k) e end ended l f =
           let c = of_before (slice_get writes.begins k) (slice_get reads.ends u.m)
-          ((h.read_of u.m x u.number).begun k (let g : x ≡ k + 1 = omega arith in g)) in
+          ((h.regular.read_of u.m x u.number).begun k (let g : x ≡ k + 1 = omega arith in g)) in
           let q : c.0 < end = c.2 end ended in
           let z : k < v.k = begins_first writes.begins writes.ends h.writes_in_turn writes_counted k v.k c.0 b.starts c.1 v.is.starts
           (let g : c.0 < b.starts = omega arith in g) in
@@ -160,7 +157,7 @@ module _ {T : Type 0} (opening : T) (written : List T) (writes : Times) (answers
   not_before a b x y u v e pre =
       let l = end_before b a pre in
       let c = of_before (slice_get writes.begins u.k) (slice_get reads.ends v.m)
-      ((h.read_of v.m y v.number).begun u.k (let f : x ≡ u.k + 1 = u.number in let g : y ≡ u.k + 1 = omega arith in g)) in
+      ((h.regular.read_of v.m y v.number).begun u.k (let f : x ≡ u.k + 1 = u.number in let g : y ≡ u.k + 1 = omega arith in g)) in
       let end : ℕ = l.0 in
       let q : c.0 < end = c.2 end (sym v.is.ends ∙ l.1) in
       let after : end < a.starts = l.2 in
@@ -227,7 +224,7 @@ module _ {T : Type 0} (opening : T) (written : List T) (writes : Times) (answers
     from_write p a u zero e =
         let s = item_of a (number p) (inr u) in
         let here : slice_get answers u.m ≡ Some s.0 = sym u.is.item ∙ s.1 in
-        let o : slice_get (opening ∷ written) (number p) ≡ Some s.0 = h.source u.m (number p) s.0 u.number here in
+        let o : slice_get (opening ∷ written) (number p) ≡ Some s.0 = h.regular.source u.m (number p) s.0 u.number here in
         let first : opening ≡ s.0 = same_Some opening s.0 (ap (slice_get (opening ∷ written)) (sym e) ∙ o) in
         inr (s.1 ∙ ap Some (sym first), λ j q w at written'. above q w (known q w at.1) written')
       where
@@ -237,7 +234,7 @@ module _ {T : Type 0} (opening : T) (written : List T) (writes : Times) (answers
     from_write p a u (suc k) e =
         let s = item_of a (number p) (inr u) in
         let here : slice_get answers u.m ≡ Some s.0 = sym u.is.item ∙ s.1 in
-        let o : slice_get (opening ∷ written) (number p) ≡ Some s.0 = h.source u.m (number p) s.0 u.number here in
+        let o : slice_get (opening ∷ written) (number p) ≡ Some s.0 = h.regular.source u.m (number p) s.0 u.number here in
         let source : slice_get written k ≡ Some s.0 = ap (slice_get (opening ∷ written)) (sym e) ∙ o in
         let w = calls.all_writes k (slice_get_within written k s.0 source) in
         let l = by.all w.0 (slice_get_within ops w.0 w.1 w.2) in

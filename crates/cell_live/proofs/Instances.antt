@@ -1,10 +1,8 @@
 -- One write and two reads: with the numbers 0 and 1 they are atomic by their intervals, and with a second read that is stale they aren't.
-use Rattle.std.proofs.Common.{◌≡◌, ℕ, zero, suc, ◌+◌, ◌<◌, ◌≤◌, List, [], ◌∷◌, slice_get, Option, None, Some, refl, sym, subst, arith, le_refl}
+use Rattle.std.proofs.Common.{◌≡◌, ℕ, zero, suc, ◌+◌, ◌<◌, ◌≤◌, List, [], ◌∷◌, slice_get, Some, refl, subst, arith, le_refl}
 use Rattle.std.proofs.lemmas.Option.{none-some, same_Some}
-use Rattle.four_slot_core.specs.Accesses.{IsBefore}
-use Rattle.cell_live.specs.declared.times.Times.{Times}
-use Rattle.cell_live.specs.Intervals.{At, InTurn, intervals, AreAtomic, one_write, two_reads}
-use Rattle.four_slot_core.specs.ReadNumbers.{IsReadOf}
+use Rattle.register_law.specs.Registers.{IsBefore}
+use Rattle.cell_live.specs.Intervals.{At, InTurn, AreAtomic, one_write, two_reads}
 
 writes_turn : InTurn one_write.begins one_write.ends
 writes_turn = record {
@@ -66,11 +64,13 @@ atomic = record {
   writes_begun = refl;
   writes_ended = (le_refl 1, (let l : 1 ≤ 1 + 1 = omega arith in l));
   reads_counted = (refl, refl);
-  numbered = refl;
   writes_in_turn = writes_turn;
   reads_in_turn = reads_turn;
-  source = source;
-  read_of = λ m n at. record { late = λ k b. late m n k at b; begun = λ k e. begun m n k at e };
+  regular = record {
+    source = source;
+    read_of = λ m n at. record { late = λ k b. late m n k at b; begun = λ k e. begun m n k at e };
+    numbered = refl;
+  };
   rising = rising;
 }
 
@@ -79,12 +79,12 @@ apart a b l e = let x : a ≡ b = same_Some a b e in omega arith
 
 -- the second read begins at 5, after the write ended at 3
 pub stale : (numbers : List ℕ) → AreAtomic {T = ℕ} 7 (8 ∷ []) one_write (7 ∷ 7 ∷ []) numbers two_reads → ⊥
-stale [] h = absurd (let e : 0 ≡ 2 = h.numbered in omega arith)
-stale (a ∷ []) h = absurd (let e : 1 ≡ 2 = h.numbered in omega arith)
+stale [] h = absurd (let e : 0 ≡ 2 = h.regular.numbered in omega arith)
+stale (a ∷ []) h = absurd (let e : 1 ≡ 2 = h.regular.numbered in omega arith)
 stale (a ∷ b ∷ more) h =
     let before : IsBefore (slice_get one_write.ends 0) (slice_get two_reads.begins 1) = let l : 3 < 5 = omega arith in l in
-    let low : 0 < b = (h.read_of 1 b refl).late 0 before in
-    let from : slice_get {X = ℕ} (7 ∷ 8 ∷ []) b ≡ Some 7 = h.source 1 b 7 refl refl in
+    let low : 0 < b = (h.regular.read_of 1 b refl).late 0 before in
+    let from : slice_get {X = ℕ} (7 ∷ 8 ∷ []) b ≡ Some 7 = h.regular.source 1 b 7 refl refl in
     none_later b low from
   where
     none_later : (n : ℕ) → 0 < n → slice_get {X = ℕ} (7 ∷ 8 ∷ []) n ≡ Some 7 → ⊥

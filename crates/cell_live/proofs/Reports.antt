@@ -1,10 +1,9 @@
 -- The calls of a cell have a history and an order by number.
-use Rattle.std.proofs.Common.{◌≡◌, ◌⊎◌, ℕ, zero, suc, ◌+◌, ◌-◌, ◌<◌, ◌≤◌, Bool, true, false, List, [], ◌∷◌, length, map, get_or, slice_get}
-use Rattle.std.proofs.Common.{Option, None, Some, refl, sym, ap, ◌∙◌, subst, ⊎_elim, inl, inr, arith}
+use Rattle.std.proofs.Common.{◌≡◌, ◌⊎◌, ℕ, zero, suc, ◌+◌, ◌-◌, ◌<◌, ◌≤◌, false, List, [], ◌∷◌, length, map, get_or, slice_get}
+use Rattle.std.proofs.Common.{Option, None, Some, refl, sym, ap, ◌∙◌, subst, inl, inr, arith}
 use Rattle.std.proofs.lemmas.Option.{slice_get_within, slice_get-get_or, none-some, same_Some}
 use Rattle.history_core.specs.declared.history.Op.{Op}
 use Rattle.history_core.specs.declared.history.Kind.TheVariants.{Write, Read}
-use Rattle.history_core.specs.Numbers.{StandsAt}
 use Rattle.history_core.specs.Orders.{is_write}
 use Rattle.four_slot_core.proofs.Pushed.{get_within}
 use Rattle.cell_live.specs.declared.times.Times.{Times}
@@ -110,7 +109,7 @@ module _ {T : Type 0} (opening : T) (written : List T) (writes : Times) (answers
         let same : is.0 ≡ m = (let s : m ≡ 0 + is.0 = is.1 in let x : is.0 ≡ m = omega arith in x) in
         let at : At numbers m a = subst (λ z. At numbers z a) same is.2 in
         let l : m < length numbers = slice_get_within numbers m a at in
-        let counted : length numbers ≡ length answers = h.numbered in
+        let counted : length numbers ≡ length answers = h.regular.numbered in
         inr (m, a, read_op m a (let x : m < length answers = omega arith in x), at, e)
 
     pub are_ops : AreOps written writes answers numbers reads (map op_of calls) number
@@ -124,7 +123,7 @@ module _ {T : Type 0} (opening : T) (written : List T) (writes : Times) (answers
           let s = merged_writes (length written) 0 0 numbers k (omega arith) (omega arith) in
           (s.0, op_of (write k), map_at op_of calls s.0 (write k) s.1, write_op k l, ap number_or s.1);
       all_reads = λ m l.
-          let counted : length numbers ≡ length answers = h.numbered in
+          let counted : length numbers ≡ length answers = h.regular.numbered in
           let n = get_within numbers m (let x : m < length numbers = omega arith in x) in
           let s = merged_reads (length written) 0 0 numbers m n.0 n.1 in
           let at : slice_get calls s.0 ≡ Some (read m n.0) = s.1 ∙ ap (λ z. Some (read z n.0)) (let x : 0 + m ≡ m = omega arith in x) in
@@ -143,7 +142,7 @@ module _ {T : Type 0} (opening : T) (written : List T) (writes : Times) (answers
     starts_first (write k) d cw dw ic id lt = absurd (cc)
     starts_first (read m n) (write k) cw dw ic id lt = absurd (cc)
     starts_first (read m n) (read j a) cw dw ic id lt =
-        let counted : length numbers ≡ length answers = h.numbered in
+        let counted : length numbers ≡ length answers = h.regular.numbered in
         let lm : ic.0 < length numbers = slice_get_within numbers ic.0 n ic.2 in
         let lj : id.0 < length numbers = slice_get_within numbers id.0 a id.2 in
         let em : m ≡ 0 + ic.0 = ic.1 in

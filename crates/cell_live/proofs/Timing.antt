@@ -1,12 +1,13 @@
 -- The intervals of calls and the numbers of answers, over plain lists, where a step is made at a time later than all before.
-use Rattle.std.proofs.Common.{◌≡◌, ◌⊎◌, ℕ, zero, suc, ◌+◌, ◌<◌, ◌≤◌, List, [], ◌∷◌, ◌++◌, length, slice_get, Option, None, Some, refl, sym}
-use Rattle.std.proofs.Common.{ap, ◌∙◌, subst, ⊎_elim, inl, inr, arith, le_trans, append_assoc, append-nil}
+use Rattle.std.proofs.Common.{◌≡◌, ℕ, zero, suc, ◌+◌, ◌<◌, ◌≤◌, List, [], ◌∷◌, ◌++◌, length, slice_get, Some, sym}
+use Rattle.std.proofs.Common.{ap, ◌∙◌, subst, ⊎_elim, arith, le_trans, append_assoc, append-nil}
 use mathlib.Core.Option.{some, some-injective, some-ne-none}
 use lib.ListN.{get_elem?}
 use Rattle.std.proofs.lemmas.Option.{slice_get_within, same_Some}
-use Rattle.four_slot_core.proofs.Pushed.{get_before, get_cases, get_within, of_before, to_before}
+use Rattle.four_slot_core.proofs.Pushed.{get_before, get_cases}
+use Rattle.register_law.proofs.Times.{of_before, to_before}
+use Rattle.register_law.specs.Registers.{IsReadOf}
 use Rattle.cell_live.specs.Intervals.{At, begun_at, passed_at, ended_at, InTurn, IsBy, IsLate, HasBegun, IsBeginning, AreFirst, AreHeeded, IsHeeded, known_as}
-use Rattle.four_slot_core.specs.ReadNumbers.{IsReadOf}
 use Rattle.cell_live.proofs.ListLaws.{all_each, all_snoc}
 use Rattle.cell_live.specs.declared.times.Times.{Times}
 use Rattle.cell_live.specs.declared.times.Known.{Known}

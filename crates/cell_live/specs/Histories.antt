@@ -1,6 +1,6 @@
 -- The calls of a cell as operations of a history, and their order by number. Histories and atomic orders are L. Lamport's, On
 -- Interprocess Communication, Parts I and II, Distributed Computing 1, 1986; orders by number are this project's own.
-use Rattle.std.specs.Prelude.{◌≡◌, ◌⊎◌, ℕ, ◌+◌, ◌<◌, ◌≤◌, true, false, List, length, slice_get, Some}
+use Rattle.std.specs.Prelude.{◌≡◌, ◌⊎◌, ℕ, ◌+◌, ◌<◌, ◌≤◌, false, List, length, slice_get, Some}
 use Rattle.history_core.specs.declared.history.Op.{Op}
 use Rattle.history_core.specs.declared.history.Kind.TheVariants.{Write, Read}
 use Rattle.history_core.specs.Numbers.{StandsAt}

@@ -2,7 +2,7 @@
 -- intervals and their precedence are L. Lamport's, On Interprocess Communication, Parts I and II, Distributed Computing 1, 1986;
 -- numbers of reads are this project's own.
 use Rattle.std.specs.Prelude.{◌≡◌, ℕ, ◌+◌, ◌<◌, ◌≤◌, max, List, [], ◌∷◌, ◌++◌, length, All, slice_get, Some}
-use Rattle.four_slot_core.specs.ReadNumbers.{Intervals, IsReadOf}
+use Rattle.register_law.specs.Registers.{intervals, IsRegular}
 use Rattle.cell_live.specs.declared.times.Times.{Times}
 use Rattle.cell_live.specs.declared.times.Known.{Known}
 use Rattle.cell_live.specs.declared.times.Dated.{Dated}
@@ -80,24 +80,18 @@ IsLate ends time n = (k e : ℕ) → At ends k e → e < time → k < n
 abbrev pub HasBegun : List ℕ → ℕ → ℕ → Type 0
 HasBegun begins time n = (k : ℕ) → n ≡ k + 1 → (b : ℕ) × At begins k b × (b < time)
 
--- the calls of one side
-abbrev pub intervals : Times → Intervals
-intervals s = record { begins = slice_get s.begins; ends = slice_get s.ends }
-
--- *Atomic by intervals*: each answer has a number, which is that of its record; a write that ended before the read began has no
--- greater number; the write with the number began before the read ended; and numbers never fall. The last write may be under way
+-- *Atomic by intervals*: the register is regular, so each answer has a number, and these numbers never fall. The last write may be under
+-- way
 pub record AreAtomic {T : Type 0} (opening : T) (written : List T) (writes : Times) (answers : List T) (numbers : List ℕ)
     (reads : Times) : Type 0 where
-  pub source : (m n : ℕ) (x : T) → At numbers m n → slice_get answers m ≡ Some x → slice_get (opening ∷ written) n ≡ Some x
-  pub read_of : (m n : ℕ) → At numbers m n → IsReadOf (intervals writes) (intervals reads) m n
+  pub regular : IsRegular opening written (intervals writes.begins writes.ends) answers numbers (intervals reads.begins reads.ends)
   pub rising : (i j a b : ℕ) → At numbers i a → At numbers j b → i ≤ j → a ≤ b
-  -- the intervals are those of calls in turn, and the numbers are as many as the answers
+  -- the intervals are those of calls in turn
   pub writes_in_turn : InTurn writes.begins writes.ends
   pub reads_in_turn : InTurn reads.begins reads.ends
   pub writes_begun : length writes.begins ≡ length written
   pub writes_ended : (length writes.ends ≤ length written) × (length written ≤ length writes.ends + 1)
   pub reads_counted : (length reads.begins ≡ length answers) × (length reads.ends ≡ length answers)
-  pub numbered : length numbers ≡ length answers
 
 -- no call is under way
 abbrev pub HaveEnded : Times → Type 0

@@ -2,7 +2,8 @@
 ghost use Rattle.std.specs.Prelude.{◌≡◌, ℕ, List, [], ◌∷◌};
 ghost use Rattle.history_core.specs.declared.history.Op.{Op};
 ghost use Rattle.history_core.specs.Orders.{IsAtomicOrder};
-ghost use Rattle.cell_live.specs.Intervals.{AreAtomic, intervals, one_write, two_reads};
+ghost use Rattle.cell_live.specs.Intervals.{AreAtomic, one_write, two_reads};
+ghost use Rattle.register_law.specs.Registers.{intervals};
 ghost use Rattle.cell_live.specs.Histories.{AreOps, IsByNumbers};
 ghost use Rattle.cell_live.specs.declared.times.Times.{Times};
 

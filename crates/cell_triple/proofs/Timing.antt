@@ -5,8 +5,8 @@ use Rattle.std.proofs.Common.{length-append, le_refl, le_trans}
 use native.Mathlib.Nat.{le-max_left, max-le}
 use Rattle.std.proofs.lemmas.Option.{slice_get_within, none-some}
 use Rattle.four_slot_core.proofs.Pushed.{get_before, get_within}
-use Rattle.cell_live.specs.Intervals.{At, begun_at, ended_at, intervals, known_as, AreAtomic, IsHeeded}
-use Rattle.four_slot_core.specs.ReadNumbers.{IsReadOf}
+use Rattle.cell_live.specs.Intervals.{At, begun_at, ended_at, known_as, AreAtomic, IsHeeded}
+use Rattle.register_law.specs.Registers.{intervals, IsReadOf}
 use Rattle.cell_live.specs.declared.times.Dated.{Dated}
 use Rattle.cell_live.specs.declared.times.Known.{Known}
 use Rattle.cell_triple.specs.declared.notes.WriterNotes.{WriterNotes}
@@ -269,7 +269,7 @@ module _ {T : Type 0} (o : T) where
 
   -- at any moment a read with a number has what is known of it
   pub timed_read_of : (p : WriterNotes T) (g : ReaderNotes T) (now : ℕ) → IsTimed o p g now → (m n : ℕ) → At g.numbers m n →
-      IsReadOf (intervals p.times) (intervals g.times) m n
+      IsReadOf (intervals p.times.begins p.times.ends) (intervals g.times.begins g.times.ends) m n
   timed_read_of p g now h m n at =
       let numbered : length g.numbers ≡ length g.answers = h.numbered in
       let begun : length g.times.begins ≡ length g.answers = h.begun_reads in
@@ -285,8 +285,7 @@ module _ {T : Type 0} (o : T) where
   timed_atomic p g now h =
       let ended : length p.times.ends ≡ length p.written = h.ended_writes in
       record {
-        source = h.source;
-        read_of = timed_read_of p g now h;
+        regular = record { source = h.source; read_of = timed_read_of p g now h; numbered = h.numbered };
         rising = h.rising;
         writes_in_turn = h.put_turn;
         reads_in_turn = h.get_turn;
@@ -296,5 +295,4 @@ module _ {T : Type 0} (o : T) where
           (let l : length p.written ≤ length p.times.ends + 1 = omega arith in l),
         );
         reads_counted = (h.begun_reads, h.ended_reads);
-        numbered = h.numbered;
       }

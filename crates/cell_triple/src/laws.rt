@@ -4,8 +4,8 @@ ghost use mathlib.Core.Option.{some};
 ghost use lib.ListN.{get_elem?};
 ghost use Rattle.atomic_table.specs.Table.{State};
 ghost use Rattle.cell_live.specs.Running.{last_or, Settled};
-ghost use Rattle.cell_live.specs.Intervals.{AreFirst, At, intervals};
-ghost use Rattle.four_slot_core.specs.ReadNumbers.{IsReadOf};
+ghost use Rattle.cell_live.specs.Intervals.{AreFirst, At};
+ghost use Rattle.register_law.specs.Registers.{intervals, IsReadOf};
 ghost use Rattle.cell_triple.specs.Steps.{TripleSight};
 
 use crate::cell::Triple;
@@ -27,7 +27,7 @@ pub fn triple_rule_shows<T: Lawful>()
     ensures counted { (o : T) (s : State T (TripleSight T)) (r : ⟦<Triple as TableRule<T, notes::TripleSight<T>, T>>⟧.holds o s) →
         (r.put.swaps ≡ length r.put.written) × (r.get.loads ≡ length r.get.answers + r.get.asked) }
     ensures timed { (o : T) (s : State T (TripleSight T)) (r : ⟦<Triple as TableRule<T, notes::TripleSight<T>, T>>⟧.holds o s) (m n : ℕ) →
-        At r.get.numbers m n → IsReadOf (intervals r.put.times) (intervals r.get.times) m n }
+        At r.get.numbers m n → IsReadOf (intervals r.put.times.begins r.put.times.ends) (intervals r.get.times.begins r.get.times.ends) m n }
     ensures rising { (o : T) (s : State T (TripleSight T)) (r : ⟦<Triple as TableRule<T, notes::TripleSight<T>, T>>⟧.holds o s)
         (i j a b : ℕ) → At r.get.numbers i a → At r.get.numbers j b → i ≤ j → a ≤ b }
     ensures known { (o : T) (s : State T (TripleSight T)) (r : ⟦<Triple as TableRule<T, notes::TripleSight<T>, T>>⟧.holds o s) →

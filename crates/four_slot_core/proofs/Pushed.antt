@@ -2,7 +2,6 @@
 use Rattle.std.proofs.Common.{◌≡◌, ℕ, ◌+◌, ◌<◌, ◌≤◌, List, [], ◌∷◌, ◌++◌, length, slice_get, Option, None, Some, IsSome, zero, suc, refl}
 use Rattle.std.proofs.Common.{sym, ◌∙◌, ◌⊎◌, inl, inr, arith}
 use Rattle.std.proofs.lemmas.Option.{same_Some}
-use Rattle.four_slot_core.specs.Accesses.{IsBefore}
 use Rattle.four_slot_core.specs.Counts.{IsBelow}
 
 pub get_before : {X : Type 0} (xs : List X) (y : X) (i : ℕ) (x : X) → slice_get xs i ≡ Some x → slice_get (xs ++ y ∷ []) i ≡ Some x
@@ -31,16 +30,6 @@ get_within (z ∷ xs) (suc i) l = get_within xs i (omega arith)
 pub some_of : {X : Type 0} (o : Option X) → IsSome o → (x : X) × (o ≡ Some x)
 some_of None h = cc
 some_of (Some x) h = (x, refl)
-
-pub of_before : (a b : Option ℕ) → IsBefore a b → (x : ℕ) × (a ≡ Some x) × ((y : ℕ) → b ≡ Some y → x < y)
-of_before None b h = absurd h
-of_before (Some x) None h = (x, refl, λ y e. cc)
-of_before (Some x) (Some z) h = (x, refl, λ y e. let same : z ≡ y = same_Some z y e in omega arith)
-
-pub to_before : (a b : Option ℕ) (x : ℕ) → a ≡ Some x → ((y : ℕ) → b ≡ Some y → x < y) → IsBefore a b
-to_before None b x e h = cc
-to_before (Some a) None x e h = tt
-to_before (Some a) (Some b) x e h = let same : a ≡ x = same_Some a x e in omega (arith, h b refl)
 
 pub below_more : (xs : List ℕ) (next at : ℕ) → next ≤ at → IsBelow xs next → IsBelow (xs ++ at ∷ []) (at + 1)
 below_more xs next at le h i p e = elim (get_cases xs at i p e) [ inl old ↦ omega (arith, h i p old) | inr new ↦ omega (arith, new.1) ]

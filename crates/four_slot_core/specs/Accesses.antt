@@ -1,19 +1,14 @@
 -- The accesses of one cell as intervals of positions (L. Lamport, On Interprocess Communication, Parts I and II, Distributed
 -- Computing 1, 1986): when the slot accesses are clear of each other, and which reads are fresh. Only the order of the positions
 -- counts.
-use Rattle.std.specs.Prelude.{◌≡◌, ℕ, ◌+◌, ◌<◌, ◌≤◌, Option, None, Some, IsSome, ◌⊎◌}
+use Rattle.std.specs.Prelude.{◌≡◌, ℕ, ◌+◌, ◌<◌, ◌≤◌, Option, Some, IsSome, ◌⊎◌}
+use Rattle.register_law.specs.Registers.{IsBefore}
 
 -- the accesses of one side: the position of each event of each access (W1 and R1 are event 0), none where it isn't made; and
 -- the slot of each access, none where it isn't chosen
 pub record Accesses : Type 0 where
   pub at : ℕ → ℕ → Option ℕ
   pub slot : ℕ → Option ℕ
-
--- the first event is made, and the second isn't made before it
-abbrev pub IsBefore : Option ℕ → Option ℕ → Type 0
-IsBefore None b = ⊥
-IsBefore (Some a) None = Unit {0}
-IsBefore (Some a) (Some b) = a < b
 
 -- both are chosen, and the same
 abbrev pub IsSameSlot : Option ℕ → Option ℕ → Type 0

@@ -6,6 +6,5 @@ pub mod Freshness
 pub mod Interleaving
 pub mod Invariant
 pub mod Play
-pub mod ReadNumbers
 pub mod SafeSlots
 pub mod Traces

@@ -51,7 +51,7 @@ module _ {T : Type 0} (opening x : T) where
     read_once : OneRead answers numbers
     read_once =
         let a = one answers atomic.reads_counted.0 in
-        let n = one numbers (atomic.reads_counted.0 ∙ sym atomic.numbered) in
+        let n = one numbers (atomic.reads_counted.0 ∙ sym atomic.regular.numbered) in
         record { answer = a.0; number = n.0; is = a.1; numbered = n.1 }
 
   pub after_it : (answers : List T) (numbers : List ℕ) → AreAtomic opening (x ∷ []) (one_call 1 2) answers numbers (one_call 3 4) →
@@ -60,8 +60,8 @@ module _ {T : Type 0} (opening x : T) where
       let r = read_once answers numbers 3 4 (one_call 1 2) atomic in
       let at : At numbers 0 r.number = ap (λ ns. slice_get ns 0) r.numbered in
       let is : slice_get answers 0 ≡ Some r.answer = ap (λ z. slice_get z 0) r.is in
-      let late : 0 < r.number = (atomic.read_of 0 r.number at).late 0 (let l : 2 < 3 = omega arith in l) in
-      r.is ∙ ap (λ z. z ∷ []) (sym (second r.number r.answer late (atomic.source 0 r.number r.answer at is)))
+      let late : 0 < r.number = (atomic.regular.read_of 0 r.number at).late 0 (let l : 2 < 3 = omega arith in l) in
+      r.is ∙ ap (λ z. z ∷ []) (sym (second r.number r.answer late (atomic.regular.source 0 r.number r.answer at is)))
 
   pub before_it : (answers : List T) (numbers : List ℕ) → AreAtomic opening (x ∷ []) (one_call 5 6) answers numbers (one_call 3 4) →
       answers ≡ opening ∷ []
@@ -69,8 +69,8 @@ module _ {T : Type 0} (opening x : T) where
       let r = read_once answers numbers 3 4 (one_call 5 6) atomic in
       let at : At numbers 0 r.number = ap (λ ns. slice_get ns 0) r.numbered in
       let is : slice_get answers 0 ≡ Some r.answer = ap (λ z. slice_get z 0) r.is in
-      let other : r.number ≢ 1 = λ e. no_earlier ((atomic.read_of 0 r.number at).begun 0 e) in
-      r.is ∙ ap (λ z. z ∷ []) (sym (first r.number r.answer other (atomic.source 0 r.number r.answer at is)))
+      let other : r.number ≢ 1 = λ e. no_earlier ((atomic.regular.read_of 0 r.number at).begun 0 e) in
+      r.is ∙ ap (λ z. z ∷ []) (sym (first r.number r.answer other (atomic.regular.source 0 r.number r.answer at is)))
     where
       no_earlier : 5 < 4 → ⊥
       no_earlier l = omega arith
@@ -78,12 +78,12 @@ module _ {T : Type 0} (opening x : T) where
   pub no_older : (y : T) (numbers : List ℕ) → opening ≢ x →
       AreAtomic opening (x ∷ []) (one_call 1 9) (x ∷ y ∷ []) numbers (two_calls 2 3 4 5) → y ≡ x
   no_older y numbers ne atomic =
-      let n = two numbers atomic.numbered in
+      let n = two numbers atomic.regular.numbered in
       let a : At numbers 0 n.0 = ap (λ ns. slice_get ns 0) n.2 in
       let b : At numbers 1 n.1 = ap (λ ns. slice_get ns 1) n.2 in
-      let some = above n.0 ne (atomic.source 0 n.0 x a refl) in
+      let some = above n.0 ne (atomic.regular.source 0 n.0 x a refl) in
       let rises = atomic.rising 0 1 n.0 n.1 a b (omega arith) in
-      sym (second n.1 y (omega (arith, some, rises)) (atomic.source 1 n.1 y b refl))
+      sym (second n.1 y (omega (arith, some, rises)) (atomic.regular.source 1 n.1 y b refl))
 
 goes_on : {A : Type 0} (xs ys : List A) (k : ℕ) (x : A) → slice_get xs k ≡ Some x → slice_get (xs ++ ys) k ≡ Some x
 goes_on [] ys k x e = absurd (none-some x e)
@@ -146,7 +146,7 @@ module _ {T : Type 0} where
     begins_it old.items new.items h.known.items,
     begins_it old.times.begins new.times.begins h.known.begins,
     begins_it old.times.ends new.times.ends h.known.ends,
-    sym h.atomic.numbered ∙ ap length h.numbers ∙ length-append before (h.number ∷ []),
+    sym h.atomic.regular.numbered ∙ ap length h.numbers ∙ length-append before (h.number ∷ []),
   )
 
   pub obeys : (fits : T → Type 0) (rises : T → T → Type 0) → ObeysTheLaw fits rises

@@ -4,8 +4,7 @@ use Rattle.std.proofs.lemmas.Option.{none-some, same_Some}
 use Rattle.history_core.specs.declared.history.Kind.{Kind}
 use Rattle.stamps.specs.declared.stamp.Stamped.{Stamped}
 use Rattle.stamps.specs.Choices.{ChoosesByKind}
-use Rattle.stamps.specs.Stamps.{greater}
-use Rattle.matrix_core.specs.CellAnswers.{greatest}
+use Rattle.stamps.specs.Stamps.{greater, greatest}
 use Rattle.board_history.specs.BoardRuns.{IsRegister}
 use Rattle.headline_uses.specs.Runs.{answered_once, called, RegisterShows, RunsShow, SilentCallShows, ToldCallShows, written_once}
 

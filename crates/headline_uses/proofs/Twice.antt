@@ -107,9 +107,9 @@ module _ {V F S T : Type 0} (words : FamilyWords F (Posted V) S T) (board : Boar
         none_of (words.writes p.seat j).times.ends (omega (arith, empty, ended, begun)),
         λ k x e.
             let within = slice_get_within (words.reads q.seat i).answers k x e in
-            let many = h.atomic.numbered in
+            let many = h.atomic.regular.numbered in
             let n = found (words.reads q.seat i).numbers k (omega (arith, within, many)) in
-            only_opening board.first x (words.writes p.seat j).items n.0 none (h.atomic.source k n.0 x n.1 e),
+            only_opening board.first x (words.writes p.seat j).items n.0 none (h.atomic.regular.source k n.0 x n.1 e),
       )
 
 module _ {V F S T : Type 0} (words : FamilyWords F (Posted V) S T) where

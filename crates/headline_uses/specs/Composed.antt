@@ -6,7 +6,9 @@ use Rattle.history_core.specs.declared.history.Kind.TheVariants.{Write, Read, Re
 use Rattle.history_core.specs.Joined.{order_from, terms_from}
 use Rattle.history_core.specs.Orders.{is_write, latest, times_of}
 use Rattle.history_core.specs.Schedules.{IsOperation, IsPlayed, Span}
-use Rattle.four_slot_core.specs.Accesses.{IsBefore, IsFreshRead, IsSameSlot}
+use Rattle.four_slot_core.specs.Accesses.{IsFreshRead, IsSameSlot}
+use Rattle.register_law.specs.Registers.{IsBefore}
+use Rattle.stamps.specs.Stamps.{greatest}
 use Rattle.four_slot_core.specs.CellSlots.{IsOverSafeSlots}
 use Rattle.four_slot_core.specs.Traces.{source_record}
 use Rattle.stamps.specs.declared.stamp.Stamp.{Stamp}
@@ -16,7 +18,6 @@ use Rattle.matrix_core.specs.declared.schedule.MatrixTerm.{MatrixTerm}
 use Rattle.matrix_core.specs.declared.schedule.BoardSchedule.{BoardSchedule}
 use Rattle.matrix_core.specs.declared.schedule.BoardReport.{BoardReport}
 use Rattle.matrix_core.specs.ByAccesses.{choice_at, chooses_at}
-use Rattle.matrix_core.specs.CellAnswers.{greatest}
 use Rattle.matrix_core.specs.Lines.{first_record, other}
 use Rattle.matrix_core.specs.Listings.{IsInOrder}
 use Rattle.matrix_core.specs.Runs.{board_span, CanPlay, step_count}

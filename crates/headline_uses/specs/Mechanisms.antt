@@ -4,7 +4,8 @@ use Rattle.history_core.specs.declared.history.Op.{Op}
 use Rattle.history_core.specs.declared.history.Kind.TheVariants.{Write, Read, Refused}
 use Rattle.history_core.specs.Numbers.{StandsAt}
 use Rattle.history_core.specs.Orders.{times_of}
-use Rattle.four_slot_core.specs.Accesses.{Accesses, IsBefore, IsSameSlot, IsSource}
+use Rattle.four_slot_core.specs.Accesses.{Accesses, IsSameSlot, IsSource}
+use Rattle.register_law.specs.Registers.{IsBefore}
 use Rattle.four_slot_core.specs.CellSlots.{IsOverSafeSlots}
 use Rattle.four_slot_core.specs.Events.{slot_number}
 use Rattle.four_slot_core.specs.Play.{run}

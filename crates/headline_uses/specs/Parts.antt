@@ -5,7 +5,7 @@ use Rattle.history_core.specs.declared.history.Kind.TheVariants.{Write, Read, Re
 use Rattle.history_core.specs.declared.wish.Wish.TheVariants.{Write as WriteWish, Read as ReadWish}
 use Rattle.history_core.specs.Orders.{is_write}
 use Rattle.history_core.specs.Schedules.{Follows}
-use Rattle.four_slot_core.specs.Accesses.{IsBefore}
+use Rattle.register_law.specs.Registers.{IsBefore}
 use Rattle.stamps.specs.declared.stamp.Stamped.{Stamped}
 use Rattle.stamps.specs.Choices.{IsAtMost}
 use Rattle.cell_live.specs.declared.times.Known.{Known}

@@ -4,7 +4,8 @@ use Rattle.history_core.specs.declared.history.Op.{Op}
 use Rattle.history_core.specs.declared.history.Term.{Term}
 use Rattle.history_core.specs.Orders.{IsAtomicOrder, RefusesLawfully}
 use Rattle.history_core.specs.Schedules.{access_at, Follows, HasShape, planned, Span}
-use Rattle.four_slot_core.specs.Accesses.{IsBefore, IsSameSlot}
+use Rattle.four_slot_core.specs.Accesses.{IsSameSlot}
+use Rattle.register_law.specs.Registers.{IsBefore}
 use Rattle.four_slot_core.specs.Play.{cell_span, item_of}
 use Rattle.four_slot_core.specs.Traces.{source_record}
 use Rattle.four_slot_core.specs.declared.schedule.CellReport.{CellReport}

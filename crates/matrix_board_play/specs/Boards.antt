@@ -14,7 +14,7 @@ use Rattle.stamps.specs.declared.stamp.Stamp.{Stamp}
 use Rattle.stamps.specs.declared.stamp.Stamped.{Stamped}
 use Rattle.matrix_core.specs.Lines.{first_record, other}
 use Rattle.stamps.specs.Choices.{Choice, ChoosesByKind}
-use Rattle.matrix_core.specs.CellAnswers.{greatest}
+use Rattle.stamps.specs.Stamps.{greatest}
 use Rattle.matrix_core.specs.ByAccesses.{choice_at, chooses_at}
 
 -- a step: whose it is, and its number in the operation that it belongs to

@@ -1,6 +1,7 @@
 -- Stamps and their order: by tag, and then by writer. The idea of a matrix with tags is credited to P. Vitányi and B. Awerbuch,
 -- FOCS 1986; the rules are this project's own.
-use Rattle.std.specs.Prelude.{◌≡◌, ◌<◌, ◌⊎◌, Bool, ◌&&◌, ◌||◌, nat_lt, nat_eq, if◌then◌else◌}
+use Rattle.std.specs.Prelude.{◌≡◌, ◌<◌, ◌⊎◌, Bool, List, ◌&&◌, ◌||◌, nat_lt, nat_eq, if◌then◌else◌}
+use Rattle.std.specs.List.{fold}
 use Rattle.stamps.specs.declared.stamp.Stamp.{Stamp}
 use Rattle.stamps.specs.declared.stamp.Stamped.{Stamped}
 
@@ -16,6 +17,17 @@ is_below a b = nat_lt a.tag b.tag || (nat_eq a.tag b.tag && nat_lt a.writer b.wr
 abbrev pub first_stamp : Stamp
 first_stamp = record { tag = 0; writer = 0 }
 
--- the one with the greater stamp; of equal stamps the first
-abbrev pub greater : {R : Type 0} → Stamped R → Stamped R → Stamped R
-greater a b = if is_below a.stamp b.stamp then b else a
+-- of records with these stamps the one with the greater stamp, and the greatest of a record and of others; of equal stamps the first
+module _ {A : Type 0} (stamp_of : A → Stamp) where
+  abbrev pub greater_by : A → A → A
+  greater_by a b = if is_below (stamp_of a) (stamp_of b) then b else a
+
+  abbrev pub greatest_by : A → List A → A
+  greatest_by own others = fold greater_by own others
+
+module _ {R : Type 0} where
+  abbrev pub greater : Stamped R → Stamped R → Stamped R
+  greater = greater_by (λ (s : Stamped R). s.stamp)
+
+  abbrev pub greatest : Stamped R → List (Stamped R) → Stamped R
+  greatest = greatest_by (λ (s : Stamped R). s.stamp)

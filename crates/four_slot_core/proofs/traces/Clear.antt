@@ -9,13 +9,15 @@ use Rattle.four_slot_core.specs.declared.state.Stage.{Stage}
 use Rattle.four_slot_core.specs.declared.state.Stage.TheVariants.{W1, W2, W3, W4, W5}
 use Rattle.four_slot_core.specs.declared.state.ReaderStage.{ReaderStage}
 use Rattle.four_slot_core.specs.declared.state.ReaderStage.TheVariants.{R1, R2, R3, R4, R5}
-use Rattle.four_slot_core.specs.Accesses.{IsBefore, IsClear}
+use Rattle.four_slot_core.specs.Accesses.{IsClear}
+use Rattle.register_law.specs.Registers.{IsBefore}
+use Rattle.register_law.proofs.Times.{of_before, to_before}
 use Rattle.four_slot_core.specs.Events.{after_read, after_write, bit_number, slot_number}
 use Rattle.four_slot_core.specs.Invariant.{IsSound, IsUnderWay, HasIndex, HasSlot}
 use Rattle.four_slot_core.specs.Traces.{Trace, shown_by_write, shown_by_read, then_writer, then_reader, writes_of, reads_of}
 use Rattle.four_slot_core.proofs.events.Keeping.{clear_of_sound}
 use Rattle.four_slot_core.proofs.events.TwoSides.{same_slot_of}
-use Rattle.four_slot_core.proofs.Pushed.{get_before, get_cases, get_within, some_of, of_before, to_before, is_some_of, same_get}
+use Rattle.four_slot_core.proofs.Pushed.{get_before, get_cases, get_within, some_of, is_some_of, same_get}
 use Rattle.four_slot_core.proofs.traces.Counts.{left, made, has_chosen, IsCounted}
 
 bit_small : (b : Bool) → bit_number b ≤ 1

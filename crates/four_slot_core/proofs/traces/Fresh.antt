@@ -9,7 +9,8 @@ use Rattle.four_slot_core.specs.declared.state.Stage.{Stage}
 use Rattle.four_slot_core.specs.declared.state.Stage.TheVariants.{W1, W2, W3, W4, W5}
 use Rattle.four_slot_core.specs.declared.state.ReaderStage.{ReaderStage}
 use Rattle.four_slot_core.specs.declared.state.ReaderStage.TheVariants.{R1, R2, R3, R4, R5}
-use Rattle.four_slot_core.specs.Accesses.{IsBefore}
+use Rattle.register_law.specs.Registers.{IsBefore}
+use Rattle.register_law.proofs.Times.{of_before, to_before}
 use Rattle.four_slot_core.specs.Events.{after_read, after_write, answer, next_write, record_in, slot_number}
 use Rattle.four_slot_core.specs.Freshness.{named, IsFreshAt, IsFresh, prev_after, floor_after}
 use Rattle.four_slot_core.specs.Invariant.{IsSound, IsSoundAt, IsStored, IsUnderWay, IsUnmet, IsReading, last_after}
@@ -17,7 +18,7 @@ use Rattle.four_slot_core.specs.Traces.{Trace, shown_by_write, answered_by_read,
 use Rattle.four_slot_core.proofs.events.Keeping.{writer_after, reader_after, writer_stays, opening_is_sound, write_is_sound, read_is_sound}
 use Rattle.four_slot_core.proofs.events.Keeping.{opening_unmet, write_unmet, read_unmet}
 use Rattle.four_slot_core.proofs.events.KeepingFresh.{opening_is_fresh, numbers_after_write, numbers_after_read}
-use Rattle.four_slot_core.proofs.Pushed.{get_before, get_cases, get_within, of_before, to_before, same_get}
+use Rattle.four_slot_core.proofs.Pushed.{get_before, get_cases, get_within, same_get}
 use Rattle.four_slot_core.proofs.traces.Counts.{left, made, IsCounted}
 
 -- 1 while a write is under way

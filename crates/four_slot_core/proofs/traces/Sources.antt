@@ -10,7 +10,9 @@ use Rattle.four_slot_core.specs.declared.state.Stage.{Stage}
 use Rattle.four_slot_core.specs.declared.state.Stage.TheVariants.{W1, W2, W3, W4, W5}
 use Rattle.four_slot_core.specs.declared.state.ReaderStage.{ReaderStage}
 use Rattle.four_slot_core.specs.declared.state.ReaderStage.TheVariants.{R1, R2, R3, R4, R5}
-use Rattle.four_slot_core.specs.Accesses.{IsBefore, Fills, IsSource}
+use Rattle.four_slot_core.specs.Accesses.{Fills, IsSource}
+use Rattle.register_law.specs.Registers.{IsBefore}
+use Rattle.register_law.proofs.Times.{of_before, to_before}
 use Rattle.four_slot_core.specs.Events.{after_read, after_write, answer, opening_state, record_in, with_record, slot_number}
 use Rattle.four_slot_core.specs.Freshness.{IsFreshAt, prev_after}
 use Rattle.four_slot_core.specs.Invariant.{IsReading, IsUnderWay, HasIndex}
@@ -18,7 +20,7 @@ use Rattle.four_slot_core.specs.Traces.{Trace, shown_by_write, shown_by_read, an
 use Rattle.four_slot_core.specs.Traces.{writes_of, reads_of}
 use Rattle.four_slot_core.proofs.events.Keeping.{reader_after}
 use Rattle.four_slot_core.proofs.events.TwoSides.{bit_cases, same_slot_of, record_same, record_other}
-use Rattle.four_slot_core.proofs.Pushed.{get_before, get_cases, get_last, get_within, of_before, to_before, same_get}
+use Rattle.four_slot_core.proofs.Pushed.{get_before, get_cases, get_last, get_within, same_get}
 use Rattle.four_slot_core.proofs.traces.Counts.{left, made, has_chosen, HasWriteSlot, IsCounted}
 use Rattle.four_slot_core.proofs.traces.Clear.{slot_by_number, write_slot_was, read_slot_was}
 use Rattle.four_slot_core.proofs.traces.Fresh.{IsFreshTrace, write_was, write_stays, answers_was, answer_number}

@@ -14,11 +14,11 @@ use Rattle.history_core.proofs.Played.{later_operation, same_operation_number}
 use Rattle.history_core.proofs.Positions.{position_exists, position_made, position_once, positions_rise}
 use Rattle.four_slot_core.specs.Accesses.{Accesses, IsFreshRead, IsSource}
 use Rattle.four_slot_core.specs.Traces.{Moment, source_record, trace}
-use Rattle.four_slot_core.proofs.Pushed.{of_before}
+use Rattle.register_law.proofs.Times.{of_before}
+use Rattle.stamps.specs.Stamps.{greatest}
 use Rattle.four_slot_core.proofs.traces.Mapped.{trace_mapped}
 use Rattle.stamps.specs.declared.stamp.Stamp.{Stamp}
 use Rattle.stamps.specs.declared.stamp.Stamped.{Stamped}
-use Rattle.matrix_core.specs.CellAnswers.{greatest}
 use Rattle.matrix_board_play.specs.Boards.{cell_moments, cell_trace, column_accesses, IsBoardRun, noise_record, row_accesses, SeesCells}
 use Rattle.matrix_core.specs.ByAccesses.{choice_at, chooses_at, IsCut}
 use Rattle.stamps.specs.Choices.{Choice, ChoosesByKind}

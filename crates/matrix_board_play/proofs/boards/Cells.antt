@@ -13,13 +13,13 @@ use Rattle.history_core.proofs.Positions.{positions_length, positions_mine, posi
 use Rattle.history_core.specs.Schedules.{access_at, positions, Span, steps_of}
 use Rattle.four_slot_core.specs.declared.schedule.Turn.{Turn}
 use Rattle.four_slot_core.specs.declared.schedule.Turn.TheVariants.{Writer, Reader}
-use Rattle.four_slot_core.specs.Accesses.{IsBefore, IsFreshRead}
+use Rattle.four_slot_core.specs.Accesses.{IsFreshRead}
+use Rattle.register_law.specs.Registers.{IsBefore, IsReadOf}
 use Rattle.four_slot_core.specs.Traces.{Moment, moment_at, moments_of, reads_of, RisesFrom, source_record, then_step, Trace, trace}
 use Rattle.four_slot_core.specs.Traces.{writes_of}
 use Rattle.four_slot_core.proofs.traces.Laws.{moments_of_more, moments_of_rise, trace_more, traces_fresh}
 use Rattle.stamps.specs.declared.stamp.Stamped.{Stamped}
 use Rattle.matrix_core.specs.Lines.{first_record, other}
-use Rattle.four_slot_core.specs.ReadNumbers.{IsReadOf}
 use Rattle.matrix_core.specs.ByAccesses.{column, row}
 use Rattle.matrix_board_play.specs.Boards.{cell_moments, cell_trace, Event, event_after, events_after, is_read_of, is_write_of, noise_record}
 use Rattle.matrix_board_play.specs.Boards.{turn_in}

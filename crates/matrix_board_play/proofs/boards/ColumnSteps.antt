@@ -21,13 +21,12 @@ use Rattle.stamps.specs.declared.stamp.Stamped.{Stamped}
 use Rattle.matrix_core.specs.declared.progress.Progress.{Progress}
 use Rattle.matrix_core.specs.declared.progress.Outcome.{Outcome}
 use Rattle.matrix_core.specs.Lines.{begun, cell_place, choice, chosen as chosen_by, gathered, other}
-use Rattle.matrix_core.specs.CellAnswers.{greatest}
+use Rattle.stamps.specs.Stamps.{greater, greatest}
 use Rattle.matrix_board_play.specs.BoardEvents.{after_event, Board, board_size, heard}
 use Rattle.matrix_board_play.specs.Boards.{event_after, turn_in}
 use Rattle.matrix_core.proofs.lines.Accesses.{begun_first, begun_later}
 use Rattle.matrix_core.proofs.lines.Others.{other_differs, other_inside}
 use Rattle.matrix_board_play.proofs.boards.Steps.{choice_same, hear_is}
-use Rattle.stamps.specs.Stamps.{greater}
 use Rattle.matrix_board_play.proofs.boards.Cells.{reader_turn}
 use Rattle.matrix_core.proofs.lists.Elements.{fold_more, get_set, get_set_same}
 use Rattle.matrix_core.proofs.lists.Elements.{not_same, same}

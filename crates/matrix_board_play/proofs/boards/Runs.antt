@@ -5,7 +5,8 @@ use Rattle.std.proofs.Common.{subst, ◌∙◌, ap, arith, inl, inr}
 use Rattle.std.proofs.lemmas.Option.{slice_get_within}
 use Rattle.history_core.specs.declared.history.Op.{Op}
 use Rattle.history_core.specs.Schedules.{IsPlayed, Span}
-use Rattle.four_slot_core.specs.Accesses.{Accesses, Fills, IsBefore, IsClear, IsFreshRead, IsSameSlot, IsSource}
+use Rattle.four_slot_core.specs.Accesses.{Accesses, Fills, IsClear, IsFreshRead, IsSameSlot, IsSource}
+use Rattle.register_law.specs.Registers.{IsBefore}
 use Rattle.four_slot_core.specs.Traces.{reads_of, source_record, Trace, writes_of}
 use Rattle.four_slot_core.proofs.Pushed.{some_of}
 use Rattle.four_slot_core.proofs.traces.Laws.{traces_answered, traces_clear, traces_fresh}

@@ -18,7 +18,7 @@ use Rattle.stamps.specs.declared.stamp.Stamped.{Stamped}
 use Rattle.matrix_core.specs.declared.progress.Progress.{Progress}
 use Rattle.matrix_core.specs.declared.progress.Outcome.{Outcome}
 use Rattle.matrix_core.specs.Lines.{cell_place, choice, first_record, other}
-use Rattle.matrix_core.specs.CellAnswers.{greatest}
+use Rattle.stamps.specs.Stamps.{greatest}
 use Rattle.matrix_board_play.specs.BoardEvents.{Board, board_size}
 use Rattle.matrix_board_play.specs.Boards.{Event, event_after, events_after, noise_record, turn_in}
 use Rattle.matrix_board_play.proofs.boards.Cells.{cell_more, is_reader, is_writer, reader_turn, rises_from_first, side_fives, writer_turn}

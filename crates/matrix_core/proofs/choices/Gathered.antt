@@ -8,10 +8,9 @@ use Rattle.std.proofs.lemmas.Bool.{cases_eq}
 use Rattle.std.proofs.lemmas.Bool.Decides.{nat_tests}
 use Rattle.std.proofs.lemmas.Option.{none-some, same_Some, slice_get_within}
 use Rattle.stamps.specs.declared.stamp.Stamped.{Stamped}
-use Rattle.stamps.specs.Stamps.{greater}
 use Rattle.matrix_core.specs.Lines.{first_record, other}
 use Rattle.stamps.specs.Choices.{AllChoose, Choice, Chooses, IsAtMost, IsFrom, IsIn}
-use Rattle.matrix_core.specs.CellAnswers.{greatest}
+use Rattle.stamps.specs.Stamps.{greater, greatest}
 use Rattle.matrix_core.specs.Gathering.{AllGather, choices_of, Gathers, IsCellAnswer, numbered, record_of}
 use Rattle.matrix_core.proofs.lines.Others.{other_reached}
 use Rattle.stamps.proofs.choices.Rise.{chosen_at_least}

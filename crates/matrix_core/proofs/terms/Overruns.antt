@@ -1,10 +1,9 @@
 -- A step without an operation: its process has made as many steps as its plan has accesses.
 use Rattle.std.proofs.Common.{◌≡◌, ◌≢◌, ℕ, ◌+◌, ◌/◌, ◌<◌, ◌≤◌, List, [], ◌∷◌, ◌++◌, length, take, drop, get_or, set, refl, sym, ◌∙◌}
 use Rattle.std.proofs.Common.{ap, subst, arith, ⊎_elim}
-use Rattle.std.specs.Prelude.{slice_get, Some, None, nat_eq}
-use Rattle.std.proofs.lemmas.Option.{same_Some, none-some, slice_get_past, slice_get_within}
-use Rattle.std.proofs.lemmas.List.{get_or-set_same, get_or-set_other, length-set, length-take-le}
-use Rattle.std.proofs.lemmas.List.Sums.{count_by-le-length}
+use Rattle.std.specs.Prelude.{slice_get, Some, None}
+use Rattle.std.proofs.lemmas.Option.{same_Some, none-some, slice_get_within}
+use Rattle.std.proofs.lemmas.List.{get_or-set_same, get_or-set_other, length-set}
 use Rattle.history_core.specs.declared.wish.Wish.{Wish}
 use Rattle.history_core.specs.Schedules.{steps_of, planned, Overruns, HasOperations, IsFirstOverrun}
 use Rattle.history_core.proofs.Positions.{steps_mine, steps_other}

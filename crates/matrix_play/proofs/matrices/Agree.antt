@@ -12,13 +12,12 @@ use Rattle.history_core.specs.declared.wish.Wish.TheVariants.{Write, Read}
 use Rattle.history_core.specs.Schedules.{access_at, Follows, IsOperation, IsPlayed, planned, positions, Span}
 use Rattle.history_core.proofs.Played.{same_operation_number}
 use Rattle.history_core.proofs.Positions.{position_once}
-use Rattle.four_slot_core.specs.Accesses.{IsBefore}
+use Rattle.register_law.specs.Registers.{Intervals, IsBefore, IsReadOf}
+use Rattle.register_law.proofs.Times.{of_before}
+use Rattle.stamps.specs.Stamps.{greatest}
 use Rattle.four_slot_core.specs.Traces.{source_record}
-use Rattle.four_slot_core.proofs.Pushed.{of_before}
 use Rattle.stamps.specs.declared.stamp.Stamp.{Stamp}
 use Rattle.stamps.specs.declared.stamp.Stamped.{Stamped}
-use Rattle.matrix_core.specs.CellAnswers.{greatest}
-use Rattle.four_slot_core.specs.ReadNumbers.{IsReadOf, Intervals}
 use Rattle.matrix_core.specs.ByAccesses.{choice_at, chooses_at, ChoosesBy, column, IsChosenBy, IsCut, row}
 use Rattle.stamps.specs.Choices.{Choice, ChoosesByKind}
 use Rattle.matrix_core.specs.Lines.{first_record, other}

@@ -10,17 +10,17 @@ use Rattle.history_core.proofs.Positions.{steps_mine, steps_other}
 use Rattle.history_core.specs.declared.wish.Wish.{Wish}
 use Rattle.history_core.specs.Schedules.{access_at, planned, Span, steps_of}
 use Rattle.four_slot_core.specs.Traces.{source_record}
-use Rattle.four_slot_core.proofs.Pushed.{get_cases, of_before, to_before}
+use Rattle.four_slot_core.proofs.Pushed.{get_cases}
+use Rattle.register_law.proofs.Times.{of_before, to_before}
+use Rattle.stamps.specs.Stamps.{greater, greatest}
+use Rattle.register_law.specs.Registers.{IsReadOf}
 use Rattle.stamps.specs.declared.stamp.Stamped.{Stamped}
 use Rattle.matrix_core.specs.declared.progress.Progress.{Progress}
 use Rattle.matrix_core.specs.declared.progress.Outcome.{Outcome}
-use Rattle.matrix_core.specs.CellAnswers.{greatest}
-use Rattle.four_slot_core.specs.ReadNumbers.{IsReadOf}
 use Rattle.matrix_core.specs.ByAccesses.{column, row, intervals_at}
 use Rattle.matrix_play.specs.MatrixEvents.{after_access, IsMatrix, Matrix}
 use Rattle.matrix_core.specs.Lines.{begun, cell_place, choice, first_record, gathered, other}
 use Rattle.matrix_play.specs.MatrixEvents.{size}
-use Rattle.stamps.specs.Stamps.{greater}
 use Rattle.matrix_play.proofs.matrices.Accesses.{access_of, after_last_read, after_other_read, IsAccess, IsRead}
 use Rattle.matrix_core.proofs.lines.Accesses.{begun_first, begun_later}
 use Rattle.matrix_play.proofs.matrices.Accesses.{IsWrite}

@@ -8,12 +8,14 @@ use Rattle.history_core.proofs.Positions.{positions_order, positions_rise}
 use Rattle.four_slot_core.specs.declared.schedule.Turn.{Turn}
 use Rattle.four_slot_core.specs.declared.schedule.Turn.TheVariants.{Writer, Reader}
 use Rattle.four_slot_play.specs.declared.player.run.Numbered.{Numbered}
-use Rattle.four_slot_core.specs.Accesses.{IsBefore, IsFreshRead}
+use Rattle.four_slot_core.specs.Accesses.{IsFreshRead}
+use Rattle.register_law.specs.Registers.{IsBefore}
+use Rattle.register_law.proofs.Times.{of_before, to_before}
 use Rattle.four_slot_core.specs.Traces.{Trace, trace_start, writes_of, reads_of}
 use Rattle.four_slot_core.specs.Play.{actor}
 use Rattle.four_slot_play.specs.inner.Runs.{numbered, opening_record, numbered_trace}
 use Rattle.four_slot_play.specs.inner.Weaves.{GoesBy, IsAmongBy}
-use Rattle.four_slot_core.proofs.Pushed.{get_within, of_before, to_before}
+use Rattle.four_slot_core.proofs.Pushed.{get_within}
 use Rattle.four_slot_core.proofs.traces.Good.{numbered_read_fresh}
 use Rattle.four_slot_play.proofs.player.run.Traces.{number_of, run_good, writer_positions, reader_positions}
 use Rattle.four_slot_play.proofs.player.run.Numbers.{numbers_rise}
