@@ -2,7 +2,7 @@
 -- Computing 1, 1986): when the slot accesses are clear of each other, and which reads are fresh. Only the order of the positions
 -- counts.
 use Rattle.std.specs.Prelude.{◌≡◌, ℕ, ◌+◌, ◌<◌, ◌≤◌, Option, Some, IsSome, ◌⊎◌}
-use Rattle.register_law.specs.Registers.{IsBefore}
+use Rattle.register_law.specs.Registers.{Intervals, IsBefore, IsReadOf}
 
 -- the accesses of one side: the position of each event of each access (W1 and R1 are event 0), none where it isn't made; and
 -- the slot of each access, none where it isn't chosen
@@ -30,14 +30,16 @@ pub record IsSource (writer reader : Accesses) (m n : ℕ) : Type 0 where
   pub above : (k : ℕ) → Fills writer reader k m → k < n
   pub filled : (k : ℕ) → n ≡ k + 1 → Fills writer reader k m
 
+-- the accesses as calls: a write from W1 to W5, a read from R1 to R5
+abbrev pub as_calls : Accesses → Intervals
+as_calls a = record { begins = λ k. a.at k 0; ends = λ k. a.at k 4 }
+
 -- a finished read with this source is fresh
 pub record IsFreshRead (writer reader : Accesses) (m n : ℕ) : Type 0 where
   pub source : IsSource writer reader m n
-  -- its number is at least that of each write that precedes it, and at least that of each earlier read
-  pub writes : (k : ℕ) → IsBefore (writer.at k 4) (reader.at m 0) → k + 1 ≤ n
+  -- it has its number by the law of registers, and this is at least that of each earlier read
+  pub read_of : IsReadOf (as_calls writer) (as_calls reader) m n
   pub reads : (j i : ℕ) → j < m → IsSource writer reader j i → i ≤ n
-  -- and the write with that number began before the read ended
-  pub begun : (k : ℕ) → n ≡ k + 1 → IsBefore (writer.at k 0) (reader.at m 4)
 
 -- accesses of two descriptions that are the same: of each access the five events and the slot agree
 pub record Agree (a b : Accesses) : Type 0 where

@@ -55,9 +55,9 @@ module _ {R : Type 0} where
           slot = λ k e. (f.1.source.filled k e).0;
           before = λ k e. (f.1.source.filled k e).1;
         },
-        λ k before. let late = f.1.writes k before in omega (arith, late),
+        f.1.read_of.late,
         f.1.reads,
-        f.1.begun,
+        f.1.read_of.begun,
       )
 
   pub orders : CellOrdersShow R

@@ -39,8 +39,11 @@ source_as w v r s aw ar m n h = record {
 pub fresh_as : (w v r s : Accesses) → Agree w v → Agree r s → (m n : ℕ) → IsFreshRead w r m n → IsFreshRead v s m n
 fresh_as w v r s aw ar m n h = record {
   source = source_as w v r s aw ar m n h.source;
-  writes = λ k b.
-      h.writes k (before_as (v.at k 4) (w.at k 4) (s.at m 0) (r.at m 0) (sym (aw.at k 4 (omega arith))) (sym (ar.at m 0 (omega arith))) b);
+  read_of = record {
+    late = λ k b. h.read_of.late k
+        (before_as (v.at k 4) (w.at k 4) (s.at m 0) (r.at m 0) (sym (aw.at k 4 (omega arith))) (sym (ar.at m 0 (omega arith))) b);
+    begun = λ k e.
+        before_as (w.at k 0) (v.at k 0) (r.at m 4) (s.at m 4) (aw.at k 0 (omega arith)) (ar.at m 4 (omega arith)) (h.read_of.begun k e);
+  };
   reads = λ j i l x. h.reads j i l (source_as v w s r (turned aw) (turned ar) j i x);
-  begun = λ k e. before_as (w.at k 0) (v.at k 0) (r.at m 4) (s.at m 4) (aw.at k 0 (omega arith)) (ar.at m 4 (omega arith)) (h.begun k e);
 }

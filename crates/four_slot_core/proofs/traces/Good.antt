@@ -108,10 +108,12 @@ numbered_read_fresh {R} num opening items t next m x h e =
     let inside : m < length t.answers = slice_get_within t.answers m x e in
     record {
       source = h.sourced.finished m x e;
-      writes = mine.writes;
+      read_of = record {
+        late = λ k b. let l : k + 1 ≤ num x = mine.writes k b in omega arith;
+        begun = λ k e. mine.begun k e;
+      };
       reads = λ j i l s.
           let y = get_within t.answers j (omega arith) in
           let up : i ≤ num y.0 = source_up (writes_of t) (reads_of t) j i (num y.0) s (h.sourced.finished j y.0 y.1) in
           omega (arith, mine.earlier j y.0 l y.1);
-      begun = mine.begun;
     }

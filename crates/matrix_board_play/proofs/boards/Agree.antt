@@ -176,7 +176,7 @@ module _ {R : Type 0} (at : ℕ) (span : Span R) (opening noise : R) (cut : IsCu
     source_agree read write (suc m) l f =
         let two : 2 ≤ n = cut.at_least in
         let b = of_before ((row_accesses at span slot (other i read) write).at m 0) ((column_accesses at span slot i read).at k 4)
-        (f.begun m (omega arith)) in
+        (f.read_of.begun m (omega arith)) in
         let r = event_upto at span i k (read * 5 + 4) ch t (omega arith) now in
         let l1 : b.0 < r.0 = b.2 r.0 r.1 in
         let c = event_before at span (other i read) m ch ((n - 1 + write) * 5 + 0) b.0 (omega arith) b.1 in

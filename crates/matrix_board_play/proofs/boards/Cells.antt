@@ -282,8 +282,8 @@ module _ {R : Type 0} (at : ℕ) (span : Span R) (opening noise : R) (chosen : �
       let fresh : IsFreshRead (writes_of t) (reads_of t) k f.0 = f.1 in (
         f.0,
         record {
-          late = λ m b. let z : m + 1 ≤ f.0 = fresh.writes m (before m k 4 0 (omega arith) (omega arith) b) in omega arith;
-          begun = λ m e. after m k 0 4 (omega arith) (omega arith) (fresh.begun m e);
+          late = λ m b. fresh.read_of.late m (before m k 4 0 (omega arith) (omega arith) b);
+          begun = λ m e. after m k 0 4 (omega arith) (omega arith) (fresh.read_of.begun m e);
         },
         f.2,
       )

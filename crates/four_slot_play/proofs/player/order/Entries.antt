@@ -71,7 +71,7 @@ module _ {R : Type 0} (opening noise : R) (steps : List Turn) (writes : List R) 
       (s : ℕ) × Begins Writer k s × (s < e)
   source_begun m e l ends k is =
       let x = answer_at m l in
-      let b = of_before (slice_get played.writer (k * 5 + 0)) (slice_get played.reader (m * 5 + 4)) (x.3.begun k (sym x.2 ∙ is)) in
+      let b = of_before (slice_get played.writer (k * 5 + 0)) (slice_get played.reader (m * 5 + 4)) (x.3.read_of.begun k (sym x.2 ∙ is)) in
       (b.0, sym (writer_is (k * 5 + 0)) ∙ b.1, b.2 e (reader_is (m * 5 + 4) ∙ ends))
 
   -- the numbers rise along precedence
@@ -85,7 +85,7 @@ module _ {R : Type 0} (opening noise : R) (steps : List Turn) (writes : List R) 
       let P : IsBefore (slice_get played.writer (k * 5 + 4)) (slice_get played.reader (m * 5 + 0)) =
       to_before (slice_get played.writer (k * 5 + 4)) (slice_get played.reader (m * 5 + 0)) e (writer_is (k * 5 + 4)
       ∙ ends) (λ y q. let s : r ≡ y = same_Some r y (sym begins ∙ sym (reader_is (m * 5 + 0)) ∙ q) in omega arith) in
-      let le = x.3.writes k P in
+      let le : k < x.0.number = x.3.read_of.late k P in
       omega (arith, x.2)
   entry_rises count Reader Writer k m e r kt mu ends begins lt = elim (number_cases (number_by Reader k)) [
     | inl z ↦ omega arith
