@@ -1,6 +1,6 @@
 # What `install` and the tests of the static library share. They name the folder at the top in $top.
 
-library_crates='history_core four_slot_core stamps matrix_core board_history cell_live cell_four_slot cell_triple family_live
+library_crates='history_core register_law four_slot_core stamps matrix_core board_history cell_live cell_four_slot cell_triple family_live
     family_table family_four_slot family_triple board_live c_registers c_boards c_handles c_exports'
 
 # Whether this is there and no source that the library is made of is newer.

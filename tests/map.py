@@ -19,7 +19,7 @@ TOP = os.path.dirname(os.path.dirname(os.path.realpath(__file__)))
 MAP = f"{TOP}/docs/MAP.md"
 MARKS = "<!-- made by tests/map.py -->\n", "<!-- to here -->\n"
 SUBJECTS = {
-    "Histories and their orders": "history_core history_witnesses history_search history_thinning",
+    "Histories and their orders": "history_core register_law history_witnesses history_search history_thinning",
     "The four-slot register, played": "four_slot_core four_slot_play",
     "The matrix and the composed board, played": "stamps matrix_core matrix_play matrix_board_play",
     "Running cells": "cell_live cell_four_slot cell_triple cell_uses",
