@@ -30,7 +30,7 @@ TOOLS = {
 HELPERS = {"outcomes", "spent", "build", "library"}
 # Those that another script reads.
 PARTS = {"rust"}
-BY_HAND = {"roots", "disturb", "board_soak"}
+BY_HAND = {"roots", "disturb", "library_soak"}
 TOLD = re.compile(r"(?m)^test: (\S+(?: ci)?): (\d+) checks$")
 ROW = re.compile(r"(?m)^\| (\d+) \| `([^`]+)` \|$")
 SUMS = re.compile(r"(?m)^(\d+) crates, (\d+) wrong bodies ")
