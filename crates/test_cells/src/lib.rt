@@ -1,17 +1,9 @@
-//! The worked rows and the limits of the libraries, run by an outside caller over their public calls.
+//! The rows of the running cells, run by an outside caller over their public calls.
 #![tactic(auto)]
 
 #[cfg(test)]
-mod cells;
+mod counts;
 #[cfg(test)]
-mod fourslots;
+mod in_place;
 #[cfg(test)]
-mod histories;
-#[cfg(test)]
-mod matrices;
-#[cfg(test)]
-mod schedules;
-#[cfg(test)]
-mod searches;
-#[cfg(test)]
-mod sinks;
+mod torn;
