@@ -1,4 +1,4 @@
-//! Documents and texts that no run of `fsr` shows.
+//! Documents and printed texts: what no run of `fsr` shows of them.
 #![tactic(auto)]
 
 #[cfg(test)]
