@@ -22,7 +22,7 @@ import tarfile
 TOP = os.path.dirname(os.path.dirname(os.path.realpath(__file__)))
 SOURCE = re.compile(r"crates/\w+/src/.*\.rt$")
 SPECS = re.compile(r"crates/\w+/specs/.*\.antt$")
-TESTS = re.compile(r"(^|[/_])tests(/|\.rt$|_)|/test_libraries/")
+TESTS = re.compile(r"(^|[/_])tests(/|\.rt$|_)|/test_(histories|four_slots|matrices|texts|cells)/")
 # Comments, strings and characters, in which no brace counts.
 SKIPPED = re.compile(r"""//[^\n]*|"(?:[^"\\]|\\.)*"|'(?:[^'\\\n]|\\.)'""")
 TOKEN = re.compile(

@@ -31,7 +31,8 @@ SUBJECTS = {
     "The program fsr": "log_search lines_answers fsr_words fsr_check_answers fsr_order_answers fsr_play_answers "
     "fsr_race_answers fsr_answers fsr_check fsr_order fsr_play fsr",
     "Pictures": "picture_shapes picture_visits picture_text picture_answers picture",
-    "Tests and measurements": "test_libraries test_runs test_families board_teams test_growths headline_uses theorems cells_bench",
+    "Tests and measurements": "test_histories test_four_slots test_matrices test_texts test_cells test_runs test_families "
+    "board_teams test_growths headline_uses theorems cells_bench",
     "The soak": "soak_findings soak_rounds soak_boards soak",
 }
 

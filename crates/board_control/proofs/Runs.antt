@@ -15,7 +15,8 @@ use Rattle.board_live.specs.declared.record.Posted.{Posted}
 use Rattle.board_live.specs.Passes.{ChoosesStamp, HasMade, IsCall, IsPass, kind_of}
 use Rattle.board_live.specs.Receipts.{HasLearnt}
 use Rattle.board_control.specs.declared.control.Control.{Control}
-use Rattle.board_control.specs.Turns.{call_of, command_of, Drives, HasReadInTurn, HasTakenTurns, HasSteered, in_order, no_read, no_turn, one_more, one_read, MakesRead}
+use Rattle.board_control.specs.Turns.{call_of, command_of, Drives, HasReadInTurn, HasTakenTurns, HasSteered, in_order, no_read, no_turn}
+use Rattle.board_control.specs.Turns.{one_more, one_read, MakesRead}
 use Rattle.board_control.specs.Turns.{TakesTurn, Turns, with_turn}
 
 module _ {M : Type 0} (was_sent : M → ℕ → M → Type 0) where
@@ -60,7 +61,8 @@ module _ {F S T : Type 0} (words : FamilyWords F (Posted Control) S T) (board : 
 
   module _ (Makes : (Control → Control) → Type 0) (old : Pass Control F S T) where
     pub has_run : (calls : List (Called Control)) (make : Control → Control) (p q : Pass Control F S T)
-        (result : Result Stamp (TagsEnded Control)) → Turns words board Makes old calls p → Makes make → TakesTurn words board make p q result
+        (result : Result Stamp (TagsEnded Control)) → Turns words board Makes old calls p → Makes make →
+        TakesTurn words board make p q result
         → HasTakenTurns words board Makes old q
     has_run calls make p q result h makes t = record {
       calls = with_turn words board make p q result calls t;
@@ -78,11 +80,13 @@ module _ {F S T : Type 0} (words : FamilyWords F (Posted Control) S T) (board : 
         let x = of_turns calls now h of fresh in (
           t.writes.of,
           t.writes.call.process ∙ t.reads.call.process ∙ x.1,
-          t.writes.call.made (calls ++ call_of words board Read now t.between t.between.own t.reads.call ∷ []) (t.reads.call.made calls x.2),
+          t.writes.call.made (calls ++ call_of words board Read now t.between t.between.own t.reads.call ∷ [])
+              (t.reads.call.made calls x.2),
         )
 
   -- the pass of a control loop
-  pub of_reads : (old : Pass Control F S T) (calls : List (Called Control)) (new : Pass Control F S T) → HasReadInTurn words board old calls new
+  pub of_reads : (old : Pass Control F S T) (calls : List (Called Control)) (new : Pass Control F S T) →
+      HasReadInTurn words board old calls new
       → IsPass words in_order board old → HasMade words board old []
       → IsPass words in_order board new × (new.process ≡ old.process) × HasMade words board new calls
   of_reads old _ _ no_read of fresh = (of, refl, fresh)

@@ -12,11 +12,13 @@ use Rattle.board_live.specs.declared.record.Posted.{Posted}
 use Rattle.board_live.specs.Ends.{AllPasses, did_by, HaveAtomicOrder}
 use Rattle.board_live.specs.Passes.{HasMade, IsPass}
 use Rattle.board_control.specs.declared.control.Control.{Control}
-use Rattle.board_control.specs.Turns.{AreDealt, Drives, HasControlled, HasCrossed, HasTakenTurns, HasSteered, in_order, IsFresh, Publishes, SetsLimits}
+use Rattle.board_control.specs.Turns.{AreDealt, Drives, HasControlled, HasCrossed, HasTakenTurns, HasSteered, in_order, IsFresh, Publishes}
+use Rattle.board_control.specs.Turns.{SetsLimits}
 use Rattle.board_control.proofs.Runs.{of_reads, of_turns}
 
 -- those that were taken from the end of three, and of two
-pub three_taken : {X : Type 0} (passes most one rest : List X) (p q r : X) → passes ≡ most ++ r ∷ [] → most ≡ one ++ q ∷ [] → one ≡ rest ++ p ∷ []
+pub three_taken : {X : Type 0} (passes most one rest : List X) (p q r : X) → passes ≡ most ++ r ∷ [] → most ≡ one ++ q ∷ [] →
+    one ≡ rest ++ p ∷ []
     → length passes ≡ 3 → (slice_get passes 0 ≡ Some p) × (slice_get passes 1 ≡ Some q) × (slice_get passes 2 ≡ Some r)
 three_taken passes most one [] p q r e f d n = (rw (e, f, d) refl, rw (e, f, d) refl, rw (e, f, d) refl)
 three_taken passes most one (x ∷ xs) p q r e f d n =
@@ -95,7 +97,8 @@ module _ {F S T : Type 0} (words : FamilyWords F (Posted Control) S T) (board : 
       → IsFresh words in_order board who old → named ≡ board → seen ≡ old → (h : HasTakenTurns words named Makes seen new)
       → (calls : List (Called Control)) × IsBack who new calls
   back_from_turns who Makes named old seen new fresh e f h =
-      let here : HasTakenTurns words board Makes old new = subst (λ z. HasTakenTurns words z Makes old new) e (subst (λ z. HasTakenTurns words named Makes z new) f h) in
+      let here : HasTakenTurns words board Makes old new =
+      subst (λ z. HasTakenTurns words z Makes old new) e (subst (λ z. HasTakenTurns words named Makes z new) f h) in
       let x = of_turns words board Makes old here.calls new here.turns fresh.of fresh.none in
       (here.calls, record { of = x.0; process = x.1 ∙ fresh.who; made = x.2 })
 
@@ -105,7 +108,8 @@ module _ {F S T : Type 0} (words : FamilyWords F (Posted Control) S T) (board : 
       → (calls : List (Called Control)) × IsBack who new calls × Drives was_sent before calls after
   back_from_steering was_sent who named old seen new before kept after fresh e f m h =
       let here : HasSteered words was_sent board old new before after = subst (λ z. HasSteered words was_sent z old new before after) e
-      (subst (λ z. HasSteered words was_sent named z new before after) f (subst (λ z. HasSteered words was_sent named seen new z after) m h)) in
+      (subst (λ z. HasSteered words was_sent named z new before after) f
+      (subst (λ z. HasSteered words was_sent named seen new z after) m h)) in
       let x = of_reads words board old here.calls new here.reads fresh.of fresh.none in
       (here.calls, record { of = x.0; process = x.1 ∙ fresh.who; made = x.2 }, here.drives)
 
@@ -122,7 +126,8 @@ module _ {F S T : Type 0} (words : FamilyWords F (Posted Control) S T) (board : 
   -- they were dealt to the tasks, over this board and by these passes, where they go by other names
   pub come_back : {M : Type 0} (was_sent : M → ℕ → M → Type 0) (opening : Control) (p q r : Pass Control F S T)
       → AreDealt words opening board p q r → (b c d : Board Control F S T) (p' q' r' : Pass Control F S T) (x y z : Pass Control F S T)
-      (before kept after : M) → b ≡ board → p' ≡ p → HasTakenTurns words b SetsLimits p' x → c ≡ board → q' ≡ q → HasTakenTurns words c Publishes q' y
+      (before kept after : M) → b ≡ board → p' ≡ p → HasTakenTurns words b SetsLimits p' x → c ≡ board → q' ≡ q →
+      HasTakenTurns words c Publishes q' y
       → d ≡ board → r' ≡ r → kept ≡ before → HasSteered words was_sent d r' z kept after → AreBack was_sent x y z before after
   come_back was_sent opening p q r dealt b c d p' q' r' x y z before kept after e f h i j k l m n o =
       let limits = back_from_turns 0 SetsLimits b p p' x dealt.limits e f h in
@@ -138,7 +143,8 @@ module _ {F S T : Type 0} (words : FamilyWords F (Posted Control) S T) (board : 
         drives = steering.2;
       }
 
-  module _ (p q r : Pass Control F S T) (cs ds es : List (Called Control)) (of_p : IsBack 0 p cs) (of_q : IsBack 1 q ds) (of_r : IsBack 2 r es)
+  module _ (p q r : Pass Control F S T) (cs ds es : List (Called Control)) (of_p : IsBack 0 p cs) (of_q : IsBack 1 q ds)
+      (of_r : IsBack 2 r es)
     where
       abbrev of_three : ℕ → List (Called Control)
       of_three zero = cs

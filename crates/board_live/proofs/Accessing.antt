@@ -53,23 +53,28 @@ stays width steps more access count begins ends begins' ends' long l some h =
 
 -- the access that was just made
 newest : (width clock clock' : ℕ) (times times' steps : List ℕ) (old new : Times) (count : ℕ) → length steps ≡ count * width →
-    (h : IsAccess width clock clock' times times' old new) → IsInterval width (steps ++ h.steps) count old.begins old.ends new.begins new.ends
+    (h : IsAccess width clock clock' times times' old new) →
+    IsInterval width (steps ++ h.steps) count old.begins old.ends new.begins new.ends
 newest width clock clock' times times' steps old new count long h = record {
   begin = h.first;
   end = clock';
-  first = ap (slice_get (steps ++ h.steps)) (let e : count * width ≡ length steps + 0 = omega arith in e) ∙ get_after steps h.steps 0 ∙ h.first_is;
+  first = ap (slice_get (steps ++ h.steps)) (let e : count * width ≡ length steps + 0 = omega arith in e) ∙ get_after steps h.steps 0
+      ∙ h.first_is;
   last = ap (slice_get (steps ++ h.steps)) (let e : count * width + (width - 1) ≡ length steps + (width - 1) = omega arith in e)
       ∙ get_after steps h.steps (width - 1) ∙ h.last_is;
   begun = h.begins;
   ended = h.ends;
 }
 
-longer : (width count : ℕ) (steps more : List ℕ) → length steps ≡ count * width → length more ≡ width → length (steps ++ more) ≡ (count + 1) * width
+longer : (width count : ℕ) (steps more : List ℕ) → length steps ≡ count * width → length more ≡ width →
+    length (steps ++ more) ≡ (count + 1) * width
 longer width count steps more a b = length-append steps more
     ∙ (let z : length steps + length more ≡ count * width + 1 * width = omega arith in z) ∙ sym (add-mul count 1 width)
 
-some_steps : (width clock clock' : ℕ) (times times' : List ℕ) (old new : Times) → IsAccess width clock clock' times times' old new → 0 < width
-some_steps width clock clock' times times' old new h = let l = slice_get_within h.steps 0 h.first h.first_is in let e = h.long in omega arith
+some_steps : (width clock clock' : ℕ) (times times' : List ℕ) (old new : Times) → IsAccess width clock clock' times times' old new →
+    0 < width
+some_steps width clock clock' times times' old new h = let l = slice_get_within h.steps 0 h.first h.first_is in let e = h.long in
+    omega arith
 
 -- steps that rise, and their last
 rises_above : (clock : ℕ) (steps : List ℕ) (k b : ℕ) → Later clock steps → slice_get steps k ≡ Some b → clock < b
@@ -144,7 +149,8 @@ module _ {V F S T : Type 0} (words : FamilyWords F (Posted V) S T) where
       (words.opening family) (λ p. IsTrue (obeys p.item)) Rises (λ old item new. new ≡ greater old item)
 
   pub read_more : (obeys : V → Bool) (family : F) (process count : ℕ) (start now next : S) (own seen seen' : Posted V) →
-      HasReadColumn words obeys family process count start now own seen → IsReadOf obeys family (other process count) (now, seen) (next, seen') →
+      HasReadColumn words obeys family process count start now own seen →
+      IsReadOf obeys family (other process count) (now, seen) (next, seen') →
       HasReadColumn words obeys family process (count + 1) start next own seen'
   read_more obeys family process count start now next own seen seen' r h = record {
     of = (h.own.0, h.own.1 ∙ r.of.1);
@@ -160,7 +166,8 @@ module _ {V F S T : Type 0} (words : FamilyWords F (Posted V) S T) where
       | inl was ↦
           let l : e < count = let a = slice_get_within r.answers e answer was in let b = r.each in omega arith in
           let x = r.reads e answer was in
-          subst (λ (z : ReadAccesses (Posted V)). IsIntervalOf words.width (r.steps ++ h.access.steps) e (words.reads start (other process e)).times z.times
+          subst (λ (z : ReadAccesses (Posted V)). IsIntervalOf words.width (r.steps ++ h.access.steps) e
+          (words.reads start (other process e)).times z.times
           × IsFurtherAnswer obeys (words.opening family) (words.reads start (other process e)) z answer)
           (sym (h.others.0 (other process e) (λ s. let z = other_once process e count s in omega arith)))
           (stays words.width r.steps h.access.steps e count _ _ _ _ r.long l some x.0, x.1)
@@ -168,12 +175,15 @@ module _ {V F S T : Type 0} (words : FamilyWords F (Posted V) S T) where
           let at : e ≡ count = new.0 ∙ r.each in
           subst (λ z. IsIntervalOf words.width (r.steps ++ h.access.steps) z (words.reads start (other process z)).times
           (words.reads next (other process z)).times
-          × IsFurtherAnswer obeys (words.opening family) (words.reads start (other process z)) (words.reads next (other process z)) answer) (sym at)
-          (subst (λ (z : ReadAccesses (Posted V)). IsIntervalOf words.width (r.steps ++ h.access.steps) count z.times (words.reads next (other process count)).times
+          × IsFurtherAnswer obeys (words.opening family) (words.reads start (other process z)) (words.reads next (other process z)) answer)
+          (sym at)
+          (subst (λ (z : ReadAccesses (Posted V)). IsIntervalOf words.width (r.steps ++ h.access.steps) count z.times
+          (words.reads next (other process count)).times
           × IsFurtherAnswer obeys (words.opening family) z (words.reads next (other process count)) answer) (r.unread count (omega arith)) (
             newest words.width (words.clock now) (words.clock next) (words.times now) (words.times next) r.steps
                 (words.reads now (other process count)).times (words.reads next (other process count)).times count r.long h.access,
-            subst (IsFurtherAnswer obeys (words.opening family) (words.reads now (other process count)) (words.reads next (other process count))) new.1
+            subst (IsFurtherAnswer obeys (words.opening family) (words.reads now (other process count))
+                (words.reads next (other process count))) new.1
                 (record { read = h.read; running = h.may }),
           ))
     ];
@@ -189,11 +199,12 @@ module _ {V F S T : Type 0} (words : FamilyWords F (Posted V) S T) where
           (words.reads now (other process count)).times (words.reads next (other process count)).times h.access
 
   -- a column of the family is one of the board
-  pub column_read : (obeys : V → Bool) (family : F) (process : ℕ) (start : S) (own : Posted V) → words.is_seat family start → IsTrue (obeys own.item) →
-      (count : ℕ) (now : S × Posted V) → OneByOne (IsReadOf obeys family) process (start, own) count now →
+  pub column_read : (obeys : V → Bool) (family : F) (process : ℕ) (start : S) (own : Posted V) → words.is_seat family start →
+      IsTrue (obeys own.item) → (count : ℕ) (now : S × Posted V) → OneByOne (IsReadOf obeys family) process (start, own) count now →
       HasReadColumn words obeys family process count start now.0 own now.1
   column_read obeys family process start own is lawful _ _ no_call = nothing_read obeys family process start own is lawful
-  column_read obeys family process start own is lawful _ _ (one_more count now new r call) = read_more obeys family process count start now.0 new.0
+  column_read obeys family process start own is lawful _ _ (one_more count now new r call) =
+      read_more obeys family process count start now.0 new.0
       own now.1 new.1 (column_read obeys family process start own is lawful count now r) call
 
   last_of : (first : Posted V) (items : List (Posted V)) (item : Posted V) → last_or first (items ++ item ∷ []) ≡ item
@@ -214,8 +225,8 @@ module _ {V F S T : Type 0} (words : FamilyWords F (Posted V) S T) where
     reads = λ j. refl;
   }
 
-  pub write_more : (family : F) (process count : ℕ) (start now next : S) (item : Posted V) → HasWrittenRow words family process count start now item →
-      words.is_seat family next × (words.who next ≡ words.who now) →
+  pub write_more : (family : F) (process count : ℕ) (start now next : S) (item : Posted V) →
+      HasWrittenRow words family process count start now item → words.is_seat family next × (words.who next ≡ words.who now) →
       IsAccess words.width (words.clock now) (words.clock next) (words.times now) (words.times next)
       (words.writes now (other process count)).times (words.writes next (other process count)).times →
       IsWriteAccess (words.writes now (other process count)) (words.writes next (other process count)) item →
@@ -232,14 +243,16 @@ module _ {V F S T : Type 0} (words : FamilyWords F (Posted V) S T) where
     writes = λ e l. elim (cases_lt e count) [
       | inl lt ↦
           let x = r.writes e lt in
-          subst (λ (z : WriteAccesses (Posted V)). IsIntervalOf words.width (r.steps ++ access.steps) e (words.writes start (other process e)).times z.times
+          subst (λ (z : WriteAccesses (Posted V)). IsIntervalOf words.width (r.steps ++ access.steps) e
+          (words.writes start (other process e)).times z.times
           × IsWriteAccess (words.writes start (other process e)) z item)
           (sym (others.0 (other process e) (λ s. let z = other_once process e count s in omega arith)))
           (stays words.width r.steps access.steps e count _ _ _ _ r.long lt some x.0, x.1)
       | inr ge ↦
           let at : e ≡ count = omega arith in
           subst (λ z. IsIntervalOf words.width (r.steps ++ access.steps) z (words.writes start (other process z)).times
-          (words.writes next (other process z)).times × IsWriteAccess (words.writes start (other process z)) (words.writes next (other process z)) item)
+          (words.writes next (other process z)).times
+          × IsWriteAccess (words.writes start (other process z)) (words.writes next (other process z)) item)
           (sym at)
           (subst (λ (z : WriteAccesses (Posted V)). IsIntervalOf words.width (r.steps ++ access.steps) count z.times
           (words.writes next (other process count)).times × IsWriteAccess z (words.writes next (other process count)) item)
@@ -267,21 +280,22 @@ module _ {V F S T : Type 0} (words : FamilyWords F (Posted V) S T) where
 
   -- a row of the family is one of the board
   pub row_written : (family : F) (process : ℕ) (start : S) (item : Posted V) → words.is_seat family start → (count : ℕ) (now : S) →
-      OneByOne (IsWriteTo (words.is_seat family) words.who words.clock words.times words.writes words.reads words.width item) process start count now →
-      HasWrittenRow words family process count start now item
+      OneByOne (IsWriteTo (words.is_seat family) words.who words.clock words.times words.writes words.reads words.width item) process start
+      count now → HasWrittenRow words family process count start now item
   row_written family process start item is _ _ no_call = nothing_written family process start item is
   row_written family process start item is _ _ (one_more count now new r call) = write_more family process count start now new item
       (row_written family process start item is count now r) call.own call.access call.written call.others
 
   -- the record may stand after the one that was written last
   pub stands_there : (family : F) (j : ℕ) (start : S) (first own item : Posted V) → words.opening family ≡ first →
-      last_or first (words.writes start j).items ≡ own → Rises own item → Rises (last_or (words.opening family) (words.writes start j).items) item
+      last_or first (words.writes start j).items ≡ own → Rises own item →
+      Rises (last_or (words.opening family) (words.writes start j).items) item
   stands_there family j start first own item opens there rises =
       subst (λ z. Rises z item) (sym (ap (λ z. last_or z (words.writes start j).items) opens ∙ there)) rises
 
   -- a row that was written, and one that wasn't, since the record stands there
-  pub row_told : (family : F) (process count : ℕ) (seat seat' : S) (own item : Posted V) → HasWrittenRow words family process count seat seat' item →
-      HasRow words family process count seat seat' own item
+  pub row_told : (family : F) (process count : ℕ) (seat seat' : S) (own item : Posted V) →
+      HasWrittenRow words family process count seat seat' item → HasRow words family process count seat seat' own item
   row_told family process count seat seat' own item w = record {
     of = w.of;
     tells = true;

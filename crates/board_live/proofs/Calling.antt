@@ -1,5 +1,6 @@
 -- A whole call: its reads and then its writes are the steps of one call more.
-use Rattle.std.proofs.Common.{◌≡◌, ◌≢◌, Bool, true, false, ℕ, zero, suc, ◌+◌, ◌-◌, ◌*◌, ◌<◌, ◌≤◌, List, [], ◌∷◌, ◌++◌, length, map, slice_get, Some}
+use Rattle.std.proofs.Common.{◌≡◌, ◌≢◌, Bool, true, false, ℕ, zero, suc, ◌+◌, ◌-◌, ◌*◌, ◌<◌, ◌≤◌, List, [], ◌∷◌, ◌++◌, length, map}
+use Rattle.std.proofs.Common.{slice_get, Some}
 use Rattle.std.proofs.Common.{refl, sym, ◌∙◌, ap, subst, arith, inl, inr, append-nil, append_assoc, add-mul}
 use Rattle.std.specs.Prelude.{All, IsTrue}
 use Rattle.std.proofs.lemmas.Bool.{cases_Bool}
@@ -28,7 +29,8 @@ use Rattle.board_live.specs.declared.board.Board.{Board}
 use Rattle.board_live.specs.declared.board.Pass.{Pass}
 use Rattle.board_live.specs.declared.record.Posted.{Posted}
 use Rattle.board_live.specs.inner.Calls.{HasReadColumn, HasRow, IsStretch}
-use Rattle.board_live.specs.Passes.{answered_of, did_of, HasMade, IsFurtherAnswer, IsBounded, IsCall, IsKnown, IsMindful, IsPass, written_of}
+use Rattle.board_live.specs.Passes.{answered_of, did_of, HasMade, IsFurtherAnswer, IsBounded, IsCall, IsKnown, IsMindful, IsPass}
+use Rattle.board_live.specs.Passes.{written_of}
 use Rattle.board_live.specs.Records.{Rises, stamped}
 use Rattle.board_live.proofs.Accessing.{stays}
 use Rattle.board_live.proofs.Records.{greatest_from, least, rises_at_most, stamped_greatest}
@@ -124,7 +126,8 @@ module _ {V F S T : Type 0} (words : FamilyWords F (Posted V) S T) (obeys : V �
   long = length-append r.steps w.steps ∙ ap (λ m. m + length w.steps) r.long ∙ ap (λ m. (n - 1) * words.width + m) w.long
 
   made : ((place : ℕ) → ChoosesByKind board.limit (record { place = place; who = i; kind = kind; stamp = chosen.stamp; item = chosen.item })
-      kind seen.stamp seen.item) → (calls : List (Called V)) → HasMade words board old calls → HasMade words board new (calls ++ called ∷ [])
+      kind seen.stamp seen.item) → (calls : List (Called V)) → HasMade words board old calls →
+      HasMade words board new (calls ++ called ∷ [])
   made chooses calls h = record {
     made = call_made words.width n board.limit (stamped board.first) i (did_of words old.seat calls)
         (did_of words next (calls ++ called ∷ [])) called two of.some h.made (record {
@@ -140,7 +143,8 @@ module _ {V F S T : Type 0} (words : FamilyWords F (Posted V) S T) (obeys : V �
               let x = get_map_back stamped r.answers e answer there in
               let l : e < n - 1 = let a = slice_get_within r.answers e x.0 x.1 in let b = r.each in omega arith in
               let y = r.reads e x.0 x.1 in
-              subst (λ z. ReadsOnce words.width (r.steps ++ w.steps) e (answered_of (words.reads old.seat (other i e))) (answered_of z) answer)
+              subst (λ z. ReadsOnce words.width (r.steps ++ w.steps) e (answered_of (words.reads old.seat (other i e)))
+              (answered_of z) answer)
               (sym (w.reads (other i e)))
               (record {
                 interval = stays words.width r.steps w.steps e (n - 1) _ _ _ _ r.long l of.some y.0;
@@ -203,7 +207,8 @@ module _ {V F S T : Type 0} (words : FamilyWords F (Posted V) S T) (obeys : V �
       subst (λ z. IsMindful (words.reads old.seat z) (words.reads next z)) e.2
       (subst (λ z. IsMindful (words.reads old.seat (other i e.0)) z) (sym (w.reads (other i e.0))) (record {
         same = read.heard;
-        first = All-weaker (λ told. IsHeeded told (words.reads mid (other i e.0)).known (last_or 0 (words.reads mid (other i e.0)).numbers)) (λ told. AreFirst told (words.reads mid (other i e.0)).known.items (words.reads mid (other i e.0)).known.times)
+        first = All-weaker (λ told. IsHeeded told (words.reads mid (other i e.0)).known (last_or 0 (words.reads mid (other i e.0)).numbers))
+            (λ told. AreFirst told (words.reads mid (other i e.0)).known.items (words.reads mid (other i e.0)).known.times)
             (λ t h. h.first) (words.reads mid (other i e.0)).heard read.heeds;
       }))
 

@@ -49,7 +49,8 @@ module _ {V F S T : Type 0} where
       let first : IsAtMost last.stamp last'.stamp = subst (λ z. IsAtMost last.stamp z.stamp) (sym e)
       (subst (λ z. IsAtMost last.stamp z.stamp) (sym (stamped_greater last next.own)) (greater_first (stamped last) (stamped next.own))) in
       let second : IsAtMost next.own.stamp last'.stamp = subst (λ z. IsAtMost next.own.stamp z.stamp) (sym e)
-      (subst (λ z. IsAtMost next.own.stamp z.stamp) (sym (stamped_greater last next.own)) (greater_second (stamped last) (stamped next.own))) in
+      (subst (λ z. IsAtMost next.own.stamp z.stamp) (sym (stamped_greater last next.own))
+      (greater_second (stamped last) (stamped next.own))) in
       let all : (i : ℕ) (p : Pass V F S T) → i < count + 1 → slice_get passes i ≡ Some p → IsAtMost p.own.stamp last'.stamp = λ i p l at.
       elim (cases_lt i count) [
         | inl lt ↦ at_most_trans p.own.stamp last.stamp last'.stamp (h.greatest i p lt at) first

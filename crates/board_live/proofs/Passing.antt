@@ -1,5 +1,6 @@
 -- The passes of a board, of which one is used: they are the passes of the board still.
-use Rattle.std.proofs.Common.{◌≡◌, Bool, ℕ, ◌+◌, ◌<◌, List, [], ◌∷◌, ◌++◌, length, length-append, set, get_or, refl, sym, ◌∙◌, ap, subst, arith, inl, inr}
+use Rattle.std.proofs.Common.{◌≡◌, Bool, ℕ, ◌+◌, ◌<◌, List, [], ◌∷◌, ◌++◌, length, length-append, set, get_or, refl, sym, ◌∙◌, ap, subst}
+use Rattle.std.proofs.Common.{arith, inl, inr}
 use Rattle.std.specs.Prelude.{slice_get, Some}
 use Rattle.std.proofs.lemmas.List.{length-set}
 use Rattle.std.proofs.lemmas.Option.{slice_get_read}
@@ -52,6 +53,7 @@ module _ {V F S T : Type 0} (words : FamilyWords F (Posted V) S T) (obeys : V �
   last_two passes left rest p q e f all =
       let n : length left ≡ length rest + 1 = ap length f ∙ length-append rest (p ∷ []) in
       let at_p : slice_get passes (length rest) ≡ Some p = ap (λ ps. slice_get ps (length rest)) e
-      ∙ get_before left (q ∷ []) (length rest) (omega arith) ∙ ap (λ ps. slice_get ps (length rest)) f ∙ get_last rest p (length rest) refl in
+      ∙ get_before left (q ∷ []) (length rest) (omega arith) ∙ ap (λ ps. slice_get ps (length rest)) f
+      ∙ get_last rest p (length rest) refl in
       let at_q : slice_get passes (length left) ≡ Some q = ap (λ ps. slice_get ps (length left)) e ∙ get_last left q (length left) refl in
       ((all.each (length rest) p at_p).0, (all.each (length left) q at_q).0)

@@ -67,7 +67,8 @@ stamped_greatest own (x ∷ xs) = stamped_greatest (greater own x) xs
 
 pub rises_greatest : {V : Type 0} (own : Posted V) (answers : List (Posted V)) → Rises own (greatest own answers)
 rises_greatest own [] = rises_itself own
-rises_greatest own (x ∷ xs) = rises_on own (greater own x) (greatest (greater own x) xs) (rises_greater own x) (rises_greatest (greater own x) xs)
+rises_greatest own (x ∷ xs) =
+    rises_on own (greater own x) (greatest (greater own x) xs) (rises_greater own x) (rises_greatest (greater own x) xs)
 
 -- none of the answers is above the greatest
 pub least : {V : Type 0} (own : Posted V) (answers : List (Posted V)) (e : ℕ) (answer : Posted V) → slice_get answers e ≡ Some answer →

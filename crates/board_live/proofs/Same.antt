@@ -22,10 +22,12 @@ pub record AreSameReads {V : Type 0} (old new : Answered V) : Type 0 where
   pub ends : new.ends ≡ old.ends
 
 same_reads : {V : Type 0} (width n : ℕ) (old new : Did V) (access : ℕ) (begins ends begins' ends' : List ℕ) → new.times ≡ old.times →
-    new.calls ≡ old.calls → begins' ≡ begins → ends' ≡ ends → AreReads width n old access begins ends → AreReads width n new access begins' ends'
+    new.calls ≡ old.calls → begins' ≡ begins → ends' ≡ ends → AreReads width n old access begins ends →
+    AreReads width n new access begins' ends'
 same_reads {V} width n old new access begins ends begins' ends' times calls b e h = record {
   begun = λ k l. ap (λ xs. slice_get xs k) b ∙ h.begun k (subst (λ cs. k < length cs) calls l)
-      ∙ ap (λ (z : List ℕ × List (Called V)). slice_get z.0 (steps_before width n z.1 k + access * width)) (λ j. (sym times j, sym calls j));
+      ∙ ap (λ (z : List ℕ × List (Called V)). slice_get z.0 (steps_before width n z.1 k + access * width))
+      (λ j. (sym times j, sym calls j));
   ended = λ k l. ap (λ xs. slice_get xs k) e ∙ h.ended k (subst (λ cs. k < length cs) calls l)
       ∙ ap (λ (z : List ℕ × List (Called V)). slice_get z.0 (steps_before width n z.1 k + (access * width + (width - 1))))
       (λ j. (sym times j, sym calls j));
@@ -33,11 +35,13 @@ same_reads {V} width n old new access begins ends begins' ends' times calls b e 
 }
 
 same_writes : {V : Type 0} (width n : ℕ) (old new : Did V) (access : ℕ) (begins ends begins' ends' : List ℕ) → new.times ≡ old.times →
-    new.calls ≡ old.calls → begins' ≡ begins → ends' ≡ ends → AreWrites width n old access begins ends → AreWrites width n new access begins' ends'
+    new.calls ≡ old.calls → begins' ≡ begins → ends' ≡ ends → AreWrites width n old access begins ends →
+    AreWrites width n new access begins' ends'
 same_writes {V} width n old new access begins ends begins' ends' times calls b e h = record {
   begun = λ k c at t. ap (λ (z : List ℕ × List (Called V)). slice_get z.0 (told z.1 k)) (λ j. (b j, calls j))
       ∙ h.begun k c (ap (λ cs. slice_get cs k) (sym calls) ∙ at) t
-      ∙ ap (λ (z : List ℕ × List (Called V)). slice_get z.0 (steps_before width n z.1 k + access * width)) (λ j. (sym times j, sym calls j));
+      ∙ ap (λ (z : List ℕ × List (Called V)). slice_get z.0 (steps_before width n z.1 k + access * width))
+      (λ j. (sym times j, sym calls j));
   ended = λ k c at t. ap (λ (z : List ℕ × List (Called V)). slice_get z.0 (told z.1 k)) (λ j. (e j, calls j))
       ∙ h.ended k c (ap (λ cs. slice_get cs k) (sym calls) ∙ at) t
       ∙ ap (λ (z : List ℕ × List (Called V)). slice_get z.0 (steps_before width n z.1 k + (access * width + (width - 1))))
@@ -48,8 +52,9 @@ same_writes {V} width n old new access begins ends begins' ends' times calls b e
   );
 }
 
-same_process : {V : Type 0} (width n limit : ℕ) (first : Stamped V) (i : ℕ) (old new : Did V) → new.times ≡ old.times → new.calls ≡ old.calls →
-    ((e : ℕ) → AreSameReads (old.reads (other i e)) (new.reads (other i e))) → ((e : ℕ) → new.writes (other i e) ≡ old.writes (other i e)) →
+same_process : {V : Type 0} (width n limit : ℕ) (first : Stamped V) (i : ℕ) (old new : Did V) → new.times ≡ old.times →
+    new.calls ≡ old.calls → ((e : ℕ) → AreSameReads (old.reads (other i e)) (new.reads (other i e))) →
+    ((e : ℕ) → new.writes (other i e) ≡ old.writes (other i e)) →
     IsProcess width n limit first i old → IsProcess width n limit first i new
 same_process {V} width n limit first i old new times calls reads writes h = record {
   long = ap length times ∙ h.long ∙ ap (λ cs. steps_before width n cs (length cs)) (sym calls);
@@ -90,9 +95,11 @@ module _ {V F S T : Type 0} (words : FamilyWords F (Posted V) S T) (n limit proc
       })
       (λ e. ap written_of (writes (other process e))) h
 
-  pub after_learn : (old new : S) (sender : ℕ) (item : Posted V) (carried : Known (Posted V)) → words.times new ≡ words.times old → KeepsEach (words.writes old) (words.writes new) →
+  pub after_learn : (old new : S) (sender : ℕ) (item : Posted V) (carried : Known (Posted V)) → words.times new ≡ words.times old →
+      KeepsEach (words.writes old) (words.writes new) →
       (sender ≢ process → IsHeardRead (words.reads old sender) (words.reads new sender) item carried) →
-      KeepsOthers sender (words.reads old) (words.reads new) → IsProcess words.width n limit (stamped first) process (did_of words old calls) →
+      KeepsOthers sender (words.reads old) (words.reads new) →
+      IsProcess words.width n limit (stamped first) process (did_of words old calls) →
       IsProcess words.width n limit (stamped first) process (did_of words new calls)
   after_learn old new sender item carried times writes heard others h = same_process words.width n limit (stamped first) process
       (did_of words old calls) (did_of words new calls) times refl (λ e. same e) (λ e. ap written_of (writes (other process e))) h

@@ -93,9 +93,11 @@ module _ {V F S T : Type 0} (words : FamilyWords F (Posted V) S T) (obeys : V 鈫
           order = there.2;
           history = there.3;
           by_stamp = there.4;
-          atomic = history_atomic words.width board.processes board.limit board.first.item scheduled.0 (did_by words passes calls) run there.0
+          atomic = history_atomic words.width board.processes board.limit board.first.item scheduled.0
+              (did_by words passes calls) run there.0
               there.1 there.3 there.2 there.4;
-          lawful = history_lawful words.width board.processes board.limit board.first.item scheduled.0 (did_by words passes calls) run there.0
+          lawful = history_lawful words.width board.processes board.limit board.first.item scheduled.0
+              (did_by words passes calls) run there.0
               there.1 there.3 there.2 there.4;
           holds = history_last words.width board.processes board.limit board.first.item scheduled.0 (did_by words passes calls) run there.0
               there.1 there.3 there.2 (stamped last) there.4 own;
@@ -130,8 +132,10 @@ module _ {V F S T : Type 0} (words : FamilyWords F (Posted V) S T) (obeys : V 鈫
             let q = pass_at j lj in
             let cell : IsAtomicCell board.first (words.writes p.0.seat j) (words.reads q.0.seat i) =
             all_registers registers i j p.0 q.0 p.1 q.1 ne in
-            subst (位 d. IsRegister (first_record board.first.item) (d.writes j) ((did_by words passes calls j).reads i)) (sym (did_is i p.0 p.1))
-            (subst (位 d. IsRegister (first_record board.first.item) (written_of (words.writes p.0.seat j)) (d.reads i)) (sym (did_is j q.0 q.1))
+            subst (位 d. IsRegister (first_record board.first.item) (d.writes j) ((did_by words passes calls j).reads i))
+            (sym (did_is i p.0 p.1))
+            (subst (位 d. IsRegister (first_record board.first.item) (written_of (words.writes p.0.seat j)) (d.reads i))
+            (sym (did_is j q.0 q.1))
             (subst (位 f. IsRegister f (written_of (words.writes p.0.seat j)) (answered_of (words.reads q.0.seat i))) first_is
             (register board.first (words.writes p.0.seat j) (words.reads q.0.seat i) cell)))
 

@@ -18,7 +18,8 @@ use Rattle.board_tasks.specs.declared.lane.Reply.TheVariants.{Written, Seen, End
 use Rattle.board_live.specs.declared.record.Posted.{Posted}
 use Rattle.board_tasks.specs.LogOrders.{AreEntriesOfOne, entries_of, is_of, IsLogOrder, LogsInOrder, Noted, RegisterTakesEntry}
 use Rattle.board_tasks.specs.Logs.{is_at_most, stamp_of}
-use Rattle.board_origins.specs.Origins.{AllKeep, has_origin, has_write, in_order, is_known, is_reply_at, IsFirstBrokenOrigin, IsOrigin, same_stamp}
+use Rattle.board_origins.specs.Origins.{AllKeep, has_origin, has_write, in_order, is_known, is_reply_at, IsFirstBrokenOrigin, IsOrigin}
+use Rattle.board_origins.specs.Origins.{same_stamp}
 use Rattle.board_origins.specs.Origins.{sees_known, stamp_before, wrote}
 use Rattle.board_origins.specs.declared.origin.Origin.TheVariants.{Broken}
 use Rattle.board_tasks.proofs.LogLaws.{at_most_trans}
@@ -118,8 +119,10 @@ module _ {V : Type 0} where
   next limit task now writes Read (Ended p) rest h = absurd h
 
   -- what a register takes is a reply in order, from a stamp on that isn't above its own
-  reply_by : (limit task : ℕ) (before : Stamp) (now : Posted V) (writes : ℕ) (wish : Wish V) (reply : Reply V) (rest : Posted V → ℕ → Type 0)
-      → is_at_most before now.stamp ≡ true → RegisterTakesEntry limit task now writes wish reply rest → is_reply_at task before wish reply ≡ true
+  reply_by : (limit task : ℕ) (before : Stamp) (now : Posted V) (writes : ℕ) (wish : Wish V) (reply : Reply V)
+      (rest : Posted V → ℕ → Type 0)
+      → is_at_most before now.stamp ≡ true → RegisterTakesEntry limit task now writes wish reply rest →
+      is_reply_at task before wish reply ≡ true
   reply_by limit task before now writes (Write item) (Written s) rest u h =
       all_true (nat_eq s.writer task) (is_below before s) (subst (λ n. nat_eq s.writer n ≡ true) h.1 (task_itself s.writer))
       (above_all before now.stamp s u h.0)
@@ -160,7 +163,8 @@ module _ {V : Type 0} where
       (subst (λ s. is_at_most s x.held.stamp ≡ true) (sym x.stamp) (at_most_self x.held.stamp)) x.goes)
       (ordered limit task last order before x.held x.writes v x.goes)
 
-  ordered_at : (task : ℕ) (log : List (Entry V)) (before : Stamp) (j : ℕ) (e : Entry V) → OrderedFrom task before log → slice_get log j ≡ Some e
+  ordered_at : (task : ℕ) (log : List (Entry V)) (before : Stamp) (j : ℕ) (e : Entry V) → OrderedFrom task before log →
+      slice_get log j ≡ Some e
       → in_order task (last_or before (map (λ (d : Entry V). stamp_of d.reply) (take j log))) e ≡ true
   ordered_at task [] before j e h at = absurd (none-some e at)
   ordered_at task (x ∷ log) before zero e h at =

@@ -57,7 +57,8 @@ number_itself n = grind (arith, nat_tests)
 greatest_first : {V : Type 0} (own : Stamped V) (answers : List (Stamped V)) → IsAtMost own.stamp (greatest own answers).stamp
 greatest_first own [] = inl refl
 greatest_first own (x ∷ xs) =
-    at_most_trans own.stamp (greater own x).stamp (greatest (greater own x) xs).stamp (greater_first own x) (greatest_first (greater own x) xs)
+    at_most_trans own.stamp (greater own x).stamp (greatest (greater own x) xs).stamp (greater_first own x)
+    (greatest_first (greater own x) xs)
 
 module _ {V : Type 0} where
   -- the stamp that an entry hands on is the one that its call chose
@@ -165,15 +166,16 @@ module _ {V : Type 0} where
           (all_true (same_stamp p.stamp first_stamp) (equal p.item opening)
           (ap (λ s. same_stamp s first_stamp) stamp ∙ stamp_itself first_stamp) (ap (λ z. equal z opening) item ∙ itself opening))
 
-      written_known : (p : Posted V) (j m : ℕ) (c : Called V) → j < length logs → slice_get (h.did j).calls m ≡ Some c → c.kind ≡ WriteKind →
-          stamped p ≡ c.chosen → is_known equal opening logs p ≡ true
+      written_known : (p : Posted V) (j m : ℕ) (c : Called V) → j < length logs → slice_get (h.did j).calls m ≡ Some c →
+          c.kind ≡ WriteKind → stamped p ≡ c.chosen → is_known equal opening logs p ≡ true
       written_known p j m c l made kind e =
           let log = get_exists logs j l in
           let w = entry_at log.0 (h.did j).calls m c (h.told j log.0 log.1) made in
           let mine : p.stamp.writer ≡ j =
           ap (λ (z : Stamped V). z.stamp.writer) e ∙ chosen_writer h.limit j c kind ((process j l).chooses m 0 c made) in
           let there : slice_get logs p.stamp.writer ≡ Some log.0 = ap (slice_get logs) mine ∙ log.1 in
-          let is : wrote equal p w.0.wish w.0.reply ≡ true = is_wrote equal itself p w.0.wish w.0.reply c.chosen (sym kind ∙ w.2.0) w.2.1 e in
+          let is : wrote equal p w.0.wish w.0.reply ≡ true =
+          is_wrote equal itself p w.0.wish w.0.reply c.chosen (sym kind ∙ w.2.0) w.2.1 e in
           second_true (same_stamp p.stamp first_stamp && equal p.item opening) (has_write equal p (slice_get logs p.stamp.writer))
           (ap (has_write equal p) there ∙ any_in (λ (d : Entry V). wrote equal p d.wish d.reply) log.0 w.0 (in_at log.0 m w.0 w.1) is)
 
@@ -211,5 +213,6 @@ module _ {V F S T : Type 0} (family : FamilyWords F (Posted V) S T) (obeys : V �
             let w = get_map_back (λ (l : Lane V F S T). l.log.items) lanes i log at in
             subst (λ es. EachTells es (did i).calls) w.2
             (subst (EachTells w.0.log.items) (calls_did family obeys (slice_get passes i) w.0.pass (h.calls i)
-            (slice_get-map (λ (l : Lane V F S T). l.pass) lanes i ∙ ap (option_map (λ (l : Lane V F S T). l.pass)) w.1)) (h.told i w.0 w.1));
+            (slice_get-map (λ (l : Lane V F S T). l.pass) lanes i ∙ ap (option_map (λ (l : Lane V F S T). l.pass)) w.1))
+            (h.told i w.0 w.1));
       }

@@ -12,7 +12,8 @@ use Rattle.history_core.specs.declared.history.Kind.{Kind}
 use Rattle.history_core.specs.declared.history.Op.{Op}
 use Rattle.history_core.specs.declared.history.Term.{Term}
 use Rattle.history_core.specs.Joined.{order_after, StaysBehind}
-use Rattle.history_core.specs.Orders.{in_term, IsAtomicOrder, is_write_at, KeepsLimit, latest, left_at, listed_at, MayStand, Precedes, ReadsRight}
+use Rattle.history_core.specs.Orders.{in_term, IsAtomicOrder, is_write_at, KeepsLimit, latest, left_at, listed_at, MayStand, Precedes}
+use Rattle.history_core.specs.Orders.{ReadsRight}
 use Rattle.history_core.specs.Orders.{RefusesLawfully, times_of, writes_in}
 use Rattle.history_core.proofs.Joined.{atomic_joined, latest_joined}
 use Rattle.history_core.proofs.JoinedLimits.{lawful_joined}
@@ -24,7 +25,8 @@ may_stand : (steps : ℕ) (end : Option ℕ) (kind : Kind) (times : ℕ) → May
 may_stand steps None kind times h = h
 may_stand steps (Some end) kind times h = h
 
-earlier : (steps : ℕ) (end : Option ℕ) (starts : ℕ) → IsSomeAnd (end_later steps end) (λ e. e < starts + steps) → IsSomeAnd end (λ e. e < starts)
+earlier : (steps : ℕ) (end : Option ℕ) (starts : ℕ) → IsSomeAnd (end_later steps end) (λ e. e < starts + steps) →
+    IsSomeAnd end (λ e. e < starts)
 earlier steps None starts h = h
 earlier steps (Some end) starts h = let z : end + steps < starts + steps = h in omega arith
 
@@ -47,8 +49,8 @@ module _ {R : Type 0} where
 
   module _ (steps : ℕ) where
     -- what is seen of the operation at a place, where it is the same of each operation as of the later one
-    seen_same : {A : Type 0} (h : Option (Op R) → A) → ((o : Op R) → h (Some (op_later steps o)) ≡ h (Some o)) → (ops : List (Op R)) (p : ℕ) →
-        h (slice_get (map (op_later steps) ops) p) ≡ h (slice_get ops p)
+    seen_same : {A : Type 0} (h : Option (Op R) → A) → ((o : Op R) → h (Some (op_later steps o)) ≡ h (Some o)) →
+        (ops : List (Op R)) (p : ℕ) → h (slice_get (map (op_later steps) ops) p) ≡ h (slice_get ops p)
     seen_same h e [] p = refl
     seen_same h e (o ∷ ops) zero = e o
     seen_same h e (o ∷ ops) (suc p) = seen_same h e ops p
@@ -63,7 +65,8 @@ module _ {R : Type 0} where
         → (x : Op R) × (listed_at ops order i ≡ Some x) × (op_later steps x ≡ o)
     listed_back ops order i o e = place_back ops (slice_get order i) o e
 
-    same_left : (opening : R) (ops : List (Op R)) (order : List ℕ) → latest opening (map (op_later steps) ops) order ≡ latest opening ops order
+    same_left : (opening : R) (ops : List (Op R)) (order : List ℕ) →
+        latest opening (map (op_later steps) ops) order ≡ latest opening ops order
     same_left opening ops order = λ i. fold (λ r p. seen_same (left_at r) (λ o. refl) ops p i) (Some opening) order
 
     same_writes : (within : ℕ → Bool) (ops : List (Op R)) (order : List ℕ) →
@@ -105,7 +108,8 @@ terms_join words board next did those last newest a b opens =
     let steps : ℕ = all_starts a.ops in
     let moved = map (op_later steps) b.ops in
     let order = a.order ++ order_after (length a.ops) b.order in
-    let second = subst (λ o. IsAtomicOrder (λ x y. x ≡ y) o moved b.order) opens (atomic_later steps next.first.item b.ops b.order b.atomic) in
+    let second = subst (λ o. IsAtomicOrder (λ x y. x ≡ y) o moved b.order) opens
+    (atomic_later steps next.first.item b.ops b.order b.atomic) in
     let behind : StaysBehind moved a.ops = λ p q x y ex ey before.
     let z = get_map_back (op_later steps) b.ops q y ey in
     none_before steps z.0.ends x.starts (starts_before a.ops p x ex) (subst (λ o. Precedes o x) (sym z.2) before) in
@@ -116,7 +120,8 @@ terms_join words board next did those last newest a b opens =
       atomic = atomic_joined (λ x y. x ≡ y) board.first.item last.item a.ops moved a.order b.order a.atomic second a.holds behind;
       lawful = subst (λ n. RefusesLawfully (record { first = 0; limit = board.limit } ∷ record { first = n; limit = next.limit } ∷ [])
           (a.ops ++ moved) order) (let e : length a.ops + 0 ≡ length a.ops = omega arith in e)
-          (lawful_joined (record { first = 0; limit = board.limit } ∷ []) (record { first = 0; limit = next.limit } ∷ []) a.ops moved a.order
+          (lawful_joined (record { first = 0; limit = board.limit } ∷ [])
+          (record { first = 0; limit = next.limit } ∷ []) a.ops moved a.order
           b.order a.atomic.listing.places second.listing.places a.lawful
           (lawful_later steps (record { first = 0; limit = next.limit } ∷ []) b.ops b.order b.lawful)
           (λ _. (0, record { first = 0; limit = next.limit }, refl, refl)));

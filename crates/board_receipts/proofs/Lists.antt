@@ -70,7 +70,8 @@ module _ {V F S T : Type 0} (words : FamilyWords F (Posted V) S T) (board : Boar
       0 < c.chosen.stamp.tag → d.kind ≡ Read → d.chosen ≡ c.chosen
   two_end w r last c d n atomic of_w of_r l tag read =
       let a = atomic (of_two c d) (λ i x at. made i x at) in
-      the_item words.width board.processes board.limit board.first.item a.steps (did_by words (w ∷ r ∷ []) (of_two c d)) a.run c d n refl refl l
+      the_item words.width board.processes board.limit board.first.item a.steps
+      (did_by words (w ∷ r ∷ []) (of_two c d)) a.run c d n refl refl l
       tag read
     where
       made : (i : ℕ) (x : Pass V F S T) → slice_get (w ∷ r ∷ []) i ≡ Some x → HasMade words board x (of_two c d i)

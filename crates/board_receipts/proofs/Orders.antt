@@ -31,7 +31,8 @@ module _ {V : Type 0} (width n limit : ℕ) (opening : V) (steps : List ℕ) (di
   pub heeds : (i j : ℕ) → i < n → j < n → (did i).calls ≡ c ∷ [] → (did j).calls ≡ d ∷ [] → c.end < d.begin →
       IsBelow c.chosen.stamp d.chosen.stamp ⊎ (c.chosen ≡ d.chosen)
   heeds i j li lj a b l = elim (no_older i j li lj a b l) [
-    | inl same ↦ inr (calls_agree width n limit opening steps did run i j 0 0 c d li lj (only (did i).calls c a) (only (did j).calls d b) same)
+    | inl same ↦ inr (calls_agree width n limit opening steps did run i j 0 0 c d li lj (only (did i).calls c a)
+        (only (did j).calls d b) same)
     | inr below ↦ inl below
   ]
 
@@ -41,13 +42,15 @@ module _ {V : Type 0} (width n limit : ℕ) (opening : V) (steps : List ℕ) (di
 
   pub the_item : n ≡ 2 → (did 0).calls ≡ c ∷ [] → (did 1).calls ≡ d ∷ [] → c.end < d.begin → 0 < c.chosen.stamp.tag → d.kind ≡ Read →
       d.chosen ≡ c.chosen
-  the_item two a b l tag read = elim (calls_written width n limit opening steps did run 1 0 d (omega (arith, two)) (only (did 1).calls d b)) [
-    | inl f ↦ absurd (not_first c.chosen.stamp tag
-        (subst (λ z. IsAtMost c.chosen.stamp z.stamp) f (no_older 0 1 (omega (arith, two)) (omega (arith, two)) a b l)))
-    | inr w ↦ by w.0 w.1 w.2 w.3 w.4 w.5 w.6
-  ]
+  the_item two a b l tag read =
+      elim (calls_written width n limit opening steps did run 1 0 d (omega (arith, two)) (only (did 1).calls d b)) [
+        | inl f ↦ absurd (not_first c.chosen.stamp tag
+            (subst (λ z. IsAtMost c.chosen.stamp z.stamp) f (no_older 0 1 (omega (arith, two)) (omega (arith, two)) a b l)))
+        | inr w ↦ by w.0 w.1 w.2 w.3 w.4 w.5 w.6
+      ]
     where
-      by : (j m : ℕ) (w : Called V) → j < n → slice_get (did j).calls m ≡ Some w → w.kind ≡ Write → d.chosen ≡ w.chosen → d.chosen ≡ c.chosen
+      by : (j m : ℕ) (w : Called V) → j < n → slice_get (did j).calls m ≡ Some w → w.kind ≡ Write → d.chosen ≡ w.chosen →
+          d.chosen ≡ c.chosen
       by zero m w lj at k e = e ∙ ap (λ (z : Called V). z.chosen) (sym (one_of (did 0).calls m w c a at))
       by (suc zero) m w lj at k e =
           absurd (differ (sym read ∙ ap (λ (z : Called V). z.kind) (one_of (did 1).calls m w d b at) ∙ k))

@@ -46,7 +46,8 @@ module _ {V F S T : Type 0} (words : FamilyWords F (Posted V) S T) (board : Boar
         | inr other ↦
             let j : ℕ = other.0 in
             let number : ℕ = other.1 in
-            let writer : j ≡ 0 = let a = other.2 in let b = λ (e : j ≡ 1). other.3 (e ∙ sym (same ∙ is_r)) in below j (omega (arith, two)) b in
+            let writer : j ≡ 0 = let a = other.2 in let b = λ (e : j ≡ 1). other.3 (e ∙ sym (same ∙ is_r)) in
+            below j (omega (arith, two)) b in
             let carried : Known (Posted V) = words.writes_of receipt.told r.process in
             let list : (words.reads r2.seat 0).heard ≡ (words.reads r.seat 0).heard ++ carried ∷ [] = (call.heard 0 inside apart).same
             ∙ subst (λ z. (words.reads r1.seat z).heard ≡ (words.reads r.seat z).heard ++ carried ∷ []) from heard.heard in
@@ -54,14 +55,19 @@ module _ {V F S T : Type 0} (words : FamilyWords F (Posted V) S T) (board : Boar
             let all : All (λ t. IsHeeded t known_then number) (words.reads r2.seat 0).heard =
             subst (λ z. All (λ t. IsHeeded t (words.reads r2.seat z).known number) (words.reads r2.seat z).heard) writer other.5 in
             let one : IsHeeded carried known_then number =
-            last_of (λ t. IsHeeded t known_then number) (words.reads r.seat 0).heard carried (subst (All (λ t. IsHeeded t known_then number)) list all) in
+            last_of (λ t. IsHeeded t known_then number) (words.reads r.seat 0).heard carried
+            (subst (All (λ t. IsHeeded t known_then number)) list all) in
             let here : carried ≡ known_as (words.writes w'.seat 1).items (words.writes w'.seat 1).times =
             ap (words.writes_of receipt.told) is_r ∙ told.tells 1 (omega (arith, two)) (λ e. let z = e ∙ is_w in omega arith)
             ∙ ap (λ x. known_as x.items x.times) (sym kept) in
             let heeded = subst (λ z. IsHeeded z known_then number) here one in
             let at : slice_get (board.first ∷ known_then.items) number ≡ Some seen =
-            subst (λ z. slice_get (board.first ∷ (words.reads r2.seat z).known.items) number ≡ Some seen) writer other.4 in
-            (heeded.first.items.0, number, heeded.later, subst (λ z. slice_get (board.first ∷ z) number ≡ Some seen) heeded.first.items.1 at)
+            subst (λ z. slice_get (board.first ∷ (words.reads r2.seat z).known.items) number ≡ Some seen) writer other.4 in (
+              heeded.first.items.0,
+              number,
+              heeded.later,
+              subst (λ z. slice_get (board.first ∷ z) number ≡ Some seen) heeded.first.items.1 at,
+            )
       ]
     where
       below : (j : ℕ) → j < 2 → (j ≡ 1 → ⊥) → j ≡ 0

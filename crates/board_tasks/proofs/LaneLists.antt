@@ -1,5 +1,6 @@
 -- Lists of lanes and of passes, made from their ends: the last is made first, so what was made is turned round.
-use Rattle.std.proofs.Common.{◌≡◌, Bool, ℕ, zero, suc, ◌+◌, ◌<◌, ◌≤◌, ◌^◌, List, [], ◌∷◌, ◌++◌, length, length-append, append_assoc, append-nil, reverse}
+use Rattle.std.proofs.Common.{◌≡◌, Bool, ℕ, zero, suc, ◌+◌, ◌<◌, ◌≤◌, ◌^◌, List, [], ◌∷◌, ◌++◌, length, length-append, append_assoc}
+use Rattle.std.proofs.Common.{append-nil, reverse}
 use Rattle.std.proofs.Common.{refl, sym, ◌∙◌, ap, subst, arith}
 use Rattle.std.specs.Prelude.{slice_get, Some, slice_index_or, All}
 use Rattle.std.proofs.lemmas.Option.{same_Some, none-some}
@@ -36,7 +37,14 @@ module _ {V F S T : Type 0} (family : FamilyWords F (Posted V) S T) (obeys : V �
   pub lanes_none : (passes : List (Pass V F S T)) (scripts : List (List (Wish V))) → length scripts ≡ length passes
       → LanesFrom passes scripts passes scripts []
   lanes_none passes scripts same =
-      record { done = []; done_scripts = []; of_passes = sym (append-nil passes); of_scripts = sym (append-nil scripts); are = tt; same = same }
+      record {
+        done = [];
+        done_scripts = [];
+        of_passes = sym (append-nil passes);
+        of_scripts = sym (append-nil scripts);
+        are = tt;
+        same = same;
+      }
 
   pub lanes_more : (passes : List (Pass V F S T)) (scripts : List (List (Wish V)))
       (before left : List (Pass V F S T)) (before_scripts left_scripts : List (List (Wish V)))

@@ -1,5 +1,6 @@
 -- Logs that get one more entry.
-use Rattle.std.proofs.Common.{get_or, ◌≡◌, Bool, ℕ, zero, suc, ◌+◌, ◌<◌, List, [], ◌∷◌, ◌++◌, length, length-append, refl, sym, ◌∙◌, ap, subst, arith, true, ◌⊎◌, inl}
+use Rattle.std.proofs.Common.{get_or, ◌≡◌, Bool, ℕ, zero, suc, ◌+◌, ◌<◌, List, [], ◌∷◌, ◌++◌, length, length-append, refl, sym, ◌∙◌, ap}
+use Rattle.std.proofs.Common.{subst, arith, true, ◌⊎◌, inl}
 use Rattle.std.proofs.Common.{inr, ⊎_elim}
 use Rattle.std.specs.Prelude.{All, slice_get, Some, not, ◌&&◌, ◌||◌, nat_lt, nat_eq}
 use Rattle.std.proofs.lemmas.Option.{same_Some, none-some, slice_get_read, slice_get_within, get_or_from_slice_get}
@@ -85,8 +86,8 @@ pub wish_at : {A B : Type 0} (script : List A) (log : List B) (n : ℕ) (x : A) 
     x ≡ get_or script n x → slice_get script (length log) ≡ Some x
 wish_at script log n x e lt read = subst (λ i. slice_get script i ≡ Some x) e (slice_get_read script _ n x refl (omega (arith, e, lt)) read)
 
-pub obeys_at : {A B : Type 0} (P : A → Type 0) (script : List A) (log : List B) (n : ℕ) (x : A) → n ≡ length log → length log < length script →
-    x ≡ get_or script n x → All P script → P x
+pub obeys_at : {A B : Type 0} (P : A → Type 0) (script : List A) (log : List B) (n : ℕ) (x : A) → n ≡ length log →
+    length log < length script → x ≡ get_or script n x → All P script → P x
 obeys_at P script log n x e lt read h = subst P (sym read) (All-get_or P script n x (omega (arith, e, lt)) h)
 
 pub stamp_replied : {V : Type 0} (limit process : ℕ) (wish : Wish V) (seen chosen : Posted V) (reply : Reply V)

@@ -32,8 +32,9 @@ has_by limit process (Write item) seen chosen (Ended p) h = ap stamped (h.2 ∙ 
 
 module _ {V F S T : Type 0} (family : FamilyWords F (Posted V) S T) (obeys : V → Bool) (board : Board V F S T) where
   -- the calls of which a log's entries tell
-  called : (old : Pass V F S T) (es : List (Entry V)) (new : Pass V F S T) (before : List (Called V)) → AreCalls family obeys board old es new →
-      HasMade family board old before → (cs : List (Called V)) × EachTells es cs × HasMade family board new (before ++ cs)
+  called : (old : Pass V F S T) (es : List (Entry V)) (new : Pass V F S T) (before : List (Called V)) →
+      AreCalls family obeys board old es new → HasMade family board old before → (cs : List (Called V)) × EachTells es cs
+      × HasMade family board new (before ++ cs)
   called old [] new before h made =
       ([], tt, subst (λ p. HasMade family board p (before ++ [])) h (subst (HasMade family board old) (sym (append-nil before)) made))
   called old (e ∷ es) new before h made =
@@ -88,7 +89,8 @@ module _ {V F S T : Type 0} (family : FamilyWords F (Posted V) S T) (obeys : V �
         × HasMade family board z.pass (calls_of i m e).0) (same_Some m l s) ((calls_of i m e).1, (calls_of i m e).2)
     told_at i None e l s = cc
 
-    pub logs_atomic : (last : Posted V) → HaveAtomicOrder family board (map (λ l. l.pass) lanes) last → AreAtomicLogs family board lanes last
+    pub logs_atomic : (last : Posted V) → HaveAtomicOrder family board (map (λ l. l.pass) lanes) last →
+        AreAtomicLogs family board lanes last
     logs_atomic last atomic = record {
       calls = λ i. calls_at i (slice_get lanes i) refl;
       told = λ i l at. (told_at i (slice_get lanes i) refl l at).0;

@@ -1,5 +1,6 @@
 -- The logs of an atomic run have one order: that of its calls, each with the entry that tells of it.
-use Rattle.std.proofs.Common.{◌≡◌, ◌≢◌, Bool, true, false, ℕ, zero, suc, ◌+◌, ◌<◌, ◌≤◌, List, [], ◌∷◌, length, map, refl, sym, ◌∙◌, ap, subst}
+use Rattle.std.proofs.Common.{◌≡◌, ◌≢◌, Bool, true, false, ℕ, zero, suc, ◌+◌, ◌<◌, ◌≤◌, List, [], ◌∷◌, length, map, refl, sym, ◌∙◌, ap}
+use Rattle.std.proofs.Common.{subst}
 use Rattle.std.proofs.Common.{arith, get_or, ◌⊎◌, inl, inr}
 use Rattle.std.specs.Prelude.{slice_get, Option, Some, None, nat_eq, drop}
 use Rattle.std.specs.Option.{option_map}
@@ -72,19 +73,22 @@ module _ {V : Type 0} where
       ((n.task ≡ m.who) × ((log : List (Entry V)) × (slice_get logs m.who ≡ Some log) × (slice_get log m.number ≡ Some n.entry)))
       × EachNoted logs ms ns
 
-  record Noting (logs : List (List (Entry V))) (limit : ℕ) (now : Posted V) (writes : ℕ) (last : Posted V) (ms : List (Named V)) : Type 0 where
+  record Noting (logs : List (List (Entry V))) (limit : ℕ) (now : Posted V) (writes : ℕ) (last : Posted V)
+      (ms : List (Named V)) : Type 0 where
     pub notes : List (Noted V)
     pub one : AreEntriesOfOne limit now writes last notes
     pub each : EachNoted logs ms notes
 
   -- what the entry's register does, and the entries after it
-  record Step (logs : List (List (Entry V))) (limit who : ℕ) (now : Posted V) (writes : ℕ) (last : Posted V) (ms : List (Named V)) (wish : Wish V)
+  record Step (logs : List (List (Entry V))) (limit who : ℕ) (now : Posted V) (writes : ℕ) (last : Posted V) (ms : List (Named V))
+      (wish : Wish V)
       (reply : Reply V) : Type 0 where
     pub notes : List (Noted V)
     pub takes : RegisterTakesEntry limit who now writes wish reply (λ p count. AreEntriesOfOne limit p count last notes)
     pub each : EachNoted logs ms notes
 
-  step : (logs : List (List (Entry V))) (limit who : ℕ) (now : Posted V) (writes : ℕ) (last : Posted V) (ms : List (Named V)) (wish : Wish V)
+  step : (logs : List (List (Entry V))) (limit who : ℕ) (now : Posted V) (writes : ℕ) (last : Posted V) (ms : List (Named V))
+      (wish : Wish V)
       (reply : Reply V) (kind : Kind) (chosen : Stamped V) → kind ≡ kind_by reply → HasChosenBy wish reply chosen →
       CallTakes limit who (stamped now) writes kind chosen (λ held count. CallsOfOne limit held count (stamped last) ms) →
       ((p : Posted V) (count : ℕ) → CallsOfOne limit (stamped p) count (stamped last) ms → Noting logs limit p count last ms) →
@@ -169,15 +173,16 @@ module _ {V : Type 0} where
         ∙ sym (drop_more log k n.entry (slice_get_within log k n.entry here)
         ∙ ap (λ z. z ∷ drop (k + 1) log) (get_or_from_slice_get log k n.entry n.entry here))
     | inr ne ↦
-        ap (λ b. map (λ (z : Noted V). z.entry) (cond b (n ∷ filter (is_of task) ns) (filter (is_of task) ns))) (numbers_differ n.task task ne)
+        ap (λ b. map (λ (z : Noted V). z.entry) (cond b (n ∷ filter (is_of task) ns) (filter (is_of task) ns)))
+        (numbers_differ n.task task ne)
         ∙ gathered logs task log at ms ns h.1 k
         (λ x d p w. low (suc x) d p w)
         (λ x y a b l p q w. turn (suc x) (suc y) a b (omega arith) p q w)
         (λ j lj ll. other (there j lj ll) (λ w. ne (h.0.0 ∙ w)))
   ]
     where
-      first_is : ((x : ℕ) × (d : Named V) × (slice_get (m ∷ ms) x ≡ Some d) × (d.who ≡ task) × (d.number ≡ k)) → m.who ≡ task → k ≤ m.number →
-          m.number ≡ k
+      first_is : ((x : ℕ) × (d : Named V) × (slice_get (m ∷ ms) x ≡ Some d) × (d.who ≡ task) × (d.number ≡ k)) → m.who ≡ task →
+          k ≤ m.number → m.number ≡ k
       first_is (zero, d, e, w, g) who least = ap (λ (z : Named V). z.number) (same_Some m d e) ∙ g
       first_is (suc x, d, e, w, g) who least =
           let t : m.number < d.number = turn 0 (suc x) m d (omega arith) refl e (who ∙ sym w) in
@@ -195,8 +200,8 @@ module _ {V : Type 0} where
       other (suc x, d, e, w, g) ne = (x, d, e, w, g)
 
   -- each is of a task that has a log
-  noted_inside : (logs : List (List (Entry V))) (ms : List (Named V)) (ns : List (Noted V)) → EachNoted logs ms ns → (n : Noted V) → IsIn n ns →
-      n.task < length logs
+  noted_inside : (logs : List (List (Entry V))) (ms : List (Named V)) (ns : List (Noted V)) → EachNoted logs ms ns → (n : Noted V) →
+      IsIn n ns → n.task < length logs
   noted_inside logs [] [] h n m = absurd m
   noted_inside logs [] (x ∷ ns) h n m = absurd h
   noted_inside logs (y ∷ ms) [] h n m = absurd m

@@ -1,5 +1,6 @@
 -- A lane whose calls were made in part.
-use Rattle.std.proofs.Common.{◌≡◌, Bool, ℕ, ◌+◌, ◌<◌, ◌≤◌, List, [], ◌∷◌, ◌++◌, length, length-append, append_assoc, refl, ◌∙◌, ap, arith, ◌⊎◌}
+use Rattle.std.proofs.Common.{◌≡◌, Bool, ℕ, ◌+◌, ◌<◌, ◌≤◌, List, [], ◌∷◌, ◌++◌, length, length-append, append_assoc, refl, ◌∙◌, ap, arith}
+use Rattle.std.proofs.Common.{◌⊎◌}
 use Rattle.std.proofs.Common.{subst, ⊎_elim}
 use Rattle.family_live.specs.declared.family.Family.{Ghosts as FamilyWords}
 use Rattle.board_live.specs.declared.board.Board.{Board}
@@ -29,7 +30,8 @@ module _ {V F S T : Type 0} (family : FamilyWords F (Posted V) S T) (obeys : V �
     pub count : length now.log.items ≡ call
     pub asked : (n : ℕ) → length old.log.items < n → n ≤ call → may_call n
 
-  pub run_none : (may_call : ℕ → Type 0) (board : Board V F S T) (lane : Lane V F S T) → IsPass family obeys board lane.pass → IsLane obeys lane
+  pub run_none : (may_call : ℕ → Type 0) (board : Board V F S T) (lane : Lane V F S T) → IsPass family obeys board lane.pass →
+      IsLane obeys lane
       → RunSoFar may_call board lane lane (length lane.log.items)
   run_none may_call board lane of is = record {
     of = of;
@@ -44,7 +46,8 @@ module _ {V F S T : Type 0} (family : FamilyWords F (Posted V) S T) (obeys : V �
 
   pub run_more : (may_call : ℕ → Type 0) (board : Board V F S T) (old now new : Lane V F S T) (call : ℕ)
       → RunSoFar may_call board old now call → may_call (call + 1)
-      → IsPass family obeys board new.pass → IsLane obeys new → new.script ≡ now.script → (e : Entry V) → new.log.items ≡ now.log.items ++ e ∷ []
+      → IsPass family obeys board new.pass → IsLane obeys new → new.script ≡ now.script → (e : Entry V) →
+      new.log.items ≡ now.log.items ++ e ∷ []
       → IsEntry family obeys board now.pass e new.pass
       → RunSoFar may_call board old new (call + 1)
   run_more may_call board old now new call h may of is same e log entry = record {
@@ -67,4 +70,13 @@ module _ {V F S T : Type 0} (family : FamilyWords F (Posted V) S T) (obeys : V �
   run_ends may_call may_stop board task old now call h w =
       let asked : (n : ℕ) → length old.log.items < n → n ≤ length now.log.items → may_call task n =
       λ n above below. h.asked n above (subst (λ m. n ≤ m) h.count below) in
-      record { of = h.of; is = h.is; script = h.same_script; added = h.added; log = h.is_log; calls = h.are_calls; asked = asked; whole = w }
+      record {
+        of = h.of;
+        is = h.is;
+        script = h.same_script;
+        added = h.added;
+        log = h.is_log;
+        calls = h.are_calls;
+        asked = asked;
+        whole = w;
+      }

@@ -24,7 +24,8 @@ module _ {V F S T : Type 0} (family : FamilyWords F (Posted V) S T) (obeys : V �
   same_process board old new [] h = ap (λ (p : Pass V F S T). p.process) (sym h)
   same_process board old new (e ∷ es) h = same_process board h.0 new es h.2 ∙ h.1.call.process
 
-  pub have_worked : (may_call may_stop : ℕ → ℕ → Type 0) (n limit : ℕ) (first : Posted V) (board : Board V F S T) (passes : List (Pass V F S T))
+  pub have_worked : (may_call may_stop : ℕ → ℕ → Type 0) (n limit : ℕ) (first : Posted V) (board : Board V F S T)
+      (passes : List (Pass V F S T))
       (scripts : List (List (Wish V))) (old new : List (Lane V F S T))
       → IsNew family obeys n limit first board passes → 0 < n → AreLanes obeys passes scripts old
       → EachStep (Ran family obeys may_call may_stop board) 0 old new → HaveWorked family obeys board new

@@ -1,6 +1,7 @@
 -- The passes' lists of events lead to the state shown: a step adds its events at the end of one list, and the state after it is the state
 -- before with these events made.
-use Rattle.std.proofs.Common.{◌≤◌, ◌≡◌, ◌≢◌, ⊎_elim, ℕ, ◌+◌, arith, Bool, false, ◌&&◌, if◌then◌else◌, List, [], ◌∷◌, ◌++◌, sym, refl, ap, subst}
+use Rattle.std.proofs.Common.{◌≤◌, ◌≡◌, ◌≢◌, ⊎_elim, ℕ, ◌+◌, arith, Bool, false, ◌&&◌, if◌then◌else◌, List, [], ◌∷◌, ◌++◌, sym, refl, ap}
+use Rattle.std.proofs.Common.{subst}
 use Rattle.std.proofs.lemmas.Bool.{cases_eq}
 use Rattle.four_slot_core.specs.declared.state.State.{State as Core}
 use Rattle.four_slot_core.specs.declared.state.Stage.{Stage}
@@ -125,7 +126,8 @@ read_joined (x ∷ xs) a b c d e = ap (λ ys. x ∷ ys) (read_joined xs a b c d 
 
 -- the counts
 pub at_most_one : (a b i : ℕ) → (a ≡ b → i ≡ 0) → (a ≢ b → i ≡ 1) → i ≤ 1
-at_most_one a b i same other = ⊎_elim (λ (e : a ≡ b). let z = same e in omega arith) (λ (ne : a ≢ b). let z = other ne in omega arith) (cases_eq a b)
+at_most_one a b i same other =
+    ⊎_elim (λ (e : a ≡ b). let z = same e in omega arith) (λ (ne : a ≢ b). let z = other ne in omega arith) (cases_eq a b)
 
 module _ {T : Type 0} where
   pub writes_more : (xs ys : List (WriteEvent T)) → control_writes (xs ++ ys) ≡ control_writes xs + control_writes ys

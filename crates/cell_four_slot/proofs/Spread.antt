@@ -1,5 +1,6 @@
 -- What the rule of the cell allows of its four words, the rule of the table allows of the table's.
-use Rattle.std.proofs.Common.{◌≡◌, ◌≢◌, ℕ, zero, suc, ◌+◌, ◌<◌, ◌≤◌, Bool, true, false, List, [], ◌∷◌, length, get_or, set, sym, refl, ap, ◌∙◌, subst}
+use Rattle.std.proofs.Common.{◌≡◌, ◌≢◌, ℕ, zero, suc, ◌+◌, ◌<◌, ◌≤◌, Bool, true, false, List, [], ◌∷◌, length, get_or, set, sym, refl, ap}
+use Rattle.std.proofs.Common.{◌∙◌, subst}
 use Rattle.std.proofs.Common.{arith, length-set}
 use Rattle.std.proofs.lemmas.List.{get_or-set_same, get_or-set_other}
 use mathlib.Core.Option.{none}
@@ -12,7 +13,8 @@ use Rattle.cell_live.specs.Running.{last_or}
 use Rattle.cell_live.specs.declared.sight.Sight.TheVariants.{Writer, Reader}
 use Rattle.cell_four_slot.specs.declared.notes.WriterNotes.{WriterNotes}
 use Rattle.cell_four_slot.specs.declared.notes.ReaderNotes.{ReaderNotes}
-use Rattle.cell_four_slot.specs.Steps.{FourSlotSight, begins, stores_on, finishes, asks_counting, says_counting, takes, slot_of_choice, first_sight}
+use Rattle.cell_four_slot.specs.Steps.{FourSlotSight, begins, stores_on, finishes, asks_counting, says_counting, takes, slot_of_choice}
+use Rattle.cell_four_slot.specs.Steps.{first_sight}
 use Rattle.cell_four_slot.specs.Rule.{FourSlotRule}
 use Rattle.cell_four_slot.specs.Spread.{word_place, gathered, cell_state, SpreadRule}
 use Rattle.cell_four_slot.proofs.Slots.{bit_low}
@@ -37,9 +39,11 @@ module _ (ws : List ℕ) (n : ℕ) (long : length ws ≡ 32) where
   else_at i j ne = get_or-set_other ws i j n 0 ne
 
   pub gathered_set : (i : ℕ) → i < 4 → gathered (set ws (word_place i) n) ≡ set (gathered ws) i n
-  gathered_set zero l = λ j. here 8 (omega arith) j ∷ else_at 8 24 (λ e. absurd (omega arith)) j ∷ else_at 8 10 (λ e. absurd (omega arith)) j
+  gathered_set zero l = λ j. here 8 (omega arith) j ∷ else_at 8 24 (λ e. absurd (omega arith)) j ∷ else_at 8 10
+      (λ e. absurd (omega arith)) j
       ∷ else_at 8 11 (λ e. absurd (omega arith)) j ∷ []
-  gathered_set (suc zero) l = λ j. else_at 24 8 (λ e. absurd (omega arith)) j ∷ here 24 (omega arith) j ∷ else_at 24 10 (λ e. absurd (omega arith)) j
+  gathered_set (suc zero) l =
+      λ j. else_at 24 8 (λ e. absurd (omega arith)) j ∷ here 24 (omega arith) j ∷ else_at 24 10 (λ e. absurd (omega arith)) j
       ∷ else_at 24 11 (λ e. absurd (omega arith)) j ∷ []
   gathered_set (suc (suc zero)) l = λ j. else_at 10 8 (λ e. absurd (omega arith)) j ∷ else_at 10 24 (λ e. absurd (omega arith)) j
       ∷ here 10 (omega arith) j ∷ else_at 10 11 (λ e. absurd (omega arith)) j ∷ []
@@ -73,7 +77,8 @@ module _ {T : Type 0} (fits : T → Type 0) (rises : T → T → Type 0) (o : T)
         x.2,
         record {
           counted = length-set s.words (word_place i) new ∙ r.counted;
-          cell = subst (λ (ws : List ℕ). Rule (record { words = ws; homes = homes_after s.homes me.1 x.1; views = set s.views id x.0 })) words x.3;
+          cell = subst (λ (ws : List ℕ). Rule
+              (record { words = ws; homes = homes_after s.homes me.1 x.1; views = set s.views id x.0 })) words x.3;
         },
         subst (λ z. after z (x.0, carried_after me.1 x.1)) found x.4,
       )
@@ -88,10 +93,11 @@ module _ {T : Type 0} (fits : T → Type 0) (rises : T → T → Type 0) (o : T)
   spread_final id v ws xs f = (cell_state f.0, (f.1.0.cell, f.1.1), ap gathered f.2, f.3, f.4)
 
   -- each step, at the table's words
-  pub begins_spread : (slots id : ℕ) (me : M) (p : WriterNotes T) (items : List T) (x : T) → me.0 ≡ Writer p → me.1 ≡ [] → p.stage ≡ writer.W5 →
-      items ≡ x ∷ [] → fits x → rises (last_or p.opening.value p.written) x
+  pub begins_spread : (slots id : ℕ) (me : M) (p : WriterNotes T) (items : List T) (x : T) → me.0 ≡ Writer p → me.1 ≡ [] →
+      p.stage ≡ writer.W5 → items ≡ x ∷ [] → fits x → rises (last_or p.opening.value p.written) x
       → Allows Wide slots id me 24 (λ n. n) (begins items (step slots 24 0 0 none) me)
-  begins_spread slots id me p items x is bare idle item f up = spread_allows slots id me 1 (λ n. n) (begins items (step slots 1 0 0 none) me) (omega arith)
+  begins_spread slots id me p items x is bare idle item f up =
+      spread_allows slots id me 1 (λ n. n) (begins items (step slots 1 0 0 none) me) (omega arith)
       (begins_ok fits rises o slots id me p items x is bare idle item f up)
 
   pub stores_spread : (slots id : ℕ) (me : M) (p : WriterNotes T) (i new : ℕ) → me.0 ≡ Writer p → me.1
@@ -108,15 +114,18 @@ module _ {T : Type 0} (fits : T → Type 0) (rises : T → T → Type 0) (o : T)
   finishes_spread slots id me p new is stage to = spread_allows slots id me 0 (λ _. new) (λ _. finishes (step slots 8 new 0 none) me new)
       (omega arith) (finishes_ok fits rises o slots id me p new is stage to)
 
-  pub asks_spread : (count : ℕ) → count ≤ 1 → (slots id : ℕ) (me : M) (g : ReaderNotes T) → me.0 ≡ Reader g → me.1 ≡ slot_of_choice g.chosen g.at_hand.value →
-      g.stage ≡ reader.R5 → Allows Wide slots id me 8 (λ n. n) (asks_counting count (step slots 8 0 0 none) me)
-  asks_spread count few slots id me g is holds stage = spread_allows slots id me 0 (λ n. n) (asks_counting count (step slots 8 0 0 none) me) (omega arith)
+  pub asks_spread : (count : ℕ) → count ≤ 1 → (slots id : ℕ) (me : M) (g : ReaderNotes T) → me.0 ≡ Reader g →
+      me.1 ≡ slot_of_choice g.chosen g.at_hand.value → g.stage ≡ reader.R5 →
+      Allows Wide slots id me 8 (λ n. n) (asks_counting count (step slots 8 0 0 none) me)
+  asks_spread count few slots id me g is holds stage =
+      spread_allows slots id me 0 (λ n. n) (asks_counting count (step slots 8 0 0 none) me) (omega arith)
       (asks_ok fits rises o count few slots id me g is holds stage)
 
-  pub says_spread : (count : ℕ) → count ≤ 1 → (slots id : ℕ) (me : M) (g : ReaderNotes T) (new : ℕ) → me.0 ≡ Reader g → me.1 ≡ slot_of_choice g.chosen g.at_hand.value →
-      g.stage ≡ reader.R1 → new ≡ bit_number g.slot.pair →
+  pub says_spread : (count : ℕ) → count ≤ 1 → (slots id : ℕ) (me : M) (g : ReaderNotes T) (new : ℕ) → me.0 ≡ Reader g →
+      me.1 ≡ slot_of_choice g.chosen g.at_hand.value → g.stage ≡ reader.R1 → new ≡ bit_number g.slot.pair →
       Allows Wide slots id me 24 (λ _. new) (λ _. says_counting count (step slots 24 new 0 none) me new)
-  says_spread count few slots id me g new is holds stage to = spread_allows slots id me 1 (λ _. new) (λ _. says_counting count (step slots 24 new 0 none) me new)
+  says_spread count few slots id me g new is holds stage to =
+      spread_allows slots id me 1 (λ _. new) (λ _. says_counting count (step slots 24 new 0 none) me new)
       (omega arith) (says_ok fits rises o count few slots id me g new is holds stage to)
 
   module _ (same : (a : T) → rises a a) (along : (a b c : T) → rises a b → rises b c → rises a c) where

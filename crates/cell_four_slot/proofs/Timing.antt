@@ -1,6 +1,6 @@
 -- The intervals of the calls and the numbers of the answers through each step, at a time later than all before. Nothing here names a slot:
 -- a step makes the two numbers that the next read can have no smaller.
-use Rattle.std.proofs.Common.{◌≡◌, ℕ, ◌+◌, ◌-◌, ◌<◌, ◌≤◌, max, Bool, List, [], ◌∷◌, ◌++◌, length, slice_get, Some, refl, sym}
+use Rattle.std.proofs.Common.{◌≡◌, ℕ, ◌+◌, ◌-◌, ◌<◌, ◌≤◌, max, Bool, [], ◌∷◌, ◌++◌, length, slice_get, Some, refl, sym}
 use Rattle.std.proofs.Common.{ap, ◌∙◌, subst, arith, length-append, le_refl, le_trans}
 use native.Mathlib.Nat.{le-max_left, max-le}
 use Rattle.std.proofs.lemmas.Option.{slice_get_within, none-some}
@@ -17,7 +17,8 @@ use Rattle.cell_live.specs.declared.times.Known.{Known}
 use Rattle.cell_four_slot.specs.declared.notes.WriterNotes.{WriterNotes}
 use Rattle.cell_four_slot.specs.declared.notes.ReaderNotes.{ReaderNotes}
 use Rattle.cell_four_slot.specs.Rule.{finished_number, begun_number, IsTimed}
-use Rattle.cell_four_slot.specs.Steps.{begun_with, stored_by, finished_with, asked_by, said_with, got_by, heard_by, first_writer, first_reader}
+use Rattle.cell_four_slot.specs.Steps.{begun_with, stored_by, finished_with, asked_by, said_with, got_by, heard_by, first_writer}
+use Rattle.cell_four_slot.specs.Steps.{first_reader}
 use Rattle.cell_live.proofs.Timing.{late_up, late_ended, begun_longer, turn_begun, turn_ended, by_passed, by_begun, by_ended, read_of}
 use Rattle.cell_live.proofs.Timing.{heeded_begun, heeded_passed, heeded_ended, each_heeded, one_heeded}
 use Rattle.cell_live.proofs.Timing.{late_asked, late_more, begun_more, most_more, rising_more, source_more}
@@ -161,7 +162,8 @@ module _ {T : Type 0} (o : T) where
         ended_reads = h.ended_reads;
         numbered = h.numbered;
         source = h.source;
-        late = late_asked g.numbers g.times.begins p.times.ends t (let l : length g.numbers ≤ length g.times.begins = omega arith in l) h.late;
+        late = late_asked g.numbers g.times.begins p.times.ends t
+            (let l : length g.numbers ≤ length g.times.begins = omega arith in l) h.late;
         begun = h.begun;
         rising = h.rising;
         to_latest = h.to_latest;
@@ -318,7 +320,8 @@ module _ {T : Type 0} (o : T) where
   begun_enough reader.R5 n = omega arith
 
   pub timed_at_any : (p : WriterNotes T) (g : ReaderNotes T) (now shown pair : ℕ) (w : Stage) (r : ReaderStage) →
-      IsTimed o p g now w r shown pair → (m n : ℕ) → At g.numbers m n → IsReadOf (intervals p.times.begins p.times.ends) (intervals g.times.begins g.times.ends) m n
+      IsTimed o p g now w r shown pair → (m n : ℕ) → At g.numbers m n →
+      IsReadOf (intervals p.times.begins p.times.ends) (intervals g.times.begins g.times.ends) m n
   timed_at_any p g now shown pair w r h = timed_read_of p g now shown pair w r h
       (let e : length g.times.begins ≡ begun_number r (length g.answers) = h.begun_reads in
       let l : length g.answers ≤ begun_number r (length g.answers) = begun_enough r (length g.answers) in

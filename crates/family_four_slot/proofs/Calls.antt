@@ -51,32 +51,43 @@ module _ {T : Type 0} (o : T) (n : ℕ) where
   V = FourSlotSight T
 
   -- the notes of process j's cell, as contracts see them
-  pub sees_writes : (u : Process V) (who j : ℕ) (p : WriterNotes T) → j ≢ who → u.who ≡ who → of_cell Spent (place n who j) u.parts ≡ Writer p →
-      writes_to o n u j ≡ record { items = p.written; times = p.times }
+  pub sees_writes : (u : Process V) (who j : ℕ) (p : WriterNotes T) → j ≢ who → u.who ≡ who →
+      of_cell Spent (place n who j) u.parts ≡ Writer p → writes_to o n u j ≡ record { items = p.written; times = p.times }
   sees_writes u who j p ne same is =
       let e : cond (nat_eq j u.who) Spent (of_cell Spent (place n u.who j) u.parts) ≡ Writer p =
       ap (λ b. cond {A = V} b Spent (of_cell Spent (place n u.who j) u.parts)) (differ j u.who (λ h. ne (h ∙ same)))
       ∙ (ap (λ z. of_cell Spent (place n z j) u.parts) same ∙ is) in
       ap (λ z. let q = writer_or (first_writer o) z in record { items = q.written; times = q.times }) e
 
-  pub sees_reads : (u : Process V) (who j : ℕ) (g : ReaderNotes T) → j ≢ who → u.who ≡ who → of_cell Spent (place n j who) u.parts ≡ Reader g →
-      reads_from o n u j ≡ record { answers = g.answers; numbers = g.numbers; known = g.known; told = g.told; heard = g.heard; times = g.times }
+  pub sees_reads : (u : Process V) (who j : ℕ) (g : ReaderNotes T) → j ≢ who → u.who ≡ who →
+      of_cell Spent (place n j who) u.parts ≡ Reader g →
+      reads_from o n u j ≡ record {
+        answers = g.answers;
+        numbers = g.numbers;
+        known = g.known;
+        told = g.told;
+        heard = g.heard;
+        times = g.times;
+      }
   sees_reads u who j g ne same is =
       let e : cond (nat_eq j u.who) Spent (of_cell Spent (place n j u.who) u.parts) ≡ Reader g =
       ap (λ b. cond {A = V} b Spent (of_cell Spent (place n j u.who) u.parts)) (differ j u.who (λ h. ne (h ∙ same)))
       ∙ (ap (λ z. of_cell Spent (place n j z) u.parts) same ∙ is) in
-      ap (λ z. let q = reader_or (first_reader o) z in record { answers = q.answers; numbers = q.numbers; known = q.known; told = q.told; heard = q.heard; times = q.times }) e
+      ap (λ z. let q = reader_or (first_reader o) z in
+      record { answers = q.answers; numbers = q.numbers; known = q.known; told = q.told; heard = q.heard; times = q.times }) e
 
   -- a write: W1, W4 and W5 of the cell to process j
   pub a_write : (v : Process V) (kept kept' : Stored) (cs : List (ℕ × T)) (j : ℕ) (p : WriterNotes T) (b : Bool) (x : T) (a c d count : ℕ)
-      (h1 h2 : List ℕ) (k : ℕ) → k ≡ place n v.who j → j < n → j ≢ v.who → IsAtRest o n v kept cs → of_cell Spent k v.parts ≡ Writer p → p.opening.value ≡ o →
-      v.clock < a → a < c → c < d →
+      (h1 h2 : List ℕ) (k : ℕ) → k ≡ place n v.who j → j < n → j ≢ v.who → IsAtRest o n v kept cs → of_cell Spent k v.parts ≡ Writer p →
+      p.opening.value ≡ o → v.clock < a → a < c → c < d →
       let q = finished_with (stored_by (begun_with p b x a) c) count d in
-      let u = knows Spent (knows Spent (knows Spent v k (Writer (begun_with p b x a)) a h1) k (Writer (stored_by (begun_with p b x a) c)) c h2) k
+      let u = knows Spent (knows Spent (knows Spent v k (Writer (begun_with p b x a)) a h1) k
+      (Writer (stored_by (begun_with p b x a) c)) c h2) k
       (Writer q) d (held_slots cs) in
       IsNewRow kept kept' j (bit_words q.remembered) (bit_number q.latest) → last_or o (p.written ++ x ∷ []) ≡ x →
       IsAtRest o n u kept' cs × IsAccess 3 v.clock u.clock v.times u.times (writes_to o n v j).times (writes_to o n u j).times
-      × IsWriteAccess (writes_to o n v j) (writes_to o n u j) x × KeepsOthers j (writes_to o n v) (writes_to o n u) × KeepsEach (reads_from o n v) (reads_from o n u)
+      × IsWriteAccess (writes_to o n v j) (writes_to o n u j) x × KeepsOthers j (writes_to o n v) (writes_to o n u)
+      × KeepsEach (reads_from o n v) (reads_from o n u)
   a_write v kept kept' cs j p b x a c d count h1 h2 k place_is lj ne r is opened la lc ld row newest =
       let p1 : WriterNotes T = begun_with p b x a in
       let p2 : WriterNotes T = stored_by p1 c in
@@ -113,7 +124,8 @@ module _ {T : Type 0} (o : T) (n : ℕ) where
       HasAnswered g2 h x → AreHeeded g.heard writes number → IsNewColumn kept kept' j (bit_number b) →
       IsAtRest o n u kept' ((slot_at k (slot_number (slot_with b bit)), x) ∷ (before ++ behind))
       × IsAccess 3 v.clock u.clock v.times u.times (reads_from o n v j).times (reads_from o n u j).times
-      × IsReadAccess o (reads_from o n v j) (reads_from o n u j) x × KeepsOthers j (reads_from o n v) (reads_from o n u) × KeepsEach (writes_to o n v) (writes_to o n u)
+      × IsReadAccess o (reads_from o n v j) (reads_from o n u j) x × KeepsOthers j (reads_from o n v) (reads_from o n u)
+      × KeepsEach (writes_to o n v) (writes_to o n u)
   a_read v kept kept' before behind j g b x a c d number count bit writes h1 h2 k place_is lj ne r is opened la lc ld answered heeded said =
       let g1 : ReaderNotes T = asked_by g b a in
       let g2 : ReaderNotes T = said_with g1 count c in
@@ -132,7 +144,8 @@ module _ {T : Type 0} (o : T) (n : ℕ) where
       let old = sees_reads v v.who j g ne refl (subst (λ z. of_cell Spent z v.parts ≡ Reader g) place_is is) in
       let new = sees_reads u v.who j h ne refl there.here in (
         rest_read o n v u kept kept' before behind slot j g h lj ne
-            (subst (λ z. IsAtRest o n v kept (before ++ (shift (slot_at z) (slot_of_choice g.chosen g.at_hand.value) ++ behind))) place_is r) there refl opened
+            (subst (λ z. IsAtRest o n v kept
+            (before ++ (shift (slot_at z) (slot_of_choice g.chosen g.at_hand.value) ++ behind))) place_is r) there refl opened
             (subst (λ z. HasSlots z h (slot ∷ (before ++ behind))) place_is ([], before ++ behind, refl)) said refl,
         subst (λ (z : Times × Times). IsAccess 3 v.clock d v.times u.times z.0 z.1) (λ i. ((sym old i).times, (sym new i).times))
             (access_of v.times v.clock a c d g.times h.times la lc ld refl refl),

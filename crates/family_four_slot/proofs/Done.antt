@@ -7,7 +7,8 @@ use Rattle.cell_live.specs.declared.times.Known.{Known}
 use Rattle.cell_four_slot.specs.declared.notes.WriterNotes.{WriterNotes}
 use Rattle.cell_four_slot.specs.declared.notes.ReaderNotes.{ReaderNotes}
 use Rattle.cell_live.specs.declared.sight.Sight.TheVariants.{Spent, Writer, Reader}
-use Rattle.cell_four_slot.specs.Steps.{FourSlotSight, begun_with, stored_by, finished_with, asked_by, said_with, got_by, slot_of_choice, bit_words, HasAnswered}
+use Rattle.cell_four_slot.specs.Steps.{FourSlotSight, begun_with, stored_by, finished_with, asked_by, said_with, got_by, slot_of_choice}
+use Rattle.cell_four_slot.specs.Steps.{bit_words, HasAnswered}
 use Rattle.cell_live.proofs.ListLaws.{last_snoc}
 use Rattle.family_live.specs.Accesses.{IsAccess, IsReadAccess, IsWriteAccess, KeepsEach, KeepsOthers, ReadAccesses}
 use Rattle.family_four_slot.specs.declared.family.FourSlotFamily.{FourSlotFamily}
@@ -43,7 +44,8 @@ module _ {T : Type 0} where
     pub answer : IsReadAccess (opening_of f) (reads_of s j) (reads_of s' j) x
     pub others : KeepsOthers j (reads_of s) (reads_of s') × KeepsEach (writes_of s) (writes_of s')
 
-  module _ (f : FourSlotFamily T) (s : FourSlotSeat T) (own : IsSeat f s) (j : ℕ) (other : (j < processes_of f) × (j ≢ number_of s)) (cell : ℕ) where
+  module _ (f : FourSlotFamily T) (s : FourSlotSeat T) (own : IsSeat f s) (j : ℕ) (other : (j < processes_of f) × (j ≢ number_of s))
+      (cell : ℕ) where
     module _ (at : cell ≡ place s.processes s.who j) (b : Bool) (x : T) (a c d count : ℕ) (h1 h2 : List ℕ) where
       abbrev p : WriterNotes T
       p = (row_at f s own j other).notes
@@ -55,7 +57,8 @@ module _ {T : Type 0} where
       q2 = stored_by q1 c
 
       abbrev after_write : List ℕ → Process (FourSlotSight T)
-      after_write held = knows Spent (knows Spent (knows Spent (known_by s) cell (Writer q1) a h1) cell (Writer q2) c h2) cell (Writer (finished_with q2 count d)) d held
+      after_write held = knows Spent (knows Spent (knows Spent (known_by s) cell (Writer q1) a h1) cell (Writer q2) c h2) cell
+          (Writer (finished_with q2 count d)) d held
 
       pub wrote : (bits : List ℕ) (pair : ℕ) (cs : List (ℕ × T)) (s' : FourSlotSeat T) → (known_by s).clock < a → a < c → c < d →
           cs ≡ s.seat.inner.me.1 → s'.seat.inner.me.0 ≡ Has (after_write (held_slots cs) ∷ []) → s'.seat.inner.me.1 ≡ cs →
@@ -104,11 +107,13 @@ module _ {T : Type 0} where
       -- an answer, as contracts see what was read before
       pub is_answer : (fits : T → Type 0) (rises : T → T → Type 0) (x : T) →
           let g = (column_at f s own j other).notes in
-          IsAnswer fits rises g.opening.value g.answers g.told x → IsAnswer fits rises (opening_of f) (reads_of s j).answers (reads_of s j).told x
+          IsAnswer fits rises g.opening.value g.answers g.told x →
+          IsAnswer fits rises (opening_of f) (reads_of s j).answers (reads_of s j).told x
       is_answer fits rises x h =
           let column = column_at f s own j other in
           let seen = sees_reads s.spare s.processes (known_by s) (known_by s).who j column.notes (apart f s own j other) refl column.is in
-          subst (λ (z : T × ReadAccesses T). IsAnswer fits rises z.0 z.1.answers z.1.told x) (λ i. ((column.opened ∙ own.opening) i, sym seen i)) h
+          subst (λ (z : T × ReadAccesses T). IsAnswer fits rises z.0 z.1.answers z.1.told x)
+          (λ i. ((column.opened ∙ own.opening) i, sym seen i)) h
 
       module _ (b bit : Bool) (x : T) (a c d number count : ℕ) (writes : Known T) (h1 h2 : List ℕ) where
         abbrev g : ReaderNotes T
@@ -125,8 +130,9 @@ module _ {T : Type 0} where
             (Reader (got_by g2 bit x d number writes)) d held
 
         pub has_read : (pair : ℕ) (before behind cs : List (ℕ × T)) (s' : FourSlotSeat T) → (known_by s).clock < a → a < c → c < d →
-            s.seat.inner.me.1 ≡ before ++ (shift (slot_at cell) (slot_of_choice g.chosen g.at_hand.value) ++ behind) → cs ≡ before ++ behind →
-            s'.seat.inner.me.0 ≡ Has (after_read (held_slots ((slot_at cell (slot_number (slot_with b bit)), x) ∷ cs)) ∷ []) →
+            s.seat.inner.me.1 ≡ before ++ (shift (slot_at cell) (slot_of_choice g.chosen g.at_hand.value) ++ behind) →
+            cs ≡ before ++ behind → s'.seat.inner.me.0 ≡ Has
+            (after_read (held_slots ((slot_at cell (slot_number (slot_with b bit)), x) ∷ cs)) ∷ []) →
             s'.seat.inner.me.1 ≡ (slot_at cell (slot_number (slot_with b bit)), x) ∷ cs →
             s'.seat.inner.table_id ≡ s.seat.inner.table_id → s'.spare ≡ s.spare → s'.processes ≡ s.processes → s'.who ≡ s.who →
             s'.stored ≡ record s.stored { said = set s.stored.said j pair } → pair ≡ bit_number b →
@@ -148,7 +154,8 @@ module _ {T : Type 0} where
               long = set_long old.said j pair;
               shown = refl;
             } in
-            let did = a_read o n v old new before behind j g b x a c d number count bit writes h1 h2 cell (column_place f s own j other cell at)
+            let did = a_read o n v old new before behind j g b x a c d number count bit writes h1 h2 cell
+            (column_place f s own j other cell at)
             (within f s own j other) (apart f s own j other) (subst (λ zs. IsAtRest o n v old zs) split own.rest)
             (column_notes f s own j other cell at) column.opened la lc ld answered heeded kept_column in
             let u : Process (FourSlotSight T) = after_read (held_slots all_slots) in

@@ -40,7 +40,8 @@ module _ {T : Type 0} (fits : T → Type 0) (rises : T → T → Type 0) (o : T)
     Cell = CellAllows Rule
 
     begins_by : (id : ℕ) (p : WriterNotes T) (items : List T) (x : T) → p.stage ≡ writer.W5 → items ≡ x ∷ [] → fits x →
-        rises (last_or p.opening.value p.written) x → Cell id (Writer p, []) 1 (λ m. m) (When (begins items (step 4 1 0 0 none) (Writer p, [])))
+        rises (last_or p.opening.value p.written) x →
+        Cell id (Writer p, []) 1 (λ m. m) (When (begins items (step 4 1 0 0 none) (Writer p, [])))
     begins_by id p items x idle item f up now t lt s r at =
         let m : r.0.now ≤ now = r.1 in
         let known = r.0.each_seat id (Writer p) at in
@@ -75,7 +76,8 @@ module _ {T : Type 0} (fits : T → Type 0) (rises : T → T → Type 0) (o : T)
         let y = finishes_at fits rises o count few s r.0 t (omega arith) 4 id (Writer p, []) new known.1 h.0 h.1 h.2 in
         (y.0, y.1, y.3, y.4, y.5, (y.6, y.2))
 
-    asks_by : (id : ℕ) (g : ReaderNotes T) → g.stage ≡ reader.R5 → Cell id (Reader g, []) 0 (λ m. m) (When (asks (step 4 0 0 0 none) (Reader g, [])))
+    asks_by : (id : ℕ) (g : ReaderNotes T) → g.stage ≡ reader.R5 →
+        Cell id (Reader g, []) 0 (λ m. m) (When (asks (step 4 0 0 0 none) (Reader g, [])))
     asks_by id g stage now t lt s r at =
         let m : r.0.now ≤ now = r.1 in
         let known = r.0.each_seat id (Reader g) at in
@@ -116,8 +118,8 @@ module _ {T : Type 0} (fits : T → Type 0) (rises : T → T → Type 0) (o : T)
     abbrev Says : ℕ → Process V → List (ℕ × T) → List (ℕ × T) → (ℕ → ℕ → Me T V → Type 0) → ℕ → Me T (View V) → Type 0
     Says = StepTells Spent slot_at
 
-    allows : (slots id k i : ℕ) (v : Process V) (before c behind : List (ℕ × T)) (f : ℕ → ℕ) (happens : V → ℕ → ℕ → Me T V → Type 0) (u : V) →
-        i < 4 → k < (four_slots n).cells → k < length v.parts → Inside 4 c → of_cell Spent k v.parts ≡ u →
+    allows : (slots id k i : ℕ) (v : Process V) (before c behind : List (ℕ × T)) (f : ℕ → ℕ) (happens : V → ℕ → ℕ → Me T V → Type 0)
+        (u : V) → i < 4 → k < (four_slots n).cells → k < length v.parts → Inside 4 c → of_cell Spent k v.parts ≡ u →
         v.held ≡ held_slots (before ++ (shift (slot_at k) c ++ behind)) → Cell v.who (u, c) i f (happens u)
         → Allows Family slots id (Has (v ∷ []), before ++ (shift (slot_at k) c ++ behind)) (word_at k i) f
         (Says k v before behind (happens (of_cell Spent k v.parts)))
@@ -140,7 +142,8 @@ module _ {T : Type 0} (fits : T → Type 0) (rises : T → T → Type 0) (o : T)
         v.held ≡ slot_at k (slot_number p.slot) ∷ held_slots behind → p.stage ≡ writer.W3 → i ≡ 2 + bit_number p.slot.pair →
         new ≡ bit_number p.slot.index
         → Allows Family slots id (Has (v ∷ []), (slot_at k (slot_number p.slot), p.item.value) ∷ behind) (word_at k i) (λ _. new)
-        (Says k v [] behind (λ t _. When (stores (step 4 i new 0 none) (of_cell Spent k v.parts, (slot_number p.slot, p.item.value) ∷ [])) t new))
+        (Says k v [] behind (λ t _. When
+        (stores (step 4 i new 0 none) (of_cell Spent k v.parts, (slot_number p.slot, p.item.value) ∷ [])) t new))
     family_stores slots id k i new v behind p lk has is held stage word to =
         let cs : List (ℕ × T) = (slot_number p.slot, p.item.value) ∷ [] in
         allows slots id k i v [] cs behind (λ _. new) (λ z t _. When (stores (step 4 i new 0 none) (z, cs)) t new) (Writer p)
@@ -153,11 +156,13 @@ module _ {T : Type 0} (fits : T → Type 0) (rises : T → T → Type 0) (o : T)
         → Allows Family slots id (Has (v ∷ []), behind) (word_at k 0) (λ _. new)
         (Says k v [] behind (λ t _. When (finishes_counting count (step 4 0 new 0 none) (of_cell Spent k v.parts, [])) t new))
     family_finishes count few slots id k new v behind p lk has is held stage to =
-        allows slots id k 0 v [] [] behind (λ _. new) (λ z t _. When (finishes_counting count (step 4 0 new 0 none) (z, [])) t new) (Writer p)
+        allows slots id k 0 v [] [] behind (λ _. new) (λ z t _. When (finishes_counting count (step 4 0 new 0 none) (z, [])) t new)
+        (Writer p)
         (let z : 0 < 4 = omega arith in z) lk has tt is held (finishes_by count few v.who p new stage to)
 
     pub family_asks : (slots id k : ℕ) (v : Process V) (behind : List (ℕ × T)) (g : ReaderNotes T) →
-        k < (four_slots n).cells → k < length v.parts → of_cell Spent k v.parts ≡ Reader g → v.held ≡ held_slots behind → g.stage ≡ reader.R5
+        k < (four_slots n).cells → k < length v.parts → of_cell Spent k v.parts ≡ Reader g → v.held ≡ held_slots behind →
+        g.stage ≡ reader.R5
         → Allows Family slots id (Has (v ∷ []), behind) (word_at k 0) (λ m. m)
         (Says k v [] behind (When (asks (step 4 0 0 0 none) (of_cell Spent k v.parts, []))))
     family_asks slots id k v behind g lk has is held stage =
@@ -173,12 +178,14 @@ module _ {T : Type 0} (fits : T → Type 0) (rises : T → T → Type 0) (o : T)
         k < (four_slots n).cells → k < length v.parts → of_cell Spent k v.parts ≡ Reader g →
         v.held ≡ held_slots (before ++ (shift (slot_at k) (slot_of_choice g.chosen g.at_hand.value) ++ behind)) → g.stage ≡ reader.R1 →
         new ≡ bit_number g.slot.pair
-        → Allows Family slots id (Has (v ∷ []), before ++ (shift (slot_at k) (slot_of_choice g.chosen g.at_hand.value) ++ behind)) (word_at k 1)
+        → Allows Family slots id (Has (v ∷ []), before ++ (shift (slot_at k) (slot_of_choice g.chosen g.at_hand.value) ++ behind))
+        (word_at k 1)
         (λ _. new) (Says k v before behind
         (λ t _. When (says_counting count (step 4 1 new 0 none) (of_cell Spent k v.parts, slot_of_choice g.chosen g.at_hand.value)) t new))
     family_says count few slots id k new v before behind g lk has is held stage to =
         let cs : List (ℕ × T) = slot_of_choice g.chosen g.at_hand.value in
-        allows slots id k 1 v before cs behind (λ _. new) (λ z t _. When (says_counting count (step 4 1 new 0 none) (z, cs)) t new) (Reader g)
+        allows slots id k 1 v before cs behind (λ _. new) (λ z t _. When (says_counting count (step 4 1 new 0 none) (z, cs)) t new)
+        (Reader g)
         (let z : 1 < 4 = omega arith in z) lk has (inside_choice g.chosen g.at_hand.value) is held (says_by count few v.who g new stage to)
 
     pub family_takes : ((a : T) → rises a a) → ((a b c : T) → rises a b → rises b c → rises a c) → (slots id k i : ℕ) (v : Process V)

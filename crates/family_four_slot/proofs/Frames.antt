@@ -28,10 +28,12 @@ module _ {T : Type 0} (o : T) (n : ℕ) (v u : Process (FourSlotSight T)) (k : �
   unfolding reads_by
   other_reads j away = ap reads_by (stays Spent (reader_or (first_reader o)) v u k w c (λ i j. place n j i) j (λ ne. inl (away ne)))
 
-  pub same_writes : writer_or (first_writer o) w ≡ writer_or (first_writer o) (of_cell Spent k v.parts) → (j : ℕ) → writes_to o n u j ≡ writes_to o n v j
+  pub same_writes : writer_or (first_writer o) w ≡ writer_or (first_writer o) (of_cell Spent k v.parts) → (j : ℕ) →
+      writes_to o n u j ≡ writes_to o n v j
   unfolding writes_by
   same_writes same j = ap writes_by (stays Spent (writer_or (first_writer o)) v u k w c (λ i j. place n i j) j (λ ne. inr same))
 
-  pub same_reads : reader_or (first_reader o) w ≡ reader_or (first_reader o) (of_cell Spent k v.parts) → (j : ℕ) → reads_from o n u j ≡ reads_from o n v j
+  pub same_reads : reader_or (first_reader o) w ≡ reader_or (first_reader o) (of_cell Spent k v.parts) → (j : ℕ) →
+      reads_from o n u j ≡ reads_from o n v j
   unfolding reads_by
   same_reads same j = ap reads_by (stays Spent (reader_or (first_reader o)) v u k w c (λ i j. place n j i) j (λ ne. inr same))

@@ -1,5 +1,6 @@
 -- What the steps of a call need, of a seat that is one of the family's: each step leaves the notes with which the next one goes on.
-use Rattle.std.proofs.Common.{◌≡◌, ◌≢◌, ℕ, zero, suc, ◌+◌, ◌*◌, ◌<◌, Bool, List, [], ◌∷◌, length, get_or, set, refl, sym, ap, ◌∙◌, subst, arith}
+use Rattle.std.proofs.Common.{◌≡◌, ◌≢◌, ℕ, zero, suc, ◌+◌, ◌*◌, ◌<◌, Bool, List, [], ◌∷◌, length, get_or, set, refl, sym, ap, ◌∙◌, subst}
+use Rattle.std.proofs.Common.{arith}
 use Rattle.atomic_table.specs.Table.{Me}
 use Rattle.four_slot_core.specs.Events.{bit_number}
 use Rattle.cell_live.specs.Running.{held_slots}
@@ -47,24 +48,29 @@ there (x ∷ xs) (suc i) a bs e = let h = there xs i a bs e in omega arith
 
 module _ {T : Type 0} where
   -- after a step on a cell
-  pub process_after : (v : Process (FourSlotSight T)) (k t : ℕ) (w : FourSlotSight T) (cs : List (ℕ × T)) (m : Me T (View (FourSlotSight T))) → k < length v.parts → After v k w t cs m →
+  pub process_after : (v : Process (FourSlotSight T)) (k t : ℕ) (w : FourSlotSight T) (cs : List (ℕ × T))
+      (m : Me T (View (FourSlotSight T))) → k < length v.parts → After v k w t cs m →
       HasProcess m k (knows Spent v k w t (held_slots cs))
   process_after v k t w cs m has a = record {
     one = a.1;
-    has = let l : length (set v.parts k w) ≡ length v.parts = set_long v.parts k w in let z : k < length (set v.parts k w) = omega arith in z;
+    has = let l : length (set v.parts k w) ≡ length v.parts = set_long v.parts k w in let z : k < length (set v.parts k w) =
+        omega arith in z;
     held = ap held_slots (sym a.2);
   }
 
-  pub writer_after : (v : Process (FourSlotSight T)) (k t : ℕ) (p : WriterNotes T) (cs : List (ℕ × T)) (m : Me T (View (FourSlotSight T))) → k < length v.parts →
-      After v k (Writer p) t cs m → HasWriter m k (knows Spent v k (Writer p) t (held_slots cs)) p
-  writer_after v k t p cs m has a = record { process = process_after v k t (Writer p) cs m has a; notes = get_set_here v.parts k (Writer p) Spent has }
+  pub writer_after : (v : Process (FourSlotSight T)) (k t : ℕ) (p : WriterNotes T) (cs : List (ℕ × T)) (m : Me T (View (FourSlotSight T))) →
+      k < length v.parts → After v k (Writer p) t cs m → HasWriter m k (knows Spent v k (Writer p) t (held_slots cs)) p
+  writer_after v k t p cs m has a =
+      record { process = process_after v k t (Writer p) cs m has a; notes = get_set_here v.parts k (Writer p) Spent has }
 
-  pub reader_after : (v : Process (FourSlotSight T)) (k t : ℕ) (g : ReaderNotes T) (cs : List (ℕ × T)) (m : Me T (View (FourSlotSight T))) → k < length v.parts →
-      After v k (Reader g) t cs m → HasReader m k (knows Spent v k (Reader g) t (held_slots cs)) g
-  reader_after v k t g cs m has a = record { process = process_after v k t (Reader g) cs m has a; notes = get_set_here v.parts k (Reader g) Spent has }
+  pub reader_after : (v : Process (FourSlotSight T)) (k t : ℕ) (g : ReaderNotes T) (cs : List (ℕ × T)) (m : Me T (View (FourSlotSight T))) →
+      k < length v.parts → After v k (Reader g) t cs m → HasReader m k (knows Spent v k (Reader g) t (held_slots cs)) g
+  reader_after v k t g cs m has a =
+      record { process = process_after v k t (Reader g) cs m has a; notes = get_set_here v.parts k (Reader g) Spent has }
 
   -- another record is put into the slot
-  pub after_filled : (v : Process (FourSlotSight T)) (k t a : ℕ) (w : FourSlotSight T) (x y : T) (cs : List (ℕ × T)) (m m' : Me T (View (FourSlotSight T))) → After v k w t ((a, y) ∷ cs) m →
+  pub after_filled : (v : Process (FourSlotSight T)) (k t a : ℕ) (w : FourSlotSight T) (x y : T) (cs : List (ℕ × T))
+      (m m' : Me T (View (FourSlotSight T))) → After v k w t ((a, y) ∷ cs) m →
       m' ≡ (m.0, (a, x) ∷ cs) → After v k w t ((a, x) ∷ cs) m'
   after_filled v k t a w x y cs m m' h e = (h.0, ap (λ z. z.0) e ∙ h.1, ap (λ z. z.1) e)
 
@@ -79,7 +85,8 @@ module _ {T : Type 0} where
         (shown_to s.stored j).latest
     row_at = own.rest.row j within apart
 
-    abbrev pub column_at : IsColumn s.spare (place s.processes j (known_by s).who) (of_cell Spent (place s.processes j (known_by s).who) (known_by s).parts)
+    abbrev pub column_at : IsColumn s.spare (place s.processes j (known_by s).who)
+        (of_cell Spent (place s.processes j (known_by s).who) (known_by s).parts)
         (get_or s.stored.said j 0) s.seat.inner.me.1
     column_at = own.rest.column j within apart
 
@@ -89,7 +96,8 @@ module _ {T : Type 0} where
       row_place = at ∙ ap (λ z. place s.processes z j) (sym own.who)
 
       row_low : cell < s.processes * s.processes
-      row_low = subst (λ z. z < s.processes * s.processes) (sym row_place) (place_in s.processes (known_by s).who j own.rest.inside within apart)
+      row_low = subst (λ z. z < s.processes * s.processes) (sym row_place)
+          (place_in s.processes (known_by s).who j own.rest.inside within apart)
 
       pub row_inside : cell < (four_slots (processes_of f)).cells
       row_inside = subst (λ z. cell < z * z) own.processes row_low
@@ -129,9 +137,10 @@ module _ {T : Type 0} where
 
   module _ (f : FourSlotFamily T) (s : FourSlotSeat T) (own : IsSeat f s) where
     -- the seat after a call
-    pub seat_after : (s' : FourSlotSeat T) (u : Process (FourSlotSight T)) (cs : List (ℕ × T)) → s'.seat.inner.table_id ≡ s.seat.inner.table_id → s'.spare ≡ s.spare →
-        s'.processes ≡ s.processes → s'.who ≡ s.who → s'.seat.inner.me.0 ≡ Has (u ∷ []) → s'.seat.inner.me.1 ≡ cs → u.who ≡ (known_by s).who →
-        IsAtRest s.spare s.processes u s'.stored cs → IsSeat f s'
+    pub seat_after : (s' : FourSlotSeat T) (u : Process (FourSlotSight T)) (cs : List (ℕ × T)) →
+        s'.seat.inner.table_id ≡ s.seat.inner.table_id → s'.spare ≡ s.spare →
+        s'.processes ≡ s.processes → s'.who ≡ s.who → s'.seat.inner.me.0 ≡ Has (u ∷ []) → s'.seat.inner.me.1 ≡ cs →
+        u.who ≡ (known_by s).who → IsAtRest s.spare s.processes u s'.stored cs → IsSeat f s'
     seat_after s' u cs table spare processes who me slots same rest =
         let is : u ≡ known_by s' = sym (ap process_of me) in record {
           table = table ∙ own.table;

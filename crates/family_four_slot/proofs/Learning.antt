@@ -1,5 +1,6 @@
 -- A process learns a receipt: it knows of a later time, and was told one record more by the sender. All else stays.
-use Rattle.std.proofs.Common.{◌≡◌, ◌≢◌, ℕ, ◌+◌, ◌*◌, ◌<◌, ◌≤◌, cond, List, length, get_or, refl, sym, ap, ◌∙◌, subst, arith, ⊎_elim, mul-le-mul_right}
+use Rattle.std.proofs.Common.{◌≡◌, ◌≢◌, ℕ, ◌+◌, ◌*◌, ◌<◌, ◌≤◌, cond, List, length, get_or, refl, sym, ap, ◌∙◌, subst, arith, ⊎_elim}
+use Rattle.std.proofs.Common.{mul-le-mul_right}
 use Rattle.std.proofs.lemmas.Bool.{cases_eq, cases_lt}
 use Rattle.four_slot_core.specs.declared.state.ReaderStage.TheVariants as reader
 use Rattle.cell_live.specs.Running.{snap}
@@ -60,8 +61,8 @@ module _ {T : Type 0} where
   writes_heard d (Writer p) y = refl
   writes_heard d (Both p g) y = refl
 
-  column_heard : (o : T) (k : ℕ) (g : ReaderNotes T) (y : FourSlotSight T) (said : ℕ) (cs : List (ℕ × T)) → g.stage ≡ reader.R5 → g.opening.value ≡ o →
-      HasSlots k g cs → said ≡ word_said g.chosen → IsColumn o k (hears_of (Reader g) y) said cs
+  column_heard : (o : T) (k : ℕ) (g : ReaderNotes T) (y : FourSlotSight T) (said : ℕ) (cs : List (ℕ × T)) → g.stage ≡ reader.R5 →
+      g.opening.value ≡ o → HasSlots k g cs → said ≡ word_said g.chosen → IsColumn o k (hears_of (Reader g) y) said cs
   column_heard o k g (Told x) said cs i p s w = record {
     notes = cell_heard g x.value;
     is = refl;
@@ -75,7 +76,8 @@ module _ {T : Type 0} where
   column_heard o k g (Reader q) said cs i p s w = record { notes = g; is = refl; idle = i; opened = p; slots = s; stored = w }
   column_heard o k g (Both q h) said cs i p s w = record { notes = g; is = refl; idle = i; opened = p; slots = s; stored = w }
 
-  module _ (o : T) (n : ℕ) (v : Process (FourSlotSight T)) (r : Receipt (FourSlotSight T)) (kept : Stored) (cs : List (ℕ × T)) (rest : IsAtRest o n v kept cs) where
+  module _ (o : T) (n : ℕ) (v : Process (FourSlotSight T)) (r : Receipt (FourSlotSight T)) (kept : Stored) (cs : List (ℕ × T))
+      (rest : IsAtRest o n v kept cs) where
     abbrev u : Process (FourSlotSight T)
     u = heard_by hears_of v r
 
@@ -115,7 +117,8 @@ module _ {T : Type 0} where
         ap (λ (p : WriterNotes T). record { items = p.written; times = p.times })
         (⊎_elim
         (λ (e : j ≡ v.who). let t = same_number j v.who e in
-        ap (λ b. writer_or d (cond b Spent (of_cell Spent at u.parts))) t ∙ sym (ap (λ b. writer_or d (cond b Spent (of_cell Spent at v.parts))) t))
+        ap (λ b. writer_or d (cond b Spent (of_cell Spent at u.parts))) t
+        ∙ sym (ap (λ b. writer_or d (cond b Spent (of_cell Spent at v.parts))) t))
         (λ (ne : j ≢ v.who). let t = differ j v.who ne in
         ap (λ b. writer_or d (cond b Spent (of_cell Spent at u.parts))) t
         ∙ ((ap (writer_or d) (part at) ∙ writes_heard d (of_cell Spent at v.parts) (of_cell Spent at r.parts))
@@ -143,10 +146,12 @@ module _ {T : Type 0} where
         others_stay j nf =
             let at : ℕ = place n j v.who in
             let d : ReaderNotes T = first_reader o in
-            ap (λ (g : ReaderNotes T). record { answers = g.answers; numbers = g.numbers; known = g.known; told = g.told; heard = g.heard; times = g.times })
+            ap (λ (g : ReaderNotes T).
+            record { answers = g.answers; numbers = g.numbers; known = g.known; told = g.told; heard = g.heard; times = g.times })
             (⊎_elim
             (λ (e : j ≡ v.who). let t = same_number j v.who e in
-            ap (λ b. reader_or d (cond b Spent (of_cell Spent at u.parts))) t ∙ sym (ap (λ b. reader_or d (cond b Spent (of_cell Spent at v.parts))) t))
+            ap (λ b. reader_or d (cond b Spent (of_cell Spent at u.parts))) t
+            ∙ sym (ap (λ b. reader_or d (cond b Spent (of_cell Spent at v.parts))) t))
             (λ (ne : j ≢ v.who). let t = differ j v.who ne in
             ap (λ b. reader_or d (cond b Spent (of_cell Spent at u.parts))) t
             ∙ (ap (reader_or d) (stays j nf ne) ∙ sym (ap (λ b. reader_or d (cond b Spent (of_cell Spent at v.parts))) t)))

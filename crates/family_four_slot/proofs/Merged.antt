@@ -1,6 +1,7 @@
 -- An access that makes two steps of the mechanism: it is the first step, and then the second one, whose store finds in its word what it
 -- would store. So the table after both is as after the first, but for the seat and its slots.
-use Rattle.std.proofs.Common.{◌≡◌, ◌≢◌, ℕ, ◌+◌, ◌<◌, ◌≤◌, Bool, List, [], ◌∷◌, ◌++◌, map, length, get_or, set, refl, sym, ap, ◌∙◌, subst, arith, ⊎_elim}
+use Rattle.std.proofs.Common.{◌≡◌, ◌≢◌, ℕ, ◌+◌, ◌<◌, ◌≤◌, Bool, List, [], ◌∷◌, ◌++◌, map, length, get_or, set, refl, sym, ap, ◌∙◌, subst}
+use Rattle.std.proofs.Common.{arith, ⊎_elim}
 use lib.Seq.{set-get_or}
 use lib.ListN.{get_elem?}
 use mathlib.Core.Option.{none, some}
@@ -54,7 +55,8 @@ module _ {T : Type 0} (fits : T → Type 0) (rises : T → T → Type 0) (o : T)
 
   -- what a seat of one process has is known of the process
   view_there : (s : State T (View W)) (r : F s) (id k : ℕ) (v : Process W) → get_elem? s.views id ≡ some (Has (v ∷ [])) →
-      get_elem? (map (λ (p : Process W). of_cell Spent k p.parts) r.processes ++ map (λ (q : Receipt W). of_cell Spent k q.parts) r.receipts) v.who
+      get_elem? (map (λ (p : Process W). of_cell Spent k p.parts) r.processes ++ map
+      (λ (q : Receipt W). of_cell Spent k q.parts) r.receipts) v.who
       ≡ some (of_cell Spent k v.parts)
   view_there s r id k v at =
       let G : Process W → W = λ (p : Process W). of_cell Spent k p.parts in
@@ -70,13 +72,15 @@ module _ {T : Type 0} (fits : T → Type 0) (rises : T → T → Type 0) (o : T)
       let found : ℕ = get_or s.words word 0 in
       let Result : Type 0 = (w : View W) × (a : Act T) × Valid s.homes me.1 a × F (stepped s word found id me.1 w a)
       × asks_on (step slots word 0 0 none) me found (w, carried_after me.1 a) in
-      let told : (m' : Me T (View W)) → ℕ → Process W → ReaderNotes T → Type 0 = λ m' j u q. (b : Bool) × (t : ℕ) × (found ≡ bit_number b) × (u.clock < t)
+      let told : (m' : Me T (View W)) → ℕ → Process W → ReaderNotes T → Type 0 =
+      λ m' j u q. (b : Bool) × (t : ℕ) × (found ≡ bit_number b) × (u.clock < t)
       × (found ≢ word_said q.chosen → After u j (Reader (asked_by q b t)) t me.1 m')
       × (found ≡ word_said q.chosen → (xs : List (ℕ × T)) × (ys : List (ℕ × T)) × (y : ℕ)
       × (me.1 ≡ xs ++ (shift (slot_at j) (slot_of_choice q.chosen q.at_hand.value) ++ ys))
       × After (has_asked u j q b t me.1) j (Reader (said_with (asked_by q b t) 0 y)) y (xs ++ ys) m') in
       let tied : (m' : Me T (View W)) → told m' k v g → asks_on (step slots word 0 0 none) me found m' =
-      (λ m' h j u q at' who' is'. tie (told m') j u q (same_cell k j 0 0 (omega arith) (omega arith) (sym at ∙ at')) (has_one v u (sym who ∙ who')) is' h) in
+      (λ m' h j u q at' who' is'. tie (told m') j u q (same_cell k j 0 0 (omega arith) (omega arith) (sym at ∙ at'))
+      (has_one v u (sym who ∙ who')) is' h) in
       let d = x.4 k v g at who is in
       let b : Bool = d.0 in
       let t : ℕ = d.1 in
@@ -95,8 +99,10 @@ module _ {T : Type 0} (fits : T → Type 0) (rises : T → T → Type 0) (o : T)
       ap (λ zs. get_or zs (word_at k 1) 0) (set-get_or s.words word 0) ∙ (there ∙ (sym first ∙ d.2)) in
       let low : bit_number b ≤ 1 = bit_low b in
       let y = says_ok fits rises o n 0 (omega arith) slots id (word_at k 1) k (bit_number b) me1 v1 g1 before behind refl lk
-      (subst (λ z. k < z) (sym (set_long v.parts k (Reader g1))) has) d.4.1 (get_set_here v.parts k (Reader g1) Spent has) (d.4.2 ∙ slots_are)
-      (ap held_slots (sym d.4.2)) refl refl s1 x.3 (homes_long s.homes me.1 a1 ∙ long) (set_here s.views id x.0 (within s.views id me.0 seen))
+      (subst (λ z. k < z) (sym (set_long v.parts k (Reader g1))) has) d.4.1 (get_set_here v.parts k (Reader g1) Spent has)
+      (d.4.2 ∙ slots_are)
+      (ap held_slots (sym d.4.2)) refl refl s1 x.3 (homes_long s.homes me.1 a1 ∙ long)
+      (set_here s.views id x.0 (within s.views id me.0 seen))
       (omega (arith, reading, low)) in
       let z = y.4 k v1 g1 refl d.4.1 (get_set_here v.parts k (Reader g1) Spent has) in (
         y.0,
@@ -121,7 +127,8 @@ module _ {T : Type 0} (fits : T → Type 0) (rises : T → T → Type 0) (o : T)
       i ≡ 2 + bit_number p.slot.pair → i < 4 → new ≡ bit_number p.slot.index →
       Allows F slots id me word (λ _. new) (λ _. stores_on (step slots word new 0 none) me new)
   stores_on_ok slots id word k i new me v p cs at lk has who is slots_are held stage place li to s r long seen small =
-      let x = stores_ok fits rises o n slots id word k i new me v p cs at lk has who is slots_are held stage place li to s r long seen small in
+      let x = stores_ok fits rises o n slots id word k i new me v p cs at lk has who is slots_are held stage place li to s r long seen
+      small in
       let Result : Type 0 = (w : View W) × (a : Act T) × Valid s.homes me.1 a × F (stepped s word new id me.1 w a)
       × stores_on (step slots word new 0 none) me new (w, carried_after me.1 a) in
       let told : (m' : Me T (View W)) → ℕ → Process W → WriterNotes T → List (ℕ × T) → Type 0 = λ m' j u q ds. (t : ℕ) × (u.clock < t)
@@ -130,7 +137,8 @@ module _ {T : Type 0} (fits : T → Type 0) (rises : T → T → Type 0) (o : T)
       (y : ℕ) × After (has_stored u j q t ds) j (Writer (finished_with (stored_by q t) 0 y)) y ds m') in
       let tied : (m' : Me T (View W)) → told m' k v p cs → stores_on (step slots word new 0 none) me new m' =
       (λ m' h j i' u q ds li' at' who' is' held'.
-      tie (told m') j u q ds (same_cell k j i i' li li' (sym at ∙ at')) (has_one v u (sym who ∙ who')) is' (ap rest_of (sym slots_are ∙ held')) h) in
+      tie (told m') j u q ds (same_cell k j i i' li li' (sym at ∙ at')) (has_one v u (sym who ∙ who')) is'
+      (ap rest_of (sym slots_are ∙ held')) h) in
       let d = x.4 k i v p cs li at who is slots_are in
       let t : ℕ = d.0 in
       let p1 : WriterNotes T = stored_by p t in
@@ -148,7 +156,8 @@ module _ {T : Type 0} (fits : T → Type 0) (rises : T → T → Type 0) (o : T)
       (view_there s r id k v (seen ∙ ap some who) ∙ ap some is) ∙ sym e) in
       let y = finishes_ok fits rises o n 0 (omega arith) slots id (word_at k 0) k (bit_number p.slot.pair) me1 v1 p1 refl lk
       (subst (λ z. k < z) (sym (set_long v.parts k (Writer p1))) has) d.2.1 (get_set_here v.parts k (Writer p1) Spent has)
-      (ap held_slots (sym d.2.2)) refl refl s1 x.3 (homes_long s.homes me.1 a1 ∙ long) (set_here s.views id x.0 (within s.views id me.0 seen))
+      (ap held_slots (sym d.2.2)) refl refl s1 x.3 (homes_long s.homes me.1 a1 ∙ long)
+      (set_here s.views id x.0 (within s.views id me.0 seen))
       (omega (arith, latest, low)) in
       let z = y.4 k v1 p1 refl d.2.1 (get_set_here v.parts k (Writer p1) Spent has) in
       let m2 : Me T (View W) = (y.0, carried_after me.1 (chain a1 y.1)) in (
@@ -170,8 +179,8 @@ module _ {T : Type 0} (fits : T → Type 0) (rises : T → T → Type 0) (o : T)
         rest_of [] = []
         rest_of (x ∷ xs) = xs
 
-        tie : (P : ℕ → Process W → WriterNotes T → List (ℕ × T) → Type 0) (j : ℕ) (u : Process W) (q : WriterNotes T) (ds : List (ℕ × T)) → k ≡ j → v ≡ u →
-            of_cell Spent j u.parts ≡ Writer q → cs ≡ ds → P k v p cs → P j u q ds
+        tie : (P : ℕ → Process W → WriterNotes T → List (ℕ × T) → Type 0) (j : ℕ) (u : Process W) (q : WriterNotes T) (ds : List (ℕ × T)) →
+            k ≡ j → v ≡ u → of_cell Spent j u.parts ≡ Writer q → cs ≡ ds → P k v p cs → P j u q ds
         tie P j u q ds same_k same_v is' rest h =
             let both : p ≡ q = writes_one p q (sym is ∙ ((λ i. of_cell Spent (same_k i) (same_v i).parts) ∙ is')) in
             subst (λ (z : ℕ × Process W × WriterNotes T × List (ℕ × T)). P z.0 z.1 z.2 z.3) (λ i. (same_k i, same_v i, both i, rest i)) h

@@ -1,5 +1,6 @@
 -- The seats of a new family, one for each process, and the one that has all of them at the end.
-use Rattle.std.proofs.Common.{◌≡◌, ◌≢◌, ◌⊎◌, ℕ, zero, suc, ◌+◌, ◌-◌, ◌*◌, ◌<◌, ◌≤◌, Bool, true, false, nat_eq, cond, List, [], ◌∷◌, ◌++◌, length, slice_get, Some, get_or, replicate, refl, sym, ap, ◌∙◌, subst, arith, ⊎_elim, inl, inr}
+use Rattle.std.proofs.Common.{◌≡◌, ◌≢◌, ◌⊎◌, ℕ, zero, suc, ◌+◌, ◌-◌, ◌*◌, ◌<◌, ◌≤◌, Bool, true, false, nat_eq, cond, List, [], ◌∷◌, ◌++◌}
+use Rattle.std.proofs.Common.{length, slice_get, Some, get_or, replicate, refl, sym, ap, ◌∙◌, subst, arith, ⊎_elim, inl, inr}
 use Rattle.std.proofs.lemmas.Bool.{cases_lt}
 use Rattle.std.proofs.lemmas.List.{length_push}
 use mathlib.Core.Option.{some}
@@ -49,15 +50,16 @@ unstored = record { shown = replicate 16 (record { bits = 0 ∷ 0 ∷ []; latest
 
 module _ {T : Type 0} where
   -- the seats of the first processes were parted off
-  pub record DealtTo (id : TableId) (n : ℕ) (o : T) (who : ℕ) (rest : FamilySeat T (FourSlotSight T)) (seats : List (FourSlotSeat T)) : Type 0 where
+  pub record DealtTo (id : TableId) (n : ℕ) (o : T) (who : ℕ) (rest : FamilySeat T (FourSlotSight T))
+      (seats : List (FourSlotSeat T)) : Type 0 where
     pub table : rest.inner.table_id ≡ id
     pub me : rest.inner.me ≡ (Has (upto (first_process o n) who (n - who)), [])
     pub long : length seats ≡ who
     pub each : Each (IsFirst id n o) seats
 
   -- one seat more is parted off
-  pub dealt_more : (id : TableId) (n : ℕ) (o : T) (who : ℕ) (rest rest' : FamilySeat T (FourSlotSight T)) (seats : List (FourSlotSeat T)) (s : FourSlotSeat T) → who < n →
-      DealtTo id n o who rest seats → rest'.inner.table_id ≡ rest.inner.table_id →
+  pub dealt_more : (id : TableId) (n : ℕ) (o : T) (who : ℕ) (rest rest' : FamilySeat T (FourSlotSight T)) (seats : List (FourSlotSeat T))
+      (s : FourSlotSeat T) → who < n → DealtTo id n o who rest seats → rest'.inner.table_id ≡ rest.inner.table_id →
       rest'.inner.me ≡ (all_but_first rest.inner.me.0, rest.inner.me.1) → s.seat.inner.table_id ≡ rest.inner.table_id →
       s.seat.inner.me ≡ (first_of rest.inner.me.0, []) → s.spare ≡ o → s.processes ≡ n → s.who ≡ who → s.stored ≡ unstored →
       DealtTo id n o (who + 1) rest' (seats ++ s ∷ [])
@@ -83,7 +85,8 @@ module _ {T : Type 0} where
   part_of : (o : T) (n i k : ℕ) → (get_or (upto (first_part o n i) 0 (n * n)) k Spent ≡ first_part o n i k)
       ⊎ (get_or (upto (first_part o n i) 0 (n * n)) k Spent ≡ Spent)
   part_of o n i k = ⊎_elim
-      (λ (l : k < n * n). inl (upto_get (first_part o n i) 0 (n * n) k Spent l ∙ ap (first_part o n i) (let z : 0 + k ≡ k = omega arith in z)))
+      (λ (l : k < n * n). inl (upto_get (first_part o n i) 0 (n * n) k Spent l
+      ∙ ap (first_part o n i) (let z : 0 + k ≡ k = omega arith in z)))
       (λ (l : n * n ≤ k). inr (beyond (upto (first_part o n i) 0 (n * n)) k
       (let z : length (upto (first_part o n i) 0 (n * n)) ≡ n * n = upto_long (first_part o n i) 0 (n * n) in omega arith)))
       (cases_lt k (n * n)) where
@@ -132,7 +135,8 @@ module _ {T : Type 0} where
           let there = first_there o n i k (place_in n i j li lj ne) in
           record {
             notes = first_writer o;
-            is = there ∙ ap (λ b. cond {A = FourSlotSight T} b (Writer (first_writer o)) (cond (nat_eq i (reader_of n k)) (Reader (first_reader o)) Spent))
+            is = there ∙ ap (λ b. cond {A = FourSlotSight T} b (Writer (first_writer o))
+                (cond (nat_eq i (reader_of n k)) (Reader (first_reader o)) Spent))
                 (same_number i (writer_of n k) (sym (writer_there n i j li lj ne)));
             idle = refl;
             opened = refl;
@@ -147,9 +151,11 @@ module _ {T : Type 0} where
           record {
             notes = first_reader o;
             is = there
-                ∙ (ap (λ b. cond {A = FourSlotSight T} b (Writer (first_writer o)) (cond (nat_eq i (reader_of n k)) (Reader (first_reader o)) Spent))
+                ∙ (ap (λ b. cond {A = FourSlotSight T} b (Writer (first_writer o))
+                (cond (nat_eq i (reader_of n k)) (Reader (first_reader o)) Spent))
                 (differ i (writer_of n k) (λ q. other (q ∙ writer_there n j i lj li other)))
-                ∙ ap (λ b. cond {A = FourSlotSight T} b (Reader (first_reader o)) Spent) (same_number i (reader_of n k) (sym (reader_there n j i lj li other))));
+                ∙ ap (λ b. cond {A = FourSlotSight T} b (Reader (first_reader o)) Spent)
+                (same_number i (reader_of n k) (sym (reader_there n j i lj li other))));
             idle = refl;
             opened = refl;
             slots = ([], [], refl);
@@ -170,13 +176,14 @@ module _ {T : Type 0} where
         (first_any (λ x. writer_or (first_writer o) x ≡ first_writer o) o n i (place n i j) refl refl refl))
 
     pub first_reads : (j : ℕ) → reads_from o n v j ≡ no_reads
-    first_reads j = ap (λ (g : ReaderNotes T). record { answers = g.answers; numbers = g.numbers; known = g.known; told = g.told; heard = g.heard; times = g.times })
+    first_reads j = ap (λ (g : ReaderNotes T).
+        record { answers = g.answers; numbers = g.numbers; known = g.known; told = g.told; heard = g.heard; times = g.times })
         (blank (nat_eq j i) (of_cell Spent (place n j i) v.parts) (λ x. reader_or (first_reader o) x ≡ first_reader o) refl
         (first_any (λ x. reader_or (first_reader o) x ≡ first_reader o) o n i (place n j i) refl refl refl))
 
   -- such a seat is one of the family's, and unused
-  pub first_seat : (f : FourSlotFamily T) (n : ℕ) (o : T) (i : ℕ) (s : FourSlotSeat T) → opening_of f ≡ o → processes_of f ≡ n → i < n → n ≤ 16 →
-      IsFirst f.table.rows.inner.shared.table_id n o i s →
+  pub first_seat : (f : FourSlotFamily T) (n : ℕ) (o : T) (i : ℕ) (s : FourSlotSeat T) → opening_of f ≡ o → processes_of f ≡ n → i < n →
+      n ≤ 16 → IsFirst f.table.rows.inner.shared.table_id n o i s →
       (IsSeat f s × (number_of s ≡ i)) × IsUnused (clock_of s) (times_of s) (writes_of s) (reads_of s)
   first_seat f n o i s opens many li most h =
       let is : known_by s ≡ first_process o n i = ap (λ z. process_of z.0) h.me in
@@ -231,9 +238,12 @@ module _ {T : Type 0} where
         let row = mine.0.rest.row j (subst (λ z. j < z) same lj) (λ e. ne (sym (e ∙ who_s))) in
         let column = theirs.0.rest.column i (subst (λ z. i < z) (sym same) li) (λ e. ne (e ∙ who_t)) in
         let k : ℕ = place n i j in
-        let inside : k < n * n = place_in n i j (subst (λ z. i < z) mine.0.processes li) (subst (λ z. j < z) theirs.0.processes lj) (λ e. ne (sym e)) in
-        let writes : of_cell Spent k v.parts ≡ Writer row.notes = (λ x. of_cell Spent (place (sym mine.0.processes x) (sym who_s x) j) v.parts) ∙ row.is in
-        let reads : of_cell Spent k u.parts ≡ Reader column.notes = (λ x. of_cell Spent (place (sym theirs.0.processes x) i (sym who_t x)) u.parts) ∙ column.is in
+        let inside : k < n * n = place_in n i j (subst (λ z. i < z) mine.0.processes li) (subst (λ z. j < z) theirs.0.processes lj)
+        (λ e. ne (sym e)) in
+        let writes : of_cell Spent k v.parts ≡ Writer row.notes =
+        (λ x. of_cell Spent (place (sym mine.0.processes x) (sym who_s x) j) v.parts) ∙ row.is in
+        let reads : of_cell Spent k u.parts ≡ Reader column.notes =
+        (λ x. of_cell Spent (place (sym theirs.0.processes x) i (sym who_t x)) u.parts) ∙ column.is in
         let done = ended.cells a.0 b.0 v u a.1 b.1 k inside row.notes column.notes writes reads row.idle column.idle in
         let w = sees_writes s.spare s.processes v v.who j row.notes (λ e. ne (sym (e ∙ who_s))) refl row.is in
         let r = sees_reads t.spare t.processes u u.who i column.notes (λ e. ne (e ∙ who_t)) refl column.is in

@@ -66,17 +66,21 @@ module _ {A : Type 0} where
 module _ {T : Type 0} where
   -- the slots of other cells stay, where a cell's are given back and another slot of it is taken
   pub slots_stay : (n k j : ℕ) (g h : ReaderNotes T) (before behind : List (ℕ × T)) (y : ℕ × T) → j ≢ k →
-      HasSlots j h (before ++ (shift (slot_at k) (slot_of_choice g.chosen g.at_hand.value) ++ behind)) → HasSlots j h (y ∷ (before ++ behind))
+      HasSlots j h (before ++ (shift (slot_at k) (slot_of_choice g.chosen g.at_hand.value) ++ behind)) →
+      HasSlots j h (y ∷ (before ++ behind))
   slots_stay n k j g h before behind y ne has = stays h.chosen g.chosen has.0 has.1 has.2 where
     stays : (ch mine : Option Slot) (xs ys : List (ℕ × T)) →
-        before ++ (shift (slot_at k) (slot_of_choice mine g.at_hand.value) ++ behind) ≡ xs ++ (shift (slot_at j) (slot_of_choice ch h.at_hand.value) ++ ys) →
-        (fs : List (ℕ × T)) × (bs : List (ℕ × T)) × (y ∷ (before ++ behind) ≡ fs ++ (shift (slot_at j) (slot_of_choice ch h.at_hand.value) ++ bs))
+        before ++ (shift (slot_at k) (slot_of_choice mine g.at_hand.value) ++ behind) ≡ xs ++
+        (shift (slot_at j) (slot_of_choice ch h.at_hand.value) ++ ys) →
+        (fs : List (ℕ × T)) × (bs : List (ℕ × T))
+        × (y ∷ (before ++ behind) ≡ fs ++ (shift (slot_at j) (slot_of_choice ch h.at_hand.value) ++ bs))
     stays None mine xs ys e = ([], y ∷ (before ++ behind), refl)
     stays (Some s) None xs ys e = (y ∷ xs, ys, ap (λ zs. y ∷ zs) e)
     stays (Some s) (Some t) xs ys e =
         let a : ℕ × T = (slot_at j (slot_number s), h.at_hand.value) in
         let b : ℕ × T = (slot_at k (slot_number t), g.at_hand.value) in
-        let apart : a ≢ b = λ same. ne ((is_layout n).slot_apart j (slot_number s) k (slot_number t) (slot_low s) (slot_low t) (ap (λ z. z.0) same)).0 in
+        let apart : a ≢ b = λ same. ne
+        ((is_layout n).slot_apart j (slot_number s) k (slot_number t) (slot_low s) (slot_low t) (ap (λ z. z.0) same)).0 in
         let x = split_less xs ys before behind a b apart (sym e) in
         (y ∷ x.0, x.1, ap (λ zs. y ∷ zs) x.2)
 
@@ -112,7 +116,8 @@ module _ {T : Type 0} (o : T) (n : ℕ) where
         row = λ i li nw.
             let other : i ≢ v.who = λ h. nw (h ∙ sym who) in
             subst (λ z. IsRow o (of_cell Spent (place n z i) u.parts) (shown_to kept' i).bits (shown_to kept' i).latest) (sym who) (⊎_elim
-            (λ (e : i ≡ j). subst (λ z. IsRow o (of_cell Spent (place n v.who z) u.parts) (shown_to kept' z).bits (shown_to kept' z).latest) (sym e)
+            (λ (e : i ≡ j). subst (λ z. IsRow o (of_cell Spent (place n v.who z) u.parts) (shown_to kept' z).bits (shown_to kept' z).latest)
+            (sym e)
             (record {
               notes = p;
               is = c.here;
@@ -134,8 +139,8 @@ module _ {T : Type 0} (o : T) (n : ℕ) where
       }
 
   -- and after a read from process j
-  pub rest_read : (v u : Process V) (kept kept' : Stored) (before behind : List (ℕ × T)) (y : ℕ × T) (j : ℕ) (g h : ReaderNotes T) → j < n → j ≢ v.who →
-      IsAtRest o n v kept (before ++ (shift (slot_at (place n j v.who)) (slot_of_choice g.chosen g.at_hand.value) ++ behind)) →
+  pub rest_read : (v u : Process V) (kept kept' : Stored) (before behind : List (ℕ × T)) (y : ℕ × T) (j : ℕ) (g h : ReaderNotes T) → j < n →
+      j ≢ v.who → IsAtRest o n v kept (before ++ (shift (slot_at (place n j v.who)) (slot_of_choice g.chosen g.at_hand.value) ++ behind)) →
       IsChanged Spent v u (place n j v.who) (Reader h) → h.stage ≡ reader.R5 → h.opening.value ≡ o →
       HasSlots (place n j v.who) h (y ∷ (before ++ behind)) → IsNewColumn kept kept' j (word_said h.chosen) →
       u.held ≡ held_slots (y ∷ (before ++ behind)) → IsAtRest o n u kept' (y ∷ (before ++ behind))
@@ -165,8 +170,10 @@ module _ {T : Type 0} (o : T) (n : ℕ) where
             (λ q. (sym (c.others (place n v.who i) (mine i li other)) q, sym kept_column.shown q)) (r.row i li other));
         column = λ i li nw.
             let other : i ≢ v.who = λ q. nw (q ∙ sym who) in
-            subst (λ z. IsColumn o (place n i z) (of_cell Spent (place n i z) u.parts) (get_or kept'.said i 0) (y ∷ (before ++ behind))) (sym who) (⊎_elim
-            (λ (e : i ≡ j). subst (λ z. IsColumn o (place n z v.who) (of_cell Spent (place n z v.who) u.parts) (get_or kept'.said z 0) (y ∷ (before ++ behind)))
+            subst (λ z. IsColumn o (place n i z) (of_cell Spent (place n i z) u.parts) (get_or kept'.said i 0) (y ∷ (before ++ behind)))
+            (sym who) (⊎_elim
+            (λ (e : i ≡ j). subst (λ z. IsColumn o (place n z v.who) (of_cell Spent (place n z v.who) u.parts) (get_or kept'.said z 0)
+            (y ∷ (before ++ behind)))
             (sym e) (record { notes = h; is = c.here; idle = idle; opened = opened; slots = slots; stored = kept_column.here }))
             (λ (d : i ≢ j).
             let old = r.column i li other in

@@ -23,10 +23,11 @@ module _ {T : Type 0} (f : FourSlotFamily T) (item : T) (start : FourSlotSeat T)
   Row = OneByOne (IsWriteTo (IsSeat f) number_of clock_of times_of writes_of reads_of 3 item) (number_of start) start
 
   pub row_seat : (count : ℕ) (now : FourSlotSeat T) → IsSeat f start → Row count now → IsSeat f now × (number_of now ≡ number_of start)
-  row_seat count now own r = row_own (IsSeat f) number_of clock_of times_of writes_of reads_of 3 item (number_of start) start count now r own
+  row_seat count now own r =
+      row_own (IsSeat f) number_of clock_of times_of writes_of reads_of 3 item (number_of start) start count now r own
 
-  pub row_cell : (count : ℕ) (now : FourSlotSeat T) → IsSeat f start → Row count now → (cell to : ℕ) → cell ≡ place start.processes start.who to →
-      cell ≡ place now.processes now.who to
+  pub row_cell : (count : ℕ) (now : FourSlotSeat T) → IsSeat f start → Row count now → (cell to : ℕ) →
+      cell ≡ place start.processes start.who to → cell ≡ place now.processes now.who to
   row_cell count now own r cell to at =
       let is = row_seat count now own r in
       let n : start.processes ≡ now.processes = own.processes ∙ sym is.0.processes in

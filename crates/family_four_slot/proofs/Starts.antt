@@ -28,10 +28,12 @@ module _ {T : Type 0} (fits : T → Type 0) (rises : T → T → Type 0) (o : T)
       let ps : List (Process V) = upto (first_process o n) 0 n in
       let ws : List ℕ = replicate (16 * cells + 8) 0 in
       let hs : List T = replicate (4 * cells) o in
-      family_starts Spent (four_slots n) (CellRule fits rises o) n ws hs ps (replicate_long (16 * cells + 8) 0) (replicate_long (4 * cells) o)
+      family_starts Spent (four_slots n) (CellRule fits rises o) n ws hs ps (replicate_long (16 * cells + 8) 0)
+      (replicate_long (4 * cells) o)
       (upto_long (first_process o n) 0 n)
       (λ i p e.
-      let is : p ≡ first_process o n i = upto_at (first_process o n) 0 n i p e ∙ ap (first_process o n) (let z : 0 + i ≡ i = omega arith in z) in
+      let is : p ≡ first_process o n i =
+      upto_at (first_process o n) 0 n i p e ∙ ap (first_process o n) (let z : 0 + i ≡ i = omega arith in z) in
       subst (λ (q : Process V). (q.who ≡ i) × (q.clock ≡ 0) × (q.times ≡ []) × (q.held ≡ [])) (sym is) (refl, refl, refl, refl))
       (λ k lk.
       let G : Process V → V = λ (p : Process V). of_cell Spent k p.parts in
@@ -45,5 +47,6 @@ module _ {T : Type 0} (fits : T → Type 0) (rises : T → T → Type 0) (o : T)
       (cell_starts fits rises o n k (map G ps) f
       (λ j v e.
       let x = map_at G ps j v e in
-      let is : x.0 ≡ first_process o n j = upto_at (first_process o n) 0 n j x.0 x.1 ∙ ap (first_process o n) (let z : 0 + j ≡ j = omega arith in z) in
+      let is : x.0 ≡ first_process o n j =
+      upto_at (first_process o n) 0 n j x.0 x.1 ∙ ap (first_process o n) (let z : 0 + j ≡ j = omega arith in z) in
       x.2 ∙ (ap G is ∙ (upto_get (first_part o n j) 0 cells k Spent lk ∙ ap (first_part o n j) (let z : 0 + k ≡ k = omega arith in z))))))

@@ -25,10 +25,11 @@ use Rattle.family_four_slot.specs.Cells.{deaf, mute}
 module _ {T : Type 0} (f : FourSlotFamily T) (s : FourSlotSeat T) (own : IsSeat f s) where
   part : (t : FourSlotTold T) → t.seat.inner.me ≡ (Told (receipt_of receipt_for (known_by s)), []) → (k : ℕ) →
       of_cell Spent k (told_in t).parts ≡ receipt_for (of_cell Spent k (known_by s).parts)
-  part t me k = ap (λ z. of_cell Spent k (receipt_in z.0).parts) me ∙ receipt_cell Spent receipt_for hears_of refl deaf mute k (known_by s).parts
+  part t me k = ap (λ z. of_cell Spent k (receipt_in z.0).parts) me
+      ∙ receipt_cell Spent receipt_for hears_of refl deaf mute k (known_by s).parts
 
-  pub has_told : (t : FourSlotTold T) → t.seat.inner.table_id ≡ f.table.rows.inner.shared.table_id → t.processes ≡ s.processes → t.from ≡ s.who →
-      t.seat.inner.me ≡ (Told (receipt_of receipt_for (known_by s)), []) → IsTold f t
+  pub has_told : (t : FourSlotTold T) → t.seat.inner.table_id ≡ f.table.rows.inner.shared.table_id → t.processes ≡ s.processes →
+      t.from ≡ s.who → t.seat.inner.me ≡ (Told (receipt_of receipt_for (known_by s)), []) → IsTold f t
   has_told t table many who me = record {
     table = table;
     processes = many ∙ own.processes;
@@ -63,9 +64,11 @@ told_again {T} f t is inner table me =
     let rest = subst (λ (m : Me T (View (FourSlotSight T))). (m ≡ (Told (receipt_in m.0), []))
     × ((j : ℕ) → j < t.processes → j ≢ t.from → of_cell Spent (place t.processes t.from j) (receipt_in m.0).parts
     ≡ Tells (snap (receipt_or (dated t.spare) (of_cell Spent (place t.processes t.from j) (receipt_in m.0).parts))))
-    × ((k : ℕ) → writer_of t.processes k ≢ t.from → of_cell Spent k (receipt_in m.0).parts ≡ Spent)) (sym me) (is.one, is.row, is.elsewhere) in
+    × ((k : ℕ) → writer_of t.processes k ≢ t.from → of_cell Spent k (receipt_in m.0).parts ≡ Spent)) (sym me)
+    (is.one, is.row, is.elsewhere) in
     record { table = table ∙ is.table; processes = is.processes; inside = is.inside; one = rest.0; row = rest.1; elsewhere = rest.2 }
 
 pub same_told : {T : Type 0} (t : FourSlotTold T) (inner : FamilySeat T (FourSlotSight T)) → inner.inner.table_id ≡ t.seat.inner.table_id →
     inner.inner.id ≡ t.seat.inner.id → inner.inner.me ≡ t.seat.inner.me → record t { seat = inner } ≡ t
-same_told t inner table id me = λ i. record t { seat = record inner { inner = record inner.inner { table_id = table i; id = id i; me = me i } } }
+same_told t inner table id me =
+    λ i. record t { seat = record inner { inner = record inner.inner { table_id = table i; id = id i; me = me i } } }

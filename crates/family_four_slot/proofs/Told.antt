@@ -12,8 +12,10 @@ use Rattle.cell_four_slot.specs.declared.notes.WriterNotes.{WriterNotes}
 use Rattle.cell_four_slot.specs.declared.notes.ReaderNotes.{ReaderNotes}
 use Rattle.cell_live.specs.declared.sight.Sight.TheVariants.{Spent, Writer, Reader}
 use Rattle.cell_live.specs.Intervals.{AreHeeded}
-use Rattle.cell_four_slot.specs.Steps.{FourSlotSight, clock_of, begun_with, stored_by, finished_with, asked_by, said_with, got_by, slot_of_choice, HasAnswered}
-use Rattle.cell_four_slot.specs.Steps.{begins as cell_begins, stores as cell_stores, finishes_counting as cell_finishes, asks as cell_asks, says_counting as cell_says, takes as cell_takes}
+use Rattle.cell_four_slot.specs.Steps.{FourSlotSight, clock_of, begun_with, stored_by, finished_with, asked_by, said_with, got_by}
+use Rattle.cell_four_slot.specs.Steps.{slot_of_choice, HasAnswered}
+use Rattle.cell_four_slot.specs.Steps.{begins as cell_begins, stores as cell_stores, finishes_counting as cell_finishes, asks as cell_asks}
+use Rattle.cell_four_slot.specs.Steps.{says_counting as cell_says, takes as cell_takes}
 use Rattle.family_table.specs.declared.notes.Process.{Process}
 use Rattle.family_table.specs.declared.notes.View.{View}
 use Rattle.family_table.specs.declared.notes.View.TheVariants.{Told, Has}
@@ -48,7 +50,8 @@ module _ {T : Type 0} where
   reads_one p q e = ap (reader_or p) e
 
   -- the notes after a step, by what it tells of the cell and of the slots
-  after : (v : Process (FourSlotSight T)) (k t : ℕ) (w w' : FourSlotSight T) (before c behind cs : List (ℕ × T)) (m : Me T (View (FourSlotSight T))) → v.clock < t → w ≡ w' →
+  after : (v : Process (FourSlotSight T)) (k t : ℕ) (w w' : FourSlotSight T) (before c behind cs : List (ℕ × T))
+      (m : Me T (View (FourSlotSight T))) → v.clock < t → w ≡ w' →
       before ++ (shift (slot_at k) c ++ behind) ≡ cs →
       m.0 ≡ Has (knows Spent v k w t (held_slots m.1) ∷ []) → m.1 ≡ before ++ (shift (slot_at k) c ++ behind) → After v k w' t cs m
   after v k t w w' before c behind cs m lt same slots view held =
@@ -70,12 +73,16 @@ module _ {T : Type 0} (fits : T → Type 0) (rises : T → T → Type 0) (o : T)
       Allows F slots id me word (λ m. m) (begins items (step slots word 0 0 none) me)
   begins_ok slots id word k me v p items x at lk has who is held stage item f up =
       let cs : List (ℕ × T) = me.1 in
-      let told : ℕ → Me T (View W) → Type 0 = StepTells Spent slot_at k v [] cs (When (cell_begins items (step 4 1 0 0 none) (of_cell Spent k v.parts, []))) in
-      let here : Allows F slots id (Has (v ∷ []), cs) (word_at k 1) (λ m. m) (begins items (step slots (word_at k 1) 0 0 none) (Has (v ∷ []), cs)) =
-      allows_more F slots id (Has (v ∷ []), cs) (word_at k 1) (λ m. m) told (begins items (step slots (word_at k 1) 0 0 none) (Has (v ∷ []), cs))
+      let told : ℕ → Me T (View W) → Type 0 =
+      StepTells Spent slot_at k v [] cs (When (cell_begins items (step 4 1 0 0 none) (of_cell Spent k v.parts, []))) in
+      let here : Allows F slots id (Has (v ∷ []), cs) (word_at k 1) (λ m. m)
+      (begins items (step slots (word_at k 1) 0 0 none) (Has (v ∷ []), cs)) =
+      allows_more F slots id (Has (v ∷ []), cs) (word_at k 1) (λ m. m) told
+      (begins items (step slots (word_at k 1) 0 0 none) (Has (v ∷ []), cs))
       (λ m u h k' v' q y w e is' it.
       let P : ℕ × Process W → Type 0 = λ z. of_cell Spent z.0 z.1.parts ≡ Writer q → (b : Bool) × (old : T) × (t : ℕ) × (m ≡ bit_number b)
-      × (q.times.clock < t) × After z.1 z.0 (Writer (begun_with q b y t)) t ((slot_at z.0 (slot_number (begun_with q b y t).slot), old) ∷ cs) u in
+      × (q.times.clock < t) × After z.1 z.0 (Writer (begun_with q b y t)) t
+      ((slot_at z.0 (slot_number (begun_with q b y t).slot), old) ∷ cs) u in
       subst P (λ i. (same_cell k k' 1 1 (omega arith) (omega arith) w i, has_one v v' e i)) (λ known.
       let d = h.4.0 q y known it in
       let now : d.3 ≡ h.0 = sym (ap clock_of d.5) ∙ h.4.1 in (
@@ -84,11 +91,13 @@ module _ {T : Type 0} (fits : T → Type 0) (rises : T → T → Type 0) (o : T)
         h.0,
         d.2,
         subst (λ z. q.times.clock < z) now d.4,
-        after v k h.0 h.1 (Writer (begun_with q d.0 y h.0)) [] h.2 cs ((slot_at k (slot_number (begun_with q d.0 y h.0).slot), d.1) ∷ cs) u h.3
+        after v k h.0 h.1 (Writer (begun_with q d.0 y h.0)) [] h.2 cs
+            ((slot_at k (slot_number (begun_with q d.0 y h.0).slot), d.1) ∷ cs) u h.3
             (d.5 ∙ ap (λ z. Writer (begun_with q d.0 y z)) now) (ap (λ zs. shift (slot_at k) zs ++ cs) d.6) h.5 h.6,
       )) is')
       (family_begins fits rises o n slots id k v cs p items x lk has is held stage item f up) in
-      subst (λ (z : ℕ × View W). Allows F slots id (z.1, cs) z.0 (λ m. m) (begins items (step slots z.0 0 0 none) (z.1, cs))) (λ i. (sym at i, sym who i)) here
+      subst (λ (z : ℕ × View W). Allows F slots id (z.1, cs) z.0 (λ m. m) (begins items (step slots z.0 0 0 none) (z.1, cs)))
+      (λ i. (sym at i, sym who i)) here
 
   pub stores_ok : (slots id word k i new : ℕ) (me : Me T (View W)) (v : Process W) (p : WriterNotes T) (cs : List (ℕ × T)) →
       word ≡ word_at k i → k < (four_slots n).cells → k < length v.parts → me.0 ≡ Has (v ∷ []) → of_cell Spent k v.parts ≡ Writer p →
@@ -102,7 +111,8 @@ module _ {T : Type 0} (fits : T → Type 0) (rises : T → T → Type 0) (o : T)
       StepTells Spent slot_at k v [] cs (λ t _. When (cell_stores (step 4 i new 0 none) (of_cell Spent k v.parts, cell_cs)) t new) in
       let more : (m : ℕ) (u : Me T (View W)) → told m u → stores (step slots (word_at k i) new 0 none) (Has (v ∷ []), mine) new u =
       (λ m u h k' i' v' q ds li' w e is' held'.
-      let P : ℕ × Process W → Type 0 = λ z. of_cell Spent z.0 z.1.parts ≡ Writer q → mine ≡ (slot_at z.0 (slot_number q.slot), q.item.value) ∷ ds →
+      let P : ℕ × Process W → Type 0 =
+      λ z. of_cell Spent z.0 z.1.parts ≡ Writer q → mine ≡ (slot_at z.0 (slot_number q.slot), q.item.value) ∷ ds →
       (t : ℕ) × (q.times.clock < t) × After z.1 z.0 (Writer (stored_by q t)) t ds u in
       subst P (λ j. (same_cell k k' i i' li li' w j, has_one v v' e j)) (λ known is_mine.
       let both : p ≡ q = writes_one p q (sym is ∙ known) in
@@ -113,8 +123,10 @@ module _ {T : Type 0} (fits : T → Type 0) (rises : T → T → Type 0) (o : T)
         after v k h.0 h.1 (Writer (stored_by q h.0)) [] h.2 cs ds u h.3 (d.2 ∙ ap (λ z. Writer (stored_by q z)) now)
             (ap (λ zs. shift (slot_at k) zs ++ cs) d.3 ∙ ap rest_of is_mine) h.5 h.6,
       )) is' held') in
-      let here : Allows F slots id (Has (v ∷ []), mine) (word_at k i) (λ _. new) (λ _. stores (step slots (word_at k i) new 0 none) (Has (v ∷ []), mine) new) =
-      allows_more F slots id (Has (v ∷ []), mine) (word_at k i) (λ _. new) told (λ _. stores (step slots (word_at k i) new 0 none) (Has (v ∷ []), mine) new)
+      let here : Allows F slots id (Has (v ∷ []), mine) (word_at k i) (λ _. new)
+      (λ _. stores (step slots (word_at k i) new 0 none) (Has (v ∷ []), mine) new) =
+      allows_more F slots id (Has (v ∷ []), mine) (word_at k i) (λ _. new) told
+      (λ _. stores (step slots (word_at k i) new 0 none) (Has (v ∷ []), mine) new)
       more (family_stores fits rises o n slots id k i new v cs p lk has is (held ∙ ap held_slots slots_are) stage place to) in
       subst (λ (z : ℕ × Me T (View W)). Allows F slots id z.1 z.0 (λ _. new) (λ _. stores (step slots z.0 new 0 none) z.1 new))
       (λ j. (sym at j, (sym who j, sym slots_are j))) here where
@@ -130,7 +142,8 @@ module _ {T : Type 0} (fits : T → Type 0) (rises : T → T → Type 0) (o : T)
       let cs : List (ℕ × T) = me.1 in
       let told : ℕ → Me T (View W) → Type 0 =
       StepTells Spent slot_at k v [] cs (λ t _. When (cell_finishes count (step 4 0 new 0 none) (of_cell Spent k v.parts, [])) t new) in
-      let more : (m : ℕ) (u : Me T (View W)) → told m u → finishes_counting count (step slots (word_at k 0) new 0 none) (Has (v ∷ []), cs) new u =
+      let more : (m : ℕ) (u : Me T (View W)) → told m u →
+      finishes_counting count (step slots (word_at k 0) new 0 none) (Has (v ∷ []), cs) new u =
       (λ m u h k' v' q w e is'.
       let P : ℕ × Process W → Type 0 = λ z. of_cell Spent z.0 z.1.parts ≡ Writer q →
       (t : ℕ) × (q.times.clock < t) × After z.1 z.0 (Writer (finished_with q count t)) t cs u in
@@ -142,10 +155,13 @@ module _ {T : Type 0} (fits : T → Type 0) (rises : T → T → Type 0) (o : T)
         after v k h.0 h.1 (Writer (finished_with q count h.0)) [] h.2 cs cs u h.3 (d.2 ∙ ap (λ z. Writer (finished_with q count z)) now)
             (ap (λ zs. shift (slot_at k) zs ++ cs) d.3) h.5 h.6,
       )) is') in
-      let here : Allows F slots id (Has (v ∷ []), cs) (word_at k 0) (λ _. new) (λ _. finishes_counting count (step slots (word_at k 0) new 0 none) (Has (v ∷ []), cs) new) =
-      allows_more F slots id (Has (v ∷ []), cs) (word_at k 0) (λ _. new) told (λ _. finishes_counting count (step slots (word_at k 0) new 0 none) (Has (v ∷ []), cs) new)
+      let here : Allows F slots id (Has (v ∷ []), cs) (word_at k 0) (λ _. new)
+      (λ _. finishes_counting count (step slots (word_at k 0) new 0 none) (Has (v ∷ []), cs) new) =
+      allows_more F slots id (Has (v ∷ []), cs) (word_at k 0) (λ _. new) told
+      (λ _. finishes_counting count (step slots (word_at k 0) new 0 none) (Has (v ∷ []), cs) new)
       more (family_finishes fits rises o n count few slots id k new v cs p lk has is held stage to) in
-      subst (λ (z : ℕ × View W). Allows F slots id (z.1, cs) z.0 (λ _. new) (λ _. finishes_counting count (step slots z.0 new 0 none) (z.1, cs) new))
+      subst (λ (z : ℕ × View W). Allows F slots id (z.1, cs) z.0 (λ _. new)
+      (λ _. finishes_counting count (step slots z.0 new 0 none) (z.1, cs) new))
       (λ i. (sym at i, sym who i)) here
 
   pub asks_ok : (slots id word k : ℕ) (me : Me T (View W)) (v : Process W) (g : ReaderNotes T) →
@@ -153,7 +169,8 @@ module _ {T : Type 0} (fits : T → Type 0) (rises : T → T → Type 0) (o : T)
       v.held ≡ held_slots me.1 → g.stage ≡ reader.R5 → Allows F slots id me word (λ m. m) (asks (step slots word 0 0 none) me)
   asks_ok slots id word k me v g at lk has who is held stage =
       let cs : List (ℕ × T) = me.1 in
-      let told : ℕ → Me T (View W) → Type 0 = StepTells Spent slot_at k v [] cs (When (cell_asks (step 4 0 0 0 none) (of_cell Spent k v.parts, []))) in
+      let told : ℕ → Me T (View W) → Type 0 =
+      StepTells Spent slot_at k v [] cs (When (cell_asks (step 4 0 0 0 none) (of_cell Spent k v.parts, []))) in
       let here : Allows F slots id (Has (v ∷ []), cs) (word_at k 0) (λ m. m) (asks (step slots (word_at k 0) 0 0 none) (Has (v ∷ []), cs)) =
       allows_more F slots id (Has (v ∷ []), cs) (word_at k 0) (λ m. m) told (asks (step slots (word_at k 0) 0 0 none) (Has (v ∷ []), cs))
       (λ m u h k' v' q w e is'.
@@ -170,9 +187,11 @@ module _ {T : Type 0} (fits : T → Type 0) (rises : T → T → Type 0) (o : T)
             (ap (λ zs. shift (slot_at k) zs ++ cs) d.5) h.5 h.6,
       )) is')
       (family_asks fits rises o n slots id k v cs g lk has is held stage) in
-      subst (λ (z : ℕ × View W). Allows F slots id (z.1, cs) z.0 (λ m. m) (asks (step slots z.0 0 0 none) (z.1, cs))) (λ i. (sym at i, sym who i)) here
+      subst (λ (z : ℕ × View W). Allows F slots id (z.1, cs) z.0 (λ m. m) (asks (step slots z.0 0 0 none) (z.1, cs)))
+      (λ i. (sym at i, sym who i)) here
 
-  pub says_ok : (count : ℕ) → count ≤ 1 → (slots id word k new : ℕ) (me : Me T (View W)) (v : Process W) (g : ReaderNotes T) (before behind : List (ℕ × T)) →
+  pub says_ok : (count : ℕ) → count ≤ 1 →
+      (slots id word k new : ℕ) (me : Me T (View W)) (v : Process W) (g : ReaderNotes T) (before behind : List (ℕ × T)) →
       word ≡ word_at k 1 → k < (four_slots n).cells → k < length v.parts → me.0 ≡ Has (v ∷ []) → of_cell Spent k v.parts ≡ Reader g →
       me.1 ≡ before ++ (shift (slot_at k) (slot_of_choice g.chosen g.at_hand.value) ++ behind) → v.held ≡ held_slots me.1 →
       g.stage ≡ reader.R1 → new ≡ bit_number g.slot.pair →
@@ -181,8 +200,10 @@ module _ {T : Type 0} (fits : T → Type 0) (rises : T → T → Type 0) (o : T)
       let cell_cs : List (ℕ × T) = slot_of_choice g.chosen g.at_hand.value in
       let mine : List (ℕ × T) = before ++ (shift (slot_at k) cell_cs ++ behind) in
       let told : ℕ → Me T (View W) → Type 0 =
-      StepTells Spent slot_at k v before behind (λ t _. When (cell_says count (step 4 1 new 0 none) (of_cell Spent k v.parts, cell_cs)) t new) in
-      let more : (m : ℕ) (u : Me T (View W)) → told m u → says_counting count (step slots (word_at k 1) new 0 none) (Has (v ∷ []), mine) new u =
+      StepTells Spent slot_at k v before behind
+      (λ t _. When (cell_says count (step 4 1 new 0 none) (of_cell Spent k v.parts, cell_cs)) t new) in
+      let more : (m : ℕ) (u : Me T (View W)) → told m u →
+      says_counting count (step slots (word_at k 1) new 0 none) (Has (v ∷ []), mine) new u =
       (λ m u h k' v' q w e is'.
       let P : ℕ × Process W → Type 0 = λ z. of_cell Spent z.0 z.1.parts ≡ Reader q → (xs : List (ℕ × T)) × (ys : List (ℕ × T)) × (t : ℕ)
       × (mine ≡ xs ++ (shift (slot_at z.0) (slot_of_choice q.chosen q.at_hand.value) ++ ys)) × (q.times.clock < t)
@@ -196,11 +217,14 @@ module _ {T : Type 0} (fits : T → Type 0) (rises : T → T → Type 0) (o : T)
         h.0,
         ap (λ (z : ReaderNotes T). before ++ (shift (slot_at k) (slot_of_choice z.chosen z.at_hand.value) ++ behind)) both,
         subst (λ z. q.times.clock < z) now d.1,
-        after v k h.0 h.1 (Reader (said_with q count h.0)) before h.2 behind (before ++ behind) u h.3 (d.2 ∙ ap (λ z. Reader (said_with q count z)) now)
+        after v k h.0 h.1 (Reader (said_with q count h.0)) before h.2 behind (before ++ behind) u h.3
+            (d.2 ∙ ap (λ z. Reader (said_with q count z)) now)
             (ap (λ zs. before ++ (shift (slot_at k) zs ++ behind)) d.3) h.5 h.6,
       )) is') in
-      let here : Allows F slots id (Has (v ∷ []), mine) (word_at k 1) (λ _. new) (λ _. says_counting count (step slots (word_at k 1) new 0 none) (Has (v ∷ []), mine) new) =
-      allows_more F slots id (Has (v ∷ []), mine) (word_at k 1) (λ _. new) told (λ _. says_counting count (step slots (word_at k 1) new 0 none) (Has (v ∷ []), mine) new)
+      let here : Allows F slots id (Has (v ∷ []), mine) (word_at k 1) (λ _. new)
+      (λ _. says_counting count (step slots (word_at k 1) new 0 none) (Has (v ∷ []), mine) new) =
+      allows_more F slots id (Has (v ∷ []), mine) (word_at k 1) (λ _. new) told
+      (λ _. says_counting count (step slots (word_at k 1) new 0 none) (Has (v ∷ []), mine) new)
       more (family_says fits rises o n count few slots id k new v before behind g lk has is (held ∙ ap held_slots slots_are) stage to) in
       subst (λ (z : ℕ × Me T (View W)). Allows F slots id z.1 z.0 (λ _. new) (λ _. says_counting count (step slots z.0 new 0 none) z.1 new))
       (λ j. (sym at j, (sym who j, sym slots_are j))) here
@@ -211,9 +235,12 @@ module _ {T : Type 0} (fits : T → Type 0) (rises : T → T → Type 0) (o : T)
       Allows F slots id me word (λ m. m) (takes fits rises (step slots word 0 0 none) me)
   takes_ok same along slots id word k i me v g at lk has who is held stage place li =
       let cs : List (ℕ × T) = me.1 in
-      let told : ℕ → Me T (View W) → Type 0 = StepTells Spent slot_at k v [] cs (When (cell_takes fits rises (step 4 i 0 0 none) (of_cell Spent k v.parts, []))) in
-      let here : Allows F slots id (Has (v ∷ []), cs) (word_at k i) (λ m. m) (takes fits rises (step slots (word_at k i) 0 0 none) (Has (v ∷ []), cs)) =
-      allows_more F slots id (Has (v ∷ []), cs) (word_at k i) (λ m. m) told (takes fits rises (step slots (word_at k i) 0 0 none) (Has (v ∷ []), cs))
+      let told : ℕ → Me T (View W) → Type 0 =
+      StepTells Spent slot_at k v [] cs (When (cell_takes fits rises (step 4 i 0 0 none) (of_cell Spent k v.parts, []))) in
+      let here : Allows F slots id (Has (v ∷ []), cs) (word_at k i) (λ m. m)
+      (takes fits rises (step slots (word_at k i) 0 0 none) (Has (v ∷ []), cs)) =
+      allows_more F slots id (Has (v ∷ []), cs) (word_at k i) (λ m. m) told
+      (takes fits rises (step slots (word_at k i) 0 0 none) (Has (v ∷ []), cs))
       (λ m u h k' i' v' q li' w e is'.
       let P : ℕ × Process W → Type 0 = λ z. of_cell Spent z.0 z.1.parts ≡ Reader q → (b : Bool) × (x : T) × (t : ℕ) × (number : ℕ)
       × (writes : Known T) × (m ≡ bit_number b) × (q.times.clock < t)
@@ -230,7 +257,8 @@ module _ {T : Type 0} (fits : T → Type 0) (rises : T → T → Type 0) (o : T)
         d.5,
         d.2,
         subst (λ z. q.times.clock < z) now d.6,
-        after v k h.0 h.1 (Reader (got_by q d.0 d.1 h.0 d.4 d.5)) [] h.2 cs ((slot_at k (slot_number (slot_with q.slot.pair d.0)), d.1) ∷ cs) u h.3
+        after v k h.0 h.1 (Reader (got_by q d.0 d.1 h.0 d.4 d.5)) [] h.2 cs
+            ((slot_at k (slot_number (slot_with q.slot.pair d.0)), d.1) ∷ cs) u h.3
             (d.7 ∙ ap (λ z. Reader (got_by q d.0 d.1 z d.4 d.5)) now) (ap (λ zs. shift (slot_at k) zs ++ cs) d.8) h.5 h.6,
         d.9,
         subst (λ z. HasAnswered q (got_by q d.0 d.1 z d.4 d.5) d.1) now d.10,

@@ -1,4 +1,5 @@
--- One call more of a row or a column: a process before the own one has its own number among the others, and one after it one less. And what a
+-- One call more of a row or a column: a process before the own one has its own number among the others, and one after it one less. And what
+-- a
 -- row that isn't whole leaves to its next call.
 use Rattle.std.proofs.Common.{◌≡◌, ◌≢◌, true, false, ℕ, ◌+◌, ◌-◌, ◌<◌, ◌≤◌, List, refl, sym, ◌∙◌, subst, arith, inl, inr}
 use Rattle.std.specs.Prelude.{nat_lt}
@@ -43,7 +44,8 @@ module _ {S : Type 0} (Call : ℕ → S → S → Type 0) (is_seat : S → Type 
   stays_own _ _ (one_more count now new r call) is =
       let own = keeps (other process count) now new call in (own.0, own.1 ∙ (stays_own count now r is).1)
 
-module _ {S L T : Type 0} (is_seat : S → Type 0) (who clock : S → ℕ) (times : S → List ℕ) (writes : S → ℕ → WriteAccesses T) (reads : S → ℕ → ReadAccesses T)
+module _ {S L T : Type 0} (is_seat : S → Type 0) (who clock : S → ℕ) (times : S → List ℕ) (writes : S → ℕ → WriteAccesses T)
+    (reads : S → ℕ → ReadAccesses T)
     (width : ℕ) (opening : T) (fits : T → Type 0) (rises : T → T → Type 0) (sees : L → T → L → Type 0) (process : ℕ) (start : S × L) where
   pub column_own : (count : ℕ) (now : S × L) →
       OneByOne (IsReadFrom is_seat who clock times writes reads width opening fits rises sees) process start count now →
@@ -51,20 +53,21 @@ module _ {S L T : Type 0} (is_seat : S → Type 0) (who clock : S → ℕ) (time
   column_own = stays_own (IsReadFrom is_seat who clock times writes reads width opening fits rises sees) (λ z. is_seat z.0) (λ z. who z.0)
       (λ at old new call. call.own) process start
 
-module _ {S T : Type 0} (is_seat : S → Type 0) (who clock : S → ℕ) (times : S → List ℕ) (writes : S → ℕ → WriteAccesses T) (reads : S → ℕ → ReadAccesses T)
+module _ {S T : Type 0} (is_seat : S → Type 0) (who clock : S → ℕ) (times : S → List ℕ) (writes : S → ℕ → WriteAccesses T)
+    (reads : S → ℕ → ReadAccesses T)
     (width : ℕ) (item : T) (process : ℕ) (start : S) where
   pub row_own : (count : ℕ) (now : S) → OneByOne (IsWriteTo is_seat who clock times writes reads width item) process start count now →
       is_seat start → is_seat now × (who now ≡ who start)
   row_own = stays_own (IsWriteTo is_seat who clock times writes reads width item) is_seat who (λ at old new call. call.own) process start
 
-  untouched : (e count : ℕ) (now : S) → OneByOne (IsWriteTo is_seat who clock times writes reads width item) process start count now → count ≤ e →
-      writes now (other process e) ≡ writes start (other process e)
+  untouched : (e count : ℕ) (now : S) → OneByOne (IsWriteTo is_seat who clock times writes reads width item) process start count now →
+      count ≤ e → writes now (other process e) ≡ writes start (other process e)
   untouched e _ _ no_call l = refl
   untouched e _ _ (one_more count now new r call) l =
       call.others.0 (other process e) (differs process e count (omega arith)) ∙ untouched e count now r (omega arith)
 
-  pub not_before : (at : ℕ) (now : S) → OneByOne (IsWriteTo is_seat who clock times writes reads width item) process start at now → at < process →
-      writes now at ≡ writes start at
+  pub not_before : (at : ℕ) (now : S) → OneByOne (IsWriteTo is_seat who clock times writes reads width item) process start at now →
+      at < process → writes now at ≡ writes start at
   not_before at now r l = subst (λ z. writes now z ≡ writes start z) (below process at l) (untouched at at now r (omega arith))
 
   pub not_after : (at : ℕ) (now : S) → OneByOne (IsWriteTo is_seat who clock times writes reads width item) process start (at - 1) now →

@@ -70,7 +70,8 @@ module _ {S : Type 0} where
   AllAvoid [] c a = Unit {0}
   AllAvoid (x ∷ xs) c a = Avoids x.0 c a × AllAvoid xs c a
 
-  avoid_at : (i : ℕ) (hs : List (Option S)) (c : List (ℕ × S)) (a : Act S) → Avoids i c a → get_elem? (homes_after hs c a) i ≡ get_elem? hs i
+  avoid_at : (i : ℕ) (hs : List (Option S)) (c : List (ℕ × S)) (a : Act S) → Avoids i c a →
+      get_elem? (homes_after hs c a) i ≡ get_elem? hs i
   avoid_at i hs c keeps v = refl
   avoid_at i hs c (takes k y) v = set_else hs k i none v
   avoid_at i hs [] gives v = refl
@@ -85,7 +86,8 @@ module _ {S : Type 0} where
   avoid_set i w hs (x ∷ c) gives v = set_swap hs i x.0 w (some x.1) v
   avoid_set i w hs c (chain a b) v = absurd v
 
-  avoid_valid : (i : ℕ) (w : Option S) (hs : List (Option S)) (c : List (ℕ × S)) (a : Act S) → Avoids i c a → Valid hs c a → Valid (set hs i w) c a
+  avoid_valid : (i : ℕ) (w : Option S) (hs : List (Option S)) (c : List (ℕ × S)) (a : Act S) → Avoids i c a → Valid hs c a →
+      Valid (set hs i w) c a
   avoid_valid i w hs c keeps v h = tt
   avoid_valid i w hs c (takes k y) v h = set_else hs i k w (λ e. v (sym e)) ∙ h
   avoid_valid i w hs c gives v h = tt
@@ -129,14 +131,18 @@ module _ {S : Type 0} where
   pub all_avoid : (hs : List (Option S)) (xs c : List (ℕ × S)) (a : Act S) → Proper c a → Valid hs c a →
       Out hs (held_slots xs) → ((h : ℕ) → IsInCell h (held_slots xs) → IsInCell h (held_slots c) → ⊥) → AllAvoid xs c a
   all_avoid hs [] c a p v out apart = tt
-  all_avoid hs (x ∷ xs) c a p v out apart =
-      (avoided x.0 c a p v (out x.0 (inl refl)) (λ k. apart x.0 (inl refl) k), all_avoid hs xs c a p v (λ h k. out h (inr k)) (λ h k. apart h (inr k))) where
-        avoided : (i : ℕ) (c : List (ℕ × S)) (a : Act S) → Proper c a → Valid hs c a → get_elem? hs i ≡ some none → (IsInCell i (held_slots c) → ⊥) → Avoids i c a
-        avoided i c keeps p v out ne = tt
-        avoided i c (takes k y) p v out ne = λ e. absurd (some-ne-none y (some-injective (some y) none (sym v ∙ (ap (get_elem? hs) (sym e) ∙ out))))
-        avoided i [] gives p v out ne = tt
-        avoided i (x ∷ c) gives p v out ne = λ e. ne (inl e)
-        avoided i c (chain a b) p v out ne = absurd p
+  all_avoid hs (x ∷ xs) c a p v out apart = (
+    avoided x.0 c a p v (out x.0 (inl refl)) (λ k. apart x.0 (inl refl) k),
+    all_avoid hs xs c a p v (λ h k. out h (inr k)) (λ h k. apart h (inr k)),
+  ) where
+    avoided : (i : ℕ) (c : List (ℕ × S)) (a : Act S) → Proper c a → Valid hs c a → get_elem? hs i ≡ some none →
+        (IsInCell i (held_slots c) → ⊥) → Avoids i c a
+    avoided i c keeps p v out ne = tt
+    avoided i c (takes k y) p v out ne =
+        λ e. absurd (some-ne-none y (some-injective (some y) none (sym v ∙ (ap (get_elem? hs) (sym e) ∙ out))))
+    avoided i [] gives p v out ne = tt
+    avoided i (x ∷ c) gives p v out ne = λ e. ne (inl e)
+    avoided i c (chain a b) p v out ne = absurd p
 
   pub proper_shift : (f : ℕ → ℕ) (c others : List (ℕ × S)) (a : Act S) → Proper c a → Proper (shift f c ++ others) (shift_act f a)
   proper_shift f c others keeps p = tt

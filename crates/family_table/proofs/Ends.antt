@@ -22,7 +22,8 @@ module _ {T V : Type 0} (blank : V) (layout : ℕ → Layout) (Rule : T → ℕ 
   abbrev Ended : List (Process V) → Type 0
   Ended ps = AllDone blank (layout n) (done o) n ps
 
-  family_shows : (id : ℕ) (x : View V) (ps : List (Process V)) (s : State T (View V)) → F s → get_elem? s.views id ≡ some x → x ≡ Has ps → Ended ps
+  family_shows : (id : ℕ) (x : View V) (ps : List (Process V)) (s : State T (View V)) → F s → get_elem? s.views id ≡ some x → x ≡ Has ps →
+      Ended ps
   family_shows id x ps s r seen is =
       let known = subst (Shows r.processes r.receipts) is (r.shows id x seen) in
       let at : (a : ℕ) (p : Process V) → get_elem? ps a ≡ some p → get_elem? r.processes p.who ≡ some p =
@@ -40,7 +41,8 @@ module _ {T V : Type 0} (blank : V) (layout : ℕ → Layout) (Rule : T → ℕ 
             ends o r.now c p.who q.who (G p) (G q) (r.cells k lk) (view a p d) (view b q e);
       }
 
-  pub family_ends : (id : ℕ) (x : View V) (ps : List (Process V)) (ws : List ℕ) (xs : List T) → x ≡ Has ps → Final (Seen F id x) ws xs → Ended ps
+  pub family_ends : (id : ℕ) (x : View V) (ps : List (Process V)) (ws : List ℕ) (xs : List T) → x ≡ Has ps → Final (Seen F id x) ws xs →
+      Ended ps
   family_ends id x ps ws xs is f = family_shows id x ps f.0 f.1.0 f.1.1 is
 
   -- a load that keeps the view may show it

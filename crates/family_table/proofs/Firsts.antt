@@ -1,5 +1,6 @@
 -- Lists of elements in turn, and lists of one element again and again.
-use Rattle.std.proofs.Common.{◌≡◌, ℕ, zero, suc, ◌+◌, ◌-◌, ◌<◌, Bool, true, List, [], ◌∷◌, ◌++◌, map, take, length, get_or, replicate, refl, sym, ap, ◌∙◌, arith}
+use Rattle.std.proofs.Common.{◌≡◌, ℕ, zero, suc, ◌+◌, ◌-◌, ◌<◌, Bool, true, List, [], ◌∷◌, ◌++◌, map, take, length, get_or, replicate, refl}
+use Rattle.std.proofs.Common.{sym, ap, ◌∙◌, arith}
 use Rattle.std.specs.Prelude.{if◌then◌else◌}
 use mathlib.Core.Option.{some, some-injective, some-ne-none}
 use lib.ListN.{get_elem?}
@@ -20,7 +21,8 @@ module _ {A : Type 0} where
   upto_get f b (suc m) zero d l = ap f (omega arith)
   upto_get f b (suc m) (suc i) d l = upto_get f (b + 1) m i d (omega arith) ∙ ap f (omega arith)
 
-  pub map_at : {B : Type 0} (f : A → B) (xs : List A) (i : ℕ) (y : B) → get_elem? (map f xs) i ≡ some y → (x : A) × (get_elem? xs i ≡ some x) × (y ≡ f x)
+  pub map_at : {B : Type 0} (f : A → B) (xs : List A) (i : ℕ) (y : B) → get_elem? (map f xs) i ≡ some y → (x : A)
+      × (get_elem? xs i ≡ some x) × (y ≡ f x)
   map_at f [] i y e = absurd (some-ne-none y (sym e))
   map_at f (x ∷ xs) zero y e = (x, refl, sym (some-injective (f x) y e))
   map_at f (x ∷ xs) (suc i) y e = map_at f xs i y e

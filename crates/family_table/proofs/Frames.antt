@@ -36,7 +36,8 @@ module _ {V : Type 0} (blank : V) where
 module _ {V A : Type 0} (blank : V) (seen : V → A) where
   pub stays : (v u : Process V) (k : ℕ) (w : V) → IsChanged blank v u k w → (at : ℕ → ℕ → ℕ) (j : ℕ) →
       (j ≢ v.who → (at v.who j ≢ k) ⊎ (seen w ≡ seen (of_cell blank k v.parts))) →
-      seen (cond (nat_eq j u.who) blank (of_cell blank (at u.who j) u.parts)) ≡ seen (cond (nat_eq j v.who) blank (of_cell blank (at v.who j) v.parts))
+      seen (cond (nat_eq j u.who) blank (of_cell blank (at u.who j) u.parts)) ≡ seen
+      (cond (nat_eq j v.who) blank (of_cell blank (at v.who j) v.parts))
   stays v u k w c at j either =
       let who : u.who ≡ v.who = c.who in
       let P : ℕ → Type 0 = λ z. seen (cond (nat_eq j z) blank (of_cell blank (at z j) u.parts))
@@ -52,7 +53,8 @@ module _ {V A : Type 0} (blank : V) (seen : V → A) where
       ∙ (⊎_elim
       (λ (away : at v.who j ≢ k). ap seen (c.others (at v.who j) away))
       (λ (same : seen w ≡ seen (of_cell blank k v.parts)). ⊎_elim
-      (λ (e : at v.who j ≡ k). ap (λ z. seen (of_cell blank z u.parts)) e ∙ (ap seen c.here ∙ (same ∙ sym (ap (λ z. seen (of_cell blank z v.parts)) e))))
+      (λ (e : at v.who j ≡ k). ap (λ z. seen (of_cell blank z u.parts)) e
+      ∙ (ap seen c.here ∙ (same ∙ sym (ap (λ z. seen (of_cell blank z v.parts)) e))))
       (λ (d : at v.who j ≢ k). ap seen (c.others (at v.who j) d))
       (cases_eq (at v.who j) k))
       (either ne)

@@ -1,5 +1,6 @@
 -- Seats are joined into one, the last first: the one then has the processes of all of them.
-use Rattle.std.proofs.Common.{◌≡◌, ℕ, zero, suc, ◌+◌, List, [], ◌∷◌, ◌++◌, length, slice_get, Some, refl, sym, ap, ◌∙◌, subst, arith, append_assoc}
+use Rattle.std.proofs.Common.{◌≡◌, ℕ, zero, suc, ◌+◌, List, [], ◌∷◌, ◌++◌, length, slice_get, Some, refl, sym, ap, ◌∙◌, subst, arith}
+use Rattle.std.proofs.Common.{append_assoc}
 use Rattle.std.proofs.lemmas.Option.{none-some, same_Some}
 use mathlib.Core.Option.{some}
 use lib.ListN.{get_elem?}
@@ -30,7 +31,8 @@ module _ {A : Type 0} where
     front (z ∷ zs) ys (suc i) y e = front zs ys i y e
 
   -- the last one stands there
-  pub stood : (seats before left done : List A) (s : A) → seats ≡ before ++ done → before ≡ left ++ s ∷ [] → slice_get seats (length left) ≡ Some s
+  pub stood : (seats before left done : List A) (s : A) → seats ≡ before ++ done → before ≡ left ++ s ∷ [] →
+      slice_get seats (length left) ≡ Some s
   stood seats before left done s of e = ap (λ z. slice_get z (length left)) (of ∙ ap (λ z. z ++ done) e) ∙ mid left done s where
     mid : {A : Type 0} (left done : List A) (s : A) → slice_get ((left ++ s ∷ []) ++ done) (length left) ≡ Some s
     mid [] done s = refl
@@ -38,7 +40,8 @@ module _ {A : Type 0} where
 
   at_last : (xs ys : List A) (a : ℕ) → get_elem? (xs ++ ys) (length xs + a) ≡ get_elem? ys a
   at_last [] ys a = ap (get_elem? ys) (let z : 0 + a ≡ a = omega arith in z)
-  at_last (x ∷ xs) ys a = ap (get_elem? (x ∷ (xs ++ ys))) (let e : suc (length xs) + a ≡ suc (length xs + a) = omega arith in e) ∙ at_last xs ys a
+  at_last (x ∷ xs) ys a = ap (get_elem? (x ∷ (xs ++ ys))) (let e : suc (length xs) + a ≡ suc (length xs + a) = omega arith in e)
+      ∙ at_last xs ys a
 
 -- `known` is what the process of a seat knows
 module _ {A V : Type 0} (known : A → Process V) where
@@ -50,7 +53,8 @@ module _ {A V : Type 0} (known : A → Process V) where
     pub of : seats ≡ left ++ done
     pub there : (s : A) (i : ℕ) → slice_get done i ≡ Some s → (a : ℕ) × (get_elem? ps a ≡ some (known s))
 
-  pub gathered_one : (seats left : List A) (s : A) (view : View V) → view ≡ Has (known s ∷ []) → seats ≡ left ++ s ∷ [] → GatheredFrom seats left view
+  pub gathered_one : (seats left : List A) (s : A) (view : View V) → view ≡ Has (known s ∷ []) → seats ≡ left ++ s ∷ [] →
+      GatheredFrom seats left view
   gathered_one seats left s view me of = record {
     ps = known s ∷ [];
     me = me;
@@ -62,8 +66,8 @@ module _ {A V : Type 0} (known : A → Process V) where
     one s z zero e = (zero, ap (λ y. some (known y)) (same_Some s z e))
     one s z (suc i) e = absurd (none-some z e)
 
-  pub gathered_more : (seats before left : List A) (view view' : View V) (s : A) → (h : GatheredFrom seats before view) → before ≡ left ++ s ∷ [] →
-      view' ≡ Has (h.ps ++ known s ∷ []) → GatheredFrom seats left view'
+  pub gathered_more : (seats before left : List A) (view view' : View V) (s : A) → (h : GatheredFrom seats before view) →
+      before ≡ left ++ s ∷ [] → view' ≡ Has (h.ps ++ known s ∷ []) → GatheredFrom seats left view'
   gathered_more seats before left view view' s h e me = record {
     ps = h.ps ++ known s ∷ [];
     me = me;
@@ -79,7 +83,8 @@ module _ {A V : Type 0} (known : A → Process V) where
 
   -- all of them were
   pub gathered_all : (seats left : List A) (view : View V) → GatheredFrom seats left view → length left ≡ 0 →
-      (ps : List (Process V)) × (view ≡ Has ps) × ((i : ℕ) (s : A) → slice_get seats i ≡ Some s → (a : ℕ) × (get_elem? ps a ≡ some (known s)))
+      (ps : List (Process V)) × (view ≡ Has ps)
+      × ((i : ℕ) (s : A) → slice_get seats i ≡ Some s → (a : ℕ) × (get_elem? ps a ≡ some (known s)))
   gathered_all seats [] view h e = (h.ps, h.me, λ i s at. h.there s i (ap (λ z. slice_get z i) (sym h.of) ∙ at))
   gathered_all seats (x ∷ xs) view h e = absurd (omega (arith, e))
 

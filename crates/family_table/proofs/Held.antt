@@ -28,17 +28,20 @@ module _ {S : Type 0} where
       Effect hs (set hs k none) (xs ++ ys) (xs ++ k ∷ ys)
   takes_effect hs k y xs ys home =
       let gone : (zs : List ℕ) → Out hs zs → Out (set hs k none) zs =
-      λ zs o h i. ⊎_elim (λ (e : h ≡ k). subst (λ z. get_elem? (set hs k none) z ≡ some none) (sym e) (set_here hs k none (within hs k (some y) home)))
+      λ zs o h i. ⊎_elim (λ (e : h ≡ k). subst (λ z. get_elem? (set hs k none) z ≡ some none) (sym e)
+      (set_here hs k none (within hs k (some y) home)))
       (λ (ne : h ≢ k). set_else hs k h none ne ∙ o h i) (same_or h k) in
       let fresh : (zs : List ℕ) → Out hs zs → IsInCell k zs → ⊥ = λ zs o i. out_none hs k y (o k i) home in record {
         mine = λ o d. (
-          (λ h i. ⊎_elim (λ (e : h ≡ k). subst (λ z. get_elem? (set hs k none) z ≡ some none) (sym e) (set_here hs k none (within hs k (some y) home)))
+          (λ h i. ⊎_elim (λ (e : h ≡ k). subst (λ z. get_elem? (set hs k none) z ≡ some none) (sym e)
+              (set_here hs k none (within hs k (some y) home)))
               (λ (j : IsInCell h (xs ++ ys)). gone (xs ++ ys) o h j) (in_more xs ys h k i)),
           distinct_more xs ys k d (fresh (xs ++ ys) o),
         );
         others = λ zs o out a. (
           gone zs o,
-          (λ h i j. ⊎_elim (λ (e : h ≡ k). fresh zs o (subst (λ z. IsInCell z zs) e j)) (λ (m : IsInCell h (xs ++ ys)). a h m j) (in_more xs ys h k i)),
+          (λ h i j. ⊎_elim (λ (e : h ≡ k). fresh zs o (subst (λ z. IsInCell z zs) e j)) (λ (m : IsInCell h (xs ++ ys)). a h m j)
+              (in_more xs ys h k i)),
         );
       } where
         same_or : (h k : ℕ) → (h ≡ k) ⊎ (h ≢ k)

@@ -1,5 +1,6 @@
 -- Receipts in a family: what one cell allows each time, in all cells at once.
-use Rattle.std.proofs.Common.{◌≡◌, ◌≢◌, ◌⊎◌, ℕ, zero, suc, ◌+◌, ◌<◌, ◌≤◌, max, List, [], ◌∷◌, ◌++◌, map, length, set, refl, sym, ap, ◌∙◌, subst}
+use Rattle.std.proofs.Common.{◌≡◌, ◌≢◌, ◌⊎◌, ℕ, zero, suc, ◌+◌, ◌<◌, ◌≤◌, max, List, [], ◌∷◌, ◌++◌, map, length, set, refl, sym, ap, ◌∙◌}
+use Rattle.std.proofs.Common.{subst}
 use Rattle.std.proofs.Common.{⊎_elim, inl, inr, arith}
 use Rattle.std.proofs.lemmas.List.{map-append}
 use mathlib.Core.Option.{some}
@@ -11,7 +12,8 @@ use Rattle.family_table.specs.declared.notes.Receipt.{Receipt}
 use Rattle.family_table.specs.declared.notes.View.{View}
 use Rattle.family_table.specs.declared.notes.View.TheVariants.{Told, Has}
 use Rattle.family_table.specs.Layouts.{Layout, IsInCell, Disjoint, Out, Distinct}
-use Rattle.family_table.specs.Family.{total, of_cell, cell, holders, Shows, FamilyRule, heard_parts, receipt_of, heard_by, CellTells, CellHears}
+use Rattle.family_table.specs.Family.{total, of_cell, cell, holders, Shows, FamilyRule, heard_parts, receipt_of, heard_by, CellTells}
+use Rattle.family_table.specs.Family.{CellHears}
 use Rattle.family_table.proofs.Slices.{within, map_set, set_front, set_long, in_front}
 use Rattle.family_table.proofs.Steps.{count_of, shows_set}
 use Rattle.family_table.proofs.Totals.{total_set, total_snoc, total_two}
@@ -138,8 +140,8 @@ module _ {V : Type 0} (blank : V) (receipt : V → V) (hears : V → V → V) (p
         } in
         subst (λ vs. F (record { words = s.words; homes = s.homes; views = vs })) views rule
 
-    pub family_learns : CellHears Rule Idle hears → (id other : ℕ) (v : Process V) (p : Receipt V) → ((k : ℕ) → Idle (of_cell blank k v.parts)) →
-        Joins F id (Has (v ∷ [])) other (Told p) (Has (heard_by hears v p ∷ [])) (Has [])
+    pub family_learns : CellHears Rule Idle hears → (id other : ℕ) (v : Process V) (p : Receipt V) →
+        ((k : ℕ) → Idle (of_cell blank k v.parts)) → Joins F id (Has (v ∷ [])) other (Told p) (Has (heard_by hears v p ∷ [])) (Has [])
     family_learns heard id other v p idle s r at apart there =
         let u : Process V = heard_by hears v p in
         let who : ℕ = v.who in
@@ -163,7 +165,8 @@ module _ {V : Type 0} (blank : V) (receipt : V → V) (hears : V → V → V) (p
               let R : List V = map H r.receipts in
               let old : State S V = cell blank l k s.words s.homes r.processes r.receipts in
               let long : length P ≡ length r.processes = map_long G r.processes in
-              let at_it : get_elem? (P ++ R) (length P + place.0) ≡ some (H p) = at_behind P R place.0 ∙ at_map H r.receipts place.0 p place.1 in
+              let at_it : get_elem? (P ++ R) (length P + place.0) ≡ some (H p) =
+              at_behind P R place.0 ∙ at_map H r.receipts place.0 p place.1 in
               let told = heard r.now old who (length P + place.0) (G v) (H p) (r.cells k lk)
               (at_longer P R who (G v) (at_map G r.processes who v mine)) at_it (λ e. absurd (omega arith)) (idle k) in
               let same : set (P ++ R) who (hears (G v) (H p)) ≡ map G (set r.processes who u) ++ R =
@@ -176,7 +179,8 @@ module _ {V : Type 0} (blank : V) (receipt : V → V) (hears : V → V → V) (p
               (at_set r.processes who j u z e);
           clocks = λ j z e. ⊎_elim
               (λ (b : (j ≡ who) × (u ≡ z)). subst (λ (q : Process V). q.clock ≤ r.now) b.1
-              (let a : v.clock ≤ r.now = r.clocks who v mine in let d : p.clock ≤ r.now = r.told p named in max_by v.clock p.clock r.now a d))
+              (let a : v.clock ≤ r.now = r.clocks who v mine in let d : p.clock ≤ r.now = r.told p named in
+              max_by v.clock p.clock r.now a d))
               (λ (b : (j ≢ who) × (get_elem? r.processes j ≡ some z)). r.clocks j z b.1)
               (at_set r.processes who j u z e);
           told = r.told;

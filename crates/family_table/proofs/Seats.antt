@@ -96,7 +96,8 @@ module _ {S V : Type 0} (blank : V) (l : Layout) (Rule : ℕ → State S V → T
   }
 
   -- one part of what a seat knows goes to a new seat
-  pub family_parts : (id : ℕ) (xs ys zs : List (Process V)) → ((who : ℕ) → holders who (Has ys) + holders who (Has zs) ≡ holders who (Has xs)) →
+  pub family_parts : (id : ℕ) (xs ys zs : List (Process V)) →
+      ((who : ℕ) → holders who (Has ys) + holders who (Has zs) ≡ holders who (Has xs)) →
       ((P : Process V → Type 0) → EachOf P xs → EachOf P ys × EachOf P zs) → Splits F id (Has xs) (Has ys) (Has zs)
   family_parts id xs ys zs same both s r at =
       let known = r.shows id (Has xs) at in

@@ -141,7 +141,8 @@ module _ {A : Type 0} where
   distinct_less (y ∷ xs) ys x d =
       let t = distinct_less xs ys x d.1 in (
         ((λ k. d.0 (in_less xs ys y x k)), t.0),
-        (λ k. ⊎_elim (λ (e : x ≡ y). d.0 (subst (λ z. IsInCell z (xs ++ x ∷ ys)) e (in_middle xs ys x))) (λ (h : IsInCell x (xs ++ ys)). t.1 h) k),
+        (λ k. ⊎_elim (λ (e : x ≡ y). d.0 (subst (λ z. IsInCell z (xs ++ x ∷ ys)) e (in_middle xs ys x)))
+            (λ (h : IsInCell x (xs ++ ys)). t.1 h) k),
       )
 
   pub in_front : (xs ys : List A) (x : A) → IsInCell x xs → IsInCell x (xs ++ ys)
@@ -157,7 +158,8 @@ module _ {A : Type 0} where
   distinct_front [] ys d = (tt, λ x h k. absurd h)
   distinct_front (y ∷ xs) ys d = let t = distinct_front xs ys d.1 in (
     ((λ h. d.0 (in_front xs ys y h)), t.0),
-    (λ x h k. ⊎_elim (λ (e : x ≡ y). d.0 (subst (λ z. IsInCell z (xs ++ ys)) e (in_behind xs ys x k))) (λ (j : IsInCell x xs). t.1 x j k) h),
+    (λ x h k. ⊎_elim (λ (e : x ≡ y). d.0 (subst (λ z. IsInCell z (xs ++ ys)) e (in_behind xs ys x k)))
+        (λ (j : IsInCell x xs). t.1 x j k) h),
   )
 
 pub same_first : {A : Type 0} (k : ℕ) (x y : A) (xs ys : List (ℕ × A)) → (k, x) ∷ xs ≡ (k, y) ∷ ys → x ≡ y

@@ -20,7 +20,8 @@ use Rattle.family_table.specs.declared.notes.View.{View}
 use Rattle.family_table.specs.declared.notes.View.TheVariants.{Told, Has}
 use Rattle.family_table.specs.Layouts.{Layout, IsLayout, gather, shift, shift_act, Inside, around, Distinct, Disjoint, Out}
 use Rattle.family_table.specs.Family.{total, of_cell, knows, cell, holders, Shows, FamilyRule, CellAllows, StepTells}
-use Rattle.family_table.proofs.Slices.{gather_get, gather_set, gather_apart, get_set_here, get_set_else, set_long, map_set, map_same, set_front}
+use Rattle.family_table.proofs.Slices.{gather_get, gather_set, gather_apart, get_set_here, get_set_else, set_long, map_set, map_same}
+use Rattle.family_table.proofs.Slices.{set_front}
 use Rattle.family_table.proofs.Slices.{within, distinct_front, in_front}
 use Rattle.family_table.proofs.Acts.{carried_shift, valid_shift, homes_gather, homes_apart, around_carried, around_homes, around_valid}
 use Rattle.family_table.proofs.Acts.{all_avoid, proper_shift, homes_long}

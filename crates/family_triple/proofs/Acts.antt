@@ -123,7 +123,8 @@ module _ {S : Type 0} where
     others = λ us o out d a. let t = e.mine out d in let u = e.others us o out d a in f.others us u.0 t.0 t.1 u.1;
   }
 
-  takes_effect : (hs : List (Option S)) (k : ℕ) (y : S) (xs : List ℕ) → get_elem? hs k ≡ some (some y) → Effect hs (set hs k none) xs (k ∷ xs)
+  takes_effect : (hs : List (Option S)) (k : ℕ) (y : S) (xs : List ℕ) → get_elem? hs k ≡ some (some y) →
+      Effect hs (set hs k none) xs (k ∷ xs)
   takes_effect hs k y xs home =
       let fresh : (zs : List ℕ) → Out hs zs → IsInCell k zs → ⊥ = λ zs o i. out_none hs k y (o k i) home in
       let here : get_elem? (set hs k none) k ≡ some none = set_here hs k none (within hs k (some y) home) in

@@ -144,7 +144,8 @@ module _ {T : Type 0} (o : T) (n : ℕ) where
           numbered = subst (λ z. IsNextAnswer z g.known q.known g.numbers q.numbers q.answers q.times x) opened answered_it;
           told = same_told;
           heard = same_heard;
-          heeds = subst (λ (z : List (Known T) × ℕ). AreHeeded z.0 writes z.1) (λ i. (sym same_heard i, sym (last_snoc 0 h.numbers number) i)) heeded;
+          heeds = subst (λ (z : List (Known T) × ℕ). AreHeeded z.0 writes z.1)
+              (λ i. (sym same_heard i, sym (last_snoc 0 h.numbers number) i)) heeded;
         }),
         (λ i di. ap (λ z. reads_by z) (seen_same Spent (reader_or (first_reader o)) v.who k v.parts (Reader q) (place n i v.who) i
             (λ nw. inl (column_apart n i j v.who lj lw ne nw di)) has)),
@@ -156,7 +157,8 @@ module _ {T : Type 0} (o : T) (n : ℕ) where
   pub a_look : (v : Process V) (j : ℕ) (g h : ReaderNotes T) (held : List ℕ) → v.who < n → length v.parts ≡ n * n →
       j < n → j ≢ v.who → of_cell Spent (place n j v.who) v.parts ≡ Reader g → reads_by h ≡ reads_by g →
       let u = alters v (place n j v.who) (Reader h) held in
-      (u.clock ≡ v.clock) × (u.times ≡ v.times) × KeepsEach (reads_from o n v) (reads_from o n u) × KeepsEach (writes_to o n v) (writes_to o n u)
+      (u.clock ≡ v.clock) × (u.times ≡ v.times) × KeepsEach (reads_from o n v) (reads_from o n u)
+      × KeepsEach (writes_to o n v) (writes_to o n u)
   a_look v j g h held lw parts lj ne is same =
       let k : ℕ = place n j v.who in
       let l : place n j v.who < n * n = place_in n j v.who lj lw (λ e. ne (sym e)) in

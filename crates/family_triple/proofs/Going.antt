@@ -44,8 +44,9 @@ module _ {T : Type 0} where
 
   module _ (f : TripleFamily T) (s : TripleSeat T) (own : IsSeat f s) where
     -- the seat after a call
-    pub seat_after : (s' : TripleSeat T) (u : Process (TripleSight T)) (cs : List (ℕ × T)) → s'.seat.inner.table_id ≡ s.seat.inner.table_id →
-        s'.spare ≡ s.spare → s'.processes ≡ s.processes → s'.who ≡ s.who → s'.seat.inner.me.0 ≡ Has (u ∷ []) → s'.seat.inner.me.1 ≡ cs →
+    pub seat_after : (s' : TripleSeat T) (u : Process (TripleSight T)) (cs : List (ℕ × T)) →
+        s'.seat.inner.table_id ≡ s.seat.inner.table_id → s'.spare ≡ s.spare → s'.processes ≡ s.processes → s'.who ≡ s.who →
+        s'.seat.inner.me.0 ≡ Has (u ∷ []) → s'.seat.inner.me.1 ≡ cs →
         u.who ≡ (known_by s).who → IsAtRest s.spare s.processes u s'.stored.fills s'.stored.reads cs → IsSeat f s'
     seat_after s' u cs table spare processes who me slots same rest =
         let is : u ≡ known_by s' = sym (ap process_of me) in record {
@@ -65,7 +66,8 @@ module _ {T : Type 0} where
     pub apart : j ≢ (known_by s).who
     apart = λ e. other.1 (e ∙ own.who)
 
-    abbrev pub row_at : IsRow s.spare (place s.processes (known_by s).who j) (of_cell Spent (place s.processes (known_by s).who j) (known_by s).parts)
+    abbrev pub row_at : IsRow s.spare (place s.processes (known_by s).who j)
+        (of_cell Spent (place s.processes (known_by s).who j) (known_by s).parts)
         s.seat.inner.me.1 (among (known_by s).who j) (get_or s.stored.fills j 0)
     row_at = own.rest.row j within apart
 
@@ -80,7 +82,8 @@ module _ {T : Type 0} where
       row_place = at ∙ ap (λ z. place s.processes z j) (sym own.who)
 
       row_low : cell < s.processes * s.processes
-      row_low = subst (λ z. z < s.processes * s.processes) (sym row_place) (place_in s.processes (known_by s).who j own.rest.inside within apart)
+      row_low = subst (λ z. z < s.processes * s.processes) (sym row_place)
+          (place_in s.processes (known_by s).who j own.rest.inside within apart)
 
       pub row_inside : cell < (triples (processes_of f)).cells
       row_inside = subst (λ z. cell < z * z) own.processes row_low
@@ -128,14 +131,17 @@ module _ {T : Type 0} where
           IsAnswer fits rises (opening_of f) (reads_of s j).answers (reads_of s j).told x
       is_answer fits rises x h =
           let seen = sees_reads s.spare s.processes (known_by s) j column_at.notes apart column_at.is in
-          subst (λ (z : T × ReadAccesses T). IsAnswer fits rises z.0 z.1.answers z.1.told x) (λ i. ((column_at.opened ∙ own.opening) i, sym seen i)) h
+          subst (λ (z : T × ReadAccesses T). IsAnswer fits rises z.0 z.1.answers z.1.told x)
+          (λ i. ((column_at.opened ∙ own.opening) i, sym seen i)) h
 
     -- a whole write
     pub wrote : (cell : ℕ) → cell ≡ place s.processes s.who j → j < 16 → (x y : T) (slot t : ℕ) (held : List ℕ) (s' : TripleSeat T) →
-        (known_by s).clock < t → slot < 3 → s'.seat.inner.me.0 ≡ Has (knows Spent (known_by s) cell (Writer (published row_at.notes slot x t)) t held ∷ []) →
-        Replaced s.seat.inner.me.1 s'.seat.inner.me.1 (among s.who j) (slot_at cell slot, y) → IsRotated held (held_slots s'.seat.inner.me.1) →
-        s'.seat.inner.table_id ≡ s.seat.inner.table_id → s'.spare ≡ s.spare → s'.processes ≡ s.processes → s'.who ≡ s.who →
-        s'.stored.fills ≡ set s.stored.fills j slot → s'.stored.reads ≡ s.stored.reads → Wrote f s s' j x
+        (known_by s).clock < t → slot < 3 →
+        s'.seat.inner.me.0 ≡ Has (knows Spent (known_by s) cell (Writer (published row_at.notes slot x t)) t held ∷ []) →
+        Replaced s.seat.inner.me.1 s'.seat.inner.me.1 (among s.who j) (slot_at cell slot, y) →
+        IsRotated held (held_slots s'.seat.inner.me.1) → s'.seat.inner.table_id ≡ s.seat.inner.table_id → s'.spare ≡ s.spare →
+        s'.processes ≡ s.processes → s'.who ≡ s.who → s'.stored.fills ≡ set s.stored.fills j slot → s'.stored.reads ≡ s.stored.reads →
+        Wrote f s s' j x
     wrote cell at few x y slot t held s' later low me new turned table spare processes who filled kept =
         let o : T = s.spare in
         let n : ℕ = s.processes in
@@ -147,10 +153,12 @@ module _ {T : Type 0} where
         let size : length s.stored.fills ≡ 16 = own.rest.sized.0 in
         let u : Process (TripleSight T) = knows Spent v k (Writer q) t held in
         let now : s'.seat.inner.me.0 ≡ Has (u ∷ []) = me ∙ ap (λ z. Has (knows Spent v z (Writer q) t held ∷ [])) is_cell in
-        let rest = rest_write o n v s.stored.fills (set s.stored.fills j slot) s.stored.reads s.seat.inner.me.1 s'.seat.inner.me.1 j q y t (v.times ++ t ∷ []) held within
+        let rest = rest_write o n v s.stored.fills (set s.stored.fills j slot) s.stored.reads s.seat.inner.me.1 s'.seat.inner.me.1 j q y t
+        (v.times ++ t ∷ []) held within
         apart own.rest row.took row.opened low (set_long s.stored.fills j slot) (get_set_here s.stored.fills j slot 0 (omega arith))
         (λ i ne. get_set_else s.stored.fills j i slot 0 ne)
-        (subst (λ (z : ℕ × ℕ). Replaced s.seat.inner.me.1 s'.seat.inner.me.1 (among z.0 j) (slot_at z.1 slot, y)) (λ i. (sym own.who i, is_cell i)) new)
+        (subst (λ (z : ℕ × ℕ). Replaced s.seat.inner.me.1 s'.seat.inner.me.1 (among z.0 j) (slot_at z.1 slot, y))
+        (λ i. (sym own.who i, is_cell i)) new)
         turned in
         let did = a_write o n v j row.notes x slot t held own.rest.inside own.rest.parts within apart row.is later in
         let is : u ≡ known_by s' = sym (ap process_of now) in
@@ -171,7 +179,8 @@ module _ {T : Type 0} where
 
     -- a whole read
     pub has_read : (cell : ℕ) → cell ≡ place s.processes j s.who → j < 16 → (fits : T → Type 0) (rises : T → T → Type 0) (cs : List (ℕ × T))
-        (m : Me T (View (TripleSight T))) (slot : ℕ) (s' : TripleSeat T) → (h : HasLooked fits rises cell (known_by s) column_at.notes cs m slot) →
+        (m : Me T (View (TripleSight T))) (slot : ℕ) (s' : TripleSeat T) →
+        (h : HasLooked fits rises cell (known_by s) column_at.notes cs m slot) →
         s'.seat.inner.me.0 ≡ m.0 →
         Replaced s.seat.inner.me.1 s'.seat.inner.me.1 ((s.processes - 1) + among s.who j) (slot_at cell slot, h.answer) →
         IsRotated (held_slots ((slot_at cell slot, h.answer) ∷ cs)) (held_slots s'.seat.inner.me.1) →
@@ -189,13 +198,16 @@ module _ {T : Type 0} where
         let held : List ℕ = held_slots ((slot_at cell slot, h.answer) ∷ cs) in
         let u : Process (TripleSight T) = knows Spent v k (Reader q) h.time held in
         let now : s'.seat.inner.me.0 ≡ Has (u ∷ []) = me ∙ (h.view ∙ ap (λ z. Has (knows Spent v z (Reader q) h.time held ∷ [])) is_cell) in
-        let rest = rest_read o n v s.stored.fills s.stored.reads (set s.stored.reads j slot) s.seat.inner.me.1 s'.seat.inner.me.1 j q h.time (v.times ++ h.time ∷ []) held
+        let rest = rest_read o n v s.stored.fills s.stored.reads (set s.stored.reads j slot) s.seat.inner.me.1 s'.seat.inner.me.1 j q h.time
+        (v.times ++ h.time ∷ []) held
         within apart own.rest (h.kept.0 ∙ column.took) refl (h.kept.1 ∙ column.opened) (subst (λ z. z < 3) (sym h.took.0) h.took.2)
-        (set_long s.stored.reads j slot) (get_set_here s.stored.reads j slot 0 (omega arith) ∙ sym h.took.0) (λ i ne. get_set_else s.stored.reads j i slot 0 ne)
+        (set_long s.stored.reads j slot) (get_set_here s.stored.reads j slot 0 (omega arith) ∙ sym h.took.0)
+        (λ i ne. get_set_else s.stored.reads j i slot 0 ne)
         (subst (λ (z : ℕ × ℕ × ℕ × T). Replaced s.seat.inner.me.1 s'.seat.inner.me.1 ((n - 1) + among z.0 j) (slot_at z.1 z.2, z.3))
         (λ i. (sym own.who i, is_cell i, sym h.took.0 i, sym h.took.1 i)) new)
         turned in
-        let did = a_read o n v j column.notes h.notes h.answer h.time h.number h.writes held own.rest.inside own.rest.parts within apart column.is
+        let did = a_read o n v j column.notes h.notes h.answer h.time h.number h.writes held own.rest.inside own.rest.parts within apart
+        column.is
         h.same.0 h.same.1 h.same.2 column.opened h.later h.did h.heard h.heeds in
         let is : u ≡ known_by s' = sym (ap process_of now) in
         let all : (T × ℕ × Process (TripleSight T)) → Type 0 = λ z.

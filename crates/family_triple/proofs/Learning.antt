@@ -1,5 +1,6 @@
 -- A process learns a receipt: it knows of a later time, and was told one record more by the sender. All else stays.
-use Rattle.std.proofs.Common.{◌≡◌, ◌≢◌, ℕ, ◌+◌, ◌-◌, ◌*◌, ◌<◌, ◌≤◌, cond, List, length, get_or, refl, sym, ap, ◌∙◌, subst, arith, ⊎_elim, mul-le-mul_right}
+use Rattle.std.proofs.Common.{◌≡◌, ◌≢◌, ℕ, ◌+◌, ◌-◌, ◌*◌, ◌<◌, ◌≤◌, cond, List, length, get_or, refl, sym, ap, ◌∙◌, subst, arith, ⊎_elim}
+use Rattle.std.proofs.Common.{mul-le-mul_right}
 use Rattle.std.proofs.lemmas.Bool.{cases_eq, cases_lt}
 use Rattle.cell_live.specs.Running.{snap}
 use Rattle.cell_live.specs.Sights.{writer_or, reader_or}
@@ -51,7 +52,8 @@ module _ {T : Type 0} where
     again : (h : IsColumn o k part cs at number) → IsColumn o k (Reader h.notes) cs at number
     again h = subst (λ z. IsColumn o k z cs at number) h.is h
 
-    of_notes : (g : ReaderNotes T) (y : TripleSight T) → (h : IsColumn o k part cs at number) → IsColumn o k (hears_of (Reader h.notes) y) cs at number
+    of_notes : (g : ReaderNotes T) (y : TripleSight T) → (h : IsColumn o k part cs at number) →
+        IsColumn o k (hears_of (Reader h.notes) y) cs at number
     of_notes g (Told x) h = record {
       notes = heard_by h.notes x.value;
       is = refl;
@@ -98,7 +100,8 @@ module _ {T : Type 0} where
       column = λ j lj ne.
           let k : ℕ = place n j v.who in
           subst (λ z. IsColumn o k z cs ((n - 1) + among v.who j) (get_or reads j 0)) (sym (part k))
-          (column_heard o k ((n - 1) + among v.who j) (get_or reads j 0) (of_cell Spent k v.parts) (of_cell Spent k r.parts) cs (rest.column j lj ne));
+          (column_heard o k ((n - 1) + among v.who j) (get_or reads j 0) (of_cell Spent k v.parts) (of_cell Spent k r.parts) cs
+          (rest.column j lj ne));
     }
 
     pub writes_stay : KeepsEach (writes_to o n v) (writes_to o n u)
@@ -108,7 +111,8 @@ module _ {T : Type 0} where
         ap (λ (p : WriterNotes T). writes_by p)
         (⊎_elim
         (λ (e : j ≡ v.who). let t = yes_same j v.who e in
-        ap (λ b. writer_or d (cond b Spent (of_cell Spent at u.parts))) t ∙ sym (ap (λ b. writer_or d (cond b Spent (of_cell Spent at v.parts))) t))
+        ap (λ b. writer_or d (cond b Spent (of_cell Spent at u.parts))) t
+        ∙ sym (ap (λ b. writer_or d (cond b Spent (of_cell Spent at v.parts))) t))
         (λ (ne : j ≢ v.who). let t = not_same j v.who ne in
         ap (λ b. writer_or d (cond b Spent (of_cell Spent at u.parts))) t
         ∙ ((ap (writer_or d) (part at) ∙ writes_heard d (of_cell Spent at v.parts) (of_cell Spent at r.parts))
@@ -139,7 +143,8 @@ module _ {T : Type 0} where
             ap (λ (g : ReaderNotes T). reads_by g)
             (⊎_elim
             (λ (e : j ≡ v.who). let t = yes_same j v.who e in
-            ap (λ b. reader_or d (cond b Spent (of_cell Spent at u.parts))) t ∙ sym (ap (λ b. reader_or d (cond b Spent (of_cell Spent at v.parts))) t))
+            ap (λ b. reader_or d (cond b Spent (of_cell Spent at u.parts))) t
+            ∙ sym (ap (λ b. reader_or d (cond b Spent (of_cell Spent at v.parts))) t))
             (λ (ne : j ≢ v.who). let t = not_same j v.who ne in
             ap (λ b. reader_or d (cond b Spent (of_cell Spent at u.parts))) t
             ∙ (ap (reader_or d) (stays j nf ne) ∙ sym (ap (λ b. reader_or d (cond b Spent (of_cell Spent at v.parts))) t)))

@@ -1,5 +1,6 @@
 -- The two ways of a read: its load decides it, or the swap after a load that found the mark.
-use Rattle.std.proofs.Common.{◌≡◌, ℕ, ◌+◌, ◌*◌, ◌%◌, ◌<◌, ◌≤◌, List, [], ◌∷◌, ◌++◌, length, set, refl, sym, ap, ◌∙◌, subst, arith, append-nil}
+use Rattle.std.proofs.Common.{◌≡◌, ℕ, ◌+◌, ◌*◌, ◌%◌, ◌<◌, ◌≤◌, List, [], ◌∷◌, ◌++◌, length, set, refl, sym, ap, ◌∙◌, subst, arith}
+use Rattle.std.proofs.Common.{append-nil}
 use mathlib.Core.Option.{none}
 use Rattle.atomic_table.specs.Table.{Me, step}
 use Rattle.cell_live.specs.Running.{held_slots}
@@ -42,7 +43,8 @@ module _ {T : Type 0} (fits : T → Type 0) (rises : T → T → Type 0) where
           later = a.0;
           slots = a.2 ∙ there;
           view = a.1
-              ∙ ap (λ zs. Has (knows Spent v k (Reader (answered (looked_by g n) g.at_hand.value d.0 d.1 d.2)) d.0 (held_slots zs) ∷ [])) there;
+              ∙ ap (λ zs. Has (knows Spent v k (Reader (answered (looked_by g n) g.at_hand.value d.0 d.1 d.2)) d.0
+              (held_slots zs) ∷ [])) there;
           may = d.5;
           did = d.6;
           heard = refl;
@@ -65,7 +67,8 @@ module _ {T : Type 0} (fits : T → Type 0) (rises : T → T → Type 0) where
     pub asked_slots : 4 ≤ n → m.1 ≡ (slot_at k g.slot, g.at_hand.value) ∷ cs
     asked_slots marked = ((told k v g (word_is k) reader.process.one reader.notes).0 marked).1 ∙ there
 
-    pub fetched_now : 4 ≤ n → (n' new : ℕ) (m' : Me T (View (TripleSight T))) → fetches fits rises (step words (8 * k + 8) new 0 none) m n' m' →
+    pub fetched_now : 4 ≤ n → (n' new : ℕ) (m' : Me T (View (TripleSight T))) →
+        fetches fits rises (step words (8 * k + 8) new 0 none) m n' m' →
         HasLooked fits rises k v g cs m' (n' % 4)
     fetched_now marked n' new m' swapped =
         let reads = asked_reader marked in

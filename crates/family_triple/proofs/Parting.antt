@@ -1,5 +1,6 @@
 -- The seats of a new family, one for each process, and the one that has all of them at the end.
-use Rattle.std.proofs.Common.{◌≡◌, ℕ, ◌+◌, ◌-◌, ◌*◌, ◌<◌, ◌≤◌, List, [], ◌∷◌, ◌++◌, length, slice_get, Some, get_or, replicate, sym, ap, ◌∙◌, subst, arith}
+use Rattle.std.proofs.Common.{◌≡◌, ℕ, ◌+◌, ◌-◌, ◌*◌, ◌<◌, ◌≤◌, List, [], ◌∷◌, ◌++◌, length, slice_get, Some, get_or, replicate, sym, ap}
+use Rattle.std.proofs.Common.{◌∙◌, subst, arith}
 use Rattle.std.proofs.lemmas.List.{length_push}
 use mathlib.Core.Option.{some}
 use lib.ListN.{get_elem?, get_or-replicate}
@@ -32,23 +33,24 @@ use Rattle.family_triple.proofs.Calls.{sees_writes, sees_reads}
 
 module _ {T : Type 0} where
   -- the seats of the first processes were parted off
-  pub record DealtTo (id : TableId) (n : ℕ) (o : T) (who : ℕ) (rest : FamilySeat T (TripleSight T)) (seats : List (TripleSeat T)) : Type 0 where
+  pub record DealtTo (id : TableId) (n : ℕ) (o : T) (who : ℕ) (rest : FamilySeat T (TripleSight T))
+      (seats : List (TripleSeat T)) : Type 0 where
     pub table : rest.inner.table_id ≡ id
     pub me : rest.inner.me ≡ (Has (upto (first_process o n) who (n - who)), [])
     pub long : length seats ≡ who
     pub each : Each (IsFirst id n o) seats
 
   -- what the next one is
-  pub next_me : (id : TableId) (n : ℕ) (o : T) (who : ℕ) (rest : FamilySeat T (TripleSight T)) (seats : List (TripleSeat T)) → who < n → DealtTo id n o who rest seats →
-      rest.inner.me ≡ (Has (first_process o n who ∷ upto (first_process o n) (who + 1) (n - (who + 1))), [])
+  pub next_me : (id : TableId) (n : ℕ) (o : T) (who : ℕ) (rest : FamilySeat T (TripleSight T)) (seats : List (TripleSeat T)) → who < n →
+      DealtTo id n o who rest seats → rest.inner.me ≡ (Has (first_process o n who ∷ upto (first_process o n) (who + 1) (n - (who + 1))), [])
   next_me id n o who rest seats l h = h.me ∙ ap (λ ps. (Has ps, [])) (upto_next (first_process o n) who n l)
 
   -- one seat more is parted off, and took its slots
-  pub dealt_more : (id : TableId) (n : ℕ) (o : T) (who : ℕ) (rest rest' : FamilySeat T (TripleSight T)) (seats : List (TripleSeat T)) (s : TripleSeat T) → who < n →
-      n ≤ 16 → DealtTo id n o who rest seats → rest'.inner.table_id ≡ rest.inner.table_id →
+  pub dealt_more : (id : TableId) (n : ℕ) (o : T) (who : ℕ) (rest rest' : FamilySeat T (TripleSight T)) (seats : List (TripleSeat T))
+      (s : TripleSeat T) → who < n → n ≤ 16 → DealtTo id n o who rest seats → rest'.inner.table_id ≡ rest.inner.table_id →
       rest'.inner.me ≡ (all_but_first rest.inner.me.0, rest.inner.me.1) → s.seat.inner.table_id ≡ rest.inner.table_id →
-      IsReady o n who s.seat.inner.me → s.spare ≡ o → s.processes ≡ n → s.who ≡ who → s.stored.fills ≡ replicate 16 0 → s.stored.reads ≡ replicate 16 2 →
-      DealtTo id n o (who + 1) rest' (seats ++ s ∷ [])
+      IsReady o n who s.seat.inner.me → s.spare ≡ o → s.processes ≡ n → s.who ≡ who → s.stored.fills ≡ replicate 16 0 →
+      s.stored.reads ≡ replicate 16 2 → DealtTo id n o (who + 1) rest' (seats ++ s ∷ [])
   dealt_more id n o who rest rest' seats s l most h table me mine ready opens many number fills reads =
       let now = next_me id n o who rest seats l h in
       let is : ready.process ≡ known_by s = sym (ap process_of ready.one) in
@@ -128,9 +130,12 @@ module _ {T : Type 0} where
         let row = mine.0.rest.row j (subst (λ z. j < z) same lj) (λ e. ne (sym (e ∙ who_s))) in
         let column = theirs.0.rest.column i (subst (λ z. i < z) (sym same) li) (λ e. ne (e ∙ who_t)) in
         let k : ℕ = place n i j in
-        let inside : k < n * n = place_in n i j (subst (λ z. i < z) mine.0.processes li) (subst (λ z. j < z) theirs.0.processes lj) (λ e. ne (sym e)) in
-        let writes : of_cell Spent k v.parts ≡ Writer row.notes = (λ x. of_cell Spent (place (sym mine.0.processes x) (sym who_s x) j) v.parts) ∙ row.is in
-        let reads : of_cell Spent k u.parts ≡ Reader column.notes = (λ x. of_cell Spent (place (sym theirs.0.processes x) i (sym who_t x)) u.parts) ∙ column.is in
+        let inside : k < n * n = place_in n i j (subst (λ z. i < z) mine.0.processes li) (subst (λ z. j < z) theirs.0.processes lj)
+        (λ e. ne (sym e)) in
+        let writes : of_cell Spent k v.parts ≡ Writer row.notes =
+        (λ x. of_cell Spent (place (sym mine.0.processes x) (sym who_s x) j) v.parts) ∙ row.is in
+        let reads : of_cell Spent k u.parts ≡ Reader column.notes =
+        (λ x. of_cell Spent (place (sym theirs.0.processes x) i (sym who_t x)) u.parts) ∙ column.is in
         let done = ended.cells a.0 b.0 v u a.1 b.1 k inside row.notes column.notes writes reads in
         let w = sees_writes s.spare s.processes v j row.notes (λ e. ne (sym (e ∙ who_s))) row.is in
         let r = sees_reads t.spare t.processes u i column.notes (λ e. ne (e ∙ who_t)) column.is in

@@ -56,7 +56,8 @@ module _ {T : Type 0} (o : T) (n : ℕ) where
             let away : i ≢ k = λ e. nw (ap (writer_of n) e ∙ writer_there n v.who j r.inside lj ne) in
             ap receipt_for (get_set_else v.parts k i (Writer p) Spent away) ∙ r.quiet i nw;
         row = λ i li nw. ⊎_elim
-            (λ (e : i ≡ j). subst (λ z. IsRow o (place n v.who z) (of_cell Spent (place n v.who z) (set v.parts k (Writer p))) cs' (among v.who z)
+            (λ (e : i ≡ j). subst (λ z. IsRow o (place n v.who z) (of_cell Spent (place n v.who z) (set v.parts k (Writer p))) cs'
+            (among v.who z)
             (get_or fills' z 0)) (sym e)
             (record {
               notes = p;
@@ -92,14 +93,15 @@ module _ {T : Type 0} (o : T) (n : ℕ) where
               opened = old.opened;
               low = old.low;
               numbered = old.numbered;
-              slot = new.others ((n - 1) + among v.who i) (λ (e : (n - 1) + among v.who i ≡ among v.who j). absurd (omega arith)) ∙ old.slot;
+              slot = new.others ((n - 1) + among v.who i) (λ (e : (n - 1) + among v.who i ≡ among v.who j). absurd (omega arith))
+                  ∙ old.slot;
             };
       }
 
   -- and after a read from process j
   pub rest_read : (v : Process V) (fills reads reads' : List ℕ) (cs cs' : List (ℕ × T)) (j : ℕ) (g : ReaderNotes T) (clock : ℕ)
-      (times held : List ℕ) → j < n → j ≢ v.who → IsAtRest o n v fills reads cs → g.has ≡ 1 → g.asked ≡ 0 → g.opening.value ≡ o → g.slot < 3 →
-      length reads' ≡ length reads → get_or reads' j 0 ≡ g.slot → ((i : ℕ) → i ≢ j → get_or reads' i 0 ≡ get_or reads i 0) →
+      (times held : List ℕ) → j < n → j ≢ v.who → IsAtRest o n v fills reads cs → g.has ≡ 1 → g.asked ≡ 0 → g.opening.value ≡ o →
+      g.slot < 3 → length reads' ≡ length reads → get_or reads' j 0 ≡ g.slot → ((i : ℕ) → i ≢ j → get_or reads' i 0 ≡ get_or reads i 0) →
       Replaced cs cs' ((n - 1) + among v.who j) (slot_at (place n j v.who) g.slot, g.at_hand.value) → IsRotated held (held_slots cs') →
       IsAtRest o n (goes_on v (place n j v.who) (Reader g) clock times held) fills reads' cs'
   rest_read v fills reads reads' cs cs' j g clock times held lj ne r took free opened low size number same new turned =
@@ -120,7 +122,8 @@ module _ {T : Type 0} (o : T) (n : ℕ) where
             (cases_eq i k);
         row = λ i li nw.
             let old = r.row i li nw in
-            let away : place n v.who i ≢ k = λ e. ne (sym (place_apart n v.who i j v.who r.inside li nw lj r.inside (λ h. ne (sym h)) e).0) in
+            let away : place n v.who i ≢ k =
+            λ e. ne (sym (place_apart n v.who i j v.who r.inside li nw lj r.inside (λ h. ne (sym h)) e).0) in
             let m : among v.who i < n - 1 = among_small n v.who i r.inside li nw in
             record {
               notes = old.notes;

@@ -1,5 +1,6 @@
 -- A call's slot comes first, another one takes its place, and the slots are turned back.
-use Rattle.std.proofs.Common.{◌≡◌, ◌≢◌, ℕ, zero, suc, ◌+◌, ◌*◌, ◌-◌, ◌<◌, ◌≤◌, List, [], ◌∷◌, ◌++◌, length, refl, sym, ap, ◌∙◌, subst, arith, length-append, mul-le-mul_right}
+use Rattle.std.proofs.Common.{◌≡◌, ◌≢◌, ℕ, zero, suc, ◌+◌, ◌*◌, ◌-◌, ◌<◌, ◌≤◌, List, [], ◌∷◌, ◌++◌, length, refl, sym, ap, ◌∙◌, subst}
+use Rattle.std.proofs.Common.{arith, length-append, mul-le-mul_right}
 use mathlib.Core.Option.{some}
 use lib.ListN.{get_elem?}
 use Rattle.cell_live.specs.Running.{held_slots}
@@ -21,21 +22,23 @@ replaced_at front back x y = record {
   at [] back y = refl
   at (z ∷ front) back y = at front back y
 
-  else_same : {A : Type 0} (front back : List A) (x y : A) (i : ℕ) → i ≢ length front → get_elem? (front ++ y ∷ back) i ≡ get_elem? (front ++ x ∷ back) i
+  else_same : {A : Type 0} (front back : List A) (x y : A) (i : ℕ) → i ≢ length front →
+      get_elem? (front ++ y ∷ back) i ≡ get_elem? (front ++ x ∷ back) i
   else_same [] back x y zero ne = absurd (ne refl)
   else_same [] back x y (suc i) ne = refl
   else_same (z ∷ front) back x y zero ne = refl
   else_same (z ∷ front) back x y (suc i) ne = else_same front back x y i (λ e. ne (ap suc e))
 
 module _ {T : Type 0} where
-  pub replaced : (cs cs' front back : List (ℕ × T)) (x y : ℕ × T) (at : ℕ) → cs ≡ front ++ x ∷ back → cs' ≡ front ++ y ∷ back → length front ≡ at →
-      Replaced cs cs' at y
+  pub replaced : (cs cs' front back : List (ℕ × T)) (x y : ℕ × T) (at : ℕ) → cs ≡ front ++ x ∷ back → cs' ≡ front ++ y ∷ back →
+      length front ≡ at → Replaced cs cs' at y
   replaced cs cs' front back x y at is is' long =
-      subst (λ (z : List (ℕ × T) × List (ℕ × T) × ℕ). Replaced z.0 z.1 z.2 y) (λ i. (sym is i, sym is' i, long i)) (replaced_at front back x y)
+      subst (λ (z : List (ℕ × T) × List (ℕ × T) × ℕ). Replaced z.0 z.1 z.2 y) (λ i. (sym is i, sym is' i, long i))
+      (replaced_at front back x y)
 
   -- as many as stand behind
-  pub behind_long : (cs front back : List (ℕ × T)) (x y : ℕ × T) (at all : ℕ) → cs ≡ front ++ x ∷ back → length front ≡ at → length cs ≡ all →
-      length (y ∷ back) ≡ all - at
+  pub behind_long : (cs front back : List (ℕ × T)) (x y : ℕ × T) (at all : ℕ) → cs ≡ front ++ x ∷ back → length front ≡ at →
+      length cs ≡ all → length (y ∷ back) ≡ all - at
   behind_long cs front back x y at all is long many =
       let e : length cs ≡ length front + length (x ∷ back) = ap length is ∙ length-append front (x ∷ back) in
       let f : length (x ∷ back) ≡ length back + 1 = omega arith in

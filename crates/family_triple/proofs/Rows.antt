@@ -22,7 +22,8 @@ module _ {T : Type 0} (f : TripleFamily T) (item : T) (start : TripleSeat T) whe
   Row = OneByOne (IsWriteTo (IsSeat f) number_of clock_of times_of writes_of reads_of 1 item) (number_of start) start
 
   pub row_seat : (count : ℕ) (now : TripleSeat T) → IsSeat f start → Row count now → IsSeat f now × (number_of now ≡ number_of start)
-  row_seat count now own r = row_own (IsSeat f) number_of clock_of times_of writes_of reads_of 1 item (number_of start) start count now r own
+  row_seat count now own r =
+      row_own (IsSeat f) number_of clock_of times_of writes_of reads_of 1 item (number_of start) start count now r own
 
   pub row_before : (Rises : T → T → Type 0) (now : TripleSeat T) (to : ℕ) → Row to now → to < start.who →
       Rises (last_or (opening_of f) (writes_of start to).items) item → Rises (last_or (opening_of f) (writes_of now to).items) item

@@ -137,8 +137,10 @@ module _ {S V : Type 0} (blank : V) (l : Layout) (is : IsLayout l) where
                 (λ (e : j ≡ k). subst (λ z. Rule t (cell blank l z (set s.words (l.word k i) m) homes' P' r.receipts)) (sym e)
                 (subst (Rule t) (sym (same_cell s.words s.homes r.processes r.receipts k i m who u c behind w a lw lh lk li inside_list own
                 inside proper fine)) rule))
-                (λ (ne : j ≢ k). subst (Rule t) (sym (other_cell s.words s.homes r.processes r.receipts k j i m who v u c behind a lh lk ne li there
-                (get_set_else v.parts k j w blank ne) inside proper fine)) (later r.now t (cell blank l j s.words s.homes r.processes r.receipts)
+                (λ (ne : j ≢ k). subst (Rule t)
+                (sym (other_cell s.words s.homes r.processes r.receipts k j i m who v u c behind a lh lk ne li there
+                (get_set_else v.parts k j w blank ne) inside proper fine))
+                (later r.now t (cell blank l j s.words s.homes r.processes r.receipts)
                 on (r.cells j lj)))
                 (cases_eq j k);
             numbered = λ j z e. ⊎_elim
@@ -194,8 +196,8 @@ module _ {S V : Type 0} (blank : V) (l : Layout) (is : IsLayout l) where
     pub steps_at : (s : State S (View V)) (r : F s) (id k m : ℕ) (v : Process V) (c behind : List (ℕ × S)) (then : ℕ → Me S V → Type 0) →
         get_elem? s.views id ≡ some (Has (v ∷ [])) → 0 < l.cell_words → k < l.cells →
         k < length v.parts → Inside l.cell_slots c → IsRotated v.held (held_slots (shift (l.slot k) c ++ behind)) →
-        Outcome Rule (cell blank l k s.words s.homes r.processes r.receipts) (r.now + 1) v.who (of_cell blank k v.parts, c) m (then (r.now + 1)) →
-        Allowed F s id (l.word k 0) (Has (v ∷ []), shift (l.slot k) c ++ behind) m
+        Outcome Rule (cell blank l k s.words s.homes r.processes r.receipts) (r.now + 1) v.who (of_cell blank k v.parts, c) m
+        (then (r.now + 1)) → Allowed F s id (l.word k 0) (Has (v ∷ []), shift (l.slot k) c ++ behind) m
         (StepTells blank l.slot k v [] behind (λ t _ x. then t x) 0)
     steps_at s r id k m v c behind then at li lk has inside turned x =
         let t : ℕ = r.now + 1 in
@@ -213,7 +215,8 @@ module _ {S V : Type 0} (blank : V) (l : Layout) (is : IsLayout l) where
         (λ (b : (y ≡ length r.steps) × (who ≡ z)). subst (λ q. q < n) b.1 (let g : who < n = omega arith in g))
         (get_pushed_cases r.steps who y z e))
         (ap (λ zs. zs ++ t ∷ []) (r.made who v there)
-        ∙ (ap (λ z. positions 1 who r.steps ++ z ∷ []) (let d : t ≡ 1 + length r.steps = omega arith in d) ∙ sym (positions_mine 1 who r.steps)))
+        ∙ (ap (λ z. positions 1 who r.steps ++ z ∷ []) (let d : t ≡ 1 + length r.steps = omega arith in d)
+        ∙ sym (positions_mine 1 who r.steps)))
         (λ j ne. positions_other 1 j who r.steps (λ h. ne (sym h))) x.2 x.3 x.4 in
         let carried_is = carried_shift (l.slot k) c behind x.1 x.2 in
         let by : v.clock ≤ r.now = r.clocks who v there in (

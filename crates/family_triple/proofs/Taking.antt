@@ -1,5 +1,6 @@
 -- A process takes its first slots, one of each cell of its row and its column: each goes behind those that were taken before.
-use Rattle.std.proofs.Common.{◌≡◌, ◌≢◌, ◌⊎◌, ℕ, zero, suc, ◌+◌, ◌*◌, ◌-◌, ◌<◌, ◌≤◌, Bool, true, false, nat_eq, cond, List, [], ◌∷◌, ◌++◌, length, set, get_or}
+use Rattle.std.proofs.Common.{◌≡◌, ◌≢◌, ◌⊎◌, ℕ, zero, suc, ◌+◌, ◌*◌, ◌-◌, ◌<◌, ◌≤◌, Bool, true, false, nat_eq, cond, List, [], ◌∷◌, ◌++◌}
+use Rattle.std.proofs.Common.{length, set, get_or}
 use Rattle.std.proofs.Common.{refl, sym, ap, ◌∙◌, subst, arith, ⊎_elim, inl, inr, length-append}
 use Rattle.std.proofs.lemmas.Bool.{cases_eq, cases_lt}
 use Rattle.std.proofs.lemmas.List.{map-append}
@@ -70,13 +71,14 @@ new_last (y ∷ xs) x = new_last xs x
 
 module _ {T : Type 0} where
   -- of m cells of one kind the first have given their slot
-  pub record Taken (cell : ℕ → ℕ) (w w' : TripleSight T) (number : ℕ) (o : T) (m many base : ℕ) (parts : List (TripleSight T)) (cs : List (ℕ × T)) : Type 0 where
+  pub record Taken (cell : ℕ → ℕ) (w w' : TripleSight T) (number : ℕ) (o : T) (m many base : ℕ) (parts : List (TripleSight T))
+      (cs : List (ℕ × T)) : Type 0 where
     pub done : (at : ℕ) → at < many →
         (of_cell Spent (cell at) parts ≡ w') × (get_elem? cs (base + at) ≡ some (slot_at (cell at) number, o))
     pub still : (at : ℕ) → many ≤ at → at < m → of_cell Spent (cell at) parts ≡ w
 
-  taken_more : (cell : ℕ → ℕ) (w w' : TripleSight T) (number : ℕ) (o : T) (m a base : ℕ) (parts : List (TripleSight T)) (cs : List (ℕ × T)) →
-      ((i j : ℕ) → i < m → j < m → cell i ≡ cell j → i ≡ j) → a < m → length cs ≡ base + a → cell a < length parts →
+  taken_more : (cell : ℕ → ℕ) (w w' : TripleSight T) (number : ℕ) (o : T) (m a base : ℕ) (parts : List (TripleSight T))
+      (cs : List (ℕ × T)) → ((i j : ℕ) → i < m → j < m → cell i ≡ cell j → i ≡ j) → a < m → length cs ≡ base + a → cell a < length parts →
       Taken cell w w' number o m a base parts cs →
       Taken cell w w' number o m (a + 1) base (set parts (cell a) w') (cs ++ (slot_at (cell a) number, o) ∷ [])
   taken_more cell w w' number o m a base parts cs once la long has h =
@@ -101,8 +103,8 @@ module _ {T : Type 0} where
       }
 
   -- a slot of another kind
-  taken_else : (cell : ℕ → ℕ) (w w' x : TripleSight T) (number : ℕ) (o : T) (m a base k : ℕ) (parts : List (TripleSight T)) (cs : List (ℕ × T)) (y : ℕ × T) →
-      ((i : ℕ) → i < m → cell i ≢ k) → a ≤ m → Taken cell w w' number o m a base parts cs →
+  taken_else : (cell : ℕ → ℕ) (w w' x : TripleSight T) (number : ℕ) (o : T) (m a base k : ℕ) (parts : List (TripleSight T))
+      (cs : List (ℕ × T)) (y : ℕ × T) → ((i : ℕ) → i < m → cell i ≢ k) → a ≤ m → Taken cell w w' number o m a base parts cs →
       Taken cell w w' number o m a base (set parts k x) (cs ++ y ∷ [])
   taken_else cell w w' x number o m a base k parts cs y away la h = record {
     done = λ at l. let old = h.done at l in (
@@ -201,7 +203,8 @@ module _ {T : Type 0} (o : T) (n who : ℕ) where
           there k (column_in n who at lw la)
           ∙ (ap (λ b. cond {A = TripleSight T} b (bare_writer o) (cond (nat_eq who (reader_of n k)) (bare_reader o) Spent))
           (not_same who (writer_of n k) (λ q. apart (q ∙ writer_there n j who lj lw apart)))
-          ∙ ap (λ b. cond {A = TripleSight T} b (bare_reader o) Spent) (yes_same who (reader_of n k) (sym (reader_there n j who lj lw apart))));
+          ∙ ap (λ b. cond {A = TripleSight T} b (bare_reader o) Spent)
+          (yes_same who (reader_of n k) (sym (reader_there n j who lj lw apart))));
     };
   } where
     there : (k : ℕ) → k < n * n → of_cell Spent k (first_process o n who).parts ≡ first_part o n who k
@@ -217,7 +220,8 @@ module _ {T : Type 0} (o : T) (n who : ℕ) where
 
   -- a slot of the row, and one of the column
   pub took_row : (a : ℕ) (me m m' : Me T (View (TripleSight T))) → who < n → a < n - 1 → (h : Taking o n who a 0 me) →
-      Beside h.v (row_cell n who a) (ready_writer o) ((slot_at (row_cell n who a) 0, o) ∷ me.1) m → m' ≡ (m.0, turned m.1) → Taking o n who (a + 1) 0 m'
+      Beside h.v (row_cell n who a) (ready_writer o) ((slot_at (row_cell n who a) 0, o) ∷ me.1) m → m' ≡ (m.0, turned m.1) →
+      Taking o n who (a + 1) 0 m'
   took_row a me m m' lw la h took turn =
       let k : ℕ = row_cell n who a in
       let y : ℕ × T = (slot_at k 0, o) in
@@ -235,9 +239,11 @@ module _ {T : Type 0} (o : T) (n who : ℕ) where
         held = (y.0 ∷ [], held_slots me.1, refl, map-append (λ (x : ℕ × T). x.0) me.1 (y ∷ []));
         many = length-append me.1 (y ∷ []) ∙ (let z : length me.1 + 1 ≡ (a + 1) + 0 = omega arith in z);
         plain = plain_more h.v.parts k (ready_writer o) has (refl, refl, λ nw. absurd (nw (row_writer n who a lw la))) h.plain;
-        row = taken_more (row_cell n who) (bare_writer o) (ready_writer o) 0 o (n - 1) a 0 h.v.parts me.1 (λ i j li lj e. row_once n who i j e) la
+        row = taken_more (row_cell n who) (bare_writer o) (ready_writer o) 0 o (n - 1) a 0 h.v.parts me.1
+            (λ i j li lj e. row_once n who i j e) la
             (omega arith) has h.row;
-        column = rebased (a + 1) (taken_else (column_cell n who) (bare_reader o) (ready_reader o) (ready_writer o) 2 o (n - 1) 0 a k h.v.parts me.1 y
+        column = rebased (a + 1) (taken_else (column_cell n who) (bare_reader o) (ready_reader o) (ready_writer o) 2 o
+            (n - 1) 0 a k h.v.parts me.1 y
             (λ i li e. row_column n who a i lw la li (sym e)) (omega arith) h.column);
       }) where
         rebased : (base : ℕ) {parts : List (TripleSight T)} {cs : List (ℕ × T)} → {b : ℕ} →
@@ -284,7 +290,8 @@ module _ {T : Type 0} (o : T) (n who : ℕ) where
       many = h.many ∙ (let z : (n - 1) + (n - 1) ≡ 2 * (n - 1) = omega arith in z);
       sized = (long_fills, long_reads);
       quiet = λ k nw. (h.plain k).2 (λ e. nw (e ∙ sym h.number));
-      row = λ j lj ne. subst (λ z. IsRow o (place n z j) (of_cell Spent (place n z j) h.v.parts) me.1 (among z j) (get_or fills j 0)) (sym h.number)
+      row = λ j lj ne. subst (λ z. IsRow o (place n z j) (of_cell Spent (place n z j) h.v.parts) me.1 (among z j) (get_or fills j 0))
+          (sym h.number)
           (let other : j ≢ who = λ e. ne (e ∙ sym h.number) in
           let d = h.row.done (among who j) (among_small n who j lw lj other) in
           let same : row_cell n who (among who j) ≡ place n who j = ap (place n who) (other_among who j other) in
@@ -299,7 +306,8 @@ module _ {T : Type 0} (o : T) (n who : ℕ) where
             slot = ap (get_elem? me.1) (let z : among who j ≡ 0 + among who j = omega arith in z)
                 ∙ (d.1 ∙ ap (λ z. some (slot_at z 0, o)) same);
           });
-      column = λ j lj ne. subst (λ z. IsColumn o (place n j z) (of_cell Spent (place n j z) h.v.parts) me.1 ((n - 1) + among z j) (get_or reads j 0))
+      column = λ j lj ne. subst
+          (λ z. IsColumn o (place n j z) (of_cell Spent (place n j z) h.v.parts) me.1 ((n - 1) + among z j) (get_or reads j 0))
           (sym h.number)
           (let apart : j ≢ who = λ e. ne (e ∙ sym h.number) in
           let d = h.column.done (among who j) (among_small n who j lw lj apart) in
@@ -318,9 +326,11 @@ module _ {T : Type 0} (o : T) (n who : ℕ) where
     unused = (
       h.fresh.0,
       h.fresh.1,
-      λ j. blank (nat_eq j h.v.who) (of_cell Spent (place n h.v.who j) h.v.parts) (λ z. writes_by (writer_or (first_writer o) z) ≡ no_writes) refl
+      λ j. blank (nat_eq j h.v.who) (of_cell Spent (place n h.v.who j) h.v.parts)
+          (λ z. writes_by (writer_or (first_writer o) z) ≡ no_writes) refl
           (h.plain (place n h.v.who j)).0,
-      λ j. blank (nat_eq j h.v.who) (of_cell Spent (place n j h.v.who) h.v.parts) (λ z. reads_by (reader_or (first_reader o) z) ≡ no_reads) refl
+      λ j. blank (nat_eq j h.v.who) (of_cell Spent (place n j h.v.who) h.v.parts)
+          (λ z. reads_by (reader_or (first_reader o) z) ≡ no_reads) refl
           (h.plain (place n j h.v.who)).1,
     );
   } where

@@ -103,10 +103,13 @@ module _ {T : Type 0} (fits : T → Type 0) (rises : T → T → Type 0) (o : T)
     -- the steps of the schedule, and the others, at a view that is known
     timed : (s : State T (View W)) (r : F s) (id k m : ℕ) (v : Process W) (w : W) (c behind : List (ℕ × T)) (then : ℕ → Me T W → Type 0) →
         get_elem? s.views id ≡ some (Has (v ∷ [])) → k < (triples n).cells → k < length v.parts → of_cell Spent k v.parts ≡ w → Inside 3 c →
-        IsRotated v.held (held_slots (shift (slot_at k) c ++ behind)) → Outcome Rule (Cell s r k) (r.now + 1) v.who (w, c) m (then (r.now + 1)) →
-        Allowed F s id (word_at k 0) (Has (v ∷ []), shift (slot_at k) c ++ behind) m (StepTells Spent slot_at k v [] behind (λ t _ x. then t x) 0)
+        IsRotated v.held (held_slots (shift (slot_at k) c ++ behind)) →
+        Outcome Rule (Cell s r k) (r.now + 1) v.who (w, c) m (then (r.now + 1)) →
+        Allowed F s id (word_at k 0) (Has (v ∷ []), shift (slot_at k) c ++ behind) m
+        (StepTells Spent slot_at k v [] behind (λ t _ x. then t x) 0)
     timed s r id k m v w c behind then at lk has is inside turned out =
-        steps_at Spent (triples n) (is_layout n) Rule rule_later n s r id k m v c behind then at (let z : 0 < 1 = omega arith in z) lk has inside
+        steps_at Spent (triples n) (is_layout n) Rule rule_later n s r id k m v c behind then at
+        (let z : 0 < 1 = omega arith in z) lk has inside
         turned (subst (λ (z : W). Outcome Rule (Cell s r k) (r.now + 1) v.who (z, c) m (then (r.now + 1))) (sym is) out)
 
     untimed : (s : State T (View W)) (r : F s) (id k m : ℕ) (v : Process W) (w : W) (c behind : List (ℕ × T)) (then : Me T W → Type 0) →
@@ -114,7 +117,8 @@ module _ {T : Type 0} (fits : T → Type 0) (rises : T → T → Type 0) (o : T)
         IsRotated v.held (held_slots (shift (slot_at k) c ++ behind)) → Outcome Rule (Cell s r k) r.now v.who (w, c) m then →
         Allowed F s id (word_at k 0) (Has (v ∷ []), shift (slot_at k) c ++ behind) m (TellsBeside slot_at k v behind then)
     untimed s r id k m v w c behind then at lk has is inside turned out =
-        steps_beside Spent (triples n) (is_layout n) Rule rule_later n s r id k m v c behind then at (let z : 0 < 1 = omega arith in z) lk has inside
+        steps_beside Spent (triples n) (is_layout n) Rule rule_later n s r id k m v c behind then at
+        (let z : 0 < 1 = omega arith in z) lk has inside
         turned (subst (λ (z : W). Outcome Rule (Cell s r k) r.now v.who (z, c) m then) (sym is) out)
 
     pub put_takes_ok : (slots id word k : ℕ) (me : Me T (View W)) (v : Process W) (p : WriterNotes T) → word ≡ word_at k 0 →
@@ -122,7 +126,8 @@ module _ {T : Type 0} (fits : T → Type 0) (rises : T → T → Type 0) (o : T)
         IsRotated v.held (held_slots me.1) → p.has ≡ 0 → Allows F slots id me word (λ m. m) (put_takes (step slots word 0 0 none) me)
     put_takes_ok slots id word k me v p at lk has who is turned bare =
         let cs : List (ℕ × T) = me.1 in
-        let here : Allows F slots id (Has (v ∷ []), cs) (word_at k 0) (λ m. m) (put_takes (step slots (word_at k 0) 0 0 none) (Has (v ∷ []), cs)) =
+        let here : Allows F slots id (Has (v ∷ []), cs) (word_at k 0) (λ m. m)
+        (put_takes (step slots (word_at k 0) 0 0 none) (Has (v ∷ []), cs)) =
         (λ s r long seen small.
         let view : W = Writer p in
         let c = r.cells k lk in
@@ -153,7 +158,8 @@ module _ {T : Type 0} (fits : T → Type 0) (rises : T → T → Type 0) (o : T)
         IsRotated v.held (held_slots me.1) → g.has ≡ 0 → Allows F slots id me word (λ m. m) (get_takes (step slots word 0 0 none) me)
     get_takes_ok slots id word k me v g at lk has who is turned bare =
         let cs : List (ℕ × T) = me.1 in
-        let here : Allows F slots id (Has (v ∷ []), cs) (word_at k 0) (λ m. m) (get_takes (step slots (word_at k 0) 0 0 none) (Has (v ∷ []), cs)) =
+        let here : Allows F slots id (Has (v ∷ []), cs) (word_at k 0) (λ m. m)
+        (get_takes (step slots (word_at k 0) 0 0 none) (Has (v ∷ []), cs)) =
         (λ s r long seen small.
         let view : W = Reader g in
         let c = r.cells k lk in
@@ -205,7 +211,8 @@ module _ {T : Type 0} (fits : T → Type 0) (rises : T → T → Type 0) (o : T)
         (subst (λ (z : T). rises (last_or z c.0.put.written) x) c.0.openings.0 h.3) h.4 in
         let out = subst (λ z. Outcome Rule (Cell s r k) t v.who (Writer p, own) new (then z t)) (found s r k)
         (y.0, y.1, y.2, y.3, y.4, (y.5, y.6)) in
-        let a = timed s r id k new v (Writer p) own cs (then nn) seen lk has is inside (subst (λ zs. IsRotated v.held (held_slots zs)) slots_are turned)
+        let a = timed s r id k new v (Writer p) own cs (then nn) seen lk has is inside
+        (subst (λ zs. IsRotated v.held (held_slots zs)) slots_are turned)
         out in
         (a.0, a.1, a.2, a.3, more nn (a.0, carried_after mine a.1) a.4)) in
         subst (λ (z : ℕ × Me T (View W)). Allows F slots id z.1 z.0 (λ _. new) (publishes (step slots z.0 new 0 none) z.1))
@@ -236,7 +243,8 @@ module _ {T : Type 0} (fits : T → Type 0) (rises : T → T → Type 0) (o : T)
     module _ (same : (a : T) → rises a a) (along : (a b c : T) → rises a b → rises b c → rises a c) where
       pub looks_ok : (slots id word k : ℕ) (me : Me T (View W)) (v : Process W) (g : ReaderNotes T) → word ≡ word_at k 0 →
           k < (triples n).cells → k < length v.parts → me.0 ≡ Has (v ∷ []) → of_cell Spent k v.parts ≡ Reader g →
-          IsRotated v.held (held_slots me.1) → g.asked ≡ 0 → Allows F slots id me word (λ m. m) (looks fits rises (step slots word 0 0 none) me)
+          IsRotated v.held (held_slots me.1) → g.asked ≡ 0 →
+          Allows F slots id me word (λ m. m) (looks fits rises (step slots word 0 0 none) me)
       looks_ok slots id word k me v g at lk has who is turned free =
           let cs : List (ℕ × T) = me.1 in
           let here : Allows F slots id (Has (v ∷ []), cs) (word_at k 0) (λ m. m)
@@ -300,7 +308,8 @@ module _ {T : Type 0} (fits : T → Type 0) (rises : T → T → Type 0) (o : T)
                       )),
                 )) is'
 
-            marked : (m : ℕ) (u : Me T (View W)) → 4 ≤ m → TellsBeside slot_at k v me.1 (looked fits rises (step 3 0 0 0 none) (Reader g, []) m) u →
+            marked : (m : ℕ) (u : Me T (View W)) → 4 ≤ m →
+                TellsBeside slot_at k v me.1 (looked fits rises (step 3 0 0 0 none) (Reader g, []) m) u →
                 looks fits rises (step slots (word_at k 0) 0 0 none) (Has (v ∷ []), me.1) m u
             marked m u high h k' v' q w e is' =
                 let P : ℕ × Process W → Type 0 = λ z. of_cell Spent z.0 z.1.parts ≡ Reader q →
@@ -312,7 +321,8 @@ module _ {T : Type 0} (fits : T → Type 0) (rises : T → T → Type 0) (o : T)
                 × AreHeeded q.heard writes number) in
                 subst P (λ i. (same_place k k' w i, has_one v v' e i)) (λ known.
                 let d = h.2 q (sym is ∙ known) in (
-                  (λ _. beside v k h.0 (Reader (asked_by q m)) h.1 me.1 me.1 u (d.1 high) (ap (λ zs. shift (slot_at k) zs ++ me.1) d.0) h.3 h.4),
+                  (λ _. beside v k h.0 (Reader (asked_by q m)) h.1 me.1 me.1 u (d.1 high)
+                      (ap (λ zs. shift (slot_at k) zs ++ me.1) d.0) h.3 h.4),
                   (λ low. absurd (omega arith)),
                 )) is'
 
@@ -336,11 +346,14 @@ module _ {T : Type 0} (fits : T → Type 0) (rises : T → T → Type 0) (o : T)
           let nn : ℕ = get_or s.words (word_at k 0) 0 in
           let t : ℕ = r.now + 1 in
           let low : c.0.now ≤ r.now = c.1 in
-          let then : ℕ → ℕ → Me T W → Type 0 = λ z i m. get_swapped fits rises (step 3 0 new 0 none) (Reader g, own) z m × (clock_of m.0 ≡ i) in
-          let y = gets_at fits rises o same along (Cell s r k) c.0 t (omega arith) 3 v.who (Reader g, own) new known.1 h.0 h.1 h.2 h.3 h.4 in
+          let then : ℕ → ℕ → Me T W → Type 0 =
+          λ z i m. get_swapped fits rises (step 3 0 new 0 none) (Reader g, own) z m × (clock_of m.0 ≡ i) in
+          let y = gets_at fits rises o same along (Cell s r k) c.0 t (omega arith) 3 v.who
+          (Reader g, own) new known.1 h.0 h.1 h.2 h.3 h.4 in
           let out = subst (λ z. Outcome Rule (Cell s r k) t v.who (Reader g, own) new (then z t)) (found s r k)
           (y.0, y.1, y.2, y.3, y.4, (y.5, y.6)) in
-          let a = timed s r id k new v (Reader g) own cs (then nn) seen lk has is inside (subst (λ zs. IsRotated v.held (held_slots zs)) slots_are turned)
+          let a = timed s r id k new v (Reader g) own cs (then nn) seen lk has is inside
+          (subst (λ zs. IsRotated v.held (held_slots zs)) slots_are turned)
           out in
           (a.0, a.1, a.2, a.3, more nn (a.0, carried_after mine a.1) a.4)) in
           subst (λ (z : ℕ × Me T (View W)). Allows F slots id z.1 z.0 (λ _. new) (fetches fits rises (step slots z.0 new 0 none) z.1))

@@ -1,5 +1,6 @@
 -- A list begun at another place has the same elements, each as often. What goes behind the others is such a list still.
-use Rattle.std.proofs.Common.{◌≡◌, ◌⊎◌, ℕ, zero, suc, ◌+◌, ◌-◌, List, [], ◌∷◌, ◌++◌, length, refl, sym, ap, ◌∙◌, subst, ⊎_elim, inl, inr, arith, append_assoc, append-nil}
+use Rattle.std.proofs.Common.{◌≡◌, ◌⊎◌, ℕ, zero, suc, ◌+◌, ◌-◌, List, [], ◌∷◌, ◌++◌, length, refl, sym, ap, ◌∙◌, subst, ⊎_elim, inl, inr}
+use Rattle.std.proofs.Common.{arith, append_assoc, append-nil}
 use Rattle.std.proofs.lemmas.List.{map-append}
 use mathlib.Core.Option.{some, Option, some-ne-none, some-injective}
 use lib.ListN.{get_elem?}
@@ -39,7 +40,8 @@ module _ {A : Type 0} where
   )
 
   pub turned_in : (xs ys : List A) (x : A) → IsRotated xs ys → IsInCell x ys → IsInCell x xs
-  turned_in xs ys x t h = subst (IsInCell x) (sym t.2) (⊎_elim (λ (k : IsInCell x t.1). in_back t.0 t.1 x k) (λ (k : IsInCell x t.0). in_front t.0 t.1 x k)
+  turned_in xs ys x t h = subst (IsInCell x) (sym t.2)
+      (⊎_elim (λ (k : IsInCell x t.1). in_back t.0 t.1 x k) (λ (k : IsInCell x t.0). in_front t.0 t.1 x k)
       (in_parts t.1 t.0 x (subst (IsInCell x) t.3 h)))
 
   pub turned_distinct : (xs ys : List A) → IsRotated xs ys → Distinct xs → Distinct ys
@@ -70,10 +72,12 @@ turn_parts xs front (y ∷ back) c cs a b = (
 
 module _ {S : Type 0} where
   turn_again : (xs : List ℕ) (c : ℕ × S) (cs : List (ℕ × S)) → IsRotated xs (held_slots (c ∷ cs)) → IsRotated xs (held_slots (cs ++ c ∷ []))
-  turn_again xs c cs t = subst (IsRotated xs) (sym (map-append (λ (x : ℕ × S). x.0) cs (c ∷ []))) (turn_parts xs t.0 t.1 c.0 (held_slots cs) t.2 t.3)
+  turn_again xs c cs t = subst (IsRotated xs) (sym (map-append (λ (x : ℕ × S). x.0) cs (c ∷ [])))
+      (turn_parts xs t.0 t.1 c.0 (held_slots cs) t.2 t.3)
 
   -- two parts of a list change places
-  pub turned_round : (front back : List (ℕ × S)) (xs : List ℕ) → IsRotated xs (held_slots (front ++ back)) → IsRotated xs (held_slots (back ++ front))
+  pub turned_round : (front back : List (ℕ × S)) (xs : List ℕ) → IsRotated xs (held_slots (front ++ back)) →
+      IsRotated xs (held_slots (back ++ front))
   turned_round [] back xs t = subst (λ zs. IsRotated xs (held_slots zs)) (sym (append-nil back)) t
   turned_round (c ∷ front) back xs t = subst (λ zs. IsRotated xs (held_slots zs)) (append_assoc back (c ∷ []) front)
       (turned_round front (back ++ c ∷ []) xs

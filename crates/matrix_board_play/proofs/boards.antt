@@ -7,6 +7,7 @@ pub mod ColumnSteps
 pub mod Folds
 pub mod Holds
 pub mod Joined
+pub mod OneStep
 pub mod Outcomes
 pub mod Plays
 pub mod Reports

@@ -70,7 +70,8 @@ module _ {V F S T : Type 0} (family : FamilyWords F (Posted V) S T) (obeys : V �
       → ((t call : ℕ) → may_stop t call → ⊥) → length scripts ≡ tasks
       → ((k : ℕ) (t : List (Wish V)) → slice_get scripts k ≡ Some t
       → (next : ℕ) × Scripted words (counted (counted from k) 1) tasks calls next t)
-      → AreLanes obeys passes scripts before → ready ≡ before → EachStep (Ran family obeys may_call may_stop board) 0 ready after → seen ≡ after
+      → AreLanes obeys passes scripts before → ready ≡ before → EachStep (Ran family obeys may_call may_stop board) 0 ready after →
+      seen ≡ after
       → IsTally equal opening (map (λ l. l.log.items) seen) tally → IsRound words equal opening tasks from calls tally
   is_round words equal opening tasks from calls tally may_call may_stop board passes scripts before after ready seen never count scripted
       are begins ran ends told =

@@ -7,9 +7,7 @@ use crate::documents::Stopped;
 use crate::print;
 use crate::team::{A, B, Given, OPENING, Team};
 use board_live::{BoardError, Posted};
-use family_four_slot::FourSlotFamily;
 use family_live::Family;
-use family_triple::TripleFamily;
 use history_core::Band;
 use std::alloc::Global;
 use std::io;
@@ -119,7 +117,7 @@ fn print_given<const N: usize>(
 }
 
 /// Makes the call on a board over this family, and prints its answer.
-fn over<F: Family<Posted<Band>>>(rt: &impl Print, alloc: Global, call: Call) -> io::Result<()> {
+pub fn over<F: Family<Posted<Band>>>(rt: &impl Print, alloc: Global, call: Call) -> io::Result<()> {
     match call {
         Call::New(n) => match made::<F>(alloc, n) {
             Ok(passes) => println!(rt; "{passes} passes"),
@@ -132,34 +130,5 @@ fn over<F: Family<Posted<Band>>>(rt: &impl Print, alloc: Global, call: Call) -> 
         Call::Tell => print_given(rt, told::<F>(alloc)),
         Call::Beside => print_given(rt, beside::<F>(alloc)),
         Call::Renew { twice } => print_given(rt, renewed::<F>(alloc, twice)),
-    }
-}
-
-/// Makes the call on a board over the family of this name, and prints its answer.
-pub fn on(rt: &impl Print, alloc: Global, call: Call, family: &str) -> io::Result<()> {
-    match family {
-        "four_slots" => over::<FourSlotFamily<Posted<Band>>>(rt, alloc, call),
-        "triple" => over::<TripleFamily<Posted<Band>>>(rt, alloc, call),
-        _ => print::stopped(rt, Stopped::NoSuchCall),
-    }
-}
-
-/// Makes a board, and prints how many passes it has.
-pub fn new(rt: &impl Print, alloc: Global, on_what: &str) -> io::Result<()> {
-    match on_what {
-        "2_four_slots" => on(rt, alloc, Call::New(2), "four_slots"),
-        "16_four_slots" => on(rt, alloc, Call::New(16), "four_slots"),
-        "2_triple" => on(rt, alloc, Call::New(2), "triple"),
-        "16_triple" => on(rt, alloc, Call::New(16), "triple"),
-        _ => print::stopped(rt, Stopped::NoSuchCall),
-    }
-}
-
-/// Makes a board whose last process hears of the first, and prints what its calls and its end give.
-pub fn share(rt: &impl Print, alloc: Global, on_what: &str) -> io::Result<()> {
-    match on_what {
-        "2_four_slots" => on(rt, alloc, Call::Share(2), "four_slots"),
-        "16_four_slots" => on(rt, alloc, Call::Share(16), "four_slots"),
-        _ => print::stopped(rt, Stopped::NoSuchCall),
     }
 }

@@ -8,7 +8,8 @@ use std::alloc::{AllocError, Global};
 
 /// A write, and a read of its record.
 const CHECK: &str =
-    r#"{"kind":"check","opening":[0,0,0],"limit":9,"ops":[{"who":0,"kind":"write","begin":0,"end":4,"record":[1,1,1]},{"who":1,"kind":"read","begin":5,"end":9,"record":[1,1,1]}],"order":[0,1]}"#;
+    r#"{"kind":"check","opening":[0,0,0],"limit":9,"ops":[{"who":0,"kind":"write","begin":0,"end":4,"record":[1,1,1]},
+        {"who":1,"kind":"read","begin":5,"end":9,"record":[1,1,1]}],"order":[0,1]}"#;
 
 /// A write, and then a read.
 const CELL: &str =
@@ -32,15 +33,18 @@ const REFUSED: &str =
 
 /// A term of one write, and then another.
 const TERMS: &str =
-    r#"{"kind":"matrix","opening":[0,0,0],"terms":[{"limit":1,"plans":[[[1,1,1]],[]],"steps":[0,0]},{"limit":1,"plans":[[],[[2,2,2]]],"steps":[1,1]}]}"#;
+    r#"{"kind":"matrix","opening":[0,0,0],"terms":[{"limit":1,"plans":[[[1,1,1]],[]],"steps":[0,0]},
+        {"limit":1,"plans":[[],[[2,2,2]]],"steps":[1,1]}]}"#;
 
 /// A write over a composed board, and then a read.
 const BOARD: &str =
-    r#"{"kind":"board","opening":[0,0,0],"noise":[9,8,7],"limit":9,"plans":[[[1,1,1]],["read"]],"steps":[0,0,0,0,0,0,0,0,0,0,1,1,1,1,1,1,1,1,1,1]}"#;
+    r#"{"kind":"board","opening":[0,0,0],"noise":[9,8,7],"limit":9,"plans":[[[1,1,1]],["read"]],
+        "steps":[0,0,0,0,0,0,0,0,0,0,1,1,1,1,1,1,1,1,1,1]}"#;
 
 /// A term of one write over a composed board, and then one of another.
-const BOARD_TERMS: &str =
-    r#"{"kind":"board","opening":[0,0,0],"noise":[9,8,7],"terms":[{"limit":1,"plans":[[[1,1,1]],[]],"steps":[0,0,0,0,0,0,0,0,0,0]},{"limit":1,"plans":[[],[[2,2,2]]],"steps":[1,1,1,1,1,1,1,1,1,1]}]}"#;
+const BOARD_TERMS: &str = r#"{"kind":"board","opening":[0,0,0],"noise":[9,8,7],"terms":[
+        {"limit":1,"plans":[[[1,1,1]],[]],"steps":[0,0,0,0,0,0,0,0,0,0]},
+        {"limit":1,"plans":[[],[[2,2,2]]],"steps":[1,1,1,1,1,1,1,1,1,1]}]}"#;
 
 /// A task that writes and reads, and one that reads.
 const RACE: &str =

@@ -12,9 +12,7 @@ use crate::team::{A, OPENING};
 use board_live::{Board, Pass, Posted};
 use board_origins::{Origin, check_origin};
 use board_tasks::{Entry, Lane, OpenGate, finish_lanes, make_lanes, run_tasks};
-use family_four_slot::FourSlotFamily;
 use family_live::{Family, SharedFamily};
-use family_triple::TripleFamily;
 use history_core::{Band, Items, Wish};
 use stamps::Stamp;
 use std::alloc::{AllocError, Global};
@@ -216,7 +214,7 @@ pub enum Call {
 }
 
 /// Makes the call on a board over this family, and prints its answer.
-fn over<R: Print + Threads + Sync, F: SharedFamily<Posted<Band>>>(
+pub fn over<R: Print + Threads + Sync, F: SharedFamily<Posted<Band>>>(
     rt: &R,
     alloc: Global,
     call: Call,
@@ -252,19 +250,5 @@ fn print_logs(rt: &impl Print, logs: Result<Vec<Vec<Entry<Band>>>, AllocError>) 
             println!(rt; "{whole} whole logs of {}", logs.len())
         }
         Err(_) => print::stopped(rt, Stopped::NoMemory),
-    }
-}
-
-/// Makes the call on a board over the family of this name, and prints its answer.
-pub fn on<R: Print + Threads + Sync>(
-    rt: &R,
-    alloc: Global,
-    call: Call,
-    family: &str,
-) -> io::Result<()> {
-    match family {
-        "four_slots" => over::<R, FourSlotFamily<Posted<Band>>>(rt, alloc, call),
-        "triple" => over::<R, TripleFamily<Posted<Band>>>(rt, alloc, call),
-        _ => print::stopped(rt, Stopped::NoSuchCall),
     }
 }

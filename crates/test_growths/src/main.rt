@@ -6,12 +6,14 @@ mod boards;
 mod calls;
 mod cells;
 mod documents;
+mod families;
 mod lanes;
 mod print;
 mod steps;
 mod team;
 
 use crate::documents::Stopped;
+use crate::families::Call;
 use std::alloc::Global;
 use std::io;
 use std::io::ErrorKind;
@@ -34,6 +36,20 @@ fn main(rt: HostRuntime) -> io::Result<()> {
     }
 }
 
+/// The call of this name on a board over a family.
+fn on_family(call: &str) -> Option<Call> {
+    Some(match call {
+        "new_board_beside" => Call::Board(boards::Call::Beside),
+        "renew_board" => Call::Board(boards::Call::Renew { twice: false }),
+        "renew_board_again" => Call::Board(boards::Call::Renew { twice: true }),
+        "tell_and_learn" => Call::Board(boards::Call::Tell),
+        "new_lane" => Call::Lanes(lanes::Call::New),
+        "run_tasks" => Call::Lanes(lanes::Call::Run),
+        "finish_lanes" => Call::Lanes(lanes::Call::Finish),
+        _ => return None,
+    })
+}
+
 fn make<R: Print + Threads + Sync>(rt: &R, alloc: Global, call: &str, on: &str) -> io::Result<()> {
     match call {
         "read_document" => calls::read(rt, alloc, on),
@@ -42,15 +58,11 @@ fn make<R: Print + Threads + Sync>(rt: &R, alloc: Global, call: &str, on: &str) 
         "step_cell" => steps::step(rt, on),
         "new_matrix" => calls::new_matrix(rt, alloc, on),
         "make_cell" => cells::make(rt, alloc, on),
-        "new_board" => boards::new(rt, alloc, on),
-        "family_board" => boards::share(rt, alloc, on),
-        "new_board_beside" => boards::on(rt, alloc, boards::Call::Beside, on),
-        "renew_board" => boards::on(rt, alloc, boards::Call::Renew { twice: false }, on),
-        "renew_board_again" => boards::on(rt, alloc, boards::Call::Renew { twice: true }, on),
-        "tell_and_learn" => boards::on(rt, alloc, boards::Call::Tell, on),
-        "new_lane" => lanes::on(rt, alloc, lanes::Call::New, on),
-        "run_tasks" => lanes::on(rt, alloc, lanes::Call::Run, on),
-        "finish_lanes" => lanes::on(rt, alloc, lanes::Call::Finish, on),
-        _ => print::stopped(rt, Stopped::NoSuchCall),
+        "new_board" => families::new(rt, alloc, on),
+        "family_board" => families::share(rt, alloc, on),
+        _ => match on_family(call) {
+            Some(call) => families::on(rt, alloc, call, on),
+            None => print::stopped(rt, Stopped::NoSuchCall),
+        },
     }
 }

@@ -21,7 +21,8 @@ use Rattle.four_slot_core.proofs.traces.Laws.{moments_of_more, moments_of_rise, 
 use Rattle.stamps.specs.declared.stamp.Stamped.{Stamped}
 use Rattle.matrix_core.specs.Lines.{first_record, other}
 use Rattle.matrix_core.specs.ByAccesses.{column, row}
-use Rattle.matrix_board_play.specs.Boards.{cell_moments, cell_trace, Event, event_after, events_after, is_read_of, is_write_of, noise_record}
+use Rattle.matrix_board_play.specs.Boards.{cell_moments, cell_trace, Event, event_after, events_after, is_read_of, is_write_of}
+use Rattle.matrix_board_play.specs.Boards.{noise_record}
 use Rattle.matrix_board_play.specs.Boards.{turn_in}
 use Rattle.matrix_core.proofs.lines.Others.{other_above, other_below, other_differs}
 use Rattle.matrix_board_play.proofs.boards.CellPlaces.{AreFives, no_fives, none_of_five, one_of_five}

@@ -30,7 +30,8 @@ use Rattle.matrix_core.proofs.terms.Kinds.{kind_of}
 use Rattle.matrix_core.specs.inner.Operations.{begun_op, chose, ended}
 use Rattle.matrix_core.specs.ByAccesses.{IsCut}
 use Rattle.matrix_board_play.specs.BoardEvents.{after_event, Board, board_size, opening_board, slot_of}
-use Rattle.matrix_board_play.specs.inner.BoardPlays.{after_board_step, board_seat, choosing, first_board_seat, happened, moved, next_seat, noted}
+use Rattle.matrix_board_play.specs.inner.BoardPlays.{after_board_step, board_seat, choosing, first_board_seat, happened, moved, next_seat}
+use Rattle.matrix_board_play.specs.inner.BoardPlays.{noted}
 use Rattle.matrix_board_play.specs.inner.BoardPlays.{opened, opening_board_play, BoardPlaying, told_ops, told_stamps}
 use Rattle.matrix_board_play.specs.BoardSteps.{board_after, chosen_in, wish_after, wish_or_read}
 use Rattle.matrix_board_play.proofs.boards.Outcomes.{outcome_in}

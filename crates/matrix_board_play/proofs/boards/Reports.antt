@@ -14,14 +14,12 @@ use Rattle.stamps.specs.declared.stamp.Stamp.{Stamp}
 use Rattle.matrix_core.specs.declared.progress.Progress.{Progress}
 use Rattle.matrix_core.specs.Lines.{choice, other}
 use Rattle.matrix_core.proofs.terms.Kinds.{kind_of}
-use Rattle.stamps.specs.Choices.{Choice, HasChoices}
 use Rattle.matrix_core.specs.ByAccesses.{choice_at, chooses_at, IsCut}
 use Rattle.matrix_board_play.specs.Boards.{cell_trace, IsBoardRun}
 use Rattle.matrix_core.proofs.terms.Kinds.{kind_chosen}
 use Rattle.matrix_board_play.specs.BoardSteps.{chosen_in}
 use Rattle.matrix_board_play.proofs.boards.Outcomes.{outcome_in}
 use Rattle.matrix_board_play.proofs.boards.Folds.{saw_of, sees_of}
-use Rattle.matrix_board_play.proofs.boards.Runs.{board_chooses}
 use Rattle.matrix_board_play.proofs.boards.Traces.{Saw}
 use Rattle.matrix_core.proofs.choices.ByAccesses.{in_done}
 use Rattle.matrix_core.proofs.terms.Told.{IsTold, IsToldOf}

@@ -15,7 +15,8 @@ use Rattle.matrix_board_play.specs.declared.board_term.BoardSeat.{BoardSeat}
 use Rattle.matrix_core.specs.inner.Operations.{begun_op, changed, chose, ended}
 use Rattle.matrix_board_play.specs.BoardEvents.{after_event, Board, slot_of}
 use Rattle.matrix_board_play.specs.inner.BoardPlays.{board_seat, CanHappen, CanStep, choosing, first_board_seat, happened, moved, next_seat}
-use Rattle.matrix_board_play.specs.inner.BoardPlays.{noted, opened, opened_first, BoardPlaying, plays, after_board_step, told_ops, told_stamps}
+use Rattle.matrix_board_play.specs.inner.BoardPlays.{noted, opened, opened_first, BoardPlaying, plays, after_board_step, told_ops}
+use Rattle.matrix_board_play.specs.inner.BoardPlays.{told_stamps}
 use Rattle.matrix_board_play.specs.inner.BoardPlays.{wish_now}
 use Rattle.matrix_core.proofs.terms.Steps.{changed_is}
 use Rattle.matrix_core.proofs.lists.Elements.{not_same, same}

@@ -54,5 +54,6 @@ returns g c =
     controlled g.F.Family c.in_ok-board.board c.join-limits.result c.join-readings.result c.join-steering.result.0 back.limits_calls
     back.readings_calls back.steering_calls back.limits back.readings back.steering g.M.Motor.was_sent c.args.opening c.in_ok-last.last
     c.args.motor c.join-steering.result.1 dealt.opened dealt.limited dealt.three back.drives
-    (subst (λ z. HaveAtomicOrder g.F.Family z (c.join-limits.result ∷ c.join-readings.result ∷ c.join-steering.result.0 ∷ []) c.in_ok-last.last)
+    (subst (λ z. HaveAtomicOrder g.F.Family z
+    (c.join-limits.result ∷ c.join-readings.result ∷ c.join-steering.result.0 ∷ []) c.in_ok-last.last)
     same c.in_ok-last.ensures)

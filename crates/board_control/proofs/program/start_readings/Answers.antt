@@ -12,7 +12,8 @@ start-requires-after_bounds g c κs within =
 
 pub returns-clause-board : goal.returns-clause-board
 returns-clause-board g c =
-    IfOk-weaker c.start.result _ _ (λ h e. ap (λ z. z.board) (ap arc_value (ap (λ t. t.shared) e) ∙ c.in_ok-try_clone.ensures)) c.start.ensures
+    IfOk-weaker c.start.result _ _
+    (λ h e. ap (λ z. z.board) (ap arc_value (ap (λ t. t.shared) e) ∙ c.in_ok-try_clone.ensures)) c.start.ensures
 
 pub returns-clause-pass : goal.returns-clause-pass
 returns-clause-pass g c = IfOk-weaker c.start.result _ _ (λ h e. ap (λ t. t.pass) e) c.start.ensures

@@ -33,8 +33,22 @@ returns g c =
     let heard = c.learn.ensures.learnt.time in
     let begins = read.interval.0 in
     crossed g.F.Family c.args.board w r c.args.item c.finish-last.result
-    (record { begin = write.begin; end = write.end; kind = Write; seen = stamped c.in-Ok.ensures.call.0; chosen = stamped c.write.new.pass.own; tells = write.tells })
-    (record { begin = read.begin; end = read.end; kind = Read; seen = stamped c.read-seen.result; chosen = stamped r.own; tells = read.tells }) atomic
+    (record {
+      begin = write.begin;
+      end = write.end;
+      kind = Write;
+      seen = stamped c.in-Ok.ensures.call.0;
+      chosen = stamped c.write.new.pass.own;
+      tells = write.tells;
+    })
+    (record {
+      begin = read.begin;
+      end = read.end;
+      kind = Read;
+      seen = stamped c.read-seen.result;
+      chosen = stamped r.own;
+      tells = read.tells;
+    }) atomic
     (c.tell-receipt.ensures.same.made _ (write.made [] c.requires.writer.none))
     (read.made [] (c.learn.ensures.same.made [] c.requires.reader.none)) refl refl (ap (λ z. z.item) chose.2)
     (omega (arith, wrote, told, heard, begins))

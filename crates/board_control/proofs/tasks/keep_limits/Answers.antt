@@ -9,7 +9,8 @@ loop-init g c = record { of = c.requires; calls = []; turns = no_turn }
 
 pub loop-preserved : goal.loop-preserved
 loop-preserved g c =
-    let run = has_run g.F.Family c.args.shared.now.board SetsLimits c.args.pass.now c.loop.invariant.calls _ c.loop.pass c.set_limits-set.new.pass
+    let run = has_run g.F.Family c.args.shared.now.board SetsLimits c.args.pass.now c.loop.invariant.calls _ c.loop.pass
+    c.set_limits-set.new.pass
     c.set_limits-set.result c.loop.invariant.turns (_, _, refl) c.set_limits-set.ensures.turn in
     record { of = c.set_limits-set.ensures.pass; calls = run.calls; turns = run.turns }
 

@@ -9,7 +9,8 @@ loop-init g c = record { of = c.requires; calls = []; turns = no_turn }
 
 pub loop-preserved : goal.loop-preserved
 loop-preserved g c =
-    let run = has_run g.F.Family c.args.shared.now.board Publishes c.args.pass.now c.loop.invariant.calls _ c.loop.pass c.publish-published.new.pass
+    let run = has_run g.F.Family c.args.shared.now.board Publishes c.args.pass.now c.loop.invariant.calls _ c.loop.pass
+    c.publish-published.new.pass
     c.publish-published.result c.loop.invariant.turns (_, refl) c.publish-published.ensures.turn in
     record { of = c.publish-published.ensures.pass; calls = run.calls; turns = run.turns }
 

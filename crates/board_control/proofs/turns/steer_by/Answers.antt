@@ -11,7 +11,8 @@ steer_when_told-requires-clause-pass g c =
 
 pub steer_when_told-requires-clause-other : goal.steer_when_told-requires-clause-other
 steer_when_told-requires-clause-other g c = λ e.
-    let two = (stood g.F.Family in_order c.args.board.now c.args.passes.now.items 3 2 c.index_mut.result.now (sym c.requires.three) (omega arith)
+    let two = (stood g.F.Family in_order c.args.board.now c.args.passes.now.items 3 2 c.index_mut.result.now (sym c.requires.three)
+    (omega arith)
     c.index_mut.ensures.value c.requires.all).1 in
     let one = c.requires.receipt.1 in
     omega (arith, e, one, two)
@@ -19,5 +20,6 @@ steer_when_told-requires-clause-other g c = λ e.
 pub returns : goal.returns
 returns g c =
     let x = used g.F.Family in_order c.args.board.now c.args.passes.now.items 3 2 c.index_mut.result.now c.steer_when_told.new.pass
-    (sym c.requires.three) (omega arith) c.index_mut.ensures.value c.requires.all c.steer_when_told.ensures.pass c.steer_when_told.ensures.process in
+    (sym c.requires.three) (omega arith) c.index_mut.ensures.value c.requires.all c.steer_when_told.ensures.pass
+    c.steer_when_told.ensures.process in
     (x.0, sym x.1)

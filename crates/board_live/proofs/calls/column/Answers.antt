@@ -15,7 +15,8 @@ returns g c =
     let of = c.requires.of in
     subst (λ z. HasReadColumn w obeys family z (c.args.processes - 1) old new.seat own new.seen) of.who
     (subst (λ z. HasReadColumn w obeys family (w.who old) (z - 1) old new.seat own new.seen) of.all
-    (column_read w obeys family (w.who old) old own of.seat c.requires.lawful (w.processes family - 1) (new.seat, new.seen) c.read_all_from.ensures))
+    (column_read w obeys family (w.who old) old own of.seat c.requires.lawful (w.processes family - 1)
+    (new.seat, new.seen) c.read_all_from.ensures))
 
 pub read_all_from-requires : goal.read_all_from-requires
 read_all_from-requires g c = search rules

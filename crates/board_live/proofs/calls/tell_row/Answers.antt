@@ -4,7 +4,8 @@ use Rattle.board_live.proofs.Accessing.{row_kept, row_told}
 use Rattle.board_live.proofs.calls.tell_row.Goals as goal
 
 pub returns-then-ne-clause-row : goal.returns-then-ne-clause-row
-returns-then-ne-clause-row g c = row_told g.F.Family c.args.family.now c.args.process (c.args.processes - 1) c.args.seat.now c.row.new.seat c.args.own.now
+returns-then-ne-clause-row g c =
+    row_told g.F.Family c.args.family.now c.args.process (c.args.processes - 1) c.args.seat.now c.row.new.seat c.args.own.now
     c.args.item.now c.row.ensures
 
 same_stamp : (g : _) (c : goal.Else-ne g) → c.args.own.now.stamp ≡ c.args.item.now.stamp

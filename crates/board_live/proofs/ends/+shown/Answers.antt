@@ -18,7 +18,8 @@ pub returns-in_default-clause-atomic : goal.returns-in_default-clause-atomic
 returns-in_default-clause-atomic g t c =
     let none : length c.args.passes.now.items ≡ 0 = let e = c.in_default.ensures.cases in omega (arith, e.0) in
     let is = c.reverse.ensures.items ∙ sym (order_none c.args.passes.now.items c.args.seats.now.items none) in
-    subst (λ xs. EachTwo (λ i j s t. IsAtomicCell (g.F.Family.opening c.args.family.now) (g.F.Family.writes s j) (g.F.Family.reads t i)) xs) is
+    subst (λ xs. EachTwo (λ i j s t. IsAtomicCell (g.F.Family.opening c.args.family.now) (g.F.Family.writes s j)
+    (g.F.Family.reads t i)) xs) is
     c.so_far.ensures.atomic
 
 pub shown-requires : goal.shown-requires
@@ -61,5 +62,6 @@ returns-clause-atomic g t c =
     let left = c.pop.new.self.items in
     let is : in_order left c.push_reserved.new.self.items ≡ in_order passes seats =
     ap (λ z. in_order left z) c.push_reserved.ensures.items ∙ order_more passes left seats c.in-Some.pass c.in-Some.ensures.items in
-    subst (λ xs. EachTwo (λ i j s t. IsAtomicCell (g.F.Family.opening c.args.family.now) (g.F.Family.writes s j) (g.F.Family.reads t i)) xs) is
+    subst (λ xs. EachTwo (λ i j s t. IsAtomicCell (g.F.Family.opening c.args.family.now) (g.F.Family.writes s j)
+    (g.F.Family.reads t i)) xs) is
     c.shown.ensures.atomic

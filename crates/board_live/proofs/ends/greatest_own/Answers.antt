@@ -11,7 +11,8 @@ loop-k-init g c = first_is c.args.passes.now.items c.index.result.now
 pub loop-k-preserved : goal.loop-k-preserved
 loop-k-preserved g c = greatest_more c.args.passes.now.items c.loop-k.k c.loop-k.last c.raise.new.self c.index-in-loop-k.result.now
     c.loop-k.invariant
-    (slice_get_read c.args.passes.now.items _ c.loop-k.k c.index-in-loop-k.result.now refl (search rules) c.index-in-loop-k.ensures) c.raise.ensures
+    (slice_get_read c.args.passes.now.items _ c.loop-k.k c.index-in-loop-k.result.now refl
+    (search rules) c.index-in-loop-k.ensures) c.raise.ensures
 
 pub returns : goal.returns
 returns g c =

@@ -31,7 +31,8 @@ loop-preserved g c =
     let m : length c.push_reserved-in-loop.new.self.items ≡ length c.loop.seats.items + 1 =
     ap length c.push_reserved-in-loop.ensures.items ∙ length-append c.loop.seats.items (c.in-Some-pop.pass.seat ∷ []) in (
       rw c.push_reserved-in-loop.ensures.items
-          (mapped_more (λ p. p.seat) c.args.passes.items c.loop.passes.items c.pop-in-loop.new.self.items c.loop.seats.items c.in-Some-pop.pass
+          (mapped_more (λ p. p.seat) c.args.passes.items c.loop.passes.items c.pop-in-loop.new.self.items c.loop.seats.items
+          c.in-Some-pop.pass
           h.0 c.in-Some-pop.ensures.items),
       omega (arith, n, h.1),
       omega (arith, m, h.2),

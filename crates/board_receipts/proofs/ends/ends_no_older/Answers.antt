@@ -11,7 +11,8 @@ finish-requires g c =
     let p = c.pass_on.new.p in
     let r = c.pass_on.new.r in
     let passes : c.push-3.new.self.items ≡ q ∷ p ∷ r ∷ [] = c.in_ok-push-3.ensures.items ∙ ap (λ z. z ++ r ∷ [])
-    (c.in_ok-push-2.ensures.items ∙ ap (λ z. z ++ p ∷ []) (c.in_ok-push.ensures.items ∙ ap (λ z. z ++ q ∷ []) c.in_ok-passes.ensures.items)) in
+    (c.in_ok-push-2.ensures.items
+    ∙ ap (λ z. z ++ p ∷ []) (c.in_ok-push.ensures.items ∙ ap (λ z. z ++ q ∷ []) c.in_ok-passes.ensures.items)) in
     let e = c.in-Some.ensures in
     subst (λ ps. AllPasses g.F.Family g.V.RecordLaw.obeys c.args.board ps) (sym passes)
     (three_passes g.F.Family c.args.board g.V.RecordLaw.obeys q p r c.requires.three e.q.0 (e.q.1 ∙ c.requires.q.who) e.p.0
@@ -24,7 +25,8 @@ returns g c =
     let p = c.pass_on.new.p in
     let r = c.pass_on.new.r in
     let passes : c.push-3.new.self.items ≡ q ∷ p ∷ r ∷ [] = c.in_ok-push-3.ensures.items ∙ ap (λ z. z ++ r ∷ [])
-    (c.in_ok-push-2.ensures.items ∙ ap (λ z. z ++ p ∷ []) (c.in_ok-push.ensures.items ∙ ap (λ z. z ++ q ∷ []) c.in_ok-passes.ensures.items)) in
+    (c.in_ok-push-2.ensures.items
+    ∙ ap (λ z. z ++ p ∷ []) (c.in_ok-push.ensures.items ∙ ap (λ z. z ++ q ∷ []) c.in_ok-passes.ensures.items)) in
     let atomic = subst (λ ps. HaveAtomicOrder g.F.Family board ps c.finish.result) passes c.finish.ensures.atomic in
     let h = c.in-Some.ensures.heard [] [] c.requires.q.none c.requires.r.none in
     let wrote = h.records.0 in

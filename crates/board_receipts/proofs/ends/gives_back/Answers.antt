@@ -35,8 +35,22 @@ returns g c =
     let tag : 0 < c.write.new.pass.own.stamp.tag =
     let a = ap (λ z. z.stamp.tag) chose.2 in let b = ap (λ z. z.tag) chose.1 in omega (arith, a, b) in
     let same = two_end g.F.Family c.args.board w r c.finish.result
-    (record { begin = write.begin; end = write.end; kind = Write; seen = stamped c.in-Ok.ensures.call.0; chosen = stamped c.write.new.pass.own; tells = write.tells })
-    (record { begin = read.begin; end = read.end; kind = Read; seen = stamped c.read-answer.result; chosen = stamped r.own; tells = read.tells }) c.requires.two
+    (record {
+      begin = write.begin;
+      end = write.end;
+      kind = Write;
+      seen = stamped c.in-Ok.ensures.call.0;
+      chosen = stamped c.write.new.pass.own;
+      tells = write.tells;
+    })
+    (record {
+      begin = read.begin;
+      end = read.end;
+      kind = Read;
+      seen = stamped c.read-answer.result;
+      chosen = stamped r.own;
+      tells = read.tells;
+    }) c.requires.two
     atomic (c.tell-receipt.ensures.same.made _ (write.made [] c.requires.writer.none))
     (read.made [] (c.learn.ensures.same.made [] c.requires.reader.none)) (omega (arith, wrote, told, heard, begins)) tag refl in
     sym (ap (λ z. z.item) c.read-answer.ensures.chosen) ∙ ap (λ z. z.item) same ∙ ap (λ z. z.item) chose.2

@@ -30,8 +30,22 @@ returns-clause-heard g c = λ qs rs hq hr.
     let heard_too = c.learn-2.ensures.learnt.time in
     let begins = read.interval.0 in
     record {
-      write = record { begin = write.begin; end = write.end; kind = _; seen = stamped seen; chosen = stamped c.write.new.pass.own; tells = write.tells };
-      read = record { begin = read.begin; end = read.end; kind = _; seen = stamped c.read-answer.result; chosen = stamped c.read-answer.new.pass.own; tells = read.tells };
+      write = record {
+        begin = write.begin;
+        end = write.end;
+        kind = _;
+        seen = stamped seen;
+        chosen = stamped c.write.new.pass.own;
+        tells = write.tells;
+      };
+      read = record {
+        begin = read.begin;
+        end = read.end;
+        kind = _;
+        seen = stamped c.read-answer.result;
+        chosen = stamped c.read-answer.new.pass.own;
+        tells = read.tells;
+      };
       wrote = c.tell-first.ensures.same.made _ (write.made qs hq);
       looked = read.made rs (c.learn-2.ensures.same.made rs hr);
       kinds = (refl, refl);

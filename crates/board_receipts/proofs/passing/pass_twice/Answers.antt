@@ -15,8 +15,22 @@ returns-clause-first g c = λ qs ps hq hp.
     let heard = c.learn.ensures.learnt.time in
     let begins = read.interval.0 in
     record {
-      write = record { begin = write.begin; end = write.end; kind = _; seen = stamped c.in-Ok.ensures.call.0; chosen = stamped c.write.new.pass.own; tells = write.tells };
-      read = record { begin = read.begin; end = read.end; kind = _; seen = stamped c.read-early.result; chosen = stamped c.read-early.new.pass.own; tells = read.tells };
+      write = record {
+        begin = write.begin;
+        end = write.end;
+        kind = _;
+        seen = stamped c.in-Ok.ensures.call.0;
+        chosen = stamped c.write.new.pass.own;
+        tells = write.tells;
+      };
+      read = record {
+        begin = read.begin;
+        end = read.end;
+        kind = _;
+        seen = stamped c.read-early.result;
+        chosen = stamped c.read-early.new.pass.own;
+        tells = read.tells;
+      };
       wrote = c.tell-told.ensures.same.made _ (write.made qs hq);
       looked = read.made ps (c.learn.ensures.same.made ps hp);
       kinds = (refl, refl);
@@ -36,8 +50,22 @@ returns-clause-second g c = λ qs rs hq hr.
     let heard = c.learn-2.ensures.learnt.time in
     let begins = read.interval.0 in
     record {
-      write = record { begin = write.begin; end = write.end; kind = _; seen = stamped c.in-Ok.ensures.call.0; chosen = stamped c.write.new.pass.own; tells = write.tells };
-      read = record { begin = read.begin; end = read.end; kind = _; seen = stamped c.read-late.result; chosen = stamped c.read-late.new.pass.own; tells = read.tells };
+      write = record {
+        begin = write.begin;
+        end = write.end;
+        kind = _;
+        seen = stamped c.in-Ok.ensures.call.0;
+        chosen = stamped c.write.new.pass.own;
+        tells = write.tells;
+      };
+      read = record {
+        begin = read.begin;
+        end = read.end;
+        kind = _;
+        seen = stamped c.read-late.result;
+        chosen = stamped c.read-late.new.pass.own;
+        tells = read.tells;
+      };
       wrote = c.tell-told.ensures.same.made _ (write.made qs hq);
       looked = read.made rs (c.learn-2.ensures.same.made rs hr);
       kinds = (refl, refl);

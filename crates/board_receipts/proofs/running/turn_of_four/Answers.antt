@@ -18,4 +18,7 @@ returns g c =
     let d = length (times c.read-seen.new.pass.seat) in
     let one = c.write.ensures.bounded in
     let two = c.read-seen.ensures.bounded in
-    record { within = twice a b d (within n w a b c.requires.four one.each one.accesses) (within n w b d c.requires.four two.each two.accesses) }
+    record {
+      within = twice a b d (within n w a b c.requires.four one.each one.accesses)
+          (within n w b d c.requires.four two.each two.accesses);
+    }

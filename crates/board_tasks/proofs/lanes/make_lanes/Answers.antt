@@ -6,7 +6,8 @@ use Rattle.board_tasks.proofs.lanes.make_lanes.Goals as goal
 
 pub loop-init : goal.loop-init
 loop-init g c = (
-  rw (c.into_vec-scripts.ensures, c.in_ok-lanes.ensures.items) (lanes_none g.F.Family g.V.RecordLaw.obeys c.args.passes.items c.args.scripts c.requires.counts),
+  rw (c.into_vec-scripts.ensures, c.in_ok-lanes.ensures.items)
+      (lanes_none g.F.Family g.V.RecordLaw.obeys c.args.passes.items c.args.scripts c.requires.counts),
   omega arith,
 )
 
@@ -23,7 +24,8 @@ loop-preserved g c =
     let n : length c.loop.passes.items ≡ length c.pop.new.self.items + 1 =
     ap length c.in-Some.ensures.items ∙ length-append c.pop.new.self.items (c.in-Some.pass ∷ []) in (
       rw c.in_ok-push-in-Ok.ensures.items
-          (lanes_more g.F.Family g.V.RecordLaw.obeys c.args.passes.items c.args.scripts c.loop.passes.items c.pop.new.self.items c.loop.scripts.items
+          (lanes_more g.F.Family g.V.RecordLaw.obeys c.args.passes.items c.args.scripts c.loop.passes.items c.pop.new.self.items
+          c.loop.scripts.items
           c.pop-in-loop.new.self.items c.loop.lanes.items
           c.in-Some.pass c.in-Some-pop.script c.in-Ok.lane c.loop.invariant.0 c.in-Some.ensures.items c.in-Some-pop.ensures.items
           (record { is = c.in-Ok.ensures.lane; has = made.0; plans = made.1 ∙ c.into_vec.ensures; empty = made.2 })),

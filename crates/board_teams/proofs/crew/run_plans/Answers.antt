@@ -21,7 +21,8 @@ returns g c =
     c.as_mut_slice.ensures.value c.run_tasks.ensures.lengths refl in
     let two = c.in-Ok.ensures.size.0 in
     subst (HaveWorked g.F.Family fits c.in-Ok.board) (sym whole)
-    (have_worked g.F.Family fits _ _ _ _ _ c.in-Ok.board c.in-Ok.passes.items c.in_ok-all.all c.as_mut_slice.result.now c.run_tasks.new.lanes c.in-Ok.ensures
+    (have_worked g.F.Family fits _ _ _ _ _ c.in-Ok.board c.in-Ok.passes.items c.in_ok-all.all c.as_mut_slice.result.now
+    c.run_tasks.new.lanes c.in-Ok.ensures
     (omega arith)
     (subst (λ z. AreLanes fits c.in-Ok.passes.items c.in_ok-all.all z) (sym c.as_mut_slice.ensures.value) c.in_ok-lanes.ensures)
     c.run_tasks.ensures)

@@ -17,5 +17,6 @@ loop-preserved g c =
       rw c.in_ok-push.ensures.items
           (all_snoc (λ t. IsPass g.F.Family no_law t.value.board.now t.value.pass) c.loop.tasks.items c.new.result c.loop.invariant.1
           (rw c.new.ensures
-          (all_at (IsPass g.F.Family no_law c.args.board.now) (left ++ pass ∷ []) left pass [] (sym (append-nil (left ++ pass ∷ []))) before))),
+          (all_at (IsPass g.F.Family no_law c.args.board.now) (left ++ pass ∷ []) left pass []
+          (sym (append-nil (left ++ pass ∷ []))) before))),
     )

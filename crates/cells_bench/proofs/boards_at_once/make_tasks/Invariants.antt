@@ -5,4 +5,5 @@ use Rattle.cells_bench.specs.Items.{no_law}
 use Rattle.cells_bench.proofs.boards_at_once.make_tasks.Given as goal
 
 abbrev pub invariant-loop : goal.invariant-loop
-invariant-loop g l = All (IsPass g.F.Family no_law l.board) l.passes.items × All (λ t. IsPass g.F.Family no_law t.value.board.now t.value.pass) l.tasks.items
+invariant-loop g l = All (IsPass g.F.Family no_law l.board) l.passes.items
+    × All (λ t. IsPass g.F.Family no_law t.value.board.now t.value.pass) l.tasks.items

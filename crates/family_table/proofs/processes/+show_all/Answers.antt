@@ -15,14 +15,18 @@ pub lift-next-requires-clause-own : goal.lift-next-requires-clause-own
 lift-next-requires-clause-own g t c =
     let left = c.pop.new.self.items in
     let seats = c.args.seats.now.items in
-    c.requires.own.1 (length left) c.in-Some.last (stood seats seats left [] c.in-Some.last (sym (append-nil seats)) c.in-Some.ensures.items)
+    c.requires.own.1 (length left) c.in-Some.last
+    (stood seats seats left [] c.in-Some.last (sym (append-nil seats)) c.in-Some.ensures.items)
 
 pub lift-next-requires-clause-some : goal.lift-next-requires-clause-some
 lift-next-requires-clause-some g t c =
     let left = c.pop.new.self.items in
     let seats = c.args.seats.now.items in
-    let last = c.in-Some.last in
-    (known_by last ∷ [], c.requires.one (length left) last (stood seats seats left [] last (sym (append-nil seats)) c.in-Some.ensures.items))
+    let last = c.in-Some.last in (
+      known_by last ∷ [],
+      c.requires.one (length left) last
+          (stood seats seats left [] last (sym (append-nil seats)) c.in-Some.ensures.items),
+    )
 
 pub put-requires-clause-own : goal.put-requires-clause-own
 put-requires-clause-own g t c =
@@ -60,11 +64,16 @@ show_all-next-requires g t c κs within =
               (
                 (
                   c.put.ensures.own.0 ∙ (c.lift-next.ensures.own.2 ∙ c.requires.own.1 (length left) last at),
-                  each_fewer (λ i s. s.seat.inner.table_id ≡ c.args.rows.now.inner.shared.table_id) seats left last c.in-Some.ensures.items c.requires.own.1,
+                  each_fewer (λ i s. s.seat.inner.table_id ≡ c.args.rows.now.inner.shared.table_id) seats left last c.in-Some.ensures.items
+                      c.requires.own.1,
                 ),
                 (
                   each_fewer (λ i s. s.seat.inner.me.0 ≡ Has (known_by s ∷ [])) seats left last c.in-Some.ensures.items c.requires.one,
-                  (known_by last ∷ ps.0, joined_in _ _ _ _ _ _ c.put.ensures.joined c.lift-next.ensures.lifted.1 (c.requires.one (length left) last at) ps.1),
+                  (
+                    known_by last ∷ ps.0,
+                    joined_in _ _ _ _ _ _ c.put.ensures.joined c.lift-next.ensures.lifted.1
+                        (c.requires.one (length left) last at) ps.1,
+                  ),
                 ),
               ),
             ),
@@ -114,8 +123,10 @@ returns-clause-same g t c =
     let one = c.requires.one (length left) last at in
     let ps = c.requires.bare in
     let whole = c.show_all-next.ensures.all.1 ∙ joined_in _ _ _ _ _ _ c.put.ensures.joined c.lift-next.ensures.lifted.1 one ps.1 in
-    let me = put_again _ _ _ _ _ c.put-2.ensures.joined c.lift-next.ensures.lifted.0 (c.part-one.ensures.parted.1 ∙ (λ i. (first_of ((whole i).0), []))) one in
-    let again = same_seat last c.put-2.new.seat (c.put-2.ensures.own.0 ∙ c.lift-next.ensures.own.0) (c.put-2.ensures.own.1 ∙ c.lift-next.ensures.own.1) me in (
+    let me = put_again _ _ _ _ _ c.put-2.ensures.joined c.lift-next.ensures.lifted.0
+    (c.part-one.ensures.parted.1 ∙ (λ i. (first_of ((whole i).0), []))) one in
+    let again = same_seat last c.put-2.new.seat (c.put-2.ensures.own.0 ∙ c.lift-next.ensures.own.0)
+    (c.put-2.ensures.own.1 ∙ c.lift-next.ensures.own.1) me in (
       c.push_reserved.ensures.items ∙ ((λ i. c.show_all-next.ensures.same.0 i ++ again i ∷ []) ∙ sym c.in-Some.ensures.items),
       c.push_reserved.ensures.capacity ∙ (c.show_all-next.ensures.same.1 ∙ c.pop.ensures.capacity),
     )

@@ -32,13 +32,15 @@ show_all-all-requires-clause-own g c =
     let last = c.in-Some.last in
     let at = stood seats seats left [] last (sym (append-nil seats)) c.in-Some.ensures.items in (
       c.lift-all.ensures.own.2 ∙ c.requires.own (length left) last at,
-      each_fewer (λ i s. s.seat.inner.table_id ≡ c.args.rows.now.inner.shared.table_id) seats left last c.in-Some.ensures.items c.requires.own,
+      each_fewer (λ i s. s.seat.inner.table_id ≡ c.args.rows.now.inner.shared.table_id) seats left last c.in-Some.ensures.items
+          c.requires.own,
     )
 
 pub show_all-all-requires-clause-one : goal.show_all-all-requires-clause-one
 show_all-all-requires-clause-one g c =
     let seats = c.args.seats.now.items in
-    each_fewer (λ i s. s.seat.inner.me.0 ≡ Has (known_by s ∷ [])) seats c.pop.new.self.items c.in-Some.last c.in-Some.ensures.items c.requires.one
+    each_fewer (λ i s. s.seat.inner.me.0 ≡ Has
+    (known_by s ∷ [])) seats c.pop.new.self.items c.in-Some.last c.in-Some.ensures.items c.requires.one
 
 pub show_all-all-requires-clause-bare : goal.show_all-all-requires-clause-bare
 show_all-all-requires-clause-bare g c =
@@ -76,7 +78,8 @@ returns-clause-same g c =
     let one = c.requires.one (length left) last at in
     let me = put_again _ _ _ _ _ c.put.ensures.joined c.lift-all.ensures.lifted.0
     (c.show_all-all.ensures.all.1 ∙ (c.lift-all.ensures.lifted.1 ∙ (λ i. (one i, [])))) one in
-    let again = same_seat last c.put.new.seat (c.put.ensures.own.0 ∙ c.lift-all.ensures.own.0) (c.put.ensures.own.1 ∙ c.lift-all.ensures.own.1) me in (
+    let again = same_seat last c.put.new.seat (c.put.ensures.own.0 ∙ c.lift-all.ensures.own.0)
+    (c.put.ensures.own.1 ∙ c.lift-all.ensures.own.1) me in (
       c.push_reserved.ensures.items ∙ ((λ i. c.show_all-all.ensures.same.0 i ++ again i ∷ []) ∙ sym c.in-Some.ensures.items),
       c.push_reserved.ensures.capacity ∙ (c.show_all-all.ensures.same.1 ∙ c.pop.ensures.capacity),
     )
@@ -89,5 +92,9 @@ returns-clause-shown g c =
     let at = stood seats seats left [] last (sym (append-nil seats)) c.in-Some.ensures.items in
     let one = c.requires.one (length left) last at in
     let h = c.show_all-all.ensures.shown (known_by last ∷ []) (c.lift-all.ensures.lifted.1 ∙ (λ i. (one i, []))) in
-    let P = λ (i : ℕ) (s : ProcessSeat g.row.T.Denot g.row.V.Denot g.row.X.Denot). (b : ℕ) × (get_elem? h.0 b ≡ some (known_by s)) in
-    (h.0, h.1, subst (λ xs. Each P xs) (sym c.in-Some.ensures.items) (each_more P left last (λ i s e. h.3 i s e) (h.2 0 (known_by last) refl)))
+    let P = λ (i : ℕ) (s : ProcessSeat g.row.T.Denot g.row.V.Denot g.row.X.Denot). (b : ℕ) × (get_elem? h.0 b ≡ some (known_by s)) in (
+      h.0,
+      h.1,
+      subst (λ xs. Each P xs) (sym c.in-Some.ensures.items)
+          (each_more P left last (λ i s e. h.3 i s e) (h.2 0 (known_by last) refl)),
+    )

@@ -13,15 +13,20 @@ part-seat-requires-clause-own g c = c.loop-who.invariant.0.table
 pub part-seat-requires-clause-some : goal.part-seat-requires-clause-some
 part-seat-requires-clause-some g c =
     let h = c.loop-who.invariant.0 in
-    let l : c.loop-who.who < c.args.n = omega (arith, c.loop-who-test.true, c.loop-who.auto.who-end) in
-    (_, _, ap (λ z. z.0) (next_me c.args.table.now.rows.inner.shared.table_id c.args.n c.args.first c.loop-who.who c.loop-who.rest c.loop-who.seats.items l h))
+    let l : c.loop-who.who < c.args.n = omega (arith, c.loop-who-test.true, c.loop-who.auto.who-end) in (
+      _,
+      _,
+      ap (λ z. z.0) (next_me c.args.table.now.rows.inner.shared.table_id c.args.n c.args.first c.loop-who.who c.loop-who.rest
+          c.loop-who.seats.items l h),
+    )
 
 pub take_slots-requires-clause-first : goal.take_slots-requires-clause-first
 take_slots-requires-clause-first g c =
     let h = c.loop-who.invariant.0 in
     let l : c.loop-who.who < c.args.n = omega (arith, c.loop-who-test.true, c.loop-who.auto.who-end) in
     c.part-seat.ensures.parted.1
-    ∙ (ap (λ z. (first_of z.0, [])) (next_me c.args.table.now.rows.inner.shared.table_id c.args.n c.args.first c.loop-who.who c.loop-who.rest
+    ∙ (ap (λ z. (first_of z.0, []))
+    (next_me c.args.table.now.rows.inner.shared.table_id c.args.n c.args.first c.loop-who.who c.loop-who.rest
     c.loop-who.seats.items l h)
     ∙ ap (λ o. (Has (first_process o c.args.n c.loop-who.who ∷ []), [])) (sym (ap (λ z. z.first) c.requires.key)))
 
@@ -41,7 +46,8 @@ loop-who-preserved g c =
             stored = record { fills = replicate 16 0; reads = replicate 16 2 };
             spare = c.args.first;
           }) l c.requires.few h part.own.0 part.parted.0 (c.take_slots.ensures.own ∙ part.own.1)
-          (subst (λ o. IsReady o c.args.n c.loop-who.who c.take_slots.new.seat.inner.me) (ap (λ z. z.first) c.requires.key) c.take_slots.ensures.ready)
+          (subst (λ o. IsReady o c.args.n c.loop-who.who c.take_slots.new.seat.inner.me)
+          (ap (λ z. z.first) c.requires.key) c.take_slots.ensures.ready)
           refl refl refl refl refl),
       c.push_reserved.ensures.capacity ∙ c.loop-who.invariant.1,
     )

@@ -6,20 +6,24 @@ use Rattle.family_triple.proofs.slots.newest.Goals as goal
 
 pub returns-then-found-lt4-clause-looked : goal.returns-then-found-lt4-clause-looked
 returns-then-found-lt4-clause-looked g c v q cs reader there low is =
-    looked_now g.T.Lawful.fits g.T.Lawful.rises c.args.table.now.rows.inner.shared.table_id.slots c.args.cell c.look-found.result c.args.slot v q cs c.args.seat.now.inner.me
+    looked_now g.T.Lawful.fits g.T.Lawful.rises c.args.table.now.rows.inner.shared.table_id.slots c.args.cell c.look-found.result
+    c.args.slot v q cs c.args.seat.now.inner.me
     c.look-found.new.seat.inner.me reader there low is c.look-found.ensures.looked (omega (arith, c.if-found-lt4.true))
 
 pub fetch-middle-requires-clause-marked : goal.fetch-middle-requires-clause-marked
 fetch-middle-requires-clause-marked g c =
     let t = c.requires.idle in
     let marked : 4 ≤ c.look-found.result = omega (arith, c.if-found-lt4.false) in (
-      asking g.T.Lawful.fits g.T.Lawful.rises c.args.table.now.rows.inner.shared.table_id.slots c.args.cell c.look-found.result c.args.slot t.0 t.1 t.2 c.args.seat.now.inner.me
+      asking g.T.Lawful.fits g.T.Lawful.rises c.args.table.now.rows.inner.shared.table_id.slots c.args.cell c.look-found.result c.args.slot
+          t.0 t.1 t.2 c.args.seat.now.inner.me
           c.look-found.new.seat.inner.me t.3 t.4 t.7 t.8 c.look-found.ensures.looked,
       asked_by t.1 c.look-found.result,
       t.2,
-      asked_reader g.T.Lawful.fits g.T.Lawful.rises c.args.table.now.rows.inner.shared.table_id.slots c.args.cell c.look-found.result c.args.slot t.0 t.1 t.2 c.args.seat.now.inner.me
+      asked_reader g.T.Lawful.fits g.T.Lawful.rises c.args.table.now.rows.inner.shared.table_id.slots c.args.cell c.look-found.result
+          c.args.slot t.0 t.1 t.2 c.args.seat.now.inner.me
           c.look-found.new.seat.inner.me t.3 t.4 t.7 t.8 c.look-found.ensures.looked marked,
-      asked_slots g.T.Lawful.fits g.T.Lawful.rises c.args.table.now.rows.inner.shared.table_id.slots c.args.cell c.look-found.result c.args.slot t.0 t.1 t.2 c.args.seat.now.inner.me
+      asked_slots g.T.Lawful.fits g.T.Lawful.rises c.args.table.now.rows.inner.shared.table_id.slots c.args.cell c.look-found.result
+          c.args.slot t.0 t.1 t.2 c.args.seat.now.inner.me
           c.look-found.new.seat.inner.me t.3 t.4 t.7 t.8 c.look-found.ensures.looked marked,
       t.5,
       refl,
@@ -28,6 +32,7 @@ fetch-middle-requires-clause-marked g c =
 
 pub returns-clause-looked : goal.returns-clause-looked
 returns-clause-looked g c v q cs reader there low is =
-    fetched_now g.T.Lawful.fits g.T.Lawful.rises c.args.table.now.rows.inner.shared.table_id.slots c.args.cell c.look-found.result c.args.slot v q cs c.args.seat.now.inner.me
+    fetched_now g.T.Lawful.fits g.T.Lawful.rises c.args.table.now.rows.inner.shared.table_id.slots c.args.cell c.look-found.result
+    c.args.slot v q cs c.args.seat.now.inner.me
     c.look-found.new.seat.inner.me reader there low is c.look-found.ensures.looked (omega (arith, c.if-found-lt4.false))
     c.fetch-middle.result c.args.slot c.fetch-middle.new.seat.inner.me c.fetch-middle.ensures.swapped

@@ -57,7 +57,8 @@ take_get-requires-clause-bare g c =
     let h = c.loop-at-2.invariant.1 in
     let la : at < n - 1 = omega (arith, c.loop-at-2-test.true, c.loop-at-2.auto.at-end) in
     let low : column_cell n who at < n * n = column_in n who at c.requires.inside la in
-    let is : c.place-in-loop-at-2.result ≡ column_cell n who at = c.place-in-loop-at-2.ensures ∙ ap (λ z. place n z who) c.other-in-loop-at-2.ensures in (
+    let is : c.place-in-loop-at-2.result ≡ column_cell n who at =
+    c.place-in-loop-at-2.ensures ∙ ap (λ z. place n z who) c.other-in-loop-at-2.ensures in (
       h.v,
       first_reader c.args.table.now.rows.inner.shared.key.first,
       record {
@@ -80,7 +81,8 @@ loop-at-2-preserved g c =
     let word : 8 * c.place-in-loop-at-2.result + 8 ≡ word_at k 0 = ap (λ z. 8 * z + 8) is ∙ word_is k in
     let took = c.take_get.ensures.took k h.v (first_reader o) word h.one (h.column.still at (omega arith) la) in (
       c.turn-in-loop-at-2.ensures.own ∙ (c.take_get.ensures.own ∙ c.loop-at-2.invariant.0),
-      took_column o n who at c.loop-at-2.seat.inner.me c.take_get.new.seat.inner.me c.turn-in-loop-at-2.new.seat.inner.me c.requires.inside la h took
+      took_column o n who at c.loop-at-2.seat.inner.me c.take_get.new.seat.inner.me c.turn-in-loop-at-2.new.seat.inner.me c.requires.inside
+          la h took
           c.turn-in-loop-at-2.ensures.turned,
     )
 

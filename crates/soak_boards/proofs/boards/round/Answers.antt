@@ -17,7 +17,8 @@ returns g c =
     let n : c.in_ok-lanes.lanes.len ≡ length c.in_ok-lanes.lanes.items = search rules in
     let whole = changed_whole c.in_ok-lanes.lanes.len c.in_ok-lanes.lanes.items c.as_mut_slice.result.now c.run_tasks.new.lanes _ n
     c.as_mut_slice.ensures.value c.run_tasks.ensures.lengths refl in
-    is_round g.F.Family no_law _ _ c.args.opening c.args.tasks c.args.from c.args.calls c.look-tally.result _ _ c.in-Ok.board c.in-Ok.passes.items
+    is_round g.F.Family no_law _ _ c.args.opening c.args.tasks c.args.from c.args.calls c.look-tally.result _ _ c.in-Ok.board
+    c.in-Ok.passes.items
     c.in_ok-scripts.scripts c.in_ok-lanes.lanes.items c.run_tasks.new.lanes c.as_mut_slice.result.now c.as_slice.result.now
     (λ t call never. never) c.in_ok-scripts.ensures.count c.in_ok-scripts.ensures.scripted c.in_ok-lanes.ensures
     c.as_mut_slice.ensures.value c.run_tasks.ensures (c.as_slice.ensures.value ∙ whole) c.look-tally.ensures

@@ -27,6 +27,7 @@ returns-clause-scripted g c =
     let same : c.loop.counter ≡ c.args.calls = omega arith in (
       c.loop.number,
       rw c.new.ensures
-          (scripted_all (λ x. g.W.Words.listed x.words) c.args.first c.args.step c.loop.counter c.args.calls c.loop.number c.loop.wishes.items same
+          (scripted_all (λ x. g.W.Words.listed x.words) c.args.first c.args.step c.loop.counter c.args.calls c.loop.number
+          c.loop.wishes.items same
           c.loop.invariant.scripted),
     )

@@ -29,8 +29,10 @@ loop-task-preserved g c =
           c.saturating_add-first.ensures
           ∙ ap (λ z. counted z 1) (c.saturating_add.ensures ∙ ap (counted c.args.from) (sym (new.0 ∙ count))) in (
             w.0,
-            subst (λ z. Scripted (λ x. g.W.Words.listed x.words) (counted (counted c.args.from k) 1) c.args.tasks c.args.calls w.0 z) (sym new.1)
-                (scripted_from (λ x. g.W.Words.listed x.words) c.saturating_add-first.result (counted (counted c.args.from k) 1) c.args.tasks
+            subst (λ z. Scripted (λ x. g.W.Words.listed x.words) (counted (counted c.args.from k) 1) c.args.tasks c.args.calls w.0 z)
+                (sym new.1)
+                (scripted_from (λ x. g.W.Words.listed x.words) c.saturating_add-first.result
+                (counted (counted c.args.from k) 1) c.args.tasks
                 c.args.calls w.0 script first w.1),
           ))
           (get_last all script k t (rw c.in_ok-push.ensures.items at at));

@@ -14,5 +14,6 @@ invariant-loop-task g l = record {
   lawful : All (λ (t : List (Wish (Record g.row.W.Denot))). All (Obeys no_law) t) l.all.items;
   count : length l.all.items ≡ l.task;
   scripted : (k : ℕ) (t : List (Wish (Record g.row.W.Denot))) → slice_get l.all.items k ≡ Some t
-      → (next : ℕ) × Scripted (λ (r : Record g.row.W.Denot). g.W.Words.listed r.words) (counted (counted l.from k) 1) l.tasks l.calls next t;
+      → (next : ℕ) × Scripted (λ (r : Record g.row.W.Denot). g.W.Words.listed r.words)
+      (counted (counted l.from k) 1) l.tasks l.calls next t;
 }

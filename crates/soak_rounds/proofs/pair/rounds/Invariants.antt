@@ -10,6 +10,7 @@ invariant-loop g l = record {
   get_cell : l.reader.cell.now ≡ l.initial.writer.cell.now;
   of_put : g.C.Calls.is_put l.initial.writer.cell.now l.writer.put;
   of_get : g.C.Calls.is_get l.initial.writer.cell.now l.reader.get;
-  rounds : Rounds (λ r. g.W.Words.listed r.words) g.C.Calls CALLS l.initial.writer.cell.now l.initial.writer.put l.initial.reader.get l.counter
+  rounds : Rounds (λ r. g.W.Words.listed r.words) g.C.Calls CALLS l.initial.writer.cell.now l.initial.writer.put l.initial.reader.get
+      l.counter
       l.writer.put l.reader.get l.writer.last l.reader.last l.tally;
 }

@@ -8,7 +8,8 @@ seats_of-requires-clause-room g c = room_for_all g.F.Family g.V.RecordLaw.obeys 
 
 pub finish-requires : goal.finish-requires
 finish-requires g c =
-    let x = all_seats g.F.Family g.V.RecordLaw.obeys c.args.self c.args.passes.items c.requires c.seats_of.result.items c.seats_of.ensures in
+    let x = all_seats g.F.Family g.V.RecordLaw.obeys c.args.self c.args.passes.items c.requires c.seats_of.result.items
+    c.seats_of.ensures in
     let n : length c.seats_of.result.items ≡ g.F.Family.processes c.args.self.family = x.0 in
     (omega arith, x.1)
 
@@ -17,5 +18,6 @@ returns-clause-atomic g c = all_atomic g.F.Family g.V.RecordLaw.obeys c.args.sel
     c.seats_of.ensures c.greatest_own-last.result c.greatest_own-last.ensures c.finish.ensures.scheduled c.finish.ensures.atomic
 
 pub returns-clause-registers : goal.returns-clause-registers
-returns-clause-registers g c = all_registers g.F.Family g.V.RecordLaw.obeys c.args.self c.args.passes.items c.requires c.seats_of.result.items
+returns-clause-registers g c =
+    all_registers g.F.Family g.V.RecordLaw.obeys c.args.self c.args.passes.items c.requires c.seats_of.result.items
     c.seats_of.ensures c.finish.ensures.atomic

@@ -36,7 +36,8 @@ returns-clause-learnt g c =
           ∙ c.requires.receipt.names c.args.pass.now.process p.inside (λ e. ne (sym e)) in
           let carried : w.writes_of c.args.receipt.told (w.who old) ≡ w.writes_of c.args.receipt.told c.args.pass.now.process =
           ap (w.writes_of c.args.receipt.told) p.who in
-          subst (λ z. IsHeardRead (w.reads old z) (w.reads new z) c.args.receipt.item (w.writes_of c.args.receipt.told c.args.pass.now.process)) from
+          subst (λ z. IsHeardRead (w.reads old z) (w.reads new z) c.args.receipt.item
+          (w.writes_of c.args.receipt.told c.args.pass.now.process)) from
           (subst (λ (z : Posted _ × Known (Posted _)). IsHeardRead (w.reads old (w.sender c.args.receipt.told))
           (w.reads new (w.sender c.args.receipt.told)) z.0 z.1) (λ i. (named i, carried i))
           (c.learn.ensures.heard (λ e. ne (sym from ∙ e ∙ p.who))));

@@ -6,19 +6,23 @@ use Rattle.board_live.proofs.Calling.{is_bounded, is_call, is_pass}
 use Rattle.board_live.proofs.board.Board.read.Goals as goal
 
 pub returns-clause-pass : goal.returns-clause-pass
-returns-clause-pass g c = is_pass g.F.Family g.V.RecordLaw.obeys c.args.self.now c.args.pass.now c.requires Read c.column.new.seen c.column.new.seen
+returns-clause-pass g c =
+    is_pass g.F.Family g.V.RecordLaw.obeys c.args.self.now c.args.pass.now c.requires Read c.column.new.seen c.column.new.seen
     c.column.new.seat c.tell_row.new.seat c.column.ensures c.tell_row.ensures.row c.column.ensures.lawful
 
 pub returns-clause-call : goal.returns-clause-call
-returns-clause-call g c = is_call g.F.Family g.V.RecordLaw.obeys c.args.self.now c.args.pass.now c.requires Read c.column.new.seen c.column.new.seen
+returns-clause-call g c =
+    is_call g.F.Family g.V.RecordLaw.obeys c.args.self.now c.args.pass.now c.requires Read c.column.new.seen c.column.new.seen
     c.column.new.seat c.tell_row.new.seat c.column.ensures c.tell_row.ensures.row (inr (refl, refl)) (λ place. (refl, refl))
 
 pub returns-clause-known : goal.returns-clause-known
-returns-clause-known g c = (is_call g.F.Family g.V.RecordLaw.obeys c.args.self.now c.args.pass.now c.requires Read c.column.new.seen c.column.new.seen
+returns-clause-known g c =
+    (is_call g.F.Family g.V.RecordLaw.obeys c.args.self.now c.args.pass.now c.requires Read c.column.new.seen c.column.new.seen
     c.column.new.seat c.tell_row.new.seat c.column.ensures c.tell_row.ensures.row (inr (refl, refl)) (λ place. (refl, refl))).known
 
 pub returns-clause-bounded : goal.returns-clause-bounded
-returns-clause-bounded g c = is_bounded g.F.Family g.V.RecordLaw.obeys c.args.self.now c.args.pass.now c.requires Read c.column.new.seen c.column.new.seen
+returns-clause-bounded g c =
+    is_bounded g.F.Family g.V.RecordLaw.obeys c.args.self.now c.args.pass.now c.requires Read c.column.new.seen c.column.new.seen
     c.column.new.seat c.tell_row.new.seat c.column.ensures c.tell_row.ensures.row
 
 pub returns-clause-quiet : goal.returns-clause-quiet

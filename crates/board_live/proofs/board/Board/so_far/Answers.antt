@@ -60,13 +60,15 @@ returns-clause-passes g c =
     let room = room_for_all g.F.Family g.V.RecordLaw.obeys c.args.self.now passes c.requires in
     let empty = (room_of_last passes left pass c.in-Some.ensures.items room).2 in
     let back = only_one c.pop-2.new.self.items pass.seat c.in-Some-pop.seat
-    (sym (ap (λ z. z ++ pass.seat ∷ []) empty) ∙ sym c.push_reserved.ensures.items ∙ sym c.shown.ensures.seats.0 ∙ c.in-Some-pop.ensures.items) in
+    (sym (ap (λ z. z ++ pass.seat ∷ []) empty) ∙ sym c.push_reserved.ensures.items ∙ sym c.shown.ensures.seats.0
+    ∙ c.in-Some-pop.ensures.items) in
     let again : Pass g.row.V.Denot g.row.F.Denot g.row.F-Seat.Denot g.row.F-Told.Denot =
     record pass { seat = c.in-Some-pop.seat; room = c.pop-2.new.self } in
     let is : c.push_reserved-2.new.self.items ≡ left ++ again ∷ [] =
     c.push_reserved-2.ensures.items ∙ ap (λ z. z ++ again ∷ []) c.shown.ensures.passes.0 in
     subst (λ z. AllPasses g.F.Family g.V.RecordLaw.obeys c.args.self.now z) (sym is)
-    (all_again g.F.Family g.V.RecordLaw.obeys c.args.self.now passes left pass again c.requires c.in-Some.ensures.items refl refl (sym back.1)
+    (all_again g.F.Family g.V.RecordLaw.obeys c.args.self.now passes left pass again c.requires c.in-Some.ensures.items refl refl
+    (sym back.1)
     (c.in-Some-pop.ensures.capacity ∙ c.shown.ensures.seats.1 ∙ c.push_reserved.ensures.capacity) back.0)
 
 pub returns-clause-registers : goal.returns-clause-registers

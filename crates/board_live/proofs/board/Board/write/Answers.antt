@@ -21,11 +21,13 @@ chose_none g c = c.renew.ensures ∙ ap (λ n. or_item c.column.new.seen n c.arg
 -- what the stamp is, by which arm is taken
 next_some : (g : _) (c : goal.In-Some g) → (c.column.new.seen.stamp.tag < c.args.self.now.limit)
     × (c.in-Some.stamp ≡ record { tag = c.column.new.seen.stamp.tag + 1; writer = c.args.pass.now.process })
-next_some g c = subst (λ r. MatchOption r (c.args.self.now.limit ≤ c.column.new.seen.stamp.tag) (λ s. (c.column.new.seen.stamp.tag < c.args.self.now.limit)
+next_some g c = subst (λ r. MatchOption r (c.args.self.now.limit ≤ c.column.new.seen.stamp.tag)
+    (λ s. (c.column.new.seen.stamp.tag < c.args.self.now.limit)
     × (s ≡ record { tag = c.column.new.seen.stamp.tag + 1; writer = c.args.pass.now.process }))) c.in-Some.is c.next-next.ensures
 
 next_none : (g : _) (c : goal.After-result-1 g) → c.args.self.now.limit ≤ c.column.new.seen.stamp.tag
-next_none g c = subst (λ r. MatchOption r (c.args.self.now.limit ≤ c.column.new.seen.stamp.tag) (λ s. (c.column.new.seen.stamp.tag < c.args.self.now.limit)
+next_none g c = subst (λ r. MatchOption r (c.args.self.now.limit ≤ c.column.new.seen.stamp.tag)
+    (λ s. (c.column.new.seen.stamp.tag < c.args.self.now.limit)
     × (s ≡ record { tag = c.column.new.seen.stamp.tag + 1; writer = c.args.pass.now.process }))) c.in-None.is c.next-next.ensures
 
 below_next : (g : _) (c : goal.In-Some g) → IsBelow c.column.new.seen.stamp c.in-Some.stamp
@@ -34,14 +36,16 @@ below_next g c = subst (λ s. IsBelow c.column.new.seen.stamp s) (sym (next_some
 pub returns-in-Some-clause-pass : goal.returns-in-Some-clause-pass
 returns-in-Some-clause-pass g c =
     is_pass g.F.Family g.V.RecordLaw.obeys c.args.self.now c.args.pass.now c.requires.pass Write c.column.new.seen c.renew.new.self
-    c.column.new.seat c.row.new.seat c.column.ensures (row_told g.F.Family c.args.self.now.family c.args.pass.now.process (c.args.self.now.processes - 1)
+    c.column.new.seat c.row.new.seat c.column.ensures
+    (row_told g.F.Family c.args.self.now.family c.args.pass.now.process (c.args.self.now.processes - 1)
     c.column.new.seat c.row.new.seat c.args.pass.now.own c.renew.new.self c.row.ensures)
     (subst (λ (z : Posted _). IsTrue (g.V.RecordLaw.obeys z.item)) (sym (chose_some g c)) c.requires.item)
 
 pub returns-in-None-clause-pass : goal.returns-in-None-clause-pass
 returns-in-None-clause-pass g c =
     is_pass g.F.Family g.V.RecordLaw.obeys c.args.self.now c.args.pass.now c.requires.pass Refused c.column.new.seen c.renew.new.self
-    c.column.new.seat c.row.new.seat c.column.ensures (row_told g.F.Family c.args.self.now.family c.args.pass.now.process (c.args.self.now.processes - 1)
+    c.column.new.seat c.row.new.seat c.column.ensures
+    (row_told g.F.Family c.args.self.now.family c.args.pass.now.process (c.args.self.now.processes - 1)
     c.column.new.seat c.row.new.seat c.args.pass.now.own c.renew.new.self c.row.ensures)
     (subst (λ (z : Posted _). IsTrue (g.V.RecordLaw.obeys z.item)) (sym (chose_none g c)) c.column.ensures.lawful)
 
@@ -53,7 +57,8 @@ returns-in-Some-clause-call g c =
     let next = ap (λ (z : Posted _). z.stamp) chose ∙ (next_some g c).1 in (
       seen,
       is_call g.F.Family g.V.RecordLaw.obeys c.args.self.now c.args.pass.now c.requires.pass Write seen c.renew.new.self c.column.new.seat
-          c.row.new.seat c.column.ensures (row_told g.F.Family c.args.self.now.family c.args.pass.now.process (c.args.self.now.processes - 1)
+          c.row.new.seat c.column.ensures
+          (row_told g.F.Family c.args.self.now.family c.args.pass.now.process (c.args.self.now.processes - 1)
           c.column.new.seat c.row.new.seat c.args.pass.now.own c.renew.new.self c.row.ensures)
           (inl (subst (λ (z : Posted _). IsBelow seen.stamp z.stamp) (sym chose) (below_next g c))) (λ place. (below, next)),
       (below, (next_some g c).1, chose),
@@ -67,21 +72,25 @@ returns-in-None-clause-call g c =
     let item = ap (λ (z : Posted _). z.item) chose in (
       seen,
       is_call g.F.Family g.V.RecordLaw.obeys c.args.self.now c.args.pass.now c.requires.pass Refused seen c.renew.new.self c.column.new.seat
-          c.row.new.seat c.column.ensures (row_told g.F.Family c.args.self.now.family c.args.pass.now.process (c.args.self.now.processes - 1)
-          c.column.new.seat c.row.new.seat c.args.pass.now.own c.renew.new.self c.row.ensures) (inr (sym stamp, sym item)) (λ place. (next_none g c, stamp, item)),
+          c.row.new.seat c.column.ensures
+          (row_told g.F.Family c.args.self.now.family c.args.pass.now.process (c.args.self.now.processes - 1)
+          c.column.new.seat c.row.new.seat c.args.pass.now.own c.renew.new.self c.row.ensures) (inr (sym stamp, sym item))
+          (λ place. (next_none g c, stamp, item)),
       (next_none g c, chose, chose),
     )
 
 pub returns-in-Some-clause-bounded : goal.returns-in-Some-clause-bounded
 returns-in-Some-clause-bounded g c =
     is_bounded g.F.Family g.V.RecordLaw.obeys c.args.self.now c.args.pass.now c.requires.pass Write c.column.new.seen c.renew.new.self
-    c.column.new.seat c.row.new.seat c.column.ensures (row_told g.F.Family c.args.self.now.family c.args.pass.now.process (c.args.self.now.processes - 1)
+    c.column.new.seat c.row.new.seat c.column.ensures
+    (row_told g.F.Family c.args.self.now.family c.args.pass.now.process (c.args.self.now.processes - 1)
     c.column.new.seat c.row.new.seat c.args.pass.now.own c.renew.new.self c.row.ensures)
 
 pub returns-in-None-clause-bounded : goal.returns-in-None-clause-bounded
 returns-in-None-clause-bounded g c =
     is_bounded g.F.Family g.V.RecordLaw.obeys c.args.self.now c.args.pass.now c.requires.pass Refused c.column.new.seen c.renew.new.self
-    c.column.new.seat c.row.new.seat c.column.ensures (row_told g.F.Family c.args.self.now.family c.args.pass.now.process (c.args.self.now.processes - 1)
+    c.column.new.seat c.row.new.seat c.column.ensures
+    (row_told g.F.Family c.args.self.now.family c.args.pass.now.process (c.args.self.now.processes - 1)
     c.column.new.seat c.row.new.seat c.args.pass.now.own c.renew.new.self c.row.ensures)
 
 pub returns-in-Some-clause-raised : goal.returns-in-Some-clause-raised

@@ -1,5 +1,5 @@
 -- The pass is between two reads, and the receipt names a record.
-use Rattle.std.proofs.Common.{◌≡◌, ◌++◌, ◌∷◌, [], ap, sym, ◌∙◌, subst, refl}
+use Rattle.std.proofs.Common.{◌≡◌, ap, sym, ◌∙◌, subst, refl}
 use native.Mathlib.Nat.{le-max_left, le-max_right}
 use Rattle.cell_live.specs.Running.{snap}
 use Rattle.cell_live.specs.Intervals.{IsHeard}

@@ -149,7 +149,8 @@ returns g c =
     let next : IsNextCall p.times (finished_with (stored_by q v.0) v.2 v.1).times =
     record { begin = t.3; end = v.1; after = t.4; forwards = le_trans (le_of_lt v.3) v.4; begins = refl; ends = refl; clock = refl } in
     let few : v.2 ≤ 1 = at_most_one (bit_number (not b)) (bit_number p.latest) v.2 v.5 v.6 in
-    let found : bit_number (not b) ≡ bit_number (writer_or d c.publish.new.seat.inner.me.0).latest = λ i. bit_number (writer_or d (sym w i)).latest in
+    let found : bit_number (not b) ≡ bit_number (writer_or d c.publish.new.seat.inner.me.0).latest =
+    λ i. bit_number (writer_or d (sym w i)).latest in
     let count : (writer_or d c.publish.new.seat.inner.me.0).accesses ≡ p.accesses + 1 + 1 + v.2 = ap (λ z. (writer_or d z).accesses) w in
     let same : c.publish.new.seat.inner.table_id ≡ put.seat.inner.table_id = search rules in
     record {

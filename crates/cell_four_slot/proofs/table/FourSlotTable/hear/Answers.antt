@@ -13,5 +13,6 @@ join_seat-requires g c =
       ap (λ m. m.1) u.1,
       (let s = c.args.self.now.sized in
           omega arith),
-      spread_joins g.T.Lawful.fits g.T.Lawful.rises _ _ _ _ _ _ _ (hears_ok g.T.Lawful.fits g.T.Lawful.rises _ _ _ _ _ t.0 u.0 t.1 (ap (λ m. m.0) u.1) t.2),
+      spread_joins g.T.Lawful.fits g.T.Lawful.rises _ _ _ _ _ _ _
+          (hears_ok g.T.Lawful.fits g.T.Lawful.rises _ _ _ _ _ t.0 u.0 t.1 (ap (λ m. m.0) u.1) t.2),
     )

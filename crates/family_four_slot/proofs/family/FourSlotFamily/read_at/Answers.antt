@@ -14,7 +14,8 @@ use Rattle.family_four_slot.specs.Steps.{After, has_asked}
 use Rattle.family_four_slot.specs.Words.{HasSlots}
 use Rattle.family_table.proofs.Slices.{set_long}
 use Rattle.family_four_slot.proofs.Done.{has_read, is_answer}
-use Rattle.family_four_slot.proofs.Going.{pair_low, pair_word, reader_after, column_at, column_place, column_inside, column_long, column_notes, column_reader}
+use Rattle.family_four_slot.proofs.Going.{pair_low, pair_word, reader_after, column_at, column_place, column_inside, column_long}
+use Rattle.family_four_slot.proofs.Going.{column_notes, column_reader}
 use Rattle.family_four_slot.proofs.family.FourSlotFamily.read_at.Goals as goal
 
 pub announce-latest-requires-clause-idle : goal.announce-latest-requires-clause-idle
@@ -88,7 +89,8 @@ slot_of-slot-requires g c =
     let bit : Bool = e.0 in
     let x : g.row.T.Denot = e.1 in
     let n3 : ReaderNotes g.row.T.Denot = got_by n2 bit x e.2 e.3 e.4 in
-    let a3 : After v2 cell (Reader n3) e.2 ((slot_at cell (slot_number (slot_with b bit)), x) ∷ c.announce-latest.new.seat.inner.me.1) c.take-index.new.seat.inner.me = e.7 in
+    let a3 : After v2 cell (Reader n3) e.2
+    ((slot_at cell (slot_number (slot_with b bit)), x) ∷ c.announce-latest.new.seat.inner.me.1) c.take-index.new.seat.inner.me = e.7 in
     (b, bit, t.6, e.5)
 
 pub show-requires-clause-place : goal.show-requires-clause-place
@@ -120,7 +122,8 @@ show-requires-clause-place g c =
     let bit : Bool = e.0 in
     let x : g.row.T.Denot = e.1 in
     let n3 : ReaderNotes g.row.T.Denot = got_by n2 bit x e.2 e.3 e.4 in
-    let a3 : After v2 cell (Reader n3) e.2 ((slot_at cell (slot_number (slot_with b bit)), x) ∷ c.announce-latest.new.seat.inner.me.1) c.take-index.new.seat.inner.me = e.7 in
+    let a3 : After v2 cell (Reader n3) e.2
+    ((slot_at cell (slot_number (slot_with b bit)), x) ∷ c.announce-latest.new.seat.inner.me.1) c.take-index.new.seat.inner.me = e.7 in
     let slot : c.slot_of-slot.result ≡ slot_number (slot_with b bit) = c.slot_of-slot.ensures b bit t.6 e.5 in
     (column_inside f s own c.args.from other cell at, subst (λ z. z < 4) (sym slot) (slot_low (slot_with b bit)))
 
@@ -153,7 +156,8 @@ show-requires-clause-held g c =
     let bit : Bool = e.0 in
     let x : g.row.T.Denot = e.1 in
     let n3 : ReaderNotes g.row.T.Denot = got_by n2 bit x e.2 e.3 e.4 in
-    let a3 : After v2 cell (Reader n3) e.2 ((slot_at cell (slot_number (slot_with b bit)), x) ∷ c.announce-latest.new.seat.inner.me.1) c.take-index.new.seat.inner.me = e.7 in
+    let a3 : After v2 cell (Reader n3) e.2
+    ((slot_at cell (slot_number (slot_with b bit)), x) ∷ c.announce-latest.new.seat.inner.me.1) c.take-index.new.seat.inner.me = e.7 in
     let slot : c.slot_of-slot.result ≡ slot_number (slot_with b bit) = c.slot_of-slot.ensures b bit t.6 e.5 in
     (x, c.announce-latest.new.seat.inner.me.1, a3.2 ∙ ap (λ z. (slot_at cell z, x) ∷ c.announce-latest.new.seat.inner.me.1) (sym slot))
 
@@ -186,14 +190,18 @@ returns g c =
     let bit : Bool = e.0 in
     let x : g.row.T.Denot = e.1 in
     let n3 : ReaderNotes g.row.T.Denot = got_by n2 bit x e.2 e.3 e.4 in
-    let a3 : After v2 cell (Reader n3) e.2 ((slot_at cell (slot_number (slot_with b bit)), x) ∷ c.announce-latest.new.seat.inner.me.1) c.take-index.new.seat.inner.me = e.7 in
+    let a3 : After v2 cell (Reader n3) e.2
+    ((slot_at cell (slot_number (slot_with b bit)), x) ∷ c.announce-latest.new.seat.inner.me.1) c.take-index.new.seat.inner.me = e.7 in
     let slot : c.slot_of-slot.result ≡ slot_number (slot_with b bit) = c.slot_of-slot.ensures b bit t.6 e.5 in
     let answer = is_answer f s own c.args.from other cell at g.T.Lawful.fits g.T.Lawful.rises x e.8 in
     let same : c.show.new.seat.inner.table_id ≡ s.seat.inner.table_id =
     c.show.ensures.own ∙ (c.take-index.ensures.own ∙ c.announce-latest.ensures.own) in
     let h = has_read f s own c.args.from other cell at b bit x t.1 t.2 e.2 e.3 t.3 e.4 (held_slots cs) (held_slots (before ++ behind))
     c.announce-latest.new.said before behind c.announce-latest.new.seat.inner.me.1
-    (record s { seat = c.show.new.seat; stored = record s.stored { said = set s.stored.said c.args.from c.announce-latest.new.said } }) t.10 a2.0 a3.0 t.9 a2.2
+    (record s {
+      seat = c.show.new.seat;
+      stored = record s.stored { said = set s.stored.said c.args.from c.announce-latest.new.said };
+    }) t.10 a2.0 a3.0 t.9 a2.2
     (ap (λ z. z.0) c.show.ensures.same ∙ a3.1) (ap (λ z. z.1) c.show.ensures.same ∙ a3.2) same refl refl refl refl
     (c.announce-latest.ensures.remembered ∙ t.6) e.9 e.10 in
     record {
@@ -202,6 +210,7 @@ returns g c =
       answer = x;
       read = h.answer;
       may = answer;
-      saw = c.show.ensures.shown x c.announce-latest.new.seat.inner.me.1 (a3.2 ∙ ap (λ z. (slot_at cell z, x) ∷ c.announce-latest.new.seat.inner.me.1) (sym slot));
+      saw = c.show.ensures.shown x c.announce-latest.new.seat.inner.me.1
+          (a3.2 ∙ ap (λ z. (slot_at cell z, x) ∷ c.announce-latest.new.seat.inner.me.1) (sym slot));
       others = h.others;
     }

@@ -31,7 +31,8 @@ begin-reading-requires-clause-idle g c =
     let p : WriterNotes g.row.T.Denot = row.notes in
     let long = row_long f s own c.args.to other cell at in
     let named = c.of-named.ensures in
-    subst (λ (x : g.row.T.Denot). (v' : Process (FourSlotSight g.row.T.Denot)) × (q : WriterNotes g.row.T.Denot) × HasWriter s.seat.inner.me cell v' q
+    subst (λ (x : g.row.T.Denot). (v' : Process (FourSlotSight g.row.T.Denot)) × (q : WriterNotes g.row.T.Denot)
+    × HasWriter s.seat.inner.me cell v' q
     × (q.stage ≡ stage.W5) × g.T.Lawful.fits x × g.T.Lawful.rises (last_or q.opening.value q.written) x) (sym named) (
       v,
       p,
@@ -55,7 +56,8 @@ bit_of-stored-requires g c =
     let row = row_at f s own c.args.to other in
     let p : WriterNotes g.row.T.Denot = row.notes in
     let long = row_long f s own c.args.to other cell at in
-    let t = c.begin-reading.ensures.begun cell v p item refl own.one (row_notes f s own c.args.to other cell at) (ap (λ z. z ∷ []) c.of-named.ensures) in
+    let t = c.begin-reading.ensures.begun cell v p item refl own.one (row_notes f s own c.args.to other cell at)
+    (ap (λ z. z ∷ []) c.of-named.ensures) in
     let b : Bool = t.0 in
     let q1 : WriterNotes g.row.T.Denot = begun_with p b item t.2 in
     let slot1 : ℕ = slot_at cell (slot_number q1.slot) in
@@ -75,7 +77,8 @@ slot_of-slot-requires g c =
     let row = row_at f s own c.args.to other in
     let p : WriterNotes g.row.T.Denot = row.notes in
     let long = row_long f s own c.args.to other cell at in
-    let t = c.begin-reading.ensures.begun cell v p item refl own.one (row_notes f s own c.args.to other cell at) (ap (λ z. z ∷ []) c.of-named.ensures) in
+    let t = c.begin-reading.ensures.begun cell v p item refl own.one (row_notes f s own c.args.to other cell at)
+    (ap (λ z. z ∷ []) c.of-named.ensures) in
     let b : Bool = t.0 in
     let q1 : WriterNotes g.row.T.Denot = begun_with p b item t.2 in
     let slot1 : ℕ = slot_at cell (slot_number q1.slot) in
@@ -98,7 +101,8 @@ fill-requires-clause-place g c =
     let row = row_at f s own c.args.to other in
     let p : WriterNotes g.row.T.Denot = row.notes in
     let long = row_long f s own c.args.to other cell at in
-    let t = c.begin-reading.ensures.begun cell v p item refl own.one (row_notes f s own c.args.to other cell at) (ap (λ z. z ∷ []) c.of-named.ensures) in
+    let t = c.begin-reading.ensures.begun cell v p item refl own.one (row_notes f s own c.args.to other cell at)
+    (ap (λ z. z ∷ []) c.of-named.ensures) in
     let b : Bool = t.0 in
     let q1 : WriterNotes g.row.T.Denot = begun_with p b item t.2 in
     let slot1 : ℕ = slot_at cell (slot_number q1.slot) in
@@ -122,7 +126,8 @@ fill-requires-clause-held g c =
     let row = row_at f s own c.args.to other in
     let p : WriterNotes g.row.T.Denot = row.notes in
     let long = row_long f s own c.args.to other cell at in
-    let t = c.begin-reading.ensures.begun cell v p item refl own.one (row_notes f s own c.args.to other cell at) (ap (λ z. z ∷ []) c.of-named.ensures) in
+    let t = c.begin-reading.ensures.begun cell v p item refl own.one (row_notes f s own c.args.to other cell at)
+    (ap (λ z. z ∷ []) c.of-named.ensures) in
     let b : Bool = t.0 in
     let q1 : WriterNotes g.row.T.Denot = begun_with p b item t.2 in
     let slot1 : ℕ = slot_at cell (slot_number q1.slot) in
@@ -146,7 +151,8 @@ publish-requires-clause-filled g c =
     let row = row_at f s own c.args.to other in
     let p : WriterNotes g.row.T.Denot = row.notes in
     let long = row_long f s own c.args.to other cell at in
-    let t = c.begin-reading.ensures.begun cell v p item refl own.one (row_notes f s own c.args.to other cell at) (ap (λ z. z ∷ []) c.of-named.ensures) in
+    let t = c.begin-reading.ensures.begun cell v p item refl own.one (row_notes f s own c.args.to other cell at)
+    (ap (λ z. z ∷ []) c.of-named.ensures) in
     let b : Bool = t.0 in
     let q1 : WriterNotes g.row.T.Denot = begun_with p b item t.2 in
     let slot1 : ℕ = slot_at cell (slot_number q1.slot) in
@@ -159,7 +165,8 @@ publish-requires-clause-filled g c =
     let filled = c.fill.ensures.filled t.1 s.seat.inner.me.1 (t.5.2 ∙ ap (λ z. (slot_at cell z, t.1) ∷ s.seat.inner.me.1) (sym slot))
     ∙ ap (λ z. (c.begin-reading.new.seat.inner.me.0, (slot_at cell z, item) ∷ s.seat.inner.me.1)) slot in
     let a2 : After v cell (Writer q1) t.2 ((slot1, item) ∷ s.seat.inner.me.1) c.fill.new.seat.inner.me =
-    after_filled v cell t.2 slot1 (Writer q1) item t.1 s.seat.inner.me.1 c.begin-reading.new.seat.inner.me c.fill.new.seat.inner.me a1 filled in
+    after_filled v cell t.2 slot1
+    (Writer q1) item t.1 s.seat.inner.me.1 c.begin-reading.new.seat.inner.me c.fill.new.seat.inner.me a1 filled in
     let h1 : List ℕ = held_slots ((slot1, t.1) ∷ s.seat.inner.me.1) in
     let v1 : Process (FourSlotSight g.row.T.Denot) = knows Spent v cell (Writer q1) t.2 h1 in
     let w1 = writer_after v cell t.2 q1 ((slot1, item) ∷ s.seat.inner.me.1) c.fill.new.seat.inner.me long a2 in
@@ -178,7 +185,8 @@ set_bit-requires g c =
     let row = row_at f s own c.args.to other in
     let p : WriterNotes g.row.T.Denot = row.notes in
     let long = row_long f s own c.args.to other cell at in
-    let t = c.begin-reading.ensures.begun cell v p item refl own.one (row_notes f s own c.args.to other cell at) (ap (λ z. z ∷ []) c.of-named.ensures) in
+    let t = c.begin-reading.ensures.begun cell v p item refl own.one (row_notes f s own c.args.to other cell at)
+    (ap (λ z. z ∷ []) c.of-named.ensures) in
     let b : Bool = t.0 in
     let q1 : WriterNotes g.row.T.Denot = begun_with p b item t.2 in
     let slot1 : ℕ = slot_at cell (slot_number q1.slot) in
@@ -198,7 +206,8 @@ returns g c =
     let row = row_at f s own c.args.to other in
     let p : WriterNotes g.row.T.Denot = row.notes in
     let long = row_long f s own c.args.to other cell at in
-    let t = c.begin-reading.ensures.begun cell v p item refl own.one (row_notes f s own c.args.to other cell at) (ap (λ z. z ∷ []) c.of-named.ensures) in
+    let t = c.begin-reading.ensures.begun cell v p item refl own.one (row_notes f s own c.args.to other cell at)
+    (ap (λ z. z ∷ []) c.of-named.ensures) in
     let b : Bool = t.0 in
     let q1 : WriterNotes g.row.T.Denot = begun_with p b item t.2 in
     let slot1 : ℕ = slot_at cell (slot_number q1.slot) in
@@ -211,7 +220,8 @@ returns g c =
     let filled = c.fill.ensures.filled t.1 s.seat.inner.me.1 (t.5.2 ∙ ap (λ z. (slot_at cell z, t.1) ∷ s.seat.inner.me.1) (sym slot))
     ∙ ap (λ z. (c.begin-reading.new.seat.inner.me.0, (slot_at cell z, item) ∷ s.seat.inner.me.1)) slot in
     let a2 : After v cell (Writer q1) t.2 ((slot1, item) ∷ s.seat.inner.me.1) c.fill.new.seat.inner.me =
-    after_filled v cell t.2 slot1 (Writer q1) item t.1 s.seat.inner.me.1 c.begin-reading.new.seat.inner.me c.fill.new.seat.inner.me a1 filled in
+    after_filled v cell t.2 slot1
+    (Writer q1) item t.1 s.seat.inner.me.1 c.begin-reading.new.seat.inner.me c.fill.new.seat.inner.me a1 filled in
     let h1 : List ℕ = held_slots ((slot1, t.1) ∷ s.seat.inner.me.1) in
     let v1 : Process (FourSlotSight g.row.T.Denot) = knows Spent v cell (Writer q1) t.2 h1 in
     let w1 = writer_after v cell t.2 q1 ((slot1, item) ∷ s.seat.inner.me.1) c.fill.new.seat.inner.me long a2 in
@@ -222,6 +232,8 @@ returns g c =
     let kept = record s.stored {
       shown = set s.stored.shown c.args.to (record { bits = c.set_bit.new.bits; latest = c.publish.new.shown });
     } in
-    let h = wrote f s own c.args.to other cell at b item t.2 u.0 u.1 u.2 h1 (held_slots s.seat.inner.me.1) c.set_bit.new.bits c.publish.new.shown
-    s.seat.inner.me.1 (record s { seat = c.publish.new.seat; stored = kept }) t.5.0 u.5 u.6.0 refl u.6.1 u.6.2 same refl refl refl refl bits (c.publish.ensures.remembered ∙ pair) in
+    let h = wrote f s own c.args.to other cell at b item t.2 u.0 u.1 u.2 h1
+    (held_slots s.seat.inner.me.1) c.set_bit.new.bits c.publish.new.shown
+    s.seat.inner.me.1 (record s { seat = c.publish.new.seat; stored = kept }) t.5.0 u.5 u.6.0 refl u.6.1 u.6.2 same refl refl refl refl bits
+    (c.publish.ensures.remembered ∙ pair) in
     record { own = h.own; access = h.access; written = h.written; others = h.others }

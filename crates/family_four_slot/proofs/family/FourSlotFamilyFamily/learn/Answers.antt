@@ -26,7 +26,8 @@ returns-clause-own g c =
     let r : Receipt (FourSlotSight g.row.T.Denot) = told_in c.args.told in
     let me : c.hear.new.seat.inner.me.0 ≡ Has (heard_by hears_of v r ∷ []) =
     ap (λ z. z.0) c.hear.ensures.joined ∙ (λ i. learnt_by hears_of (own.one i) ((ap (λ z. z.0) c.requires.own.1.one) i)) in (
-      seat_after c.args.self.now s own (record s { seat = c.hear.new.seat }) (heard_by hears_of v r) s.seat.inner.me.1 c.hear.ensures.own refl refl refl me
+      seat_after c.args.self.now s own (record s { seat = c.hear.new.seat })
+          (heard_by hears_of v r) s.seat.inner.me.1 c.hear.ensures.own refl refl refl me
           (ap (λ z. z.1) c.hear.ensures.joined) refl (rest_heard s.spare s.processes v r s.stored s.seat.inner.me.1 own.rest),
       refl,
     )

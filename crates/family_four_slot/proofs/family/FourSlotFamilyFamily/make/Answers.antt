@@ -12,7 +12,8 @@ returns-clause-seats g c = (
       let within : i < length c.in_ok-seats.seats.items = slice_get_within c.in_ok-seats.seats.items i s e in
       let small : i < c.args.n = omega arith in
       let key = c.in_ok-table.ensures.key in
-      (first_seat (record { table = c.in_ok-table.table }) c.args.n c.args.first i s (ap (λ z. z.first) key) (ap (λ z. z.processes) key) small
+      (first_seat (record { table = c.in_ok-table.table }) c.args.n c.args.first i s (ap (λ z. z.first) key)
+      (ap (λ z. z.processes) key) small
       c.requires.processes.1 (c.in_ok-seats.ensures.1 i s e)).0,
 )
 

@@ -29,7 +29,8 @@ loop-from-2-preserved g c =
     let l = c.loop-from-2 in
     let call = c.read_at-in-loop-from-2 in
     one_after (Read c.args.self.now g.T.Lawful.fits g.T.Lawful.rises g.L.Sees.sees) c.args.seat.now.who
-    (c.args.seat.now, c.args.seen.now) (l.seat, l.seen) (call.new.seat, call.new.seen) l.from l.invariant (omega (arith, l.auto.from)) call.ensures
+    (c.args.seat.now, c.args.seen.now) (l.seat, l.seen) (call.new.seat, call.new.seen) l.from l.invariant
+    (omega (arith, l.auto.from)) call.ensures
 
 pub returns : goal.returns
 returns g c =
@@ -47,13 +48,15 @@ place-requires g c =
 pub read_at-requires-clause-own : goal.read_at-requires-clause-own
 read_at-requires-clause-own g c =
     let l = c.loop-from in
-    (column_seat c.args.self.now g.T.Lawful.fits g.T.Lawful.rises g.L.Sees.sees c.args.seat.now c.args.seen.now l.from l.seat l.seen c.requires.own l.invariant).0
+    (column_seat c.args.self.now g.T.Lawful.fits g.T.Lawful.rises g.L.Sees.sees c.args.seat.now c.args.seen.now l.from l.seat l.seen
+    c.requires.own l.invariant).0
 
 pub read_at-requires-clause-other : goal.read_at-requires-clause-other
 read_at-requires-clause-other g c =
     let l = c.loop-from in
     let room = row_room c.args.self.now c.args.seat.now c.requires.own in
-    let here = column_seat c.args.self.now g.T.Lawful.fits g.T.Lawful.rises g.L.Sees.sees c.args.seat.now c.args.seen.now l.from l.seat l.seen c.requires.own l.invariant in
+    let here = column_seat c.args.self.now g.T.Lawful.fits g.T.Lawful.rises g.L.Sees.sees c.args.seat.now c.args.seen.now l.from l.seat
+    l.seen c.requires.own l.invariant in
     let who : l.seat.who ≡ c.args.seat.now.who = here.1 in
     let same : c.args.seat.now.processes ≡ processes_of c.args.self.now = c.requires.own.processes in (
       omega (arith, same, room.1, c.loop-from-test.true),
@@ -63,7 +66,8 @@ read_at-requires-clause-other g c =
 pub read_at-requires-clause-at : goal.read_at-requires-clause-at
 read_at-requires-clause-at g c =
     let l = c.loop-from in
-    column_cell c.args.self.now g.T.Lawful.fits g.T.Lawful.rises g.L.Sees.sees c.args.seat.now c.args.seen.now l.from l.seat l.seen c.requires.own l.invariant
+    column_cell c.args.self.now g.T.Lawful.fits g.T.Lawful.rises g.L.Sees.sees c.args.seat.now c.args.seen.now l.from l.seat l.seen
+    c.requires.own l.invariant
     c.place.result l.from c.place.ensures
 
 pub place-requires-in-loop-from-2 : goal.place-requires-in-loop-from-2
@@ -73,12 +77,14 @@ place-requires-in-loop-from-2 g c =
 pub read_at-requires-in-loop-from-2-clause-own : goal.read_at-requires-in-loop-from-2-clause-own
 read_at-requires-in-loop-from-2-clause-own g c =
     let l = c.loop-from-2 in
-    (column_seat c.args.self.now g.T.Lawful.fits g.T.Lawful.rises g.L.Sees.sees c.args.seat.now c.args.seen.now (l.from - 1) l.seat l.seen c.requires.own l.invariant).0
+    (column_seat c.args.self.now g.T.Lawful.fits g.T.Lawful.rises g.L.Sees.sees c.args.seat.now c.args.seen.now
+    (l.from - 1) l.seat l.seen c.requires.own l.invariant).0
 
 pub read_at-requires-in-loop-from-2-clause-other : goal.read_at-requires-in-loop-from-2-clause-other
 read_at-requires-in-loop-from-2-clause-other g c =
     let l = c.loop-from-2 in
-    let here = column_seat c.args.self.now g.T.Lawful.fits g.T.Lawful.rises g.L.Sees.sees c.args.seat.now c.args.seen.now (l.from - 1) l.seat l.seen c.requires.own l.invariant in
+    let here = column_seat c.args.self.now g.T.Lawful.fits g.T.Lawful.rises g.L.Sees.sees c.args.seat.now c.args.seen.now
+    (l.from - 1) l.seat l.seen c.requires.own l.invariant in
     let who : l.seat.who ≡ c.args.seat.now.who = here.1 in
     let same : c.args.seat.now.processes ≡ processes_of c.args.self.now = c.requires.own.processes in
     (omega (arith, same, c.loop-from-2-test.true), λ e. let z : l.from ≡ l.seat.who = e in omega (arith, z, who, l.auto.from))
@@ -86,5 +92,6 @@ read_at-requires-in-loop-from-2-clause-other g c =
 pub read_at-requires-in-loop-from-2-clause-at : goal.read_at-requires-in-loop-from-2-clause-at
 read_at-requires-in-loop-from-2-clause-at g c =
     let l = c.loop-from-2 in
-    column_cell c.args.self.now g.T.Lawful.fits g.T.Lawful.rises g.L.Sees.sees c.args.seat.now c.args.seen.now (l.from - 1) l.seat l.seen c.requires.own l.invariant
+    column_cell c.args.self.now g.T.Lawful.fits g.T.Lawful.rises g.L.Sees.sees c.args.seat.now c.args.seen.now
+    (l.from - 1) l.seat l.seen c.requires.own l.invariant
     c.place-in-loop-from-2.result l.from c.place-in-loop-from-2.ensures

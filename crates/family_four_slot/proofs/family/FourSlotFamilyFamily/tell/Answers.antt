@@ -28,4 +28,5 @@ returns-clause-tells g c =
     let own = c.requires.own in
     let r : Receipt (FourSlotSight g.row.T.Denot) = receipt_of receipt_for (known_by s) in
     let me : c.tell-told.result.inner.me ≡ (Told r, []) = c.tell-told.ensures.parted.1 ∙ ap (λ z. (told_by receipt_for z, [])) own.one in
-    tells_all c.args.self.now s own (record { seat = c.tell-told.result; processes = s.processes; from = s.who; spare = s.spare }) refl refl me
+    tells_all c.args.self.now s own
+    (record { seat = c.tell-told.result; processes = s.processes; from = s.who; spare = s.spare }) refl refl me

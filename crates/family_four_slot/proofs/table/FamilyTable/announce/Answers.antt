@@ -25,7 +25,8 @@ returns-clause-announced g c = λ v q one notes.
     let cell : ℕ = c.args.cell in
     let me = c.args.seat.now.inner.me in
     let same : t.0 ≡ v = has_one t.0 v (sym t.4.process.one ∙ one) in
-    let also : t.1 ≡ q = reads_one t.1 q (sym t.4.notes ∙ (ap (λ (z : Process (FourSlotSight g.row.T.Denot)). of_cell Spent cell z.parts) same ∙ notes)) in
+    let also : t.1 ≡ q = reads_one t.1 q
+    (sym t.4.notes ∙ (ap (λ (z : Process (FourSlotSight g.row.T.Denot)). of_cell Spent cell z.parts) same ∙ notes)) in
     let said : c.args.said.now ≡ word_said q.chosen = t.7 ∙ ap (λ (z : ReaderNotes g.row.T.Denot). word_said z.chosen) also in
     let has : cell < length v.parts = subst (λ (z : Process (FourSlotSight g.row.T.Denot)). cell < length z.parts) same t.4.process.has in
     let a = c.ask-pair.ensures.asked cell v q (first_word cell) one notes in
@@ -40,7 +41,8 @@ returns-then-pair-said-clause-announced g c = λ v q one notes.
     let t = c.requires.idle in
     let cell : ℕ = c.args.cell in
     let same : t.0 ≡ v = has_one t.0 v (sym t.4.process.one ∙ one) in
-    let also : t.1 ≡ q = reads_one t.1 q (sym t.4.notes ∙ (ap (λ (z : Process (FourSlotSight g.row.T.Denot)). of_cell Spent cell z.parts) same ∙ notes)) in
+    let also : t.1 ≡ q = reads_one t.1 q
+    (sym t.4.notes ∙ (ap (λ (z : Process (FourSlotSight g.row.T.Denot)). of_cell Spent cell z.parts) same ∙ notes)) in
     let said = c.if-pair-said.true ∙ (t.7 ∙ ap (λ (z : ReaderNotes g.row.T.Denot). word_said z.chosen) also) in
     let a = c.ask-pair.ensures.asked cell v q (first_word cell) one notes in
     let b = a.5 said in

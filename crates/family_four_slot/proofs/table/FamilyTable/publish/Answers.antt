@@ -16,7 +16,8 @@ finish-requires-clause-stored g c =
     let t = c.requires.filled in
     let cell : ℕ = c.args.cell in
     let p : WriterNotes g.row.T.Denot = t.1 in
-    let a = c.store.ensures.stored cell _ t.0 p t.2 (pair_low p.slot.pair) (pair_word cell c.args.pair p.slot.pair t.6) t.3.process.one t.3.notes t.4 in
+    let a = c.store.ensures.stored cell _ t.0 p t.2 (pair_low p.slot.pair)
+    (pair_word cell c.args.pair p.slot.pair t.6) t.3.process.one t.3.notes t.4 in
     let h = a.2 (λ e. c.if-pair-shown.false (t.6 ∙ (e ∙ sym t.8))) in
     let q1 : WriterNotes g.row.T.Denot = stored_by p a.0 in
     (_, q1, writer_after t.0 cell a.0 q1 t.2 c.store.new.seat.inner.me t.3.process.has h, refl, t.6)
@@ -26,7 +27,8 @@ returns-clause-published g c = λ v q cs one notes held.
     let t = c.requires.filled in
     let cell : ℕ = c.args.cell in
     let same : t.0 ≡ v = has_one t.0 v (sym t.3.process.one ∙ one) in
-    let also : t.1 ≡ q = writes_one t.1 q (sym t.3.notes ∙ (ap (λ (z : Process (FourSlotSight g.row.T.Denot)). of_cell Spent cell z.parts) same ∙ notes)) in
+    let also : t.1 ≡ q = writes_one t.1 q
+    (sym t.3.notes ∙ (ap (λ (z : Process (FourSlotSight g.row.T.Denot)). of_cell Spent cell z.parts) same ∙ notes)) in
     let pair : c.args.pair ≡ bit_number q.slot.pair = t.6 ∙ ap (λ (z : WriterNotes g.row.T.Denot). bit_number z.slot.pair) also in
     let shown : c.args.shown.now ≡ bit_number q.latest = t.8 ∙ ap (λ (z : WriterNotes g.row.T.Denot). bit_number z.latest) also in
     let has : cell < length v.parts = subst (λ (z : Process (FourSlotSight g.row.T.Denot)). cell < length z.parts) same t.3.process.has in
@@ -36,7 +38,8 @@ returns-clause-published g c = λ v q cs one notes held.
     let w1 = writer_after v cell a.0 q1 cs c.store.new.seat.inner.me has h in
     let b = c.finish.ensures.finished cell _ q1 (first_word cell) h.1 w1.notes in
     let v1 : Process (FourSlotSight g.row.T.Denot) = has_stored v cell q a.0 cs in
-    let done = subst (λ (zs : List (ℕ × g.row.T.Denot)). After v1 cell (Writer (finished_with q1 1 b.0)) b.0 zs c.finish.new.seat.inner.me) h.2 b.2 in
+    let done = subst (λ (zs : List (ℕ × g.row.T.Denot)). After v1 cell
+    (Writer (finished_with q1 1 b.0)) b.0 zs c.finish.new.seat.inner.me) h.2 b.2 in
     (a.0, b.0, 1, (λ e. absurd (c.if-pair-shown.false (pair ∙ (e ∙ sym shown)))), (λ _. refl), a.1, done)
 
 pub returns-then-pair-shown-clause-published : goal.returns-then-pair-shown-clause-published
@@ -44,7 +47,8 @@ returns-then-pair-shown-clause-published g c = λ v q cs one notes held.
     let t = c.requires.filled in
     let cell : ℕ = c.args.cell in
     let same : t.0 ≡ v = has_one t.0 v (sym t.3.process.one ∙ one) in
-    let also : t.1 ≡ q = writes_one t.1 q (sym t.3.notes ∙ (ap (λ (z : Process (FourSlotSight g.row.T.Denot)). of_cell Spent cell z.parts) same ∙ notes)) in
+    let also : t.1 ≡ q = writes_one t.1 q
+    (sym t.3.notes ∙ (ap (λ (z : Process (FourSlotSight g.row.T.Denot)). of_cell Spent cell z.parts) same ∙ notes)) in
     let pair : c.args.pair ≡ bit_number q.slot.pair = t.6 ∙ ap (λ (z : WriterNotes g.row.T.Denot). bit_number z.slot.pair) also in
     let shown : c.args.shown.now ≡ bit_number q.latest = t.8 ∙ ap (λ (z : WriterNotes g.row.T.Denot). bit_number z.latest) also in
     let equal : bit_number q.slot.pair ≡ bit_number q.latest = sym pair ∙ (c.if-pair-shown.true ∙ shown) in

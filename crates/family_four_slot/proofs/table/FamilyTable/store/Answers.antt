@@ -19,12 +19,14 @@ store-requires g c =
     let pair = t.6 in (
       c.requires.own,
       omega arith,
-      stores_on_ok g.T.Lawful.fits g.T.Lawful.rises _ _ _ _ _ c.args.cell (2 + c.args.pair) _ _ t.0 t.1 t.2 (word ∙ bit_word c.args.cell c.args.pair) place
+      stores_on_ok g.T.Lawful.fits g.T.Lawful.rises _ _ _ _ _ c.args.cell (2 + c.args.pair) _ _ t.0 t.1 t.2
+          (word ∙ bit_word c.args.cell c.args.pair) place
           t.3.process.has t.3.process.one t.3.notes t.4 t.3.process.held t.5 (ap (λ z. 2 + z) pair) (omega arith) t.7,
     )
 
 pub returns-clause-stored : goal.returns-clause-stored
 returns-clause-stored g c =
     let b = c.base.ensures in
-    subst (λ z. stores_on (step c.args.self.now.rows.inner.shared.table_id.slots z c.args.index 0 none) c.args.seat.now.inner.me c.args.index c.store.new.seat.me)
+    subst (λ z. stores_on (step c.args.self.now.rows.inner.shared.table_id.slots z c.args.index 0 none) c.args.seat.now.inner.me
+    c.args.index c.store.new.seat.me)
     (omega arith) c.store.ensures.2

@@ -20,11 +20,13 @@ load-requires g c =
       c.requires.own,
       omega arith,
       takes_ok g.T.Lawful.fits g.T.Lawful.rises _ _ g.T.Lawful.reflexive g.T.Lawful.transitive _ _ _ c.args.cell (2 + c.args.pair) _ t.0 t.1
-          (word ∙ bit_word c.args.cell c.args.pair) place t.2.process.has t.2.process.one t.2.notes t.2.process.held t.3 (ap (λ z. 2 + z) pair) (omega arith),
+          (word ∙ bit_word c.args.cell c.args.pair) place t.2.process.has t.2.process.one t.2.notes t.2.process.held t.3
+          (ap (λ z. 2 + z) pair) (omega arith),
     )
 
 pub returns-clause-taken : goal.returns-clause-taken
 returns-clause-taken g c =
     let b = c.base.ensures in
-    subst (λ z. takes g.T.Lawful.fits g.T.Lawful.rises (step c.args.self.now.rows.inner.shared.table_id.slots z 0 0 none) c.args.seat.now.inner.me
+    subst (λ z. takes g.T.Lawful.fits g.T.Lawful.rises
+    (step c.args.self.now.rows.inner.shared.table_id.slots z 0 0 none) c.args.seat.now.inner.me
     c.load.result c.load.new.seat.me) (omega arith) c.load.ensures.2

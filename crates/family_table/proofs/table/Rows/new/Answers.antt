@@ -13,10 +13,12 @@ new-requires g c =
     let one : is_ok c.resize.result ≡ true = search rules in
     let two : is_ok c.resize-2.result ≡ true = search rules in
     let words : c.as_slice.result.now ≡ replicate (c.args.stride * (n * n) + 8) c.args.word =
-    c.as_slice.ensures.value ∙ filled _ (c.args.stride * (n * n) + 8) (vec_len c.new-words.result) c.new-words.result.items c.resize.new.self.items c.args.word one (search rules)
+    c.as_slice.ensures.value ∙ filled _ (c.args.stride * (n * n) + 8)
+    (vec_len c.new-words.result) c.new-words.result.items c.resize.new.self.items c.args.word one (search rules)
     (search rules) c.resize.ensures.items in
     let slots : c.resize-2.new.self.items ≡ replicate (c.args.slots * (n * n)) o =
-    filled _ (c.args.slots * (n * n)) (vec_len c.new-records.result) c.new-records.result.items c.resize-2.new.self.items o two (search rules) (search rules)
+    filled _ (c.args.slots * (n * n)) (vec_len c.new-records.result) c.new-records.result.items c.resize-2.new.self.items o two
+    (search rules) (search rules)
     c.resize-2.ensures.items in
     subst (λ (z : List ℕ × List g.row.T.Denot). FamilyRule m.blank (m.layout n) (m.keeps o) n
     (opening z.0 z.1 (m.first o n))) (λ i. (sym words i, sym slots i))

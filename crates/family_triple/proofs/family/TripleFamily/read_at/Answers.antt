@@ -65,8 +65,10 @@ slot_place-requires g c =
       };
       notes = column_notes f s own c.args.from other cell at;
     } in
-    let looked = c.newest-slot.ensures.looked (known_by s) q (back ++ front) reader slots column.low (sym column.numbered) in
-    (few_cells f.table.rows.inner.shared.key.processes cell f.table.rows.some.1 (column_inside f s own c.args.from other cell at), looked.took.2)
+    let looked = c.newest-slot.ensures.looked (known_by s) q (back ++ front) reader slots column.low (sym column.numbered) in (
+      few_cells f.table.rows.inner.shared.key.processes cell f.table.rows.some.1 (column_inside f s own c.args.from other cell at),
+      looked.took.2,
+    )
 
 pub show-requires-clause-held : goal.show-requires-clause-held
 show-requires-clause-held g c =
@@ -135,12 +137,14 @@ returns g c =
     let y : ℕ × g.row.T.Denot = (slot_at cell slot, looked.answer) in
     let few : c.args.from < 16 = omega (arith, other.0, f.table.rows.some.1) in
     let behind : length (y ∷ back) ≡ 2 * (s.processes - 1) - before =
-    behind_long s.seat.inner.me.1 front back (slot_at cell q.slot, q.at_hand.value) y before (2 * (s.processes - 1)) cut.2 turns own.rest.many in
+    behind_long s.seat.inner.me.1 front back (slot_at cell q.slot, q.at_hand.value) y before
+    (2 * (s.processes - 1)) cut.2 turns own.rest.many in
     let last = c.turn_by-2.ensures.turned (y ∷ back) front (ap (λ z. z.1) c.show.ensures.same ∙ looked.slots) behind in
     let is : c.turn_by-2.new.seat.inner.me.1 ≡ front ++ y ∷ back = ap (λ z. z.1) last in
     let same : c.turn_by-2.new.seat.inner.table_id ≡ s.seat.inner.table_id =
     c.turn_by-2.ensures.own ∙ (c.show.ensures.own ∙ (c.newest-slot.ensures.own ∙ c.turn_by.ensures.own)) in
-    let h = has_read f s own c.args.from other cell at few g.T.Lawful.fits g.T.Lawful.rises (back ++ front) c.newest-slot.new.seat.inner.me slot
+    let h = has_read f s own c.args.from other cell at few g.T.Lawful.fits g.T.Lawful.rises
+    (back ++ front) c.newest-slot.new.seat.inner.me slot
     (record s { seat = c.turn_by-2.new.seat; stored = record s.stored { reads = set s.stored.reads c.args.from slot } }) looked
     (ap (λ z. z.0) last ∙ ap (λ z. z.0) c.show.ensures.same)
     (replaced s.seat.inner.me.1 c.turn_by-2.new.seat.inner.me.1 front back (slot_at cell q.slot, q.at_hand.value) y place cut.2 is cut.3)

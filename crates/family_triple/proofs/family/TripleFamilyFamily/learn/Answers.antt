@@ -26,8 +26,10 @@ returns-clause-own g c =
     let r : Receipt (TripleSight g.row.T.Denot) = told_in c.args.told in
     let me : c.hear.new.seat.inner.me.0 ≡ Has (heard_by hears_of v r ∷ []) =
     ap (λ z. z.0) c.hear.ensures.joined ∙ (λ i. learnt_by hears_of (own.one i) ((ap (λ z. z.0) c.requires.own.1.one) i)) in (
-      seat_after c.args.self.now s own (record s { seat = c.hear.new.seat }) (heard_by hears_of v r) s.seat.inner.me.1 c.hear.ensures.own refl refl refl me
-          (ap (λ z. z.1) c.hear.ensures.joined) refl (rest_heard s.spare s.processes v r s.stored.fills s.stored.reads s.seat.inner.me.1 own.rest),
+      seat_after c.args.self.now s own (record s { seat = c.hear.new.seat })
+          (heard_by hears_of v r) s.seat.inner.me.1 c.hear.ensures.own refl refl refl me
+          (ap (λ z. z.1) c.hear.ensures.joined) refl
+          (rest_heard s.spare s.processes v r s.stored.fills s.stored.reads s.seat.inner.me.1 own.rest),
       refl,
     )
 
@@ -49,7 +51,8 @@ returns-clause-heard g c = λ away.
     subst (λ z. IsHeardRead (reads_from s.spare s.processes v t.from) (reads_from s.spare s.processes z t.from) (naming t s.who).item
     (naming t s.who).writes)
     (sym (ap process_of me))
-    (is_heard s.spare s.processes v r s.stored.fills s.stored.reads s.seat.inner.me.1 own.rest t.from lf (naming t s.who) (λ e. away (e ∙ own.who)) row)
+    (is_heard s.spare s.processes v r s.stored.fills s.stored.reads s.seat.inner.me.1 own.rest t.from lf (naming t s.who)
+    (λ e. away (e ∙ own.who)) row)
 
 pub returns-clause-others : goal.returns-clause-others
 returns-clause-others g c =

@@ -22,10 +22,12 @@ fill-requires-clause-held g c =
     let at = c.place-cell.ensures in
     let row = row_at f s own c.args.to other in
     let p : WriterNotes g.row.T.Denot = row.notes in
-    let cut = split_at s.seat.inner.me.1 (among s.who c.args.to) (slot_at cell p.slot, row.record_there) (row_slot f s own c.args.to other cell at) in
+    let cut = split_at s.seat.inner.me.1 (among s.who c.args.to) (slot_at cell p.slot, row.record_there)
+    (row_slot f s own c.args.to other cell at) in
     let front : List (ℕ × g.row.T.Denot) = cut.0 in
     let back : List (ℕ × g.row.T.Denot) = cut.1 in
-    let first = c.turn_by.ensures.turned front ((slot_at cell p.slot, row.record_there) ∷ back) cut.2 (cut.3 ∙ sym c.among-before.ensures) in
+    let first = c.turn_by.ensures.turned front ((slot_at cell p.slot, row.record_there) ∷ back) cut.2
+    (cut.3 ∙ sym c.among-before.ensures) in
     let place : c.slot_place.result ≡ slot_at cell p.slot = c.slot_place.ensures ∙ ap (slot_at cell) (sym row.numbered) in
     let there : c.turn_by.new.seat.inner.me.1 ≡ (c.slot_place.result, row.record_there) ∷ (back ++ front) =
     ap (λ z. z.1) first ∙ ap (λ z. (z, row.record_there) ∷ (back ++ front)) (sym place) in
@@ -42,10 +44,12 @@ publish-middle-requires-clause-filled g c =
     let at = c.place-cell.ensures in
     let row = row_at f s own c.args.to other in
     let p : WriterNotes g.row.T.Denot = row.notes in
-    let cut = split_at s.seat.inner.me.1 (among s.who c.args.to) (slot_at cell p.slot, row.record_there) (row_slot f s own c.args.to other cell at) in
+    let cut = split_at s.seat.inner.me.1 (among s.who c.args.to) (slot_at cell p.slot, row.record_there)
+    (row_slot f s own c.args.to other cell at) in
     let front : List (ℕ × g.row.T.Denot) = cut.0 in
     let back : List (ℕ × g.row.T.Denot) = cut.1 in
-    let first = c.turn_by.ensures.turned front ((slot_at cell p.slot, row.record_there) ∷ back) cut.2 (cut.3 ∙ sym c.among-before.ensures) in
+    let first = c.turn_by.ensures.turned front ((slot_at cell p.slot, row.record_there) ∷ back) cut.2
+    (cut.3 ∙ sym c.among-before.ensures) in
     let place : c.slot_place.result ≡ slot_at cell p.slot = c.slot_place.ensures ∙ ap (slot_at cell) (sym row.numbered) in
     let there : c.turn_by.new.seat.inner.me.1 ≡ (c.slot_place.result, row.record_there) ∷ (back ++ front) =
     ap (λ z. z.1) first ∙ ap (λ z. (z, row.record_there) ∷ (back ++ front)) (sym place) in
@@ -53,7 +57,8 @@ publish-middle-requires-clause-filled g c =
     let slots : c.fill.new.seat.inner.me.1 ≡ (slot_at cell p.slot, item) ∷ (back ++ front) =
     ap (λ z. z.1) filled ∙ ap (λ z. (z, item) ∷ (back ++ front)) place in
     let one : c.fill.new.seat.inner.me.0 ≡ Has (known_by s ∷ []) = ap (λ z. z.0) filled ∙ (ap (λ z. z.0) first ∙ own.one) in
-    let turned = turned_front s.seat.inner.me.1 front back (slot_at cell p.slot) row.record_there item (known_by s).held c.fill.new.seat.inner.me.1
+    let turned = turned_front s.seat.inner.me.1 front back (slot_at cell p.slot) row.record_there item
+    (known_by s).held c.fill.new.seat.inner.me.1
     cut.2 own.rest.held slots in (
       known_by s,
       p,
@@ -82,10 +87,12 @@ returns g c =
     let at = c.place-cell.ensures in
     let row = row_at f s own c.args.to other in
     let p : WriterNotes g.row.T.Denot = row.notes in
-    let cut = split_at s.seat.inner.me.1 (among s.who c.args.to) (slot_at cell p.slot, row.record_there) (row_slot f s own c.args.to other cell at) in
+    let cut = split_at s.seat.inner.me.1 (among s.who c.args.to) (slot_at cell p.slot, row.record_there)
+    (row_slot f s own c.args.to other cell at) in
     let front : List (ℕ × g.row.T.Denot) = cut.0 in
     let back : List (ℕ × g.row.T.Denot) = cut.1 in
-    let first = c.turn_by.ensures.turned front ((slot_at cell p.slot, row.record_there) ∷ back) cut.2 (cut.3 ∙ sym c.among-before.ensures) in
+    let first = c.turn_by.ensures.turned front ((slot_at cell p.slot, row.record_there) ∷ back) cut.2
+    (cut.3 ∙ sym c.among-before.ensures) in
     let place : c.slot_place.result ≡ slot_at cell p.slot = c.slot_place.ensures ∙ ap (slot_at cell) (sym row.numbered) in
     let there : c.turn_by.new.seat.inner.me.1 ≡ (c.slot_place.result, row.record_there) ∷ (back ++ front) =
     ap (λ z. z.1) first ∙ ap (λ z. (z, row.record_there) ∷ (back ++ front)) (sym place) in
@@ -94,7 +101,8 @@ returns g c =
     ap (λ z. z.1) filled ∙ ap (λ z. (z, item) ∷ (back ++ front)) place in
     let one : c.fill.new.seat.inner.me.0 ≡ Has (known_by s ∷ []) = ap (λ z. z.0) filled ∙ (ap (λ z. z.0) first ∙ own.one) in
     let slot : ℕ = c.publish-middle.result % 4 in
-    let e = c.publish-middle.ensures.swapped cell (known_by s) p item (back ++ front) (word_is cell) one (row_notes f s own c.args.to other cell at)
+    let e = c.publish-middle.ensures.swapped cell (known_by s) p item (back ++ front) (word_is cell) one
+    (row_notes f s own c.args.to other cell at)
     slots in
     let y : ℕ × g.row.T.Denot = (slot_at cell slot, e.0) in
     let few : c.args.to < 16 = omega (arith, other.0, f.table.rows.some.1) in
@@ -106,7 +114,9 @@ returns g c =
     let same : c.turn_by-2.new.seat.inner.table_id ≡ s.seat.inner.table_id =
     c.turn_by-2.ensures.own ∙ (c.publish-middle.ensures.own ∙ (c.fill.ensures.own ∙ c.turn_by.ensures.own)) in
     let h = wrote f s own c.args.to other cell at few item e.0 slot e.1 (held_slots (y ∷ (back ++ front)))
-    (record s { seat = c.turn_by-2.new.seat; stored = record s.stored { fills = set s.stored.fills c.args.to slot } }) e.4.0 e.2 (ap (λ z. z.0) last ∙ e.4.1)
-    (replaced s.seat.inner.me.1 c.turn_by-2.new.seat.inner.me.1 front back (slot_at cell p.slot, row.record_there) y (among s.who c.args.to) cut.2 is cut.3)
+    (record s { seat = c.turn_by-2.new.seat; stored = record s.stored { fills = set s.stored.fills c.args.to slot } }) e.4.0 e.2
+    (ap (λ z. z.0) last ∙ e.4.1)
+    (replaced s.seat.inner.me.1 c.turn_by-2.new.seat.inner.me.1 front back (slot_at cell p.slot, row.record_there) y
+    (among s.who c.args.to) cut.2 is cut.3)
     (turned_back front back y c.turn_by-2.new.seat.inner.me.1 is) same refl refl refl refl refl in
     record { own = h.own; access = h.access; written = h.written; others = h.others }

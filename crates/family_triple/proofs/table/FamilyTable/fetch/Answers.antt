@@ -14,11 +14,13 @@ swap-requires g c =
     let b = c.word_of.ensures in (
       c.requires.own,
       omega arith,
-      fetches_ok g.T.Lawful.fits g.T.Lawful.rises _ _ g.T.Lawful.reflexive g.T.Lawful.transitive _ _ _ c.args.cell _ _ t.0 t.1 t.2 (omega arith) place t.3.process.has t.3.process.one t.3.notes t.4 t.3.process.held t.5 t.6 t.7,
+      fetches_ok g.T.Lawful.fits g.T.Lawful.rises _ _ g.T.Lawful.reflexive g.T.Lawful.transitive _ _ _ c.args.cell _ _ t.0 t.1 t.2
+          (omega arith) place t.3.process.has t.3.process.one t.3.notes t.4 t.3.process.held t.5 t.6 t.7,
     )
 
 pub returns-clause-swapped : goal.returns-clause-swapped
 returns-clause-swapped g c =
     let b = c.word_of.ensures in
-    subst (λ z. fetches g.T.Lawful.fits g.T.Lawful.rises (step c.args.self.now.rows.inner.shared.table_id.slots z c.args.new 0 none) c.args.seat.now.inner.me
+    subst (λ z. fetches g.T.Lawful.fits g.T.Lawful.rises
+    (step c.args.self.now.rows.inner.shared.table_id.slots z c.args.new 0 none) c.args.seat.now.inner.me
     c.swap.result c.swap.new.seat.me) (omega arith) c.swap.ensures.2

@@ -14,11 +14,13 @@ load-requires g c =
     let b = c.word_of.ensures in (
       c.requires.own,
       omega arith,
-      looks_ok g.T.Lawful.fits g.T.Lawful.rises _ _ g.T.Lawful.reflexive g.T.Lawful.transitive _ _ _ c.args.cell _ t.0 t.1 (omega arith) place t.2.process.has t.2.process.one t.2.notes t.2.process.held t.3,
+      looks_ok g.T.Lawful.fits g.T.Lawful.rises _ _ g.T.Lawful.reflexive g.T.Lawful.transitive _ _ _ c.args.cell _ t.0 t.1
+          (omega arith) place t.2.process.has t.2.process.one t.2.notes t.2.process.held t.3,
     )
 
 pub returns-clause-looked : goal.returns-clause-looked
 returns-clause-looked g c =
     let b = c.word_of.ensures in
-    subst (λ z. looks g.T.Lawful.fits g.T.Lawful.rises (step c.args.self.now.rows.inner.shared.table_id.slots z 0 0 none) c.args.seat.now.inner.me
+    subst (λ z. looks g.T.Lawful.fits g.T.Lawful.rises
+    (step c.args.self.now.rows.inner.shared.table_id.slots z 0 0 none) c.args.seat.now.inner.me
     c.load.result c.load.new.seat.me) (omega arith) c.load.ensures.2

@@ -14,7 +14,8 @@ load-requires g c =
     let b = c.word_of.ensures in (
       c.requires.own,
       omega arith,
-      get_takes_ok g.T.Lawful.fits g.T.Lawful.rises _ _ _ _ _ c.args.cell _ t.0 t.1 (omega arith) place t.2.process.has t.2.process.one t.2.notes t.2.process.held t.3,
+      get_takes_ok g.T.Lawful.fits g.T.Lawful.rises _ _ _ _ _ c.args.cell _ t.0 t.1
+          (omega arith) place t.2.process.has t.2.process.one t.2.notes t.2.process.held t.3,
     )
 
 pub returns-clause-took : goal.returns-clause-took

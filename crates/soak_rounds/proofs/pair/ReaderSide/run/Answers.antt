@@ -16,7 +16,8 @@ loop-preserved g c = record {
   of = c.look-number.ensures.own;
   adds = rw (c.note.ensures, c.last_read-self.ensures)
       (one_more_read (λ r. g.W.Words.listed r.words) c.args.self.now.last c.loop.counter c.loop.self.last
-      (g.C.Calls.answers c.args.self.now.get) (g.C.Calls.answers c.loop.self.get) (g.C.Calls.answers c.look-number.new.get) c.loop.self.tally
+      (g.C.Calls.answers c.args.self.now.get) (g.C.Calls.answers c.loop.self.get)
+      (g.C.Calls.answers c.look-number.new.get) c.loop.self.tally
       (g.C.Calls.at_hand c.look-number.new.get) c.look-number.result c.loop.invariant.adds c.look-number.ensures.answers
       c.look-number.ensures.number);
 }

@@ -8,7 +8,7 @@ use Rattle.matrix_core.specs.Runs.{IsTerm, step_count}
 use Rattle.matrix_core.specs.declared.overruns.Cells.TheVariants.{Atomic}
 use Rattle.matrix_core.proofs.lists.Elements.{same_or_not}
 use Rattle.matrix_core.proofs.terms.Overruns.{count_next}
-use Rattle.test_libraries.proofs.matrices.can_play.Goals as goal
+use Rattle.test_matrices.proofs.rows.can_play.Goals as goal
 
 pub loop-term-preserved : goal.loop-term-preserved
 loop-term-preserved c =

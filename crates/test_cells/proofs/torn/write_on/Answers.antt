@@ -1,9 +1,9 @@
 -- The last record is the one just written, so its number is that of the turn.
 use Rattle.std.proofs.Common.{List, ◌∙◌, ap}
-use Rattle.test_libraries.specs.declared.cells.torn.Three.{Three}
+use Rattle.test_cells.specs.declared.torn.Three.{Three}
 use Rattle.cell_live.specs.Running.{last_or}
 use Rattle.cell_live.proofs.ListLaws.{last_snoc}
-use Rattle.test_libraries.proofs.cells.torn.write_on.Goals as goal
+use Rattle.test_cells.proofs.torn.write_on.Goals as goal
 
 pub loop-i-preserved : goal.loop-i-preserved
 loop-i-preserved g c =

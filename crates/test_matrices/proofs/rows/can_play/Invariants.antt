@@ -4,7 +4,7 @@ use Rattle.std.specs.Prelude.{slice_get, Some}
 use Rattle.history_core.specs.declared.band.Band.{Band}
 use Rattle.matrix_core.specs.declared.schedule.MatrixTerm.{MatrixTerm}
 use Rattle.matrix_core.specs.Runs.{IsTerm, step_count}
-use Rattle.test_libraries.proofs.matrices.can_play.Given as goal
+use Rattle.test_matrices.proofs.rows.can_play.Given as goal
 
 abbrev pub invariant-loop-term : goal.invariant-loop-term
 invariant-loop-term l = record {
