@@ -24,7 +24,7 @@ ends() {
 tells() {
     stream=out other=err wanted_status=0 line=$2
     case $2 in
-    document:* | history:* | schedule:*) stream=err other=out wanted_status=3 line="fsr: $2" ;;
+    document:* | history:* | schedule:* | line*) stream=err other=out wanted_status=3 line="fsr: $2" ;;
     unlawful*) wanted_status=1 ;;
     esac
     printf '%b\n' "$line" >"$room/wanted"

@@ -147,7 +147,7 @@ cat >"$room/turned.jsonl" <<'LOG'
 {"who":1,"kind":"write","begin":0,"end":5,"record":1}
 {"who":2,"kind":"read","begin":6,"end":7,"record":1}
 LOG
-printf 'lawful\nwrites: 3 2\n3 operations, 0 unfinished, 3 records\n' >"$room/wanted"
+printf 'lawful\nwrites: 3 2\n3 operations, 0 unfinished, 3 records, 1 of them read; no last line `done`\n' >"$room/wanted"
 ends_fsr 0 out order --order "$room/turned.jsonl"
 : >"$room/wanted"
 ends_fsr 0 out order --small "$room/turned.jsonl"
@@ -192,9 +192,21 @@ unlawful limit 3
 line 2: {"who":0,"kind":"write","begin":0,"end":1,"record":1}
 line 3: {"who":1,"kind":"refused","begin":2,"end":3,"record":1}
 Of the writes at most 1 can stand before line 3 or a refused write in front of it, and the limit is 3.
-3 operations, 0 unfinished, 3 records
+3 operations, 0 unfinished, 3 records, 0 of them read; no last line `done`
 REASON
 ends_fsr 1 out order "$room/limit.jsonl"
+
+# The end is there, and blank lines behind it. Of a log whose header was lost it is told.
+sed '1s/.*/{"kind":"lines","opening":0}/' "$room/turned.jsonl" >"$room/blank.jsonl"
+printf '{"kind":"done","ops":3}\n\n \n' >>"$room/blank.jsonl"
+printf 'lawful\n3 operations, 0 unfinished, 3 records, 1 of them read\n' >"$room/wanted"
+ends_fsr 0 out order "$room/blank.jsonl"
+sed 1d "$room/turned.jsonl" >"$room/headless.jsonl"
+echo 'fsr: line 1: no header of kind `lines`, and no document: not JSON' >"$room/wanted"
+ends_fsr 3 err order "$room/headless.jsonl"
+head -c 1048577 /dev/zero | tr '\0' ' ' >>"$room/headless.jsonl"
+echo 'fsr: line 1: no header of kind `lines`, and no document: longer than 1048576 bytes' >"$room/wanted"
+ends_fsr 3 err order "$room/headless.jsonl"
 
 # Sees how `picture` ends with these words: the status, and the line on standard error.
 #   ends_picture TITLE INPUT OUTPUT STATUS LINE WORDS..
@@ -239,11 +251,20 @@ for program in fsr picture soak; do
     fi
 done
 
+title="./fsr --help where it isn't built"
+PATH=/usr/bin:/bin "$room/bare/fsr" --help >"$room/out" 2>"$room/err" </dev/null
+status=$?
+if [ "$status" = 2 ] && [ ! -s "$room/out" ] && head -n 1 "$room/err" | grep -qF './fsr check|order|play|race [FILE]'; then
+    pass "$title"
+else
+    fail "$title" "it ended with status $status: $(head -c 200 "$room/out" "$room/err")"
+fi
+
 # The controls: words that are a command, another beginning, another first line, a status that isn't that of the program, and output
 # beside the line.
 catches "words that are a command" "status 0 and not 2" refuses_words "$room/err" a check
 catches "another beginning" "it ended with status 2" refuses_unread 'Writes a document' help
-printf 'lawful\nwrites: 2 3\n3 operations, 0 unfinished, 3 records\n' >"$room/wanted"
+printf 'lawful\nwrites: 2 3\n3 operations, 0 unfinished, 3 records, 1 of them read; no last line `done`\n' >"$room/wanted"
 catches "another order of the writes" "status 0 and not 0" ends_fsr 0 out order --order "$room/turned.jsonl"
 catches "another first line" "Checks that an order" helps check "Checks that no order of a history is atomic" "[FILE]"
 catches "a picture that is drawn" "status 0 and not 2" ends_picture a examples/lawful.json "$room/drawn" 2 "$no_words"

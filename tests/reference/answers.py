@@ -10,13 +10,20 @@ def answer(command, data):
     try:
         kind, found = documents.read(command, data)
     except documents.Refused as refusal:
-        return "", f"fsr: document: {refusal}\n", 3
+        return "", f"fsr: {told(command, str(refusal))}\n", 3
     try:
         return printed(kind, found)
     except players.TooManySteps as refusal:
         return "", f"fsr: schedule: no operation left at step {refusal.position}\n", 3
     except searches.NotSearched as refusal:
         return "", f"fsr: history: {refusal}\n", 3
+
+
+def told(command, refusal):
+    """How a refusal is told. If the bytes are no document at all, `order` says that the header of a log in lines is missing as well."""
+    if command == "order" and refusal in ("not JSON", "longer than 1048576 bytes"):
+        return f"line 1: no header of kind `lines`, and no document: {refusal}"
+    return f"document: {refusal}"
 
 
 def printed(kind, found):

@@ -65,11 +65,12 @@ def told_by(command, text):
     return done.returncode, done.stdout
 
 
-def is_right(rule, reasons, ops, status, text):
-    """Whether this was told: the rule, one of its reasons, by lines, and the three counts."""
-    unfinished, written = sum(it["end"] is None for it in ops), sum(it["kind"] == "write" for it in ops)
+def is_right(rule, reasons, opening, ops, status, text):
+    """Whether this was told: the rule, one of its reasons, by lines, and the four counts."""
+    unfinished, records = sum(it["end"] is None for it in ops), {opening} | {it["record"] for it in ops}
+    given = {it["record"] for it in ops if it["kind"] == "read" and it["end"] is not None} - {opening}
     rows = text.splitlines()
-    if not rows or rows[-1] != f"{len(ops)} operations, {unfinished} unfinished, {written} records":
+    if not rows or rows[-1] != f"{len(ops)} operations, {unfinished} unfinished, {len(records)} records, {len(given)} of them read":
         return False
     if rule == "lawful":
         return status == 0 and rows[0] == "lawful"
@@ -89,7 +90,7 @@ def main():
         rule, reasons = searches.search(opening, limit, ops)
         text = text_of(opening, limit, ops)
         told = told_by(words.command, text)
-        if not is_right(rule, reasons, ops, *told):
+        if not is_right(rule, reasons, opening, ops, *told):
             print(f"{text}has {rule} {sorted(reasons)}, and not\n{told[1]}")
             return 1
         counts[rule] += 1

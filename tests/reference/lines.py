@@ -23,7 +23,7 @@ class Refused(Exception):
 
 class Log:
     def __init__(self, opening, limit):
-        self.opening, self.limit, self.ops = opening, limit, []
+        self.opening, self.limit, self.ops, self.ended = opening, limit, [], False
 
 
 def is_whole(it):
@@ -102,15 +102,28 @@ def is_end(number, found, count, last):
     return True
 
 
+def without_blank_end(lines):
+    """The lines up to the last one that isn't blank."""
+    blank = []
+    for line in lines:
+        if line.strip(" \t\n\f\r"):
+            yield from blank
+            yield line
+            blank = []
+        else:
+            blank.append(line)
+
+
 def read_log(lines):
     """The log of these lines, each of which is tested in turn."""
-    lines = iter(lines)
+    lines = without_blank_end(lines)
     log, latest, written = header_of(next(lines, "")), {}, {}
     number, line = 2, next(lines, None)
     while line is not None:
         following = next(lines, None)
         found = value_of(number, line)
         if is_end(number, found, len(log.ops), following is None):
+            log.ended = True
             break
         it = operation_of(number, found)
         must(it.kind != "refused" or log.limit is not None, number, "missing limit")
@@ -258,9 +271,17 @@ def answer(log):
             records = {it.record for it in named}
             shows.update({it.line: it for it in ops if it.kind == "write" and it.record in records})
         said = [f"unlawful {rule} {' '.join(str(it.line) for it in named)}", *[line_of(shows[line]) for line in sorted(shows)]]
-    unfinished, written = sum(it.end is None for it in ops), sum(it.kind == "write" for it in ops)
-    said.append(f"{len(ops)} operations, {unfinished} unfinished, {written} records")
+    said.append(counts(log))
     return 1 if found else 0, "\n".join(said) + "\n"
+
+
+def counts(log):
+    """How many operations there are and how many are unfinished, how many records and how many a finished read gave but for the opening."""
+    unfinished = sum(it.end is None for it in log.ops)
+    records = {log.opening} | {it.record for it in log.ops if it.record is not None}
+    given = {it.record for it in log.ops if it.kind == "read" and it.end is not None} - {log.opening}
+    cut = "" if log.ended else "; no last line `done`"
+    return f"{len(log.ops)} operations, {unfinished} unfinished, {len(records)} records, {len(given)} of them read{cut}"
 
 
 def main(words):

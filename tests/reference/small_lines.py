@@ -15,12 +15,12 @@ class Fault(Exception):
 def answer(data):
     """The text, or of an unlawful log its rule with every reason of it by lines; the line on standard error, and the status."""
     try:
-        opening, limit, ops = read(data)
+        opening, limit, ops, ended = read(data)
         rule, found = searches.search(opening, limit or 1, ops)
     except Fault as fault:
         return "", f"fsr: {fault}\n", 3
     if rule == "lawful":
-        return "lawful\n" + counts(opening, ops), "", 0
+        return "lawful\n" + counts(opening, ops, ended), "", 0
     return (rule, {tuple(place + 2 for place in reason) for reason in found}), "", 1
 
 
@@ -34,19 +34,21 @@ def take_write(opening, each, written, number):
     written[each["record"]] = number
 
 
-def counts(opening, ops):
+def counts(opening, ops, ended):
     records = {opening} | {each["record"] for each in ops if each["record"] is not None}
+    read_ones = {each["record"] for each in ops if each["kind"] == "read" and each["end"] is not None} - {opening}
     unfinished = sum(each["end"] is None for each in ops)
-    return f"{len(ops)} operations, {unfinished} unfinished, {len(records)} records\n"
+    cut = "" if ended else "; no last line `done`"
+    return f"{len(ops)} operations, {unfinished} unfinished, {len(records)} records, {len(read_ones)} of them read{cut}\n"
 
 
 def told(data, reason):
     """What is printed of a reason, whose first word is the rule and whose others are lines."""
-    opening, limit, ops = read(data)
+    opening, limit, ops, ended = read(data)
     lines = [int(word) for word in reason[1:]]
     texts = data.decode().split("\n")
     shows = "".join(f"line {line}: {texts[line - 1]}\n" for line in named_by(lines, ops))
-    return f"unlawful {' '.join(reason)}\n" + shows + sentence(reason[0], lines, opening, limit, ops) + counts(opening, ops)
+    return f"unlawful {' '.join(reason)}\n" + shows + sentence(reason[0], lines, opening, limit, ops) + counts(opening, ops, ended)
 
 
 def named_by(lines, ops):
@@ -68,7 +70,7 @@ def most_before(opening, ops):
 def small(data, lines):
     """What `--small` prints of a log that has this reason: a document of kind `log` of the lines that it names. Records have the numbers in
     which the log has them first, and tasks those of their first operations among these."""
-    opening, limit, ops = read(data)
+    opening, limit, ops, _ = read(data)
     numbers = {opening: 0}
     for each in ops:
         if each["record"] is not None:
@@ -82,8 +84,8 @@ def small(data, lines):
 
 def is_order_of_writes(data, text):
     """Whether a lawful log is told with the lines of its writes, in an order that belongs to a lawful one."""
-    opening, limit, ops = read(data)
-    head, foot = "lawful\nwrites:", "\n" + counts(opening, ops)
+    opening, limit, ops, ended = read(data)
+    head, foot = "lawful\nwrites:", "\n" + counts(opening, ops, ended)
     if not text.startswith(head) or not text.endswith(foot):
         return False
     told = [int(word) - 2 for word in text[len(head):-len(foot)].split()]
@@ -111,10 +113,8 @@ def sentence(rule, lines, opening, limit, ops):
 
 
 def read(data):
-    """The opening, the limit and the operations."""
-    lines = data.split(b"\n")
-    if lines[-1] == b"":
-        lines.pop()
+    """The opening, the limit, the operations, and whether the end is there."""
+    lines = data.rstrip(b" \t\n\f\r").split(b"\n")
     header = header_of(lines[0])
     opening = record_of(asked(header, "opening", 1))
     if opening is None:
@@ -124,16 +124,17 @@ def read(data):
         raise Fault("line 1: shape of limit")
     if limit is not None and not 1 <= limit <= documents.MAX_LIMIT:
         raise Fault("line 1: range of limit")
-    ops, lasts, written = [], {}, {}
+    ops, lasts, written, ended = [], {}, {}, False
     for number, text in enumerate(lines[1:], 2):
         value = value_of(text, number)
         if isinstance(value, dict) and value.get("kind") == "done":
             check_end(value, number, len(ops), number == len(lines))
+            ended = True
             break
         ops.append(operation_of(value, number, limit))
         take_turn(ops, lasts, number)
         take_write(opening, ops[-1], written, number)
-    return opening, limit, ops
+    return opening, limit, ops, ended
 
 
 def header_of(line):
@@ -141,7 +142,7 @@ def header_of(line):
     try:
         return documents.read_json(line)
     except documents.Refused:
-        raise Fault("document: not JSON") from None
+        raise Fault("line 1: no header of kind `lines`, and no document: not JSON") from None
 
 
 def take_turn(ops, lasts, number):

@@ -1,6 +1,6 @@
 -- The answer to a log has status 0 or 1.
 use Rattle.std.proofs.Common.{rules, arith, ◌≡◌, ◌≤◌, ℕ, List, Bool, true, false, Result, Ok, Err, ap, sym, subst}
-use Rattle.fsr_runs.specs.Answers.{AnswersReading, GivesReply, HasLowStatus}
+use Rattle.fsr_runs.specs.Answers.{GivesReply, HasLowStatus}
 use Rattle.fsr_runs.specs.declared.fault.Answer.{Answer}
 use Rattle.fsr_runs.specs.declared.fault.Fault.{Fault}
 use Rattle.history_core.specs.declared.band.Band.{Band}
@@ -12,7 +12,7 @@ use Rattle.fsr_words.specs.declared.command.Show.{Show}
 use Rattle.log_text.specs.Log.{log_of}
 use Rattle.history_search.specs.declared.reason.Search.{Search}
 use Rattle.history_search.specs.declared.reason.Search.TheVariants.{Order, Unlawful}
-use Rattle.fsr_order_answers.specs.Order.{AnswersOrder, IsAnswerBy, IsLogAnswer, IsOrderAnswer, printed, status_of}
+use Rattle.fsr_order_answers.specs.Order.{AnswersRead, IsAnswerBy, IsLogAnswer, IsOrderAnswer, printed, status_of}
 
 search_is_low : (search : Search) → status_of search ≤ 1
 search_is_low (Order order) = omega arith
@@ -21,7 +21,7 @@ search_is_low (Unlawful reason) = omega arith
 low_search : (search : Search) (a : Answer) → a ≡ printed search → a.status ≤ 1
 low_search search a is_printed = subst (λ (s : ℕ). s ≤ 1) (sym (ap (λ (b : Answer). b.status) is_printed)) (search_is_low search)
 
-low_log : (d : Result (History Band) DocError) (a : Answer) → AnswersReading AnswersOrder d (Ok a) → a.status ≤ 1
+low_log : (d : Result (History Band) DocError) (a : Answer) → AnswersRead d (Ok a) → a.status ≤ 1
 low_log (Ok log) a answered = low_search answered.0 a answered.2
 low_log (Err refusal) a answered = absurd (cc)
 

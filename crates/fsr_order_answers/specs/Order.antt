@@ -1,17 +1,19 @@
 -- The answer to a log, in lines or as a document of kind `log`: a lawful order of its operations, or that there is none, or the fault
 -- (this project's own).
 use Rattle.std.specs.Prelude.{◌≡◌, ℕ, List, Bool, true, false, Result, Ok, Err}
-use Rattle.fsr_runs.specs.Answers.{AnswersReading}
+use Rattle.fsr_refusals.specs.declared.refusal.DocError.{DocError}
+use Rattle.fsr_refusals.specs.declared.refusal.DocError.TheVariants as doc
 use Rattle.fsr_runs.specs.declared.fault.Answer.{Answer}
 use Rattle.fsr_runs.specs.declared.fault.Fault.{Fault}
 use Rattle.fsr_runs.specs.declared.fault.Fault.TheVariants as fault
+use Rattle.fsr_runs.specs.declared.fault.LinesFault.TheVariants.{Headless}
 use Rattle.history_core.specs.declared.band.Band.{Band}
 use Rattle.history_core.specs.declared.history.History.{History}
 use Rattle.lines_answers.specs.Answers.{IsLinesAnswer}
 use Rattle.lines_answers.specs.Kinds.{are_lines}
 use Rattle.fsr_words.specs.declared.command.Show.{Show}
 use Rattle.log_search.specs.Logs.{IsLogFault, IsLogSearch}
-use Rattle.log_search.specs.Text.{search_text}
+use Rattle.search_text.specs.Text.{search_text}
 use Rattle.log_text.specs.Log.{log_of}
 use Rattle.history_search.specs.declared.reason.Search.{Search}
 use Rattle.history_search.specs.declared.reason.Search.TheVariants.{Order, Unlawful}
@@ -35,9 +37,21 @@ AnswersOrder log (Err (fault.Schedule position)) = ⊥
 AnswersOrder log (Err fault.NoMemory) = ⊥
 AnswersOrder log (Err fault.NoThread) = ⊥
 
+-- how the refusal of bytes is told that have no header of kind `lines`
+abbrev pub fault_of : DocError → Fault
+fault_of doc.NotJson = fault.Lines (Headless doc.NotJson)
+fault_of doc.Long = fault.Lines (Headless doc.Long)
+fault_of doc.NoMemory = fault.NoMemory
+fault_of why = fault.Document why
+
+-- the answer to what was read, which is the fault if it was refused
+abbrev pub AnswersRead : Result (History Band) DocError → Result Answer Fault → Type 0
+AnswersRead (Ok log) reply = AnswersOrder log reply
+AnswersRead (Err why) reply = reply ≡ Err (fault_of why)
+
 -- the answer to the bytes of a document of kind `log`
 abbrev pub IsLogAnswer : List ℕ → Result Answer Fault → Type 0
-IsLogAnswer bytes reply = AnswersReading AnswersOrder (log_of bytes) reply
+IsLogAnswer bytes reply = AnswersRead (log_of bytes) reply
 
 -- the answer by the kind: whether the document is a log in lines
 abbrev pub IsAnswerBy : Show → Bool → List ℕ → Result Answer Fault → Type 0

@@ -1,17 +1,18 @@
 ghost use Rattle.std.specs.Prelude.{◌≡◌, IfOk};
 ghost use Rattle.fsr_runs.specs.Answers.{GivesReply};
-ghost use Rattle.fsr_order_answers.specs.Order.{AnswersOrder, IsLogAnswer, IsOrderAnswer, printed, status_of};
+ghost use Rattle.fsr_order_answers.specs.Order.{AnswersOrder, fault_of, IsLogAnswer, IsOrderAnswer, printed, status_of};
 ghost use Rattle.history_text.specs.Refusals.{Gives as Reads};
 ghost use Rattle.log_text.specs.Log.{CanBeSearched, log_of};
 
-use fsr_runs::{Answer, Fault};
+use fsr_runs::{Answer, Fault, LinesFault};
 use fsr_words::Show;
 use history_core::{Band, History, Items};
 use history_search::Search;
 use history_text::{DocError, read_value};
 use lines_answers::{are_lines, order_lines};
-use log_search::{search_log, search_text};
+use log_search::search_log;
 use log_text::log_document;
+use search_text::search_text;
 use std::alloc::{AllocError, Global};
 use std::mem::forget;
 
@@ -32,8 +33,21 @@ pub fn order(alloc: Global, show: Show, bytes: &[u8]) -> Result<Answer, Fault>
 fn order_document(alloc: Global, bytes: &[u8]) -> Result<Answer, Fault>
     ensures { GivesReply (IsLogAnswer bytes.now) result }
 {
-    let log = read(alloc, bytes)?;
-    order_log(alloc, &log)
+    match read(alloc, bytes) {
+        Ok(log) => order_log(alloc, &log),
+        Err(why) => Err(fault_of(why)),
+    }
+}
+
+/// How the refusal of bytes is told that have no header of kind `lines`.
+fn fault_of(why: DocError) -> Fault
+    ensures { result ≡ fault_of why }
+{
+    match why {
+        DocError::NotJson | DocError::Long => Fault::Lines(LinesFault::Headless { why }),
+        DocError::NoMemory => Fault::NoMemory,
+        _ => Fault::Document(why),
+    }
 }
 
 /// The log that the bytes stand for. The JSON value that they are is left unfreed: a run reads one document and ends, and the value

@@ -27,6 +27,11 @@ pub enum HistoryFault {
 /// Why a log in lines has no answer. Lines are counted from 1, the header's.
 #[derive(Clone, Copy, Debug, Error)]
 pub enum LinesFault {
+    /// Neither is the first line a header nor the whole a document.
+    #[error("line 1: no header of kind `lines`, and no document: {why}")]
+    Headless {
+        why: DocError,
+    },
     #[error("line {line}: {why}")]
     Refused {
         line: usize,

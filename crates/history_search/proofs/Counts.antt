@@ -1,12 +1,12 @@
 -- Counts of entries that pass a test: where each such place stands as often in another list, that has as many.
 use Rattle.std.proofs.Common.{◌≡◌, ◌≢◌, ℕ, zero, suc, ◌+◌, ◌<◌, ◌≤◌, Bool, true, false, cond, List, [], ◌∷◌, ◌++◌, take}
-use Rattle.std.proofs.Common.{◌∙◌, ap, arith, inl, inr, slice_get, Some}
-use Rattle.std.specs.Prelude.{nat_eq, nat_le, ◌&&◌}
+use Rattle.std.proofs.Common.{◌∙◌, ap, arith, get_or, inl, inr, length, slice_get, Some, sym}
+use Rattle.std.specs.Prelude.{nat_eq, nat_le, ◌&&◌, if◌then◌else◌}
 use Rattle.std.specs.List.{count_by}
 use Rattle.std.proofs.lemmas.Bool.{cases_Bool}
 use Rattle.std.proofs.lemmas.Bool.Decides.{nat_tests}
 use Rattle.std.proofs.lemmas.List.{take-take}
-use Rattle.std.proofs.lemmas.List.Sums.{sum_by-append, sum_by-cons, sum_by-take-le}
+use Rattle.std.proofs.lemmas.List.Sums.{count_by_more_yes, count_by_more_no, sum_by-append, sum_by-cons, sum_by-take-le}
 use Rattle.std.proofs.lemmas.Option.{same_Some}
 use Rattle.history_core.specs.declared.history.Op.{Op}
 use Rattle.history_core.specs.Orders.{in_term, is_write_at, times_of, writes_in}
@@ -101,3 +101,14 @@ pub of_one_term : {R : Type 0} (limit : ℕ) (ops : List (Op R)) (order : List �
 of_one_term limit ops order =
     count_agree (λ q. in_term (record { first = 0; limit = limit }) [] q && is_write_at (slice_get ops q)) (λ q. true && is_write_at (slice_get ops q)) order
     (λ i p e. let t : nat_le 0 p ≡ true = grind (arith, nat_tests) in ap (λ b. (b && true) && is_write_at (slice_get ops p)) t)
+
+-- one more entry, which is a write or not
+pub writes_next : {R : Type 0} (ops : List (Op R)) (order : List ℕ) (n : ℕ) → n < length order →
+    writes_in (λ _. true) ops (take (n + 1) order)
+    ≡ writes_in (λ _. true) ops (take n order) + (if is_write_at (slice_get ops (get_or order n 0)) then 1 else 0)
+writes_next ops order n l = elim (cases_Bool (is_write_at (slice_get ops (get_or order n 0)))) [
+  | inl t ↦ count_by_more_yes (λ q. true && is_write_at (slice_get ops q)) order n 0 l t
+      ∙ ap (λ b. writes_in (λ _. true) ops (take n order) + (if b then 1 else 0)) (sym t)
+  | inr f ↦ count_by_more_no (λ q. true && is_write_at (slice_get ops q)) order n 0 l f ∙ omega arith
+      ∙ ap (λ b. writes_in (λ _. true) ops (take n order) + (if b then 1 else 0)) (sym f)
+]

@@ -1,4 +1,3 @@
 pub mod Kept
 pub mod Entering
 pub mod Gathered
-pub mod Mapped

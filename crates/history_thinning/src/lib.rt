@@ -1,15 +1,13 @@
-//! Thinning: of a long log at most four operations of each record are kept, and what a search finds among them is true of the whole
-//! log. Records are numbers, which the caller gives; 0 is the opening.
+//! Thinning: of a long log at most four operations of each record are kept. What a search finds among them is true of the whole log.
+//! Records are numbers, which the caller gives; 0 is the opening.
 #![tactic(auto)]
 
 mod enter;
 mod gather;
 mod group;
 pub mod laws;
-mod search;
 mod thinned;
 mod thinner;
 
-pub use search::search_thinned;
 pub use thinned::{LogAnswer, Thinned};
 pub use thinner::Thinner;

@@ -10,6 +10,21 @@ pub struct Thinned {
     pub places: Items<usize>,
 }
 
+impl Thinned {
+    ghost use Rattle.std.specs.Prelude.{◌≡◌};
+    ghost use Rattle.history_thinning.specs.Thinnings.{limit_of};
+
+    /// The limit of the one term.
+    pub fn limit(&self) -> u64
+        ensures { result ≡ limit_of self.now }
+    {
+        match self.history.terms.as_slice().get(0) {
+            Some(term) => term.limit,
+            None => 1,
+        }
+    }
+}
+
 /// What a search answers about a whole log. Places are those in the log, counted from 0.
 #[derive(Debug, Drop)]
 pub enum LogAnswer {

@@ -1,5 +1,3 @@
-pub mod CountLemmas
+mod CountLemmas
 pub mod FrontLemmas
-mod LimitLemmas
-pub mod PlaceLemmas
 pub mod StatusLemmas

@@ -10,7 +10,7 @@ use Rattle.lines_log.specs.Faults.{IsLinesFault}
 use Rattle.lines_log.specs.Logs.{IsLinesLog}
 use Rattle.lines_log.specs.declared.lines_log.LinesLog.{LinesLog}
 use Rattle.fsr_words.specs.declared.command.Show.{Show}
-use Rattle.lines_answers.specs.Limits.{IsCounted}
+use Rattle.thinned_search.specs.Limits.{IsCounted}
 use Rattle.lines_answers.specs.Text.{shown_text}
 
 abbrev pub status_of : LogAnswer → ℕ

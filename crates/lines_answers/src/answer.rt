@@ -4,16 +4,16 @@ ghost use Rattle.history_core.specs.declared.history.Op.{Op};
 ghost use Rattle.history_thinning.specs.Answers.{IsThinnedAnswer, IsOfKept};
 ghost use Rattle.history_thinning.specs.Thinnings.{IsThinnedLog};
 ghost use Rattle.lines_answers.specs.Answers.{IsLinesAnswer, printed, status_of};
-ghost use Rattle.lines_answers.specs.Limits.{IsCounted};
+ghost use Rattle.thinned_search.specs.Limits.{IsCounted};
 
-use crate::limit::counted;
 use crate::text::shown_text;
 use fsr_runs::{Answer, Fault};
 use fsr_words::Show;
 use history_core::Items;
-use history_thinning::{LogAnswer, search_thinned};
+use history_thinning::LogAnswer;
 use lines_log::{LinesLog, read_lines};
 use std::alloc::{AllocError, Global};
+use thinned_search::{counted, search_thinned};
 
 /// The answer of the command `order` to the bytes of a log in lines.
 pub fn order_lines(alloc: Global, show: Show, bytes: &[u8]) -> Result<Answer, Fault>

@@ -4,10 +4,6 @@
 mod answer;
 mod kind;
 pub mod laws;
-mod limit;
-mod named;
-mod sentence;
-mod small;
 mod text;
 
 pub use answer::order_lines;

@@ -14,9 +14,10 @@ use Rattle.lines_text.specs.Lines.{done, LineEntry, entry_of, Head, head_of, ope
 use Rattle.lines_log.specs.Faults.{IsBodyFault, is_last, IsLineFault}
 use Rattle.lines_log.specs.Logs.{AreAll, AreLines, IsLinesLog, is_refused, judged, judged_line}
 use Rattle.std.specs.Prelude.{is_some, MatchOption, unwrap_or}
+use Rattle.std.specs.Str.{IsTrimAsciiEnd}
 use Rattle.history_thinning.specs.Thinnings.{IsThinnedLog}
 use Rattle.lines_log.specs.declared.lines_log.LinesLog.{LinesLog}
-use Rattle.lines_log.specs.inner.Readings.{IsFinished, AreRead, IsReadWhole, IsPartlyRead, is_end, ReadsLine}
+use Rattle.lines_log.specs.inner.Readings.{IsFinished, AreRead, GoesOn, IsReadWhole, IsPartlyRead, is_end, ReadsLine}
 use Rattle.lines_log.specs.declared.reader.Reader.{Reader}
 use Rattle.lines_log.proofs.ReadLemmas.{distinct}
 
@@ -57,66 +58,67 @@ last_of_rest (x ∷ xs) = by_feed (x == 10)
     by_feed false = of_front (lines_of xs)
 
 pub begun : (opening : List ℕ) (body : List ℕ) (reader : Reader) → AreRead opening [] reader
-    → IsPartlyRead opening reader.limited (lines_of body) body reader
-begun opening body reader read = record { lines = []; read = read; limits = refl; left = inl refl }
+    → IsPartlyRead opening reader.limited false (lines_of body) body reader
+begun opening body reader read = record { lines = []; read = read; limits = refl; left = refl }
 
 none_left : (rest line behind : List ℕ) → IsSplit rest line behind → rest ≡ [] → ⊥
 none_left rest line behind split none =
     let empty : length rest ≡ 0 = ap length none in omega (arith, empty, split.shorter)
 
-pub one_more : (opening : List ℕ) (limited : Bool) (body : List (List ℕ)) (rest line behind : List ℕ) (old new : Reader)
-    → IsPartlyRead opening limited body rest old → IsSplit rest line behind
-    → ((lines : List (List ℕ)) → AreRead opening lines old → ReadsLine opening lines line (is_end behind) old new) → new.limited ≡ old.limited
-    → IsPartlyRead opening limited body behind new
-one_more opening limited body rest line behind old new way split reads same = by_left way.left
+pub one_more : (opening : List ℕ) (limited before : Bool) (body : List (List ℕ)) (rest line behind : List ℕ) (old new : Reader)
+    (ended : Bool) → IsPartlyRead opening limited before body rest old → IsSplit rest line behind
+    → ((lines : List (List ℕ)) → AreRead opening lines old → ReadsLine opening lines line (is_end behind) old new ended)
+    → new.limited ≡ old.limited → IsPartlyRead opening limited ended body behind new
+one_more opening limited before body rest line behind old new ended way split reads same =
+    by_line ended (at_line before way.left) (reads way.lines way.read)
   where
-    at_line : body ≡ way.lines ++ lines_of rest → body ≡ way.lines ++ line ∷ lines_of behind
-    at_line going = going ∙ ap (λ (l : List (List ℕ)). way.lines ++ l) split.lines
+    at_line : (b : Bool) → GoesOn limited b body way.lines rest → body ≡ way.lines ++ line ∷ lines_of behind
+    at_line false going = going ∙ ap (λ (l : List (List ℕ)). way.lines ++ l) split.lines
+    at_line true over = absurd (none_left rest line behind split over.0)
 
-    by_line : body ≡ way.lines ++ line ∷ lines_of behind → ReadsLine opening way.lines line (is_end behind) old new
-        → IsPartlyRead opening limited body behind new
-    by_line here (inl more) = record {
+    by_line : (b : Bool) → body ≡ way.lines ++ line ∷ lines_of behind → ReadsLine opening way.lines line (is_end behind) old new b
+        → IsPartlyRead opening limited b body behind new
+    by_line false here more = record {
       lines = way.lines ++ line ∷ [];
       read = more;
       limits = same ∙ way.limits;
-      left = inl (here ∙ sym (append_assoc way.lines (line ∷ []) (lines_of behind)));
+      left = here ∙ sym (append_assoc way.lines (line ∷ []) (lines_of behind));
     }
-    by_line here (inr ended) =
-        let at_end : is_end behind ≡ true = ends_last old.limited (is_end behind) (length way.lines) line ended.1 in
+    by_line true here over =
+        let at_end : is_end behind ≡ true = ends_last old.limited (is_end behind) (length way.lines) line over.1 in
         let nothing : behind ≡ [] = end_is behind at_end in
         let judged_last : judged_line limited (length way.lines) true line ≡ Ok None =
         subst (λ (b : Bool). judged_line b (length way.lines) true line ≡ Ok None) way.limits
-        (subst (λ (b : Bool). judged_line old.limited (length way.lines) b line ≡ Ok None) at_end ended.1) in
+        (subst (λ (b : Bool). judged_line old.limited (length way.lines) b line ≡ Ok None) at_end over.1) in
         record {
           lines = way.lines;
-          read = ended.0;
+          read = over.0;
           limits = same ∙ way.limits;
-          left = inr (nothing, (line, here ∙ ap (λ (l : List ℕ). way.lines ++ line ∷ lines_of l) nothing, judged_last));
+          left = (nothing, (line, here ∙ ap (λ (l : List ℕ). way.lines ++ line ∷ lines_of l) nothing, judged_last));
         }
 
-    by_left : (body ≡ way.lines ++ lines_of rest)
-        ⊎ ((rest ≡ []) × ((end : List ℕ) × (body ≡ way.lines ++ end ∷ []) × (judged_line limited (length way.lines) true end ≡ Ok None)))
-        → IsPartlyRead opening limited body behind new
-    by_left (inl going) = by_line (at_line going) (reads way.lines way.read)
-    by_left (inr ended) = absurd (none_left rest line behind split ended.0)
-
-pub all_read : (opening : List ℕ) (limited : Bool) (body : List (List ℕ)) (rest : List ℕ) (reader : Reader) → rest ≡ []
-    → IsPartlyRead opening limited body rest reader → IsReadWhole opening body reader
-all_read opening limited body rest reader none way = record { lines = way.lines; read = way.read; all = by_left way.left }
+pub all_read : (opening : List ℕ) (limited ended : Bool) (body : List (List ℕ)) (rest : List ℕ) (reader : Reader) → rest ≡ []
+    → IsPartlyRead opening limited ended body rest reader → IsReadWhole opening body reader ended
+all_read opening limited ended body rest reader none way = record {
+  lines = way.lines;
+  read = way.read;
+  all = subst (λ (b : Bool). AreAll b ended body way.lines) (sym way.limits) (whole ended way.left);
+}
   where
-    by_left : (body ≡ way.lines ++ lines_of rest)
-        ⊎ ((rest ≡ []) × ((end : List ℕ) × (body ≡ way.lines ++ end ∷ []) × (judged_line limited (length way.lines) true end ≡ Ok None)))
-        → AreAll reader.limited body way.lines
-    by_left (inl going) = inl (going ∙ ap (λ (l : List ℕ). way.lines ++ lines_of l) none ∙ append-nil way.lines)
-    by_left (inr ended) =
-        inr (ended.1.0, ended.1.1, subst (λ (b : Bool). judged_line b (length way.lines) true ended.1.0 ≡ Ok None) (sym way.limits) ended.1.2)
+    whole : (b : Bool) → GoesOn limited b body way.lines rest → AreAll limited b body way.lines
+    whole false going = going ∙ ap (λ (l : List ℕ). way.lines ++ lines_of l) none ∙ append-nil way.lines
+    whole true over = over.1
 
-pub at_fault : (opening : List ℕ) (limited : Bool) (body : List (List ℕ)) (rest line behind : List ℕ) (reader : Reader) (f : Fault)
-    → IsPartlyRead opening limited body rest reader → IsSplit rest line behind
+pub at_fault : (opening : List ℕ) (limited ended : Bool) (body : List (List ℕ)) (rest line behind : List ℕ) (reader : Reader) (f : Fault)
+    → IsPartlyRead opening limited ended body rest reader → IsSplit rest line behind
     → ((lines : List (List ℕ)) → AreRead opening lines reader → IsLineFault opening reader.limited lines line (is_end behind) f)
     → IsBodyFault opening limited body f
-at_fault opening limited body rest line behind reader f way split wrong = by_left way.left
+at_fault opening limited ended body rest line behind reader f way split wrong = fill (at_line ended way.left)
   where
+    at_line : (b : Bool) → GoesOn limited b body way.lines rest → body ≡ way.lines ++ line ∷ lines_of behind
+    at_line false going = going ∙ ap (λ (l : List (List ℕ)). way.lines ++ l) split.lines
+    at_line true over = absurd (none_left rest line behind split over.0)
+
     fill : body ≡ way.lines ++ line ∷ lines_of behind → IsBodyFault opening limited body f
     fill here = record {
       lines = way.lines;
@@ -134,22 +136,17 @@ at_fault opening limited body rest line behind reader f way split wrong = by_lef
           (subst (λ (b : Bool). IsLineFault opening b way.lines line (is_end behind) f) way.limits (wrong way.lines way.read));
     }
 
-    by_left : (body ≡ way.lines ++ lines_of rest)
-        ⊎ ((rest ≡ []) × ((end : List ℕ) × (body ≡ way.lines ++ end ∷ []) × (judged_line limited (length way.lines) true end ≡ Ok None)))
-        → IsBodyFault opening limited body f
-    by_left (inl going) = fill (going ∙ ap (λ (l : List (List ℕ)). way.lines ++ l) split.lines)
-    by_left (inr ended) = absurd (none_left rest line behind split ended.0)
-
 -- nothing was found, so what holds of nothing holds
 pub none_found : {X : Type 0} {P : Type 0} (Q : X → Type 0) (o : Option X) → MatchOption o P Q → ((x : X) → o ≡ Some x → ⊥) → P
 none_found Q None h none = h
 none_found Q (Some x) h none = absurd (none x refl)
 
 -- what was read is the log
-pub assembled : (bytes first body : List ℕ) (head : Head) (limit : ℕ) (reader : Reader) (log : LinesLog) → IsSplit bytes first body
-    → head_of first ≡ Ok head → reader.limited ≡ is_some head.limit → IsReadWhole head.opening (lines_of body) reader
-    → limit ≡ unwrap_or head.limit 1 → IsFinished limit reader log → (ops : List (Op ℕ)) × IsLinesLog bytes ops log
-assembled bytes first body head limit reader log split said limited whole limit_is finished =
+pub assembled : (bytes text first body : List ℕ) (head : Head) (limit : ℕ) (ended : Bool) (reader : Reader) (log : LinesLog)
+    → IsTrimAsciiEnd bytes text → IsSplit text first body → head_of first ≡ Ok head → reader.limited ≡ is_some head.limit
+    → IsReadWhole head.opening (lines_of body) reader ended → limit ≡ unwrap_or head.limit 1 → IsFinished limit ended reader log
+    → (ops : List (Op ℕ)) × IsLinesLog bytes ops log
+assembled bytes text first body head limit ended reader log trimmed split said limited whole limit_is finished =
     let records = whole.read.records in
     let ops : List (Op ℕ) = whole.read.log in (
       ops,
@@ -160,9 +157,12 @@ assembled bytes first body head limit reader log split said limited whole limit_
           header = first;
           body = lines_of body;
           lines = whole.lines;
+          text = text;
+          trimmed = trimmed;
           split = split.lines;
           said = said;
-          all = subst (λ (b : Bool). AreAll b (lines_of body) whole.lines) limited whole.all;
+          ended = ended;
+          all = subst (λ (b : Bool). AreAll b ended (lines_of body) whole.lines) limited whole.all;
           are = subst (λ (b : Bool). AreLines b whole.lines records ops) limited whole.read.are;
           opening = whole.read.opened;
           distinct = distinct records reader.numbering whole.read.numbering;
@@ -172,5 +172,7 @@ assembled bytes first body head limit reader log split said limited whole limit_
         ops = finished.ops ∙ whole.read.count;
         unfinished = finished.unfinished ∙ whole.read.unfinished;
         count = finished.count records whole.read.numbering;
+        given = finished.given ops whole.read.reads;
+        ended = finished.ended;
       },
     )

@@ -21,7 +21,9 @@ use Rattle.lines_tables.specs.Tasks.{KnowsTasks, Overlap}
 use Rattle.lines_tables.specs.declared.numbering.Numbering.{Numbering}
 use Rattle.lines_text.specs.Lines.{has_record, IsAllowed, op_seen}
 use Rattle.lines_text.specs.declared.line.LineOp.{LineOp}
-use Rattle.lines_log.specs.Faults.{IsLineFault, IsOverlap, line_at, told_of}
+use Rattle.lines_log.specs.Faults.{IsLineFault, IsOverlap, told_of}
+use Rattle.lines_tables.specs.Reads.{KnowsReads}
+use Rattle.lines_tables.specs.Splits.{line_at}
 use Rattle.lines_log.specs.Logs.{AreLines, IsItem, IsNumberedOp, judged_line, unfinished_in}
 use Rattle.lines_log.specs.inner.Numbers.{Grow, IsNumberedNow}
 use Rattle.lines_log.specs.inner.Readings.{IsEntryFault, AreRead}
@@ -87,9 +89,10 @@ pub entered : (opening : List ℕ) (lines : List (List ℕ)) (line : List ℕ) (
     → ((records : List (List ℕ)) → IsNumbering records old.numbering → IsNumberedNow records said new.numbering next)
     → (KnowsTasks read.log old.turns → KnowsTasks (read.log ++ next ∷ []) new.turns)
     → (IsThinning read.log old.thinner → IsThinning (read.log ++ next ∷ []) new.thinner)
+    → (KnowsReads read.log old.reads → KnowsReads (read.log ++ next ∷ []) new.reads)
     → new.count ≡ old.count + 1 → new.unfinished ≡ old.unfinished + (if is_none next.ends then 1 else 0)
     → AreRead opening (lines ++ line ∷ []) new
-entered opening lines line last old new said next read judged limits numbered turns thins count unfinished =
+entered opening lines line last old new said next read judged limits numbered turns thins gives count unfinished =
     let now = numbered read.records read.numbering in
     let are : AreLines old.limited (lines ++ line ∷ []) now.after (read.log ++ next ∷ []) =
     more_lines old.limited lines read.records now.after line last read.log said next read.are now.grows judged now.is in
@@ -103,6 +106,7 @@ entered opening lines line last old new said next read judged limits numbered tu
       kept = thins read.kept;
       count = omega (arith, count, read.count, length-append read.log (next ∷ []));
       unfinished = unfinished ∙ ap (λ (n : ℕ). n + (if is_none next.ends then 1 else 0)) read.unfinished ∙ sym (one_unfinished read.log next);
+      reads = gives read.reads;
     }
 
 -- of records that have their numbers none stands twice

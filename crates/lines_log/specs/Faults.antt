@@ -1,5 +1,6 @@
 -- Why lines stand for no log: the first line at fault, and why. The lines before it are all right (this project's own).
 use Rattle.std.specs.Prelude.{◌≡◌, ℕ, ◌+◌, ◌⊎◌, true, false, List, [], ◌∷◌, ◌++◌, length, Bool, is_some, slice_get, Some, Ok, Err}
+use Rattle.std.specs.Str.{IsTrimAsciiEnd}
 use Rattle.history_core.specs.declared.history.Op.{Op}
 use Rattle.history_search.specs.Searches.{WritesOnce}
 use Rattle.history_search.specs.declared.reason.SearchError.{SearchError}
@@ -13,14 +14,10 @@ use Rattle.fsr_runs.specs.declared.fault.Fault.{Fault}
 use Rattle.fsr_runs.specs.declared.fault.Fault.TheVariants as fault
 use Rattle.fsr_runs.specs.declared.fault.LinesFault.TheVariants.{Refused, Backwards, Overlaps, WritesOpening, WritesTwice}
 use Rattle.lines_tables.specs.Numberings.{AreDistinct}
-use Rattle.lines_tables.specs.Splits.{lines_of}
+use Rattle.lines_tables.specs.Splits.{line_at, lines_of}
 use Rattle.lines_tables.specs.Tasks.{Overlap, TakeTurns}
 use Rattle.lines_text.specs.Lines.{Head, head_of}
 use Rattle.lines_log.specs.Logs.{AreLines, judged_line}
-
--- the line of the operation at a place: the header's is 1
-abbrev pub line_at : ℕ → ℕ
-line_at place = place + 2
 
 -- how a refusal of this line is told
 abbrev pub refused_at : ℕ → DocError → Fault
@@ -100,7 +97,9 @@ pub record IsHeaderFault (bytes : List ℕ) (f : Fault) : Type 0 where
   pub header : List ℕ
   pub body : List (List ℕ)
   pub why : DocError
-  pub split : lines_of bytes ≡ header ∷ body
+  pub text : List ℕ
+  pub trimmed : IsTrimAsciiEnd bytes text
+  pub split : lines_of text ≡ header ∷ body
   pub refused : head_of header ≡ Err why
   pub told : f ≡ refused_at 1 why
 
@@ -109,11 +108,13 @@ pub record IsLaterFault (bytes : List ℕ) (f : Fault) : Type 0 where
   pub header : List ℕ
   pub body : List (List ℕ)
   pub head : Head
-  pub split : lines_of bytes ≡ header ∷ body
+  pub text : List ℕ
+  pub trimmed : IsTrimAsciiEnd bytes text
+  pub split : lines_of text ≡ header ∷ body
   pub said : head_of header ≡ Ok head
   pub wrong : IsBodyFault head.opening (is_some head.limit) body f
 
 -- the fault of a text, unless memory ran out
 abbrev pub IsLinesFault : List ℕ → Fault → Type 0
 IsLinesFault bytes f =
-    (f ≡ fault.NoMemory) ⊎ (((bytes ≡ []) × (f ≡ refused_at 1 NotJson)) ⊎ (IsHeaderFault bytes f ⊎ IsLaterFault bytes f))
+    (f ≡ fault.NoMemory) ⊎ ((IsTrimAsciiEnd bytes [] × (f ≡ refused_at 1 NotJson)) ⊎ (IsHeaderFault bytes f ⊎ IsLaterFault bytes f))

@@ -1,7 +1,8 @@
 -- The log that lines stand for: an operation a line, and a number for each record (this project's own).
-use Rattle.std.specs.Prelude.{◌≡◌, ℕ, ◌==◌, List, [], ◌∷◌, ◌++◌, ◌⊎◌, length, Bool, true, false, ◌||◌, not, if◌then◌else◌, slice_get}
+use Rattle.std.specs.Prelude.{◌≡◌, ℕ, ◌==◌, List, [], ◌∷◌, ◌++◌, length, Bool, true, false, ◌||◌, not, if◌then◌else◌, slice_get}
 use Rattle.std.specs.Prelude.{Option, None, Some, is_none, is_some, unwrap_or, Result, Ok, Err}
 use Rattle.std.specs.List.{count_by}
+use Rattle.std.specs.Str.{IsTrimAsciiEnd}
 use Rattle.history_core.specs.declared.history.Kind.{Kind}
 use Rattle.history_core.specs.declared.history.Kind.TheVariants.{Write, Read, Refused}
 use Rattle.history_core.specs.declared.history.Op.{Op}
@@ -12,6 +13,7 @@ use Rattle.history_text.specs.Refusals.{◌>>=◌}
 use Rattle.history_thinning.specs.Thinnings.{IsThinnedLog}
 use Rattle.lines_log.specs.declared.lines_log.LinesLog.{LinesLog}
 use Rattle.lines_tables.specs.Numberings.{AreDistinct}
+use Rattle.lines_tables.specs.Reads.{AreRead}
 use Rattle.lines_tables.specs.Splits.{lines_of}
 use Rattle.lines_tables.specs.Tasks.{TakeTurns}
 use Rattle.lines_text.specs.Lines.{LineEntry, operation, done, entry_of, Head, head_of}
@@ -52,19 +54,22 @@ pub record AreLines (limited : Bool) (lines records : List (List ℕ)) (log : Li
       (said : Op (List ℕ)) × (last : Bool) × (judged_line limited p last line ≡ Ok (Some said)) × IsNumberedOp records said op
 
 -- the lines behind the header are those of the operations, and the end if it is there
-abbrev pub AreAll : Bool → List (List ℕ) → List (List ℕ) → Type 0
-AreAll limited body lines =
-    (body ≡ lines) ⊎ ((end : List ℕ) × (body ≡ lines ++ end ∷ []) × (judged_line limited (length lines) true end ≡ Ok None))
+abbrev pub AreAll : Bool → Bool → List (List ℕ) → List (List ℕ) → Type 0
+AreAll limited false body lines = body ≡ lines
+AreAll limited true body lines = (end : List ℕ) × (body ≡ lines ++ end ∷ []) × (judged_line limited (length lines) true end ≡ Ok None)
 
--- The log that a text stands for: each record has its place among these for its number, and the opening is the first. Of two operations
+-- The log that bytes stand for, where white space behind the last line is left out: each record has its place among these for its number, and the opening is the first. Of two operations
 -- of one task the first has ended before the second begins.
 pub record IsLog (bytes : List ℕ) (head : Head) (records : List (List ℕ)) (log : List (Op ℕ)) : Type 0 where
   pub header : List ℕ
   pub body : List (List ℕ)
   pub lines : List (List ℕ)
-  pub split : lines_of bytes ≡ header ∷ body
+  pub text : List ℕ
+  pub trimmed : IsTrimAsciiEnd bytes text
+  pub split : lines_of text ≡ header ∷ body
   pub said : head_of header ≡ Ok head
-  pub all : AreAll (is_some head.limit) body lines
+  pub ended : Bool
+  pub all : AreAll (is_some head.limit) ended body lines
   pub are : AreLines (is_some head.limit) lines records log
   pub opening : slice_get records 0 ≡ Some head.opening
   pub distinct : AreDistinct records
@@ -73,7 +78,7 @@ pub record IsLog (bytes : List ℕ) (head : Head) (records : List (List ℕ)) (l
 abbrev pub unfinished_in : List (Op ℕ) → ℕ
 unfinished_in ops = count_by (λ o. is_none o.ends) ops
 
--- what is kept of this log: few of its operations, under the header's limit, and three counts
+-- what is kept of this log: few of its operations, under the header's limit, four counts, and whether its end is there
 pub record IsLinesLog (bytes : List ℕ) (log : List (Op ℕ)) (read : LinesLog) : Type 0 where
   pub head : Head
   pub records : List (List ℕ)
@@ -82,3 +87,5 @@ pub record IsLinesLog (bytes : List ℕ) (log : List (Op ℕ)) (read : LinesLog)
   pub ops : read.ops ≡ length log
   pub unfinished : read.unfinished ≡ unfinished_in log
   pub count : read.records ≡ length records
+  pub given : AreRead log read.read
+  pub ended : read.ended ≡ is.ended

@@ -1,30 +1,13 @@
 //! How faults are told.
-ghost use Rattle.std.specs.Prelude.{◌≡◌, ◌<◌, ◌+◌, ◌^◌, ◌⊎◌, IfOk};
+ghost use Rattle.std.specs.Prelude.{◌≡◌, ◌⊎◌, IfOk};
 ghost use Rattle.fsr_runs.specs.declared.fault.Fault.TheVariants.{NoMemory};
-ghost use Rattle.lines_log.specs.Faults.{line_at, refused_at, told_of};
+ghost use Rattle.lines_log.specs.Faults.{refused_at, told_of};
 
 use fsr_runs::{Fault, LinesFault};
 use history_search::SearchError;
 use history_text::{DocError, Key};
+use lines_tables::line_of;
 use std::alloc::AllocError;
-
-/// The line of the operation at a place.
-pub(crate) fn line_at(place: usize) -> usize
-    requires { place + 2 < 2 ^ 64 }
-    ensures { result ≡ line_at place }
-{
-    place + 2
-}
-
-/// The same of any place. No memory holds a log that it is too large for.
-pub fn line_of(place: usize) -> Result<usize, AllocError>
-    ensures { IfOk result (λ line. line ≡ line_at place) }
-{
-    match place.checked_add(2) {
-        Some(line) => Ok(line),
-        None => Err(AllocError),
-    }
-}
 
 /// How a refusal of this line is told.
 pub(crate) fn refused_at(line: usize, why: DocError) -> Fault

@@ -9,6 +9,5 @@ mod number;
 mod reader;
 mod thin;
 
-pub use faults::line_of;
 pub use lines_log::LinesLog;
 pub use log::read_lines;

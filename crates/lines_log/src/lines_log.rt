@@ -11,4 +11,8 @@ pub struct LinesLog {
     pub unfinished: usize,
     /// How many records there are, the opening among them.
     pub records: usize,
+    /// How many of them a finished read gave, the opening not counted.
+    pub read: usize,
+    /// Whether the last line says how many operations there are.
+    pub ended: bool,
 }

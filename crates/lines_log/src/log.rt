@@ -24,7 +24,8 @@ pub fn read_lines(alloc: Global, bytes: &[u8]) -> Result<LinesLog, Fault>
     ensures log { IfOk result (λ read. (log : List (Op ℕ)) × IsLinesLog bytes.now log read) }
     ensures fault { IfErr result (IsLinesFault bytes.now) }
 {
-    let Some((first, body)) = split_line(bytes) else {
+    let text = bytes.trim_ascii_end();
+    let Some((first, body)) = split_line(text) else {
         return Err(refused_at(HEADER, DocError::NotJson));
     };
     let header = match read_header(alloc, first) {
@@ -36,36 +37,37 @@ pub fn read_lines(alloc: Global, bytes: &[u8]) -> Result<LinesLog, Fault>
         Ok(reader) => reader,
         Err(_) => return Err(Fault::NoMemory),
     };
-    match read_body(alloc, &mut reader, body) {
-        Ok(()) => {}
+    let ended = match read_body(alloc, &mut reader, body) {
+        Ok(ended) => ended,
         Err(fault) => return Err(fault),
-    }
-    match finish(alloc, limit, reader) {
+    };
+    match finish(alloc, limit, ended, reader) {
         Ok(log) => Ok(log),
         Err(_) => Err(Fault::NoMemory),
     }
 }
 
-/// Reads the lines behind the header.
-fn read_body(alloc: Global, reader: &mut Reader, body: &[u8]) -> Result<(), Fault>
+/// Reads the lines behind the header, and says whether the last one is the end.
+fn read_body(alloc: Global, reader: &mut Reader, body: &[u8]) -> Result<bool, Fault>
     requires room { reader.old.count + length body.now + 1 < 2 ^ 64 }
     requires known { (opening : List ℕ) × AreRead opening [] reader.old }
-    ensures read { OnOk result ((opening : List ℕ) → AreRead opening [] reader.old →
-        IsReadWhole opening (lines_of body.now) reader.new) }
+    ensures read { IfOk result (λ ended. (opening : List ℕ) → AreRead opening [] reader.old →
+        IsReadWhole opening (lines_of body.now) reader.new ended) }
     ensures limited { OnOk result (reader.new.limited ≡ reader.old.limited) }
     ensures fault { IfErr result (λ fault. (opening : List ℕ) → AreRead opening [] reader.old →
         IsBodyFault opening reader.old.limited (lines_of body.now) fault) }
 {
     let mut rest = body;
+    let mut ended = false;
     'lines: while let Some((line, behind)) = split_line(rest) {
         let last = is_end(behind);
-        match reader.read(alloc, line, last) {
-            Ok(()) => {}
+        ended = match reader.read(alloc, line, last) {
+            Ok(ended) => ended,
             Err(fault) => return Err(fault),
-        }
+        };
         rest = behind;
     }
-    Ok(())
+    Ok(ended)
 }
 
 fn is_end(rest: &[u8]) -> bool
@@ -75,23 +77,27 @@ fn is_end(rest: &[u8]) -> bool
 }
 
 /// What is kept. The numbers' memory is given back first.
-fn finish(alloc: Global, limit: u64, reader: Reader) -> Result<LinesLog, AllocError>
-    ensures { IfOk result (IsFinished limit reader) }
+fn finish(alloc: Global, limit: u64, ended: bool, reader: Reader) -> Result<LinesLog, AllocError>
+    ensures { IfOk result (IsFinished limit ended reader) }
 {
     let Reader {
         numbering,
         thinner,
         count,
         unfinished,
+        reads,
         ..
     } = reader;
     let records = counted(numbering);
+    let read = reads.count();
     let thinned = thinner.finish(alloc, limit)?;
     Ok(LinesLog {
         thinned,
         ops: count,
         unfinished,
         records,
+        read,
+        ended,
     })
 }
 

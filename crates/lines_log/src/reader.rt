@@ -4,13 +4,13 @@ ghost use Rattle.lines_log.specs.Faults.{IsLineFault};
 ghost use Rattle.lines_log.specs.Logs.{judged_line};
 ghost use Rattle.lines_text.specs.Lines.{IsAllowed, op_seen};
 
-use crate::faults::{line_at, refused_at};
+use crate::faults::refused_at;
 use crate::line::read_op;
 use crate::number::number_op;
 use crate::thin::{thin, with_unfinished};
 use fsr_runs::{Fault, LinesFault};
 use history_thinning::Thinner;
-use lines_tables::{Numbering, TurnError, Turns};
+use lines_tables::{Numbering, Reads, TurnError, Turns, line_at};
 use lines_text::{LineOp, LogHeader};
 use std::alloc::{AllocError, Global};
 
@@ -26,6 +26,7 @@ pub(crate) struct Reader {
     pub count: usize,
     /// How many of them are unfinished.
     pub unfinished: usize,
+    pub reads: Reads,
 }
 
 impl Reader {
@@ -46,15 +47,16 @@ impl Reader {
             thinner: Thinner::new(alloc),
             count: 0,
             unfinished: 0,
+            reads: Reads::new(alloc),
         })
     }
 
-    /// Reads the next line, behind which another one stands or not.
-    pub fn read(&mut self, alloc: Global, bytes: &[u8], last: bool) -> Result<(), Fault>
+    /// Reads the next line, behind which another one stands or not, and says whether it is the end.
+    pub fn read(&mut self, alloc: Global, bytes: &[u8], last: bool) -> Result<bool, Fault>
         requires room { self.old.count + 2 < 2 ^ 64 }
         requires known { HasReadLines self.old }
-        ensures read { OnOk result ((opening : List ℕ) (lines : List (List ℕ)) → AreRead opening lines self.old →
-            ReadsLine opening lines bytes.now last self.old self.new) }
+        ensures read { IfOk result (λ ended. (opening : List ℕ) (lines : List (List ℕ)) → AreRead opening lines self.old →
+            ReadsLine opening lines bytes.now last self.old self.new ended) }
         ensures limited { OnOk result (self.new.limited ≡ self.old.limited) }
         ensures grows { OnOk result (self.new.count ≤ self.old.count + 1) }
         ensures fault { IfErr result (λ fault. (opening : List ℕ) (lines : List (List ℕ)) → AreRead opening lines self.old →
@@ -62,8 +64,11 @@ impl Reader {
     {
         let place = self.count;
         match read_op(alloc, self.limited, place, last, bytes) {
-            Ok(Some(op)) => self.enter(op),
-            Ok(None) => Ok(()),
+            Ok(Some(op)) => match self.enter(op) {
+                Ok(()) => Ok(false),
+                Err(fault) => Err(fault),
+            },
+            Ok(None) => Ok(true),
             Err(why) => Err(refused_at(line_at(place), why)),
         }
     }
@@ -89,11 +94,14 @@ impl Reader {
         };
         match self.turns.enter(&next, place) {
             Ok(()) => match thin(&mut self.thinner, next, place) {
-                Ok(()) => {
-                    self.count = place + 1;
-                    self.unfinished = with_unfinished(self.unfinished, next.ends);
-                    Ok(())
-                }
+                Ok(()) => match self.reads.enter(&next) {
+                    Ok(()) => {
+                        self.count = place + 1;
+                        self.unfinished = with_unfinished(self.unfinished, next.ends);
+                        Ok(())
+                    }
+                    Err(_) => Err(Fault::NoMemory),
+                },
                 Err(fault) => Err(fault),
             },
             Err(TurnError::Overlaps { first }) => Err(Fault::Lines(LinesFault::Overlaps {

@@ -1,3 +1,4 @@
 pub mod NumberLemmas
 pub mod SplitLemmas
 pub mod TaskLemmas
+pub mod ReadsLemmas

@@ -1,4 +1,5 @@
 pub mod Lasts
 pub mod Numberings
+pub mod Reads
 pub mod Splits
 pub mod Tasks

@@ -1,5 +1,5 @@
 -- The lines of a text (this project's own).
-use Rattle.std.specs.Prelude.{◌≡◌, ℕ, ◌<◌, List, [], ◌∷◌, length, ◌==◌, if◌then◌else◌}
+use Rattle.std.specs.Prelude.{◌≡◌, ℕ, ◌+◌, ◌<◌, List, [], ◌∷◌, length, ◌==◌, if◌then◌else◌}
 
 -- the text with one byte more in front of its first line
 abbrev pub in_front : ℕ → List (List ℕ) → List (List ℕ)
@@ -15,3 +15,7 @@ lines_of (byte ∷ bytes) = if byte == 10 then [] ∷ lines_of bytes else in_fro
 pub record IsSplit (bytes line rest : List ℕ) : Type 0 where
   pub lines : lines_of bytes ≡ line ∷ lines_of rest
   pub shorter : length rest < length bytes
+
+-- the line of the operation at a place: the header's is 1
+abbrev pub line_at : ℕ → ℕ
+line_at place = place + 2

@@ -1,8 +1,6 @@
-//! The search for a lawful order of a log, whose records are bands, and the lines that tell what it found.
+//! The search for a lawful order of a log, whose records are bands.
 #![tactic(auto)]
 
 mod search;
-mod text;
 
 pub use search::search_log;
-pub use text::search_text;

@@ -1,6 +1,7 @@
 -- How far a log is read. Only private functions cite this, which is this project's own.
 use Rattle.std.specs.Prelude.{◌≡◌, ℕ, List, [], ◌∷◌, ◌++◌, ◌⊎◌, length, Bool, true, false, slice_get, None, Some, Ok}
 use Rattle.lines_tables.specs.Numberings.{IsNumbering}
+use Rattle.lines_tables.specs.Reads.{AreRead as WereRead, KnowsReads}
 use Rattle.lines_tables.specs.Splits.{lines_of}
 use Rattle.lines_tables.specs.Tasks.{KnowsTasks}
 use Rattle.lines_log.specs.Logs.{AreAll, AreLines, judged_line, unfinished_in}
@@ -26,34 +27,39 @@ pub record AreRead (opening : List ℕ) (lines : List (List ℕ)) (reader : Read
   pub kept : IsThinning log reader.thinner
   pub count : reader.count ≡ length log
   pub unfinished : reader.unfinished ≡ unfinished_in log
+  pub reads : KnowsReads log reader.reads
 
 -- why an operation isn't entered, with which the log is this one, unless memory ran out
 abbrev pub IsEntryFault : List (Op ℕ) → Fault → Type 0
 IsEntryFault log f = (f ≡ NoMemory) ⊎ ((error : SearchError) × IsThinnedFault log error × (f ≡ told_of error))
 
 -- one more line was read: an operation was entered, or it is the end
-abbrev pub ReadsLine : List ℕ → List (List ℕ) → List ℕ → Bool → Reader → Reader → Type 0
-ReadsLine opening lines line last old new =
-    AreRead opening (lines ++ line ∷ []) new
-    ⊎ (AreRead opening lines new × (judged_line old.limited (length lines) last line ≡ Ok None))
+abbrev pub ReadsLine : List ℕ → List (List ℕ) → List ℕ → Bool → Reader → Reader → Bool → Type 0
+ReadsLine opening lines line last old new false = AreRead opening (lines ++ line ∷ []) new
+ReadsLine opening lines line last old new true = AreRead opening lines new × (judged_line old.limited (length lines) last line ≡ Ok None)
 
 -- some lines were read
 abbrev pub HasReadLines : Reader → Type 0
 HasReadLines reader = (opening : List ℕ) × (lines : List (List ℕ)) × AreRead opening lines reader
 
--- lines of this body were read, and it goes on with the rest; or its end was, and nothing is left
-pub record IsPartlyRead (opening : List ℕ) (limited : Bool) (body : List (List ℕ)) (rest : List ℕ) (reader : Reader) : Type 0 where
+-- this body goes on with the rest; or its end was read, and nothing is left
+abbrev pub GoesOn : Bool → Bool → List (List ℕ) → List (List ℕ) → List ℕ → Type 0
+GoesOn limited false body lines rest = body ≡ lines ++ lines_of rest
+GoesOn limited true body lines rest = (rest ≡ []) × AreAll limited true body lines
+
+-- lines of this body were read
+pub record IsPartlyRead (opening : List ℕ) (limited ended : Bool) (body : List (List ℕ)) (rest : List ℕ) (reader : Reader) :
+    Type 0 where
   pub lines : List (List ℕ)
   pub read : AreRead opening lines reader
   pub limits : reader.limited ≡ limited
-  pub left : (body ≡ lines ++ lines_of rest)
-      ⊎ ((rest ≡ []) × ((end : List ℕ) × (body ≡ lines ++ end ∷ []) × (judged_line limited (length lines) true end ≡ Ok None)))
+  pub left : GoesOn limited ended body lines rest
 
 -- the body was read
-pub record IsReadWhole (opening : List ℕ) (body : List (List ℕ)) (reader : Reader) : Type 0 where
+pub record IsReadWhole (opening : List ℕ) (body : List (List ℕ)) (reader : Reader) (ended : Bool) : Type 0 where
   pub lines : List (List ℕ)
   pub read : AreRead opening lines reader
-  pub all : AreAll reader.limited body lines
+  pub all : AreAll reader.limited ended body lines
 
 -- whether nothing is left
 abbrev pub is_end : List ℕ → Bool
@@ -61,8 +67,10 @@ is_end [] = true
 is_end (byte ∷ bytes) = false
 
 -- what was read, as it is given
-pub record IsFinished (limit : ℕ) (reader : Reader) (log : LinesLog) : Type 0 where
+pub record IsFinished (limit : ℕ) (has_end : Bool) (reader : Reader) (log : LinesLog) : Type 0 where
   pub thinned : (ops : List (Op ℕ)) → IsThinning ops reader.thinner → IsThinnedLog limit ops log.thinned
   pub ops : log.ops ≡ reader.count
   pub unfinished : log.unfinished ≡ reader.unfinished
   pub count : (records : List (List ℕ)) → IsNumbering records reader.numbering → log.records ≡ length records
+  pub given : (ops : List (Op ℕ)) → KnowsReads ops reader.reads → WereRead ops log.read
+  pub ended : log.ended ≡ has_end

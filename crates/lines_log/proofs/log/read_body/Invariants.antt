@@ -7,7 +7,7 @@ use Rattle.lines_log.proofs.log.read_body.Given as goal
 abbrev pub invariant-lines : goal.invariant-lines
 invariant-lines l = record {
   way : (opening : List ℕ) → AreRead opening [] l.initial.reader →
-      IsPartlyRead opening l.initial.reader.limited (lines_of l.body) l.rest l.reader;
+      IsPartlyRead opening l.initial.reader.limited l.ended (lines_of l.body) l.rest l.reader;
   limits : l.reader.limited ≡ l.initial.reader.limited;
   room : l.reader.count + length l.rest ≤ l.initial.reader.count + length l.body;
 }

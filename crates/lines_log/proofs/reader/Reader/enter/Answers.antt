@@ -3,7 +3,7 @@ use Rattle.std.proofs.Common.{◌<◌, arith, refl, inl, inr, sym, ◌∙◌, ap
 use Rattle.std.proofs.lemmas.Option.{slice_get_within}
 use Rattle.lines_tables.specs.Tasks.{IsTurnError, Overlap}
 use Rattle.lines_text.specs.Lines.{op_seen}
-use Rattle.lines_log.specs.Faults.{line_at}
+use Rattle.lines_tables.specs.Splits.{line_at}
 use Rattle.lines_log.proofs.ReadLemmas.{entered, overlapped, repeated}
 use Rattle.lines_log.proofs.reader.Reader.enter.Goals as goal
 
@@ -15,11 +15,12 @@ line_at-requires c =
     let within : c.in-Err-Overlaps.first < length read.log = slice_get_within _ _ overlap.op overlap.at in
     omega (arith, within, read.count, c.requires.room)
 
-pub returns-in-Ok-thin-clause-entered : goal.returns-in-Ok-thin-clause-entered
-returns-in-Ok-thin-clause-entered c = λ opening lines line last read judged.
+pub returns-in-Ok-enter-2-clause-entered : goal.returns-in-Ok-enter-2-clause-entered
+returns-in-Ok-enter-2-clause-entered c = λ opening lines line last read judged.
     entered opening lines line last c.args.self.now _ (op_seen c.args.op) c.in-Ok.next read judged refl c.in-Ok.ensures
     (λ tasks. c.in-Ok-enter.ensures.entered read.log (sym read.count) tasks)
-    (λ kept. c.in-Ok-thin.ensures.entered read.log (sym read.count) kept) refl c.with_unfinished-self.ensures
+    (λ kept. c.in-Ok-thin.ensures.entered read.log (sym read.count) kept)
+    (λ knows. c.in-Ok-enter-2.ensures read.log knows) refl c.with_unfinished-self.ensures
 
 pub returns-in-Err-thin-clause-fault : goal.returns-in-Err-thin-clause-fault
 returns-in-Err-thin-clause-fault c = λ opening lines line last read judged.

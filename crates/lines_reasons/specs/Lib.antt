@@ -1,0 +1,5 @@
+pub mod KeptAt
+pub mod Named
+pub mod Sentences
+pub mod Small
+pub mod Text
