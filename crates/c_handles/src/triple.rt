@@ -76,15 +76,20 @@ pub fn triple_hold<'a, W: Record>(reader: &'a mut Handle, at: &mut &'a W) -> Len
     ensures hold { IsHold (λ g. W.side (TripleReads g)) at_hand (held reader.old) at.old.now at.new.now result.status }
 {
     if reader.live == 0 {
-        return Lending { status: ENDED, until: [] };
+        return Lending {
+            status: ENDED,
+            until: [],
+        };
     }
-    match hold::<Side, W>(reader.loose.reach()) {
-        None => Lending { status: OTHER_SIDE, until: [] },
+    let side = reader.loose.reach();
+    let status = match hold::<Side, W>(side) {
+        None => OTHER_SIDE,
         Some(record) => {
             *at = &record.words;
-            Lending { status: DONE, until: [] }
+            DONE
         }
-    }
+    };
+    Lending { status, until: [] }
 }
 
 /// Ends the writing side.
