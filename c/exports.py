@@ -103,7 +103,7 @@ HOLD_TEXT = """
 pub extern "C" fn nidzaru_{prefix}{size}_hold<'a>(reader: &'a mut Handle, at: &mut &'a Record{size}) -> u32
     ensures {{ IsHold (λ g. Of{size} ({party}Reads g)) at_hand (held reader.old) at.old.now at.new.now result }}
 {{
-    {name}_hold::<Record{size}>(reader, at)
+    {name}_hold::<Record{size}>(reader, at).status
 }}
 """
 

@@ -1,7 +1,11 @@
 //! The calls of C on a triple buffer, over any size.
-ghost use Rattle.c_registers.specs.TripleCalls.{IsMade, HasWritten, HasRead, at_hand};
-ghost use Rattle.c_registers.specs.Handles.{IsMake, IsWrite, IsRead, IsLook, IsHold, IsEnd};
+ghost use Rattle.std.specs.Prelude.{⊤};
+ghost use Rattle.std.specs.Borrow.{sem, follows_so};
+ghost use mathlib.Core.Option.{none};
+ghost use Rattle.c_registers.specs.TripleCalls.{IsMade, HasWritten, HasRead, Stays, at_hand};
+ghost use Rattle.c_registers.specs.Handles.{IsMake, IsWrite, IsRead, IsLook, IsHold, IsBack, IsEnd};
 ghost use Rattle.c_handles.specs.Held.{held};
+ghost use Rattle.c_handles.specs.contracts.handle.Handle as handle;
 ghost use Rattle.c_handles.specs.declared.side.Party.TheVariants.{TripleWrites, TripleReads};
 
 use crate::handle::Handle;
@@ -57,22 +61,35 @@ pub fn triple_look<W: Record>(alloc: Global, reader: &mut Handle, number: &mut u
     look::<Side, Loose, W, TripleReader<W>>(alloc, reader.live, &mut reader.loose, number)
 }
 
-/// Gives the record that a read or a look gave last, where it lies, until the handle is used again.
+/// The status of a call that lends for `'a`.
+#[derive(Clone, Copy)]
+pub struct Lending<'a> {
+    pub status: u32,
+    pub until: [&'a (); 0],
+}
+
+/// Makes `at` lead to the record that a read or a look gave last, where it lies, until the handle is used again.
 #[inline]
-pub fn triple_hold<'a, W: Record>(reader: &'a mut Handle, at: &mut &'a W) -> u32
-    ensures { IsHold (λ g. W.side (TripleReads g)) at_hand (held reader.old) at.old.now at.new.now result }
+pub fn triple_hold<'a, W: Record>(reader: &'a mut Handle, at: &mut &'a W) -> Lending<'a>
+    ensures* back { sem 𝓛 (follows_so handle.the_row handle.the_row reader.entry.ghost_name none (λ _ _. ⊤)
+        (λ h. IsBack (λ g. W.side (TripleReads g)) Stays (held reader.old) (held h))) }
+    ensures hold { IsHold (λ g. W.side (TripleReads g)) at_hand (held reader.old) at.old.now at.new.now result.status }
 {
     if reader.live == 0 {
-        return ENDED;
+        return Lending {
+            status: ENDED,
+            until: [],
+        };
     }
     let side = reader.loose.reach();
-    match hold::<Side, W>(side) {
+    let status = match hold::<Side, W>(side) {
         None => OTHER_SIDE,
         Some(record) => {
             *at = &record.words;
             DONE
         }
-    }
+    };
+    Lending { status, until: [] }
 }
 
 /// Ends the writing side.

@@ -1,2 +1,3 @@
 pub mod Kept
 pub mod Lives
+pub mod Back

@@ -17,6 +17,7 @@ module _ {W : Type 0} where
     pub opening : opening_of (arc_value p.cell) ≡ numbered 0 w
     pub unwritten : written_by p.put.value ≡ []
     pub unread : answers_of g.get.value ≡ []
+    pub untold : told_to g.get.value ≡ []
     pub timeless : (put_times p.put.value ≡ no_times) × (get_times g.get.value ≡ no_times)
     pub unknown : (numbers_of g.get.value ≡ []) × (known_to g.get.value ≡ none_known)
 
@@ -37,6 +38,7 @@ module _ {W : Type 0} where
   pub record HasRead (g h : FourSlotReader W) (a : Numbered W) : Type 0 where
     pub same : h.cell ≡ g.cell
     pub answers : answers_of h.get.value ≡ answers_of g.get.value ++ a ∷ []
+    pub told : told_to h.get.value ≡ told_to g.get.value
     pub accesses : reader_accesses h.get.value ≤ reader_accesses g.get.value + 3
     pub quiet : pair_said h.get.value ≡ pair_said g.get.value → reader_accesses h.get.value ≡ reader_accesses g.get.value + 2
     pub moved : pair_said h.get.value ≢ pair_said g.get.value → reader_accesses h.get.value ≡ reader_accesses g.get.value + 3

@@ -57,6 +57,12 @@ module _ {D : Type 0} where
     ended : h.live ≡ 0 → Keeps h k → number' ≡ number → IsLook reads has_read h k number number' 3
     other : HasOther reads h → Keeps h k → number' ≡ number → IsLook reads has_read h k number number' 5
 
+  -- what a handle has once a record of its side that was lent is back: that side, of which this stays. Else it is as it was
+  pub data IsBack {G : Type 0} (reads : G → D) (stays : G → G → Type 0) (h k : Holding D) : Type 0 where
+    reader : (f g : G) → Has h (reads f) → Has k (reads g) → k.live ≡ h.live → stays f g → IsBack reads stays h k
+    ended : h.live ≡ 0 → k ≡ h → IsBack reads stays h k
+    other : HasOther reads h → k ≡ h → IsBack reads stays h k
+
   -- a call that makes what led to one record lead to the last answer's, and its status: the handle before, and the two records
   pub data IsHold {G W : Type 0} (reads : G → D) (at_hand : G → Numbered W) (h : Holding D) (seen seen' : W) : ℕ → Type 0 where
     done : (g : G) → Has h (reads g) → seen' ≡ (at_hand g).words → IsHold reads at_hand h seen seen' 0

@@ -19,6 +19,7 @@ module _ {W : Type 0} where
     pub opening : opening_of (arc_value p.cell) ≡ numbered 0 w
     pub unwritten : written_by p.put.value ≡ []
     pub unread : answers_of g.room.inner.get.value ≡ []
+    pub untold : told_to g.room.inner.get.value ≡ []
     pub timeless : (put_times p.put.value ≡ no_times) × (get_times g.room.inner.get.value ≡ no_times)
     pub unknown : (numbers_of g.room.inner.get.value ≡ []) × (known_to g.room.inner.get.value ≡ none_known)
 
@@ -38,6 +39,7 @@ module _ {W : Type 0} where
     pub same : h.cell ≡ g.cell
     pub at_hand : at_hand_of h.get.value ≡ a
     pub answers : answers_of h.get.value ≡ answers_of g.get.value ++ a ∷ []
+    pub told : told_to h.get.value ≡ told_to g.get.value
     pub accesses : loads_of h.get.value + swaps_of h.get.value ≤ loads_of g.get.value + swaps_of g.get.value + 3
     pub running : IsAnswer Always IsNoEarlier (opening_of (arc_value g.cell)) (answers_of g.get.value) (told_to g.get.value) a
     pub timed : IsNextCall (get_times g.get.value) (get_times h.get.value)

@@ -67,7 +67,7 @@ pub extern "C" fn nidzaru_triple_1024_hold<'a>(
 ) -> u32
     ensures { IsHold (λ g. Of1024 (TripleReads g)) at_hand (held reader.old) at.old.now at.new.now result }
 {
-    triple_hold::<Record1024>(reader, at)
+    triple_hold::<Record1024>(reader, at).status
 }
 
 #[unsafe(no_mangle)]

@@ -64,7 +64,7 @@ pub extern "C" fn nidzaru_triple_128_look(
 pub extern "C" fn nidzaru_triple_128_hold<'a>(reader: &'a mut Handle, at: &mut &'a Record128) -> u32
     ensures { IsHold (λ g. Of128 (TripleReads g)) at_hand (held reader.old) at.old.now at.new.now result }
 {
-    triple_hold::<Record128>(reader, at)
+    triple_hold::<Record128>(reader, at).status
 }
 
 #[unsafe(no_mangle)]

@@ -64,7 +64,7 @@ pub extern "C" fn nidzaru_triple_24_look(
 pub extern "C" fn nidzaru_triple_24_hold<'a>(reader: &'a mut Handle, at: &mut &'a Record24) -> u32
     ensures { IsHold (λ g. Of24 (TripleReads g)) at_hand (held reader.old) at.old.now at.new.now result }
 {
-    triple_hold::<Record24>(reader, at)
+    triple_hold::<Record24>(reader, at).status
 }
 
 #[unsafe(no_mangle)]

@@ -64,7 +64,7 @@ pub extern "C" fn nidzaru_triple_256_look(
 pub extern "C" fn nidzaru_triple_256_hold<'a>(reader: &'a mut Handle, at: &mut &'a Record256) -> u32
     ensures { IsHold (λ g. Of256 (TripleReads g)) at_hand (held reader.old) at.old.now at.new.now result }
 {
-    triple_hold::<Record256>(reader, at)
+    triple_hold::<Record256>(reader, at).status
 }
 
 #[unsafe(no_mangle)]

@@ -64,7 +64,7 @@ pub extern "C" fn nidzaru_triple_64_look(
 pub extern "C" fn nidzaru_triple_64_hold<'a>(reader: &'a mut Handle, at: &mut &'a Record64) -> u32
     ensures { IsHold (λ g. Of64 (TripleReads g)) at_hand (held reader.old) at.old.now at.new.now result }
 {
-    triple_hold::<Record64>(reader, at)
+    triple_hold::<Record64>(reader, at).status
 }
 
 #[unsafe(no_mangle)]

@@ -56,7 +56,7 @@ pub extern "C" fn nidzaru_triple_8_look(alloc: Global, reader: &mut Handle, numb
 pub extern "C" fn nidzaru_triple_8_hold<'a>(reader: &'a mut Handle, at: &mut &'a Record8) -> u32
     ensures { IsHold (λ g. Of8 (TripleReads g)) at_hand (held reader.old) at.old.now at.new.now result }
 {
-    triple_hold::<Record8>(reader, at)
+    triple_hold::<Record8>(reader, at).status
 }
 
 #[unsafe(no_mangle)]
