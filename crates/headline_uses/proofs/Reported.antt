@@ -62,7 +62,8 @@ module _ {R : Type 0} where
   pub no_older : ReadsNoOlderWrite R
   no_older s r k m p op h at reads begins ends finished before =
       let f = h.comes_of.fresh m finished in
-      (f.0, f.1.writes k before, h.comes_of.answers p m f.0 op at reads begins ends f.1.source)
+      let late : k < f.0 = f.1.read_of.late k before in
+      (f.0, (let l : k + 1 ≤ f.0 = omega arith in l), h.comes_of.answers p m f.0 op at reads begins ends f.1.source)
 
   pub apart : KeepsApart R
   apart s r k m h same wrote read = h.comes_of.clear k m same wrote read
