@@ -10,37 +10,9 @@ pub trait Words: Copy {
     fn all_mut(&mut self) -> &mut [u64];
 }
 
-impl Words for [u64; 3] {
+impl<const N: usize> Words for [u64; N] {
     fn zero() -> Self {
-        [0; 3]
-    }
-
-    fn all(&self) -> &[u64] {
-        self
-    }
-
-    fn all_mut(&mut self) -> &mut [u64] {
-        self
-    }
-}
-
-impl Words for [u64; 32] {
-    fn zero() -> Self {
-        [0; 32]
-    }
-
-    fn all(&self) -> &[u64] {
-        self
-    }
-
-    fn all_mut(&mut self) -> &mut [u64] {
-        self
-    }
-}
-
-impl Words for [u64; 512] {
-    fn zero() -> Self {
-        [0; 512]
+        [0; N]
     }
 
     fn all(&self) -> &[u64] {
@@ -55,11 +27,7 @@ impl Words for [u64; 512] {
 /// Words that threads can share.
 pub trait Shared: Words + Send + Sync {}
 
-impl Shared for [u64; 3] {}
-
-impl Shared for [u64; 32] {}
-
-impl Shared for [u64; 512] {}
+impl<const N: usize> Shared for [u64; N] {}
 
 #[derive(Clone, Copy)]
 pub struct Record<W> {

@@ -11,8 +11,6 @@ use std::test::Fail;
 use std::thread::{Threads, join_mut};
 
 mod beside;
-mod in_place;
-mod torn;
 
 #[derive(Clone, Copy)]
 struct Count(u64);

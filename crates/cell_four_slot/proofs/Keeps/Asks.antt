@@ -1,6 +1,6 @@
 -- R1 and R2 keep the rule: the reader loads the pair and stores it, each in a step of its own, or both at one load where the pair stays.
-use Rattle.std.proofs.Common.{◌≡◌, ◌≢◌, ℕ, ◌+◌, ◌<◌, Bool, Option, None, Some, List, [], ◌∷◌, ◌++◌}
-use Rattle.std.proofs.Common.{get_or, set, sym, refl, ap, ◌∙◌, subst, ⊎_elim, arith, ◌≤◌, le_refl}
+use Rattle.std.proofs.Common.{◌≡◌, ◌≢◌, ℕ, ◌+◌, ◌<◌, Bool, Option, None, Some, List, [], ◌∷◌, ◌++◌, get_or, set, sym, refl, ap, ◌∙◌, subst}
+use Rattle.std.proofs.Common.{⊎_elim, arith, ◌≤◌, le_refl}
 use mathlib.Core.Option.{none, some, Option as Opt}
 use lib.ListN.{get_elem?}
 use lib.Seq.{set-get_or}
@@ -10,30 +10,22 @@ use Rattle.four_slot_core.specs.declared.state.Slot.{Slot}
 use Rattle.four_slot_core.specs.declared.state.State.{State as Core}
 use Rattle.four_slot_core.specs.declared.state.ReaderStage.TheVariants as reader
 use Rattle.four_slot_core.specs.declared.event.ReadEvent.TheVariants.{R1}
-use Rattle.four_slot_core.specs.Events.{slot_with, bit_number, opening_state}
-use Rattle.four_slot_core.specs.Events.{after_read}
+use Rattle.four_slot_core.specs.Events.{slot_with, bit_number, opening_state, after_read}
 use Rattle.four_slot_core.specs.Invariant.{latest_slot, IsSound, IsKept}
 use Rattle.cell_live.specs.Acts.{Proper}
 use Rattle.cell_four_slot.specs.declared.notes.WriterNotes.{WriterNotes}
 use Rattle.cell_four_slot.specs.declared.notes.ReaderNotes.{ReaderNotes}
-use Rattle.cell_four_slot.specs.Steps.{FourSlotSight}
-use Rattle.cell_live.specs.declared.sight.Sight.TheVariants.{Writer, Reader}
-use Rattle.cell_four_slot.specs.Rule.{number_in, named_slot, InTable, Sees}
-use Rattle.cell_four_slot.specs.Rule.{FourSlotRule}
-use Rattle.cell_live.specs.Sights.{reader_or}
-use Rattle.cell_four_slot.specs.Steps.{asked_by, asks, slot_of_choice}
-use Rattle.cell_four_slot.specs.Steps.{said_with, word_said, asks_counting, says_counting}
+use Rattle.cell_four_slot.specs.Steps.{FourSlotSight, asked_by, asks, slot_of_choice, said_with, word_said, asks_counting, says_counting}
 use Rattle.cell_four_slot.specs.Steps.{clock_of}
+use Rattle.cell_live.specs.declared.sight.Sight.TheVariants.{Writer, Reader}
+use Rattle.cell_four_slot.specs.Rule.{number_in, named_slot, InTable, Sees, FourSlotRule}
+use Rattle.cell_live.specs.Sights.{reader_or}
 use Rattle.cell_live.proofs.ListLaws.{seats_stay}
-use Rattle.cell_four_slot.proofs.Clear.{word_latest, word_reading}
-use Rattle.cell_four_slot.proofs.Clear.{table_asks, table_says}
-use Rattle.cell_four_slot.proofs.Fresh.{numbered_read}
-use Rattle.cell_four_slot.proofs.Fresh.{settled_asks, settled_says}
-use Rattle.cell_four_slot.proofs.Fresh.{finished_shown}
+use Rattle.cell_four_slot.proofs.Clear.{word_latest, word_reading, table_asks, table_says}
+use Rattle.cell_four_slot.proofs.Fresh.{numbered_read, settled_asks, settled_says, finished_shown}
 use Rattle.cell_four_slot.proofs.Slots.{bit_low}
 use Rattle.cell_four_slot.proofs.Timing.{timed_asks, timed_says}
-use Rattle.cell_four_slot.proofs.Events.{leads_asks, leads_says}
-use Rattle.cell_four_slot.proofs.Events.{sound_asks, sound_says, has_read, has_said}
+use Rattle.cell_four_slot.proofs.Events.{leads_asks, leads_says, sound_asks, sound_says, has_read, has_said}
 use Rattle.cell_four_slot.proofs.Keeps.Sees.{sight_get, act_of, act_rest, act_proper, act_valid, act_homes, next_time, next_on, get_on}
 
 module _ {T : Type 0} (fits : T → Type 0) (rises : T → T → Type 0) (o : T) where
@@ -58,6 +50,7 @@ module _ {T : Type 0} (fits : T → Type 0) (rises : T → T → Type 0) (o : T)
   abbrev pair_number : {s : St} → Rule s → ℕ
   pair_number r = number_in r.put.slots (named_slot r.core r.core.read.pair)
 
+  -- R1 gives back the slot of the read before and loads `latest`: what it finds is no older than what the reader saw.
   pub asks_at : (s : St) (r : Rule s) (t : ℕ) → r.now < t → (slots id : ℕ) (me : M) → id ≡ r.reader → me.0 ≡ Reader r.get →
       r.get.stage ≡ reader.R5
       → (w : V) × (a : Act T) × (clock_of w ≡ t) × Proper me.1 a × Valid s.homes me.1 a
@@ -236,6 +229,7 @@ module _ {T : Type 0} (fits : T → Type 0) (rises : T → T → Type 0) (o : T)
             ),
       )
 
+  -- either form of it, by whether `reading` names the loaded pair already
   pub asks_on_at : (count : ℕ) → count ≤ 1 → (s : St) (r : Rule s) (t : ℕ) → r.now < t → (slots id : ℕ) (me : M) → id ≡ r.reader →
       me.0 ≡ Reader r.get → me.1 ≡ slot_of_choice r.get.chosen r.get.at_hand.value → r.get.stage ≡ reader.R5
       → (w : V) × (a : Act T) × (clock_of w ≡ t) × Proper me.1 a × Valid s.homes me.1 a
@@ -267,6 +261,7 @@ module _ {T : Type 0} (fits : T → Type 0) (rises : T → T → Type 0) (o : T)
       known.0 (is, holds, stage) in
       let x = asks_on_at count few s r (next_time r) (next_on r) slots id me known.1 h.0 h.1 h.2 in (x.0, x.1, x.4, x.5.0, x.6)
 
+  -- R2 stores the pair: from now on the writer keeps out of it, and its slot can only get newer.
   pub says_at : (count : ℕ) → count ≤ 1 → (s : St) (r : Rule s) (t : ℕ) → r.now < t → (slots id : ℕ) (me : M) (new : ℕ) → id ≡ r.reader →
       me.0 ≡ Reader r.get → me.1 ≡ slot_of_choice r.get.chosen r.get.at_hand.value → r.get.stage ≡ reader.R1 →
       new ≡ bit_number r.get.slot.pair

@@ -1,6 +1,5 @@
 -- W1 to W3 keep the rule: the writer takes a free slot of the pair that is not being read, and puts its record there.
-use Rattle.std.proofs.Common.{◌≡◌, ℕ, ◌<◌, Bool, not, List, [], ◌∷◌, ◌++◌}
-use Rattle.std.proofs.Common.{get_or, set, sym, refl, ap, ◌∙◌, subst, arith, ◌≤◌, le_refl}
+use Rattle.std.proofs.Common.{◌≡◌, ℕ, ◌<◌, Bool, not, List, [], ◌∷◌, ◌++◌, get_or, set, sym, refl, ap, ◌∙◌, subst, arith, ◌≤◌, le_refl}
 use Rattle.std.proofs.Common.{le_of_eq}
 use mathlib.Core.Option.{none}
 use lib.Seq.{set-get_or}
@@ -16,23 +15,17 @@ use Rattle.cell_live.specs.Running.{last_or, snap}
 use Rattle.cell_live.specs.Acts.{Proper}
 use Rattle.cell_four_slot.specs.declared.notes.WriterNotes.{WriterNotes}
 use Rattle.cell_four_slot.specs.declared.notes.ReaderNotes.{ReaderNotes}
-use Rattle.cell_four_slot.specs.Steps.{FourSlotSight}
+use Rattle.cell_four_slot.specs.Steps.{FourSlotSight, begun_with, begins, clock_of}
 use Rattle.cell_live.specs.declared.sight.Sight.TheVariants.{Writer}
-use Rattle.cell_four_slot.specs.Rule.{number_in, named_slot, StandsBy, InTable, IsNumbered, IsSettled, Sees}
-use Rattle.cell_four_slot.specs.Rule.{FourSlotRule}
+use Rattle.cell_four_slot.specs.Rule.{number_in, named_slot, StandsBy, InTable, IsNumbered, IsSettled, Sees, FourSlotRule}
 use Rattle.cell_live.specs.Sights.{writer_or}
-use Rattle.cell_four_slot.specs.Steps.{begun_with, begins}
-use Rattle.cell_four_slot.specs.Steps.{clock_of}
 use Rattle.cell_live.proofs.ListLaws.{rising_snoc, seats_stay}
 use Rattle.cell_four_slot.proofs.Clear.{free_slot, begun, word_reading, free_at_home, table_begins}
-use Rattle.cell_four_slot.proofs.Fresh.{numbered_begins, stands_longer}
-use Rattle.cell_four_slot.proofs.Fresh.{shown_same, settled_begins}
-use Rattle.cell_four_slot.proofs.Fresh.{free_unnamed}
+use Rattle.cell_four_slot.proofs.Fresh.{numbered_begins, stands_longer, shown_same, settled_begins, free_unnamed}
 use Rattle.cell_four_slot.proofs.Slots.{number_else}
 use Rattle.cell_live.proofs.Timing.{first_begun, heeded_begun}
 use Rattle.cell_four_slot.proofs.Timing.{timed_begins}
-use Rattle.cell_four_slot.proofs.Events.{leads_begins, sound_begins}
-use Rattle.cell_four_slot.proofs.Events.{wrote}
+use Rattle.cell_four_slot.proofs.Events.{leads_begins, sound_begins, wrote}
 use Rattle.cell_four_slot.proofs.Keeps.Sees.{sight_put, next_time, next_on, put_on}
 
 module _ {T : Type 0} (fits : T → Type 0) (rises : T → T → Type 0) (o : T) where
@@ -57,6 +50,8 @@ module _ {T : Type 0} (fits : T → Type 0) (rises : T → T → Type 0) (o : T)
   abbrev pair_number : {s : St} → Rule s → ℕ
   pair_number r = number_in r.put.slots (named_slot r.core r.core.read.pair)
 
+  -- The slot that the writer takes is free: it isn't the reader's, nor the one that `latest` and `reading` name. So no number that a
+  -- seat knows changes, and what each seat has seen still stands.
   pub begins_at : (s : St) (r : Rule s) (t : ℕ) → r.now < t → (slots id : ℕ) (me : M) (items : List T) (x : T) → id ≡ r.writer →
       me.0 ≡ Writer r.put → me.1 ≡ [] → r.put.stage ≡ writer.W5 → items ≡ x ∷ [] → fits x → rises (last_or o r.put.written) x
       → (w : V) × (a : Act T) × (clock_of w ≡ t) × Proper me.1 a × Valid s.homes me.1 a
@@ -145,6 +140,7 @@ module _ {T : Type 0} (fits : T → Type 0) (rises : T → T → Type 0) (o : T)
         ),
       )
 
+  -- of any seat that sees the writer between two writes
   pub begins_ok : (slots id : ℕ) (me : M) (p : WriterNotes T) (items : List T) (x : T) → me.0 ≡ Writer p → me.1 ≡ [] → p.stage ≡ writer.W5 →
       items ≡ x ∷ [] → fits x → rises (last_or p.opening.value p.written) x
       → Allows Rule slots id me 1 (λ n. n) (begins items (step slots 1 0 0 none) me)

@@ -1,8 +1,6 @@
 -- What the last state shows of a seat with both lists: all answers settled, all intervals, and what the reader knows.
-use Rattle.std.proofs.Common.{◌≡◌, ℕ, zero, suc, List, [], ◌∷◌, ◌++◌}
-use Rattle.std.proofs.Common.{take, sym, refl, ap, subst, ◌≤◌}
-use Rattle.atomic_table.specs.Table.{State, Me}
-use Rattle.atomic_table.specs.Table.{Final, Seen}
+use Rattle.std.proofs.Common.{◌≡◌, ℕ, zero, suc, List, [], ◌∷◌, ◌++◌, take, sym, refl, ap, subst, ◌≤◌}
+use Rattle.atomic_table.specs.Table.{State, Me, Final, Seen}
 use Rattle.four_slot_core.specs.declared.state.Stage.{Stage}
 use Rattle.four_slot_core.specs.declared.state.ReaderStage.{ReaderStage}
 use Rattle.four_slot_core.specs.Invariant.{latest_slot}
@@ -12,8 +10,7 @@ use Rattle.cell_four_slot.specs.declared.notes.WriterNotes.{WriterNotes}
 use Rattle.cell_four_slot.specs.declared.notes.ReaderNotes.{ReaderNotes}
 use Rattle.cell_four_slot.specs.Steps.{FourSlotSight}
 use Rattle.cell_live.specs.declared.sight.Sight.TheVariants.{Both}
-use Rattle.cell_four_slot.specs.Rule.{number_in, named_slot, IsTimed, Sees}
-use Rattle.cell_four_slot.specs.Rule.{FourSlotRule}
+use Rattle.cell_four_slot.specs.Rule.{number_in, named_slot, IsTimed, Sees, FourSlotRule}
 use Rattle.cell_live.proofs.ListLaws.{settled_more}
 
 module _ {T : Type 0} where

@@ -1,11 +1,9 @@
 -- What changes no word keeps the rule: seats that part and join again, and receipts that are told and heard.
-use Rattle.std.proofs.Common.{◌≡◌, ◌≢◌, ◌⊎◌, ℕ, zero, suc, ◌<◌, List, [], ◌∷◌, ◌++◌}
-use Rattle.std.proofs.Common.{length, set, sym, refl, ap, ◌∙◌, subst, ⊎_elim, inl, inr, arith, ◌≤◌, le_refl}
-use Rattle.std.proofs.Common.{le_of_eq}
+use Rattle.std.proofs.Common.{◌≡◌, ◌≢◌, ◌⊎◌, ℕ, zero, suc, ◌<◌, List, [], ◌∷◌, ◌++◌, length, set, sym, refl, ap, ◌∙◌, subst, ⊎_elim, inl}
+use Rattle.std.proofs.Common.{inr, arith, ◌≤◌, le_refl, le_of_eq}
 use mathlib.Core.Option.{some, some-injective, some-ne-none}
 use lib.ListN.{get_elem?}
-use Rattle.atomic_table.specs.Table.{State, Me}
-use Rattle.atomic_table.specs.Table.{Splits, Joins}
+use Rattle.atomic_table.specs.Table.{State, Me, Splits, Joins}
 use Rattle.atomic_table.proofs.Lists.{at_set, at_snoc, set_again, set_else}
 use Rattle.std.proofs.lemmas.Bool.{cases_eq}
 use Rattle.std.specs.declared.snapshot.Snapshot.{Snapshot}
@@ -20,12 +18,10 @@ use Rattle.cell_live.specs.Intervals.{known_as, IsHeeded}
 use Rattle.cell_live.specs.declared.times.Dated.{Dated}
 use Rattle.cell_four_slot.specs.declared.notes.WriterNotes.{WriterNotes}
 use Rattle.cell_four_slot.specs.declared.notes.ReaderNotes.{ReaderNotes}
-use Rattle.cell_four_slot.specs.Steps.{FourSlotSight}
+use Rattle.cell_four_slot.specs.Steps.{FourSlotSight, receipt_for, told_by, heard_by, hears_of, whole_of}
 use Rattle.cell_live.specs.declared.sight.Sight.TheVariants.{Spent, Told, Writer, Reader, Both}
-use Rattle.cell_four_slot.specs.Rule.{number_in, named_slot, finished_number, StandsBy, Sees}
-use Rattle.cell_four_slot.specs.Rule.{FourSlotRule}
+use Rattle.cell_four_slot.specs.Rule.{number_in, named_slot, finished_number, StandsBy, Sees, FourSlotRule}
 use Rattle.cell_live.specs.Sights.{writer_part, reader_part}
-use Rattle.cell_four_slot.specs.Steps.{receipt_for, told_by, heard_by, hears_of, whole_of}
 use Rattle.cell_live.proofs.ListLaws.{all_snoc, seats_stay}
 use Rattle.cell_live.proofs.Timing.{heeded_all}
 use Rattle.cell_four_slot.proofs.Timing.{timed_hears}
@@ -80,6 +76,7 @@ module _ {T : Type 0} (fits : T → Type 0) (rises : T → T → Type 0) (o : T)
     each_seat = seats;
   }
 
+  -- what a seat of neither side sees doesn't depend on who has the sides
   others_alone : (s : St) (r : Rule s) (writer' reader' j : ℕ) → j ≢ r.writer → j ≢ r.reader → (v : V) →
       Sees o r.put r.get (shown_number r) r.now r.writer r.reader j v → Sees o r.put r.get (shown_number r) r.now writer' reader' j v
   others_alone s r w q j a b v k =
@@ -87,6 +84,7 @@ module _ {T : Type 0} (fits : T → Type 0) (rises : T → T → Type 0) (o : T)
       sight_get o r.put r.get r.get n r.now r.now w r.reader q j b (le_refl r.now) v
       (sight_put o r.put r.put r.get n n r.now r.now r.writer w r.reader j a (le_refl r.now) (λ x h. h) (λ x h. h) v k)
 
+  -- a seat of the list with one more is one of the old or the new one
   place_in : (vs : List V) (w : V) (v : V) (j : ℕ) → get_elem? (vs ++ w ∷ []) j ≡ some v →
       ((j < length vs) × (get_elem? vs j ≡ some v)) ⊎ ((j ≡ length vs) × (w ≡ v))
   place_in [] w v zero e = inr (refl, some-injective w v e)
@@ -95,6 +93,7 @@ module _ {T : Type 0} (fits : T → Type 0) (rises : T → T → Type 0) (o : T)
   place_in (x ∷ vs) w v (suc j) e = ⊎_elim (λ (t : (j < length vs) × (get_elem? vs j ≡ some v)). inl (omega arith, t.1))
       (λ (t : (j ≡ length vs) × (w ≡ v)). inr (ap suc t.0, t.1)) (place_in vs w v j e)
 
+  -- the seat with both lists parts into the writer's, in its place, and the reader's, at the end
   parts : (id : ℕ) (p : WriterNotes T) (g : ReaderNotes T) → Splits Rule id (Both p g) (Writer p) (Reader g)
   parts id p g s r at =
       let known = r.each_seat id (Both p g) at in
@@ -112,6 +111,7 @@ module _ {T : Type 0} (fits : T → Type 0) (rises : T → T → Type 0) (o : T)
   pub parts_ok : (id : ℕ) (v : V) (p : WriterNotes T) (g : ReaderNotes T) → v ≡ Both p g → Splits Rule id v (writer_part v) (reader_part v)
   parts_ok id v p g e = subst (λ (z : V). Splits Rule id z (writer_part z) (reader_part z)) (sym e) (parts id p g)
 
+  -- between two writes the last record stands, and no write is newer: this is what a receipt says
   tells : (id : ℕ) (p : WriterNotes T) → p.stage ≡ writer.W5 →
       Splits Rule id (Writer p) (Writer p) (Told (snap (told_by p)))
   tells id p idle s r at = let known = r.each_seat id (Writer p) at in let m : ℕ = shown_number r in let c : Core T = r.core in
@@ -139,6 +139,7 @@ module _ {T : Type 0} (fits : T → Type 0) (rises : T → T → Type 0) (o : T)
   pub tells_ok : (id : ℕ) (v : V) (p : WriterNotes T) → v ≡ Writer p → p.stage ≡ writer.W5 → Splits Rule id v v (receipt_for v)
   tells_ok id v p e idle = subst (λ (z : V). Splits Rule id z z (receipt_for z)) (sym e) (tells id p idle)
 
+  -- the reader keeps what a receipt says; the next answer comes no earlier
   hears : (id other : ℕ) (g : ReaderNotes T) (x : Snapshot (Dated T)) → g.stage ≡ reader.R5 →
       Joins Rule id (Reader g) other (Told x) (Reader (heard_by g x.value)) Spent
   hears id other g x idle s r at apart there =
@@ -197,6 +198,7 @@ module _ {T : Type 0} (fits : T → Type 0) (rises : T → T → Type 0) (o : T)
   hears_ok id other v w g x e f idle =
       subst (λ (z : V × V). Joins Rule id z.0 other z.1 (hears_of z.0 z.1) Spent) (λ i. (sym e i, sym f i)) (hears id other g x idle)
 
+  -- the two sides join: one seat sees both lists, and the other nothing
   ends : (id other : ℕ) (p : WriterNotes T) (g : ReaderNotes T) → Joins Rule id (Writer p) other (Reader g) (Both p g) Spent
   ends id other p g s r at apart there =
       let known = r.each_seat id (Writer p) at in

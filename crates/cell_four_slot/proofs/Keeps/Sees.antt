@@ -1,7 +1,6 @@
 -- What the steps of a cell share: what a seat sees stays when the other side makes a step, the slot that a reader gives back, and that each
 -- step comes later than all that was.
-use Rattle.std.proofs.Common.{◌≡◌, ◌≢◌, ℕ, ◌+◌, ◌<◌, Option, None, Some, List, [], ◌∷◌}
-use Rattle.std.proofs.Common.{refl, arith, ◌≤◌, le_trans}
+use Rattle.std.proofs.Common.{◌≡◌, ◌≢◌, ℕ, ◌+◌, ◌<◌, Option, None, Some, List, [], ◌∷◌, refl, arith, ◌≤◌, le_trans}
 use mathlib.Core.Option.{Option as Opt}
 use Rattle.atomic_table.specs.Table.{State, Act, keeps, gives, carried_after, homes_after, Valid}
 use Rattle.four_slot_core.specs.declared.state.Slot.{Slot}
@@ -10,11 +9,9 @@ use Rattle.cell_live.specs.Acts.{Proper}
 use Rattle.cell_live.specs.declared.times.Known.{Known}
 use Rattle.cell_four_slot.specs.declared.notes.WriterNotes.{WriterNotes}
 use Rattle.cell_four_slot.specs.declared.notes.ReaderNotes.{ReaderNotes}
-use Rattle.cell_four_slot.specs.Steps.{FourSlotSight}
+use Rattle.cell_four_slot.specs.Steps.{FourSlotSight, slot_of_choice}
 use Rattle.cell_live.specs.declared.sight.Sight.TheVariants.{Spent, Told, Writer, Reader, Both}
-use Rattle.cell_four_slot.specs.Rule.{StandsBy, Sees}
-use Rattle.cell_four_slot.specs.Rule.{FourSlotRule}
-use Rattle.cell_four_slot.specs.Steps.{slot_of_choice}
+use Rattle.cell_four_slot.specs.Rule.{StandsBy, Sees, FourSlotRule}
 
 module _ {T : Type 0} where
   pub sight_put : (o : T) (p p' : WriterNotes T) (g : ReaderNotes T) (n n' t t' w w' r j : ℕ) → j ≢ w → t ≤ t' →

@@ -1,18 +1,15 @@
 -- The start has the rule: all bits are 0, the opening stands in all four slots, and one seat sees it. A family parts that seat at once.
-use Rattle.std.proofs.Common.{◌≡◌, ℕ, zero, suc, ◌+◌, ◌*◌, Bool, true, false, None, Some, List, [], ◌∷◌}
-use Rattle.std.proofs.Common.{map, sym, refl, ap, ◌∙◌, subst, arith, ◌≤◌, le_refl}
+use Rattle.std.proofs.Common.{◌≡◌, ℕ, zero, suc, ◌+◌, ◌*◌, Bool, true, false, None, Some, List, [], ◌∷◌, map, sym, refl, ap, ◌∙◌, subst}
+use Rattle.std.proofs.Common.{arith, ◌≤◌, le_refl}
 use mathlib.Core.Option.{some, some-injective, some-ne-none}
 use lib.ListN.{get_elem?}
-use Rattle.atomic_table.specs.Table.{State, Me}
-use Rattle.atomic_table.specs.Table.{opening}
+use Rattle.atomic_table.specs.Table.{State, Me, opening}
 use Rattle.four_slot_core.specs.Events.{side, bit_number, both, opening_state}
 use Rattle.four_slot_core.specs.Invariant.{latest_slot}
 use Rattle.four_slot_core.proofs.events.Keeping.{opening_is_sound}
 use Rattle.four_slot_core.specs.Interleaving.Leads.{Stays}
-use Rattle.cell_four_slot.specs.Steps.{FourSlotSight}
-use Rattle.cell_four_slot.specs.Rule.{number_in, named_slot, Sees}
-use Rattle.cell_four_slot.specs.Rule.{FourSlotRule}
-use Rattle.cell_four_slot.specs.Steps.{first_writer, first_reader, first_sight}
+use Rattle.cell_four_slot.specs.Steps.{FourSlotSight, first_writer, first_reader, first_sight}
+use Rattle.cell_four_slot.specs.Rule.{number_in, named_slot, Sees, FourSlotRule}
 use Rattle.cell_live.proofs.Timing.{first_all}
 use Rattle.cell_four_slot.proofs.Timing.{timed_starts}
 use Rattle.cell_four_slot.proofs.Keeps.Seats.{reseated_at}

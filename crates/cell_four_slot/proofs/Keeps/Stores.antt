@@ -1,7 +1,7 @@
 -- W4 and W5 keep the rule: the writer stores the bit of the slot and then the pair, each in a step of its own, or both at one store where
 -- the pair stays.
-use Rattle.std.proofs.Common.{◌≡◌, ◌≢◌, ℕ, ◌+◌, ◌<◌, List, [], ◌∷◌, ◌++◌}
-use Rattle.std.proofs.Common.{get_or, set, sym, refl, ap, ◌∙◌, subst, ⊎_elim, arith, ◌≤◌, le_trans, le_refl}
+use Rattle.std.proofs.Common.{◌≡◌, ◌≢◌, ℕ, ◌+◌, ◌<◌, List, [], ◌∷◌, ◌++◌, get_or, set, sym, refl, ap, ◌∙◌, subst, ⊎_elim, arith, ◌≤◌}
+use Rattle.std.proofs.Common.{le_trans, le_refl}
 use mathlib.Core.Option.{none, some, Option as Opt}
 use lib.Seq.{set-get_or}
 use Rattle.atomic_table.specs.Table.{State, Me, step, Act, keeps, gives, rest, stepped, carried_after, Allows, Valid}
@@ -15,25 +15,17 @@ use Rattle.four_slot_core.specs.Invariant.{latest_slot, IsSound, IsUnderWay}
 use Rattle.cell_live.specs.Acts.{HasOne, Proper}
 use Rattle.cell_four_slot.specs.declared.notes.WriterNotes.{WriterNotes}
 use Rattle.cell_four_slot.specs.declared.notes.ReaderNotes.{ReaderNotes}
-use Rattle.cell_four_slot.specs.Steps.{FourSlotSight}
+use Rattle.cell_four_slot.specs.Steps.{FourSlotSight, stored_by, stores, finishes_counting, finishes, finished_with, stores_on, clock_of}
 use Rattle.cell_live.specs.declared.sight.Sight.TheVariants.{Writer}
-use Rattle.cell_four_slot.specs.Rule.{number_in, named_slot, InTable, IsNumbered, Sees}
-use Rattle.cell_four_slot.specs.Rule.{FourSlotRule}
+use Rattle.cell_four_slot.specs.Rule.{number_in, named_slot, InTable, IsNumbered, Sees, FourSlotRule}
 use Rattle.cell_live.specs.Sights.{writer_or}
-use Rattle.cell_four_slot.specs.Steps.{stored_by, stores, finishes_counting, finishes}
-use Rattle.cell_four_slot.specs.Steps.{finished_with, stores_on}
-use Rattle.cell_four_slot.specs.Steps.{clock_of}
 use Rattle.cell_live.proofs.ListLaws.{seats_stay}
-use Rattle.cell_four_slot.proofs.Clear.{word_latest}
-use Rattle.cell_four_slot.proofs.Clear.{table_stores, table_finishes}
-use Rattle.cell_four_slot.proofs.Fresh.{numbered_stores, numbered_finishes, stands_more}
-use Rattle.cell_four_slot.proofs.Fresh.{latest_grows, shown_grows, settled_stores, settled_finishes}
-use Rattle.cell_four_slot.proofs.Fresh.{number_grows}
+use Rattle.cell_four_slot.proofs.Clear.{word_latest, table_stores, table_finishes}
+use Rattle.cell_four_slot.proofs.Fresh.{numbered_stores, numbered_finishes, stands_more, latest_grows, shown_grows, settled_stores}
+use Rattle.cell_four_slot.proofs.Fresh.{settled_finishes, number_grows}
 use Rattle.cell_live.proofs.Timing.{first_passed, first_ended, heeded_passed, heeded_ended}
 use Rattle.cell_four_slot.proofs.Timing.{timed_stores, timed_finishes}
-use Rattle.cell_four_slot.proofs.Events.{leads_stores, leads_finishes}
-use Rattle.cell_four_slot.proofs.Events.{sound_stores, sound_finishes, wrote}
-use Rattle.cell_four_slot.proofs.Events.{has_finished}
+use Rattle.cell_four_slot.proofs.Events.{leads_stores, leads_finishes, sound_stores, sound_finishes, wrote, has_finished}
 use Rattle.cell_four_slot.proofs.Keeps.Sees.{sight_put, next_time, next_on, put_on}
 
 module _ {T : Type 0} (fits : T → Type 0) (rises : T → T → Type 0) (o : T) where
@@ -58,6 +50,7 @@ module _ {T : Type 0} (fits : T → Type 0) (rises : T → T → Type 0) (o : T)
   abbrev pair_number : {s : St} → Rule s → ℕ
   pair_number r = number_in r.put.slots (named_slot r.core r.core.read.pair)
 
+  -- W4 gives the slot back with the new record and names it: the numbers that a seat knows can only grow.
   pub stores_at : (s : St) (r : Rule s) (t : ℕ) → r.now < t → (slots id : ℕ) (me : M) (i new : ℕ) → id ≡ r.writer → me.0 ≡ Writer r.put →
       me.1 ≡ (slot_number r.put.slot, r.put.item.value) ∷ [] → r.put.stage ≡ writer.W3 → i ≡ 2 + bit_number r.put.slot.pair →
       new ≡ bit_number r.put.slot.index
@@ -224,6 +217,7 @@ module _ {T : Type 0} (fits : T → Type 0) (rises : T → T → Type 0) (o : T)
         ),
       )
 
+  -- either form of it, by whether the pair that is written is the one that `latest` names
   pub stores_on_at : (s : St) (r : Rule s) (t : ℕ) → r.now < t → (slots id : ℕ) (me : M) (i new : ℕ) → id ≡ r.writer → me.0 ≡ Writer r.put →
       me.1 ≡ (slot_number r.put.slot, r.put.item.value) ∷ [] → r.put.stage ≡ writer.W3 → i ≡ 2 + bit_number r.put.slot.pair →
       new ≡ bit_number r.put.slot.index
@@ -261,6 +255,7 @@ module _ {T : Type 0} (fits : T → Type 0) (rises : T → T → Type 0) (o : T)
       × (i ≡ 2 + bit_number q.slot.pair) × (new ≡ bit_number q.slot.index)) known.0 (is, holds, stage, word, to) in
       let x = stores_on_at s r (next_time r) (next_on r) slots id me i new known.1 h.0 h.1 h.2 h.3 h.4 in (x.0, x.1, x.4, x.5.0, x.6)
 
+  -- W5 names the pair, so the newest number is that of the write itself: what a seat has seen stays below it.
   pub finishes_at : (count : ℕ) → count ≤ 1 → (s : St) (r : Rule s) (t : ℕ) → r.now < t → (slots id : ℕ) (me : M) (new : ℕ) → id ≡ r.writer
       → me.0 ≡ Writer r.put → r.put.stage ≡ writer.W4 → new ≡ bit_number r.put.slot.pair
       → (w : V) × (a : Act T) × (clock_of w ≡ t) × Proper me.1 a × Valid s.homes me.1 a × RuleAt t (stepped s 0 new id me.1 w a)

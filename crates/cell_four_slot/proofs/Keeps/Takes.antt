@@ -1,6 +1,6 @@
 -- R3 to R5 keep the rule: the reader takes the slot of its pair, and its answer is a write that no finished one has replaced.
-use Rattle.std.proofs.Common.{◌≡◌, ℕ, ◌+◌, ◌<◌, Bool, Some, List, [], ◌∷◌}
-use Rattle.std.proofs.Common.{length, get_or, set, sym, refl, ap, ◌∙◌, subst, arith, ◌≤◌, le_refl}
+use Rattle.std.proofs.Common.{◌≡◌, ℕ, ◌+◌, ◌<◌, Bool, Some, List, [], ◌∷◌, length, get_or, set, sym, refl, ap, ◌∙◌, subst, arith, ◌≤◌}
+use Rattle.std.proofs.Common.{le_refl}
 use mathlib.Core.Option.{none}
 use lib.Seq.{set-get_or}
 use Rattle.atomic_table.specs.Table.{State, Me, step, Act, takes, stepped, carried_after, Allows, Valid}
@@ -17,26 +17,17 @@ use Rattle.cell_live.specs.Acts.{Proper}
 use Rattle.cell_live.specs.declared.times.Known.{Known}
 use Rattle.cell_four_slot.specs.declared.notes.WriterNotes.{WriterNotes}
 use Rattle.cell_four_slot.specs.declared.notes.ReaderNotes.{ReaderNotes}
-use Rattle.cell_four_slot.specs.Steps.{FourSlotSight}
+use Rattle.cell_four_slot.specs.Steps.{FourSlotSight, got_by, takes as takes_slot, clock_of, HasAnswered}
 use Rattle.cell_live.specs.declared.sight.Sight.TheVariants.{Reader}
-use Rattle.cell_four_slot.specs.Rule.{number_in, named_slot, InTable, IsTimed, Sees}
-use Rattle.cell_four_slot.specs.Rule.{FourSlotRule}
+use Rattle.cell_four_slot.specs.Rule.{number_in, named_slot, InTable, IsTimed, Sees, FourSlotRule}
 use Rattle.cell_live.specs.Sights.{reader_or}
-use Rattle.cell_four_slot.specs.Steps.{got_by}
-use Rattle.cell_four_slot.specs.Steps.{takes as takes_slot}
-use Rattle.cell_four_slot.specs.Steps.{clock_of, HasAnswered}
 use Rattle.cell_live.proofs.ListLaws.{seats_stay}
-use Rattle.cell_four_slot.proofs.Clear.{read_on, word_bit}
-use Rattle.cell_four_slot.proofs.Clear.{named_at_home, table_reads}
-use Rattle.cell_four_slot.proofs.Fresh.{numbered_read}
-use Rattle.cell_four_slot.proofs.Fresh.{settled_reads, answers_at}
-use Rattle.cell_four_slot.proofs.Fresh.{number_below}
+use Rattle.cell_four_slot.proofs.Clear.{read_on, word_bit, named_at_home, table_reads}
+use Rattle.cell_four_slot.proofs.Fresh.{numbered_read, settled_reads, answers_at, number_below}
 use Rattle.cell_four_slot.proofs.Slots.{number_bound}
 use Rattle.cell_live.proofs.Timing.{as_slice, first_all}
-use Rattle.cell_four_slot.proofs.Timing.{timed_takes}
-use Rattle.cell_four_slot.proofs.Timing.{timed_atomic}
-use Rattle.cell_four_slot.proofs.Events.{leads_reads}
-use Rattle.cell_four_slot.proofs.Events.{sound_reads, has_read}
+use Rattle.cell_four_slot.proofs.Timing.{timed_takes, timed_atomic}
+use Rattle.cell_four_slot.proofs.Events.{leads_reads, sound_reads, has_read}
 use Rattle.cell_four_slot.proofs.Keeps.Sees.{sight_get, next_time, next_on, get_on}
 
 module _ {T : Type 0} (fits : T → Type 0) (rises : T → T → Type 0) (o : T) where
@@ -62,6 +53,8 @@ module _ {T : Type 0} (fits : T → Type 0) (rises : T → T → Type 0) (o : T)
   pair_number r = number_in r.put.slots (named_slot r.core r.core.read.pair)
 
   module _ (same : (a : T) → rises a a) (along : (a b c : T) → rises a b → rises b c → rises a c) where
+    -- R3 names the slot, and the record stands in it: the writer is in another one. Its number is no less than any that the reader knew,
+    -- so the answer rises, and it is one that no write finished before the read has replaced.
     pub takes_at : (s : St) (r : Rule s) (t : ℕ) → r.now < t → (slots id : ℕ) (me : M) (i : ℕ) → id ≡ r.reader → me.0 ≡ Reader r.get →
         me.1 ≡ [] → r.get.stage ≡ reader.R2 → i ≡ 2 + bit_number r.get.slot.pair
         → (w : V) × (a : Act T) × (clock_of w ≡ t) × Proper me.1 a × Valid s.homes me.1 a
