@@ -5,6 +5,7 @@ use Rattle.c_registers.specs.Handles.{done, other}
 use Rattle.c_registers.specs.Handles as handles
 use Rattle.c_registers.specs.TripleCalls.{StaysAmong}
 use Rattle.c_registers.proofs.Back.{is_back}
+use Rattle.c_registers.specs.declared.triple.TripleReader.{TripleReader}
 use Rattle.c_handles.specs.declared.side.Side.{Side}
 use Rattle.c_handles.specs.declared.side.Party.TheVariants.{TripleReads}
 use Rattle.c_handles.proofs.triple.triple_hold.Goals.{in-None, in-Some}
@@ -18,9 +19,10 @@ returns-then-reader-eq0 g c =
 pub returns : goal.returns
 returns g c =
     let was : c.args.reader.now.live ≢ 0 = search rules in
-    let reads = λ r. g.W.Record.side (TripleReads r) in
+    let reads : TripleReader g.row.W.Denot → Side = λ r. g.W.Record.side (TripleReads r) in
     let lent : c.reach-side.result.now ≡ c.args.reader.now.loose.side = c.reach-side.ensures.value in
-    let back = subst (λ (s : Side). StaysAmong reads s c.hold.follows.lender-at-none) lent c.hold.follows.holds-at-none in (
+    let back : StaysAmong reads c.args.reader.now.loose.side c.hold.follows.lender-at-none =
+    subst (λ (s : Side). StaysAmong reads s c.hold.follows.lender-at-none) lent c.hold.follows.holds-at-none in (
       (refl, (λ d. tt), is_back reads _ was back),
       record {
         back = tt;
