@@ -19,7 +19,7 @@ TOP = os.path.dirname(os.path.dirname(os.path.realpath(__file__)))
 MAP = f"{TOP}/docs/MAP.md"
 MARKS = "<!-- made by tests/map.py -->\n", "<!-- to here -->\n"
 SUBJECTS = {
-    "Histories and their orders": "history_core register_law history_witnesses history_search order_search history_thinning thinned_answers "
+    "Histories and their orders": "history_core register_law history_witnesses history_reasons history_search history_thinning thinned_answers "
     "thinned_search",
     "The four-slot register, played": "four_slot_core four_slot_play",
     "The matrix and the composed board, played": "stamps matrix_core matrix_play matrix_board_play",

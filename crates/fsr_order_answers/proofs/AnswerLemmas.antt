@@ -10,8 +10,8 @@ use Rattle.lines_answers.proofs.StatusLemmas.{low_lines}
 use Rattle.lines_answers.specs.Kinds.{are_lines}
 use Rattle.fsr_words.specs.declared.command.Show.{Show}
 use Rattle.log_text.specs.Log.{log_of}
-use Rattle.history_search.specs.declared.reason.Search.{Search}
-use Rattle.history_search.specs.declared.reason.Search.TheVariants.{Order, Unlawful}
+use Rattle.history_reasons.specs.declared.reason.Search.{Search}
+use Rattle.history_reasons.specs.declared.reason.Search.TheVariants.{Order, Unlawful}
 use Rattle.fsr_order_answers.specs.Order.{AnswersRead, IsAnswerBy, IsLogAnswer, IsOrderAnswer, printed, status_of}
 
 search_is_low : (search : Search) → status_of search ≤ 1

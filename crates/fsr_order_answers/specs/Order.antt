@@ -15,8 +15,8 @@ use Rattle.fsr_words.specs.declared.command.Show.{Show}
 use Rattle.log_search.specs.Logs.{IsLogFault, IsLogSearch}
 use Rattle.search_text.specs.Text.{search_text}
 use Rattle.log_text.specs.Log.{log_of}
-use Rattle.history_search.specs.declared.reason.Search.{Search}
-use Rattle.history_search.specs.declared.reason.Search.TheVariants.{Order, Unlawful}
+use Rattle.history_reasons.specs.declared.reason.Search.{Search}
+use Rattle.history_reasons.specs.declared.reason.Search.TheVariants.{Order, Unlawful}
 
 -- the status of what was found: 0 where there is a lawful order, else 1
 abbrev pub status_of : Search → ℕ

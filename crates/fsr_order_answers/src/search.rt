@@ -7,7 +7,7 @@ ghost use Rattle.log_text.specs.Log.{CanBeSearched, log_of};
 use fsr_runs::{Answer, Fault, LinesFault};
 use fsr_words::Show;
 use history_core::{Band, History, Items};
-use history_search::Search;
+use history_reasons::Search;
 use history_text::{DocError, read_value};
 use lines_answers::{are_lines, order_lines};
 use log_search::search_log;

@@ -11,7 +11,7 @@ use Rattle.history_core.specs.Orders.{IsAtomicOrder, in_term, latest, listed_at,
 use Rattle.headline_uses.specs.Orders.{HasWhatIsThere, IsOnlyWrite, KeepsIntervals, ListsEachOnce, ListsNothingElse, StaleIsAbsurd, WaitsForTheLimit}
 use Rattle.headline_uses.proofs.Listed.{alone, listed}
 use Rattle.headline_uses.proofs.Latest.{counts_none, is_there}
-use Rattle.history_search.proofs.Counts.{times_some}
+use Rattle.history_reasons.proofs.Counts.{times_some}
 
 -- an operation without an end that stands somewhere is a write
 writes : (kind : Kind) (times : ℕ) → 0 < times → MayStand None kind times → kind ≡ Write

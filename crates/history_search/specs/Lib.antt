@@ -1,3 +1,1 @@
--- What the contracts speak of.
-pub mod Reasons
-pub mod Searches
+pub mod inner

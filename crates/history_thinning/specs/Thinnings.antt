@@ -6,8 +6,8 @@ use Rattle.history_core.specs.declared.history.Op.{Op}
 use Rattle.history_core.specs.declared.history.Term.{Term}
 use Rattle.history_core.specs.declared.history.Kind.TheVariants.{Refused}
 use Rattle.history_core.specs.Orders.{is_write}
-use Rattle.history_search.specs.Reasons.{counts, OfOneRecord}
-use Rattle.history_search.specs.Searches.{AreForwards, WritesOnce}
+use Rattle.history_reasons.specs.Reasons.{counts, OfOneRecord}
+use Rattle.history_reasons.specs.Searches.{AreForwards, WritesOnce}
 use Rattle.history_thinning.specs.declared.thinned.Thinned.{Thinned}
 
 -- two records are the same where their numbers are

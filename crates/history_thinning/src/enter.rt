@@ -7,7 +7,7 @@ ghost use Rattle.history_thinning.specs.inner.Kept.{empty_group, joined_group};
 
 use crate::group::{Group, Placed, empty, joined};
 use history_core::{Kind, Op};
-use history_search::SearchError;
+use history_reasons::SearchError;
 use std::alloc::AllocError;
 
 /// Why an operation at this place isn't entered, if so.

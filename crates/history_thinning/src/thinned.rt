@@ -1,5 +1,5 @@
 use history_core::{History, Items};
-use history_search::Reason;
+use history_reasons::Reason;
 
 /// The operations that are kept of a log, in the order of the log.
 #[derive(Debug, Drop)]

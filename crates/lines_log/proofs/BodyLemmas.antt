@@ -17,7 +17,7 @@ use Rattle.std.specs.Prelude.{is_some, MatchOption, unwrap_or}
 use Rattle.std.specs.Str.{IsTrimAsciiEnd}
 use Rattle.history_thinning.specs.Thinnings.{IsThinnedLog}
 use Rattle.lines_log.specs.declared.lines_log.LinesLog.{LinesLog}
-use Rattle.lines_log.specs.inner.Readings.{IsFinished, AreRead, GoesOn, IsReadWhole, IsPartlyRead, is_end, ReadsLine}
+use Rattle.lines_log.specs.inner.Readings.{IsFinished, AreRead, HasRest, IsReadWhole, IsPartlyRead, is_end, ReadsLine}
 use Rattle.lines_log.specs.declared.reader.Reader.{Reader}
 use Rattle.lines_log.proofs.ReadLemmas.{distinct}
 
@@ -72,7 +72,7 @@ pub one_more : (opening : List ℕ) (limited before : Bool) (body : List (List �
 one_more opening limited before body rest line behind old new ended way split reads same =
     by_line ended (at_line before way.left) (reads way.lines way.read)
   where
-    at_line : (b : Bool) → GoesOn limited b body way.lines rest → body ≡ way.lines ++ line ∷ lines_of behind
+    at_line : (b : Bool) → HasRest limited b body way.lines rest → body ≡ way.lines ++ line ∷ lines_of behind
     at_line false going = going ∙ ap (λ (l : List (List ℕ)). way.lines ++ l) split.lines
     at_line true over = absurd (none_left rest line behind split over.0)
 
@@ -105,7 +105,7 @@ all_read opening limited ended body rest reader none way = record {
   all = subst (λ (b : Bool). AreAll b ended body way.lines) (sym way.limits) (whole ended way.left);
 }
   where
-    whole : (b : Bool) → GoesOn limited b body way.lines rest → AreAll limited b body way.lines
+    whole : (b : Bool) → HasRest limited b body way.lines rest → AreAll limited b body way.lines
     whole false going = going ∙ ap (λ (l : List ℕ). way.lines ++ lines_of l) none ∙ append-nil way.lines
     whole true over = over.1
 
@@ -115,7 +115,7 @@ pub at_fault : (opening : List ℕ) (limited ended : Bool) (body : List (List �
     → IsBodyFault opening limited body f
 at_fault opening limited ended body rest line behind reader f way split wrong = fill (at_line ended way.left)
   where
-    at_line : (b : Bool) → GoesOn limited b body way.lines rest → body ≡ way.lines ++ line ∷ lines_of behind
+    at_line : (b : Bool) → HasRest limited b body way.lines rest → body ≡ way.lines ++ line ∷ lines_of behind
     at_line false going = going ∙ ap (λ (l : List (List ℕ)). way.lines ++ l) split.lines
     at_line true over = absurd (none_left rest line behind split over.0)
 

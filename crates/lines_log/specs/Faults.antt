@@ -2,9 +2,9 @@
 use Rattle.std.specs.Prelude.{◌≡◌, ℕ, ◌+◌, ◌⊎◌, true, false, List, [], ◌∷◌, ◌++◌, length, Bool, is_some, slice_get, Some, Ok, Err}
 use Rattle.std.specs.Str.{IsTrimAsciiEnd}
 use Rattle.history_core.specs.declared.history.Op.{Op}
-use Rattle.history_search.specs.Searches.{WritesOnce}
-use Rattle.history_search.specs.declared.reason.SearchError.{SearchError}
-use Rattle.history_search.specs.declared.reason.SearchError.TheVariants as search_error
+use Rattle.history_reasons.specs.Searches.{WritesOnce}
+use Rattle.history_reasons.specs.declared.reason.SearchError.{SearchError}
+use Rattle.history_reasons.specs.declared.reason.SearchError.TheVariants as search_error
 use Rattle.history_thinning.specs.Answers.{IsThinnedFault}
 use Rattle.history_thinning.specs.Thinnings.{Equal}
 use Rattle.fsr_refusals.specs.declared.refusal.DocError.{DocError}

@@ -13,7 +13,7 @@ use Rattle.history_text.specs.Refusals.{◌>>=◌}
 use Rattle.history_thinning.specs.Thinnings.{IsThinnedLog}
 use Rattle.lines_log.specs.declared.lines_log.LinesLog.{LinesLog}
 use Rattle.lines_tables.specs.Numberings.{AreDistinct}
-use Rattle.lines_tables.specs.Reads.{AreRead}
+use Rattle.lines_tables.specs.Reads.{WereRead}
 use Rattle.lines_tables.specs.Splits.{lines_of}
 use Rattle.lines_tables.specs.Tasks.{TakeTurns}
 use Rattle.lines_text.specs.Lines.{LineEntry, operation, done, entry_of, Head, head_of}
@@ -87,5 +87,5 @@ pub record IsLinesLog (bytes : List ℕ) (log : List (Op ℕ)) (read : LinesLog)
   pub ops : read.ops ≡ length log
   pub unfinished : read.unfinished ≡ unfinished_in log
   pub count : read.records ≡ length records
-  pub given : AreRead log read.read
+  pub given : WereRead log read.read
   pub ended : read.ended ≡ is.ended

@@ -4,7 +4,7 @@ ghost use Rattle.fsr_runs.specs.declared.fault.Fault.TheVariants.{NoMemory};
 ghost use Rattle.lines_log.specs.Faults.{refused_at, told_of};
 
 use fsr_runs::{Fault, LinesFault};
-use history_search::SearchError;
+use history_reasons::SearchError;
 use history_text::{DocError, Key};
 use lines_tables::line_of;
 use std::alloc::AllocError;

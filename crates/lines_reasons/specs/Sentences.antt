@@ -3,8 +3,8 @@ use Rattle.std.specs.Prelude.{ℕ, ◌++◌, List, codes, slice_get, unwrap_or, 
 use Rattle.std.specs.Option.{option_and_then, option_map_or}
 use Rattle.std.specs.Fmt.{decimal}
 use Rattle.history_core.specs.declared.history.Op.{Op}
-use Rattle.history_search.specs.declared.reason.Reason.{Reason}
-use Rattle.history_search.specs.declared.reason.Reason.TheVariants.{Unwritten, Early, Stale, Crossed, Limit}
+use Rattle.history_reasons.specs.declared.reason.Reason.{Reason}
+use Rattle.history_reasons.specs.declared.reason.Reason.TheVariants.{Unwritten, Early, Stale, Crossed, Limit}
 use Rattle.history_thinning.specs.Thinnings.{limit_of}
 use Rattle.history_thinning.specs.declared.thinned.Thinned.{Thinned}
 use Rattle.lines_tables.specs.Splits.{line_at}

@@ -6,7 +6,7 @@ use Rattle.std.specs.List.{flat_map, position}
 use Rattle.history_core.specs.declared.history.Op.{Op}
 use Rattle.history_core.specs.declared.history.Kind.{Kind}
 use Rattle.history_core.specs.declared.history.Kind.TheVariants.{Write, Read, Refused}
-use Rattle.history_search.specs.declared.reason.Reason.{Reason}
+use Rattle.history_reasons.specs.declared.reason.Reason.{Reason}
 use Rattle.history_thinning.specs.Thinnings.{limit_of}
 use Rattle.history_thinning.specs.declared.thinned.LogAnswer.{LogAnswer}
 use Rattle.history_thinning.specs.declared.thinned.LogAnswer.TheVariants.{Lawful, Unlawful as NoOrder}

@@ -3,8 +3,8 @@ use Rattle.std.specs.Prelude.{ℕ, ◌+◌, ◌++◌, ◌&&◌, List, [], ◌∷
 use Rattle.std.specs.Fmt.{decimal}
 use Rattle.std.specs.List.{flat_map}
 use Rattle.history_core.specs.declared.history.Op.{Op}
-use Rattle.history_search.specs.declared.reason.Reason.{Reason}
-use Rattle.history_search.specs.declared.reason.Reason.TheVariants.{Unwritten, Early, Stale, Crossed, Limit}
+use Rattle.history_reasons.specs.declared.reason.Reason.{Reason}
+use Rattle.history_reasons.specs.declared.reason.Reason.TheVariants.{Unwritten, Early, Stale, Crossed, Limit}
 use Rattle.history_thinning.specs.declared.thinned.LogAnswer.{LogAnswer}
 use Rattle.history_thinning.specs.declared.thinned.LogAnswer.TheVariants.{Lawful, Unlawful as NoOrder}
 use Rattle.history_thinning.specs.declared.thinned.Thinned.{Thinned}

@@ -6,7 +6,7 @@ ghost use Rattle.lines_reasons.specs.Named.{in_kept, is_item, is_named, places_o
 ghost use Rattle.lines_reasons.specs.Text.{is_named_next, is_next, next_of};
 
 use history_core::{Kind, Op};
-use history_search::Reason;
+use history_reasons::Reason;
 use std::alloc::{AllocError, Global};
 
 /// A reason by the kept operations, which are at these places of the log.

@@ -5,7 +5,7 @@ ghost use Rattle.lines_tables.specs.Splits.{line_at};
 
 use crate::named::kept_at;
 use history_core::Op;
-use history_search::Reason;
+use history_reasons::Reason;
 use history_thinning::Thinned;
 use itoa::Buffer;
 use lines_tables::line_of;

@@ -7,7 +7,7 @@ ghost use Rattle.lines_reasons.specs.Small.{band_text, begin_text, document_text
 use crate::named::{in_kept, is_named, places_of};
 use crate::sentence::{push_u64, push_words};
 use history_core::{Kind, Op};
-use history_search::Reason;
+use history_reasons::Reason;
 use history_thinning::{LogAnswer, Thinned};
 use std::alloc::{AllocError, Global};
 

@@ -8,7 +8,7 @@ ghost use Rattle.search_text.specs.Text.{reason_text};
 use crate::named::{in_kept, is_named_next, next_of, places_of};
 use crate::sentence::{push_line_of, push_sentence};
 use history_core::Op;
-use history_search::{Reason, Search};
+use history_reasons::{Reason, Search};
 use history_thinning::{LogAnswer, Thinned};
 use itoa::Buffer;
 use lines_tables::{line_of, split_line};

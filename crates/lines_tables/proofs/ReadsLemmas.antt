@@ -6,7 +6,7 @@ use Rattle.std.proofs.lemmas.Bool.{cases_eq}
 use Rattle.std.proofs.lemmas.Option.{same_Some, slice_get-get_or}
 use Rattle.history_core.specs.declared.history.Op.{Op}
 use Rattle.history_core.proofs.Places.{get_last, get_pushed_cases, get_set_other, get_set_same, get_stays}
-use Rattle.lines_tables.specs.Reads.{AreGiven, gave, Grows, KnowsReads, was_read}
+use Rattle.lines_tables.specs.Reads.{AreGiven, gave, GrowsUnread, KnowsReads, was_read}
 use Rattle.lines_tables.specs.declared.reads.Reads.{Reads}
 
 no_none : (n : ℕ) → None ≡ Some n → ⊥
@@ -50,13 +50,13 @@ module _ (log : List (Op ℕ)) (op : Op ℕ) where
   given_more numbers number is are fresh = record {
     distinct = λ i j n e f. elim (get_pushed_cases numbers number i n e) [
       | inl a ↦ elim (get_pushed_cases numbers number j n f) [
-          | inl b ↦ are.distinct i j n a b
-          | inr b ↦ absurd (fresh i (a ∙ ap Some (sym b.1)))
-        ]
+        | inl b ↦ are.distinct i j n a b
+        | inr b ↦ absurd (fresh i (a ∙ ap Some (sym b.1)))
+      ]
       | inr a ↦ elim (get_pushed_cases numbers number j n f) [
-          | inl b ↦ absurd (fresh j (b ∙ ap Some (sym a.1)))
-          | inr b ↦ a.0 ∙ sym b.0
-        ]
+        | inl b ↦ absurd (fresh j (b ∙ ap Some (sym a.1)))
+        | inr b ↦ a.0 ∙ sym b.0
+      ]
     ];
     from = λ i n e. elim (get_pushed_cases numbers number i n e) [
       | inl a ↦ let w = are.from i n a in (w.0, w.1, get_stays log w.1 op w.0 w.2, w.3)
@@ -71,7 +71,7 @@ module _ (log : List (Op ℕ)) (op : Op ℕ) where
   }
 
   pub given_first : (reads new : Reads) (number : ℕ) (grown : List Bool) → gave op ≡ Some number
-      → (slice_get reads.seen.items number ≡ Some true → ⊥) → Grows reads.seen.items grown → number < length grown
+      → (slice_get reads.seen.items number ≡ Some true → ⊥) → GrowsUnread reads.seen.items grown → number < length grown
       → new.seen.items ≡ set grown number true → new.count ≡ reads.count + 1 → KnowsReads log reads → KnowsReads (log ++ op ∷ []) new
   given_first reads new number grown is fresh grows room set_is count_is knows = record {
     numbers = knows.numbers ++ number ∷ [];
@@ -84,9 +84,9 @@ module _ (log : List (Op ℕ)) (op : Op ℕ) where
     ];
     told = λ i n e. ap (λ z. slice_get z n) set_is ∙ elim (get_pushed_cases knows.numbers number i n e) [
       | inl a ↦ elim (cases_eq n number) [
-          | inl s ↦ absurd (fresh (knows.told i number (a ∙ ap Some s)))
-          | inr ne ↦ get_set_other grown number n true ne ∙ grows.stays n true (knows.told i n a)
-        ]
+        | inl s ↦ absurd (fresh (knows.told i number (a ∙ ap Some s)))
+        | inr ne ↦ get_set_other grown number n true ne ∙ grows.stays n true (knows.told i n a)
+      ]
       | inr a ↦ set_at n (sym a.1)
     ];
     long = count_is ∙ ap (λ k. k + 1) knows.long ∙ sym (length-append knows.numbers (number ∷ []));
@@ -115,10 +115,10 @@ not_before seen number test at =
     let e : true ≡ false = sym (ap (λ found. unwrap_or found false) at) ∙ test in cc
 
 -- ---- room
-pub grows_itself : (seen : List Bool) → Grows seen seen
+pub grows_itself : (seen : List Bool) → GrowsUnread seen seen
 grows_itself seen = record { stays = λ n b e. e; from = λ n b e. inl e }
 
-pub grows_more : (old new : List Bool) → Grows old new → Grows old (new ++ false ∷ [])
+pub grows_more : (old new : List Bool) → GrowsUnread old new → GrowsUnread old (new ++ false ∷ [])
 grows_more old new h = record {
   stays = λ n b e. get_stays new b false n (h.stays n b e);
   from = λ n b e. elim (get_pushed_cases new false n b e) [ inl k ↦ h.from n b k | inr s ↦ inr (sym s.1) ];

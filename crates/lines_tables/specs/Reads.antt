@@ -26,8 +26,8 @@ pub record AreGiven (log : List (Op ℕ)) (numbers : List ℕ) : Type 0 where
   pub all : (p n : ℕ) (o : Op ℕ) → slice_get log p ≡ Some o → gave o ≡ Some n → (i : ℕ) × (slice_get numbers i ≡ Some n)
 
 -- so many records were read
-abbrev pub AreRead : List (Op ℕ) → ℕ → Type 0
-AreRead log count = (numbers : List ℕ) × AreGiven log numbers × (count ≡ length numbers)
+abbrev pub WereRead : List (Op ℕ) → ℕ → Type 0
+WereRead log count = (numbers : List ℕ) × AreGiven log numbers × (count ≡ length numbers)
 
 -- the records that were read are known
 pub record KnowsReads (log : List (Op ℕ)) (reads : Reads) : Type 0 where
@@ -41,6 +41,6 @@ abbrev pub was_read : List Bool → ℕ → Bool
 was_read seen number = unwrap_or (slice_get seen number) false
 
 -- some records more, of which none was read
-pub record Grows (old new : List Bool) : Type 0 where
+pub record GrowsUnread (old new : List Bool) : Type 0 where
   pub stays : (n : ℕ) (b : Bool) → slice_get old n ≡ Some b → slice_get new n ≡ Some b
   pub from : (n : ℕ) (b : Bool) → slice_get new n ≡ Some b → (slice_get old n ≡ Some b) ⊎ (b ≡ false)

@@ -1,6 +1,6 @@
 //! Which records were read.
 ghost use Rattle.std.specs.Prelude.{◌≡◌, ◌+◌, ◌++◌, ◌∷◌, [], ◌<◌, ℕ, List, length, Some, IfOk, OnOk};
-ghost use Rattle.lines_tables.specs.Reads.{gave, gave_number, Grows, was_read};
+ghost use Rattle.lines_tables.specs.Reads.{gave, gave_number, GrowsUnread, was_read};
 ghost use Rattle.history_core.specs.declared.history.Op.{Op};
 
 use history_core::{Kind, Op};
@@ -16,7 +16,7 @@ pub struct Reads {
 }
 
 impl Reads {
-    ghost use Rattle.lines_tables.specs.Reads.{AreRead, KnowsReads};
+    ghost use Rattle.lines_tables.specs.Reads.{WereRead, KnowsReads};
 
     /// No operation yet.
     pub fn new(alloc: Global) -> Reads
@@ -55,7 +55,7 @@ impl Reads {
 
     /// How many records were read.
     pub fn count(&self) -> usize
-        ensures { (log : List (Op ℕ)) → KnowsReads log self.now → AreRead log result }
+        ensures { (log : List (Op ℕ)) → KnowsReads log self.now → WereRead log result }
     {
         self.count
     }
@@ -100,7 +100,7 @@ fn next(count: usize) -> Result<usize, AllocError>
 
 /// Room for a record, of those up to it that have none.
 fn make_room(seen: &mut Vec<bool>, number: usize) -> Result<(), AllocError>
-    ensures grown { OnOk result (Grows seen.old.items seen.new.items) }
+    ensures grown { OnOk result (GrowsUnread seen.old.items seen.new.items) }
     ensures room { OnOk result (number < length seen.new.items) }
 {
     if number < seen.len() {

@@ -4,8 +4,8 @@ ghost use Rattle.log_text.specs.Log.{CanBeSearched};
 
 use fsr_runs::{Fault, HistoryFault};
 use history_core::{Band, History};
-use history_search::{Search, SearchError};
-use order_search::find_order;
+use history_reasons::{Search, SearchError};
+use history_search::find_order;
 use std::alloc::Global;
 
 /// A lawful order of a log, or a reason why there is none. Where a record is written twice, or the opening is, no order is looked for.

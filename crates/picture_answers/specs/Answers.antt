@@ -30,7 +30,7 @@ use Rattle.matrix_core.specs.declared.schedule.MatrixReport.{MatrixReport}
 use Rattle.matrix_core.specs.declared.schedule.MatrixSchedule.{MatrixSchedule}
 use Rattle.log_search.specs.Logs.{IsLogFault, IsLogSearch}
 use Rattle.log_text.specs.Log.{CanBeSearched, log_document}
-use Rattle.history_search.specs.declared.reason.Search.{Search}
+use Rattle.history_reasons.specs.declared.reason.Search.{Search}
 use Rattle.picture_text.specs.Picture.{picture_of}
 use Rattle.picture_text.specs.declared.scene.Finding.{Finding}
 use Rattle.picture_text.specs.declared.scene.Finding.TheVariants.{Lawful, Broken, NoOrder}

@@ -8,7 +8,7 @@ ghost use Rattle.picture_answers.specs.Scenes.{ShowsMatrix};
 
 use four_slot_core::{CellReport, CellSchedule};
 use history_core::{Band, History, Items};
-use history_search::Search;
+use history_reasons::Search;
 use history_witnesses::{Break, first_break, points};
 use matrix_core::{BoardReport, BoardSchedule, MatrixReport};
 use picture_shapes::Lanes;

@@ -1,5 +1,5 @@
 use history_core::{Band, History, Items};
-use history_search::Reason;
+use history_reasons::Reason;
 use history_witnesses::Break;
 use picture_shapes::Lanes;
 use picture_visits::Visit;

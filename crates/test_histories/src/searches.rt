@@ -1,8 +1,8 @@
 //! Worked logs and their answers. Nothing here is taken from the program's own answers.
 
 use history_core::{History, Items, Kind, Op, Term, Verdict, check_order};
-use history_search::{Reason, Search, SearchError};
-use order_search::find_order;
+use history_reasons::{Reason, Search, SearchError};
+use history_search::find_order;
 use std::alloc::{AllocError, Global};
 use std::test::Fail;
 

@@ -3,8 +3,8 @@ ghost use Rattle.std.specs.Prelude.{IsTrue};
 ghost use Rattle.theorems.specs.Checkers.{CheckerTheorem};
 
 use history_core::{History, Verdict, check_order};
-use history_search::{Search, SearchError};
-use order_search::find_order;
+use history_reasons::{Search, SearchError};
+use history_search::find_order;
 use std::alloc::Global;
 
 /// Judges an order of a history, and searches for a lawful one.

@@ -10,15 +10,15 @@ use Rattle.history_core.specs.declared.history.Term.{Term}
 use Rattle.history_core.specs.declared.history.Verdict.TheVariants.{Lawful as LawfulOrder}
 use Rattle.history_core.specs.Orders.{is_write, IsVerdict}
 use Rattle.history_core.proofs.Listed.{some_and_of}
-use Rattle.history_search.specs.Reasons.{IsOfOpening, IsReason, rule_of}
-use Rattle.history_search.specs.Searches.{IsAnswered, IsFault, IsUnlawful}
-use Rattle.history_search.specs.declared.reason.Reason.{Reason}
-use Rattle.history_search.specs.declared.reason.Reason.TheVariants.{Unwritten, Early, Stale, Crossed, Limit}
-use Rattle.history_search.specs.declared.reason.Search.{Search}
-use Rattle.history_search.specs.declared.reason.Search.TheVariants.{Order, Unlawful as NoOrder}
-use Rattle.history_search.specs.declared.reason.SearchError.{SearchError}
-use Rattle.history_search.specs.declared.reason.SearchError.TheVariants.{NoMemory, Terms, Backwards, WritesOpening, WritesTwice}
-use Rattle.history_search.proofs.Atomic.{IsSearched, turned}
+use Rattle.history_reasons.specs.Reasons.{IsOfOpening, IsReason, rule_of}
+use Rattle.history_reasons.specs.Searches.{IsAnswered, IsFault, IsUnlawful}
+use Rattle.history_reasons.specs.declared.reason.Reason.{Reason}
+use Rattle.history_reasons.specs.declared.reason.Reason.TheVariants.{Unwritten, Early, Stale, Crossed, Limit}
+use Rattle.history_reasons.specs.declared.reason.Search.{Search}
+use Rattle.history_reasons.specs.declared.reason.Search.TheVariants.{Order, Unlawful as NoOrder}
+use Rattle.history_reasons.specs.declared.reason.SearchError.{SearchError}
+use Rattle.history_reasons.specs.declared.reason.SearchError.TheVariants.{NoMemory, Terms, Backwards, WritesOpening, WritesTwice}
+use Rattle.history_reasons.proofs.Atomic.{IsSearched, turned}
 use Rattle.history_thinning.specs.Answers.{IsLawfulBy, NamesKept}
 use Rattle.history_thinning.specs.Thinnings.{Equal, IsThinned, IsThinnedLog, one_term}
 use Rattle.history_thinning.specs.declared.thinned.Thinned.{Thinned}

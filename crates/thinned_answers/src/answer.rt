@@ -3,13 +3,13 @@
 ghost use Rattle.std.specs.Prelude.{◌≡◌, ℕ, List, length, IfOk, slice_get};
 ghost use Rattle.history_core.specs.Orders.{is_write_at};
 ghost use Rattle.history_core.specs.declared.history.Op.{Op};
-ghost use Rattle.history_search.specs.Searches.{IsAnswered};
+ghost use Rattle.history_reasons.specs.Searches.{IsAnswered};
 ghost use Rattle.history_thinning.specs.Answers.{IsThinnedAnswer, IsOfKept};
 ghost use Rattle.history_thinning.specs.Thinnings.{Equal, IsThinnedLog};
 ghost use Rattle.thinned_answers.specs.inner.Mapped.{AreWritePlaces, place_in, reason_in};
 
 use history_core::{Items, Kind, Op};
-use history_search::{Reason, Search};
+use history_reasons::{Reason, Search};
 use history_thinning::{LogAnswer, Thinned};
 use std::alloc::{AllocError, Global};
 

@@ -4,8 +4,8 @@ use Rattle.history_core.specs.declared.history.Op.{Op}
 use Rattle.history_thinning.specs.declared.thinned.LogAnswer.{LogAnswer}
 use Rattle.history_thinning.specs.declared.thinned.LogAnswer.TheVariants.{Lawful, Unlawful}
 use Rattle.history_thinning.specs.declared.thinned.Thinned.{Thinned}
-use Rattle.history_search.specs.declared.reason.Reason.{Reason}
-use Rattle.history_search.specs.declared.reason.Reason.TheVariants.{Limit}
+use Rattle.history_reasons.specs.declared.reason.Reason.{Reason}
+use Rattle.history_reasons.specs.declared.reason.Reason.TheVariants.{Limit}
 use Rattle.history_thinning.specs.Answers.{IsThinnedAnswer}
 use Rattle.history_thinning.specs.Thinnings.{Equal, IsThinned, IsThinnedLog, one_term}
 use Rattle.thinned_search.specs.Limits.{IsCounted, IsCountedBy, IsLawfulUnder, IsMost, is_lawful}

@@ -7,16 +7,12 @@ ghost use Rattle.thinned_search.specs.Limits.{IsCounted, IsCountedBy, IsLawfulUn
 
 use crate::search::search_thinned;
 use history_core::{History, Items, Term};
-use history_search::Reason;
+use history_reasons::Reason;
 use history_thinning::{LogAnswer, Thinned};
 use std::alloc::{AllocError, Global};
 
 /// The number that is told besides what was found, or 0.
-pub fn counted(
-    alloc: Global,
-    thinned: &Thinned,
-    found: &LogAnswer,
-) -> Result<u64, AllocError>
+pub fn counted(alloc: Global, thinned: &Thinned, found: &LogAnswer) -> Result<u64, AllocError>
     ensures { IfOk result (λ most. (limit : ℕ) (log : List (Op ℕ)) → IsThinnedLog limit log thinned.now →
         IsThinnedAnswer limit log found.now → IsCounted limit log found.now most) }
 {

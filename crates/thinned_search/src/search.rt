@@ -1,12 +1,12 @@
 ghost use Rattle.std.specs.Prelude.{◌≡◌, ℕ, List, MatchResult};
 ghost use Rattle.history_core.specs.declared.history.Op.{Op};
-ghost use Rattle.history_search.specs.declared.reason.SearchError.TheVariants.{NoMemory};
+ghost use Rattle.history_reasons.specs.declared.reason.SearchError.TheVariants.{NoMemory};
 ghost use Rattle.history_thinning.specs.Answers.{IsThinnedAnswer, IsOfKept};
 ghost use Rattle.history_thinning.specs.Thinnings.{IsThinnedLog};
 
-use history_search::SearchError;
+use history_reasons::SearchError;
+use history_search::find_order;
 use history_thinning::{LogAnswer, Thinned};
-use order_search::find_order;
 use std::alloc::Global;
 use thinned_answers::answer_of;
 

@@ -1,12 +1,12 @@
 -- How far a log is read. Only private functions cite this, which is this project's own.
 use Rattle.std.specs.Prelude.{◌≡◌, ℕ, List, [], ◌∷◌, ◌++◌, ◌⊎◌, length, Bool, true, false, slice_get, None, Some, Ok}
 use Rattle.lines_tables.specs.Numberings.{IsNumbering}
-use Rattle.lines_tables.specs.Reads.{AreRead as WereRead, KnowsReads}
+use Rattle.lines_tables.specs.Reads.{WereRead, KnowsReads}
 use Rattle.lines_tables.specs.Splits.{lines_of}
 use Rattle.lines_tables.specs.Tasks.{KnowsTasks}
 use Rattle.lines_log.specs.Logs.{AreAll, AreLines, judged_line, unfinished_in}
 use Rattle.history_core.specs.declared.history.Op.{Op}
-use Rattle.history_search.specs.declared.reason.SearchError.{SearchError}
+use Rattle.history_reasons.specs.declared.reason.SearchError.{SearchError}
 use Rattle.history_thinning.specs.Answers.{IsThinnedFault}
 use Rattle.history_thinning.specs.Thinnings.{IsThinnedLog}
 use Rattle.history_thinning.specs.inner.Kept.{IsThinning}
@@ -43,9 +43,9 @@ abbrev pub HasReadLines : Reader → Type 0
 HasReadLines reader = (opening : List ℕ) × (lines : List (List ℕ)) × AreRead opening lines reader
 
 -- this body goes on with the rest; or its end was read, and nothing is left
-abbrev pub GoesOn : Bool → Bool → List (List ℕ) → List (List ℕ) → List ℕ → Type 0
-GoesOn limited false body lines rest = body ≡ lines ++ lines_of rest
-GoesOn limited true body lines rest = (rest ≡ []) × AreAll limited true body lines
+abbrev pub HasRest : Bool → Bool → List (List ℕ) → List (List ℕ) → List ℕ → Type 0
+HasRest limited false body lines rest = body ≡ lines ++ lines_of rest
+HasRest limited true body lines rest = (rest ≡ []) × AreAll limited true body lines
 
 -- lines of this body were read
 pub record IsPartlyRead (opening : List ℕ) (limited ended : Bool) (body : List (List ℕ)) (rest : List ℕ) (reader : Reader) :
@@ -53,7 +53,7 @@ pub record IsPartlyRead (opening : List ℕ) (limited ended : Bool) (body : List
   pub lines : List (List ℕ)
   pub read : AreRead opening lines reader
   pub limits : reader.limited ≡ limited
-  pub left : GoesOn limited ended body lines rest
+  pub left : HasRest limited ended body lines rest
 
 -- the body was read
 pub record IsReadWhole (opening : List ℕ) (body : List (List ℕ)) (reader : Reader) (ended : Bool) : Type 0 where

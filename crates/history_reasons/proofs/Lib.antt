@@ -1,0 +1,3 @@
+-- Lemmas.
+pub mod Atomic
+pub mod Counts

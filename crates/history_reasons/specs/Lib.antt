@@ -1,0 +1,3 @@
+-- What the contracts speak of.
+pub mod Reasons
+pub mod Searches

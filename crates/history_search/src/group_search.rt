@@ -1,0 +1,130 @@
+//! The search over groups: ranks, then crossings, and where the limit wants it the late groups last.
+
+ghost use Rattle.std.specs.Prelude.{◌≡◌, ◌<◌, ◌≤◌, ◌↔◌, ℕ, length, IfNone, IfOk, IfSome, IsSomeAnd, IsTrue, Some, slice_get, if◌then◌else◌};
+ghost use Rattle.history_core.specs.declared.history.Kind.TheVariants.{Refused};
+ghost use Rattle.history_core.specs.Orders.{is_write_at};
+ghost use Rattle.history_search.specs.inner.Found.{AreStraight, HasEnough, HasTooFew, IsFound, IsGroupSearch, refused_in};
+
+use crate::cut::late_end;
+use crate::group::first_ungrouped;
+use crate::rank::{Rank, places, rank_ops, span_at};
+use history_reasons::{Reason, Search};
+use crate::span::{EarlyRead, Span, StaleRead, first_early, first_stale, span_groups};
+use crate::turn::{Turn, crossing, first_turn};
+use history_core::{Items, Kind, Op};
+use std::alloc::{AllocError, Global};
+
+/// The answer to operations in groups.
+pub(crate) fn search_groups<R>(
+    alloc: Global,
+    limit: u64,
+    ops: &[Op<R>],
+    groups: &[Option<usize>],
+) -> Result<Search, AllocError>
+    requires long { length groups.now ≡ length ops.now }
+    requires within { (p g : ℕ) → slice_get groups.now p ≡ Some (Some g) → g ≤ length ops.now }
+    ensures { IfOk result (IsFound ops.now groups.now limit) }
+{
+    if let Some(read) = first_ungrouped(ops, groups) {
+        return Ok(Search::Unlawful(Reason::Unwritten { read }));
+    }
+    let spans = span_groups(alloc, ops, groups)?;
+    if let Some(EarlyRead { read, write }) = first_early(ops, spans.as_slice()) {
+        return Ok(Search::Unlawful(Reason::Early { read, write }));
+    }
+    if let Some(StaleRead { before, read }) = first_stale(spans.as_slice()) {
+        return Ok(Search::Unlawful(Reason::Stale { before, read }));
+    }
+    order_groups(alloc, limit, ops, groups, spans.as_slice())
+}
+
+/// The answer to groups of which each has its write before its reads, the opening's before all others.
+fn order_groups<R>(
+    alloc: Global,
+    limit: u64,
+    ops: &[Op<R>],
+    groups: &[Option<usize>],
+    spans: &[Span],
+) -> Result<Search, AllocError>
+    requires { length groups.now ≡ length ops.now }
+    ensures { IfOk result (IsGroupSearch ops.now groups.now spans.now limit) }
+{
+    let ranks = rank_ops(alloc, ops, groups, spans, None)?;
+    if let Some(Turn { earlier, later }) = first_turn(ops, ranks.as_slice()) {
+        let one = span_at(spans, earlier.group);
+        let other = span_at(spans, later.group);
+        return Ok(Search::Unlawful(crossing(one, other)));
+    }
+    let order = places(alloc, ranks.as_slice())?;
+    match first_too_few(ops, order.as_slice(), limit) {
+        None => Ok(Search::Order(Items::new(order))),
+        Some(_) => order_late(alloc, limit, ops, groups, spans, ranks.as_slice()),
+    }
+}
+
+/// The same where the limit wants the late groups last, and writes that nobody read before them.
+fn order_late<R>(
+    alloc: Global,
+    limit: u64,
+    ops: &[Op<R>],
+    groups: &[Option<usize>],
+    spans: &[Span],
+    ranks: &[Rank],
+) -> Result<Search, AllocError>
+    requires long { length groups.now ≡ length ops.now }
+    requires straight { AreStraight ops.now groups.now spans.now ranks.now }
+    requires limited { 0 < limit }
+    ensures { IfOk result (IsGroupSearch ops.now groups.now spans.now limit) }
+{
+    if let Some(refused) = refused_in(span_at(spans, 0)) {
+        return Ok(Search::Unlawful(Reason::Limit { refused }));
+    }
+    let late = late_end(spans, ranks);
+    let sorted = rank_ops(alloc, ops, groups, spans, Some(late))?;
+    let order = places(alloc, sorted.as_slice())?;
+    match first_too_few(ops, order.as_slice(), limit) {
+        None => Ok(Search::Order(Items::new(order))),
+        Some(refused) => Ok(Search::Unlawful(Reason::Limit { refused })),
+    }
+}
+
+/// A refused write of a group.
+fn refused_in(span: Option<Span>) -> Option<usize>
+    ensures { result ≡ refused_in span }
+{
+    span?.refused
+}
+
+/// The first refused write of an order, where it has fewer writes before it than the limit.
+fn first_too_few<R>(ops: &[Op<R>], order: &[usize], limit: u64) -> Option<usize>
+    ensures enough { IfNone result (HasEnough ops.now order.now limit) }
+    ensures few { IfSome result (HasTooFew ops.now order.now limit) }
+{
+    let mut writes: u64 = 0;
+    for i in 0..order.len() {
+        let place = order[i];
+        if is_refused(ops, place) {
+            return if writes < limit { Some(place) } else { None };
+        }
+        writes += writes_at(ops, place);
+    }
+    None
+}
+
+fn is_refused<R>(ops: &[Op<R>], place: usize) -> bool
+    ensures { IsTrue result ↔ IsSomeAnd (slice_get ops.now place) (λ o. o.kind ≡ Refused) }
+{
+    match ops.get(place) {
+        Some(op) => op.kind == Kind::Refused,
+        None => false,
+    }
+}
+
+fn writes_at<R>(ops: &[Op<R>], place: usize) -> u64
+    ensures { result ≡ (if is_write_at (slice_get ops.now place) then 1 else 0) }
+{
+    match ops.get(place) {
+        Some(op) => if op.kind == Kind::Write { 1 } else { 0 },
+        None => 0,
+    }
+}

@@ -1,0 +1,103 @@
+//! Groups that cross: two operations that stand against precedence in the sorted ranks show them.
+
+ghost use Rattle.std.specs.Prelude.{◌≡◌, ◌<◌, ◌↔◌, ℕ, length, IfNone, IfSome, IsTrue, Some, slice_get};
+ghost use Rattle.history_search.specs.inner.Found.{begin_place, crossing_of, end_place, place_or};
+ghost use Rattle.history_search.specs.inner.Ranks.{ends_at, IsTurned, later_rank, NoneTurned};
+
+use crate::rank::Rank;
+use history_reasons::Reason;
+use crate::span::{Moment, Span};
+use history_core::Op;
+
+/// Two ranks of which the second stands behind the first, and its operation precedes that of the first.
+#[derive(Clone, Copy)]
+pub struct Turn {
+    pub earlier: Rank,
+    pub later: Rank,
+}
+
+pub(crate) fn first_turn<R>(ops: &[Op<R>], ranks: &[Rank]) -> Option<Turn>
+    ensures some { IfSome result (λ t. (i : ℕ) × (j : ℕ) × (i < j) × (slice_get ranks.now i ≡ Some t.earlier)
+        × (slice_get ranks.now j ≡ Some t.later) × IsTurned ops.now t.earlier t.later) }
+    ensures none { IfNone result (NoneTurned ops.now ranks.now (length ranks.now)) }
+{
+    if ranks.len() == 0 {
+        return None;
+    }
+    let mut last = ranks[0];
+    for i in 1..ranks.len() {
+        let rank = ranks[i];
+        if is_turned(ops, &last, &rank) {
+            return Some(Turn {
+                earlier: last,
+                later: rank,
+            });
+        }
+        last = later(last, rank);
+    }
+    None
+}
+
+/// Whether the operation of y precedes that of x.
+fn is_turned<R>(ops: &[Op<R>], x: &Rank, y: &Rank) -> bool
+    ensures { IsTrue result ↔ IsTurned ops.now x.now y.now }
+{
+    match end_at(ops, y.place) {
+        Some(end) => end < x.starts,
+        None => false,
+    }
+}
+
+fn end_at<R>(ops: &[Op<R>], place: usize) -> Option<u64>
+    ensures { result ≡ ends_at ops.now place }
+{
+    ops.get(place)?.ends
+}
+
+/// The one that begins later.
+fn later(x: Rank, y: Rank) -> Rank
+    ensures { result ≡ later_rank x y }
+{
+    if x.starts < y.starts { y } else { x }
+}
+
+/// What crosses: the earliest end of one group precedes the latest beginning of the other, and the other way round.
+pub(crate) fn crossing(one: Option<Span>, other: Option<Span>) -> Reason
+    ensures { result ≡ crossing_of one other }
+{
+    Reason::Crossed {
+        a: end_place(one),
+        b: begin_place(other),
+        c: end_place(other),
+        d: begin_place(one),
+    }
+}
+
+/// The place of a group's earliest end.
+fn end_place(span: Option<Span>) -> usize
+    ensures { result ≡ end_place span }
+{
+    match span {
+        None => 0,
+        Some(span) => place_or(span.ends),
+    }
+}
+
+/// The place of a group's latest beginning.
+fn begin_place(span: Option<Span>) -> usize
+    ensures { result ≡ begin_place span }
+{
+    match span {
+        None => 0,
+        Some(span) => place_or(span.begins),
+    }
+}
+
+fn place_or(moment: Option<Moment>) -> usize
+    ensures { result ≡ place_or moment }
+{
+    match moment {
+        None => 0,
+        Some(m) => m.place,
+    }
+}

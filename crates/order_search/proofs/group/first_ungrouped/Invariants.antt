@@ -1,6 +1,0 @@
--- Each finished operation met so far has a group.
-use Rattle.order_search.specs.inner.Groups.{HaveGroups}
-use Rattle.order_search.proofs.group.first_ungrouped.Given as goal
-
-abbrev pub invariant-loop-place : goal.invariant-loop-place
-invariant-loop-place g l = HaveGroups l.ops l.groups l.place

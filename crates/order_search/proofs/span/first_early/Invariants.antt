@@ -1,6 +1,0 @@
--- No group met so far ends before its write begins.
-use Rattle.order_search.specs.inner.Found.{NoneEarlyIn}
-use Rattle.order_search.proofs.span.first_early.Given as goal
-
-abbrev pub invariant-loop-write : goal.invariant-loop-write
-invariant-loop-write g l = NoneEarlyIn l.ops l.spans l.write

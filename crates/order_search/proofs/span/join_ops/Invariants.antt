@@ -1,6 +1,0 @@
--- The spans of the operations met so far.
-use Rattle.order_search.specs.inner.Groups.{AreSpans}
-use Rattle.order_search.proofs.span.join_ops.Given as goal
-
-abbrev pub invariant-loop-place : goal.invariant-loop-place
-invariant-loop-place g l = AreSpans l.ops l.groups l.place l.spans
