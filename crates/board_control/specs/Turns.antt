@@ -89,19 +89,23 @@ module _ {F S T : Type 0} (words : FamilyWords F (Posted Control) S T) where
       : List (Called Control) → Pass Control F S T → Type 0 where
     no_turn : Turns board Makes old [] old
     one_more : (calls : List (Called Control)) (make : Control → Control) (now new : Pass Control F S T)
-        (result : Result Stamp (TagsEnded Control)) → Turns board Makes old calls now → Makes make → (t : TakesTurn board make now new result)
+        (result : Result Stamp (TagsEnded Control)) → Turns board Makes old calls now →
+        Makes make → (t : TakesTurn board make now new result)
         → Turns board Makes old (with_turn board make now new result calls t) new
 
   -- *The turns of a task that writes*: one or more, in each of which it makes such a record
-  pub record HasTakenTurns (board : Board Control F S T) (Makes : (Control → Control) → Type 0) (old new : Pass Control F S T) : Type 0 where
+  pub record HasTakenTurns (board : Board Control F S T) (Makes : (Control → Control) → Type 0)
+      (old new : Pass Control F S T) : Type 0 where
     pub calls : List (Called Control)
     pub turns : Turns board Makes old calls new
     pub some : 0 < length calls
 
   -- reads, one after the other
-  pub data HasReadInTurn (board : Board Control F S T) (old : Pass Control F S T) : List (Called Control) → Pass Control F S T → Type 0 where
+  pub data HasReadInTurn (board : Board Control F S T) (old : Pass Control F S T) : List (Called Control) →
+      Pass Control F S T → Type 0 where
     no_read : HasReadInTurn board old [] old
-    one_read : (calls : List (Called Control)) (now new : Pass Control F S T) → HasReadInTurn board old calls now → (r : MakesRead board now new)
+    one_read : (calls : List (Called Control)) (now new : Pass Control F S T) →
+        HasReadInTurn board old calls now → (r : MakesRead board now new)
         → HasReadInTurn board old (calls ++ call_of board Read now new new.own r.call ∷ []) new
 
   -- *The turns of a control loop*: one read or more and no other call, and the motor was sent the command of each of them

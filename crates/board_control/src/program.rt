@@ -148,7 +148,8 @@ impl<F: Family<Posted<Control>>> Drop for Stop<F> {
     }
 }
 
-/// Runs the three tasks until each has begun so many turns, tells them to stop, and ends the board. Gives its last record and the motor as it
+/// Runs the three tasks until each has begun so many turns, tells them to stop, and ends the board. Gives its last record and the motor as
+/// it
 /// then is, or none where a task has kept the board.
 pub fn run<
     R: Threads + Wait + Copy + Send + 'static,

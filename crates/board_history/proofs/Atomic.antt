@@ -23,7 +23,8 @@ use Rattle.board_history.specs.BoardRuns.{AreReads, AreWrites, Called, Did, IsBo
 use Rattle.board_history.specs.Histories.{IsCall, IsHistory}
 use Rattle.board_history.proofs.Rising.{first_least, greatest_each, greatest_first, greatest_is, own_next, own_rises, own_zero}
 use Rattle.board_history.proofs.Sorts.{sort, sort_in, Strict, strict_sort}
-use Rattle.board_history.proofs.Timed.{at, at_least, at_rises, at_tells, begin_once, begins, chooses_at, ends, lasts, line, times_at_most, times_once, times_rise}
+use Rattle.board_history.proofs.Timed.{at, at_least, at_rises, at_tells, begin_once, begins, chooses_at, ends, lasts, line, times_at_most}
+use Rattle.board_history.proofs.Timed.{times_once, times_rise}
 use Rattle.board_history.proofs.Told.{held, IsTold, one_if, told_by, told_next, told_rises}
 
 ends_at : {R : Type 0} (a b : Op R) (end : ℕ) → a.ends ≡ Some end → Precedes a b → end < b.starts
@@ -56,7 +57,9 @@ module _ {V : Type 0} (width n limit : ℕ) (opening : V) (steps : List ℕ) (di
   -- the answer that call k of process i had of the process number e of the others: the opening, or told by a call that had chosen; and
   -- what that process had after a call that had ended isn't above it
   record IsHeard (i k e : ℕ) (c : Called V) (answer : Stamped V) : Type 0 where
-    from : (answer ≡ first) ⊎ ((q : ℕ) × (d : Called V) × ((t : ℕ) → slice_get (did i).times (at width n limit opening steps did run i k + ((n - 1) * width - 1)) ≡ Some t →
+    from : (answer ≡ first)
+        ⊎ ((q : ℕ) × (d : Called V)
+        × ((t : ℕ) → slice_get (did i).times (at width n limit opening steps did run i k + ((n - 1) * width - 1)) ≡ Some t →
         IsSource (other i e) q d answer t))
     above : (m : ℕ) (d : Called V) → slice_get (did (other i e)).calls m ≡ Some d → d.end < c.begin → IsAtMost d.chosen.stamp answer.stamp
 
@@ -102,7 +105,8 @@ module _ {V : Type 0} (width n limit : ℕ) (opening : V) (steps : List ℕ) (di
     numbered = get_exists ((did i).reads j).numbers k
         (let a = slice_get_within ((did i).reads j).items k answer there in let b = register.numbered in omega arith)
 
-    of : IsReadOf (intervals ((did j).writes i).begins ((did j).writes i).ends) (intervals ((did i).reads j).begins ((did i).reads j).ends) k numbered.0
+    of : IsReadOf (intervals ((did j).writes i).begins ((did j).writes i).ends)
+        (intervals ((did i).reads j).begins ((did i).reads j).ends) k numbered.0
     of = register.read_of k numbered.0 numbered.1
 
     source : slice_get (first ∷ records (did j).calls) numbered.0 ≡ Some answer
@@ -120,7 +124,8 @@ module _ {V : Type 0} (width n limit : ℕ) (opening : V) (steps : List ℕ) (di
         from zero x = inl (sym (same_Some first answer (ap (slice_get (first ∷ records (did j).calls)) x ∙ source)))
         from (suc y) x =
             let w = told_by (did j).calls y answer (ap (slice_get (first ∷ records (did j).calls)) x ∙ source) in
-            let b = of_before (slice_get ((did j).writes i).begins y) (slice_get ((did i).reads j).ends k) (of.begun y (sym x ∙ omega arith)) in
+            let b = of_before (slice_get ((did j).writes i).begins y) (slice_get ((did i).reads j).ends k)
+            (of.begun y (sym x ∙ omega arith)) in
             let begun : slice_get (did j).times (at width n limit opening steps did run j w.number + (n - 1 + back.0) * width) ≡ Some b.0 =
             sym (wrote.begun w.number w.call w.there w.tells) ∙ ap (slice_get ((did j).writes i).begins) w.count ∙ b.1 in
             inr (
@@ -172,7 +177,8 @@ module _ {V : Type 0} (width n limit : ℕ) (opening : V) (steps : List ℕ) (di
                 told_rises (did j).calls (suc w.number) (length (did j).calls) (omega arith) in
                 let u : told (did j).calls w.number ≡ x = w.count in
                 let v = get_exists ((did j).writes i).ends x (let a = wrote.all.1 in omega arith) in
-                let ended : slice_get (did j).times (at width n limit opening steps did run j w.number + ((n - 1 + back.0) * width + (width - 1))) ≡ Some v.0 =
+                let ended : slice_get (did j).times
+                (at width n limit opening steps did run j w.number + ((n - 1 + back.0) * width + (width - 1))) ≡ Some v.0 =
                 sym (wrote.ended w.number w.call w.there w.tells) ∙ ap (slice_get ((did j).writes i).ends) w.count ∙ v.1 in
                 let b = get_exists ((did i).reads j).begins k (let a = read.all.0 in let b = lk in omega arith) in
                 let begun : slice_get (did i).times (at width n limit opening steps did run i k + e * width) ≡ Some b.0 =
@@ -197,7 +203,8 @@ module _ {V : Type 0} (width n limit : ℕ) (opening : V) (steps : List ℕ) (di
                 (λ z h. let same : b.0 ≡ z = same_Some b.0 z (sym b.1 ∙ h) in omega arith))
 
             -- what was told later has no smaller stamp
-            by_answer : (x y : ℕ) → y ≡ numbered.0 → x < y → (w : IsTold (did j).calls x (own_at j (suc m))) → IsAtMost (own_at j (suc m)).stamp answer.stamp
+            by_answer : (x y : ℕ) → y ≡ numbered.0 → x < y → (w : IsTold (did j).calls x (own_at j (suc m))) →
+                IsAtMost (own_at j (suc m)).stamp answer.stamp
             by_answer x zero q l w = absurd (omega arith)
             by_answer x (suc y) q l w =
                 let v = told_by (did j).calls y answer (ap (slice_get (first ∷ records (did j).calls)) q ∙ source) in
@@ -222,7 +229,8 @@ module _ {V : Type 0} (width n limit : ℕ) (opening : V) (steps : List ℕ) (di
 
             by_number : (x : ℕ) → told (did j).calls (suc m) ≡ x →
                 slice_get (first ∷ records (did j).calls) x ≡ Some (own_at j (suc m)) → IsAtMost (own_at j (suc m)).stamp answer.stamp
-            by_number zero count is = subst (λ z. IsAtMost z.stamp answer.stamp) (same_Some first (own_at j (suc m)) is) (first_least answer.stamp)
+            by_number zero count is = subst (λ z. IsAtMost z.stamp answer.stamp)
+                (same_Some first (own_at j (suc m)) is) (first_least answer.stamp)
             by_number (suc x) count is =
                 let w = told_by (did j).calls x (own_at j (suc m)) is in
                 by_answer x numbered.0 refl (late x count w) w
@@ -240,7 +248,8 @@ module _ {V : Type 0} (width n limit : ℕ) (opening : V) (steps : List ℕ) (di
       time : ℕ
       chose : slice_get (did op.who).times (at width n limit opening steps did run op.who number + ((n - 1) * width - 1)) ≡ Some time
 
-    abbrev made_by : (p k : ℕ) (op : Op V) (stamp : Option Stamp) → slice_get ops p ≡ Some op → slice_get stamps p ≡ Some stamp → IsCall n did op stamp k → Made
+    abbrev made_by : (p k : ℕ) (op : Op V) (stamp : Option Stamp) → slice_get ops p ≡ Some op →
+        slice_get stamps p ≡ Some stamp → IsCall n did op stamp k → Made
     made_by p k op stamp e s is =
         let t = chooses_at width n limit opening steps did run op.who k is.call is.who is.made in
         record { place = p; op = op; stamp = stamp; there = e; reported = s; number = k; is = is; time = t.0; chose = t.1 }
@@ -311,10 +320,12 @@ module _ {V : Type 0} (width n limit : ℕ) (opening : V) (steps : List ℕ) (di
             let o : a.op ≡ b.op = same_Some a.op b.op (sym a.there ∙ ap (slice_get ops) e ∙ b.there) in
             let x : IsCall n did a.op a.stamp a.number = a.is in
             let y : IsCall n did b.op b.stamp b.number = b.is in
-            let q = begin_once width n limit opening steps did run a.op.who b.op.who a.number b.number x.call y.call x.who y.who x.made y.made
+            let q = begin_once width n limit opening steps did run a.op.who b.op.who
+            a.number b.number x.call y.call x.who y.who x.made y.made
             (sym x.begins ∙ ap (λ z. z.starts) o ∙ y.begins) in
             same_Some a.time b.time (sym a.chose
-            ∙ ap (λ (z : ℕ × ℕ). slice_get (did z.0).times (at width n limit opening steps did run z.0 z.1 + ((n - 1) * width - 1))) (λ k. (q.0 k, q.1 k))
+            ∙ ap (λ (z : ℕ × ℕ). slice_get (did z.0).times (at width n limit opening steps did run z.0 z.1 + ((n - 1) * width - 1)))
+            (λ k. (q.0 k, q.1 k))
             ∙ b.chose)
 
     -- of one time is one operation
@@ -324,7 +335,8 @@ module _ {V : Type 0} (width n limit : ℕ) (opening : V) (steps : List ℕ) (di
         let y : IsCall n did b.op b.stamp b.number = b.is in
         let o = times_once width n limit opening steps did run a.op.who b.op.who
         (at width n limit opening steps did run a.op.who a.number + ((n - 1) * width - 1))
-        (at width n limit opening steps did run b.op.who b.number + ((n - 1) * width - 1)) a.time x.who y.who a.chose (b.chose ∙ ap Some (sym e)) in
+        (at width n limit opening steps did run b.op.who b.number + ((n - 1) * width - 1)) a.time x.who y.who a.chose
+        (b.chose ∙ ap Some (sym e)) in
         let same : at width n limit opening steps did run a.op.who a.number ≡ at width n limit opening steps did run b.op.who b.number =
         let p : 0 < (n - 1) * width = line width n limit opening steps did run in let q = o.1 in omega arith in
         let begins' : slice_get (did a.op.who).times (at width n limit opening steps did run a.op.who a.number) ≡ Some b.op.starts =
@@ -456,7 +468,8 @@ module _ {V : Type 0} (width n limit : ℕ) (opening : V) (steps : List ℕ) (di
           own_rises width n limit opening steps did run i (suc m) (k - suc m) li (omega arith) in
           let z : suc m + (k - suc m) ≡ k = omega arith in
           let one : IsAtMost d.chosen.stamp (own_at i k).stamp =
-          subst (λ (z : Stamped V × Stamped V). IsAtMost z.0.stamp z.1.stamp) (λ p. (own_next first (did i).calls m d e p, own_at i (z p))) up in
+          subst (λ (z : Stamped V × Stamped V). IsAtMost z.0.stamp z.1.stamp)
+          (λ p. (own_next first (did i).calls m d e p, own_at i (z p))) up in
           at_most_trans d.chosen.stamp (own_at i k).stamp c.seen.stamp one
           (subst (λ z. IsAtMost (own_at i k).stamp z.stamp) (sym sees.greatest) (greatest_first (own_at i k) sees.answers))
 
@@ -468,7 +481,8 @@ module _ {V : Type 0} (width n limit : ℕ) (opening : V) (steps : List ℕ) (di
             let up : at width n limit opening steps did run i k ≤ at width n limit opening steps did run i y.number =
             at_rises width n limit opening steps did run i k y.number ge in
             let there : slice_get (did i).times (at width n limit opening steps did run i y.number + ((n - 1) * width - 1)) ≡ Some y.time =
-            subst (λ z. slice_get (did z).times (at width n limit opening steps did run z y.number + ((n - 1) * width - 1)) ≡ Some y.time) who y.chose in
+            subst (λ z. slice_get (did z).times (at width n limit opening steps did run z y.number + ((n - 1) * width - 1)) ≡ Some y.time)
+            who y.chose in
             let r : x.time ≤ y.time = times_at_most width n limit opening steps did run i
             (at width n limit opening steps did run i k + ((n - 1) * width - 1))
             (at width n limit opening steps did run i y.number + ((n - 1) * width - 1)) x.time y.time li x.chose there (omega arith) in
@@ -476,7 +490,8 @@ module _ {V : Type 0} (width n limit : ℕ) (opening : V) (steps : List ℕ) (di
       ]
 
       own_past : (y : Made) → y.time < x.time → y.op.who ≡ i → IsAtMost y.is.call.chosen.stamp c.seen.stamp
-      own_past y l who = above_own y.number y.is.call (subst (λ z. slice_get (did z).calls y.number ≡ Some y.is.call) who y.is.made) (smaller y l who)
+      own_past y l who = above_own y.number y.is.call (subst (λ z. slice_get (did z).calls y.number ≡ Some y.is.call) who y.is.made)
+          (smaller y l who)
 
       earlier_past : (y : Made) → y.time < x.time → y.is.call.end < c.begin → IsAtMost y.is.call.chosen.stamp c.seen.stamp
       earlier_past y l before = elim (cases_eq y.op.who i) [

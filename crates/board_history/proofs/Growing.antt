@@ -122,7 +122,8 @@ module _ {V : Type 0} (width n : ℕ) (old new : Did V) (call : Called V) (steps
   told_all : told new.calls (length new.calls) ≡ told old.calls (length old.calls) + one_if call.tells
   told_all =
       ap (told new.calls) (let c = count in let z : length new.calls ≡ suc (length old.calls) = omega arith in z)
-      ∙ told_next new.calls (length old.calls) call (ap (λ cs. slice_get cs (length old.calls)) calls ∙ get_last old.calls call (length old.calls) refl)
+      ∙ told_next new.calls (length old.calls) call (ap (λ cs. slice_get cs (length old.calls)) calls
+      ∙ get_last old.calls call (length old.calls) refl)
       ∙ ap (λ z. z + one_if call.tells) (told_same (length old.calls) (omega arith))
 
   -- where the call tells, its writes are the last ones
@@ -182,8 +183,10 @@ module _ {V : Type 0} (width n : ℕ) (old new : Did V) (call : Called V) (steps
           told old.calls k < told old.calls (length old.calls)
       told_below k c was t =
           let l : k < length old.calls = slice_get_within old.calls k c was in
-          let next : told old.calls (suc k) ≡ told old.calls k + 1 = told_next old.calls k c was ∙ ap (λ b. told old.calls k + one_if b) t in
-          let r : told old.calls (suc k) ≤ told old.calls (length old.calls) = told_rises old.calls (suc k) (length old.calls) (omega arith) in
+          let next : told old.calls (suc k) ≡ told old.calls k + 1 = told_next old.calls k c was
+          ∙ ap (λ b. told old.calls k + one_if b) t in
+          let r : told old.calls (suc k) ≤ told old.calls (length old.calls) =
+          told_rises old.calls (suc k) (length old.calls) (omega arith) in
           omega arith
 
   -- where it doesn't, they are those before
@@ -282,7 +285,8 @@ module _ {V : Type 0} (width n limit : ℕ) (first : Stamped V) (i : ℕ) where
           ∙ h.ended k c was
       | inr now ↦
           ap (λ z. slice_get new.times (steps_before width n new.calls z + (steps_of_call width n c.tells - 1))) now.0
-          ∙ ap (λ (z : Called V). slice_get new.times (steps_before width n new.calls (length old.calls) + (steps_of_call width n z.tells - 1)))
+          ∙ ap (λ (z : Called V). slice_get new.times
+          (steps_before width n new.calls (length old.calls) + (steps_of_call width n z.tells - 1)))
           (sym now.1)
           ∙ last width n old new call m.steps m.calls m.times h.long (steps_of_call width n call.tells - 1) ∙ m.ended
           ∙ ap (λ (z : Called V). Some z.end) now.1
@@ -298,16 +302,19 @@ module _ {V : Type 0} (width n limit : ℕ) (first : Stamped V) (i : ℕ) where
         ap length r.items ∙ length_push (old.reads (other i e)).items x.0 ∙ ap (λ c. c + 1) (h.answered e l) ∙ sym counted;
     writes = λ e l. elim (cases_Bool call.tells) [
       | inl tells ↦ more_writes width n old new call m.steps m.calls m.times h.long (n - 1 + e) (old.writes (other i e)).begins
-          (old.writes (other i e)).ends (new.writes (other i e)).begins (new.writes (other i e)).ends some (omega arith) tells (h.writes e l)
+          (old.writes (other i e)).ends (new.writes (other i e)).begins (new.writes (other i e)).ends some
+          (omega arith) tells (h.writes e l)
           (m.writes e l tells).interval
       | inr silent ↦ same_writes width n old new call m.steps m.calls m.times h.long (n - 1 + e) (old.writes (other i e)).begins
-          (old.writes (other i e)).ends (new.writes (other i e)).begins (new.writes (other i e)).ends some (omega arith) silent (h.writes e l)
+          (old.writes (other i e)).ends (new.writes (other i e)).begins (new.writes (other i e)).ends some
+          (omega arith) silent (h.writes e l)
           (ap (λ (w : Written V). w.begins) (m.unwritten e l silent)) (ap (λ (w : Written V). w.ends) (m.unwritten e l silent))
     ];
     written = λ e l. elim (cases_Bool call.tells) [
       | inl tells ↦ (m.writes e l tells).items ∙ ap (λ ys. ys ++ call.chosen ∷ []) (h.written e l) ∙ sym (records_more old.calls call tells)
           ∙ sym (ap records m.calls)
-      | inr silent ↦ ap (λ (w : Written V). w.items) (m.unwritten e l silent) ∙ h.written e l ∙ sym (records_same old.calls call silent) ∙ sym (ap records m.calls)
+      | inr silent ↦ ap (λ (w : Written V). w.items) (m.unwritten e l silent)
+          ∙ h.written e l ∙ sym (records_same old.calls call silent) ∙ sym (ap records m.calls)
     ];
     silent = λ k c e t. elim (get_pushed_cases old.calls call k c (ap (λ cs. slice_get cs k) (sym m.calls) ∙ e)) [
       | inl was ↦ h.silent k c was t ∙ sym (own_same k (let l : k < length old.calls = slice_get_within old.calls k c was in omega arith))
@@ -338,12 +345,14 @@ module _ {V : Type 0} (width n limit : ℕ) (first : Stamped V) (i : ℕ) where
       own_same : (k : ℕ) → k ≤ length old.calls → own_before first new.calls k ≡ own_before first old.calls k
       own_same k l = ap (λ cs. own_before first cs k) m.calls ∙ own_stays first old.calls call k l
 
-      answered : (k e : ℕ) (x answer : Stamped V) → slice_get (old.reads (other i e)).items k ≡ Some x → slice_get m.answers e ≡ Some answer →
+      answered : (k e : ℕ) (x answer : Stamped V) → slice_get (old.reads (other i e)).items k ≡ Some x →
+          slice_get m.answers e ≡ Some answer →
           slice_get (new.reads (other i e)).items k ≡ Some x
       answered k e x answer was there =
           let r = m.reads e answer there in
           ap (λ ys. slice_get ys k) r.items
-          ∙ get_pushed (old.reads (other i e)).items answer k (let l = slice_get_within (old.reads (other i e)).items k x was in λ z. omega arith) ∙ was
+          ∙ get_pushed (old.reads (other i e)).items answer k (let l = slice_get_within (old.reads (other i e)).items k x was in
+          λ z. omega arith) ∙ was
 
       saw : (k : ℕ) (c : Called V) → slice_get new.calls k ≡ Some c → Sees n first i new k c.seen
       saw k c e = elim (get_pushed_cases old.calls call k c (ap (λ cs. slice_get cs k) (sym m.calls) ∙ e)) [
@@ -354,7 +363,8 @@ module _ {V : Type 0} (width n limit : ℕ) (first : Stamped V) (i : ℕ) where
               answers = s.answers;
               each = s.each;
               answered = λ e x there.
-                  let le : e < length m.answers = let a = slice_get_within s.answers e x there in let b = s.each in let d = m.each in omega arith in
+                  let le : e < length m.answers = let a = slice_get_within s.answers e x there in
+                  let b = s.each in let d = m.each in omega arith in
                   let y = get_exists m.answers e le in
                   answered k e x y.0 (s.answered e x there) y.1;
               greatest = s.greatest ∙ ap (λ o. greatest o s.answers) (sym (own_same k (omega arith)));

@@ -67,7 +67,8 @@ one_each item answer number read written is late begun = record {
     has_begun n e zero f = begun (e ∙ f)
     has_begun n e (suc k) f = absurd (let z = two number is in omega arith)
 
-    read_of : (m n : ℕ) → slice_get (number ∷ []) m ≡ Some n → IsReadOf (record { begins = slice_get (written ∷ []); ends = slice_get (written ∷ []) })
+    read_of : (m n : ℕ) → slice_get (number ∷ []) m ≡ Some n →
+        IsReadOf (record { begins = slice_get (written ∷ []); ends = slice_get (written ∷ []) })
         (record { begins = slice_get (read ∷ []); ends = slice_get (read ∷ []) }) m n
     read_of zero n a = record {
       late = λ k h. is_late n (same_Some number n a) k h;
@@ -99,23 +100,28 @@ one_process i kind seen chosen answer number read written sees chooses = record 
     begun (suc k) c e = absurd (none-some c e)
 
     ended : (k : ℕ) (c : Called ℕ) → slice_get (telling kind seen chosen read written ∷ []) k ≡ Some c →
-        slice_get (read ∷ written ∷ []) (steps_before 1 2 (telling kind seen chosen read written ∷ []) k + (steps_of_call 1 2 c.tells - 1)) ≡ Some c.end
-    ended zero c e = ap (λ (z : Called ℕ). slice_get (read ∷ written ∷ []) (0 + (steps_of_call 1 2 z.tells - 1))) (sym (same_Some (telling kind seen chosen read written) c e))
+        slice_get (read ∷ written ∷ []) (steps_before 1 2 (telling kind seen chosen read written ∷ []) k + (steps_of_call 1 2 c.tells - 1))
+        ≡ Some c.end
+    ended zero c e = ap (λ (z : Called ℕ). slice_get (read ∷ written ∷ []) (0 + (steps_of_call 1 2 z.tells - 1)))
+        (sym (same_Some (telling kind seen chosen read written) c e))
         ∙ ap (λ (z : Called ℕ). Some z.end) (same_Some (telling kind seen chosen read written) c e)
     ended (suc k) c e = absurd (none-some c e)
 
     not_silent : (c : Called ℕ) → (telling kind seen chosen read written) ≡ c → c.tells ≡ false → ⊥
     not_silent c e t = not_both true refl (ap (λ (z : Called ℕ). z.tells) e ∙ t)
 
-    silent : (k : ℕ) (c : Called ℕ) → slice_get (telling kind seen chosen read written ∷ []) k ≡ Some c → c.tells ≡ false → c.chosen ≡ own_before zero_first (telling kind seen chosen read written ∷ []) k
+    silent : (k : ℕ) (c : Called ℕ) → slice_get (telling kind seen chosen read written ∷ []) k ≡ Some c →
+        c.tells ≡ false → c.chosen ≡ own_before zero_first (telling kind seen chosen read written ∷ []) k
     silent zero c e t = absurd (not_silent c (same_Some (telling kind seen chosen read written) c e) t)
     silent (suc k) c e t = absurd (none-some c e)
 
-    at_read : (e : ℕ) → e + 1 < 2 → AreReads 1 2 (one_call (telling kind seen chosen read written) answer number read written) e (read ∷ []) (read ∷ [])
+    at_read : (e : ℕ) → e + 1 < 2 → AreReads 1 2 (one_call (telling kind seen chosen read written) answer number read written) e
+        (read ∷ []) (read ∷ [])
     at_read zero l = (one_access kind seen chosen answer number read written).0
     at_read (suc e) l = absurd (omega arith)
 
-    at_write : (e : ℕ) → e + 1 < 2 → AreWrites 1 2 (one_call (telling kind seen chosen read written) answer number read written) (1 + e) (written ∷ []) (written ∷ [])
+    at_write : (e : ℕ) → e + 1 < 2 → AreWrites 1 2 (one_call (telling kind seen chosen read written) answer number read written)
+        (1 + e) (written ∷ []) (written ∷ [])
     at_write zero l = (one_access kind seen chosen answer number read written).1
     at_write (suc e) l = absurd (omega arith)
 
@@ -123,7 +129,8 @@ one_process i kind seen chosen answer number read written sees chooses = record 
     answered zero x h = h
     answered (suc e) x h = absurd (none-some x h)
 
-    saw : (k : ℕ) (c : Called ℕ) → slice_get (telling kind seen chosen read written ∷ []) k ≡ Some c → Sees 2 zero_first i (one_call (telling kind seen chosen read written) answer number read written) k c.seen
+    saw : (k : ℕ) (c : Called ℕ) → slice_get (telling kind seen chosen read written ∷ []) k ≡ Some c →
+        Sees 2 zero_first i (one_call (telling kind seen chosen read written) answer number read written) k c.seen
     saw zero c h = record {
       answers = answer ∷ [];
       each = refl;
@@ -133,7 +140,8 @@ one_process i kind seen chosen answer number read written sees chooses = record 
     saw (suc k) c h = absurd (none-some c h)
 
     chose : (k place : ℕ) (c : Called ℕ) → slice_get (telling kind seen chosen read written ∷ []) k ≡ Some c →
-        ChoosesByKind 5 (record { place = place; who = i; kind = c.kind; stamp = c.chosen.stamp; item = c.chosen.item }) c.kind c.seen.stamp c.seen.item
+        ChoosesByKind 5 (record { place = place; who = i; kind = c.kind; stamp = c.chosen.stamp; item = c.chosen.item })
+        c.kind c.seen.stamp c.seen.item
     chose zero place c h = subst (λ (c : Called ℕ). ChoosesByKind 5
         (record { place = place; who = i; kind = c.kind; stamp = c.chosen.stamp; item = c.chosen.item }) c.kind c.seen.stamp c.seen.item)
         (same_Some (telling kind seen chosen read written) c h) (chooses place)

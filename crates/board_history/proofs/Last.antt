@@ -27,7 +27,8 @@ module _ {V : Type 0} (width n limit : ℕ) (opening : V) (steps : List ℕ) (di
   chosen_below i k c l e =
       let first : Stamped V = first_record opening in
       let m : k < length (did i).calls = slice_get_within (did i).calls k c e in
-      let up : IsAtMost (own_before first (did i).calls (suc k)).stamp (own_before first (did i).calls (suc k + (length (did i).calls - suc k))).stamp =
+      let up : IsAtMost (own_before first (did i).calls (suc k)).stamp
+      (own_before first (did i).calls (suc k + (length (did i).calls - suc k))).stamp =
       own_rises width n limit opening steps did run i (suc k) (length (did i).calls - suc k) l (omega arith) in
       let all : suc k + (length (did i).calls - suc k) ≡ length (did i).calls = omega arith in
       subst (λ z. IsAtMost z.stamp (own_after first (did i)).stamp) (own_next first (did i).calls k c e)
@@ -35,7 +36,8 @@ module _ {V : Type 0} (width n limit : ℕ) (opening : V) (steps : List ℕ) (di
 
   module _ (ops : List (Op V)) (stamps : List (Option Stamp)) (h : IsHistory n did ops stamps) where
     -- the call at a choice's place
-    at_choice : (c : Choice V) → IsChoiceOf ops stamps c → (i : ℕ) × (k : ℕ) × (d : Called V) × (i < n) × (slice_get (did i).calls k ≡ Some d)
+    at_choice : (c : Choice V) → IsChoiceOf ops stamps c → (i : ℕ) × (k : ℕ) × (d : Called V)
+        × (i < n) × (slice_get (did i).calls k ≡ Some d)
         × (d.chosen.stamp ≡ c.stamp)
     at_choice c is =
         let w = h.each c.place is.op (Some c.stamp) is.there is.reported in

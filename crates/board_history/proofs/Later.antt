@@ -143,7 +143,8 @@ module _ {V : Type 0} (width n limit : ℕ) (opening : V) (steps : List ℕ) (di
 
 module _ {V : Type 0} (width n limit : ℕ) (opening : V) (steps : List ℕ) (did : ℕ → Did V)
     (run : IsBoardRun width n limit (first_record opening) steps did) where
-  pub calls_rise : (i j k m : ℕ) (c d : Called V) → i < n → j < n → slice_get (did i).calls k ≡ Some c → slice_get (did j).calls m ≡ Some d →
+  pub calls_rise : (i j k m : ℕ) (c d : Called V) → i < n → j < n → slice_get (did i).calls k ≡ Some c →
+      slice_get (did j).calls m ≡ Some d →
       c.end < d.begin → IsAtMost c.chosen.stamp d.chosen.stamp × (d.kind ≡ Write → IsBelow c.chosen.stamp d.chosen.stamp)
   calls_rise =
       let t = all_there width n limit opening steps did run in
@@ -157,7 +158,8 @@ module _ {V : Type 0} (width n limit : ℕ) (opening : V) (steps : List ℕ) (di
       written_by width n limit opening steps did run t.0 t.1 t.3 x.0 x.1
 
   -- of one stamp there is one record
-  pub calls_agree : (i j k m : ℕ) (c d : Called V) → i < n → j < n → slice_get (did i).calls k ≡ Some c → slice_get (did j).calls m ≡ Some d →
+  pub calls_agree : (i j k m : ℕ) (c d : Called V) → i < n → j < n → slice_get (did i).calls k ≡ Some c →
+      slice_get (did j).calls m ≡ Some d →
       c.chosen.stamp ≡ d.chosen.stamp → c.chosen ≡ d.chosen
   calls_agree =
       let t = all_there width n limit opening steps did run in

@@ -12,7 +12,8 @@ use Rattle.history_core.specs.declared.history.Term.{Term}
 use Rattle.history_core.specs.declared.history.Kind.{Kind}
 use Rattle.history_core.specs.declared.history.Kind.TheVariants.{Write, Read, Refused}
 use Rattle.history_core.specs.Numbers.{StandsAt}
-use Rattle.history_core.specs.Orders.{in_term, IsAtomicOrder, is_write, is_write_at, listed_at, Precedes, RefusesLawfully, times_of, writes_in}
+use Rattle.history_core.specs.Orders.{in_term, IsAtomicOrder, is_write, is_write_at, listed_at, Precedes, RefusesLawfully, times_of}
+use Rattle.history_core.specs.Orders.{writes_in}
 use Rattle.history_core.proofs.Listing.{times_cases}
 use Rattle.stamps.specs.declared.stamp.Stamp.{Stamp}
 use Rattle.stamps.specs.declared.stamp.Stamped.{Stamped}
@@ -116,7 +117,8 @@ module _ {V : Type 0} (width n limit : ℕ) (opening : V) (steps : List ℕ) (di
 
   -- a write's stamp has a tag above 0, and names its process
   by_write : (i : ℕ) (c : Called V) (kind : Kind) → kind ≡ Write →
-      ChoosesByKind limit (record { place = 0; who = i; kind = kind; stamp = c.chosen.stamp; item = c.chosen.item }) kind c.seen.stamp c.seen.item
+      ChoosesByKind limit (record { place = 0; who = i; kind = kind; stamp = c.chosen.stamp; item = c.chosen.item })
+      kind c.seen.stamp c.seen.item
       → IsBelow first_stamp c.chosen.stamp × (c.chosen.stamp.writer ≡ i)
   by_write i c Write e h =
       let tag : c.chosen.stamp.tag ≡ c.seen.stamp.tag + 1 = ap (λ (z : Stamp). z.tag) h.1 in
@@ -163,7 +165,14 @@ module _ {V : Type 0} (width n limit : ℕ) (opening : V) (steps : List ℕ) (di
       own_at zero e = inl (subst (λ z. own_before first (did i).calls z ≡ first) e (own_zero first (did i).calls))
       own_at (suc k) e =
           let c = get_exists (did i).calls k (omega arith) in
-          inr (i, k, c.0, l, c.1, sym (subst (λ z. own_before first (did i).calls z ≡ c.0.chosen) e (own_next first (did i).calls k c.0 c.1)))
+          inr (
+            i,
+            k,
+            c.0,
+            l,
+            c.1,
+            sym (subst (λ z. own_before first (did i).calls z ≡ c.0.chosen) e (own_next first (did i).calls k c.0 c.1)),
+          )
 
   module _ (ops : List (Op V)) (stamps : List (Option Stamp)) (order : List ℕ) (h : IsHistory n did ops stamps)
       (is : IsInOrder ops stamps order) (atomic : IsAtomicOrder (λ x y. x ≡ y) opening ops order)
@@ -284,7 +293,8 @@ module _ {V : Type 0} (width n limit : ℕ) (opening : V) (steps : List ℕ) (di
     same_named x p i k c d a b =
         let op : a.op ≡ b.op = one_op x x p p i d.who k d.number c d.call a b refl in
         let who : d.who ≡ i = sym b.who ∙ ap (λ o. o.who) (sym op) ∙ a.who in
-        let number : d.number ≡ k = (begin_once width n limit opening steps did run d.who i d.number k d.call c b.inside a.inside b.made a.made
+        let number : d.number ≡ k =
+        (begin_once width n limit opening steps did run d.who i d.number k d.call c b.inside a.inside b.made a.made
         (sym b.begins ∙ ap (λ o. o.starts) (sym op) ∙ a.begins)).1 in
         let made : slice_get (did i).calls k ≡ Some d.call =
         subst (λ (z : ℕ × ℕ). slice_get (did z.0).calls z.1 ≡ Some d.call) (λ j. (who j, number j)) b.made in
@@ -406,7 +416,8 @@ module _ {V : Type 0} (width n limit : ℕ) (opening : V) (steps : List ℕ) (di
           same_Some d.chosen.stamp c.chosen.stamp
           (same_Some (Some d.chosen.stamp) (Some c.chosen.stamp) (sym b.reported ∙ ap (slice_get stamps) place ∙ a.reported))
 
-      unchanged : (count : ℕ) → c.chosen ≡ now → count ≡ writes_in (in_term (whole limit) []) ops (take (x + 1) order) → State (x + 1) now count
+      unchanged : (count : ℕ) → c.chosen ≡ now → count ≡ writes_in (in_term (whole limit) []) ops (take (x + 1) order) →
+          State (x + 1) now count
       unchanged count same e = record {
         from = elim s.from [ inl f ↦ inl f | inr w ↦ inr (w.0, w.1, w.2, w.3, w.4, (let l : w.0 < x = w.5 in omega arith), w.6, w.7, w.8) ];
         above = λ y q j m d l b. elim (cases_order y x) [
@@ -433,8 +444,10 @@ module _ {V : Type 0} (width n limit : ℕ) (opening : V) (steps : List ℕ) (di
     -- the calls from place x on, where the register holds this record
     record Woven (rest : List ℕ) (x : ℕ) (now : Stamped V) (writes : ℕ) : Type 0 where
       pub made : List (Named V)
-      pub forth : (y q : ℕ) → slice_get rest y ≡ Some q → (m : Named V) × (slice_get made y ≡ Some m) × Entry (x + y) q m.who m.number m.call
-      pub back : (y : ℕ) (m : Named V) → slice_get made y ≡ Some m → (q : ℕ) × (slice_get rest y ≡ Some q) × Entry (x + y) q m.who m.number m.call
+      pub forth : (y q : ℕ) → slice_get rest y ≡ Some q → (m : Named V) × (slice_get made y ≡ Some m)
+          × Entry (x + y) q m.who m.number m.call
+      pub back : (y : ℕ) (m : Named V) → slice_get made y ≡ Some m → (q : ℕ) × (slice_get rest y ≡ Some q)
+          × Entry (x + y) q m.who m.number m.call
       pub last : Stamped V
       pub count : ℕ
       pub state : State (x + length rest) last count
@@ -474,16 +487,20 @@ module _ {V : Type 0} (width n limit : ℕ) (opening : V) (steps : List ℕ) (di
         }
       where
         forth_by : (p : ℕ) (ps : List ℕ) (x : ℕ) (m : Named V) (ms : List (Named V)) → Entry (x + 0) p m.who m.number m.call →
-            ((y q : ℕ) → slice_get ps y ≡ Some q → (d : Named V) × (slice_get ms y ≡ Some d) × Entry ((x + 1) + y) q d.who d.number d.call) →
-            (y q : ℕ) → slice_get (p ∷ ps) y ≡ Some q → (d : Named V) × (slice_get (m ∷ ms) y ≡ Some d) × Entry (x + y) q d.who d.number d.call
+            ((y q : ℕ) → slice_get ps y ≡ Some q → (d : Named V) × (slice_get ms y ≡ Some d)
+            × Entry ((x + 1) + y) q d.who d.number d.call) →
+            (y q : ℕ) → slice_get (p ∷ ps) y ≡ Some q → (d : Named V) × (slice_get (m ∷ ms) y ≡ Some d)
+            × Entry (x + y) q d.who d.number d.call
         forth_by p ps x m ms a f zero q e = (m, refl, subst (λ z. Entry (x + 0) z m.who m.number m.call) (same_Some p q e) a)
         forth_by p ps x m ms a f (suc y) q e =
             let w = f y q e in
             (w.0, w.1, subst (λ z. Entry z q w.0.who w.0.number w.0.call) (let e : (x + 1) + y ≡ x + suc y = omega arith in e) w.2)
 
         back_by : (p : ℕ) (ps : List ℕ) (x : ℕ) (m : Named V) (ms : List (Named V)) → Entry (x + 0) p m.who m.number m.call →
-            ((y : ℕ) (d : Named V) → slice_get ms y ≡ Some d → (q : ℕ) × (slice_get ps y ≡ Some q) × Entry ((x + 1) + y) q d.who d.number d.call) →
-            (y : ℕ) (d : Named V) → slice_get (m ∷ ms) y ≡ Some d → (q : ℕ) × (slice_get (p ∷ ps) y ≡ Some q) × Entry (x + y) q d.who d.number d.call
+            ((y : ℕ) (d : Named V) → slice_get ms y ≡ Some d → (q : ℕ) × (slice_get ps y ≡ Some q)
+            × Entry ((x + 1) + y) q d.who d.number d.call) →
+            (y : ℕ) (d : Named V) → slice_get (m ∷ ms) y ≡ Some d → (q : ℕ) × (slice_get (p ∷ ps) y ≡ Some q)
+            × Entry (x + y) q d.who d.number d.call
         back_by p ps x m ms a f zero d e = (p, refl, subst (λ z. Entry (x + 0) p z.who z.number z.call) (same_Some m d e) a)
         back_by p ps x m ms a f (suc y) d e =
             let w = f y d e in
@@ -500,13 +517,15 @@ module _ {V : Type 0} (width n limit : ℕ) (opening : V) (steps : List ℕ) (di
         let f = woven.forth y q e in
         (f.0, f.1, subst (λ z. Entry z q f.0.who f.0.number f.0.call) (let t : 0 + y ≡ y = omega arith in t) f.2)
 
-    back : (y : ℕ) (m : Named V) → slice_get woven.made y ≡ Some m → (q : ℕ) × (slice_get order y ≡ Some q) × Entry y q m.who m.number m.call
+    back : (y : ℕ) (m : Named V) → slice_get woven.made y ≡ Some m → (q : ℕ) × (slice_get order y ≡ Some q)
+        × Entry y q m.who m.number m.call
     back y m e =
         let f = woven.back y m e in
         (f.0, f.1, subst (λ z. Entry z f.0 m.who m.number m.call) (let t : 0 + y ≡ y = omega arith in t) f.2)
 
     -- in the end the register holds the greatest record that a process has
-    holds_last : (now : Stamped V) (writes : ℕ) → State (0 + length order) now writes → (last : Stamped V) → IsGreatestOwn n first did last → last ≡ now
+    holds_last : (now : Stamped V) (writes : ℕ) → State (0 + length order) now writes →
+        (last : Stamped V) → IsGreatestOwn n first did last → last ≡ now
     holds_last now writes s last g =
         let own : IsPosted last = subst IsPosted (sym g.own) (own_posted g.process g.inside) in
         let up : IsAtMost last.stamp now.stamp = elim own [

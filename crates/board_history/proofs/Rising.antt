@@ -36,7 +36,8 @@ greatest_is P own (x ∷ xs) o each = greatest_is P (greater own x) xs
 pub greatest_first : {V : Type 0} (own : Stamped V) (answers : List (Stamped V)) → IsAtMost own.stamp (greatest own answers).stamp
 greatest_first own [] = inl refl
 greatest_first own (x ∷ xs) =
-    at_most_trans own.stamp (greater own x).stamp (greatest (greater own x) xs).stamp (greater_first own x) (greatest_first (greater own x) xs)
+    at_most_trans own.stamp (greater own x).stamp (greatest (greater own x) xs).stamp
+    (greater_first own x) (greatest_first (greater own x) xs)
 
 pub greatest_each : {V : Type 0} (own : Stamped V) (answers : List (Stamped V)) (k : ℕ) (x : Stamped V) → slice_get answers k ≡ Some x →
     IsAtMost x.stamp (greatest own answers).stamp
@@ -79,7 +80,8 @@ module _ {V : Type 0} (width n limit : ℕ) (opening : V) (steps : List ℕ) (di
       subst (λ z. IsAtMost (own_before first (did i).calls (j + more)).stamp z.stamp) (sym s.greatest)
       (greatest_first (own_before first (did i).calls (j + more)) s.answers) in
       let on : IsAtMost c.0.seen.stamp c.0.chosen.stamp = chosen_at_least limit
-      (record { place = 0; who = i; kind = c.0.kind; stamp = c.0.chosen.stamp; item = c.0.chosen.item }) c.0.kind c.0.seen.stamp c.0.seen.item
+      (record { place = 0; who = i; kind = c.0.kind; stamp = c.0.chosen.stamp; item = c.0.chosen.item })
+      c.0.kind c.0.seen.stamp c.0.seen.item
       ((run.each i l).chooses (j + more) 0 c.0 c.1) in
       let next : own_before first (did i).calls (j + suc more) ≡ c.0.chosen =
       ap (own_before first (did i).calls) (let e : j + suc more ≡ suc (j + more) = omega arith in e)

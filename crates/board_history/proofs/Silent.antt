@@ -101,7 +101,8 @@ unwritten = record { source = λ m n x a b. source m n x a b; read_of = λ m n a
     no_write : (n : ℕ) → 0 ≡ n → (k : ℕ) → n ≡ k + 1 → ⊥
     no_write n e k f = omega arith
 
-    read_of : (m n : ℕ) → slice_get {X = ℕ} (0 ∷ []) m ≡ Some n → IsReadOf (record { begins = slice_get {X = ℕ} []; ends = slice_get {X = ℕ} [] })
+    read_of : (m n : ℕ) → slice_get {X = ℕ} (0 ∷ []) m ≡ Some n →
+        IsReadOf (record { begins = slice_get {X = ℕ} []; ends = slice_get {X = ℕ} [] })
         (record { begins = slice_get {X = ℕ} (2 ∷ []); ends = slice_get {X = ℕ} (2 ∷ []) }) m n
     read_of zero n a = record {
       late = λ k h. absurd h;

@@ -272,7 +272,8 @@ module _ {V : Type 0} (width n limit : ℕ) (opening : V) (steps : List ℕ) (di
   order : List ℕ
   order = sort (λ p q. p ≡ q) (ComesBefore stamp_of rank) (which_first stamp_of rank) (λ p. refl) (before_trans stamp_of rank) places
 
-  strict_order : Strict (λ p q. p ≡ q) (ComesBefore stamp_of rank) (which_first stamp_of rank) (λ p. refl) (before_trans stamp_of rank) order
+  strict_order : Strict (λ p q. p ≡ q) (ComesBefore stamp_of rank) (which_first stamp_of rank)
+      (λ p. refl) (before_trans stamp_of rank) order
   unfolding order
   strict_order = strict_sort (λ p q. p ≡ q) (ComesBefore stamp_of rank) (which_first stamp_of rank) (λ p. refl)
       (before_trans stamp_of rank) places
@@ -295,7 +296,8 @@ module _ {V : Type 0} (width n limit : ℕ) (opening : V) (steps : List ℕ) (di
 
   not_before_itself : (p : ℕ) → ComesBefore stamp_of rank p p → ⊥
   not_before_itself p (inl l) = below_itself (stamp_of p) l
-  not_before_itself p (inr h) = ⊎_elim (λ (l : rank p < rank p). omega arith) (λ (l : (rank p ≡ rank p) × (p < p)). let m = l.1 in omega arith) h.1
+  not_before_itself p (inr h) = ⊎_elim (λ (l : rank p < rank p). omega arith)
+      (λ (l : (rank p ≡ rank p) × (p < p)). let m = l.1 in omega arith) h.1
 
   rises_at : (i j p q : ℕ) → slice_get order i ≡ Some p → slice_get order j ≡ Some q → i < j → ComesBefore stamp_of rank p q
   rises_at i j p q hi hj l = rises (λ p q. p ≡ q) (ComesBefore stamp_of rank) (which_first stamp_of rank) (λ p. refl)
@@ -315,10 +317,12 @@ module _ {V : Type 0} (width n limit : ℕ) (opening : V) (steps : List ℕ) (di
   may_precede p q a b s t true false ka kb es et ra rb (inr (e, inl l)) = inr (sym es ∙ e ∙ et, inl (ka, kb))
   may_precede p q a b s t false true ka kb es et ra rb (inr (e, inl l)) = absurd (omega arith)
   may_precede p q a b s t false false ka kb es et ra rb (inr (e, inl l)) = absurd (omega arith)
-  may_precede p q a b s t true true ka kb es et ra rb (inr (e, inr l)) = let m = l.1 in inr (sym es ∙ e ∙ et, inr (ka ∙ sym kb, omega arith))
+  may_precede p q a b s t true true ka kb es et ra rb (inr (e, inr l)) = let m = l.1 in
+      inr (sym es ∙ e ∙ et, inr (ka ∙ sym kb, omega arith))
   may_precede p q a b s t true false ka kb es et ra rb (inr (e, inr l)) = let m = l.0 in absurd (omega arith)
   may_precede p q a b s t false true ka kb es et ra rb (inr (e, inr l)) = let m = l.0 in absurd (omega arith)
-  may_precede p q a b s t false false ka kb es et ra rb (inr (e, inr l)) = let m = l.1 in inr (sym es ∙ e ∙ et, inr (ka ∙ sym kb, omega arith))
+  may_precede p q a b s t false false ka kb es et ra rb (inr (e, inr l)) = let m = l.1 in
+      inr (sym es ∙ e ∙ et, inr (ka ∙ sym kb, omega arith))
 
   order_there : IsInOrder ops stamps order
   order_there = record {

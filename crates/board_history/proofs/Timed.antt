@@ -25,7 +25,8 @@ module _ {V : Type 0} (width n limit : ℕ) (opening : V) (steps : List ℕ) (di
     | inr ne ↦ let r : s < t = times_rise i a b s t l ea eb (omega arith) in omega arith
   ]
 
-  pub times_once : (i j a b t : ℕ) → i < n → j < n → slice_get (did i).times a ≡ Some t → slice_get (did j).times b ≡ Some t → (i ≡ j) × (a ≡ b)
+  pub times_once : (i j a b t : ℕ) → i < n → j < n → slice_get (did i).times a ≡ Some t →
+      slice_get (did j).times b ≡ Some t → (i ≡ j) × (a ≡ b)
   times_once i j a b t li lj ea eb =
       let pa : slice_get (positions 1 i steps) a ≡ Some t = step_is i a li ∙ ea in
       let pb : slice_get (positions 1 j steps) b ≡ Some t = step_is j b lj ∙ eb in
@@ -94,7 +95,8 @@ module _ {V : Type 0} (width n limit : ℕ) (opening : V) (steps : List ℕ) (di
       times_rise i (at i (suc k) - 1) (at i m) c.end d.begin l (ends i k c l ec) (begins i m d l ed) (omega arith)
 
   -- calls that begin at one time are one
-  pub begin_once : (i j k m : ℕ) (c d : Called V) → i < n → j < n → slice_get (did i).calls k ≡ Some c → slice_get (did j).calls m ≡ Some d →
+  pub begin_once : (i j k m : ℕ) (c d : Called V) → i < n → j < n → slice_get (did i).calls k ≡ Some c →
+      slice_get (did j).calls m ≡ Some d →
       c.begin ≡ d.begin → (i ≡ j) × (k ≡ m)
   begin_once i j k m c d li lj ec ed same =
       let o = times_once i j (at i k) (at j m) c.begin li lj (begins i k c li ec) (begins j m d lj ed ∙ ap Some (sym same)) in

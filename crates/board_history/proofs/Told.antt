@@ -23,7 +23,8 @@ module _ {V : Type 0} (width n : ℕ) where
       steps_before width n calls (suc k) ≡ steps_before width n calls k + steps_of_call width n c.tells
   steps_next [] k c e = absurd (none-some c e)
   steps_next (d ∷ calls) zero c e =
-      let s : steps_of_call width n d.tells ≡ steps_of_call width n c.tells = ap (λ (z : Called V). steps_of_call width n z.tells) (same_Some d c e) in
+      let s : steps_of_call width n d.tells ≡ steps_of_call width n c.tells =
+      ap (λ (z : Called V). steps_of_call width n z.tells) (same_Some d c e) in
       let z : steps_before width n calls 0 ≡ 0 = zero_steps calls in
       omega arith
     where
@@ -91,7 +92,8 @@ module _ {V : Type 0} where
   records_more [] c t = ap (λ b. if b then c.chosen ∷ [] else []) t
   records_more (d ∷ calls) c t = more d.tells (records_more calls c t)
     where
-      more : (b : Bool) → records (calls ++ c ∷ []) ≡ records calls ++ c.chosen ∷ [] → (if b then d.chosen ∷ records (calls ++ c ∷ []) else records (calls ++ c ∷ []))
+      more : (b : Bool) → records (calls ++ c ∷ []) ≡ records calls ++ c.chosen ∷ [] →
+          (if b then d.chosen ∷ records (calls ++ c ∷ []) else records (calls ++ c ∷ []))
           ≡ (if b then d.chosen ∷ records calls else records calls) ++ c.chosen ∷ []
       more true r = ap (λ ys. d.chosen ∷ ys) r
       more false r = r
@@ -104,7 +106,8 @@ module _ {V : Type 0} where
   records_long [] = refl
   records_long (d ∷ calls) = long d.tells (records_long calls)
     where
-      long : (b : Bool) → length (records calls) ≡ told calls (length calls) → length (if b then d.chosen ∷ records calls else records calls) ≡ one_if b + told calls (length calls)
+      long : (b : Bool) → length (records calls) ≡ told calls (length calls) →
+          length (if b then d.chosen ∷ records calls else records calls) ≡ one_if b + told calls (length calls)
       long true r = omega arith
       long false r = omega arith
 
@@ -139,7 +142,8 @@ module _ {V : Type 0} where
 
   -- *Held*: what a process has after its first m calls is what was told last, or the opening
   pub held : (first : Stamped V) (calls : List (Called V)) →
-      ((k : ℕ) (c : Called V) → slice_get calls k ≡ Some c → c.tells ≡ false → c.chosen ≡ own_before first calls k) → (m : ℕ) → m ≤ length calls →
+      ((k : ℕ) (c : Called V) → slice_get calls k ≡ Some c → c.tells ≡ false → c.chosen ≡ own_before first calls k) →
+      (m : ℕ) → m ≤ length calls →
       slice_get (first ∷ records calls) (told calls m) ≡ Some (own_before first calls m)
   held first [] silent zero l = refl
   held first [] silent (suc m) l = absurd (omega arith)
@@ -150,6 +154,7 @@ module _ {V : Type 0} where
       by_case : (b : Bool) → c.tells ≡ b → slice_get (c.chosen ∷ records calls) (told calls m) ≡ Some (own_before c.chosen calls m) →
           slice_get (first ∷ (if b then c.chosen ∷ records calls else records calls)) (one_if b + told calls m)
           ≡ Some (own_before c.chosen calls m)
-      by_case true t rest = ap (slice_get (first ∷ c.chosen ∷ records calls)) (let e : one_if true + told calls m ≡ suc (told calls m) = omega arith in e) ∙ rest
+      by_case true t rest = ap (slice_get (first ∷ c.chosen ∷ records calls))
+          (let e : one_if true + told calls m ≡ suc (told calls m) = omega arith in e) ∙ rest
       by_case false t rest = ap (λ z. slice_get (z ∷ records calls) (one_if false + told calls m)) (sym (silent 0 c refl t))
           ∙ ap (slice_get (c.chosen ∷ records calls)) (let e : one_if false + told calls m ≡ told calls m = omega arith in e) ∙ rest

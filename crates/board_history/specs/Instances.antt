@@ -1,5 +1,7 @@
--- Two processes over registers whose accesses take one step: process 0 writes 7 at the times 1 and 2, and process 1 reads at 3 and 4. Once it
--- is answered the write, and once the opening, which is older than a write that had ended. And reads that write no row: one that had its own
+-- Two processes over registers whose accesses take one step: process 0 writes 7 at the times 1 and 2, and process 1 reads at 3 and 4. Once
+-- it
+-- is answered the write, and once the opening, which is older than a write that had ended. And reads that write no row: one that had its
+-- own
 -- record before the write began, and one that has the write and keeps it to itself.
 use Rattle.std.specs.Prelude.{ℕ, zero, suc, [], ◌∷◌, true, false}
 use Rattle.history_core.specs.declared.history.Kind.TheVariants.{Write, Read}
@@ -23,14 +25,16 @@ one_call call answer number read written = record {
 }
 
 abbrev pub two_processes : Did ℕ → ℕ → Did ℕ
-two_processes reader zero = one_call (record { begin = 1; end = 2; kind = Write; seen = zero_first; chosen = seven; tells = true }) zero_first 0 1 2
+two_processes reader zero = one_call (record { begin = 1; end = 2; kind = Write; seen = zero_first; chosen = seven; tells = true })
+    zero_first 0 1 2
 two_processes reader (suc i) = reader
 
 abbrev pub reads_seven : Did ℕ
 reads_seven = one_call (record { begin = 3; end = 4; kind = Read; seen = seven; chosen = seven; tells = true }) seven 1 3 4
 
 abbrev pub reads_opening : ℕ → Did ℕ
-reads_opening number = one_call (record { begin = 3; end = 4; kind = Read; seen = zero_first; chosen = zero_first; tells = true }) zero_first number 3 4
+reads_opening number = one_call (record { begin = 3; end = 4; kind = Read; seen = zero_first; chosen = zero_first; tells = true })
+    zero_first number 3 4
 
 -- a process that made one read at this time, and told nobody what it chose
 abbrev pub silent_read : Stamped ℕ → ℕ → ℕ → Did ℕ

@@ -1,4 +1,5 @@
--- Two boards in turn, of which the second opens with the record that the first one gave: their calls are one history of two terms. The second
+-- Two boards in turn, of which the second opens with the record that the first one gave: their calls are one history of two terms. The
+-- second
 -- board's times count from 1 again, so they are put off, by as many steps as lie behind each beginning of the first one's calls (this
 -- project's own).
 use Rattle.std.specs.Prelude.{◌≡◌, ℕ, ◌+◌, List, [], ◌∷◌, ◌++◌, length, map, slice_get, Option, Some, None}
@@ -23,7 +24,8 @@ op_later steps op = record op { starts = op.starts + steps; ends = end_later ste
 
 module _ {V F S T : Type 0} where
   -- *One history of two terms*: the calls of both boards, the second one's so many steps later, have an order that is atomic by their
-  -- intervals and refuses lawfully by both limits; no call of the second precedes one of the first; in the end the register holds this record
+  -- intervals and refuses lawfully by both limits; no call of the second precedes one of the first; in the end the register holds this
+  -- record
   pub record IsTwoTerms (board next : Board V F S T) (ops later : List (Op V)) (last : Posted V) : Type 0 where
     pub steps : ℕ
     pub order : List ℕ

@@ -9,7 +9,8 @@ use family_live::Family;
 use stamps::Stamp;
 use std::alloc::{AllocError, Global};
 
-/// With the fresh passes of a board of three processes q writes and tells p, p tells r, r reads, and the board ends: r's answer is q's record,
+/// With the fresh passes of a board of three processes q writes and tells p, p tells r, r reads, and the board ends: r's answer is q's
+/// record,
 /// or has a greater stamp. None where the tags have ended.
 pub fn ends_no_older<V: RecordLaw, F: Family<Posted<V>>>(
     alloc: Global,

@@ -38,7 +38,8 @@ module _ {V : Type 0} where
   -- the entries are those of one register that is called in this order, and in the end it holds this record
   abbrev pub AreEntriesOfOne : ℕ → Posted V → ℕ → Posted V → List (Noted V) → Type 0
   AreEntriesOfOne limit now writes last [] = last ≡ now
-  AreEntriesOfOne limit now writes last (n ∷ ns) = RegisterTakesEntry limit n.task now writes n.entry.wish n.entry.reply (λ p m. AreEntriesOfOne limit p m last ns)
+  AreEntriesOfOne limit now writes last (n ∷ ns) = RegisterTakesEntry limit n.task now writes n.entry.wish n.entry.reply
+      (λ p m. AreEntriesOfOne limit p m last ns)
 
   -- an order of logs: of each task it has the entries of its log, in their order, and it has no others; they are those of one
   -- register, which holds the opening at stamp 0.0 first, and this record in the end

@@ -25,7 +25,8 @@ where
 {
     ghost ready = { λ s l. IsPass ⟦<F as Family<Posted<V>>>⟧ V.obeys s.board.now l.pass × IsLane V.obeys l };
 
-    ghost ran = { λ s n l m. Ran ⟦<F as Family<Posted<V>>>⟧ V.obeys (Permitted G.is_for s.gate.now) (G.may_stop s.gate.now) s.board.now n l m };
+    ghost ran = { λ s n l m. Ran ⟦<F as Family<Posted<V>>>⟧ V.obeys (Permitted G.is_for s.gate.now)
+        (G.may_stop s.gate.now) s.board.now n l m };
 
     fn run(&self, task: usize, lane: &mut Lane<V, F>) {
         run_lane(self.board, self.gate, task, lane);
@@ -43,7 +44,8 @@ where
     F::Seat: Send,
     F::Told: Send,
     requires { AllReady (λ l. IsPass ⟦<F as Family<Posted<V>>>⟧ V.obeys board.now l.pass × IsLane V.obeys l) 0 lanes.old }
-    ensures { EachStep (Ran ⟦<F as Family<Posted<V>>>⟧ V.obeys (Permitted G.is_for gate.now) (G.may_stop gate.now) board.now) 0 lanes.old lanes.new }
+    ensures { EachStep (Ran ⟦<F as Family<Posted<V>>>⟧ V.obeys (Permitted G.is_for gate.now) (G.may_stop gate.now) board.now)
+        0 lanes.old lanes.new }
 {
     run_each(rt, &Runner { board, gate }, 0, lanes);
 }

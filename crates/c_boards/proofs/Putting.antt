@@ -48,10 +48,12 @@ module _ {H D : Type 0} (live : H → ℕ) (side : H → D) where
         done = b ∷ inv.done;
         of = whole_is ∙ append_assoc left (b ∷ []) inv.done;
         counts = length-set hs (length left) h ∙ inv.counts;
-        dead = λ k g below at. inv.dead k g (omega (arith, n, below)) (get_other hs (length left) k h g (λ (s : k ≡ length left). omega (arith, s, below)) at);
+        dead = λ k g below at. inv.dead k g (omega (arith, n, below))
+            (get_other hs (length left) k h g (λ (s : k ≡ length left). omega (arith, s, below)) at);
         put = λ k c g le at_c at_g. ⊎_elim
             (λ (s : k ≡ length left).
-            let here : slice_get (set hs (length left) h) (length left) ≡ Some g = subst (λ z. slice_get (set hs (length left) h) z ≡ Some g) s at_g in
+            let here : slice_get (set hs (length left) h) (length left) ≡ Some g =
+            subst (λ z. slice_get (set hs (length left) h) z ≡ Some g) s at_g in
             let g_is : g ≡ h = get_here hs (length left) h g here in
             let c_is : c ≡ b = same_Some c b (sym at_c ∙ ap (slice_get whole) s ∙ stands) in
             subst (λ z. HasSide z c.value) (sym g_is) (subst (λ (z : Box D). HasSide h z.value) (sym c_is) has))

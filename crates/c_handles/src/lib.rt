@@ -1,4 +1,5 @@
-//! Handles that C can hold, the sides of cells and the places at boards that they can have, and the calls on cells and boards over any size.
+//! Handles that C can hold, the sides of cells and the places at boards that they can have, and the calls on cells and boards over any
+//! size.
 //!
 //! A handle holds an erased box of one `Side`, or nothing.
 #![tactic(auto)]

@@ -44,5 +44,6 @@ module _ {W : Type 0} where
     pub moved : pair_said h.get.value ≢ pair_said g.get.value → reader_accesses h.get.value ≡ reader_accesses g.get.value + 3
     pub running : IsAnswer Always IsNoEarlier (opening_of (arc_value g.cell)) (answers_of g.get.value) (told_to g.get.value) a
     pub timed : IsNextCall (get_times g.get.value) (get_times h.get.value)
-    pub written : IsNextAnswer (opening_of (arc_value g.cell)) (known_to g.get.value) (known_to h.get.value) (numbers_of g.get.value) (numbers_of h.get.value)
+    pub written : IsNextAnswer (opening_of (arc_value g.cell)) (known_to g.get.value)
+        (known_to h.get.value) (numbers_of g.get.value) (numbers_of h.get.value)
         (answers_of h.get.value) (get_times h.get.value) a

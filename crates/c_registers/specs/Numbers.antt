@@ -20,7 +20,8 @@ IsNoEarlier a b = NumberFollows a.number a.words b.number b.words
 pub follows_itself : {W : Type 0} (m : ℕ) (v : W) → NumberFollows m v m v
 follows_itself m v = (le_refl m, λ e. refl)
 
-pub follows_on : {W : Type 0} (l : ℕ) (u : W) (m : ℕ) (v : W) (n : ℕ) (w : W) → NumberFollows l u m v → NumberFollows m v n w → NumberFollows l u n w
+pub follows_on : {W : Type 0} (l : ℕ) (u : W) (m : ℕ) (v : W) (n : ℕ) (w : W) →
+    NumberFollows l u m v → NumberFollows m v n w → NumberFollows l u n w
 follows_on l u m v n w f g =
     let above : l ≡ n → l ≡ m = λ e. le_antisymm f.0 (subst (λ k. m ≤ k) (sym e) g.0) in
     let below : l ≡ n → m ≡ n = λ e. le_antisymm g.0 (subst (λ k. k ≤ m) e f.0) in

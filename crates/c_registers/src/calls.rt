@@ -27,7 +27,8 @@ pub fn make<D: Offers<P> + Offers<G>, H: Hand<D>, W: Copy, P: Opens<W, G>, G: Re
     writer: &mut H,
     reader: &mut H,
 ) -> u32
-    ensures { IsMake ⟦<D as Offers<P>>⟧.side ⟦<D as Offers<G>>⟧.side P.is_made (holding (H.live writer.old) (H.side writer.old)) (holding (H.live reader.old) (H.side reader.old))
+    ensures { IsMake ⟦<D as Offers<P>>⟧.side ⟦<D as Offers<G>>⟧.side P.is_made
+        (holding (H.live writer.old) (H.side writer.old)) (holding (H.live reader.old) (H.side reader.old))
         (holding (H.live writer.new) (H.side writer.new)) (holding (H.live reader.new) (H.side reader.new)) first.now result }
 {
     if writer.is_live() {
@@ -130,7 +131,8 @@ pub fn write<D: Offers<P>, L: Holds<D>, W: Copy, P: Writing<W>>(
 ) -> u32
     requires { live ≢ 0 → L.full loose.old ≡ true }
     ensures full { L.full loose.new ≡ L.full loose.old }
-    ensures write { IsWrite D.side P.last P.has_written (holding live (L.side loose.old)) (holding live (L.side loose.new)) item.now result }
+    ensures write { IsWrite D.side P.last P.has_written (holding live (L.side loose.old))
+        (holding live (L.side loose.new)) item.now result }
 {
     if live == 0 {
         return ENDED;
@@ -174,7 +176,8 @@ pub fn look<D: Offers<G>, L: Holds<D>, W: Copy, G: Reading<W>>(
 ) -> u32
     requires { live ≢ 0 → L.full loose.old ≡ true }
     ensures full { L.full loose.new ≡ L.full loose.old }
-    ensures look { IsLook D.side G.has_read (holding live (L.side loose.old)) (holding live (L.side loose.new)) number.old number.new result }
+    ensures look { IsLook D.side G.has_read (holding live (L.side loose.old))
+        (holding live (L.side loose.new)) number.old number.new result }
 {
     if live == 0 {
         return ENDED;

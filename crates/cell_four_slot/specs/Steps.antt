@@ -9,7 +9,8 @@ use Rattle.four_slot_core.specs.declared.event.WriteEvent.TheVariants.{W1, W2, W
 use Rattle.four_slot_core.specs.declared.event.ReadEvent.TheVariants.{R1, R2, R3, R4, R5}
 use Rattle.four_slot_core.specs.Events.{side, with_side, slot_with, bit_number, slot_number, both}
 use Rattle.cell_live.specs.Running.{IsAnswer, snap}
-use Rattle.cell_live.specs.Intervals.{begun_at, passed_at, ended_at, heard_at, no_times, none_known, dated_at, known_as, AreHeeded, IsNextAnswer}
+use Rattle.cell_live.specs.Intervals.{begun_at, passed_at, ended_at, heard_at, no_times, none_known, dated_at, known_as, AreHeeded}
+use Rattle.cell_live.specs.Intervals.{IsNextAnswer}
 use Rattle.cell_live.specs.declared.times.Dated.{Dated}
 use Rattle.cell_live.specs.declared.times.Known.{Known}
 use Rattle.cell_four_slot.specs.declared.notes.WriterNotes.{WriterNotes}

@@ -122,5 +122,6 @@ module _ {T : Type 0} where
     pub held : held_by h ≡ (slot, at_hand_of h) ∷ []
     pub chosen : chosen_slot h ≡ slot
     pub timed : IsNextCall (get_times g) (get_times h)
-    pub numbered : IsNextAnswer (opening_of c) (known_to g) (known_to h) (numbers_of g) (numbers_of h) (answers_of h) (get_times h) (at_hand_of h)
+    pub numbered : IsNextAnswer (opening_of c) (known_to g) (known_to h) (numbers_of g)
+        (numbers_of h) (answers_of h) (get_times h) (at_hand_of h)
     pub heeds : (heard_by h ≡ heard_by g) × AreHeeded (heard_by h) (known_to h) (last_or 0 (numbers_of h))

@@ -178,9 +178,11 @@ impl<T: Lawful> Calls<T> for FourSlotCell<T> {
         // The pass holds the slot that this call's R3 took, and the answer is the record with which it came.
         ensures held { held_by get.new ≡ (chosen_slot get.new, result) ∷ [] }
         ensures timed { IsNextCall (get_times get.old) (get_times get.new) }
-        ensures numbered { IsNextAnswer (opening_of self.now) (known_to get.old) (known_to get.new) (numbers_of get.old) (numbers_of get.new)
+        ensures numbered { IsNextAnswer (opening_of self.now) (known_to get.old)
+            (known_to get.new) (numbers_of get.old) (numbers_of get.new)
             (answers_of get.new) (get_times get.new) result }
-        ensures heeds { (heard_by get.new ≡ heard_by get.old) × AreHeeded (heard_by get.new) (known_to get.new) (last_or 0 (numbers_of get.new)) }
+        ensures heeds { (heard_by get.new ≡ heard_by get.old)
+            × AreHeeded (heard_by get.new) (known_to get.new) (last_or 0 (numbers_of get.new)) }
     {
         let slot = choose(self, get);
         self.table.copy(&mut get.seat, slot)
@@ -201,9 +203,11 @@ impl<T: Lawful> Calls<T> for FourSlotCell<T> {
         ensures events { read_events get.new ≡ read_events get.old ++ R1 ∷ R2 ∷ R3 ∷ R4 ∷ R5 (snap (at_hand_of get.new)) ∷ [] }
         ensures held { held_by get.new ≡ (chosen_slot get.new, at_hand_of get.new) ∷ [] }
         ensures timed { IsNextCall (get_times get.old) (get_times get.new) }
-        ensures numbered { IsNextAnswer (opening_of self.now) (known_to get.old) (known_to get.new) (numbers_of get.old) (numbers_of get.new)
+        ensures numbered { IsNextAnswer (opening_of self.now) (known_to get.old)
+            (known_to get.new) (numbers_of get.old) (numbers_of get.new)
             (answers_of get.new) (get_times get.new) (at_hand_of get.new) }
-        ensures heeds { (heard_by get.new ≡ heard_by get.old) × AreHeeded (heard_by get.new) (known_to get.new) (last_or 0 (numbers_of get.new)) }
+        ensures heeds { (heard_by get.new ≡ heard_by get.old)
+            × AreHeeded (heard_by get.new) (known_to get.new) (last_or 0 (numbers_of get.new)) }
         ensures looked { FnOnceReturnsAt F.FnOnce look (at_hand_of get.new) result }
     {
         let slot = choose(self, get);

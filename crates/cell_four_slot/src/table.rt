@@ -10,7 +10,8 @@ ghost use Rattle.four_slot_core.specs.declared.state.ReaderStage.TheVariants.{R1
 ghost use Rattle.four_slot_core.specs.Events.{bit_number, slot_number};
 ghost use Rattle.cell_live.specs.Running.{last_or, Settled, held_slots};
 ghost use Rattle.cell_live.specs.Sights.{writer_part, reader_part};
-ghost use Rattle.cell_four_slot.specs.Steps.{begins, stores_on, publishes, finishes, asks_on, announces, says, takes, first_sight, receipt_for, hears_of};
+ghost use Rattle.cell_four_slot.specs.Steps.{begins, stores_on, publishes, finishes, asks_on, announces, says, takes, first_sight};
+ghost use Rattle.cell_four_slot.specs.Steps.{receipt_for, hears_of};
 ghost use Rattle.cell_four_slot.specs.Steps.{whole_of, slot_of_choice, word_said};
 ghost use Rattle.cell_four_slot.specs.Rule.{IsTimed};
 ghost use Rattle.cell_live.specs.Intervals.{AreFirst};

@@ -14,8 +14,10 @@ use Rattle.cell_live.specs.declared.times.Times.{Times}
 
 -- what a read after a receipt gives: `k` is the number of records written before, and the receipt names the next one
 pub heard_last : {T : Type 0} (o : T) (written answers : List T) (numbers : List ℕ) (writes reads last earlier heard : Times)
-    (earlier_numbers : List ℕ) (n : ℕ) (item answer : T) → AreAtomic o (written ++ item ∷ []) writes (answers ++ answer ∷ []) numbers reads →
-    HaveEnded writes → IsNextCall last writes → IsHeard earlier heard writes.clock → IsNextCall heard reads → numbers ≡ earlier_numbers ++ n ∷ [] → answer ≡ item
+    (earlier_numbers : List ℕ) (n : ℕ) (item answer : T) →
+    AreAtomic o (written ++ item ∷ []) writes (answers ++ answer ∷ []) numbers reads →
+    HaveEnded writes → IsNextCall last writes → IsHeard earlier heard writes.clock →
+    IsNextCall heard reads → numbers ≡ earlier_numbers ++ n ∷ [] → answer ≡ item
 heard_last o written answers numbers writes reads last earlier heard old n item answer h done wrote learnt read more =
     let one = length-append written (item ∷ []) in
     let two = length-append answers (answer ∷ []) in

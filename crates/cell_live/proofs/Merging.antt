@@ -112,7 +112,8 @@ module _ (k : ℕ) (next : ℕ → List ℕ → List Call) where
   write_stands : (c : Call) → ((m : ℕ) (ns : List ℕ) → Stands c (write k ∷ next m ns)) →
       (m : ℕ) (ns : List ℕ) → Stands c (before_write k next m ns)
   write_stands c f m [] = f m []
-  write_stands c f m (n ∷ ns) = pick_write c m n ns (before_write k next (m + 1) ns) (f m (n ∷ ns)) (write_stands c f (m + 1) ns) (cases_lt k n)
+  write_stands c f m (n ∷ ns) = pick_write c m n ns (before_write k next (m + 1) ns)
+      (f m (n ∷ ns)) (write_stands c f (m + 1) ns) (cases_lt k n)
 
   pick_read : (m a : ℕ) (ns : List ℕ) (n : ℕ) (rest : List Call) →
       ((m : ℕ) (ns : List ℕ) (x n : ℕ) → At ns x n → Stands (read (m + x) n) (next m ns)) →

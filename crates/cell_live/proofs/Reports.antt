@@ -10,7 +10,8 @@ use Rattle.cell_live.specs.declared.times.Times.{Times}
 use Rattle.cell_live.specs.Intervals.{At, InTurn, AreAtomic}
 use Rattle.cell_live.specs.Histories.{IsWriteOp, IsReadOp, AreOps, IsByNumbers}
 use Rattle.cell_live.proofs.Histories.{ends_first}
-use Rattle.cell_live.proofs.Merging.{Call, write, read, number_of, index_of, is_write_call, merged, IsOf, of_merged, merged_reads, merged_writes}
+use Rattle.cell_live.proofs.Merging.{Call, write, read, number_of, index_of, is_write_call, merged, IsOf, of_merged, merged_reads}
+use Rattle.cell_live.proofs.Merging.{merged_writes}
 use Rattle.cell_live.proofs.Merging.{Before, merged_in_order}
 
 map_at : {A B : Type 0} (f : A → B) (xs : List A) (p : ℕ) (x : A) → slice_get xs p ≡ Some x → slice_get (map f xs) p ≡ Some (f x)
@@ -36,7 +37,8 @@ upto b (suc n) = b ∷ upto (b + 1) n
 upto_is : (b n i p : ℕ) → slice_get (upto b n) i ≡ Some p → (p ≡ b + i) × (i < n)
 upto_is b zero i p e = absurd (none-some p e)
 upto_is b (suc n) zero p e = let s : b ≡ p = same_Some b p e in (omega arith, omega arith)
-upto_is b (suc n) (suc i) p e = let t = upto_is (b + 1) n i p e in let x : p ≡ b + 1 + i = t.0 in let y : i < n = t.1 in (omega arith, omega arith)
+upto_is b (suc n) (suc i) p e = let t = upto_is (b + 1) n i p e in let x : p ≡ b + 1 + i = t.0 in
+    let y : i < n = t.1 in (omega arith, omega arith)
 
 upto_has : (b n i : ℕ) → i < n → slice_get (upto b n) i ≡ Some (b + i)
 upto_has b zero i l = absurd (omega arith)
@@ -168,7 +170,8 @@ module _ {T : Type 0} (opening : T) (written : List T) (writes : Times) (answers
     by_numbers =
         let long : length (map op_of calls) ≡ length calls = map_long op_of calls in
         record {
-          places = λ i p e. let t = upto_is 0 (length calls) i p e in let x : p ≡ 0 + i = t.0 in let y : i < length calls = t.1 in omega arith;
+          places = λ i p e. let t = upto_is 0 (length calls) i p e in let x : p ≡ 0 + i = t.0 in
+              let y : i < length calls = t.1 in omega arith;
           once = λ i j p e f. let t = upto_is 0 (length calls) i p e in let u = upto_is 0 (length calls) j p f in
               let x : p ≡ 0 + i = t.0 in let y : p ≡ 0 + j = u.0 in omega arith;
           all = λ p l. (

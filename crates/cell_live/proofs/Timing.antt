@@ -7,7 +7,8 @@ use Rattle.std.proofs.lemmas.Option.{slice_get_within, same_Some}
 use Rattle.four_slot_core.proofs.Pushed.{get_before, get_cases}
 use Rattle.register_law.proofs.Times.{of_before, to_before}
 use Rattle.register_law.specs.Registers.{IsReadOf}
-use Rattle.cell_live.specs.Intervals.{At, begun_at, passed_at, ended_at, InTurn, IsBy, IsLate, HasBegun, IsBeginning, AreFirst, AreHeeded, IsHeeded, known_as}
+use Rattle.cell_live.specs.Intervals.{At, begun_at, passed_at, ended_at, InTurn, IsBy, IsLate, HasBegun, IsBeginning, AreFirst, AreHeeded}
+use Rattle.cell_live.specs.Intervals.{IsHeeded, known_as}
 use Rattle.cell_live.proofs.ListLaws.{all_each, all_snoc}
 use Rattle.cell_live.specs.declared.times.Times.{Times}
 use Rattle.cell_live.specs.declared.times.Known.{Known}

@@ -20,9 +20,11 @@ use Rattle.cell_live.specs.declared.times.Known.{Known}
 use Rattle.cell_triple.specs.Rule.{IsCounted, IsTimed, Sees, TripleRule}
 use Rattle.cell_live.specs.Sights.{writer_or, reader_or, writer_part, reader_part}
 use Rattle.cell_triple.specs.Steps.{first_writer, first_reader, first_sight, put_took, get_took, put_swapped, published, answered}
-use Rattle.cell_triple.specs.Steps.{clock_of, looked, looked_by, asked_by, fetched, get_swapped, receipt_for, told_by, hears_of, heard_by, whole_of}
+use Rattle.cell_triple.specs.Steps.{clock_of, looked, looked_by, asked_by, fetched, get_swapped, receipt_for, told_by, hears_of, heard_by}
+use Rattle.cell_triple.specs.Steps.{whole_of}
 use Rattle.cell_triple.specs.Steps.{HasAnswered, MayAnswer}
-use Rattle.cell_live.proofs.ListLaws.{last_here, last_snoc, settled_more, settled_last, last_stands, stands_more, stands_last, all_each, all_snoc}
+use Rattle.cell_live.proofs.ListLaws.{last_here, last_snoc, settled_more, settled_last, last_stands, stands_more, stands_last, all_each}
+use Rattle.cell_live.proofs.ListLaws.{all_snoc}
 use Rattle.cell_live.proofs.ListLaws.{rising_snoc, last_fits, last_rises, stands_below, seats_stay}
 use Rattle.cell_live.proofs.Timing.{first_begun, first_ended, first_all, heeded_all, heeded_begun, heeded_ended}
 use Rattle.cell_triple.proofs.Timing.{timed_puts, timed_looks, timed_asks, timed_fetched, timed_answers, timed_hears, timed_put_taken}
@@ -81,7 +83,8 @@ module _ {T : Type 0} (fits : T → Type 0) (rises : T → T → Type 0) (o : T)
       me.0 ≡ Writer r.put → me.1 ≡ (r.put.slot, x) ∷ [] → r.put.has ≡ 1
       → fits x → rises (last_or o r.put.written) x → new ≡ r.put.slot + 4
       → (w : V) × (a : Act T) × ProperAll me.1 a × Valid s.homes me.1 a × RuleAt t (stepped s 0 new id me.1 w a)
-      × put_swapped (step slots 0 new 0 none) me (get_or s.words 0 0) (w, Rattle.atomic_table.specs.Table.carried_after me.1 a) × (clock_of w ≡ t)
+      × put_swapped (step slots 0 new 0 none) me (get_or s.words 0 0) (w, Rattle.atomic_table.specs.Table.carried_after me.1 a)
+      × (clock_of w ≡ t)
   puts_at s r t lt slots id me x new own is carried has f g to =
       let n : ℕ = get_or s.words 0 0 in
       let word = r.in_table.word_is in
@@ -184,7 +187,8 @@ module _ {T : Type 0} (fits : T → Type 0) (rises : T → T → Type 0) (o : T)
       (t.0, t.1, t.3, t.4.0, t.5)
 
   -- a step that changes no word, and neither the lists nor the places
-  pub put_takes_at : (s : St) (r : Rule s) (slots id : ℕ) (me : M) → get_elem? s.views id ≡ some me.0 → id ≡ r.writer → me.0 ≡ Writer r.put →
+  pub put_takes_at : (s : St) (r : Rule s) (slots id : ℕ) (me : M) → get_elem? s.views id ≡ some me.0 →
+      id ≡ r.writer → me.0 ≡ Writer r.put →
       me.1 ≡ [] → r.put.has ≡ 0
       → (w : V) × (a : Act T) × ProperAll me.1 a × Valid s.homes me.1 a × RuleAt r.now (stepped s 0 (get_or s.words 0 0) id me.1 w a)
       × put_took (step slots 0 0 0 none) me (get_or s.words 0 0) (w, Rattle.atomic_table.specs.Table.carried_after me.1 a)
@@ -251,7 +255,8 @@ module _ {T : Type 0} (fits : T → Type 0) (rises : T → T → Type 0) (o : T)
       let t = put_takes_at s r slots id me at known.1 h.0 carried h.1 in
       (t.0, t.1, t.3, t.4.0, t.5)
 
-  pub get_takes_at : (s : St) (r : Rule s) (slots id : ℕ) (me : M) → get_elem? s.views id ≡ some me.0 → id ≡ r.reader → me.0 ≡ Reader r.get →
+  pub get_takes_at : (s : St) (r : Rule s) (slots id : ℕ) (me : M) → get_elem? s.views id ≡ some me.0 →
+      id ≡ r.reader → me.0 ≡ Reader r.get →
       me.1 ≡ [] → r.get.has ≡ 0
       → (w : V) × (a : Act T) × ProperAll me.1 a × Valid s.homes me.1 a × RuleAt r.now (stepped s 0 (get_or s.words 0 0) id me.1 w a)
       × get_took (step slots 0 0 0 none) me (get_or s.words 0 0) (w, Rattle.atomic_table.specs.Table.carried_after me.1 a)
@@ -334,7 +339,8 @@ module _ {T : Type 0} (fits : T → Type 0) (rises : T → T → Type 0) (o : T)
         (last_answers r.put.written r.get.answers r.get.told r.lawful r.settled.0 r.settled.1)
 
     -- the reader's notes change, and no word or slot
-    get_notes : (s : St) (r : Rule s) (t : ℕ) → r.now ≤ t → (id : ℕ) (cs : List (ℕ × T)) (g' : ReaderNotes T) → id ≡ r.reader → g'.slot ≡ r.get.slot →
+    get_notes : (s : St) (r : Rule s) (t : ℕ) → r.now ≤ t → (id : ℕ) (cs : List (ℕ × T)) (g' : ReaderNotes T) →
+        id ≡ r.reader → g'.slot ≡ r.get.slot →
         g'.has ≡ r.get.has → g'.at_hand.value ≡ r.get.at_hand.value → g'.opening.value ≡ r.get.opening.value → g'.told ≡ r.get.told
         → (g'.asked ≡ 1 → r.fresh ≡ 1) → Settled (o ∷ r.put.written) g'.answers → IsCounted r.put g' → IsTimed o r.put g' t →
         AreFirst g'.known r.put.written r.put.times → RuleAt t (stepped s 0 (get_or s.words 0 0) id cs (Reader g') keeps)
@@ -832,7 +838,8 @@ module _ {T : Type 0} (fits : T → Type 0) (rises : T → T → Type 0) (o : T)
   pub tells_by : (t : ℕ) (s : St) (r : RuleAt t s) (id : ℕ) (p : WriterNotes T) → get_elem? s.views id ≡ some (Writer p) →
       RuleAt t (record { words = s.words; homes = s.homes; views = s.views ++ receipt_for (Writer p) ∷ [] })
   unfolding tells reseated
-  tells_by t s r id p at = subst (λ (vs : List V). RuleAt t (record { words = s.words; homes = s.homes; views = vs ++ receipt_for (Writer p) ∷ [] }))
+  tells_by t s r id p at =
+      subst (λ (vs : List V). RuleAt t (record { words = s.words; homes = s.homes; views = vs ++ receipt_for (Writer p) ∷ [] }))
       (set_again s.views id (Writer p) at) (tells id p s r.0 at, r.1)
 
   pub hears_by : (t : ℕ) (s : St) (r : RuleAt t s) (id other : ℕ) (g : ReaderNotes T) (x : Snapshot (Dated T)) →

@@ -166,7 +166,8 @@ module _ {T : Type 0} (o : T) where
         numbered = let e : length (g.numbers ++ n ∷ []) ≡ length (g.answers ++ x ∷ []) = omega arith in e;
         source = source_more o p.written g.answers g.numbers n x numbered here h.source;
         late = late_more g.numbers (g.times.begins ++ t ∷ []) p.times.ends n
-            (late_asked g.numbers g.times.begins p.times.ends t (let l : length g.numbers ≤ length g.times.begins = omega arith in l) h.late)
+            (late_asked g.numbers g.times.begins p.times.ends t (let l : length g.numbers ≤ length g.times.begins = omega arith in
+            l) h.late)
             (λ b at k e there before.
             let l : k < length p.times.ends = slice_get_within p.times.ends k e there in
             let z : k < n = omega arith in

@@ -105,5 +105,6 @@ module _ {T : Type 0} where
     pub marked : 4 ≤ found_by h → swaps_of h ≡ swaps_of g + 1
     pub accesses : loads_of h + swaps_of h ≤ loads_of g + swaps_of g + 3
     pub timed : IsNextCall (get_times g) (get_times h)
-    pub numbered : IsNextAnswer (opening_of c) (known_to g) (known_to h) (numbers_of g) (numbers_of h) (answers_of h) (get_times h) (at_hand_of h)
+    pub numbered : IsNextAnswer (opening_of c) (known_to g) (known_to h) (numbers_of g)
+        (numbers_of h) (answers_of h) (get_times h) (at_hand_of h)
     pub heeds : (heard_by h ≡ heard_by g) × AreHeeded (heard_by h) (known_to h) (last_or 0 (numbers_of h))

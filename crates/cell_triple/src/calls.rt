@@ -163,9 +163,11 @@ impl<T: Lawful> Calls<T> for TripleCell<T> {
         // The answer is the record of the slot that the pass then holds.
         ensures held { held_by get.new ≡ (get.new.slot, result) ∷ [] }
         ensures timed { IsNextCall (get_times get.old) (get_times get.new) }
-        ensures numbered { IsNextAnswer (opening_of self.now) (known_to get.old) (known_to get.new) (numbers_of get.old) (numbers_of get.new)
+        ensures numbered { IsNextAnswer (opening_of self.now) (known_to get.old)
+            (known_to get.new) (numbers_of get.old) (numbers_of get.new)
             (answers_of get.new) (get_times get.new) result }
-        ensures heeds { (heard_by get.new ≡ heard_by get.old) × AreHeeded (heard_by get.new) (known_to get.new) (last_or 0 (numbers_of get.new)) }
+        ensures heeds { (heard_by get.new ≡ heard_by get.old)
+            × AreHeeded (heard_by get.new) (known_to get.new) (last_or 0 (numbers_of get.new)) }
     {
         refresh(self, get);
         self.table.copy(&mut get.seat, get.slot)
@@ -186,9 +188,11 @@ impl<T: Lawful> Calls<T> for TripleCell<T> {
         ensures marked { 4 ≤ found_by get.new → swaps_of get.new ≡ swaps_of get.old + 1 }
         ensures held { held_by get.new ≡ (get.new.slot, at_hand_of get.new) ∷ [] }
         ensures timed { IsNextCall (get_times get.old) (get_times get.new) }
-        ensures numbered { IsNextAnswer (opening_of self.now) (known_to get.old) (known_to get.new) (numbers_of get.old) (numbers_of get.new)
+        ensures numbered { IsNextAnswer (opening_of self.now) (known_to get.old)
+            (known_to get.new) (numbers_of get.old) (numbers_of get.new)
             (answers_of get.new) (get_times get.new) (at_hand_of get.new) }
-        ensures heeds { (heard_by get.new ≡ heard_by get.old) × AreHeeded (heard_by get.new) (known_to get.new) (last_or 0 (numbers_of get.new)) }
+        ensures heeds { (heard_by get.new ≡ heard_by get.old)
+            × AreHeeded (heard_by get.new) (known_to get.new) (last_or 0 (numbers_of get.new)) }
         ensures looked { FnOnceReturnsAt F.FnOnce look (at_hand_of get.new) result }
     {
         refresh(self, get);

@@ -27,7 +27,8 @@ pub fn triple_rule_shows<T: Lawful>()
     ensures counted { (o : T) (s : State T (TripleSight T)) (r : ⟦<Triple as TableRule<T, notes::TripleSight<T>, T>>⟧.holds o s) →
         (r.put.swaps ≡ length r.put.written) × (r.get.loads ≡ length r.get.answers + r.get.asked) }
     ensures timed { (o : T) (s : State T (TripleSight T)) (r : ⟦<Triple as TableRule<T, notes::TripleSight<T>, T>>⟧.holds o s) (m n : ℕ) →
-        At r.get.numbers m n → IsReadOf (intervals r.put.times.begins r.put.times.ends) (intervals r.get.times.begins r.get.times.ends) m n }
+        At r.get.numbers m n → IsReadOf (intervals r.put.times.begins r.put.times.ends)
+        (intervals r.get.times.begins r.get.times.ends) m n }
     ensures rising { (o : T) (s : State T (TripleSight T)) (r : ⟦<Triple as TableRule<T, notes::TripleSight<T>, T>>⟧.holds o s)
         (i j a b : ℕ) → At r.get.numbers i a → At r.get.numbers j b → i ≤ j → a ≤ b }
     ensures known { (o : T) (s : State T (TripleSight T)) (r : ⟦<Triple as TableRule<T, notes::TripleSight<T>, T>>⟧.holds o s) →

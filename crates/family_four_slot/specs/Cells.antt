@@ -24,10 +24,12 @@ module _ {T : Type 0} (fits : T → Type 0) (rises : T → T → Type 0) (o : T)
   -- no view changes
   stays : (now : ℕ) (s : State T V) (r : Rule now s) (id : ℕ) (v : V) → get_elem? s.views id ≡ some v →
       Rule now (record { words = s.words; homes = s.homes; views = set s.views id v })
-  stays now s r id v at = subst (λ vs. Rule now (record { words = s.words; homes = s.homes; views = vs })) (sym (set_again s.views id v at)) r
+  stays now s r id v at = subst (λ vs. Rule now (record { words = s.words; homes = s.homes; views = vs }))
+      (sym (set_again s.views id v at)) r
 
   -- a view that knows nothing comes
-  one_more : (now : ℕ) (s : State T V) (r : Rule now s) → Rule now (record { words = s.words; homes = s.homes; views = s.views ++ Spent ∷ [] })
+  one_more : (now : ℕ) (s : State T V) (r : Rule now s) →
+      Rule now (record { words = s.words; homes = s.homes; views = s.views ++ Spent ∷ [] })
   one_more now s r = reseated_at fits rises o now s r r.0.writer r.0.reader (s.views ++ Spent ∷ []) (λ j v e. ⊎_elim
       (λ (h : get_elem? s.views j ≡ some v). r.0.each_seat j v h)
       (λ (h : Spent ≡ v). subst (Sees o r.0.put r.0.get (shown_number fits rises o r.0) r.0.now r.0.writer r.0.reader j) h tt)
@@ -67,12 +69,14 @@ module _ {T : Type 0} (fits : T → Type 0) (rises : T → T → Type 0) (o : T)
         reads j w g false h = tt
 
         writes : (j w g : ℕ) (b : Bool) → nat_eq j w ≡ b →
-            Sees o (first_writer o) (first_reader o) 0 0 w g j (cond b (Writer (first_writer o)) (cond (nat_eq j g) (Reader (first_reader o)) Spent))
+            Sees o (first_writer o) (first_reader o) 0 0 w g j
+            (cond b (Writer (first_writer o)) (cond (nat_eq j g) (Reader (first_reader o)) Spent))
         writes j w g true h = (refl, same_if j w h)
         writes j w g false h = reads j w g (nat_eq j g) refl
 
         seen : (j w g : ℕ) →
-            Sees o (first_writer o) (first_reader o) 0 0 w g j (cond (nat_eq j w) (Writer (first_writer o)) (cond (nat_eq j g) (Reader (first_reader o)) Spent))
+            Sees o (first_writer o) (first_reader o) 0 0 w g j
+            (cond (nat_eq j w) (Writer (first_writer o)) (cond (nat_eq j g) (Reader (first_reader o)) Spent))
         seen j w g = writes j w g (nat_eq j w) refl
 
 module _ {T : Type 0} where

@@ -21,7 +21,8 @@ use Rattle.family_four_slot.specs.Tables.{IsDone, Done}
 module _ {T : Type 0} (fits : T → Type 0) (rises : T → T → Type 0) (o : T) where
   -- one cell, with its writer's notes and its reader's
   cell_done : (s : State T (FourSlotSight T)) (r : FourSlotRule fits rises o s) (i j : ℕ) (p : WriterNotes T) (g : ReaderNotes T) →
-      get_elem? s.views i ≡ some (Writer p) → get_elem? s.views j ≡ some (Reader g) → p.stage ≡ writer.W5 → g.stage ≡ reader.R5 → IsDone o p g
+      get_elem? s.views i ≡ some (Writer p) → get_elem? s.views j ≡ some (Reader g) →
+      p.stage ≡ writer.W5 → g.stage ≡ reader.R5 → IsDone o p g
   cell_done s r i j p g there here idle rest =
       let a = r.each_seat i (Writer p) there in
       let b = r.each_seat j (Reader g) here in

@@ -10,7 +10,8 @@ use Rattle.cell_live.specs.declared.times.Known.{Known}
 use Rattle.cell_four_slot.specs.declared.notes.WriterNotes.{WriterNotes}
 use Rattle.cell_four_slot.specs.declared.notes.ReaderNotes.{ReaderNotes}
 use Rattle.cell_live.specs.declared.sight.Sight.TheVariants.{Spent, Writer, Reader}
-use Rattle.cell_four_slot.specs.Steps.{FourSlotSight, begun_with, stored_by, finished_with, asked_by, said_with, got_by, slot_of_choice, word_said, HasAnswered}
+use Rattle.cell_four_slot.specs.Steps.{FourSlotSight, begun_with, stored_by, finished_with, asked_by, said_with, got_by, slot_of_choice}
+use Rattle.cell_four_slot.specs.Steps.{word_said, HasAnswered}
 use Rattle.family_table.specs.declared.notes.Process.{Process}
 use Rattle.family_table.specs.declared.notes.View.{View}
 use Rattle.family_table.specs.declared.notes.View.TheVariants.{Has}
@@ -28,7 +29,8 @@ module _ {T : Type 0} where
 
   -- W1, with W2 and W3
   abbrev pub begins : List T → Step T → Sat T → ℕ → Sat T → Type 0
-  begins items st m n m' = (k : ℕ) (v : Process (FourSlotSight T)) (p : WriterNotes T) (x : T) → st.word ≡ word_at k 1 → m.0 ≡ Has (v ∷ []) →
+  begins items st m n m' = (k : ℕ) (v : Process (FourSlotSight T)) (p : WriterNotes T) (x : T) →
+      st.word ≡ word_at k 1 → m.0 ≡ Has (v ∷ []) →
       of_cell Spent k v.parts ≡ Writer p → items ≡ x ∷ []
       → (b : Bool) × (y : T) × (t : ℕ) × (n ≡ bit_number b) × (p.times.clock < t)
       × After v k (Writer (begun_with p b x t)) t ((slot_at k (slot_number (begun_with p b x t).slot), y) ∷ m.1) m'

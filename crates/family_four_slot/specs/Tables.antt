@@ -40,7 +40,8 @@ pub record IsDone {T : Type 0} (o : T) (p : WriterNotes T) (g : ReaderNotes T) :
 
 -- the calls of a cell by what its two processes know of it, if none is under way
 abbrev pub Done : {T : Type 0} → T → FourSlotSight T → FourSlotSight T → Type 0
-Done o v w = (p : WriterNotes _) (g : ReaderNotes _) → v ≡ Writer p → w ≡ Reader g → p.stage ≡ writer.W5 → g.stage ≡ reader.R5 → IsDone o p g
+Done o v w = (p : WriterNotes _) (g : ReaderNotes _) → v ≡ Writer p → w ≡ Reader g →
+    p.stage ≡ writer.W5 → g.stage ≡ reader.R5 → IsDone o p g
 
 -- at the end: one schedule, and the calls of each cell whose two processes the seat has
 abbrev pub IsEnded : {T : Type 0} → ℕ → T → List (Process (FourSlotSight T)) → Type 0

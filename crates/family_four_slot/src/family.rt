@@ -123,7 +123,8 @@ impl<T: Lawful> FourSlotFamily<T> {
         requires own { IsSeat self.now seat.old }
         requires other { (from < processes_of self.now) × (from ≢ number_of seat.old) }
         requires at { cell ≡ place seat.old.processes from seat.old.who }
-        ensures { IsReadFrom (IsSeat self.now) number_of clock_of times_of writes_of reads_of 3 (opening_of self.now) T.fits T.rises L.sees from
+        ensures { IsReadFrom (IsSeat self.now) number_of clock_of times_of writes_of reads_of 3
+            (opening_of self.now) T.fits T.rises L.sees from
             (seat.old, seen.old) (seat.new, seen.new) }
     {
         let table = &self.table;
@@ -253,7 +254,8 @@ impl<T: Lawful> Family<T> for FourSlotFamily<T> {
 
     fn finish(self, seats: Vec<FourSlotSeat<T>>)
         requires { (vec_len seats ≡ processes_of self) × Each (λ i s. IsSeat self s × (number_of s ≡ i)) seats.items }
-        ensures scheduled { (steps : List ℕ) × IsSchedule (processes_of self) steps × Each (λ i s. times_of s ≡ positions 1 i steps) seats.items }
+        ensures scheduled { (steps : List ℕ) × IsSchedule (processes_of self) steps
+            × Each (λ i s. times_of s ≡ positions 1 i steps) seats.items }
         ensures atomic { EachTwo (λ i j s t. IsAtomicCell (opening_of self) (writes_of s j) (reads_of t i)) seats.items }
     {
         let FourSlotFamily { table } = self;

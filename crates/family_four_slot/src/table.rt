@@ -228,7 +228,8 @@ impl<T: Lawful> FamilyTable<T> {
         requires said { (v : Process (FourSlotSight T)) × (g : ReaderNotes T) × HasReader seat.old.inner.me cell v g × (g.stage ≡ R2)
             × (pair ≡ bit_number g.slot.pair) }
         ensures own { seat.new.inner.table_id ≡ seat.old.inner.table_id }
-        ensures taken { takes T.fits T.rises (step self.now.rows.inner.shared.table_id.slots (16 * cell + 8 + (2 + pair)) 0 0 none) seat.old.inner.me
+        ensures taken { takes T.fits T.rises (step self.now.rows.inner.shared.table_id.slots (16 * cell + 8 + (2 + pair)) 0 0 none)
+            seat.old.inner.me
             result seat.new.inner.me }
     {
         self.rows

@@ -4,7 +4,8 @@ ghost use Rattle.history_core.specs.Schedules.{positions};
 ghost use Rattle.cell_live.specs.Running.{last_or};
 ghost use Rattle.cell_live.specs.Intervals.{known_as};
 ghost use Rattle.cell_live.specs.declared.times.Known.{Known};
-ghost use Rattle.family_live.specs.Accesses.{WriteAccesses, ReadAccesses, IsUnused, IsAccess, IsWriteAccess, IsHeardRead, KeepsEach, KeepsOthers};
+ghost use Rattle.family_live.specs.Accesses.{WriteAccesses, ReadAccesses, IsUnused, IsAccess, IsWriteAccess, IsHeardRead, KeepsEach};
+ghost use Rattle.family_live.specs.Accesses.{KeepsOthers};
 ghost use Rattle.family_live.specs.Ends.{Each, EachTwo, IsSchedule, IsAtomicCell};
 ghost use Rattle.family_live.specs.Rows.{OneByOne, IsReadFrom, IsWriteTo};
 
@@ -109,7 +110,8 @@ pub trait Family<T: Lawful>: Sized + Drop {
     /// Shows one record of each other process, rising: the same as so many calls of `read_from`, in fewer instructions.
     fn read_all_from<L: Sees<T>>(&self, seat: &mut Self::Seat, seen: &mut L)
         requires own { is_seat self.now seat.old }
-        ensures { OneByOne (IsReadFrom (is_seat self.now) who clock times writes reads width (opening self.now) T.fits T.rises L.sees) (who seat.old)
+        ensures { OneByOne (IsReadFrom (is_seat self.now) who clock times writes reads width (opening self.now) T.fits T.rises L.sees)
+            (who seat.old)
             (seat.old, seen.old) (processes self.now - 1) (seat.new, seen.new) };
 
     /// Gives a receipt for all that the process has written, which carries these writes.
@@ -117,7 +119,8 @@ pub trait Family<T: Lawful>: Sized + Drop {
         requires own { is_seat self.now seat.old }
         ensures own { is_seat self.now seat.new × (who seat.new ≡ who seat.old) }
         ensures told { is_told self.now result × (sender result ≡ who seat.old) × (time_of result ≡ clock seat.old) }
-        ensures named { (j : ℕ) → j < processes self.now → j ≢ who seat.old → named result j ≡ last_or (opening self.now) (writes seat.old j).items }
+        ensures named { (j : ℕ) → j < processes self.now → j ≢ who seat.old →
+            named result j ≡ last_or (opening self.now) (writes seat.old j).items }
         ensures tells { (j : ℕ) → j < processes self.now → j ≢ who seat.old →
             writes_of result j ≡ known_as (writes seat.old j).items (writes seat.old j).times }
         ensures same { (clock seat.new ≡ clock seat.old) × (times seat.new ≡ times seat.old) }
@@ -137,7 +140,8 @@ pub trait Family<T: Lawful>: Sized + Drop {
         ensures own { is_seat self.now seat.new × (who seat.new ≡ who seat.old) }
         ensures later { (clock seat.old ≤ clock seat.new) × (time_of told ≤ clock seat.new) × (times seat.new ≡ times seat.old) }
         ensures heard { sender told ≢ who seat.old →
-            IsHeardRead (reads seat.old (sender told)) (reads seat.new (sender told)) (named told (who seat.old)) (writes_of told (who seat.old)) }
+            IsHeardRead (reads seat.old (sender told)) (reads seat.new (sender told))
+            (named told (who seat.old)) (writes_of told (who seat.old)) }
         ensures others { KeepsEach (writes seat.old) (writes seat.new) × KeepsOthers (sender told) (reads seat.old) (reads seat.new) };
 
     /// Shows what was done so far with all seats: it is one schedule, and the calls of each register are atomic by their intervals in its

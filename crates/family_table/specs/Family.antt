@@ -1,6 +1,7 @@
 -- A family of cells in one table, so that all of them have one time. One seat is that of a process: its view has a clock and, for each
 -- cell, what the process knows of it (this project's own).
-use Rattle.std.specs.Prelude.{◌≡◌, ◌≢◌, ℕ, ◌+◌, ◌<◌, ◌≤◌, max, nat_eq, cond, List, [], ◌∷◌, ◌++◌, map, length, slice_get, Some, slice_index, slice_index_or, slice_set}
+use Rattle.std.specs.Prelude.{◌≡◌, ◌≢◌, ℕ, ◌+◌, ◌<◌, ◌≤◌, max, nat_eq, cond, List, [], ◌∷◌, ◌++◌, map, length, slice_get, Some, slice_index}
+use Rattle.std.specs.Prelude.{slice_index_or, slice_set}
 use mathlib.Core.Option.{Option, some, none}
 use lib.ListN.{get_elem?}
 use Rattle.history_core.specs.Schedules.{positions}
@@ -67,7 +68,8 @@ module _ {S V : Type 0} (blank : V) (l : Layout) (Rule : ℕ → State S V → T
     pub made : (i : ℕ) (v : Process V) → get_elem? processes i ≡ some v → v.times ≡ positions 1 i steps
     -- a slot that a process has is out, and with no other one
     pub away : (i : ℕ) (v : Process V) → get_elem? processes i ≡ some v → Out s.homes v.held × Distinct v.held
-    pub apart : (i j : ℕ) (u v : Process V) → get_elem? processes i ≡ some u → get_elem? processes j ≡ some v → i ≢ j → Disjoint u.held v.held
+    pub apart : (i j : ℕ) (u v : Process V) → get_elem? processes i ≡ some u →
+        get_elem? processes j ≡ some v → i ≢ j → Disjoint u.held v.held
     -- the seats
     pub shows : (j : ℕ) (x : View V) → get_elem? s.views j ≡ some x → Shows processes receipts x
     pub once : (who : ℕ) → total (holders who) s.views ≤ 1

@@ -18,7 +18,8 @@ use Rattle.family_triple.specs.Words.{IsAtRest, writes_to, reads_from}
 module _ {T : Type 0} where
   -- After a load, and a swap where that found the mark: the read is decided. The seat's first slot, of this number, has the answer; `notes`
   -- are those with which the deciding step went on
-  pub record HasLooked (fits : T → Type 0) (rises : T → T → Type 0) (k : ℕ) (v : Process (TripleSight T)) (g : ReaderNotes T) (cs : List (ℕ × T))
+  pub record HasLooked (fits : T → Type 0) (rises : T → T → Type 0) (k : ℕ) (v : Process (TripleSight T))
+      (g : ReaderNotes T) (cs : List (ℕ × T))
       (me : Me T (View (TripleSight T))) (slot : ℕ) : Type 0 where
     pub notes : ReaderNotes T
     pub answer : T
@@ -30,7 +31,8 @@ module _ {T : Type 0} where
     pub took : (notes.slot ≡ slot) × (notes.at_hand.value ≡ answer) × (slot < 3)
     pub later : v.clock < time
     pub slots : me.1 ≡ (slot_at k slot, answer) ∷ cs
-    pub view : me.0 ≡ Has (knows Spent v k (Reader (answered notes answer time number writes)) time (held_slots ((slot_at k slot, answer) ∷ cs)) ∷ [])
+    pub view : me.0 ≡ Has (knows Spent v k (Reader (answered notes answer time number writes)) time
+        (held_slots ((slot_at k slot, answer) ∷ cs)) ∷ [])
     pub may : MayAnswer fits rises g answer
     pub did : HasAnswered g (answered notes answer time number writes) answer
     pub heard : notes.heard ≡ g.heard
@@ -41,6 +43,7 @@ module _ {T : Type 0} where
     pub process : Process (TripleSight T)
     pub one : me.0 ≡ Has (process ∷ [])
     pub number : process.who ≡ who
-    pub rest : (fills reads : List ℕ) → (length fills ≡ 16) → (length reads ≡ 16) → ((j : ℕ) → j < n → slice_index_or fills j 0 ≡ 0) → ((j : ℕ) → j < n → slice_index_or reads j 0 ≡ 2) →
+    pub rest : (fills reads : List ℕ) → (length fills ≡ 16) → (length reads ≡ 16) →
+        ((j : ℕ) → j < n → slice_index_or fills j 0 ≡ 0) → ((j : ℕ) → j < n → slice_index_or reads j 0 ≡ 2) →
         IsAtRest o n process fills reads me.1
     pub unused : IsUnused process.clock process.times (writes_to o n process) (reads_from o n process)

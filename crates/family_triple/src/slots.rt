@@ -1,4 +1,5 @@
-//! The slots that a seat has between two calls: those of the registers that its process writes, in turn, and then those of the registers that
+//! The slots that a seat has between two calls: those of the registers that its process writes, in turn, and then those of the registers
+//! that
 //! it reads. The slot of a call comes first for as long as the call lasts.
 ghost use Rattle.std.specs.Prelude.{◌≡◌, ◌≢◌, ℕ, ◌+◌, ◌*◌, ◌-◌, ◌<◌, ◌≤◌, List, [], ◌∷◌, ◌++◌, length};
 ghost use Rattle.cell_triple.specs.declared.notes.ReaderNotes.{ReaderNotes};
@@ -79,7 +80,8 @@ pub(crate) fn newest<T: Lawful>(
     requires own { seat.old.inner.table_id ≡ table.now.rows.inner.shared.table_id }
     requires place { cell < (triples table.now.rows.inner.shared.key.processes).cells }
     requires idle { (v : Process (TripleSight T)) × (g : ReaderNotes T) × (cs : List (ℕ × T)) × HasReader seat.old.inner.me cell v g
-        × (seat.old.inner.me.1 ≡ (slot_at cell g.slot, g.at_hand.value) ∷ cs) × (g.has ≡ 1) × (g.asked ≡ 0) × (g.slot < 3) × (slot ≡ g.slot) }
+        × (seat.old.inner.me.1 ≡ (slot_at cell g.slot, g.at_hand.value) ∷ cs)
+        × (g.has ≡ 1) × (g.asked ≡ 0) × (g.slot < 3) × (slot ≡ g.slot) }
     ensures own { seat.new.inner.table_id ≡ seat.old.inner.table_id }
     ensures looked { (v : Process (TripleSight T)) (g : ReaderNotes T) (cs : List (ℕ × T)) → HasReader seat.old.inner.me cell v g →
         seat.old.inner.me.1 ≡ (slot_at cell g.slot, g.at_hand.value) ∷ cs → g.slot < 3 → slot ≡ g.slot →

@@ -122,7 +122,8 @@ impl<T: Lawful> FamilyTable<T> {
         requires place { cell < (triples self.now.rows.inner.shared.key.processes).cells }
         requires idle { (v : Process (TripleSight T)) × (g : ReaderNotes T) × HasReader seat.old.inner.me cell v g × (g.asked ≡ 0) }
         ensures own { seat.new.inner.table_id ≡ seat.old.inner.table_id }
-        ensures looked { looks T.fits T.rises (step self.now.rows.inner.shared.table_id.slots (8 * cell + 8) 0 0 none) seat.old.inner.me result
+        ensures looked { looks T.fits T.rises (step self.now.rows.inner.shared.table_id.slots (8 * cell + 8) 0 0 none)
+            seat.old.inner.me result
             seat.new.inner.me }
     {
         self.rows
@@ -139,7 +140,8 @@ impl<T: Lawful> FamilyTable<T> {
         requires marked { (v : Process (TripleSight T)) × (g : ReaderNotes T) × (cs : List (ℕ × T)) × HasReader seat.old.inner.me cell v g
             × (seat.old.inner.me.1 ≡ (slot_at cell g.slot, g.at_hand.value) ∷ cs) × (g.has ≡ 1) × (g.asked ≡ 1) × (new ≡ g.slot) }
         ensures own { seat.new.inner.table_id ≡ seat.old.inner.table_id }
-        ensures swapped { fetches T.fits T.rises (step self.now.rows.inner.shared.table_id.slots (8 * cell + 8) new 0 none) seat.old.inner.me result
+        ensures swapped { fetches T.fits T.rises (step self.now.rows.inner.shared.table_id.slots (8 * cell + 8) new 0 none)
+            seat.old.inner.me result
             seat.new.inner.me }
     {
         self.rows

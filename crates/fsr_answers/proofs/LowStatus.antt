@@ -15,7 +15,8 @@ use Rattle.fsr_race_answers.proofs.AnswerLemmas.{low_race}
 use Rattle.fsr_answers.specs.Answers.{IsFsrAnswer}
 
 module _ {F S T : Type 0} (family : FamilyWords F (Posted Band) S T) where
-  pub low_answer : (command : Want) (bytes : List ℕ) (r : Result Answer Fault) → GivesReply (IsFsrAnswer family command bytes) r → HasLowStatus r
+  pub low_answer : (command : Want) (bytes : List ℕ) (r : Result Answer Fault) →
+      GivesReply (IsFsrAnswer family command bytes) r → HasLowStatus r
   low_answer want.Check bytes r answered = low_check bytes r answered
   low_answer (want.Order show) bytes r answered = low_order show bytes r answered
   low_answer want.Play bytes r answered = low_play bytes r answered

@@ -13,7 +13,8 @@ use Rattle.fsr_answers.specs.Run.{is_unbounded, IsFsrOutcome}
 
 module _ {F S T : Type 0} (family : FamilyWords F (Posted Band) S T) where
   pub ends_wanted : (in_old in_new out_old out_new : Option (List ℕ)) (want : Want) (found : Option Want) (status : ℕ) → found ≡ Some want
-      → Runs (IsFsrOutcome family (Some want)) (is_unbounded (Some want)) in_old in_new out_old out_new status → Runs (IsFsrOutcome family found) (is_unbounded found) in_old in_new out_old out_new status
+      → Runs (IsFsrOutcome family (Some want)) (is_unbounded (Some want)) in_old in_new out_old out_new status →
+      Runs (IsFsrOutcome family found) (is_unbounded found) in_old in_new out_old out_new status
   ends_wanted in_old in_new out_old out_new want found status named runs =
       subst (λ f. Runs (IsFsrOutcome family f) (is_unbounded f) in_old in_new out_old out_new status) (sym named) runs
 
@@ -22,6 +23,7 @@ module _ {F S T : Type 0} (family : FamilyWords F (Posted Band) S T) where
   ends_refusal left out e found status refuses told =
       let P : Option Want → ℕ → Type 0 = λ f s. Runs (IsFsrOutcome family f) (is_unbounded f) left left out out s in
       ⊎_elim (λ (two : (status ≡ 2) × (found ≡ None)).
-      subst (P found) (sym two.0) (subst (λ f. P f 2) (sym two.1) (ends_unasked (IsFsrOutcome family None) (is_unbounded None) left out refl)))
+      subst (P found) (sym two.0)
+      (subst (λ f. P f 2) (sym two.1) (ends_unasked (IsFsrOutcome family None) (is_unbounded None) left out refl)))
       (λ (four : status ≡ 4). subst (P found) (sym four) (ends_at_once (IsFsrOutcome family found) (is_unbounded found) left out))
       (ends_refused e found status refuses told)

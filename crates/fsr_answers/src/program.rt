@@ -84,7 +84,8 @@ where
     requires input { HasRoom (I.failed input.old) }
     requires out { HasRoom (O.failed out.old) }
     requires faults { HasRoom (E.failed faults.old) }
-    ensures runs { Runs (IsFsrOutcome ⟦<F as Family<Posted<Band>>>⟧ (Some want)) (is_unbounded (Some want)) (I.remaining input.old) (I.remaining input.new)
+    ensures runs { Runs (IsFsrOutcome ⟦<F as Family<Posted<Band>>>⟧ (Some want))
+        (is_unbounded (Some want)) (I.remaining input.old) (I.remaining input.new)
         (O.contents out.old) (O.contents out.new) result }
     ensures fails { Fails (I.failed input.old) (I.failed input.new) (O.failed out.old)
         (O.failed out.new) result }

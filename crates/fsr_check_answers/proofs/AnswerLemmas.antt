@@ -20,7 +20,8 @@ pub answers_check : (document : CheckDocument) (given : List ℕ) (v : Verdict) 
 answers_check document given v a same is_verdict is_printed =
     let ops = document.history.ops in
     let on_order = subst (λ o. IsVerdict HaveSameFields document.history.opening document.history.terms ops o v) same is_verdict in
-    let by_value = subst (λ Same. IsVerdict Same document.history.opening document.history.terms ops document.order v) fields_are_equality on_order in
+    let by_value = subst (λ Same. IsVerdict Same document.history.opening document.history.terms ops document.order v)
+    fields_are_equality on_order in
     (v, by_value, is_printed)
 
 verdict_is_low : (v : Verdict) → status_of (exit_of v) ≤ 1

@@ -29,7 +29,8 @@ low_answer : (bytes : List ℕ) (r : Result Answer Fault) → GivesReply (IsLogA
 low_answer bytes (Ok a) answered = low_log (log_of bytes) a answered
 low_answer bytes (Err e) refused = search rules
 
-low_by : (show : Show) (in_lines : Bool) (bytes : List ℕ) (r : Result Answer Fault) → GivesReply (IsAnswerBy show in_lines bytes) r → HasLowStatus r
+low_by : (show : Show) (in_lines : Bool) (bytes : List ℕ) (r : Result Answer Fault) →
+    GivesReply (IsAnswerBy show in_lines bytes) r → HasLowStatus r
 low_by show true bytes r answered = low_lines show bytes r answered
 low_by show false bytes r answered = low_answer bytes r answered
 

@@ -1,5 +1,6 @@
 -- What was taken behind the front, and the front, are the input as it is to be taken.
-use Rattle.std.proofs.Common.{◌≡◌, ◌⊎◌, inl, inr, ◌<◌, ℕ, List, ◌++◌, length, Option, Result, Ok, Err, Vec, true, false, refl, arith, sym, ◌∙◌, subst}
+use Rattle.std.proofs.Common.{◌≡◌, ◌⊎◌, inl, inr, ◌<◌, ℕ, List, ◌++◌, length, Option, Result, Ok, Err, Vec, true, false, refl, arith, sym}
+use Rattle.std.proofs.Common.{◌∙◌, subst}
 use Rattle.std.proofs.KnownBytes.{Consumes-trans}
 use Rattle.std.specs.declared.alloc.Global.{Global}
 use Rattle.std.specs.Io.KnownBytes.{Consumes}
@@ -21,13 +22,15 @@ long_taken : (a b c : Option (List ℕ)) (front : List ℕ) → Consumes a b fro
 long_taken a b c front first long more next =
     (Consumes-trans a b c front more first next, never_both (front ++ more) (long_is_unbounded front more long))
 
-left_whole : (front : List ℕ) (left : Option (List ℕ)) → IsWholeInput never front left → (length front < most_taken) ⊎ (are_lines front ≡ false)
+left_whole : (front : List ℕ) (left : Option (List ℕ)) → IsWholeInput never front left →
+    (length front < most_taken) ⊎ (are_lines front ≡ false)
     → IsWholeInput are_lines front left
 left_whole front left (inl end) why = inl end
 left_whole front left (inr full) (inl short) = absurd (omega (arith, full.1, short))
 left_whole front left (inr full) (inr other) = inr (other, full.1)
 
-left_taken : (a b c : Option (List ℕ)) (front given : List ℕ) → TakesInBound never a b front → IsWholeInput never front b → IsLeft front b c given
+left_taken : (a b c : Option (List ℕ)) (front given : List ℕ) → TakesInBound never a b front →
+    IsWholeInput never front b → IsLeft front b c given
     → TakesInBound are_lines a c given × IsWholeInput are_lines given c
 left_taken a b c front given takes whole is =
     let here : TakesInBound are_lines a b front × IsWholeInput are_lines front b =
@@ -36,7 +39,8 @@ left_taken a b c front given takes whole is =
     subst (λ (o : Option (List ℕ)). TakesInBound are_lines a o front × IsWholeInput are_lines front o) (sym is.1) here in
     subst (λ (l : List ℕ). TakesInBound are_lines a c l × IsWholeInput are_lines l c) (sym is.0) there
 
-pub log_taken : (a b c : Option (List ℕ)) (front : List ℕ) (r : Result (Vec ℕ Global) ℕ) → TakesInBound never a b front × IsWholeInput never front b
+pub log_taken : (a b c : Option (List ℕ)) (front : List ℕ) (r : Result (Vec ℕ Global) ℕ) →
+    TakesInBound never a b front × IsWholeInput never front b
     → TakesBehind front b c r → TakesDocument are_lines a c r
 log_taken a b c front (Ok v) taken (inl left) = left_taken a b c front v.items taken.0 taken.1 left
 log_taken a b c front (Ok v) taken (inr more) =

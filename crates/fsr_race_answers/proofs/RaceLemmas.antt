@@ -146,7 +146,8 @@ module _ {F S T : Type 0} (family : FamilyWords F (Posted Band) S T) where
   pub race_worked : (may_call may_stop : ℕ → ℕ → Type 0) (limit n : ℕ) (first : Posted Band) (scripts : List (List (Wish Band)))
       (board : Board Band F S T) (passes : List (Pass Band F S T)) (lanes before after ended : List (Lane Band F S T))
       → IsNew family fits n limit first board passes → AreLanes fits passes scripts lanes
-      → before ≡ lanes → EachStep (Ran family fits may_call may_stop board) 0 before after → ended ≡ after → HaveWorked family fits board ended
+      → before ≡ lanes → EachStep (Ran family fits may_call may_stop board) 0 before after →
+      ended ≡ after → HaveWorked family fits board ended
   race_worked may_call may_stop limit n first scripts board passes lanes before after ended new are same ran end =
       let two = new.size.0 in
       let begun : AreLanes fits passes scripts before = subst (AreLanes fits passes scripts) (sym same) are in
@@ -174,12 +175,14 @@ module _ {F S T : Type 0} (family : FamilyWords F (Posted Band) S T) where
       → (AreOfRun opening (map (λ v. v.items) checked) → origin ≡ Sound)
       → broken ≡ broken_at origin
       → IsRace family may_call may_stop opening limit scripts (Race tasks broken)
-  race_of may_call may_stop opening limit n scripts board passes lanes before after ended logs counted checked last origin tasks broken count new are
+  race_of may_call may_stop opening limit n scripts board passes lanes before
+      after ended logs counted checked last origin tasks broken count new are
       same ran end given greatest atomic ordered these counts those found finds told =
       let items : List (Vec (Entry Band) Global) → List (List (Entry Band)) = map (λ (v : Vec (Entry Band) Global). v.items) in
       let first : board.first.item ≡ opening = ap (λ (z : Posted Band). z.item) new.opened in
       let worked : HaveWorked family fits board ended =
-      race_worked may_call may_stop limit n (record { stamp = first_stamp; item = opening }) scripts board passes lanes before after ended new are
+      race_worked may_call may_stop limit n (record { stamp = first_stamp; item = opening })
+      scripts board passes lanes before after ended new are
       same ran end in
       let run : AreOfRun opening (logs_of ended) =
       subst (λ z. AreOfRun z (logs_of ended)) first (atomic_run family fits board ended last worked atomic) in

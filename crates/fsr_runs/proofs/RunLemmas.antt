@@ -7,7 +7,8 @@ use Rattle.std.specs.Io.{StartsWith}
 use Rattle.std.specs.Io.KnownBytes.{Appends}
 use Rattle.fsr_streams.specs.Transfer.{IsWhole as IsInputWhole, TakesBytes as TakesInput}
 use Rattle.fsr_runs.specs.Answers.{GivesReply, HasLowStatus}
-use Rattle.fsr_runs.specs.Run.{CountsTaking, Fails, GivesAnswer, IsToldBy, IsWholeInput, never, Runs, TakesInBound, TakesDocument, TellsFault, fault_status, nothing_asked}
+use Rattle.fsr_runs.specs.Run.{CountsTaking, Fails, GivesAnswer, IsToldBy, IsWholeInput, never, Runs, TakesInBound, TakesDocument}
+use Rattle.fsr_runs.specs.Run.{TellsFault, fault_status, nothing_asked}
 use Rattle.fsr_runs.specs.declared.fault.Answer.{Answer}
 use Rattle.fsr_runs.specs.declared.fault.Fault.{Fault}
 use Rattle.fsr_runs.specs.declared.fault.Fault.TheVariants as fault
@@ -93,7 +94,8 @@ module _ (IsOutcome : List ℕ → Answer → Type 0) (is_unbounded : List ℕ �
   }
 
   -- the input wasn't taken whole
-  pub ends_untaken : (in_old in_new out : Option (List ℕ)) (failed_old failed_new status : ℕ) → TakesDocument is_unbounded in_old in_new (Err status)
+  pub ends_untaken : (in_old in_new out : Option (List ℕ)) (failed_old failed_new status : ℕ) →
+      TakesDocument is_unbounded in_old in_new (Err status)
       → CountsTaking failed_old failed_new (Err status) → Runs IsOutcome is_unbounded in_old in_new out out status
   ends_untaken in_old in_new out failed_old failed_new status takes (inl failed) =
       subst (Runs IsOutcome is_unbounded in_old in_new out out) (sym failed.0) (ends_unread in_old in_new out takes.0 takes.1)
@@ -118,7 +120,8 @@ fails_untaken in_old in_new out status (inr full) = record {
 pub fails_unused : (input out status : ℕ) → (status ≡ 2) ⊎ (status ≡ 4) → Fails input input out out status
 fails_unused input out status ended = record {
   five = (
-    λ (five : status ≡ 5). absurd (⊎_elim (λ (two : status ≡ 2). omega (arith, two, five)) (λ (four : status ≡ 4). omega (arith, four, five)) ended),
+    λ (five : status ≡ 5). absurd (⊎_elim (λ (two : status ≡ 2). omega (arith, two, five))
+        (λ (four : status ≡ 4). omega (arith, four, five)) ended),
     ⊎_elim (λ (rose : input < input). absurd (omega (arith, rose))) (λ (rose : out < out). absurd (omega (arith, rose))),
   );
   once = omega arith;
@@ -186,21 +189,28 @@ module _ (IsReply : List ℕ → Result Answer Fault → Type 0) (is_unbounded :
       → GivesReply (IsReply taken) reply → HasLowStatus reply → GivesAnswer reply out_old out_new failed_old failed_new status
       → Runs (IsToldBy IsReply) is_unbounded in_old in_new out_old out_new status
   ends_given out_old out_new failed_old failed_new status (Ok a) answered low (inl told) =
-      subst (Runs (IsToldBy IsReply) is_unbounded in_old in_new out_old out_new) (sym told.2) (ends_told out_old out_new a answered low told.0)
+      subst (Runs (IsToldBy IsReply) is_unbounded in_old in_new out_old out_new)
+      (sym told.2) (ends_told out_old out_new a answered low told.0)
   ends_given out_old out_new failed_old failed_new status (Ok a) answered low (inr cut) =
       subst (Runs (IsToldBy IsReply) is_unbounded in_old in_new out_old out_new) (sym cut.2)
       (ends_cut out_old out_new a cut.0.0 answered cut.0.1 cut.0.2)
   ends_given out_old out_new failed_old failed_new status (Err f) refused low told =
       let P : Option (List ℕ) → ℕ → Type 0 = λ out s. Runs (IsToldBy IsReply) is_unbounded in_old in_new out_old out s in
-      subst (λ out. P out status) (sym told.0) (⊎_elim (λ (same : status ≡ fault_status f). subst (P out_old) (sym same) (ends_refused out_old f refused))
-      (λ (four : status ≡ 4). subst (P out_old) (sym four) (ends_without_memory (IsToldBy IsReply) is_unbounded in_old in_new out_old taken takes)) told.2)
+      subst (λ out. P out status) (sym told.0)
+      (⊎_elim (λ (same : status ≡ fault_status f). subst (P out_old) (sym same) (ends_refused out_old f refused))
+      (λ (four : status ≡ 4). subst (P out_old) (sym four)
+      (ends_without_memory (IsToldBy IsReply) is_unbounded in_old in_new out_old taken takes)) told.2)
 
 -- the input was answered, as these bytes, and the answer given
-pub ends_answered : (IsReply : List ℕ → Result Answer Fault → Type 0) (is_unbounded : List ℕ → Bool) (in_old in_new out_old out_new : Option (List ℕ)) (taken given : List ℕ)
+pub ends_answered : (IsReply : List ℕ → Result Answer Fault → Type 0) (is_unbounded : List ℕ → Bool)
+    (in_old in_new out_old out_new : Option (List ℕ)) (taken given : List ℕ)
     (failed_old failed_new status : ℕ) (reply : Result Answer Fault)
-    → TakesInBound is_unbounded in_old in_new taken × IsWholeInput is_unbounded taken in_new → given ≡ taken → GivesReply (IsReply given) reply → HasLowStatus reply
-    → GivesAnswer reply out_old out_new failed_old failed_new status → Runs (IsToldBy IsReply) is_unbounded in_old in_new out_old out_new status
-ends_answered IsReply is_unbounded in_old in_new out_old out_new taken given failed_old failed_new status reply takes same answered low told =
+    → TakesInBound is_unbounded in_old in_new taken × IsWholeInput is_unbounded taken in_new →
+    given ≡ taken → GivesReply (IsReply given) reply → HasLowStatus reply
+    → GivesAnswer reply out_old out_new failed_old failed_new status →
+    Runs (IsToldBy IsReply) is_unbounded in_old in_new out_old out_new status
+ends_answered IsReply is_unbounded in_old in_new out_old out_new taken given failed_old
+    failed_new status reply takes same answered low told =
     ends_given IsReply is_unbounded in_old in_new taken takes.0 takes.1 out_old out_new failed_old failed_new status reply
     (subst (λ bytes. GivesReply (IsReply bytes) reply) same answered) low told
 
@@ -228,8 +238,10 @@ fails_answered in_old in_new out_old out_new status old new (Ok a) same low (inr
 }
 fails_answered in_old in_new out_old out_new status old new (Err f) same low told = record {
   five = (
-    λ (five : status ≡ 5). absurd (⊎_elim (λ (e : status ≡ fault_status f). absurd (no_stream f (sym e ∙ five))) (λ (e : status ≡ 4). omega (arith, five, e)) told.2),
-    ⊎_elim (λ (rose : in_old < in_new). absurd (omega (arith, rose, same))) (λ (rose : out_old < out_new). absurd (omega (arith, rose, told.1))),
+    λ (five : status ≡ 5). absurd (⊎_elim (λ (e : status ≡ fault_status f). absurd (no_stream f (sym e ∙ five)))
+        (λ (e : status ≡ 4). omega (arith, five, e)) told.2),
+    ⊎_elim (λ (rose : in_old < in_new). absurd (omega (arith, rose, same)))
+        (λ (rose : out_old < out_new). absurd (omega (arith, rose, told.1))),
   );
   once = omega (arith, same, told.1);
 }

@@ -7,7 +7,8 @@ use Rattle.std.proofs.Math.Seq.{take-add}
 use Rattle.std.specs.Io.KnownBytes.{Consumes, Appends}
 
 -- what was taken before, and a piece more that wasn't added
-pub takes_piece : (a b c : Option (List ℕ)) (start before : List ℕ) (most : ℕ) → (taken : List ℕ) × Consumes a b taken × (before ≡ start ++ taken)
+pub takes_piece : (a b c : Option (List ℕ)) (start before : List ℕ) (most : ℕ) →
+    (taken : List ℕ) × Consumes a b taken × (before ≡ start ++ taken)
     → (taken : List ℕ) × Consumes b c taken × (length before + length taken ≤ most)
     → (taken : List ℕ) × Consumes a c taken × (length start ≤ most → length start + length taken ≤ most)
 takes_piece a b c start before most first more = (

@@ -62,7 +62,8 @@ fn read_up_to<I: Source>(input: &mut I, bytes: &mut Vec<u8>, most: usize) -> Res
     Ok(())
 }
 
-/// TakesInput the next piece of the input, and adds it to the bytes, of which there are no more than so many then. The count is 0 at the end
+/// TakesInput the next piece of the input, and adds it to the bytes, of which there are no more than so many then. The count is 0 at the
+/// end
 /// alone.
 fn take_more<I: Source>(
     input: &mut I,

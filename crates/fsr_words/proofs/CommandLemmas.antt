@@ -47,7 +47,8 @@ want_nowhere None e = refl
 want_nowhere (Some p) e = absurd (none-some p.1 e)
 
 -- a flag is there if its value is `true`
-pub told_by_value : (o : Option Text) (value : Text) (told : Bool) → Some value ≡ o → told ≡ bytes_eq value (codes "true") → told ≡ is_true o
+pub told_by_value : (o : Option Text) (value : Text) (told : Bool) → Some value ≡ o →
+    told ≡ bytes_eq value (codes "true") → told ≡ is_true o
 told_by_value None value told e is = absurd (none-some value (sym e))
 told_by_value (Some v) value told e is = is ∙ ap (λ (t : Text). bytes_eq t (codes "true")) (same_Some value v e)
 

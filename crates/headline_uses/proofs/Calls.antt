@@ -1,5 +1,6 @@
 -- What a call says of itself, by its parts.
-use Rattle.std.proofs.Common.{◌≡◌, ◌≢◌, Bool, IsTrue, ℕ, ◌+◌, ◌<◌, ◌≤◌, true, false, zero, suc, List, [], ◌∷◌, ◌++◌, length, slice_get, Some, All}
+use Rattle.std.proofs.Common.{◌≡◌, ◌≢◌, Bool, IsTrue, ℕ, ◌+◌, ◌<◌, ◌≤◌, true, false, zero, suc, List, [], ◌∷◌, ◌++◌, length, slice_get}
+use Rattle.std.proofs.Common.{Some, All}
 use Rattle.std.proofs.Common.{refl, sym, ◌∙◌, ap, subst, ◌⊎◌, inl, inr, arith}
 use Rattle.std.proofs.lemmas.List.Elements.{All-get_or}
 use Rattle.std.proofs.lemmas.Option.{get_or_from_slice_get, none-some, same_Some, slice_get_within}

@@ -1,5 +1,6 @@
 -- The calls of a run are operations of its history, which its order lists; so what an atomic order says of operations it says of calls.
-use Rattle.std.proofs.Common.{◌≡◌, ◌≢◌, ℕ, zero, suc, ◌+◌, ◌<◌, ◌≤◌, true, false, List, [], ◌∷◌, length, slice_get, take, unwrap_or, Option, None, Some}
+use Rattle.std.proofs.Common.{◌≡◌, ◌≢◌, ℕ, zero, suc, ◌+◌, ◌<◌, ◌≤◌, true, false, List, [], ◌∷◌, length, slice_get, take, unwrap_or, Option}
+use Rattle.std.proofs.Common.{None, Some}
 use Rattle.std.proofs.Common.{refl, sym, ◌∙◌, ap, subst, ◌⊎◌, inl, inr, arith}
 use Rattle.std.proofs.lemmas.Bool.{cases_eq, cases_order}
 use Rattle.std.proofs.lemmas.Option.{none-some, same_Some, slice_get_within}
@@ -113,7 +114,8 @@ module _ {V F S T : Type 0} (words : FamilyWords F (Posted V) S T) (board : Boar
       let at_x = stands i k w x in
       let at_y = stands j m r y in
       let starts : w.end < y.op.starts = let z = y.begins in omega (arith, z, later) in
-      let before = intervals board.first.item run.ops run.order at_x.0 at_y.0 x.place y.place w.end x.op y.op run.atomic at_x.1 at_y.1 x.there
+      let before = intervals board.first.item run.ops run.order at_x.0 at_y.0
+      x.place y.place w.end x.op y.op run.atomic at_x.1 at_y.1 x.there
       y.there (apart i k j m w r only.kind reads x y) x.ends starts in
       let has = read_at board.first.item run.ops run.order at_y.0 y.place y.op run.atomic at_y.1 y.there (y.kind ∙ reads) in
       let there = is_there board.first.item run.ops x.place at_x.0 x.op (take at_y.0 run.order) x.there (same_place i k w only x)
@@ -124,7 +126,8 @@ module _ {V F S T : Type 0} (words : FamilyWords F (Posted V) S T) (board : Boar
   ends_with i k w only =
       let x = placed i k w only.inside only.there in
       let at_x = stands i k w x in
-      let there = is_there board.first.item run.ops x.place at_x.0 x.op run.order x.there (same_place i k w only x) (x.kind ∙ only.kind) at_x.1 in
+      let there = is_there board.first.item run.ops x.place at_x.0 x.op run.order x.there
+      (same_place i k w only x) (x.kind ∙ only.kind) at_x.1 in
       the_item last.item w.chosen.item (sym run.holds ∙ there ∙ x.item)
 
   no_writes : ((i k : ℕ) (c : Called V) → i < board.processes → slice_get (did i).calls k ≡ Some c → c.kind ≢ Write) →
@@ -157,7 +160,8 @@ module _ {V F S T : Type 0} (words : FamilyWords F (Posted V) S T) (board : Boar
             let before = intervals board.first.item run.ops run.order at_x.0 at_y.0 x.place y.place a.end x.op y.op run.atomic at_x.1 at_y.1
             x.there y.there other x.ends starts in
             at_most a.chosen.stamp b.chosen.stamp x.place y.place x.op y.op
-            (run.by_stamp.sorted at_x.0 at_y.0 x.place y.place x.op y.op a.chosen.stamp b.chosen.stamp before (at_x.1, x.there) (at_y.1, y.there)
+            (run.by_stamp.sorted at_x.0 at_y.0 x.place y.place x.op y.op a.chosen.stamp b.chosen.stamp before
+            (at_x.1, x.there) (at_y.1, y.there)
             x.stamp y.stamp)
       ]
 

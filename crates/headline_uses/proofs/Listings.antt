@@ -1,5 +1,6 @@
 -- What an order says of unfinished and refused writes, and a verdict of the rules.
-use Rattle.std.proofs.Common.{◌≡◌, ℕ, ◌≤◌, List, take, slice_get, Option, None, Some, true, false, option_and_then, refl, sym, ◌∙◌, ap, subst, arith}
+use Rattle.std.proofs.Common.{◌≡◌, ℕ, ◌≤◌, List, take, slice_get, Option, None, Some, true, false, option_and_then, refl, sym, ◌∙◌, ap}
+use Rattle.std.proofs.Common.{subst, arith}
 use Rattle.std.proofs.lemmas.Option.{slice_get_within}
 use Rattle.history_core.specs.declared.history.Op.{Op}
 use Rattle.history_core.specs.declared.history.Kind.{Kind}

@@ -1,5 +1,6 @@
 -- The parts of a pass and of a call; the steps of a call are those of one access or of two.
-use Rattle.std.proofs.Common.{◌≡◌, ◌⊎◌, Bool, ℕ, ◌+◌, ◌-◌, ◌*◌, true, false, List, [], ◌∷◌, length, refl, sym, ◌∙◌, ap, subst, inl, inr, arith}
+use Rattle.std.proofs.Common.{◌≡◌, ◌⊎◌, Bool, ℕ, ◌+◌, ◌-◌, ◌*◌, true, false, List, [], ◌∷◌, length, refl, sym, ◌∙◌, ap, subst, inl, inr}
+use Rattle.std.proofs.Common.{arith}
 use Rattle.std.proofs.Common.{All, slice_get, Some}
 use Rattle.std.proofs.lemmas.List.Elements.{All-get_or}
 use Rattle.std.proofs.lemmas.Option.{get_or_from_slice_get, slice_get_within}
@@ -50,12 +51,14 @@ module _ {V F S T : Type 0} (words : FamilyWords F (Posted V) S T) (obeys : V �
         h.2,
         h.3,
         h.4,
-        λ k told at. (all_there (λ t. IsHeeded t (words.reads new.seat h.0).known h.1) (words.reads new.seat h.0).heard k told h.5 at).later,
+        λ k told at. (all_there (λ t. IsHeeded t (words.reads new.seat h.0).known h.1)
+            (words.reads new.seat h.0).heard k told h.5 at).later,
       )
     ],
     at_most old.own seen call.rises,
     at_most seen new.own call.onward,
-    λ two one. one_or_two words.width board.processes (length (words.times old.seat)) (length (words.times new.seat)) call.tells two one call.steps,
+    λ two one. one_or_two words.width board.processes (length (words.times old.seat))
+        (length (words.times new.seat)) call.tells two one call.steps,
     λ h. (
       record { begin = call.begin; end = call.end; kind = kind; seen = stamped seen; chosen = stamped new.own; tells = call.tells },
       call.made [] h,

@@ -1,5 +1,6 @@
 -- The consequences of an atomic order, by its parts.
-use Rattle.std.proofs.Common.{◌≡◌, ◌≢◌, ℕ, ◌+◌, ◌<◌, ◌≤◌, zero, suc, true, ◌&&◌, List, [], ◌∷◌, length, take, drop, slice_get, Option, None, Some}
+use Rattle.std.proofs.Common.{◌≡◌, ◌≢◌, ℕ, ◌+◌, ◌<◌, ◌≤◌, zero, suc, true, ◌&&◌, List, [], ◌∷◌, length, take, drop, slice_get, Option, None}
+use Rattle.std.proofs.Common.{Some}
 use Rattle.std.proofs.Common.{IsSomeAnd, nat_le, refl, sym, ◌∙◌, ap, subst, ◌⊎◌, inl, inr, arith}
 use Rattle.std.proofs.lemmas.Bool.Decides.{nat_tests}
 use Rattle.std.proofs.lemmas.Option.{none-some, same_Some, slice_get_within}
@@ -8,7 +9,8 @@ use Rattle.history_core.specs.declared.history.Op.{Op}
 use Rattle.history_core.specs.declared.history.Kind.{Kind}
 use Rattle.history_core.specs.declared.history.Kind.TheVariants.{Write, Read, Refused}
 use Rattle.history_core.specs.Orders.{IsAtomicOrder, in_term, latest, listed_at, MayStand, Precedes, ReadsRight, RefusesLawfully, times_of}
-use Rattle.headline_uses.specs.Orders.{HasWhatIsThere, IsOnlyWrite, KeepsIntervals, ListsEachOnce, ListsNothingElse, StaleIsAbsurd, WaitsForTheLimit}
+use Rattle.headline_uses.specs.Orders.{HasWhatIsThere, IsOnlyWrite, KeepsIntervals, ListsEachOnce, ListsNothingElse, StaleIsAbsurd}
+use Rattle.headline_uses.specs.Orders.{WaitsForTheLimit}
 use Rattle.headline_uses.proofs.Listed.{alone, listed}
 use Rattle.headline_uses.proofs.Latest.{counts_none, is_there}
 use Rattle.history_reasons.proofs.Counts.{times_some}

@@ -1,5 +1,6 @@
 -- One call of a process and one write of a register leave one value to each list.
-use Rattle.std.proofs.Common.{◌≡◌, ℕ, zero, suc, ◌+◌, ◌<◌, ◌≤◌, true, false, List, [], ◌∷◌, length, slice_get, Some, refl, sym, ◌∙◌, ap, subst, arith}
+use Rattle.std.proofs.Common.{◌≡◌, ℕ, zero, suc, ◌+◌, ◌<◌, ◌≤◌, true, false, List, [], ◌∷◌, length, slice_get, Some, refl, sym, ◌∙◌, ap}
+use Rattle.std.proofs.Common.{subst, arith}
 use Rattle.std.proofs.lemmas.Option.{none-some, same_Some}
 use Rattle.history_core.specs.declared.history.Kind.{Kind}
 use Rattle.stamps.specs.declared.stamp.Stamped.{Stamped}
@@ -52,8 +53,10 @@ module _ {V : Type 0} where
         λ k. chosen_by k chose,
       )
     where
-      chosen_by : {one other : Kind} → one ≡ other → ChoosesByKind limit (record { place = 0; who = 0; kind = kind; stamp = chosen.stamp; item = chosen.item })
-          one seen.stamp seen.item → ChoosesByKind limit (record { place = 0; who = 0; kind = kind; stamp = chosen.stamp; item = chosen.item })
+      chosen_by : {one other : Kind} → one ≡ other →
+          ChoosesByKind limit (record { place = 0; who = 0; kind = kind; stamp = chosen.stamp; item = chosen.item })
+          one seen.stamp seen.item →
+          ChoosesByKind limit (record { place = 0; who = 0; kind = kind; stamp = chosen.stamp; item = chosen.item })
           other seen.stamp seen.item
       chosen_by e h = subst (λ z. ChoosesByKind limit (record { place = 0; who = 0; kind = kind; stamp = chosen.stamp; item = chosen.item })
           z seen.stamp seen.item) e h

@@ -60,10 +60,12 @@ module _ (T : Type 0) where
   -- a read after the receipt of a pass that had written these records gives one that was written, no older than the last of these, and the
   -- writes known have their intervals
   abbrev pub AnswersTheWriter : Type 0
-  AnswersTheWriter = (opening : T) (written : List T) (writes : Times) (heard : List (Known T)) (k : ℕ) (old new : Known T) (before after : List ℕ)
+  AnswersTheWriter = (opening : T) (written : List T) (writes : Times) (heard : List (Known T))
+      (k : ℕ) (old new : Known T) (before after : List ℕ)
       (answers : List T) (reads : Times) (answer : T) → slice_get heard k ≡ Some (known_as written writes) →
       AreHeeded heard new (last_or 0 after) → IsNextAnswer opening old new before after answers reads answer →
-      IsNoOlder opening written answer × ((j t : ℕ) → At writes.begins j t → At new.times.begins j t) × ((j t : ℕ) → At writes.ends j t → At new.times.ends j t)
+      IsNoOlder opening written answer × ((j t : ℕ) → At writes.begins j t → At new.times.begins j t)
+      × ((j t : ℕ) → At writes.ends j t → At new.times.ends j t)
 
   -- of a pass that had written x and then y the answer is y, if no write more is known; and no answer stands before y alone
   abbrev pub AnswersNothingStale : Type 0

@@ -34,7 +34,8 @@ module _ {V F S T : Type 0} (words : FamilyWords F (Posted V) S T) where
 
   -- atomic registers show the opening where nothing was told
   abbrev pub RegistersShow : Type 0
-  RegistersShow = (board : Board V F S T) (passes : List (Pass V F S T)) → AllAtomic words board passes → AnswersTheOpening words board passes
+  RegistersShow = (board : Board V F S T) (passes : List (Pass V F S T)) → AllAtomic words board passes →
+      AnswersTheOpening words board passes
 
   -- between calls no write is under way, and what a reader knows of is the first of what was written
   abbrev pub RegistersHaveEnded : Type 0

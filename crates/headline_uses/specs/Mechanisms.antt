@@ -85,7 +85,8 @@ module _ (R : Type 0) where
       × (IsSafe first noise (record { slot = b; begins = begin; ends = Some end; item = x } ∷ [])
       (record { slot = a; begins = from; ends = to; answer = answer }) → b ≢ a → answer ≡ first a)
       -- of two that had ended before the later one counts
-      × (IsSafe first noise (record { slot = a; begins = begin; ends = Some end; item = x } ∷ record { slot = a; begins = begin; ends = Some end; item = y } ∷ [])
+      × (IsSafe first noise (record { slot = a; begins = begin; ends = Some end; item = x } ∷
+      record { slot = a; begins = begin; ends = Some end; item = y } ∷ [])
       (record { slot = a; begins = from; ends = to; answer = answer }) → end < from → answer ≡ y)
 
   -- a cell over safe slots has a slot write for each write that has begun one, and each of its answers is that of a slot read

@@ -13,7 +13,8 @@ IsOnlyWrite {R} ops p = (q : ℕ) (op : Op R) → slice_get ops q ≡ Some op �
 module _ (R : Type 0) where
   -- an operation that ended stands at one place of the order
   abbrev pub ListsEachOnce : Type 0
-  ListsEachOnce = (opening : R) (ops : List (Op R)) (order : List ℕ) (p end : ℕ) (op : Op R) → IsAtomicOrder (λ x y. x ≡ y) opening ops order →
+  ListsEachOnce = (opening : R) (ops : List (Op R)) (order : List ℕ) (p end : ℕ) (op : Op R) →
+      IsAtomicOrder (λ x y. x ≡ y) opening ops order →
       slice_get ops p ≡ Some op → op.ends ≡ Some end →
       (i : ℕ) × (slice_get order i ≡ Some p) × ((j : ℕ) → slice_get order j ≡ Some p → j ≡ i)
 
@@ -30,7 +31,8 @@ module _ (R : Type 0) where
 
   -- a read has the record that is there
   abbrev pub HasWhatIsThere : Type 0
-  HasWhatIsThere = (opening : R) (ops : List (Op R)) (order : List ℕ) (i p : ℕ) (op : Op R) → IsAtomicOrder (λ x y. x ≡ y) opening ops order →
+  HasWhatIsThere = (opening : R) (ops : List (Op R)) (order : List ℕ) (i p : ℕ) (op : Op R) →
+      IsAtomicOrder (λ x y. x ≡ y) opening ops order →
       slice_get order i ≡ Some p → slice_get ops p ≡ Some op → op.kind ≡ Read →
       (item : R) × (op.item ≡ Some item) × (latest opening ops (take i order) ≡ Some item)
 
@@ -50,12 +52,14 @@ module _ (R : Type 0) where
 
   -- an unfinished write stands at one place at most
   abbrev pub StandsOnceAtMost : Type 0
-  StandsOnceAtMost = (opening : R) (ops : List (Op R)) (order : List ℕ) (p i j : ℕ) (op : Op R) → IsAtomicOrder (λ x y. x ≡ y) opening ops order →
+  StandsOnceAtMost = (opening : R) (ops : List (Op R)) (order : List ℕ) (p i j : ℕ) (op : Op R) →
+      IsAtomicOrder (λ x y. x ≡ y) opening ops order →
       slice_get ops p ≡ Some op → op.ends ≡ None → op.kind ≡ Write → slice_get order i ≡ Some p → slice_get order j ≡ Some p → j ≡ i
 
   -- a refused write saw the record that is there, and a write has one
   abbrev pub SawWhatIsThere : Type 0
-  SawWhatIsThere = (opening : R) (ops : List (Op R)) (order : List ℕ) (i p : ℕ) (op : Op R) → IsAtomicOrder (λ x y. x ≡ y) opening ops order →
+  SawWhatIsThere = (opening : R) (ops : List (Op R)) (order : List ℕ) (i p : ℕ) (op : Op R) →
+      IsAtomicOrder (λ x y. x ≡ y) opening ops order →
       slice_get order i ≡ Some p → slice_get ops p ≡ Some op →
       (op.kind ≡ Refused → (item : R) × (op.item ≡ Some item) × (latest opening ops (take i order) ≡ Some item))
       × (op.kind ≡ Write → (item : R) × (op.item ≡ Some item))

@@ -18,7 +18,8 @@ module _ {V F S T : Type 0} (words : FamilyWords F (Posted V) S T) (obeys : V �
   -- stamp falls; of two processes it takes the steps of one access or of two; and if it is the first call of its pass, it is the only one
   -- that was made with it
   abbrev pub CallsShow : Type 0
-  CallsShow = (board : Board V F S T) (kind : Kind) (old new : Pass V F S T) (seen : Posted V) → IsCall words obeys board kind old new seen →
+  CallsShow = (board : Board V F S T) (kind : Kind) (old new : Pass V F S T) (seen : Posted V) →
+      IsCall words obeys board kind old new seen →
       (new.process ≡ old.process)
       × ((seen ≡ old.own) ⊎ ((j : ℕ) × (number : ℕ) × (j < board.processes) × (j ≢ old.process)
       × (slice_get (board.first ∷ (words.reads new.seat j).known.items) number ≡ Some seen)

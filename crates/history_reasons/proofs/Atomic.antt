@@ -37,7 +37,8 @@ shares Same a b h =
     let w = shares_items Same a.item b.item h in
     record { x = w.0; y = w.1; has_x = w.2; has_y = w.3; same = w.4 }
 
-pub of_one : {R : Type 0} (Same : R → R → Type 0) (a b : Op R) (x y : R) → a.item ≡ Some x → b.item ≡ Some y → Same x y → OfOneRecord Same a b
+pub of_one : {R : Type 0} (Same : R → R → Type 0) (a b : Op R) (x y : R) → a.item ≡ Some x →
+    b.item ≡ Some y → Same x y → OfOneRecord Same a b
 of_one {R} Same a b x y ex ey h =
     let P : Option R → Option R → Type 0 = λ i k. IsSomeAnd i (λ x. IsSomeAnd k (λ y. Same x y)) in
     subst (λ i. P i b.item) (sym ex) (subst (λ k. P (Some x) k) (sym ey) h)
@@ -79,7 +80,8 @@ module _ {R : Type 0} (Same : R → R → Type 0) where
       let e : w.0 ≡ v.y = same_Some w.0 v.y (sym w.1 ∙ v.has_y) in
       of_opening Same opening a v.x v.has_x (alike.join v.x v.y opening v.same (subst (λ z. Same z opening) e w.2))
 
-  pub both_opened : IsAlike Same → (opening : R) (a b : Op R) → IsOfOpening Same opening a → IsOfOpening Same opening b → OfOneRecord Same a b
+  pub both_opened : IsAlike Same → (opening : R) (a b : Op R) → IsOfOpening Same opening a →
+      IsOfOpening Same opening b → OfOneRecord Same a b
   both_opened alike opening a b h k =
       let v = some_and_of (λ x. Same x opening) a.item h in
       let w = some_and_of (λ x. Same x opening) b.item k in
@@ -170,7 +172,8 @@ times_up order p i j ij jl ei ej =
     times_more order i p (omega arith) ∙ ap (λ b. times_of p (take i order) + (if b then 1 else 0)) (yes i ei) in
     let b : times_of p (take (j + 1) order) ≡ times_of p (take j order) + 1 =
     times_more order j p jl ∙ ap (λ b. times_of p (take j order) + (if b then 1 else 0)) (yes j ej) in
-    let e : times_of p (take (i + 1) (take j order)) ≡ times_of p (take (i + 1) order) = ap (times_of p) (take-take (i + 1) j order (omega arith)) in
+    let e : times_of p (take (i + 1) (take j order)) ≡ times_of p (take (i + 1) order) =
+    ap (times_of p) (take-take (i + 1) j order (omega arith)) in
     let c : times_of p (take (i + 1) (take j order)) ≤ times_of p (take j order) = times_take_le (take j order) (i + 1) p in
     let d : times_of p (take (j + 1) order) ≤ times_of p order = times_take_le order (j + 1) p in
     omega arith
@@ -204,7 +207,8 @@ module _ {R : Type 0} (Same : R → R → Type 0) (opening : R) (ops : List (Op 
   stands_once_at i j p ei ej =
       let l : p < length ops = atomic.listing.places i p ei in
       elim (slice_get_cases ops p).1 [
-        | inl w ↦ once_at order p i j (stands_once w.0.ends w.0.kind (times_of p order) (atomic.listing.stands p w.0 (omega arith) l w.2)) ei ej
+        | inl w ↦ once_at order p i j (stands_once w.0.ends w.0.kind (times_of p order) (atomic.listing.stands p w.0 (omega arith) l w.2))
+            ei ej
         | inr w ↦ absurd (omega (arith, w.0))
       ]
 

@@ -99,7 +99,8 @@ front_get (y ∷ xs) (suc n) (suc k) x l h = front_get xs n k x (omega arith) h
 pub of_one_term : {R : Type 0} (limit : ℕ) (ops : List (Op R)) (order : List ℕ) →
     writes_in (in_term (record { first = 0; limit = limit }) []) ops order ≡ writes_in (λ _. true) ops order
 of_one_term limit ops order =
-    count_agree (λ q. in_term (record { first = 0; limit = limit }) [] q && is_write_at (slice_get ops q)) (λ q. true && is_write_at (slice_get ops q)) order
+    count_agree (λ q. in_term (record { first = 0; limit = limit }) [] q && is_write_at (slice_get ops q))
+    (λ q. true && is_write_at (slice_get ops q)) order
     (λ i p e. let t : nat_le 0 p ≡ true = grind (arith, nat_tests) in ap (λ b. (b && true) && is_write_at (slice_get ops p)) t)
 
 -- one more entry, which is a write or not

@@ -10,7 +10,8 @@ use Rattle.history_core.specs.declared.history.Op.{Op}
 use Rattle.history_core.specs.declared.history.Term.{Term}
 use Rattle.history_core.specs.declared.history.Kind.TheVariants.{Refused}
 use Rattle.history_core.specs.declared.history.Verdict.TheVariants.{Lawful}
-use Rattle.history_core.specs.Orders.{in_term, IsAtomicOrder, IsVerdict, is_write, is_write_at, KeepsLimit, Precedes, RefusesLawfully, writes_in}
+use Rattle.history_core.specs.Orders.{in_term, IsAtomicOrder, IsVerdict, is_write, is_write_at, KeepsLimit, Precedes, RefusesLawfully}
+use Rattle.history_core.specs.Orders.{writes_in}
 use Rattle.history_core.proofs.Listed.{some_and_from, some_and_of}
 use Rattle.history_core.proofs.Listing.{times_cases}
 use Rattle.history_search.specs.declared.rank.Rank.{Rank}
@@ -33,7 +34,8 @@ use Rattle.history_search.specs.inner.Ranks.{asks_in, begin_in, cut_after, end_i
 use Rattle.history_reasons.proofs.Atomic.{IsSearched, led, no_crossing, no_early, no_stale, no_unwritten, opened, stands, turned}
 use Rattle.history_reasons.proofs.Counts.{counted, count_up, get_front, of_one_term}
 use Rattle.history_search.proofs.Cuts.{cut_closed, cut_start, cut_step, IsCut, late_by, turned_of, uncrossed}
-use Rattle.history_search.proofs.Groups.{AllHaveGroups, finished_or, has, is_crossed, is_early, is_stale, is_unwritten, none_early, none_stale}
+use Rattle.history_search.proofs.Groups.{AllHaveGroups, finished_or, has, is_crossed, is_early, is_stale, is_unwritten, none_early}
+use Rattle.history_search.proofs.Groups.{none_stale}
 use Rattle.history_search.proofs.Groups.{none_unwritten, not_itself}
 use Rattle.history_search.proofs.Late.{refused_up_to}
 use Rattle.history_search.proofs.Ranks.{IsBack, places_of, rank_at, ranks_keep, ranks_list, ranks_read, turned_back}
@@ -151,10 +153,12 @@ groups_within {R} Same opening ops groups are p g e =
     by zero o h = omega arith
     by (suc w) o h = let k = slice_get_within ops w h.0 h.1 in omega arith
 
-module _ {R : Type 0} (Same : R → R → Type 0) (opening : R) (limit : ℕ) (terms : List Term) (one : IsOneTerm limit terms) (ops : List (Op R))
+module _ {R : Type 0} (Same : R → R → Type 0) (opening : R) (limit : ℕ) (terms : List Term)
+    (one : IsOneTerm limit terms) (ops : List (Op R))
     (groups : List (Option ℕ)) (known : IsSearched Same opening ops) (are : AreGroups Same opening ops groups) where
   -- reasons of the first four rules exclude every atomic order
-  pub excluded : (r : Reason) → rule_of r ≤ 4 → IsReason Same opening limit ops r → (order : List ℕ) → IsAtomicOrder Same opening ops order → ⊥
+  pub excluded : (r : Reason) → rule_of r ≤ 4 → IsReason Same opening limit ops r →
+      (order : List ℕ) → IsAtomicOrder Same opening ops order → ⊥
   excluded (Unwritten a) l h order atomic = no_unwritten Same opening ops order known atomic a h
   excluded (Early a b) l h order atomic = no_early Same opening ops order known atomic a b h
   excluded (Stale a b) l h order atomic = no_stale Same opening ops order known atomic a b h
@@ -268,7 +272,8 @@ module _ {R : Type 0} (Same : R → R → Type 0) (opening : R) (limit : ℕ) (t
             (y.0, subst P (sym (ap place_or s)) y.1, y.2 ∙ sym (ap moment_or s))
 
     -- groups that cross are a reason
-    crossed_by : (v w : ℕ) → IsBack spans v w → IsReason Same opening limit ops (crossing_of (slice_get spans (suc v)) (slice_get spans (suc w)))
+    crossed_by : (v w : ℕ) → IsBack spans v w → IsReason Same opening limit ops
+        (crossing_of (slice_get spans (suc v)) (slice_get spans (suc w)))
     crossed_by v w b =
         let oa = end_place_by (suc v) b.n (slice_get spans (suc v)) refl b.earlier_end in
         let ob = begin_place_by (suc w) b.n (slice_get spans (suc w)) refl b.earlier_first in
@@ -345,7 +350,8 @@ module _ {R : Type 0} (Same : R → R → Type 0) (opening : R) (limit : ℕ) (t
       }
 
       order_atomic : (order : List ℕ) →
-          ((ranks : List Rank) × AreStraight ops groups spans ranks × (order ≡ map (λ r. r.place) ranks)) ⊎ IsLateOrder ops groups spans order →
+          ((ranks : List Rank) × AreStraight ops groups spans ranks × (order ≡ map (λ r. r.place) ranks))
+          ⊎ IsLateOrder ops groups spans order →
           IsAtomicOrder Same opening ops order
       order_atomic order h = let P : List ℕ → Type 0 = λ z. IsAtomicOrder Same opening ops z in elim h [
         | inl x ↦ subst P (sym x.2) (straight_atomic x.0 x.1)
@@ -399,14 +405,16 @@ module _ {R : Type 0} (Same : R → R → Type 0) (opening : R) (limit : ℕ) (t
       only_limit order atomic (Limit a) h = omega arith
 
       -- a limited write excludes every lawful order
-      no_lawful : (place : ℕ) → IsLimited Same opening limit ops place → (order : List ℕ) → IsVerdict Same opening terms ops order Lawful → ⊥
+      no_lawful : (place : ℕ) → IsLimited Same opening limit ops place → (order : List ℕ) →
+          IsVerdict Same opening terms ops order Lawful → ⊥
       no_lawful place r order v =
           let i = stands Same opening ops order known v.0 place r.op r.at r.finished in
           let x = r.few order v.0 i.0 i.1 in
           let t : Term = record { first = 0; limit = limit } in
           let P : List Term → Type 0 = λ ts. RefusesLawfully ts ops order in
           let law = subst P one v.1 in
-          let l : limit ≤ writes_in (in_term t []) ops (take x.early order) = law 0 t refl x.early x.place x.op x.listed x.at x.refused (all_in x.place) in
+          let l : limit ≤ writes_in (in_term t []) ops (take x.early order) =
+          law 0 t refl x.early x.place x.op x.listed x.at x.refused (all_in x.place) in
           let s = of_one_term limit ops (take x.early order) in
           omega (arith, x.few)
         where
@@ -475,7 +483,10 @@ module _ {R : Type 0} (Same : R → R → Type 0) (opening : R) (limit : ℕ) (t
       late_limited place order f h =
           let P : List ℕ → Type 0 = λ z. IsFirstRefusal ops z h.0 place h.1 in
           let first = subst P f.is h.2 in
-          let finished : IsSome first.op.ends = elim (refused_ended place first.op first.is first.refused f h) [ inl x ↦ x | inr x ↦ absurd x ] in
+          let finished : IsSome first.op.ends = elim (refused_ended place first.op first.is first.refused f h) [
+            | inl x ↦ x
+            | inr x ↦ absurd x
+          ] in
           record {
             op = first.op;
             at = first.is;

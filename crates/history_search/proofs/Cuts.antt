@@ -13,7 +13,8 @@ use Rattle.history_core.proofs.Listed.{some_and_from, some_and_of}
 use Rattle.history_search.specs.declared.rank.Rank.{Rank}
 use Rattle.history_search.specs.declared.span.Span.{Span}
 use Rattle.history_search.specs.inner.Groups.{AreGroups, AreSpans, Member}
-use Rattle.history_search.specs.inner.Ranks.{AreInOrder, AreRanks, asks_in, begin_in, cut_after, earliest, end_in, ends_at, first_in, is_above}
+use Rattle.history_search.specs.inner.Ranks.{AreInOrder, AreRanks, asks_in, begin_in, cut_after, earliest, end_in, ends_at, first_in}
+use Rattle.history_search.specs.inner.Ranks.{is_above}
 use Rattle.history_search.specs.inner.Ranks.{is_late, IsNoLater, IsRank, IsTurned, last_in, late_in, NoneTurned}
 use Rattle.history_reasons.proofs.Atomic.{IsSearched}
 use Rattle.history_search.proofs.Groups.{AllHaveGroups}
@@ -58,7 +59,8 @@ earliest_is (Some a) (Some b) y e =
     let s : min a b ≡ y = same_Some (min a b) y e in
     elim (cases_lt a b) [ inl l ↦ inl (ap Some (omega arith)) | inr l ↦ inr (ap Some (omega arith)) ]
 
-module _ {R : Type 0} (Same : R → R → Type 0) (opening : R) (ops : List (Op R)) (groups : List (Option ℕ)) (known : IsSearched Same opening ops)
+module _ {R : Type 0} (Same : R → R → Type 0) (opening : R) (ops : List (Op R))
+    (groups : List (Option ℕ)) (known : IsSearched Same opening ops)
     (are : AreGroups Same opening ops groups) (all : AllHaveGroups ops groups) (spans : List Span)
     (spanned : AreSpans ops groups (length ops) spans)
     (early : (p w : ℕ) (o a : Op R) → Member ops groups p o (suc w) → slice_get ops w ≡ Some a → Precedes o a → ⊥)
@@ -196,7 +198,8 @@ module _ {R : Type 0} (Same : R → R → Type 0) (opening : R) (ops : List (Op 
                     cc
                 | inr new ↦ elim (cases_eq u v) [
                   | inl s ↦
-                      let t : is_late end (suc u) (slice_get spans (suc u)) ≡ true = ap (λ z. is_late end (suc z) (slice_get spans (suc z))) s ∙ late in
+                      let t : is_late end (suc u) (slice_get spans (suc u)) ≡ true =
+                      ap (λ z. is_late end (suc z) (slice_get spans (suc z))) s ∙ late in
                       cc
                   | inr ne ↦
                       let ne_groups : suc u ≢ suc v = λ s. ne (omega arith) in
@@ -260,12 +263,14 @@ module _ {R : Type 0} (Same : R → R → Type 0) (opening : R) (ops : List (Op 
             subst P (sym g) (lowered n v end r e cut g (sym (ap (λ z. is_late end z (slice_get spans z)) g) ∙ t))
 
     -- at the end, what has to stand behind a late group is late
-    pub cut_closed : (end : Option ℕ) → IsCut (length ranks) end → (v w m : ℕ) → late_in (Some end) (suc v) (slice_get spans (suc v)) ≡ true →
+    pub cut_closed : (end : Option ℕ) → IsCut (length ranks) end → (v w m : ℕ) →
+        late_in (Some end) (suc v) (slice_get spans (suc v)) ≡ true →
         end_in (slice_get spans (suc v)) ≡ Some m → m < begin_in (slice_get spans (suc w)) →
         late_in (Some end) (suc w) (slice_get spans (suc w)) ≡ true
     cut_closed end cut v w m late em lm =
         let a = first_member Same opening ops groups known are spans spanned (suc v) m em in
-        let i = ranked.all a.0 (suc v) a.1 (slice_get_within ops a.0 a.1 a.2.0) a.2 (stands_with_end None (suc v) m (slice_get spans (suc v)) em) in
+        let i = ranked.all a.0 (suc v) a.1 (slice_get_within ops a.0 a.1 a.2.0) a.2
+        (stands_with_end None (suc v) m (slice_get spans (suc v)) em) in
         let g : i.1.group ≡ suc v =
         rank_group Same opening ops groups known are all spans spanned None i.1 a.0 (suc v) a.1 (ranked.each i.0 i.1 i.2).0 i.3 a.2 in
         let x = cut.closed i.0 m i.1 (slice_get_within ranks i.0 i.1 i.2) i.2 (ap (λ z. is_late end z (slice_get spans z)) g ∙ late)

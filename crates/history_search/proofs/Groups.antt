@@ -17,7 +17,8 @@ abbrev pub AllHaveGroups : {R : Type 0} → List (Op R) → List (Option ℕ) �
 AllHaveGroups {R} ops groups =
     (p : ℕ) (o : Op R) → slice_get ops p ≡ Some o → IsSome o.ends → (g : ℕ) × (slice_get groups p ≡ Some (Some g))
 
-module _ {R : Type 0} (Same : R → R → Type 0) (opening : R) (ops : List (Op R)) (groups : List (Option ℕ)) (known : IsSearched Same opening ops)
+module _ {R : Type 0} (Same : R → R → Type 0) (opening : R) (ops : List (Op R))
+    (groups : List (Option ℕ)) (known : IsSearched Same opening ops)
     (are : AreGroups Same opening ops groups) where
   -- what a member has
   pub has : (p g : ℕ) (o : Op R) → Member ops groups p o g → (counts o ≡ true) × HasGroup Same opening ops g o
@@ -63,13 +64,15 @@ module _ {R : Type 0} (Same : R → R → Type 0) (opening : R) (ops : List (Op 
   -- an operation of the opening is of its group
   opening_by : (g : ℕ) (o : Op R) → HasGroup Same opening ops g o → IsOfOpening Same opening o → g ≡ 0
   opening_by zero o m h = refl
-  opening_by (suc w) o m h = absurd (known.fresh w m.0 m.1 m.2 (opened Same known.alike opening m.0 o (turned Same known.alike o m.0 m.3) h))
+  opening_by (suc w) o m h =
+      absurd (known.fresh w m.0 m.1 m.2 (opened Same known.alike opening m.0 o (turned Same known.alike o m.0 m.3) h))
 
   pub of_opening_group : (p g : ℕ) (o : Op R) → Member ops groups p o g → IsOfOpening Same opening o → g ≡ 0
   of_opening_group p g o m h = opening_by g o (has p g o m).1 h
 
   -- a write of a record has its group
-  pub write_has : (w : ℕ) (a : Op R) → slice_get ops w ≡ Some a → is_write a.kind ≡ true → OfOneRecord Same a a → Member ops groups w a (suc w)
+  pub write_has : (w : ℕ) (a : Op R) → slice_get ops w ≡ Some a → is_write a.kind ≡ true →
+      OfOneRecord Same a a → Member ops groups w a (suc w)
   write_has w a e t one =
       let c : counts a ≡ true = subst (λ z. (is_some a.ends || z) ≡ true) (sym t) (or_true (is_some a.ends)) in
       let l : w < length groups = omega (arith, slice_get_within ops w a e, are.long) in
@@ -154,7 +157,8 @@ module _ {R : Type 0} (Same : R → R → Type 0) (opening : R) (ops : List (Op 
     precedes = pre;
   }
 
-  pub is_crossed : (a b c d v w : ℕ) (oa ob oc od : Op R) → suc v ≢ suc w → Member ops groups a oa (suc v) → Member ops groups b ob (suc w) →
+  pub is_crossed : (a b c d v w : ℕ) (oa ob oc od : Op R) → suc v ≢ suc w → Member ops groups a oa (suc v) →
+      Member ops groups b ob (suc w) →
       Member ops groups c oc (suc w) → Member ops groups d od (suc v) → Precedes oa ob → Precedes oc od → IsCrossed Same opening ops a b c d
   is_crossed a b c d v w oa ob oc od ne ma mb mc md ab cd = record {
     op_a = oa;
@@ -196,7 +200,8 @@ module _ {R : Type 0} (Same : R → R → Type 0) (opening : R) (ops : List (Op 
     none_early none read write r =
         let g = all read r.op r.at (finished_by r.op r.source r.precedes) in
         let m : Member ops groups read r.op g.0 = (r.at, g.1) in
-        let s : OfOneRecord Same r.source r.source = joined Same known.alike r.source r.op r.source (turned Same known.alike r.op r.source r.one)
+        let s : OfOneRecord Same r.source r.source = joined Same known.alike r.source r.op r.source
+        (turned Same known.alike r.op r.source r.one)
         r.one in
         let n = write_has write r.source r.source_at r.writes s in
         let e : g.0 ≡ suc write = apart read write g.0 (suc write) r.op r.source m n r.one in

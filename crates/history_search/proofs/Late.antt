@@ -19,7 +19,8 @@ use Rattle.history_search.specs.declared.span.Span.{Span}
 use Rattle.history_reasons.specs.Reasons.{IsOfOpening, IsRefusedUpTo, OfOneRecord}
 use Rattle.history_search.specs.inner.Groups.{AreGroups, AreSpans, Member}
 use Rattle.history_search.specs.inner.Limits.{IsFirstRefusal, NoneRefused}
-use Rattle.history_search.specs.inner.Ranks.{AreInOrder, AreRanks, asks_in, begin_in, end_in, is_above, is_late, late_in, moment_or, stands_in}
+use Rattle.history_search.specs.inner.Ranks.{AreInOrder, AreRanks, asks_in, begin_in, end_in, is_above, is_late, late_in, moment_or}
+use Rattle.history_search.specs.inner.Ranks.{stands_in}
 use Rattle.history_reasons.proofs.Atomic.{before, IsSearched, joined, Leads, led, led_before, mate, some_from, stands, turned}
 use Rattle.history_reasons.proofs.Counts.{count_cons, counted, front_get, get_front, times_apart, times_self, times_some}
 use Rattle.history_search.proofs.Cuts.{after, asks, IsLate}
@@ -121,7 +122,8 @@ first_refused {R} ops order (suc n) r = elim (search_before ops order n) [
         ])
         by (Some p) e none = at_place p e (slice_get ops p) refl none
 
-module _ {R : Type 0} (Same : R → R → Type 0) (opening : R) (ops : List (Op R)) (groups : List (Option ℕ)) (known : IsSearched Same opening ops)
+module _ {R : Type 0} (Same : R → R → Type 0) (opening : R) (ops : List (Op R))
+    (groups : List (Option ℕ)) (known : IsSearched Same opening ops)
     (are : AreGroups Same opening ops groups) (all : AllHaveGroups ops groups) (spans : List Span)
     (spanned : AreSpans ops groups (length ops) spans) where
   begin_by : (g m : ℕ) (found : Option Span) → slice_get spans g ≡ found → m < begin_in found →
@@ -273,7 +275,8 @@ module _ {R : Type 0} (Same : R → R → Type 0) (opening : R) (ops : List (Op 
     asking =
         let r = rank_at ranks c place first.at in
         let k = (ranked.each c r.0 r.1).0 in
-        let s : k.op ≡ first.op = rank_op Same opening ops groups known are all spans spanned (Some end) r.0 place first.op k r.2 first.is in
+        let s : k.op ≡ first.op = rank_op Same opening ops groups known are all spans spanned
+        (Some end) r.0 place first.op k r.2 first.is in
         let kind : k.op.kind ≡ Refused = ap (λ (z : Op R). z.kind) s ∙ first.refused in
         let asked : asks_in (slice_get spans r.0.group) ≡ true =
         group_asks Same opening ops groups known are spans spanned r.0.place r.0.group k.op k.member kind in
@@ -326,7 +329,8 @@ module _ {R : Type 0} (Same : R → R → Type 0) (opening : R) (ops : List (Op 
     own_write_ahead : (q : AskingGroup) → (1 ≤ times_of q.w (take c (places_of ranks))) × (is_write_at (slice_get ops q.w) ≡ true)
     own_write_ahead q =
         let k = (ranked.each c q.rank q.at).0 in
-        let x = write_before Same opening ops groups known are all spans spanned (Some end) ranks ranked in_order c q.w q.rank q.at q.group q.answers in
+        let x = write_before Same opening ops groups known are all spans spanned
+        (Some end) ranks ranked in_order c q.w q.rank q.at q.group q.answers in
         let P : ℕ → Type 0 = λ z. Member ops groups q.rank.place k.op z in
         let a = write_of Same opening ops groups known are q.rank.place q.w k.op (subst P q.group k.member) in (
           times_some q.w x.j (take c (places_of ranks)) (front_get (places_of ranks) c x.j q.w x.before x.at),
@@ -397,7 +401,8 @@ module _ {R : Type 0} (Same : R → R → Type 0) (opening : R) (ops : List (Op 
               let most : times_of p (take i order) ≤ 1 = let l = times_take_le order i p in omega (arith, some_op p t) in
               elim (cases_eq asking.w p) [
                 | inl s ↦
-                    let here : 1 ≤ times_of p (take c (places_of ranks)) = subst (λ z. 1 ≤ times_of z (take c (places_of ranks))) s own_ahead in
+                    let here : 1 ≤ times_of p (take c (places_of ranks)) =
+                    subst (λ z. 1 ≤ times_of z (take c (places_of ranks))) s own_ahead in
                     let lhs : times_of p (asking.w ∷ take i order) ≡ 1 + times_of p (take i order) =
                     ap (λ z. times_of p (z ∷ take i order)) s ∙ times_self p (take i order) in
                     elim (cases_eq v p) [
@@ -465,6 +470,7 @@ module _ {R : Type 0} (Same : R → R → Type 0) (opening : R) (ops : List (Op 
               (atomic.listing.stands q a (omega arith) (slice_get_within ops q a f) f) in
               let g = all q a f ends in
               let z : g.0 ≡ 0 = of_opening_group Same opening ops groups known are q g.0 a (f, g.1) h in
-              let t : asks_in (slice_get spans g.0) ≡ true = group_asks Same opening ops groups known are spans spanned q g.0 a (f, g.1) k in
+              let t : asks_in (slice_get spans g.0) ≡ true = group_asks Same opening ops groups known are spans spanned q g.0 a
+              (f, g.1) k in
               let n : asks_in (slice_get spans g.0) ≡ false = ap (λ z. asks_in (slice_get spans z)) z ∙ unasked in
               cc

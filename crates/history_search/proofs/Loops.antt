@@ -22,7 +22,8 @@ use Rattle.history_search.specs.declared.rank.Rank.{Rank}
 use Rattle.history_search.specs.declared.span.Moment.{Moment}
 use Rattle.history_search.specs.declared.span.Span.{Span}
 use Rattle.history_reasons.specs.Searches.{AreForwards}
-use Rattle.history_search.specs.inner.Groups.{AreSpans, earlier_moment, empty_span, ends_before, HaveGroups, IsSpan, joined_span, later_moment}
+use Rattle.history_search.specs.inner.Groups.{AreSpans, earlier_moment, empty_span, ends_before, HaveGroups, IsSpan, joined_span}
+use Rattle.history_search.specs.inner.Groups.{later_moment}
 use Rattle.history_search.specs.inner.Groups.{Member, refused_at}
 use Rattle.history_search.specs.inner.Found.{EndsBefore, IsEarlyIn, NoneEarlyIn, NoneEndsBefore, NoneStaleIn}
 use Rattle.history_search.specs.inner.Limits.{IsFirstRefusal, NoneRefused}
@@ -225,7 +226,8 @@ get_same (suc n) x y (suc i) h = get_same n x y i h
 earlier_least : (ends : Option Moment) (end : Option ℕ) (place : ℕ) (m : Moment) → ends ≡ Some m →
     (k : Moment) × (earlier_moment ends end place ≡ Some k) × (k.at ≤ m.at)
 earlier_least None end place m e = cc
-earlier_least (Some a) None place m e = let s : a ≡ m = same_Some a m e in (a, refl, let q : a.at ≡ m.at = ap (λ (z : Moment). z.at) s in omega arith)
+earlier_least (Some a) None place m e = let s : a ≡ m = same_Some a m e in
+    (a, refl, let q : a.at ≡ m.at = ap (λ (z : Moment). z.at) s in omega arith)
 earlier_least (Some a) (Some end) place m e =
     let s : a ≡ m = same_Some a m e in
     let q : a.at ≡ m.at = ap (λ (z : Moment). z.at) s in
@@ -304,7 +306,8 @@ refused_stays old Write place h = h
 refused_stays old Read place h = h
 refused_stays old Refused place h = refl
 
-refused_from : (old : Option ℕ) (kind : Kind) (place p : ℕ) → refused_at old kind place ≡ Some p → (old ≡ Some p) ⊎ ((kind ≡ Refused) × (place ≡ p))
+refused_from : (old : Option ℕ) (kind : Kind) (place p : ℕ) → refused_at old kind place ≡ Some p →
+    (old ≡ Some p) ⊎ ((kind ≡ Refused) × (place ≡ p))
 refused_from old Write place p e = inl e
 refused_from old Read place p e = inl e
 refused_from old Refused place p e = inr (refl, same_Some place p e)

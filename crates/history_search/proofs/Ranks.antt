@@ -17,7 +17,8 @@ use Rattle.history_core.proofs.Listing.{listing_from}
 use Rattle.history_search.specs.declared.rank.Rank.{Rank}
 use Rattle.history_search.specs.declared.span.Span.{Span}
 use Rattle.history_search.specs.inner.Groups.{AreGroups, AreSpans, HasGroup, Member}
-use Rattle.history_search.specs.inner.Ranks.{AreInOrder, AreRanks, begin_in, end_in, first_in, first_of, IsNoLater, IsRank, is_late, last_in, late_in, stands_in}
+use Rattle.history_search.specs.inner.Ranks.{AreInOrder, AreRanks, begin_in, end_in, first_in, first_of, IsNoLater, IsRank, is_late}
+use Rattle.history_search.specs.inner.Ranks.{last_in, late_in, stands_in}
 use Rattle.history_reasons.proofs.Atomic.{IsSearched, once_at, shares, some_from}
 use Rattle.history_search.proofs.Groups.{AllHaveGroups, finished_or, has, own, write_of}
 use Rattle.history_search.proofs.Spans.{goes_first, least_end, most_begin}
@@ -88,7 +89,8 @@ between x y z s h k =
     let u : y.last ≡ z.last = omega (arith, s.last) in
     record { late = l; first = f; last = t; group = omega (arith, h.group l f t, k.group m g u, s.group) }
 
-module _ {R : Type 0} (Same : R → R → Type 0) (opening : R) (ops : List (Op R)) (groups : List (Option ℕ)) (known : IsSearched Same opening ops)
+module _ {R : Type 0} (Same : R → R → Type 0) (opening : R) (ops : List (Op R))
+    (groups : List (Option ℕ)) (known : IsSearched Same opening ops)
     (are : AreGroups Same opening ops groups) (all : AllHaveGroups ops groups) (spans : List Span)
     (spanned : AreSpans ops groups (length ops) spans) (cut : Option (Option ℕ)) where
   pub rank_group : (r : Rank) (p g : ℕ) (o : Op R) → IsRank ops groups spans cut r → r.place ≡ p → Member ops groups p o g → r.group ≡ g
@@ -154,7 +156,8 @@ module _ {R : Type 0} (Same : R → R → Type 0) (opening : R) (ops : List (Op 
         let at : slice_get ops p ≡ Some ky.op = ap (slice_get ops) (sym y.2) ∙ ky.member.0 in
         ap is_write_at at ∙ elim (cases_Bool (is_write ky.op.kind)) [
           | inr f ↦ f
-          | inl t ↦ let z : y.0.group ≡ suc y.0.place = own Same opening ops groups known are y.0.place y.0.group ky.op ky.member t in absurd (omega arith)
+          | inl t ↦ let z : y.0.group ≡ suc y.0.place = own Same opening ops groups known are y.0.place y.0.group ky.op ky.member t in
+              absurd (omega arith)
         ]
 
     -- the write of a read's group stands before it, and no other between them
@@ -227,7 +230,8 @@ module _ {R : Type 0} (Same : R → R → Type 0) (opening : R) (ops : List (Op 
             some_end (Some end) h = (end, refl)
 
     read_right : (i w : ℕ) (r : Rank) (o : Op R) → slice_get ranks i ≡ Some r → slice_get ops r.place ≡ Some o → r.answers ≡ true →
-        is_write o.kind ≡ false → r.group ≡ w → HasGroup Same opening ops w o → ReadsRight Same o.kind o.item (latest opening ops (take i (places_of ranks)))
+        is_write o.kind ≡ false → r.group ≡ w → HasGroup Same opening ops w o →
+        ReadsRight Same o.kind o.item (latest opening ops (take i (places_of ranks)))
     read_right i zero r o e at a f g h =
         let l : i ≤ length (places_of ranks) = let b = slice_get_within (places_of ranks) i r.place (place_at ranks i r e) in omega arith in
         let s : latest opening ops (take i (places_of ranks)) ≡ Some opening =
@@ -252,7 +256,8 @@ module _ {R : Type 0} (Same : R → R → Type 0) (opening : R) (ops : List (Op 
         let k = is_rank i r.0 r.1 in
         let s : k.op ≡ o = rank_op r.0 p o k r.2 f in
         let P : Op R → Type 0 = λ z. HasGroup Same opening ops r.0.group z in
-        let h : HasGroup Same opening ops r.0.group o = subst P s (has Same opening ops groups known are r.0.place r.0.group k.op k.member).1 in
+        let h : HasGroup Same opening ops r.0.group o = subst P s
+        (has Same opening ops groups known are r.0.place r.0.group k.op k.member).1 in
         let kind : is_write o.kind ≡ not r.0.answers = ap (λ (z : Op R). is_write z.kind) (sym s) ∙ k.answers in
         elim (cases_Bool r.0.answers) [
           | inl t ↦ read_right i r.0.group r.0 o r.1 (ap (slice_get ops) r.2 ∙ f) t (kind ∙ ap not t) refl h
@@ -282,7 +287,8 @@ module _ {R : Type 0} (Same : R → R → Type 0) (opening : R) (ops : List (Op 
                     let P : ℕ → Type 0 = λ z. Member ops groups y.place k.op z in
                     early y.place x.place k.op h.op (subst P (sym g ∙ o) k.member) h.member.0 pre
                 | inr n ↦
-                    let p : y.group ≡ suc y.place = own Same opening ops groups known are y.place y.group k.op k.member (k.answers ∙ ap not n) in
+                    let p : y.group ≡ suc y.place = own Same opening ops groups known are y.place y.group k.op k.member
+                    (k.answers ∙ ap not n) in
                     ne (omega arith)
               ]
         ]
@@ -292,7 +298,8 @@ module _ {R : Type 0} (Same : R → R → Type 0) (opening : R) (ops : List (Op 
     IsClosed = (v w m : ℕ) → late_in cut (suc v) (slice_get spans (suc v)) ≡ true → end_in (slice_get spans (suc v)) ≡ Some m →
         m < begin_in (slice_get spans (suc w)) → late_in cut (suc w) (slice_get spans (suc w)) ≡ true
 
-    pub back_by : IsClosed → (x y : Rank) (v w : ℕ) (h : IsRank ops groups spans cut x) (k : IsRank ops groups spans cut y) → IsNoLater x y →
+    pub back_by : IsClosed → (x y : Rank) (v w : ℕ) (h : IsRank ops groups spans cut x) (k : IsRank ops groups spans cut y) →
+        IsNoLater x y →
         x.group ≡ suc v → y.group ≡ suc w → suc v ≢ suc w → (m : ℕ) → end_in (slice_get spans (suc w)) ≡ Some m →
         m < begin_in (slice_get spans (suc v)) → IsBack spans v w
     back_by closed x y v w h k nl gx gy ne m em lm =

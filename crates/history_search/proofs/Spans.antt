@@ -22,7 +22,8 @@ goes_first (Some a) (Some b) sa sb m e l h =
     let k : sa ≤ b = h b refl in
     elim (cases_lt (min a sa) (min b sb)) [ inl lt ↦ inl lt | inr le ↦ inr (omega arith, omega arith) ]
 
-module _ {R : Type 0} (Same : R → R → Type 0) (opening : R) (ops : List (Op R)) (groups : List (Option ℕ)) (known : IsSearched Same opening ops)
+module _ {R : Type 0} (Same : R → R → Type 0) (opening : R) (ops : List (Op R))
+    (groups : List (Option ℕ)) (known : IsSearched Same opening ops)
     (are : AreGroups Same opening ops groups) (spans : List Span) (spanned : AreSpans ops groups (length ops) spans) where
   within : (g : ℕ) (o : Op R) → HasGroup Same opening ops g o → g < length spans
   within zero o h = omega (arith, spanned.long)

@@ -5,8 +5,8 @@ ghost use Rattle.history_reasons.specs.Searches.{AreForwards, IsAnswered, IsBack
 
 use crate::group::group_ops;
 use crate::group_search::search_groups;
-use history_reasons::{Search, SearchError};
 use history_core::{History, Op, Term};
+use history_reasons::{Search, SearchError};
 use std::alloc::Global;
 
 /// A lawful order of the history, or a reason why there is none: of the first rule of `Reason` that any reason has. The history

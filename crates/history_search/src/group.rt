@@ -1,13 +1,14 @@
 //! Groups: the number of an operation's group is 0 for the opening's, and for that of a write one more than the write's place.
 
-ghost use Rattle.std.specs.Prelude.{◌≡◌, ◌+◌, ◌<◌, ◌^◌, ◌↔◌, ℕ, false, length, IfErr, IfNone, IfOk, IfSome, IsSome, IsTrue, OnOk, None, Some};
+ghost use Rattle.std.specs.Prelude.{◌≡◌, ◌+◌, ◌<◌, ◌^◌, ◌↔◌, ℕ, false, length, IfErr, IfNone, IfOk, IfSome, IsSome, IsTrue, OnOk, None};
+ghost use Rattle.std.specs.Prelude.{Some};
 ghost use Rattle.std.specs.BTreeMap.{get, Updates};
 ghost use Rattle.history_search.specs.inner.Groups.{AreGroups, group_in, HaveGroups, IsUngrouped, IsWriteFault, KnowsWrites, written_by};
 ghost use Rattle.history_reasons.specs.Reasons.{counts};
 ghost use Rattle.history_reasons.specs.Searches.{IsGroupFault, WritesOnce};
 
-use history_reasons::SearchError;
 use history_core::{Kind, Op};
+use history_reasons::SearchError;
 use std::alloc::Global;
 use std::collections::BTreeMap;
 

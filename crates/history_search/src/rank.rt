@@ -4,7 +4,8 @@ ghost use Rattle.std.specs.Prelude.{◌≡◌, ◌<◌, ℕ, false, length, map,
 ghost use Rattle.history_core.specs.declared.history.Op.{Op};
 ghost use Rattle.history_search.specs.inner.Groups.{Member};
 ghost use Rattle.history_search.specs.inner.Found.{AreSorted};
-ghost use Rattle.history_search.specs.inner.Ranks.{asks_in, begin_in, end_in, first_in, is_above, is_late, IsRank, last_in, late_in, stands_in};
+ghost use Rattle.history_search.specs.inner.Ranks.{asks_in, begin_in, end_in, first_in, is_above, is_late, IsRank, last_in, late_in};
+ghost use Rattle.history_search.specs.inner.Ranks.{stands_in};
 
 use crate::span::Span;
 use history_core::{Kind, Op};
@@ -61,7 +62,8 @@ fn rank_at<R>(
     requires inside { place < length ops.now }
     ensures some { IfSome result (λ r. IsRank ops.now groups.now spans.now cut r) }
     ensures here { IfSome result (λ r. r.place ≡ place) }
-    ensures none { IfNone result ((g : ℕ) (o : Op R) → Member ops.now groups.now place o g → stands_in cut g (slice_get spans.now g) ≡ false) }
+    ensures none { IfNone result ((g : ℕ) (o : Op R) → Member ops.now groups.now place o g →
+        stands_in cut g (slice_get spans.now g) ≡ false) }
 {
     let group = groups[place]?;
     let span = span_at(spans, group);

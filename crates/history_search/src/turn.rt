@@ -5,9 +5,9 @@ ghost use Rattle.history_search.specs.inner.Found.{begin_place, crossing_of, end
 ghost use Rattle.history_search.specs.inner.Ranks.{ends_at, IsTurned, later_rank, NoneTurned};
 
 use crate::rank::Rank;
-use history_reasons::Reason;
 use crate::span::{Moment, Span};
 use history_core::Op;
+use history_reasons::Reason;
 
 /// Two ranks of which the second stands behind the first, and its operation precedes that of the first.
 #[derive(Clone, Copy)]

@@ -1,5 +1,6 @@
 -- The lists of a document's values, by cases on their elements: serde_json's items are the document's, in their order.
-use Rattle.std.proofs.Common.{◌≡◌, ◌<◌, ◌≤◌, ◌+◌, ℕ, zero, suc, List, [], ◌∷◌, ◌++◌, length, map, drop, refl, ap, sym, subst, ◌∙◌, arith, add-one}
+use Rattle.std.proofs.Common.{◌≡◌, ◌<◌, ◌≤◌, ◌+◌, ℕ, zero, suc, List, [], ◌∷◌, ◌++◌, length, map, drop, refl, ap, sym, subst, ◌∙◌, arith}
+use Rattle.std.proofs.Common.{add-one}
 use Rattle.std.proofs.Common.{Bool, true, false, Option, Some, None, option_map, append_assoc, get_or}
 use Rattle.std.proofs.lemmas.List.{append-nil, drop_all}
 use Rattle.std.proofs.lemmas.Option.{none-some, same_Some}
@@ -87,7 +88,8 @@ one_added : {B : Type 0} (front now : List B) (read : Option B) (rest : Option (
     → with_front now rest ≡ with_front front (option_and_then (λ y. option_map (λ ys. y ∷ ys) rest) read)
 one_added front now None rest e = absurd (none-some now (sym e))
 one_added front now (Some y) None e = refl
-one_added front now (Some y) (Some ys) e = ap (λ l. Some (l ++ ys)) (same_Some now (front ++ y ∷ []) e) ∙ ap Some (append_assoc front (y ∷ []) ys)
+one_added front now (Some y) (Some ys) e = ap (λ l. Some (l ++ ys)) (same_Some now (front ++ y ∷ []) e)
+    ∙ ap Some (append_assoc front (y ∷ []) ys)
 
 none_added : {B : Type 0} (front : List B) (read : Option B) (rest : Option (List B)) → None ≡ added front read
     → with_front front (option_and_then (λ y. option_map (λ ys. y ∷ ys) rest) read) ≡ None

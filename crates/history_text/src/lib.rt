@@ -1,4 +1,5 @@
-//! Documents of histories with an order of them, and the line of a verdict; and what the documents of every kind share: keys, shapes, ranges and refusals.
+//! Documents of histories with an order of them, and the line of a verdict; and what the documents of every kind share: keys, shapes,
+//! ranges and refusals.
 #![tactic(auto)]
 
 mod check;

@@ -13,7 +13,8 @@ four_pieces : (start a b c d one two three four : List ℕ) → one ≡ start ++
 four_pieces start a b c d one two three four first second third fourth =
     fourth ∙ ap (λ (l : List ℕ). l ++ d) (three_pieces start a b c one two three first second third) ∙ append_assoc start (a ++ b ++ c) d
 
-pub five_pieces : (start a b c d e one two three four five : List ℕ) → one ≡ start ++ a → two ≡ one ++ b → three ≡ two ++ c → four ≡ three ++ d
+pub five_pieces : (start a b c d e one two three four five : List ℕ) → one ≡ start ++ a →
+    two ≡ one ++ b → three ≡ two ++ c → four ≡ three ++ d
     → five ≡ four ++ e → five ≡ start ++ (a ++ b ++ c ++ d ++ e)
 five_pieces start a b c d e one two three four five first second third fourth fifth =
     fifth ∙ ap (λ (l : List ℕ). l ++ e) (four_pieces start a b c d one two three four first second third fourth)

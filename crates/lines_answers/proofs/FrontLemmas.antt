@@ -1,5 +1,6 @@
 -- The front of a document tells whether it's a log in lines, if it is longer than any header.
-use Rattle.std.proofs.Common.{rules, tests, ◌≡◌, ℕ, ◌<◌, ◌≤◌, List, [], ◌∷◌, ◌++◌, ◌⊎◌, inl, inr, length, refl, ap, sym, ◌∙◌, arith, Bool, true, false, length-append}
+use Rattle.std.proofs.Common.{rules, tests, ◌≡◌, ℕ, ◌<◌, ◌≤◌, List, [], ◌∷◌, ◌++◌, ◌⊎◌, inl, inr, length, refl, ap, sym, ◌∙◌, arith, Bool}
+use Rattle.std.proofs.Common.{true, false, length-append}
 use Rattle.std.specs.Prelude.{◌==◌, ◌&&◌, nat_le}
 use Rattle.history_text.specs.Document.{value_of}
 use Rattle.lines_tables.specs.Splits.{in_front, lines_of}

@@ -46,7 +46,8 @@ grown_op records after grows said op is = record {
   item = grown_item records after grows said.item op.item is.item;
 }
 
-pub more_lines : (limited : Bool) (lines records after : List (List ℕ)) (line : List ℕ) (last : Bool) (log : List (Op ℕ)) (said : Op (List ℕ))
+pub more_lines : (limited : Bool) (lines records after : List (List ℕ)) (line : List ℕ)
+    (last : Bool) (log : List (Op ℕ)) (said : Op (List ℕ))
     (next : Op ℕ) → AreLines limited lines records log → Grow records after → judged_line limited (length lines) last line ≡ Ok (Some said)
     → IsNumberedOp after said next → AreLines limited (lines ++ line ∷ []) after (log ++ next ∷ [])
 more_lines limited lines records after line last log said next are grows judged is = record {
@@ -74,7 +75,8 @@ more_lines limited lines records after line last log said next are grows judged 
 from_zero : (n : ℕ) → 0 + n ≡ n
 from_zero n = omega arith
 
-one_unfinished : (log : List (Op ℕ)) (next : Op ℕ) → unfinished_in (log ++ next ∷ []) ≡ unfinished_in log + (if is_none next.ends then 1 else 0)
+one_unfinished : (log : List (Op ℕ)) (next : Op ℕ) → unfinished_in (log ++ next ∷ [])
+    ≡ unfinished_in log + (if is_none next.ends then 1 else 0)
 one_unfinished log next =
     sum_by-append (λ (o : Op ℕ). cond (is_none o.ends) 1 0) log (next ∷ [])
     ∙ ap (λ (n : ℕ). unfinished_in log + n) (from_zero (if is_none next.ends then 1 else 0))
@@ -105,7 +107,8 @@ entered opening lines line last old new said next read judged limits numbered tu
       tasks = turns read.tasks;
       kept = thins read.kept;
       count = omega (arith, count, read.count, length-append read.log (next ∷ []));
-      unfinished = unfinished ∙ ap (λ (n : ℕ). n + (if is_none next.ends then 1 else 0)) read.unfinished ∙ sym (one_unfinished read.log next);
+      unfinished = unfinished ∙ ap (λ (n : ℕ). n + (if is_none next.ends then 1 else 0)) read.unfinished
+          ∙ sym (one_unfinished read.log next);
       reads = gives read.reads;
     }
 
@@ -157,7 +160,8 @@ pub item_there : (records : List (List ℕ)) (o : LineOp) (op : Op ℕ) → IsAl
 item_there records o op may is counted =
     has_item o.kind o.end (option_map string_bytes o.«record») records op.item
     (ap (has_record o.kind o.end) (as_there o.«record») ∙ may.recorded) is.item
-    (ap (λ (e : Option ℕ). is_some e || is_write o.kind) (sym is.ends) ∙ ap (λ (k : Kind). is_some op.ends || is_write k) (sym is.kind) ∙ counted)
+    (ap (λ (e : Option ℕ). is_some e || is_write o.kind) (sym is.ends) ∙ ap (λ (k : Kind). is_some op.ends || is_write k) (sym is.kind)
+    ∙ counted)
 
 -- an operation overlaps one of its task
 pub overlapped : (opening : List ℕ) (lines : List (List ℕ)) (line : List ℕ) (last : Bool) (old : Reader) (numbering : Numbering)

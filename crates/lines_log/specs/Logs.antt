@@ -58,7 +58,8 @@ abbrev pub AreAll : Bool → Bool → List (List ℕ) → List (List ℕ) → Ty
 AreAll limited false body lines = body ≡ lines
 AreAll limited true body lines = (end : List ℕ) × (body ≡ lines ++ end ∷ []) × (judged_line limited (length lines) true end ≡ Ok None)
 
--- The log that bytes stand for, where white space behind the last line is left out: each record has its place among these for its number, and the opening is the first. Of two operations
+-- The log that bytes stand for, where white space behind the last line is left out: each record has its place among these for its number,
+-- and the opening is the first. Of two operations
 -- of one task the first has ended before the second begins.
 pub record IsLog (bytes : List ℕ) (head : Head) (records : List (List ℕ)) (log : List (Op ℕ)) : Type 0 where
   pub header : List ℕ

@@ -1,5 +1,6 @@
 //! The reader.
-ghost use Rattle.std.specs.Prelude.{◌≡◌, ◌<◌, ◌≤◌, Bool, Ok, Some, option_map, ◌+◌, ◌^◌, ◌++◌, ◌∷◌, [], ℕ, List, true, length, is_some, IfErr, IfOk, OnOk, string_bytes};
+ghost use Rattle.std.specs.Prelude.{◌≡◌, ◌<◌, ◌≤◌, Bool, Ok, Some, option_map, ◌+◌, ◌^◌, ◌++◌, ◌∷◌, [], ℕ, List, true, length, is_some};
+ghost use Rattle.std.specs.Prelude.{IfErr, IfOk, OnOk, string_bytes};
 ghost use Rattle.lines_log.specs.Faults.{IsLineFault};
 ghost use Rattle.lines_log.specs.Logs.{judged_line};
 ghost use Rattle.lines_text.specs.Lines.{IsAllowed, op_seen};

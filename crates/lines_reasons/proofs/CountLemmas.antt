@@ -7,7 +7,8 @@ use Rattle.std.proofs.lemmas.Grind.{flat_map-append}
 pub two_pieces : (start a b one two : List ℕ) → one ≡ start ++ a → two ≡ one ++ b → two ≡ start ++ (a ++ b)
 two_pieces start a b one two first second = second ∙ ap (λ (l : List ℕ). l ++ b) first ∙ append_assoc start a b
 
-pub three_pieces : (start a b c one two three : List ℕ) → one ≡ start ++ a → two ≡ one ++ b → three ≡ two ++ c → three ≡ start ++ (a ++ b ++ c)
+pub three_pieces : (start a b c one two three : List ℕ) → one ≡ start ++ a → two ≡ one ++ b →
+    three ≡ two ++ c → three ≡ start ++ (a ++ b ++ c)
 three_pieces start a b c one two three first second third =
     third ∙ ap (λ (l : List ℕ). l ++ c) (two_pieces start a b one two first second) ∙ append_assoc start (a ++ b) c
 

@@ -1,6 +1,7 @@
 -- A small log that has no order as a larger one has none: of the kept operations those that the reason names, and the writes of their
 -- records. It is printed as a document of kind `log`, in which the record with the number n is [n,n,n] (this project's own).
-use Rattle.std.specs.Prelude.{ℕ, ◌++◌, ◌==◌, zero, suc, List, [], ◌∷◌, codes, length, if◌then◌else◌, slice_get, unwrap_or, Option, None, Some}
+use Rattle.std.specs.Prelude.{ℕ, ◌++◌, ◌==◌, zero, suc, List, [], ◌∷◌, codes, length, if◌then◌else◌, slice_get, unwrap_or, Option, None}
+use Rattle.std.specs.Prelude.{Some}
 use Rattle.std.specs.Fmt.{decimal}
 use Rattle.std.specs.List.{flat_map, position}
 use Rattle.history_core.specs.declared.history.Op.{Op}

@@ -2,7 +2,8 @@
 ghost use Rattle.std.specs.Prelude.{◌≡◌, ◌++◌, ◌==◌, ℕ, IfOk, OnOk, length};
 ghost use Rattle.std.specs.List.{flat_map, position};
 ghost use Rattle.history_core.specs.declared.history.Op.{Op};
-ghost use Rattle.lines_reasons.specs.Small.{band_text, begin_text, document_text, end_text, kind_text, named_of, next_text, one_named, one_or_none, op_text, ops_text, outcome_text, record_text, small_ops, small_text, task_of};
+ghost use Rattle.lines_reasons.specs.Small.{band_text, begin_text, document_text, end_text, kind_text, named_of, next_text, one_named};
+ghost use Rattle.lines_reasons.specs.Small.{one_or_none, op_text, ops_text, outcome_text, record_text, small_ops, small_text, task_of};
 
 use crate::named::{in_kept, is_named, places_of};
 use crate::sentence::{push_u64, push_words};

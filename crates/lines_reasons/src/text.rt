@@ -1,7 +1,8 @@
 //! The printed lines.
 ghost use Rattle.std.specs.Prelude.{◌≡◌, ◌++◌, IfOk, OnOk};
 ghost use Rattle.lines_reasons.specs.Sentences.{number_text};
-ghost use Rattle.lines_reasons.specs.Text.{body_of, in_lines, lawful_text, line_text, named_text, unlawful_text, verdict_text, write_lines, writes_text};
+ghost use Rattle.lines_reasons.specs.Text.{body_of, in_lines, lawful_text, line_text, named_text, unlawful_text, verdict_text, write_lines};
+ghost use Rattle.lines_reasons.specs.Text.{writes_text};
 ghost use Rattle.lines_tables.specs.Splits.{line_at, lines_of};
 ghost use Rattle.search_text.specs.Text.{reason_text};
 

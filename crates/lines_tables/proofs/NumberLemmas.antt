@@ -1,5 +1,6 @@
 -- A record that was met has its number, and a new one gets the next.
-use Rattle.std.proofs.Common.{rules, tests, ◌≡◌, ◌≢◌, ℕ, List, [], ◌∷◌, ◌++◌, length, refl, ap, sym, ◌∙◌, arith, subst, slice_get, Some, None, Option}
+use Rattle.std.proofs.Common.{rules, tests, ◌≡◌, ◌≢◌, ℕ, List, [], ◌∷◌, ◌++◌, length, refl, ap, sym, ◌∙◌, arith, subst, slice_get, Some}
+use Rattle.std.proofs.Common.{None, Option}
 use Rattle.std.proofs.Common.{Bool, true, false, cond, ◌⊎◌, inl, inr, length-append, zero, suc}
 use Rattle.std.specs.Prelude.{◌+◌, if◌then◌else◌, is_some, String}
 use Rattle.std.specs.declared.alloc.Global.{Global}
@@ -30,7 +31,8 @@ pub one_more : (records : List (List ℕ)) (text : List ℕ) (next : ℕ) (befor
     → ((other : List ℕ) → after other ≡ update bytes_eq before text (Some next) other) → Numbers (records ++ text ∷ []) after
 one_more records text next before after long numbers new updated = record {
   found = λ other n e. found other n (bytes_eq text other) (bytes_eq-Decides text other) (sym (updated other) ∙ e);
-  known = λ other n e. updated other ∙ known other n (bytes_eq text other) (bytes_eq-Decides text other) (get_pushed_cases records text n other e);
+  known = λ other n e. updated other ∙ known other n (bytes_eq text other) (bytes_eq-Decides text other)
+      (get_pushed_cases records text n other e);
 }
   where
     found : (other : List ℕ) (n : ℕ) (b : Bool) → Decides b (text ≡ other) → cond b (Some next) (before other) ≡ Some n

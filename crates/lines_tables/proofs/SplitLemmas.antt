@@ -1,5 +1,6 @@
 -- Up to the first line feed stands the first line, and behind it the others.
-use Rattle.std.proofs.Common.{rules, tests, ◌≡◌, ◌≢◌, ℕ, ◌+◌, ◌-◌, ◌<◌, ◌≤◌, List, [], ◌∷◌, length, take, drop, refl, ap, sym, ◌∙◌, arith, zero, suc, subst}
+use Rattle.std.proofs.Common.{rules, tests, ◌≡◌, ◌≢◌, ℕ, ◌+◌, ◌-◌, ◌<◌, ◌≤◌, List, [], ◌∷◌, length, take, drop, refl, ap, sym, ◌∙◌, arith}
+use Rattle.std.proofs.Common.{zero, suc, subst}
 use Rattle.std.proofs.Common.{Bool, true, false, not, cond, Some, None, add-one, length-drop, nat_lt}
 use Rattle.std.specs.Prelude.{◌==◌}
 use Rattle.std.specs.List.{position, position_or_len}
@@ -28,7 +29,8 @@ one_more x (y ∷ ys) h = ap (in_front x) (h (λ (e : y ∷ ys ≡ []). cc))
 one_on : (x : ℕ) (xs : List ℕ) (n : ℕ) → (x ∷ take n xs) ∷ lines_of (drop (suc n) xs) ≡ take (1 + n) (x ∷ xs) ∷ lines_of (drop (1 + n) xs)
 one_on x xs n = ap (λ (k : ℕ). take k (x ∷ xs) ∷ lines_of (drop k xs)) (let e : suc n ≡ 1 + n = omega arith in e)
 
-pub split_at_feed : (bytes : List ℕ) → bytes ≢ [] → lines_of bytes ≡ take (feed_at bytes) bytes ∷ lines_of (drop (suc (feed_at bytes)) bytes)
+pub split_at_feed : (bytes : List ℕ) → bytes ≢ [] → lines_of bytes ≡ take (feed_at bytes) bytes ∷ lines_of
+    (drop (suc (feed_at bytes)) bytes)
 split_at_feed [] some = absurd (some refl)
 split_at_feed (x ∷ xs) some = by_test (split_at_feed xs) (x == 10) refl
   where
@@ -47,7 +49,8 @@ feed_found bytes end e = by_test (nat_lt (feed_at bytes) (length bytes)) (feed_a
 pub feed_missing : (bytes : List ℕ) → None ≡ position (λ byte. byte == 10) bytes → length bytes ≡ feed_at bytes
 feed_missing bytes e = by_test (nat_lt (feed_at bytes) (length bytes)) refl e
   where
-    by_test : (b : Bool) → nat_lt (feed_at bytes) (length bytes) ≡ b → None ≡ cond b (Some (feed_at bytes)) None → length bytes ≡ feed_at bytes
+    by_test : (b : Bool) → nat_lt (feed_at bytes) (length bytes) ≡ b → None ≡ cond b (Some (feed_at bytes)) None →
+        length bytes ≡ feed_at bytes
     by_test true test h = cc
     by_test false test h =
         let past : length bytes ≤ feed_at bytes = search (rules, tests) in

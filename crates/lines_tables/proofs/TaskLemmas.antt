@@ -1,5 +1,6 @@
 -- One more operation: it begins after all of its task have ended, so it is the last of them to end.
-use Rattle.std.proofs.Common.{rules, tests, ◌≡◌, ◌≢◌, ℕ, ◌<◌, ◌≤◌, List, [], ◌∷◌, ◌++◌, length, refl, ap, sym, ◌∙◌, arith, subst, slice_get, Some, None, Option}
+use Rattle.std.proofs.Common.{rules, tests, ◌≡◌, ◌≢◌, ℕ, ◌<◌, ◌≤◌, List, [], ◌∷◌, ◌++◌, length, refl, ap, sym, ◌∙◌, arith, subst, slice_get}
+use Rattle.std.proofs.Common.{Some, None, Option}
 use Rattle.std.proofs.Common.{Bool, true, false, ◌⊎◌, inl, inr, IsSomeAnd, IfSome, nat_eq, nat_lt}
 use Rattle.std.proofs.lemmas.Option.{same_Some, slice_get_within}
 use Rattle.history_core.proofs.Places.{get_pushed_cases}
@@ -52,7 +53,8 @@ module _ {R : Type 0} where
   turns_more log next turn before p q a b at_a at_b same less =
       by_places (get_pushed_cases log next p a at_a) (get_pushed_cases log next q b at_b)
     where
-      by_places : (slice_get log p ≡ Some a) ⊎ ((p ≡ length log) × (next ≡ a)) → (slice_get log q ≡ Some b) ⊎ ((q ≡ length log) × (next ≡ b))
+      by_places : (slice_get log p ≡ Some a) ⊎ ((p ≡ length log) × (next ≡ a)) →
+          (slice_get log q ≡ Some b) ⊎ ((q ≡ length log) × (next ≡ b))
           → Precedes a b
       by_places (inl old) (inl also) = turn p q a b old also same less
       by_places (inl old) (inr new) =
@@ -147,13 +149,15 @@ overlap_of log next (Some last) first is e = by_end last.end refl e
       apart = subst (λ (z : Option ℕ). ¬ IsSomeAnd z (λ end. end < next.starts)) (sym (is.ends ∙ ends)) apart;
     }
 
-    by_end : (o : Option ℕ) → last.end ≡ o → (if ends_before o next.starts then None else Some last.place) ≡ Some first → Overlap log next first
+    by_end : (o : Option ℕ) → last.end ≡ o → (if ends_before o next.starts then None else Some last.place) ≡ Some first →
+        Overlap log next first
     by_end None ends h = fill None ends (λ x. x) (same_Some last.place first h)
     by_end (Some end) ends h = by_test (nat_lt end next.starts) refl h
       where
         by_test : (b : Bool) → nat_lt end next.starts ≡ b → (if b then None else Some last.place) ≡ Some first → Overlap log next first
         by_test true test k = cc
-        by_test false test k = fill (Some end) ends (λ (l : end < next.starts). absurd (search (rules, tests))) (same_Some last.place first k)
+        by_test false test k = fill (Some end) ends (λ (l : end < next.starts). absurd (search (rules, tests)))
+            (same_Some last.place first k)
 
 pub apart_keys : (k w : ℕ) → k ≢ w → is_eq (nat_cmp k w) ≡ false
 apart_keys k w apart = by_order (nat_cmp k w) refl

@@ -2,7 +2,8 @@
 ghost use Rattle.std.specs.Prelude.{◌≡◌, true, option_map, is_some, string_bytes, IfOk, OnOk};
 ghost use Rattle.serde_json.specs.View.{view};
 ghost use Rattle.history_text.specs.Refusals.{Gives};
-ghost use Rattle.lines_text.specs.Lines.{allowed, done_in, ends_later, entry_in, entry_of, has_record, line_seen, IsAllowed, MayFollow, op_seen, operation_in, record_in};
+ghost use Rattle.lines_text.specs.Lines.{allowed, done_in, ends_later, entry_in, entry_of, has_record, line_seen, IsAllowed, MayFollow};
+ghost use Rattle.lines_text.specs.Lines.{op_seen, operation_in, record_in};
 
 use crate::line::{LineOp, LogLine};
 use crate::record::record_text;

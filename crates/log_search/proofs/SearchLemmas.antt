@@ -1,6 +1,7 @@
 -- A log has one term and operations that run forwards, so only its writes stand in the way of a search. What holds of records that are
 -- the same by their fields holds of equal ones.
-use Rattle.std.proofs.Common.{rules, tests, ◌≡◌, ◌<◌, ◌≤◌, ◌&&◌, nat_le, ℕ, List, [], ◌∷◌, Option, Some, None, true, Bool, arith, IsSomeAnd, subst, sym, suc, zero}
+use Rattle.std.proofs.Common.{rules, tests, ◌≡◌, ◌<◌, ◌≤◌, ◌&&◌, nat_le, ℕ, List, [], ◌∷◌, Option, Some, None, true, Bool, arith, IsSomeAnd}
+use Rattle.std.proofs.Common.{subst, sym, suc, zero}
 use Rattle.std.specs.List.{list_all}
 use Rattle.std.specs.Option.{option_map_or}
 use Rattle.fsr_runs.specs.declared.fault.Fault.{Fault}
@@ -52,7 +53,8 @@ is_fault log (Backwards place) of_log stands = absurd of_log
 is_fault log (WritesOpening place) of_log stands = stands
 is_fault log (WritesTwice first second) of_log stands = stands
 
-pub searched : (log : History Band) (search : Search) → IsAnswered HaveSameFields log.opening log.terms log.ops search → IsLogSearch log search
+pub searched : (log : History Band) (search : Search) → IsAnswered HaveSameFields log.opening log.terms log.ops search →
+    IsLogSearch log search
 searched log search answered = subst (λ Same. IsAnswered Same log.opening log.terms log.ops search) fields_are_equality answered
 
 pub fault_found : (log : History Band) (error : SearchError) (f : Fault) → CanBeSearched log

@@ -81,7 +81,8 @@ impl<R> Model for BoardPlay<R> {
 }
 
 impl<R: Copy> BoardPlay<R> {
-    ghost use Rattle.matrix_board_play.specs.inner.BoardPlays.{after_board_step, CanHappen, CanStep, happened, next_board_opening, opened_first};
+    ghost use Rattle.matrix_board_play.specs.inner.BoardPlays.{after_board_step, CanHappen, CanStep, happened, next_board_opening};
+    ghost use Rattle.matrix_board_play.specs.inner.BoardPlays.{opened_first};
     ghost use Rattle.matrix_board_play.specs.inner.BoardPlays.{opening_board_play, wish_now};
 
     fn new(

@@ -1,7 +1,8 @@
 //! Why no order is lawful: the operations of the reason with their places, an arrow from each that precedes another, and a line of text.
 
 ghost use Rattle.std.specs.Prelude.{◌≡◌, ◌+◌, ◌≤◌, ◌++◌, OnOk, length, slice_get};
-ghost use Rattle.picture_text.specs.Picture.{arrow_text, begin_spot, both_words, crossed_words, end_spot, named_text, place_spot, precedence_text};
+ghost use Rattle.picture_text.specs.Picture.{arrow_text, begin_spot, both_words, crossed_words, end_spot, named_text, place_spot};
+ghost use Rattle.picture_text.specs.Picture.{precedence_text};
 ghost use Rattle.picture_text.specs.Picture.{precedes_words, reason_text, reason_words};
 
 use crate::marks::op_at;

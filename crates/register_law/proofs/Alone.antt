@@ -20,7 +20,8 @@ module _ (writes reads : Intervals) (m : ℕ) where
   no_more count (suc k) is alone = ⊎_elim (λ (l : k < count). let z : suc k ≤ count = omega arith in z)
       (λ (l : count ≤ k). absurd (alone.after k l (is.begun k (let e : suc k ≡ k + 1 = omega arith in e)))) (cases_lt k count)
 
-pub alone_is_last : {R : Type 0} (opening : R) (written : List R) (writes : Intervals) (answers : List R) (numbers : List ℕ) (reads : Intervals)
+pub alone_is_last : {R : Type 0} (opening : R) (written : List R) (writes : Intervals)
+    (answers : List R) (numbers : List ℕ) (reads : Intervals)
     (m count : ℕ) (answer : R) → IsRegular opening written writes answers numbers reads → IsAlone writes reads m count →
     slice_get answers m ≡ Some answer → slice_get (opening ∷ written) count ≡ Some answer
 alone_is_last opening written writes answers numbers reads m count answer is alone at =

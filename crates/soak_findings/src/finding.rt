@@ -1,6 +1,7 @@
 //! What a soak found.
 ghost use Rattle.std.specs.Prelude.{◌≡◌, ℕ};
-ghost use Rattle.soak_findings.specs.Findings.{exit_of, last_read, no_tally, stop_of, with_end, with_read, with_tally, with_write, wrong_end, wrong_read};
+ghost use Rattle.soak_findings.specs.Findings.{exit_of, last_read, no_tally, stop_of, with_end, with_read, with_tally, with_write};
+ghost use Rattle.soak_findings.specs.Findings.{wrong_end, wrong_read};
 
 use fsr_streams::Exit;
 use std::{fmt, io};

@@ -38,7 +38,8 @@ module _ {X C P G T : Type 0} (words : X → List ℕ) (cells : CellWords C X P 
   -- read so many after that write. What was counted in them, and the last numbers that were written and read
   pub data Rounds (cell : C) (put : P) (get : G) : ℕ → P → G → ℕ → ℕ → Tally → Type 0 where
     no_round : Rounds cell put get 0 put get 0 0 no_tally
-    one_round : (n : ℕ) (o p q : P) (f g h : G) (w x r s : ℕ) (t a b : Tally) → Rounds cell put get n o f w r t → HasHeardOfLast cell o p f g
+    one_round : (n : ℕ) (o p q : P) (f g h : G) (w x r s : ℕ) (t a b : Tally) →
+        Rounds cell put get n o f w r t → HasHeardOfLast cell o p f g
         → Adds (Wrote words w) calls (cells.written p) (cells.written q) a x
         → Adds (NotedReads words w) calls (cells.answers g) (cells.answers h) b s
         → Rounds cell put get (n + 1) q h x s (with_tally t (with_end (with_tally b a) x s))

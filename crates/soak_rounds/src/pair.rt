@@ -52,7 +52,8 @@ impl<'a, W: Shared, C: Cell<Record<W>>> Side for Writer<'a, W, C> {
 
     ghost ready = { λ s. C.is_put s.cell.now s.put };
 
-    ghost ran = { λ s t. (t.cell.now ≡ s.cell.now) × Adds (Wrote (λ r. W.listed r.words) s.last) CALLS (C.written s.put) (C.written t.put) t.tally t.last };
+    ghost ran = { λ s t. (t.cell.now ≡ s.cell.now) × Adds (Wrote (λ r. W.listed r.words) s.last) CALLS
+        (C.written s.put) (C.written t.put) t.tally t.last };
 
     ghost tally = { λ s. s.tally };
 
@@ -100,7 +101,8 @@ impl<'a, W: Shared, C: Cell<Record<W>>> Side for Reader<'a, W, C> {
 
     ghost ready = { λ s. C.is_get s.cell.now s.get };
 
-    ghost ran = { λ s t. (t.cell.now ≡ s.cell.now) × Adds (NotedReads (λ r. W.listed r.words) s.last) CALLS (C.answers s.get) (C.answers t.get) t.tally t.last };
+    ghost ran = { λ s t. (t.cell.now ≡ s.cell.now) × Adds (NotedReads (λ r. W.listed r.words) s.last) CALLS
+        (C.answers s.get) (C.answers t.get) t.tally t.last };
 
     ghost tally = { λ s. s.tally };
 

@@ -30,12 +30,14 @@ at_end [] x = refl
 at_end (z ∷ xs) x = at_end xs x
 
 module _ {V F S T : Type 0} (words : FamilyWords F (Posted V) S T) (obeys : V → Bool) (board : Board V F S T) where
-  module _ (passes others : List (Pass V F S T)) (p : Pass V F S T) (all : AllPasses words obeys board passes) (is : passes ≡ others ++ p ∷ [])
+  module _ (passes others : List (Pass V F S T)) (p : Pass V F S T) (all : AllPasses words obeys board passes)
+      (is : passes ≡ others ++ p ∷ [])
     where
       pub last_pass : IsPass words obeys board p × (p.process ≡ length others)
       last_pass = all.each (length others) p (ap (λ z. slice_get z (length others)) is ∙ at_end others p)
 
-      pub rejoined : (q : Pass V F S T) → IsPass words obeys board q → q.process ≡ p.process → AllPasses words obeys board (others ++ q ∷ [])
+      pub rejoined : (q : Pass V F S T) → IsPass words obeys board q → q.process ≡ p.process →
+          AllPasses words obeys board (others ++ q ∷ [])
       rejoined q pass process =
           let n : length passes ≡ length others + 1 = ap length is ∙ length-append others (p ∷ []) in
           let m : length (others ++ q ∷ []) ≡ length others + 1 = length-append others (q ∷ []) in

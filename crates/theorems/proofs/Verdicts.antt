@@ -12,7 +12,8 @@ use Rattle.history_reasons.specs.Searches.{IsAnswered, IsFault}
 use Rattle.theorems.specs.Checkers.{CheckerTheorem, IsLawful}
 
 module _ {R : Type 0} (Same : R → R → Type 0) (opening : R) (terms : List Term) (ops : List (Op R)) where
-  is_lawful : (order : List ℕ) (verdict : Verdict) → IsVerdict Same opening terms ops order verdict → IsLawful Same opening terms ops order →
+  is_lawful : (order : List ℕ) (verdict : Verdict) → IsVerdict Same opening terms ops order verdict →
+      IsLawful Same opening terms ops order →
       verdict ≡ Lawful
   is_lawful order Lawful h l = refl
   is_lawful order Listing h l = absurd (h l.0.listing)

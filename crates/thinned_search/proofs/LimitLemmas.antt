@@ -12,9 +12,11 @@ use Rattle.thinned_search.specs.Limits.{IsCounted, IsCountedBy, IsLawfulUnder, I
 use Rattle.history_thinning.specs.Thinnings.{limit_of}
 
 pub under_another : (own limit : ℕ) (log : List (Op ℕ)) (a b : Thinned) → b.history.opening ≡ a.history.opening
-    → b.history.terms ≡ one_term limit → b.history.ops ≡ a.history.ops → b.places ≡ a.places → IsThinnedLog own log a → IsThinnedLog limit log b
+    → b.history.terms ≡ one_term limit → b.history.ops ≡ a.history.ops → b.places ≡ a.places →
+    IsThinnedLog own log a → IsThinnedLog limit log b
 under_another own limit log a b opening terms ops places thin =
-    let kept : IsThinned Equal log a.history.ops b.places = subst (λ (ps : List ℕ). IsThinned Equal log a.history.ops ps) (sym places) thin.kept in
+    let kept : IsThinned Equal log a.history.ops b.places = subst (λ (ps : List ℕ). IsThinned Equal log a.history.ops ps)
+    (sym places) thin.kept in
     record {
       opening = opening ∙ thin.opening;
       term = terms;

@@ -10,7 +10,8 @@ use history_thinning::{LogAnswer, Thinned};
 use std::alloc::Global;
 use thinned_answers::answer_of;
 
-/// What a search of the whole log would answer, from few of its operations, which has all that a reason names. It takes n log n steps for n operations that were kept.
+/// What a search of the whole log would answer, from few of its operations, which has all that a reason names. It takes n log n steps for n
+/// operations that were kept.
 pub fn search_thinned(alloc: Global, thinned: &Thinned) -> Result<LogAnswer, SearchError>
     ensures { MatchResult result
         (λ answer. (limit : ℕ) (log : List (Op ℕ)) → IsThinnedLog limit log thinned.now →

@@ -65,7 +65,8 @@ impl<V: RecordLaw, F: Family<Posted<V>>> Lane<V, F> {
         ensures pass { IsPass ⟦<F as Family<Posted<V>>>⟧ V.obeys board.now self.new.pass }
         ensures lane { IsLane V.obeys self.new }
         ensures script { self.new.script ≡ self.old.script }
-        ensures entry { (e : _) × (self.new.log.items ≡ self.old.log.items ++ e ∷ []) × IsEntry ⟦<F as Family<Posted<V>>>⟧ V.obeys board.now self.old.pass e self.new.pass }
+        ensures entry { (e : _) × (self.new.log.items ≡ self.old.log.items ++ e ∷ [])
+            × IsEntry ⟦<F as Family<Posted<V>>>⟧ V.obeys board.now self.old.pass e self.new.pass }
     {
         let wish = self.script[self.log.len()];
         let reply = answer(board, &mut self.pass, wish);

@@ -17,11 +17,14 @@ impl<V: Free + Drop, F: Family<Posted<V>>> Sits for Place<V, F> {
 }
 
 impl<V: Free + Drop, F: Family<Posted<V>>> Sitting<V> for Place<V, F> {
-    ghost has_posted = { λ p q. HasPosted ⟦<F as Family<Posted<V>>>⟧ V.obeys (arc_value p.board) (arc_value q.board) p.pass.value q.pass.value };
+    ghost has_posted = { λ p q. HasPosted ⟦<F as Family<Posted<V>>>⟧ V.obeys (arc_value p.board)
+        (arc_value q.board) p.pass.value q.pass.value };
 
-    ghost is_refused = { λ p q. IsRefused ⟦<F as Family<Posted<V>>>⟧ V.obeys (arc_value p.board) (arc_value q.board) p.pass.value q.pass.value };
+    ghost is_refused = { λ p q. IsRefused ⟦<F as Family<Posted<V>>>⟧ V.obeys (arc_value p.board)
+        (arc_value q.board) p.pass.value q.pass.value };
 
-    ghost has_seen = { λ p q. HasSeen ⟦<F as Family<Posted<V>>>⟧ V.obeys (arc_value p.board) (arc_value q.board) p.pass.value q.pass.value };
+    ghost has_seen = { λ p q. HasSeen ⟦<F as Family<Posted<V>>>⟧ V.obeys (arc_value p.board)
+        (arc_value q.board) p.pass.value q.pass.value };
 
     ghost is_made = { λ n limit w ss. IsBoardOf ⟦<F as Family<Posted<V>>>⟧ V.obeys n limit w
         (map (λ s. arc_value s.board) ss) (map (λ s. s.pass.value) ss) };

@@ -12,7 +12,8 @@ use Rattle.four_slot_core.specs.declared.state.ReaderStage.TheVariants.{R1, R2, 
 use Rattle.four_slot_core.specs.Events.{side, with_side, record_in, slot_with, after_write, after_read, next_write, opening_state, same_bit}
 use Rattle.four_slot_core.specs.Events.{same_slot, is_reading, is_writing}
 use Rattle.four_slot_core.specs.Invariant.{IsSoundAt, IsSound, last_after, HasSlot, HasIndex, IsKept, IsReading, IsUnmet, latest_slot}
-use Rattle.four_slot_core.proofs.events.TwoSides.{not_same, other, bit_cases, side_same, side_other, same_slot_of, record_same, record_other}
+use Rattle.four_slot_core.proofs.events.TwoSides.{not_same, other, bit_cases, side_same, side_other, same_slot_of, record_same}
+use Rattle.four_slot_core.proofs.events.TwoSides.{record_other}
 
 pub keep_write : {R : Type 0} (w : Stage) (r : ReaderStage) (x : R) (s : State R) (last : R) → IsSoundAt w r s last →
     IsSoundAt (next_write w) r (after_write w x s) (last_after w s last)

@@ -30,7 +30,8 @@ read_done n limit i wish line answer = let g = gathered answer (begun wish line)
 pub write_done : {R : Type 0} (n : ℕ) (line : Progress R) → line.done + 3 ≤ 2 * n → 2 ≤ n → (after_write n line).done + 3 ≤ 2 * n
 write_done n line h two = grind (arith, nat_tests)
 
-pub begun_first : {R : Type 0} (wish : Wish R) (line : Progress R) → line.done ≡ 0 → begun wish line ≡ record line { wish = wish; seen = line.own }
+pub begun_first : {R : Type 0} (wish : Wish R) (line : Progress R) → line.done ≡ 0 →
+    begun wish line ≡ record line { wish = wish; seen = line.own }
 begun_first wish line e = let b : nat_eq line.done 0 ≡ true = same _ _ e in rw b refl
 
 pub begun_later : {R : Type 0} (wish : Wish R) (line : Progress R) → 0 < line.done → begun wish line ≡ line

@@ -9,7 +9,8 @@ returns-in-None g c = other (is_live refl, c.in-None.ensures.none) (same_side re
 
 pub returns-in-None-post : goal.returns-in-None-post
 returns-in-None-post g c =
-    worn_out c.in-Some.sits.now c.post.new.self (is_live refl, c.in-Some.ensures.some) (is_live refl, refl) c.in-None-post.ensures.refused refl
+    worn_out c.in-Some.sits.now c.post.new.self (is_live refl, c.in-Some.ensures.some)
+    (is_live refl, refl) c.in-None-post.ensures.refused refl
 
 pub returns-in-Some-post : goal.returns-in-Some-post
 returns-in-Some-post g c =

@@ -13,4 +13,5 @@ pub returns-clause-write : goal.returns-clause-write
 returns-clause-write g c =
     let was : c.args.live ≢ 0 = search rules in
     let before : g.L.Holds.side c.args.loose.now ≡ c.as_mut.result.now = sym c.take-side.ensures.1 ∙ sym c.as_mut.ensures.value in
-    write_live g.D.Offers.side c.args.live was before c.put.ensures.1 g.S.Posts.has_posted g.S.Posts.is_refused c.args.item.now _ _ c.write_among-status.ensures
+    write_live g.D.Offers.side c.args.live was before c.put.ensures.1 g.S.Posts.has_posted
+    g.S.Posts.is_refused c.args.item.now _ _ c.write_among-status.ensures

@@ -43,7 +43,8 @@ known_spec 𝓤 𝓛 𝓜 𝓡 wired X LX g d dd met md =
     let y : (walk_of 𝓛 En hs c).Ghost = ((κs, qs, bounds, a, (vptr a.0.ref_ptr.0 a.0.ref_ptr.1 ∷ [], tt)), gh) in
     let Post : Val → SProp 𝓤 = (walk_of 𝓛 En hs c).post y in
     let known : Type 0 = g.sits a.0.now in
-    qed 𝓛 ((raw (alive 𝓛 En.signature κs qs) ⊛ ‵ (owns (types_at En.signature.params κs) a y.0.4)) ∷ raw (fact 𝓤 _) ∷ raw (fact 𝓤 ∥ known ∥₁) ∷ []) ∵
+    qed 𝓛 ((raw (alive 𝓛 En.signature κs qs) ⊛ ‵ (owns (types_at En.signature.params κs) a y.0.4)) ∷ raw
+    (fact 𝓤 _) ∷ raw (fact 𝓤 ∥ known ∥₁) ∷ []) ∵
     keep ! (0 ∷ 2 ∷ []) $ split ! $ move ! (1 ∷ []) $ drop ! $ move ! (1 ∷ []) $
     use1 𝓛 (raw (fact 𝓤 known)) (opened 𝓤 known) $ heard ! known (λ x.
     enter ! 𝓣.C 𝓣.Λ fn (vptr a.0.ref_ptr.0 a.0.ref_ptr.1 ∷ []) Post $ alloc_all ! (λ l. pass_all ! refl ((tt, tt), tt) $

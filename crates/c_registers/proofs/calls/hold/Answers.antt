@@ -4,7 +4,10 @@ use Rattle.c_registers.specs.TripleCalls.{reader, other}
 use Rattle.c_registers.proofs.calls.hold.Goals as goal
 
 pub returns-in-None : goal.returns-in-None
-returns-in-None g c = ((refl, (λ d. tt), other c.in-None.ensures.none refl), record { stays = tt; some = tt; none = c.in-None.ensures.none })
+returns-in-None g c = (
+  (refl, (λ d. tt), other c.in-None.ensures.none refl),
+  record { stays = tt; some = tt; none = c.in-None.ensures.none },
+)
 
 pub returns-in-Some : goal.returns-in-Some
 returns-in-Some g c =

@@ -13,4 +13,5 @@ pub returns-clause-write : goal.returns-clause-write
 returns-clause-write g c =
     let was : c.args.live ≢ 0 = search rules in
     let before : g.L.Holds.side c.args.loose.now ≡ c.as_mut.result.now = sym c.take-side.ensures.1 ∙ sym c.as_mut.ensures.value in
-    write_live g.D.Offers.side c.args.live was before c.put.ensures.1 g.P.Writing.last g.P.Writing.has_written c.args.item.now c.write_among-status.ensures
+    write_live g.D.Offers.side c.args.live was before c.put.ensures.1 g.P.Writing.last
+    g.P.Writing.has_written c.args.item.now c.write_among-status.ensures

@@ -1,6 +1,7 @@
 -- The operations that the player makes of its parts are those of the schedule: each stands where its beginning is played, ends
 -- where its last step is, and does what was planned, since no step of the schedule is without an operation.
-use Rattle.std.proofs.Common.{◌≡◌, ℕ, ◌<◌, ◌+◌, ◌*◌, List, [], ◌∷◌, map, replicate, slice_get, Option, Some, inl, zero, suc, refl, sym, subst}
+use Rattle.std.proofs.Common.{◌≡◌, ℕ, ◌<◌, ◌+◌, ◌*◌, List, [], ◌∷◌, map, replicate, slice_get, Option, Some, inl, zero, suc, refl, sym}
+use Rattle.std.proofs.Common.{subst}
 use Rattle.std.proofs.Common.{◌∙◌, ap, arith}
 use Rattle.std.specs.Option.{option_map}
 use Rattle.std.proofs.lemmas.Option.{same_Some, slice_get-map}

@@ -8,7 +8,8 @@ use Rattle.fsr_answers.proofs.program.run_command.Goals as goal
 
 pub returns-in-Ok-clause-runs : goal.returns-in-Ok-clause-runs
 returns-in-Ok-clause-runs g c =
-    ends_answered (IsFsrAnswer g.F.Family c.args.want) (is_unbounded (Some c.args.want)) _ _ _ _ c.in-Ok.bytes.items _ _ _ _ c.answer-reply.result c.in-Ok.ensures.taken
+    ends_answered (IsFsrAnswer g.F.Family c.args.want) (is_unbounded (Some c.args.want))
+    _ _ _ _ c.in-Ok.bytes.items _ _ _ _ c.answer-reply.result c.in-Ok.ensures.taken
     c.as_slice.ensures.value c.answer-reply.ensures (low_answer g.F.Family c.args.want _ c.answer-reply.result c.answer-reply.ensures)
     c.give_answer.ensures.given
 

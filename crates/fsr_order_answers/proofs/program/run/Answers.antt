@@ -7,12 +7,15 @@ use Rattle.fsr_order_answers.proofs.program.run.Goals as goal
 
 pub returns-in-Ok-clause-runs : goal.returns-in-Ok-clause-runs
 returns-in-Ok-clause-runs g c =
-    ends_answered (IsOrderAnswer c.args.show) are_lines _ _ _ _ c.in-Ok.bytes.items _ _ _ _ c.order-reply.result c.in-Ok.ensures.taken c.as_slice.ensures.value
-    c.order-reply.ensures (low_order c.args.show c.as_slice.result.now c.order-reply.result c.order-reply.ensures) c.give_answer.ensures.given
+    ends_answered (IsOrderAnswer c.args.show) are_lines _ _ _ _ c.in-Ok.bytes.items
+    _ _ _ _ c.order-reply.result c.in-Ok.ensures.taken c.as_slice.ensures.value
+    c.order-reply.ensures (low_order c.args.show c.as_slice.result.now c.order-reply.result c.order-reply.ensures)
+    c.give_answer.ensures.given
 
 pub returns-in-Ok-clause-fails : goal.returns-in-Ok-clause-fails
 returns-in-Ok-clause-fails g c =
-    fails_answered _ _ _ _ _ _ _ c.order-reply.result c.in-Ok.ensures.counts (low_order c.args.show c.as_slice.result.now c.order-reply.result c.order-reply.ensures)
+    fails_answered _ _ _ _ _ _ _ c.order-reply.result c.in-Ok.ensures.counts
+    (low_order c.args.show c.as_slice.result.now c.order-reply.result c.order-reply.ensures)
     c.give_answer.ensures.given
 
 pub returns-in-Err-clause-runs : goal.returns-in-Err-clause-runs

@@ -8,7 +8,8 @@ use Rattle.fsr_race_answers.proofs.races.race.Goals as goal
 
 pub run_tasks-requires-after_bounds : goal.run_tasks-requires-after_bounds
 run_tasks-requires-after_bounds g c κs within =
-    race_ready g.F.Family c.in-Ok.made.0 _ _ _ c.in-Ok.made.1.items c.args.scripts c.in_ok-lanes.lanes.items _ c.in-Ok.ensures c.in_ok-lanes.ensures
+    race_ready g.F.Family c.in-Ok.made.0 _ _ _ c.in-Ok.made.1.items c.args.scripts
+    c.in_ok-lanes.lanes.items _ c.in-Ok.ensures c.in_ok-lanes.ensures
     c.as_mut_slice.ensures.value
 
 pub finish_lanes-requires : goal.finish_lanes-requires
@@ -25,7 +26,8 @@ returns-clause-report g c =
     let n : c.in_ok-lanes.lanes.len ≡ length c.in_ok-lanes.lanes.items = search rules in
     let whole = changed_whole c.in_ok-lanes.lanes.len c.in_ok-lanes.lanes.items c.as_mut_slice.result.now c.run_tasks.new.lanes _ n
     c.as_mut_slice.ensures.value c.run_tasks.ensures.lengths refl in
-    race_of g.F.Family (Permitted g.G.Gate.is_for c.args.gate.now) (g.G.Gate.may_stop c.args.gate.now) c.args.opening c.args.limit _ c.args.scripts
+    race_of g.F.Family (Permitted g.G.Gate.is_for c.args.gate.now) (g.G.Gate.may_stop c.args.gate.now)
+    c.args.opening c.args.limit _ c.args.scripts
     c.in-Ok.made.0 c.in-Ok.made.1.items c.in_ok-lanes.lanes.items c.as_mut_slice.result.now c.run_tasks.new.lanes _ c.in_ok-logs.logs.items
     c.as_slice.result.now c.as_slice-2.result.now _ c.check_origin.result c.new-tasks.result c.broken_at-broken.result
     (ap length c.as_slice-processes.ensures) c.in-Ok.ensures c.in_ok-lanes.ensures c.as_mut_slice.ensures.value c.run_tasks.ensures whole

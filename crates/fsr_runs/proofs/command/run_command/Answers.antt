@@ -5,7 +5,8 @@ use Rattle.fsr_runs.proofs.command.run_command.Goals as goal
 
 pub returns-in-Ok-clause-runs : goal.returns-in-Ok-clause-runs
 returns-in-Ok-clause-runs g c =
-    ends_answered (g.C.Command.is_reply c.args.command.now) never _ _ _ _ c.in-Ok.bytes.items _ _ _ _ c.reply-reply.result c.in-Ok.ensures.taken
+    ends_answered (g.C.Command.is_reply c.args.command.now) never _ _ _ _ c.in-Ok.bytes.items
+    _ _ _ _ c.reply-reply.result c.in-Ok.ensures.taken
     c.as_slice.ensures.value c.reply-reply.ensures.gives c.reply-reply.ensures.low c.give_answer.ensures.given
 
 pub returns-in-Ok-clause-fails : goal.returns-in-Ok-clause-fails

@@ -1,5 +1,6 @@
 -- One more operation joins the span of its group.
-use Rattle.std.proofs.Common.{Option, ◌≡◌, ◌+◌, ◌<◌, ◌≤◌, ℕ, List, length, get_or, set, arith, None, Some, slice_get, refl, sym, subst, ap, ◌∙◌}
+use Rattle.std.proofs.Common.{Option, ◌≡◌, ◌+◌, ◌<◌, ◌≤◌, ℕ, List, length, get_or, set, arith, None, Some, slice_get, refl, sym, subst, ap}
+use Rattle.std.proofs.Common.{◌∙◌}
 use Rattle.std.proofs.lemmas.Option.{slice_get-get_or, slice_get_read}
 use Rattle.history_search.specs.declared.span.Span.{Span}
 use Rattle.history_search.specs.inner.Groups.{AreSpans, empty_span}
@@ -49,7 +50,8 @@ loop-place-preserved g c =
       | in-Some w ↦
           let group : ℕ = w.in-Some.group in
           let here : slice_get c.args.groups.now n ≡ Some (Some group) = at ∙ ap Some w.in-Some.is in
-          let ls : group < length c.loop-place.spans = let h = c.requires.within n group here in omega (arith, c.loop-place.invariant.long) in
+          let ls : group < length c.loop-place.spans = let h = c.requires.within n group here in
+          omega (arith, c.loop-place.invariant.long) in
           let o = w.index-ops-place.result in
           let span : Span = get_or c.loop-place.spans group empty_span in
           let Q : Span → Type 0 = λ z. P (set c.loop-place.spans group z) in

@@ -12,9 +12,11 @@ read-requires-clause-known c =
 
 pub returns-in-Err-clause-fault : goal.returns-in-Err-clause-fault
 returns-in-Err-clause-fault c = λ opening read.
-    at_fault opening c.args.reader.now.limited c.lines.ended (lines_of c.args.body.now) c.lines.rest.now c.in-Some.line.now c.in-Some.behind.now
+    at_fault opening c.args.reader.now.limited c.lines.ended (lines_of c.args.body.now)
+    c.lines.rest.now c.in-Some.line.now c.in-Some.behind.now
     c.lines.reader c.in-Err.fault (c.lines.invariant.way opening read) c.in-Some.ensures
-    (λ lines was. subst (λ (b : Bool). IsLineFault opening c.lines.reader.limited lines c.in-Some.line.now b c.in-Err.fault) c.is_end-last.ensures
+    (λ lines was. subst (λ (b : Bool). IsLineFault opening c.lines.reader.limited lines c.in-Some.line.now b c.in-Err.fault)
+    c.is_end-last.ensures
     (c.in-Err.ensures.fault opening lines was))
 
 pub lines-preserved : goal.lines-preserved
@@ -22,7 +24,8 @@ lines-preserved c = record {
   way = λ opening read.
       one_more opening c.args.reader.now.limited c.lines.ended (lines_of c.args.body.now) c.lines.rest.now c.in-Some.line.now
       c.in-Some.behind.now c.lines.reader c.read.new.self c.in-Ok.ended (c.lines.invariant.way opening read) c.in-Some.ensures
-      (λ lines was. subst (λ (b : Bool). ReadsLine opening lines c.in-Some.line.now b c.lines.reader c.read.new.self c.in-Ok.ended) c.is_end-last.ensures
+      (λ lines was. subst (λ (b : Bool). ReadsLine opening lines c.in-Some.line.now b c.lines.reader c.read.new.self c.in-Ok.ended)
+      c.is_end-last.ensures
       (c.in-Ok.ensures.read opening lines was)) c.in-Ok.ensures.limited;
   limits = c.in-Ok.ensures.limited ∙ c.lines.invariant.limits;
   room = omega (arith, c.in-Ok.ensures.grows, c.in-Some.ensures.shorter, c.lines.invariant.room);

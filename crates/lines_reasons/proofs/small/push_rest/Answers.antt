@@ -5,5 +5,6 @@ use Rattle.lines_reasons.proofs.small.push_rest.Goals as goal
 
 pub loop-op-preserved : goal.loop-op-preserved
 loop-op-preserved c =
-    one_more (next_text c.args.ops.now) c.args.text.now.items c.loop-op.text.items _ c.args.rest.now c.loop-op.op-index _ c.loop-op-test.true
+    one_more (next_text c.args.ops.now) c.args.text.now.items c.loop-op.text.items
+    _ c.args.rest.now c.loop-op.op-index _ c.loop-op-test.true
     c.loop-op.invariant c.in_ok-push_next.ensures

@@ -10,7 +10,8 @@ use Rattle.matrix_core.proofs.overruns.overrun_of.Goals as goal
 -- the step is one of a process that has a plan
 of_process : {P : Type 0} (steps given : List ℕ) (plans : List P) (i : ℕ) → given ≡ steps
     → ((k who : ℕ) → slice_get steps k ≡ Some who → who < length plans) → i < length given → get_or given i 0 < length plans
-of_process steps given plans i same each lt = each i (get_or given i 0) (ap (λ xs. slice_get xs i) (sym same) ∙ slice_get-get_or given i 0 lt)
+of_process steps given plans i same each lt = each i (get_or given i 0)
+    (ap (λ xs. slice_get xs i) (sym same) ∙ slice_get-get_or given i 0 lt)
 
 pub accesses-accesses-requires : goal.accesses-accesses-requires
 accesses-accesses-requires g c = rw c.as_slice-plans.ensures (c.requires.at_least, c.requires.at_most)
@@ -21,28 +22,32 @@ nonzero_div-made g c = c.accesses-accesses.ensures.some
 pub bounds-made-who : goal.bounds-made-who
 bounds-made-who g c =
     let l : get_or c.as_slice-who-items.result.now c.loop-step.step 0 < length c.args.term.now.plans =
-    of_process c.args.term.now.steps _ c.args.term.now.plans c.loop-step.step c.as_slice-who-items.ensures c.requires.steps c.loop-step-test.true in
+    of_process c.args.term.now.steps _ c.args.term.now.plans c.loop-step.step
+    c.as_slice-who-items.ensures c.requires.steps c.loop-step-test.true in
     let m : length c.args.term.now.plans ≤ 16 = c.requires.at_most in
     omega arith
 
 pub bounds-made-who-in-loop-step : goal.bounds-made-who-in-loop-step
 bounds-made-who-in-loop-step g c =
     let l : get_or c.as_slice-who-items.result.now c.loop-step.step 0 < length c.args.term.now.plans =
-    of_process c.args.term.now.steps _ c.args.term.now.plans c.loop-step.step c.as_slice-who-items.ensures c.requires.steps c.loop-step-test.true in
+    of_process c.args.term.now.steps _ c.args.term.now.plans c.loop-step.step
+    c.as_slice-who-items.ensures c.requires.steps c.loop-step-test.true in
     let m : length c.args.term.now.plans ≤ 16 = c.requires.at_most in
     omega arith
 
 pub bounds-made-who-in-loop-step-2 : goal.bounds-made-who-in-loop-step-2
 bounds-made-who-in-loop-step-2 g c =
     let l : get_or c.as_slice-who-items.result.now c.loop-step.step 0 < length c.args.term.now.plans =
-    of_process c.args.term.now.steps _ c.args.term.now.plans c.loop-step.step c.as_slice-who-items.ensures c.requires.steps c.loop-step-test.true in
+    of_process c.args.term.now.steps _ c.args.term.now.plans c.loop-step.step
+    c.as_slice-who-items.ensures c.requires.steps c.loop-step-test.true in
     let m : length c.args.term.now.plans ≤ 16 = c.requires.at_most in
     omega arith
 
 pub bounds-plans-who : goal.bounds-plans-who
 bounds-plans-who g c =
     let l : get_or c.as_slice-who-items.result.now c.loop-step.step 0 < length c.args.term.now.plans =
-    of_process c.args.term.now.steps _ c.args.term.now.plans c.loop-step.step c.as_slice-who-items.ensures c.requires.steps c.loop-step-test.true in
+    of_process c.args.term.now.steps _ c.args.term.now.plans c.loop-step.step
+    c.as_slice-who-items.ensures c.requires.steps c.loop-step-test.true in
     let long : length c.as_slice-plans.result.now ≡ length c.args.term.now.plans = ap length c.as_slice-plans.ensures in
     omega arith
 

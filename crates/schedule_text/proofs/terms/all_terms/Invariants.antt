@@ -7,4 +7,5 @@ use Rattle.schedule_text.specs.Shapes.{as_term}
 use Rattle.schedule_text.proofs.terms.all_terms.Given as goal
 
 abbrev pub invariant-loop-item : goal.invariant-loop-item
-invariant-loop-item l = with_front l.found.items (all_of as_term (map view (drop l.item-index l.values))) ≡ all_of as_term (map view l.values)
+invariant-loop-item l = with_front l.found.items (all_of as_term (map view (drop l.item-index l.values)))
+    ≡ all_of as_term (map view l.values)

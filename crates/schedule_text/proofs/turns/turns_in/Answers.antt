@@ -14,7 +14,8 @@ loop-letter-preserved c =
     let i : ℕ = c.loop-letter.letter-index in
     let letter : ℕ = get_or c.args.letters.now i 0 in
     let at : slice_get c.args.letters.now i ≡ Some letter = slice_get-get_or c.args.letters.now i 0 c.loop-letter-test.true in
-    one_more turn_named c.loop-letter.turns.items c.push.new.self.items c.args.letters.now i letter c.in-Some.turn c.in_ok-push.ensures.items at
+    one_more turn_named c.loop-letter.turns.items c.push.new.self.items c.args.letters.now
+    i letter c.in-Some.turn c.in_ok-push.ensures.items at
     (sym c.turn_named.ensures ∙ c.in-Some.is)
     ∙ c.loop-letter.invariant
 

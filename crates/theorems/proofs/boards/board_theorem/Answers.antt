@@ -40,5 +40,9 @@ returns g c =
       write_chosen = c.write-wrote.ensures.call.2;
       so_far = subst (λ z. AllAreShown g.F.Family c.args.board z c.so_far-shown.result) c.push_reserved.ensures.items shown;
       still = c.so_far-shown.ensures.same ∙ ap (λ z. map standing z) c.push_reserved.ensures.items;
-      ended = record { greatest = c.finish-last.ensures.last; order = c.finish-last.ensures.atomic; registers = c.finish-last.ensures.registers };
+      ended = record {
+        greatest = c.finish-last.ensures.last;
+        order = c.finish-last.ensures.atomic;
+        registers = c.finish-last.ensures.registers;
+      };
     }

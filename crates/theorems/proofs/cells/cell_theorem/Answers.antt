@@ -16,7 +16,8 @@ returns g c =
       write_timed = subst (λ z. IsNextCall (words.put_times c.args.put) z) (sym c.tell-receipt.ensures.timed.0) c.write.ensures.timed;
       write_accesses = subst (λ z. z ≤ words.put_accesses c.args.put + 3) (sym c.tell-receipt.ensures.same.1) c.write.ensures.accesses;
       hears = c.learn.ensures.heard ∙ ap (λ z. words.heard c.args.get ++ z ∷ []) (c.tell-receipt.ensures.tells
-          ∙ ap (λ z. known_as z (words.put_times put)) (sym same) ∙ ap (known_as (words.written c.tell-receipt.new.put)) (sym c.tell-receipt.ensures.timed.0));
+          ∙ ap (λ z. known_as z (words.put_times put)) (sym same)
+          ∙ ap (known_as (words.written c.tell-receipt.new.put)) (sym c.tell-receipt.ensures.timed.0));
       still = c.learn.ensures.same.0;
       answers = c.read-answer.ensures.answers ∙ ap (λ z. z ++ c.read-answer.result ∷ []) c.learn.ensures.same.0;
       lawful = c.read-answer.ensures.running;

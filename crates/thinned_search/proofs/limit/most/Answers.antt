@@ -7,7 +7,8 @@ use Rattle.thinned_search.proofs.limit.most.Goals as goal
 pub between-preserved-then-branch : goal.between-preserved-then-branch
 between-preserved-then-branch c = record {
   known = λ own log thin none. record {
-    reached = inr (subst (λ (b : Bool). IsLawfulUnder log c.middle-middle.result b) c.if-branch.true (c.in_ok-is_lawful_under.ensures own log thin));
+    reached = inr (subst (λ (b : Bool). IsLawfulUnder log c.middle-middle.result b) c.if-branch.true
+        (c.in_ok-is_lawful_under.ensures own log thin));
     beyond = (c.between.invariant.known own log thin none).beyond;
   };
   ordered = search rules;
@@ -18,7 +19,8 @@ pub between-preserved : goal.between-preserved
 between-preserved c = record {
   known = λ own log thin none. record {
     reached = (c.between.invariant.known own log thin none).reached;
-    beyond = subst (λ (b : Bool). IsLawfulUnder log c.middle-middle.result b) c.if-branch.false (c.in_ok-is_lawful_under.ensures own log thin);
+    beyond = subst (λ (b : Bool). IsLawfulUnder log c.middle-middle.result b) c.if-branch.false
+        (c.in_ok-is_lawful_under.ensures own log thin);
   };
   ordered = search rules;
   apart = λ limited. c.middle-middle.ensures.above;

@@ -17,7 +17,8 @@ hear-requires-clause-reader g c =
     (n, get.known)
 
 pub hear-requires-clause-receipt : goal.hear-requires-clause-receipt
-hear-requires-clause-receipt g c = let receipt = c.args.receipt in (snap (receipt_or (dated receipt.spare) receipt.seat.inner.me.0), receipt.known)
+hear-requires-clause-receipt g c = let receipt = c.args.receipt in
+    (snap (receipt_or (dated receipt.spare) receipt.seat.inner.me.0), receipt.known)
 
 pub returns-clause-timed : goal.returns-clause-timed
 returns-clause-timed g c =

@@ -43,7 +43,8 @@ bounds-order-i g c = omega (arith, c.loop-i-test.true, c.loop-i.auto.i)
 
 pub offset_bounds-ops-order : goal.offset_bounds-ops-order
 offset_bounds-ops-order g c =
-    let inside = entry_in c.args.ops.now c.args.order.now (c.loop-i.i - 1) c.requires (omega (arith, c.loop-i-test.true, c.loop-i.auto.i)) in
+    let inside = entry_in c.args.ops.now c.args.order.now (c.loop-i.i - 1) c.requires
+    (omega (arith, c.loop-i-test.true, c.loop-i.auto.i)) in
     omega (arith, inside)
 
 pub bounds-ops-order : goal.bounds-ops-order

@@ -24,7 +24,8 @@ returns-in-Ok-enter-2-clause-entered c = λ opening lines line last read judged.
 
 pub returns-in-Err-thin-clause-fault : goal.returns-in-Err-thin-clause-fault
 returns-in-Err-thin-clause-fault c = λ opening lines line last read judged.
-    repeated opening lines line last c.args.self.now c.number_op.new.numbering (op_seen c.args.op) c.in-Ok.next c.in-Err-thin.fault read judged
+    repeated opening lines line last c.args.self.now c.number_op.new.numbering
+    (op_seen c.args.op) c.in-Ok.next c.in-Err-thin.fault read judged
     c.in-Ok.ensures (c.in-Err-thin.ensures.fault read.log (sym read.count) read.kept)
 
 pub returns-in-Err-Overlaps-clause-fault : goal.returns-in-Err-Overlaps-clause-fault
@@ -36,6 +37,7 @@ returns-in-Err-Overlaps-clause-fault c = λ opening lines line last read judged.
       c.line_at.result,
       c.line_at-in-Err-Overlaps.result,
       refl,
-      overlapped opening lines line last c.args.self.now c.number_op.new.numbering (op_seen c.args.op) c.in-Ok.next c.in-Err-Overlaps.first _ _
+      overlapped opening lines line last c.args.self.now c.number_op.new.numbering
+          (op_seen c.args.op) c.in-Ok.next c.in-Err-Overlaps.first _ _
           read judged c.in-Ok.ensures overlap c.line_at.ensures (c.line_at-in-Err-Overlaps.ensures ∙ ap line_at read.count),
     )))

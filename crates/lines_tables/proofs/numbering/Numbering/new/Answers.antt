@@ -7,7 +7,8 @@ use Rattle.lines_tables.proofs.numbering.Numbering.new.Goals as goal
 pub returns : goal.returns
 returns c =
     let text : List ℕ = string_bytes c.args.opening in
-    let none : c.in_ok-insert.field-0 ≡ None = c.in_ok-insert.ensures.old ∙ none_there c.new-numbers.result c.new-numbers.ensures.empty text in
+    let none : c.in_ok-insert.field-0 ≡ None = c.in_ok-insert.ensures.old
+    ∙ none_there c.new-numbers.result c.new-numbers.ensures.empty text in
     let more = one_more [] text 0 _ _ refl (none_yet c.new-numbers.result c.new-numbers.ensures.empty)
     (none_there c.new-numbers.result c.new-numbers.ensures.empty text)
     (btree_map_updates_text text c.new-numbers.result c.insert.new.self _ c.in_ok-insert.ensures.updates) in

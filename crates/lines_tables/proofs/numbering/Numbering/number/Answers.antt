@@ -30,6 +30,7 @@ returns-in_ok-insert-in-None c = λ records numbers.
       numbers = record {
         found = more.found;
         known = more.known;
-        long = one_longer c.in_ok-insert-in-None.field-0 _ _ records text (c.in_ok-insert-in-None.ensures.old ∙ none) c.in_ok-insert-in-None.ensures.len numbers.long;
+        long = one_longer c.in_ok-insert-in-None.field-0 _ _ records text
+            (c.in_ok-insert-in-None.ensures.old ∙ none) c.in_ok-insert-in-None.ensures.len numbers.long;
       };
     }

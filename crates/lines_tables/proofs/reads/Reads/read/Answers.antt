@@ -8,4 +8,5 @@ pub returns : goal.returns
 returns c = λ log op is knows.
     given_first log op c.args.self.now _ c.args.number c.make_room.new.seen.items is
     (not_before c.args.self.now.seen.items c.args.number (ap (λ z. was_read z c.args.number) (sym c.as_slice.ensures.value)
-    ∙ sym c.was_read.ensures ∙ c.if-was_read.false)) c.in_ok-make_room.ensures.grown c.in_ok-make_room.ensures.room refl c.in_ok-count.ensures knows
+    ∙ sym c.was_read.ensures ∙ c.if-was_read.false)) c.in_ok-make_room.ensures.grown
+    c.in_ok-make_room.ensures.room refl c.in_ok-count.ensures knows

@@ -24,4 +24,5 @@ returns-in-None-clause-entered c = on_ok_weaker c.put.result (λ put log long kn
 pub returns-in-Some-clause-error : goal.returns-in-Some-clause-error
 returns-in-Some-clause-error c = λ log knows.
     overlap_of log c.args.op.now c.last_of-last.result c.in-Some.first
-    (subst (IsLast log c.args.op.now.who) (sym c.last_of-last.ensures) (knows.last c.args.op.now.who)) (sym c.overlapped.ensures ∙ c.in-Some.is)
+    (subst (IsLast log c.args.op.now.who) (sym c.last_of-last.ensures) (knows.last c.args.op.now.who))
+    (sym c.overlapped.ensures ∙ c.in-Some.is)

@@ -8,7 +8,8 @@ returns-in-Ok-clause-posted g c =
     let call = c.in-Ok.ensures.call in
     subst (λ b. HasPosted g.F.Family g.V.RecordLaw.obeys b b c.args.self.now.pass.value c.write.new.pass c.args.words.now c.in-Ok.stamp)
     c.deref.ensures
-    (subst (λ p. HasPosted g.F.Family g.V.RecordLaw.obeys c.deref.result.now c.deref.result.now p c.write.new.pass c.args.words.now c.in-Ok.stamp)
+    (subst (λ p. HasPosted g.F.Family g.V.RecordLaw.obeys c.deref.result.now c.deref.result.now
+    p c.write.new.pass c.args.words.now c.in-Ok.stamp)
     c.as_mut.ensures.value
     (record { same = refl; seen = call.0; call = call.1; chosen = call.2; raised = c.in-Ok.ensures.raised }))
 
