@@ -55,5 +55,5 @@ cat "$room/told"
 [ "$status" = 0 ] || exit 1
 awk -F'[:,] ' '{ kind = / pairs/ ? "registers" : "boards"; lines[kind] += /nothing found$/
         for (i = 1; i <= NF; i++) { if ($i ~ / writes$/) writes[kind] += $i + 0; if ($i ~ / reads$/) reads[kind] += $i + 0 } }
-    END { for (kind in lines) printf "%d %s: %d writes, %d reads\n", lines[kind], kind, writes[kind], reads[kind]
+    END { for (kind in lines) printf "%d %s: %.0f writes, %.0f reads\n", lines[kind], kind, writes[kind], reads[kind]
         exit lines["registers"] != 12 || lines["boards"] != 18 }' "$room/told"
