@@ -1,6 +1,6 @@
 """Tries the wrong bodies of the crates: the prover has to refuse each of them, at the function that it spoils.
 
-    tests/wrong_bodies.py [--proved] [--edits FOLDER] [CRATE ..]
+    tests/wrong_bodies.py [--proved] [--beside PROCESS] [--edits FOLDER] [CRATE ..]
     tests/wrong_bodies.py --said FILE ..
 
 A wrong body is an edit crates/NAME/must-fail/*.edit, as `rt must-fail` takes it. A line `function: PATH` in it names each function that
@@ -23,7 +23,8 @@ With --said the judge is tried on what the prover said of some edits once: a fil
 yes` or `no`, as it has to judge, and behind an empty line stands what was said.
 
 The libraries below a crate have to be built. With --edits the wrong bodies of a crate are those in FOLDER/NAME. RT_JOBS=N allots N
-processors in place of all that there are. The last line is the sums.
+processors in place of all that there are; while the process that --beside names runs, one of them is its own, since more checks than
+processors take a fifth more processor time each. The last line is the sums.
 """
 
 import argparse
@@ -33,6 +34,7 @@ import shutil
 import subprocess
 import sys
 import tempfile
+import time
 from concurrent.futures import ThreadPoolExecutor
 from pathlib import Path
 
@@ -332,6 +334,15 @@ def judge(crate, paths, kit, is_proved):
     return passed, tried - passed
 
 
+def await_end(process):
+    """Waits until a process has ended, whether or not its parent knows."""
+    try:
+        while Path(f"/proc/{process}/stat").read_text(encoding="utf-8").rpartition(") ")[2][:1] != "Z":
+            time.sleep(1)
+    except OSError:
+        pass
+
+
 def judge_said(paths):
     """Judges what the prover said once, and counts the files of which it judges as they say, and the others."""
     counts = [0, 0]
@@ -349,6 +360,7 @@ def judge_said(paths):
 def main():
     parser = argparse.ArgumentParser()
     parser.add_argument("--proved", action="store_true")
+    parser.add_argument("--beside", type=int, metavar="PROCESS")
     parser.add_argument("--said", action="store_true")
     parser.add_argument("--edits", type=Path)
     parser.add_argument("names", nargs="*", metavar="CRATE")
@@ -364,6 +376,8 @@ def main():
     kit = Path(subprocess.run(["rt", "doc"], stdout=subprocess.PIPE, check=True, text=True).stdout.strip()).parent
     lanes = int(os.environ.get("RT_JOBS") or len(os.sched_getaffinity(0)))
     with ThreadPoolExecutor(lanes) as pool:
+        if asked.beside and lanes > 1:
+            pool.submit(await_end, asked.beside)
         counts = list(pool.map(lambda it: judge(it, paths[it], kit, asked.proved), chosen))
     passed, failed = (sum(it[place] for it in counts) for place in (0, 1))
     print(f"{passed} passed, {failed} failed")

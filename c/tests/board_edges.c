@@ -115,15 +115,9 @@ static size_t most_bytes(size_t size) { return 100 * (16 + NIDZARU_BOARD_SIZE(si
             name##_place p[PLACES] = {NIDZARU_EMPTY, NIDZARU_EMPTY, NIDZARU_EMPTY};                                   \
             name##_guarded item;                                                                                      \
             long had = blocks;                                                                                        \
-            int status;                                                                                               \
             name##_set(&item, 5);                                                                                     \
-            asked = 0;                                                                                                \
-            refuse = at;                                                                                              \
-            status = name##_make(&item.x, p, PLACES);                                                                 \
-            done = asked < at;                                                                                        \
-            refuse = -1;                                                                                              \
-            check(status == (done ? NIDZARU_DONE : NIDZARU_NO_MEMORY), #name, "refused memory");                      \
-            if (done) check(at > PLACES, #name, "no request was refused");                                            \
+            refuse_request(at);                                                                                       \
+            done = had_all(at, name##_make(&item.x, p, PLACES), PLACES, #name);                                       \
             for (int k = 0; k < PLACES; k++)                                                                          \
                 if (done) check(!name##_end(&p[k]), #name, "ends");                                                   \
                 else name##_ended(&p[k]);                                                                             \

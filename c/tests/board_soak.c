@@ -4,25 +4,18 @@
  * the first wrong record: a torn one, whose words are of several writes; a foreign one, which its stamp's writer didn't write under that
  * stamp; one older than the one before. With -DTORN each 10,000th record that a task reads has a word of another write, with -DOLDER the
  * stamp of the opening. */
-#include "nidzaru.h"
-#include <pthread.h>
-#include <stdio.h>
-#include <stdlib.h>
-#include <unistd.h>
-
-enum { MOST_TASKS = 16, READS_A_WRITE = 3, WORDS = BYTES / 8 };
-
-struct item { uint64_t words[WORDS]; };
 #ifdef TRIPLE
 #define MECHANISM "triple buffers"
-NIDZARU_TRIPLE_BOARD(items, struct item);
+#define MAKES NIDZARU_TRIPLE_BOARD
 #else
 #define MECHANISM "four slots"
-NIDZARU_BOARD(items, struct item);
+#define MAKES NIDZARU_BOARD
 #endif
+#include "soaked.h"
 
-static int stop;
-static pthread_barrier_t start;
+enum { MOST_TASKS = 16, READS_A_WRITE = 3 };
+
+MAKES(items, struct item);
 static items_place places[MOST_TASKS];
 
 /* What a task saw: its calls, the last stamp, of each writer the last tag and number, and what it found. */
@@ -36,8 +29,7 @@ static struct task {
 /* What is wrong with a record that has this stamp, or nothing. */
 static const char *wrong(struct task *task, const struct item *item, nidzaru_stamp stamp) {
     uint64_t first = item->words[0], number = first / MOST_TASKS;
-    for (size_t i = 1; i < WORDS; i++)
-        if (item->words[i] != first) return "torn";
+    if (is_torn(item)) return "torn";
     if (nidzaru_stamp_compare(stamp, task->last) < 0) return "older";
     task->last = stamp;
     if (!stamp.tag) return first ? "foreign" : 0;
@@ -66,21 +58,20 @@ static void *calls(void *argument) {
     struct item item;
     nidzaru_stamp stamp;
     pthread_barrier_wait(&start);
-    while (!seen.found && !__atomic_load_n(&stop, __ATOMIC_RELAXED)) {
+    while (!seen.found && !is_stopped()) {
         seen.writes++;
-        for (size_t i = 0; i < WORDS; i++) item.words[i] = seen.writes * MOST_TASKS + me;
+        fill(&item, seen.writes * MOST_TASKS + me);
         seen.found = items_write(&places[me], &item, &stamp) ? "refused" : wrong(&seen, &item, stamp);
         for (int i = 0; !seen.found && i < READS_A_WRITE; i++) seen.found = read_once(&seen, &places[me]);
     }
-    if (seen.found) __atomic_store_n(&stop, 1, __ATOMIC_RELAXED);
+    if (seen.found) stop_all();
     *task = seen;
     return 0;
 }
 
 int main(int count, char **words) {
     static struct item opening;
-    unsigned n = count == 1 ? 4 : count == 3 ? (unsigned)strtoul(words[1], 0, 10) : 0;
-    unsigned seconds = count == 1 ? 1 : count == 3 ? (unsigned)strtoul(words[2], 0, 10) : 0;
+    unsigned n = number_given(count, words, 1, 4), seconds = number_given(count, words, 2, 1);
     uint64_t writes = 0, reads = 0;
     const char *found = 0;
     pthread_t threads[MOST_TASKS];
@@ -88,15 +79,12 @@ int main(int count, char **words) {
     if (items_make(&opening, places, n) || pthread_barrier_init(&start, 0, n)) return fprintf(stderr, "board_soak: no memory\n"), 4;
     for (unsigned i = 0; i < n; i++)
         if (pthread_create(&threads[i], 0, calls, &tasks[i])) return fprintf(stderr, "board_soak: no thread could start\n"), 5;
-    for (; seconds && !__atomic_load_n(&stop, __ATOMIC_RELAXED); seconds--) sleep(1);
-    __atomic_store_n(&stop, 1, __ATOMIC_RELAXED);
+    soak(seconds);
     for (unsigned i = 0; i < n; i++) {
         pthread_join(threads[i], 0);
         writes += tasks[i].writes, reads += tasks[i].reads;
         if (tasks[i].found) found = tasks[i].found;
         if (items_end(&places[i])) found = "a place that couldn't end";
     }
-    printf("%s, %d bytes, %u tasks: %llu writes, %llu reads, ", MECHANISM, BYTES, n, (unsigned long long)writes, (unsigned long long)reads);
-    puts(found ? found : "nothing found");
-    return found ? 1 : 0;
+    return tell("tasks", n, writes, reads, found);
 }

@@ -163,20 +163,11 @@ static size_t most_bytes(size_t size, int triple) { return 13 * (8 + NIDZARU_SIZ
             name##_reader r = NIDZARU_EMPTY;                                                                                  \
             name##_guarded item;                                                                                              \
             long had = blocks;                                                                                                \
-            int status;                                                                                                       \
             name##_set(&item, 5);                                                                                             \
-            asked = 0;                                                                                                        \
-            refuse = at;                                                                                                      \
-            status = name##_make(&item.x, &w, &r);                                                                            \
-            done = asked < at;                                                                                                \
-            refuse = -1;                                                                                                      \
-            check(status == (done ? NIDZARU_DONE : NIDZARU_NO_MEMORY), #name, "refused memory");                              \
-            if (done) {                                                                                                       \
-                check(at > 4, #name, "no request was refused");                                                               \
-                check(!name##_end_reader(&r) && !name##_end_writer(&w), #name, "ends");                                       \
-            } else {                                                                                                          \
-                name##_refuses(&w, &r, NIDZARU_ENDED, "handles without memory");                                              \
-            }                                                                                                                 \
+            refuse_request(at);                                                                                               \
+            done = had_all(at, name##_make(&item.x, &w, &r), 4, #name);                                                       \
+            if (done) check(!name##_end_reader(&r) && !name##_end_writer(&w), #name, "ends");                                 \
+            else name##_refuses(&w, &r, NIDZARU_ENDED, "handles without memory");                                             \
             check(blocks == had, #name, "blocks after refused memory");                                                       \
         }                                                                                                                     \
     }                                                                                                                         \

@@ -4,25 +4,18 @@
  * the first wrong record: a torn one, whose words are of several writes; a foreign one, which isn't that of the number that the read gives;
  * one older than the one before. With -DTORN each 10,000th record that a task reads has a word of another write, with -DOLDER it is the
  * opening. */
-#include "nidzaru.h"
-#include <pthread.h>
-#include <stdio.h>
-#include <stdlib.h>
-#include <unistd.h>
-
-enum { MOST_PAIRS = 16, WORDS = BYTES / 8 };
-
-struct item { uint64_t words[WORDS]; };
 #ifdef TRIPLE
 #define MECHANISM "triple buffer"
-NIDZARU_TRIPLE_REGISTER(items, struct item);
+#define MAKES NIDZARU_TRIPLE_REGISTER
 #else
 #define MECHANISM "four slots"
-NIDZARU_REGISTER(items, struct item);
+#define MAKES NIDZARU_REGISTER
 #endif
+#include "soaked.h"
 
-static int stop;
-static pthread_barrier_t start;
+enum { MOST_PAIRS = 16 };
+
+MAKES(items, struct item);
 
 /* A pair's two sides, what they counted, and what the reader found. */
 static struct pair {
@@ -35,21 +28,20 @@ static struct pair {
 static void *write_all(void *argument) {
     struct pair *pair = argument;
     struct item item;
-    uint64_t number = 0;
+    uint64_t written = 0;
     pthread_barrier_wait(&start);
-    while (!pair->refused && !__atomic_load_n(&stop, __ATOMIC_RELAXED)) {
-        number++;
-        for (size_t i = 0; i < WORDS; i++) item.words[i] = number;
+    while (!pair->refused && !is_stopped()) {
+        written++;
+        fill(&item, written);
         if (items_write(&pair->writer, &item)) pair->refused = "a refused write";
     }
-    pair->writes = number;
+    pair->writes = written;
     return 0;
 }
 
 /* What is wrong with a record that has this number and comes after that one, or nothing. */
 static const char *wrong(const struct item *item, uint64_t number, uint64_t last) {
-    for (size_t i = 1; i < WORDS; i++)
-        if (item->words[i] != item->words[0]) return "torn";
+    if (is_torn(item)) return "torn";
     if (number < last) return "older";
     return item->words[0] == number ? 0 : "foreign";
 }
@@ -61,7 +53,7 @@ static void *read_all(void *argument) {
     uint64_t number = 0, last = 0, reads = 0;
     const char *found = 0;
     pthread_barrier_wait(&start);
-    while (!found && !__atomic_load_n(&stop, __ATOMIC_RELAXED)) {
+    while (!found && !is_stopped()) {
         if (items_read(&pair->reader, &item, &number)) break;
         reads++;
 #ifdef TORN
@@ -72,15 +64,14 @@ static void *read_all(void *argument) {
         found = wrong(&item, number, last);
         last = number;
     }
-    if (found) __atomic_store_n(&stop, 1, __ATOMIC_RELAXED);
+    if (found) stop_all();
     pair->reads = reads, pair->found = found;
     return 0;
 }
 
 int main(int count, char **words) {
     static struct item opening;
-    unsigned n = count == 1 ? 2 : count == 3 ? (unsigned)strtoul(words[1], 0, 10) : 0;
-    unsigned seconds = count == 1 ? 1 : count == 3 ? (unsigned)strtoul(words[2], 0, 10) : 0;
+    unsigned n = number_given(count, words, 1, 2), seconds = number_given(count, words, 2, 1);
     uint64_t writes = 0, reads = 0;
     const char *found = 0;
     pthread_t threads[2 * MOST_PAIRS];
@@ -91,15 +82,12 @@ int main(int count, char **words) {
     for (unsigned i = 0; i < 2 * n; i++)
         if (pthread_create(&threads[i], 0, i % 2 ? read_all : write_all, &pairs[i / 2]))
             return fprintf(stderr, "register_soak: no thread could start\n"), 5;
-    for (; seconds && !__atomic_load_n(&stop, __ATOMIC_RELAXED); seconds--) sleep(1);
-    __atomic_store_n(&stop, 1, __ATOMIC_RELAXED);
+    soak(seconds);
     for (unsigned i = 0; i < 2 * n; i++) pthread_join(threads[i], 0);
     for (unsigned i = 0; i < n; i++) {
         writes += pairs[i].writes, reads += pairs[i].reads;
         if (pairs[i].found || pairs[i].refused) found = pairs[i].found ? pairs[i].found : pairs[i].refused;
         if (items_end_writer(&pairs[i].writer) || items_end_reader(&pairs[i].reader)) found = "a side that couldn't end";
     }
-    printf("%s, %d bytes, %u pairs: %llu writes, %llu reads, ", MECHANISM, BYTES, n, (unsigned long long)writes, (unsigned long long)reads);
-    puts(found ? found : "nothing found");
-    return found ? 1 : 0;
+    return tell("pairs", n, writes, reads, found);
 }

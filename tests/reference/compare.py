@@ -23,6 +23,13 @@ import make_documents
 import searches
 
 
+def tell_endings(counts, what):
+    """Prints how many there were of each kind of ending, and last that there was no difference."""
+    for ending, count in sorted(counts.items()):
+        print(f"{count} {ending}")
+    print(f"{what}: the same bytes and status")
+
+
 def words():
     parser = argparse.ArgumentParser()
     parser.add_argument("program")
@@ -87,9 +94,7 @@ def main():
             print("the reference:", *wanted, sep="\n")
             return 1
         counts[ending_of(command, wanted)] += 1
-    for ending, count in sorted(counts.items()):
-        print(f"{count} {ending}")
-    print(f"{given.documents} documents of seed {given.seed}: the same bytes and status")
+    tell_endings(counts, f"{given.documents} documents of seed {given.seed}")
     return 0
 
 

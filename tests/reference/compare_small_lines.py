@@ -20,6 +20,7 @@ import tempfile
 import make_documents
 import searches
 import small_lines
+from compare import tell_endings
 
 NAMES = (lambda k: k, lambda k: [k], lambda k: [0, k], lambda k: f"record \u00e9 {k}", lambda k: [k] * 64)
 KEYS = ("who", "kind", "begin", "end", "record")
@@ -130,9 +131,7 @@ def main():
             print(f"log {number} of seed {given.seed}: {file.name}", "the program:", *found, "the reference:", *wanted, sep="\n")
             return 1
         endings[ending_of(wanted)] += 1
-    for ending, count in sorted(endings.items()):
-        print(f"{count} {ending}")
-    print(f"{given.logs} logs of seed {given.seed}: the same bytes and status")
+    tell_endings(endings, f"{given.logs} logs of seed {given.seed}")
     return 0
 
 

@@ -41,9 +41,8 @@ impl Hand<Side> for Handle {
     }
 }
 
-fn crosses<T: Send>() {}
+/// What may go to another thread.
+pub trait Crosses: Send {}
 
-/// A handle may go to another thread: C rests on this.
-pub fn handles_cross() {
-    crosses::<Handle>();
-}
+// C rests on this.
+impl Crosses for Handle {}

@@ -6,6 +6,7 @@ use nidzaru::{
 };
 use std::cell::Cell;
 use std::ffi::c_void;
+use std::fmt::Debug;
 
 thread_local! {
     /// The requests for memory that this thread has made, and the one of them that is refused.
@@ -136,7 +137,7 @@ fn a_record_may_have_no_bytes() {
 
 #[test]
 fn requests_for_memory_are_refused_in_turn() {
-    fn refuse<M: Mechanism>(make: impl Fn() -> Result<Sides<[u64; 3], M>, OutOfMemory>) {
+    fn refuse<T, E: Debug + PartialEq>(least: u64, wanted: E, make: impl Fn() -> Result<T, E>) {
         for at in 1.. {
             ASKED.set(0);
             REFUSED.set(at);
@@ -144,36 +145,19 @@ fn requests_for_memory_are_refused_in_turn() {
             let made = make();
             REFUSED.set(u64::MAX);
             if ASKED.get() < at {
-                assert!(made.is_ok() && at > 4, "no request was refused");
+                assert!(made.is_ok() && at > least, "no request was refused");
                 drop(made);
                 assert_eq!(BLOCKS.get(), had, "blocks that are left");
                 return;
             }
-            assert_eq!(made.err(), Some(OutOfMemory));
-            assert_eq!(BLOCKS.get(), had, "blocks of a register that wasn't made");
+            assert_eq!(made.err().as_ref(), Some(&wanted));
+            assert_eq!(BLOCKS.get(), had, "blocks of what wasn't made");
         }
     }
-    refuse(|| register([1; 3]));
-    refuse(|| triple_register([1; 3]));
-    fn refuse_board<M: Mechanism>(make: impl Fn() -> Result<Vec<Place<[u64; 3], M>>, BoardError>) {
-        for at in 1.. {
-            ASKED.set(0);
-            REFUSED.set(at);
-            let had = BLOCKS.get();
-            let made = make();
-            REFUSED.set(u64::MAX);
-            if ASKED.get() < at {
-                assert!(made.is_ok() && at > 8, "no request was refused");
-                drop(made);
-                assert_eq!(BLOCKS.get(), had, "blocks that are left");
-                return;
-            }
-            assert_eq!(made.err(), Some(BoardError::OutOfMemory));
-            assert_eq!(BLOCKS.get(), had, "blocks of a board that wasn't made");
-        }
-    }
-    refuse_board(|| board(3, [1; 3]));
-    refuse_board(|| triple_board(3, [1; 3]));
+    refuse(4, OutOfMemory, || register([1; 3]));
+    refuse(4, OutOfMemory, || triple_register([1; 3]));
+    refuse(8, BoardError::OutOfMemory, || board(3, [1; 3]));
+    refuse(8, BoardError::OutOfMemory, || triple_board(3, [1; 3]));
 }
 
 #[test]
