@@ -27,7 +27,7 @@ TOOLS = {
     "tests/package.sh": ("musl-gcc", "cmake", "cargo", "lintian", "unshare"),
 }
 # The scripts that have no checks, and those that are run by hand alone.
-HELPERS = {"outcomes", "spent", "build", "library"}
+HELPERS = {"outcomes", "spent", "build", "library", "refused"}
 # Those that another script reads.
 PARTS = {"rust"}
 BY_HAND = {"roots", "disturb", "library_soak"}

@@ -37,8 +37,9 @@ catches_picture "a picture without bars" "not a bar for each operation" <<'STUB'
 cat >/dev/null; echo '<svg xmlns="http://www.w3.org/2000/svg"></svg>'
 STUB
 
-if [ ! -e "$room/refuse.so" ]; then
-    fail "pictures with memory refused" "there is no refuse.so; tests/growth.sh makes it"
+. tests/refused.sh
+if [ -z "$compiler" ] || ! make_refusing; then
+    fail "pictures with memory refused" "tests/refuse.c wasn't compiled"
 else
     : >"$room/wanted_line"
     for name in lawful found_order crossed cell matrix board; do
