@@ -44,13 +44,13 @@ void __wrap_free(void *old) {
     __real_free(old);
 }
 
-static void refuse_request(long at) {
+static inline void refuse_request(long at) {
     asked = 0;
     refuse = at;
 }
 
 /* Whether a call with request number `at` refused made all its requests, more than so many: then it's done, else it lacked memory. */
-static int had_all(long at, int status, long least, const char *name) {
+static inline int had_all(long at, int status, long least, const char *name) {
     int had = asked < at;
     refuse = -1;
     check(status == (had ? NIDZARU_DONE : NIDZARU_NO_MEMORY), name, "refused memory");
