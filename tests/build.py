@@ -32,6 +32,8 @@ STAYS = ("building", "build.log")
 MOST_JOBS = 4
 # Bytes that a proof takes for its first job and for each further one.
 FIRST_JOB, NEXT_JOB = 2_000_000_000, 700_000_000
+# Processor seconds that code over these libraries of the kit takes beyond what its text says.
+BEYOND = {"clap": 75}
 # Seconds after which a folder that another rt works in is asked for again.
 PAUSE = 1
 # By how much a proof yields to each one under way with a longer chain behind it, so that the longest chain doesn't wait for processors.
@@ -53,8 +55,10 @@ class Crate:
         return sum(map(os.path.getsize, files))
 
     def weight(self):
-        """About how many processor seconds its proof takes, by its text: each crate some, and code fifteen times what proofs of its size do."""
-        return 25 + self.size("src") / 330 + self.size("specs", "proofs") / 5000
+        """About how many processor seconds its proof takes, by its text: each crate some, a program more, and code fifteen times what proofs of
+        its size do."""
+        known = (60 if self.is_program else 25) + sum(BEYOND.get(it, 0) for it in self.words)
+        return known + self.size("src") / 330 + self.size("specs", "proofs") / 5000
 
 
 def read_crates():
