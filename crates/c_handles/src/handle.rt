@@ -41,8 +41,9 @@ impl Hand<Side> for Handle {
     }
 }
 
-/// What may go to another thread.
-pub trait Crosses: Send {}
+fn crosses<T: Send>() {}
 
-// C rests on this.
-impl Crosses for Handle {}
+/// A handle may go to another thread: C rests on this.
+pub fn handles_cross() {
+    crosses::<Handle>();
+}

@@ -21,7 +21,7 @@ pub use four_slot::{
     four_slot_end_reader, four_slot_end_writer, four_slot_look, four_slot_make, four_slot_read,
     four_slot_write,
 };
-pub use handle::{Crosses, Handle};
+pub use handle::{Handle, handles_cross};
 pub use loose::Loose;
 pub use pick::{Record, Role};
 pub use record::{Record8, Record24, Record64, Record128, Record256, Record1024, Record4096};
