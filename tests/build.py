@@ -36,8 +36,6 @@ FIRST_JOB, NEXT_JOB = 2_000_000_000, 700_000_000
 BEYOND = {"clap": 75}
 # Seconds after which a folder that another rt works in is asked for again.
 PAUSE = 1
-# By how much a proof yields to each one under way with a longer chain behind it, so that the longest chain doesn't wait for processors.
-YIELDS, MOST_YIELDS = 5, 19
 
 
 def say(text):
@@ -147,7 +145,7 @@ def remove(path):
 class Room:
     """A crate that is being built. The crates below it are built."""
 
-    def __init__(self, crate, place, jobs, niceness, lower_locks, own_lock):
+    def __init__(self, crate, place, jobs, lower_locks, own_lock):
         self.crate, self.jobs, self.held = crate, jobs, own_lock
         self.began, self.rest = time.monotonic(), b""
         self.root = f"{place}/{crate.name}"
@@ -160,7 +158,7 @@ class Room:
         given = f"{self.folder}/stdin"
         with open(given if os.path.isfile(given) else os.devnull, "rb") as stdin:
             how = {"cwd": self.folder, "stdin": stdin, "stdout": subprocess.PIPE, "stderr": subprocess.STDOUT}
-            self.process = subprocess.Popen(["nice", "-n", str(niceness), "rt", *self.command()], **how)
+            self.process = subprocess.Popen(["rt", *self.command()], **how)
         os.set_blocking(self.process.stdout.fileno(), False)
 
     def furnish(self, lower):
@@ -207,7 +205,9 @@ class Room:
 
     def close(self):
         """Waits until rt has ended, gives the crate back what was made and kept, and says whether it was built."""
-        status = self.process.wait()
+        _, status, used = os.wait4(self.process.pid, 0)
+        self.process.returncode = os.waitstatus_to_exitcode(status)
+        self.spent = used.ru_utime + used.ru_stime
         self.log.close()
         self.leave()
         return status == 0
@@ -230,9 +230,9 @@ class Builder:
             self.behind[it] += max(above, default=0)
 
     def jobs_now(self, ready):
-        """How many jobs the first of so many proofs gets, 0 where it has to wait. Each uses its jobs in parts only: so twice as many
-        are given as there are processors."""
-        left = 2 * self.processors - sum(it.jobs for it in self.rooms.values())
+        """How many jobs the first of so many proofs gets, 0 where it has to wait. No more are given than there are processors: with more
+        each takes longer, and none ends sooner."""
+        left = self.processors - sum(it.jobs for it in self.rooms.values())
         free = self.memory - sum(it.memory() for it in self.rooms.values())
         jobs = min(MOST_JOBS, self.processors, -(-left // ready), 1 + int((free - FIRST_JOB) // NEXT_JOB))
         return jobs if jobs > 0 or self.rooms else 1
@@ -256,8 +256,7 @@ class Builder:
                 continue
             self.left.remove(crate)
             say(f"{crate.name} begins")
-            longer = sum(self.behind[it] > self.behind[crate] for it in self.rooms)
-            room = self.rooms[crate] = Room(crate, self.place, jobs, min(YIELDS * longer, MOST_YIELDS), lower, own)
+            room = self.rooms[crate] = Room(crate, self.place, jobs, lower, own)
             self.selector.register(room.process.stdout, selectors.EVENT_READ, room)
         return waits
 
@@ -267,7 +266,7 @@ class Builder:
         del self.rooms[crate]
         if room.close():
             self.built.add(crate)
-            say(f"{crate.name} is built, after {time.monotonic() - room.began:.0f} s")
+            say(f"{crate.name} is built, after {time.monotonic() - room.began:.0f} s, {room.spent:.0f} of a processor")
         else:
             self.refused.add(crate)
             say(f"{crate.name} isn't proved and built; crates/{crate.name}/out/build.log says why")

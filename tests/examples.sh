@@ -1,14 +1,25 @@
 # Each document of examples/ (NAME.json, or NAME.jsonl of a log in lines), tests/schedules/ and tests/races/ against the text that it
-# prints, NAME.txt (of a refused one the line on standard error), and the status that is wanted, NAME.status (none: 0). The programs that
-# have `check` or `order` alone print the same.
+# prints, NAME.txt (of a refused one the line on standard error), and the status that is wanted, NAME.status (none: 0). The smaller programs
+# print the same.
 
 for document in examples/*.json examples/*.jsonl tests/schedules/*.json tests/races/*.json; do
     command=$(command_for "$document")
     sees "$document" fsr "$document" "${document%.json*}.txt" "$command"
     case $command in
     check) sees "$document, by fsr_check" fsr_check "$document" "${document%.json*}.txt" ;;
-    order) sees "$document, by fsr_order" fsr_order "$document" "${document%.json*}.txt" order ;;
+    order)
+        program=$(log_program_for "$document")
+        sees "$document, by $program" "$program" "$document" "${document%.json*}.txt"
+        ;;
+    play) sees "$document, by fsr_play" fsr_play "$document" "${document%.json*}.txt" ;;
     esac
+done
+
+# The smaller programs refuse documents that aren't theirs by the kind.
+echo "fsr: document: kind" >"$room/kind.txt"
+for program in fsr_log:examples/lines.jsonl fsr_lines:examples/crossed.json fsr_lines:examples/lawful.json; do
+    cp "${program#*:}" "$room/kind.json" && echo 3 >"$room/kind.status"
+    sees "${program#*:}, refused by ${program%:*}" "${program%:*}" "$room/kind.json" "$room/kind.txt"
 done
 
 # The controls: the first document beside another's text, with a status that it hasn't, and with more on the other stream.

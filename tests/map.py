@@ -19,7 +19,7 @@ TOP = os.path.dirname(os.path.dirname(os.path.realpath(__file__)))
 MAP = f"{TOP}/docs/MAP.md"
 MARKS = "<!-- made by tests/map.py -->\n", "<!-- to here -->\n"
 SUBJECTS = {
-    "Histories and their orders": "history_core register_law history_witnesses history_reasons history_search history_thinning thinned_answers "
+    "Histories and their orders": "history_core register_law history_witnesses history_reasons history_search history_thinning "
     "thinned_search",
     "The four-slot register, played": "four_slot_core four_slot_play",
     "The matrix and the composed board, played": "stamps matrix_core matrix_play matrix_board_play",
@@ -29,8 +29,8 @@ SUBJECTS = {
     "The library for C": "c_registers c_boards c_handles c_exports",
     "Documents and printed lines": "fsr_streams fsr_refusals fsr_runs history_text log_text search_text lines_tables lines_text lines_log "
     "lines_reasons schedule_text report_text",
-    "The program fsr": "log_search lines_answers fsr_words fsr_check_answers fsr_order_answers fsr_play_answers "
-    "fsr_race_answers fsr_answers fsr_check fsr_order fsr_play fsr",
+    "The program fsr": "log_search log_answers lines_answers fsr_words fsr_check_answers fsr_play_answers "
+    "fsr_race_answers fsr_answers fsr_check fsr_log fsr_lines fsr_play fsr",
     "Pictures": "picture_shapes picture_visits picture_text picture_answers picture",
     "Tests and measurements": "test_histories test_four_slots test_matrices test_texts test_cells test_runs test_families "
     "board_teams test_growths headline_uses theorems cells_bench",

@@ -123,6 +123,11 @@ sees() {
     fi
 }
 
+# The program that answers such documents of the command `order` alone.
+log_program_for() {
+    if head -n 1 "$1" | grep -q '"kind":"lines"'; then echo fsr_lines; else echo fsr_log; fi
+}
+
 # The command that takes a document: of examples/ by the table there. The races of tests/races/ have one outcome, whoever runs first.
 command_for() {
     case $1 in

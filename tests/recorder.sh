@@ -14,7 +14,7 @@ strict='-Wall -Wextra -Wpedantic -Wconversion -Wshadow -Werror -pthread -I c'
 
 # The built program that reads lines, as words of a command.
 built=
-for program in 'crates/fsr_order/out/fsr_order order' 'crates/fsr/out/fsr order'; do
+for program in crates/fsr_lines/out/fsr_lines 'crates/fsr/out/fsr order'; do
     if [ -x "${program%% *}" ] && printf '{"kind":"lines","opening":0}\n' | $program >"$room/tried" 2>/dev/null \
         && grep -qx lawful "$room/tried"; then
         built=$program

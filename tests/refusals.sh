@@ -31,7 +31,7 @@ tells() {
     ends fsr "$1" || return 1
     case $1 in
     check) ends fsr_check ;;
-    order) ends fsr_order order ;;
+    order) ends "$(log_program_for "$room/document")" ;;
     esac
 }
 

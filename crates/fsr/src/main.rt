@@ -4,9 +4,9 @@
 use board_live::Posted;
 use family_four_slot::FourSlotFamily;
 use fsr_answers::run;
-use fsr_runs::{FSR, Fault, tell_fault};
+use fsr_runs::{FSR, Fault, tell_fault, words_of};
 use fsr_streams::Over;
-use fsr_words::{file_of, tell_unopened, words_of};
+use fsr_words::{file_of, tell_unopened};
 use history_core::Band;
 use std::fs;
 use std::process::ExitCode;

@@ -8,7 +8,7 @@ use Rattle.history_core.specs.declared.band.Band.{Band}
 use Rattle.family_live.specs.declared.family.Family.{Ghosts as FamilyWords}
 use Rattle.board_live.specs.declared.record.Posted.{Posted}
 use Rattle.fsr_check_answers.specs.Check.{IsCheckAnswer}
-use Rattle.fsr_order_answers.specs.Order.{IsOrderAnswer}
+use Rattle.fsr_answers.specs.Order.{IsOrderAnswer}
 use Rattle.fsr_play_answers.specs.Play.{IsPlayAnswer}
 use Rattle.fsr_race_answers.specs.Answers.{IsRaceAnswer}
 

@@ -6,16 +6,17 @@ ghost use Rattle.fsr_answers.specs.Run.{is_unbounded, IsFsrOutcome};
 ghost use Rattle.fsr_words.specs.Command.{command_of};
 ghost use Rattle.fsr_streams.specs.Stream.{HasRoom};
 
+use crate::order::order;
 use board_live::Posted;
 use family_live::{Family, SharedFamily};
 use fsr_check_answers::check;
-use fsr_order_answers::{order, take_log};
 use fsr_play_answers::play;
 use fsr_race_answers::run_race;
 use fsr_runs::{Answer, FSR, Fault, give_answer, take_document};
 use fsr_streams::{Sink, Source};
 use fsr_words::{Want, command_of, tell_refusal};
 use history_core::Band;
+use lines_answers::take_log;
 use std::alloc::Global;
 use std::convert::AsStr;
 use std::thread::Threads;

@@ -5,17 +5,9 @@ ghost use Rattle.fsr_words.specs.Command.{want_named, Refuses};
 
 use clap::error::ErrorKind;
 use clap::{Arg, ArgAction, ArgMatches, Command, Error};
+use fsr_runs::Show;
 use std::alloc::{AllocError, Global};
 use std::convert::AsStr;
-
-/// What `order` prints of a log in lines besides the verdict.
-#[derive(Clone, Copy, Debug, PartialEq, Eq)]
-pub struct Show {
-    /// The lines of the writes, in the order that was found.
-    pub order: bool,
-    /// In place of all else a small log that has no order, if this one has none.
-    pub small: bool,
-}
 
 /// A command of `fsr`. Each takes documents of its own kinds.
 #[derive(Clone, Copy, Debug, PartialEq, Eq)]

@@ -3,8 +3,6 @@
 
 mod command;
 mod refusal;
-mod words;
 
-pub use command::{NoCommand, Show, Want, command_of, file_of};
+pub use command::{NoCommand, Want, command_of, file_of};
 pub use refusal::{tell_refusal, tell_unopened};
-pub use words::words_of;

@@ -1,3 +1,4 @@
 pub mod Kept
 pub mod Entering
 pub mod Gathered
+pub mod Mapped

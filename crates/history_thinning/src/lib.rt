@@ -2,6 +2,7 @@
 //! Records are numbers, which the caller gives; 0 is the opening.
 #![tactic(auto)]
 
+mod answer;
 mod enter;
 mod gather;
 mod group;
@@ -9,5 +10,6 @@ pub mod laws;
 mod thinned;
 mod thinner;
 
+pub use answer::answer_of;
 pub use thinned::{LogAnswer, Thinned};
 pub use thinner::Thinner;

@@ -1,3 +1,4 @@
 mod CountLemmas
 pub mod FrontLemmas
+mod InputLemmas
 pub mod StatusLemmas

@@ -1,15 +1,18 @@
 -- The answer to a log in lines: whether it has a lawful order, or the fault (this project's own).
-use Rattle.std.specs.Prelude.{◌≡◌, ℕ, List, unwrap_or, Result, Ok, Err}
+use Rattle.std.specs.Prelude.{◌≡◌, ℕ, List, Bool, true, false, unwrap_or, Result, Ok, Err}
 use Rattle.fsr_runs.specs.declared.fault.Answer.{Answer}
 use Rattle.fsr_runs.specs.declared.fault.Fault.{Fault}
+use Rattle.fsr_runs.specs.declared.fault.Fault.TheVariants.{Document}
+use Rattle.fsr_refusals.specs.declared.refusal.DocError.TheVariants.{Kind}
 use Rattle.history_core.specs.declared.history.Op.{Op}
+use Rattle.history_text.specs.Kinds.{are_lines}
 use Rattle.history_thinning.specs.Answers.{IsThinnedAnswer, IsOfKept}
 use Rattle.history_thinning.specs.declared.thinned.LogAnswer.{LogAnswer}
 use Rattle.history_thinning.specs.declared.thinned.LogAnswer.TheVariants.{Lawful, Unlawful}
 use Rattle.lines_log.specs.Faults.{IsLinesFault}
 use Rattle.lines_log.specs.Logs.{IsLinesLog}
 use Rattle.lines_log.specs.declared.lines_log.LinesLog.{LinesLog}
-use Rattle.fsr_words.specs.declared.command.Show.{Show}
+use Rattle.fsr_runs.specs.declared.show.Show.{Show}
 use Rattle.thinned_search.specs.Limits.{IsCounted}
 use Rattle.lines_answers.specs.Text.{shown_text}
 
@@ -38,3 +41,12 @@ pub record Found (show : Show) (bytes : List ℕ) (answer : Answer) : Type 0 whe
 abbrev pub IsLinesAnswer : Show → List ℕ → Result Answer Fault → Type 0
 IsLinesAnswer show bytes (Ok answer) = Found show bytes answer
 IsLinesAnswer show bytes (Err f) = IsLinesFault bytes f
+
+-- the answer by the kind: whether the document is a log in lines. If it isn't, the kind is refused
+abbrev pub IsAnswerIfLines : Show → Bool → List ℕ → Result Answer Fault → Type 0
+IsAnswerIfLines show true bytes reply = IsLinesAnswer show bytes reply
+IsAnswerIfLines show false bytes reply = reply ≡ Err (Document Kind)
+
+-- the answer of the program that answers logs in lines alone
+abbrev pub IsAnswerInLines : Show → List ℕ → Result Answer Fault → Type 0
+IsAnswerInLines show bytes reply = IsAnswerIfLines show (are_lines bytes) bytes reply

@@ -5,7 +5,7 @@ use Rattle.history_thinning.specs.declared.thinned.LogAnswer.{LogAnswer}
 use Rattle.lines_log.specs.declared.lines_log.LinesLog.{LinesLog}
 use Rattle.lines_reasons.specs.Small.{small_text}
 use Rattle.lines_reasons.specs.Text.{verdict_text}
-use Rattle.fsr_words.specs.declared.command.Show.{Show}
+use Rattle.fsr_runs.specs.declared.show.Show.{Show}
 
 abbrev pub count_text : ℕ → List ℕ → List ℕ
 count_text number words = decimal number ++ words

@@ -7,8 +7,7 @@ ghost use Rattle.lines_answers.specs.Answers.{IsLinesAnswer, printed, status_of}
 ghost use Rattle.thinned_search.specs.Limits.{IsCounted};
 
 use crate::text::shown_text;
-use fsr_runs::{Answer, Fault};
-use fsr_words::Show;
+use fsr_runs::{Answer, Fault, Show};
 use history_core::Items;
 use history_thinning::LogAnswer;
 use lines_log::{LinesLog, read_lines};

@@ -3,7 +3,7 @@ ghost use Rattle.std.specs.Prelude.{◌≡◌, ◌++◌, IfOk, OnOk};
 ghost use Rattle.std.specs.Fmt.{decimal};
 ghost use Rattle.lines_answers.specs.Text.{count_text, counts_text, end_text, lines_text, shown_text};
 
-use fsr_words::Show;
+use fsr_runs::Show;
 use history_thinning::LogAnswer;
 use itoa::Buffer;
 use lines_log::LinesLog;

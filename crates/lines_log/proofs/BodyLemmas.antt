@@ -9,7 +9,7 @@ use Rattle.fsr_refusals.specs.declared.key.Key.TheVariants as key
 use Rattle.history_core.specs.declared.history.Op.{Op}
 use Rattle.history_text.specs.Refusals.{◌>>=◌}
 use Rattle.fsr_runs.specs.declared.fault.Fault.{Fault}
-use Rattle.lines_tables.specs.Splits.{in_front, IsSplit, lines_of}
+use Rattle.history_text.specs.Splits.{in_front, IsSplit, lines_of}
 use Rattle.lines_text.specs.Lines.{done, LineEntry, entry_of, Head, head_of, operation}
 use Rattle.lines_log.specs.Faults.{IsBodyFault, is_last, IsLineFault}
 use Rattle.lines_log.specs.Logs.{AreAll, AreLines, IsLinesLog, is_refused, judged, judged_line}

@@ -23,7 +23,7 @@ use Rattle.lines_text.specs.Lines.{has_record, IsAllowed, op_seen}
 use Rattle.lines_text.specs.declared.line.LineOp.{LineOp}
 use Rattle.lines_log.specs.Faults.{IsLineFault, IsOverlap, told_of}
 use Rattle.lines_tables.specs.Reads.{KnowsReads}
-use Rattle.lines_tables.specs.Splits.{line_at}
+use Rattle.lines_tables.specs.Places.{line_at}
 use Rattle.lines_log.specs.Logs.{AreLines, IsItem, IsNumberedOp, judged_line, unfinished_in}
 use Rattle.lines_log.specs.inner.Numbers.{Grow, IsNumberedNow}
 use Rattle.lines_log.specs.inner.Readings.{IsEntryFault, AreRead}

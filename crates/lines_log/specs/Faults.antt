@@ -14,7 +14,8 @@ use Rattle.fsr_runs.specs.declared.fault.Fault.{Fault}
 use Rattle.fsr_runs.specs.declared.fault.Fault.TheVariants as fault
 use Rattle.fsr_runs.specs.declared.fault.LinesFault.TheVariants.{Refused, Backwards, Overlaps, WritesOpening, WritesTwice}
 use Rattle.lines_tables.specs.Numberings.{AreDistinct}
-use Rattle.lines_tables.specs.Splits.{line_at, lines_of}
+use Rattle.history_text.specs.Splits.{lines_of}
+use Rattle.lines_tables.specs.Places.{line_at}
 use Rattle.lines_tables.specs.Tasks.{Overlap, TakeTurns}
 use Rattle.lines_text.specs.Lines.{Head, head_of}
 use Rattle.lines_log.specs.Logs.{AreLines, judged_line}

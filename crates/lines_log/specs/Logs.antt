@@ -14,7 +14,7 @@ use Rattle.history_thinning.specs.Thinnings.{IsThinnedLog}
 use Rattle.lines_log.specs.declared.lines_log.LinesLog.{LinesLog}
 use Rattle.lines_tables.specs.Numberings.{AreDistinct}
 use Rattle.lines_tables.specs.Reads.{WereRead}
-use Rattle.lines_tables.specs.Splits.{lines_of}
+use Rattle.history_text.specs.Splits.{lines_of}
 use Rattle.lines_tables.specs.Tasks.{TakeTurns}
 use Rattle.lines_text.specs.Lines.{LineEntry, operation, done, entry_of, Head, head_of}
 

@@ -7,7 +7,7 @@ use Rattle.history_reasons.specs.declared.reason.Reason.{Reason}
 use Rattle.history_reasons.specs.declared.reason.Reason.TheVariants.{Unwritten, Early, Stale, Crossed, Limit}
 use Rattle.history_thinning.specs.Thinnings.{limit_of}
 use Rattle.history_thinning.specs.declared.thinned.Thinned.{Thinned}
-use Rattle.lines_tables.specs.Splits.{line_at}
+use Rattle.lines_tables.specs.Places.{line_at}
 use Rattle.lines_reasons.specs.KeptAt.{kept_at}
 
 -- the kept operation at this place of the log

@@ -9,7 +9,8 @@ use Rattle.history_thinning.specs.declared.thinned.LogAnswer.{LogAnswer}
 use Rattle.history_thinning.specs.declared.thinned.LogAnswer.TheVariants.{Lawful, Unlawful as NoOrder}
 use Rattle.history_thinning.specs.declared.thinned.Thinned.{Thinned}
 use Rattle.search_text.specs.Text.{reason_text}
-use Rattle.lines_tables.specs.Splits.{line_at, lines_of}
+use Rattle.history_text.specs.Splits.{lines_of}
+use Rattle.lines_tables.specs.Places.{line_at}
 use Rattle.lines_reasons.specs.Named.{in_kept, is_item, is_named, places_of}
 use Rattle.lines_reasons.specs.Sentences.{number_text, sentence_text}
 

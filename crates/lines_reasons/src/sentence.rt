@@ -2,7 +2,7 @@
 ghost use Rattle.std.specs.Prelude.{◌≡◌, ◌++◌, OnOk, codes};
 ghost use Rattle.lines_reasons.specs.Sentences.{apart_text, begin_at, crossed_text, early_text, end_at, limit_text, number_text, op_at};
 ghost use Rattle.lines_reasons.specs.Sentences.{sentence_text, stale_text, unwritten_text};
-ghost use Rattle.lines_tables.specs.Splits.{line_at};
+ghost use Rattle.lines_tables.specs.Places.{line_at};
 
 use crate::named::kept_at;
 use history_core::Op;

@@ -1,4 +1,3 @@
 pub mod NumberLemmas
-pub mod SplitLemmas
 pub mod TaskLemmas
 pub mod ReadsLemmas

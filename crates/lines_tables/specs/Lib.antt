@@ -1,5 +1,5 @@
 pub mod Lasts
 pub mod Numberings
 pub mod Reads
-pub mod Splits
+pub mod Places
 pub mod Tasks

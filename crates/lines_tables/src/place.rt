@@ -1,6 +1,6 @@
 //! The lines of operations.
 ghost use Rattle.std.specs.Prelude.{◌≡◌, ◌<◌, ◌+◌, ◌^◌, IfOk};
-ghost use Rattle.lines_tables.specs.Splits.{line_at};
+ghost use Rattle.lines_tables.specs.Places.{line_at};
 
 use std::alloc::AllocError;
 

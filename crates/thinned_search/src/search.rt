@@ -6,9 +6,8 @@ ghost use Rattle.history_thinning.specs.Thinnings.{IsThinnedLog};
 
 use history_reasons::SearchError;
 use history_search::find_order;
-use history_thinning::{LogAnswer, Thinned};
+use history_thinning::{LogAnswer, Thinned, answer_of};
 use std::alloc::Global;
-use thinned_answers::answer_of;
 
 /// What a search of the whole log would answer, from few of its operations, which has all that a reason names. It takes n log n steps for n
 /// operations that were kept.

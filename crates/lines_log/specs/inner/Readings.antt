@@ -2,7 +2,7 @@
 use Rattle.std.specs.Prelude.{◌≡◌, ℕ, List, [], ◌∷◌, ◌++◌, ◌⊎◌, length, Bool, true, false, slice_get, None, Some, Ok}
 use Rattle.lines_tables.specs.Numberings.{IsNumbering}
 use Rattle.lines_tables.specs.Reads.{WereRead, KnowsReads}
-use Rattle.lines_tables.specs.Splits.{lines_of}
+use Rattle.history_text.specs.Splits.{lines_of}
 use Rattle.lines_tables.specs.Tasks.{KnowsTasks}
 use Rattle.lines_log.specs.Logs.{AreAll, AreLines, judged_line, unfinished_in}
 use Rattle.history_core.specs.declared.history.Op.{Op}

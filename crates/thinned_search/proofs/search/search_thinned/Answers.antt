@@ -1,5 +1,5 @@
 -- What the search of the kept operations answers is true of the whole log.
-use Rattle.thinned_answers.proofs.Ends.{equally_answered, error_answer}
+use Rattle.history_thinning.proofs.Ends.{equally_answered, error_answer}
 use Rattle.thinned_search.proofs.search.search_thinned.Goals as goal
 
 pub returns-in-Ok-answer_of : goal.returns-in-Ok-answer_of

@@ -3,7 +3,7 @@ use Rattle.std.proofs.Common.{◌<◌, arith, refl, inl, inr, sym, ◌∙◌, ap
 use Rattle.std.proofs.lemmas.Option.{slice_get_within}
 use Rattle.lines_tables.specs.Tasks.{IsTurnError, Overlap}
 use Rattle.lines_text.specs.Lines.{op_seen}
-use Rattle.lines_tables.specs.Splits.{line_at}
+use Rattle.lines_tables.specs.Places.{line_at}
 use Rattle.lines_log.proofs.ReadLemmas.{entered, overlapped, repeated}
 use Rattle.lines_log.proofs.reader.Reader.enter.Goals as goal
 

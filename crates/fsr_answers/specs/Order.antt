@@ -1,0 +1,17 @@
+-- The answer to a log, in lines or as a document of kind `log` (this project's own).
+use Rattle.std.specs.Prelude.{ℕ, List, Bool, true, false, Result}
+use Rattle.fsr_runs.specs.declared.fault.Answer.{Answer}
+use Rattle.fsr_runs.specs.declared.fault.Fault.{Fault}
+use Rattle.fsr_runs.specs.declared.show.Show.{Show}
+use Rattle.history_text.specs.Kinds.{are_lines}
+use Rattle.lines_answers.specs.Answers.{IsLinesAnswer}
+use Rattle.log_answers.specs.Logs.{IsLogAnswer}
+
+-- the answer by the kind: whether the document is a log in lines
+abbrev pub IsAnswerBy : Show → Bool → List ℕ → Result Answer Fault → Type 0
+IsAnswerBy show true bytes reply = IsLinesAnswer show bytes reply
+IsAnswerBy show false bytes reply = IsLogAnswer bytes reply
+
+-- the answer of the command `order` to the bytes of a document
+abbrev pub IsOrderAnswer : Show → List ℕ → Result Answer Fault → Type 0
+IsOrderAnswer show bytes reply = IsAnswerBy show (are_lines bytes) bytes reply

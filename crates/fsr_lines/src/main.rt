@@ -1,0 +1,26 @@
+//! `fsr_lines`: `fsr order` for logs in lines alone, which is built without what all else needs. Its words may be `--order` or `--small`.
+#![tactic(auto)]
+
+use fsr_runs::{FSR, words_of};
+use fsr_streams::{Exit, Over, tell};
+use lines_answers::{run, show_of};
+use std::process::ExitCode;
+
+fn main(rt: HostRuntime) -> ExitCode {
+    let mut faults = Over::new(rt.stderr());
+    let words = match words_of(&rt, FSR.no_memory, &mut faults) {
+        Ok(words) => words,
+        Err(status) => return ExitCode::from(status),
+    };
+    let Some(show) = show_of(words.as_slice()) else {
+        tell(
+            &mut faults,
+            "fsr_lines: it may be told --order or --small alone\n",
+        );
+        return ExitCode::from(Exit::NoCommand.status());
+    };
+    let mut input = Over::new(rt.stdin());
+    let mut out = Over::new(rt.stdout());
+    let status = run(rt.alloc(), show, &mut input, &mut out, &mut faults);
+    ExitCode::from(status)
+}

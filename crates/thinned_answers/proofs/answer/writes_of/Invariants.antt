@@ -1,6 +1,0 @@
--- The writes among the entries met so far.
-use Rattle.thinned_answers.specs.inner.Mapped.{AreWritePlaces}
-use Rattle.thinned_answers.proofs.answer.writes_of.Given as goal
-
-abbrev pub invariant-loop-kept : goal.invariant-loop-kept
-invariant-loop-kept l = AreWritePlaces l.ops l.places l.order l.kept-index l.writes.items
