@@ -29,7 +29,7 @@ STORED_RUN = ("stdin", "stdout", "args", "status", "data")
 # Files of out/ that are this script's and its callers' own.
 STAYS = ("building", "build.log")
 # A crate's proof gains little from more processors.
-MOST_JOBS = 4
+MOST_JOBS = 2
 # Bytes that a proof takes for its first job and for each further one.
 FIRST_JOB, NEXT_JOB = 2_000_000_000, 700_000_000
 # Processor seconds that code over these libraries of the kit takes beyond what its text says.

@@ -1,3 +1,4 @@
 -- What the contracts speak of.
+pub mod Kept
 pub mod Reasons
 pub mod Searches

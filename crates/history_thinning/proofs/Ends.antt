@@ -21,7 +21,7 @@ use Rattle.history_reasons.specs.declared.reason.SearchError.TheVariants.{NoMemo
 use Rattle.history_reasons.proofs.Atomic.{IsSearched, turned}
 use Rattle.history_thinning.specs.Answers.{IsLawfulBy, NamesKept}
 use Rattle.history_thinning.specs.Thinnings.{Equal, IsThinned, IsThinnedLog, one_term}
-use Rattle.history_thinning.specs.declared.thinned.Thinned.{Thinned}
+use Rattle.history_reasons.specs.declared.thinned.Thinned.{Thinned}
 use Rattle.history_thinning.specs.inner.Mapped.{AreWritePlaces, found_or, place_in, reason_in}
 use Rattle.history_thinning.proofs.Reasons.{alike, kept_known, place_of, rule_least, searched, write_kept}
 use Rattle.history_thinning.proofs.Restricting.{keep, limit_of, restricted_lawful}

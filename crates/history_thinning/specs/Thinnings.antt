@@ -1,14 +1,13 @@
 -- A log of which few operations are kept, from which its verdict is had. This project's own, over precedence after L. Lamport, On
 -- Interprocess Communication, 1986.
 use Rattle.std.specs.Prelude.{◌≡◌, ℕ, ◌<◌, ◌≤◌, true, List, [], ◌∷◌, length, slice_get, Some, IsSome, IsSomeAnd}
-use Rattle.std.specs.Option.{option_map_or}
 use Rattle.history_core.specs.declared.history.Op.{Op}
 use Rattle.history_core.specs.declared.history.Term.{Term}
 use Rattle.history_core.specs.declared.history.Kind.TheVariants.{Refused}
 use Rattle.history_core.specs.Orders.{is_write}
 use Rattle.history_reasons.specs.Reasons.{counts, OfOneRecord}
 use Rattle.history_reasons.specs.Searches.{AreForwards, WritesOnce}
-use Rattle.history_thinning.specs.declared.thinned.Thinned.{Thinned}
+use Rattle.history_reasons.specs.declared.thinned.Thinned.{Thinned}
 
 -- two records are the same where their numbers are
 abbrev pub Equal : ℕ → ℕ → Type 0
@@ -17,10 +16,6 @@ Equal x y = x ≡ y
 -- one term from the first operation on
 abbrev pub one_term : ℕ → List Term
 one_term limit = record { first = 0; limit = limit } ∷ []
-
--- the limit of the one term
-abbrev pub limit_of : Thinned → ℕ
-limit_of thinned = option_map_or (λ (t : Term). t.limit) (slice_get thinned.history.terms 0) 1
 
 module _ {R : Type 0} where
   -- the kept operation at this place has the record of another one

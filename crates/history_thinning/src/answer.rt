@@ -8,9 +8,8 @@ ghost use Rattle.history_thinning.specs.Answers.{IsThinnedAnswer, IsOfKept};
 ghost use Rattle.history_thinning.specs.Thinnings.{Equal, IsThinnedLog};
 ghost use Rattle.history_thinning.specs.inner.Mapped.{AreWritePlaces, place_in, reason_in};
 
-use crate::thinned::{LogAnswer, Thinned};
 use history_core::{Items, Kind, Op};
-use history_reasons::{Reason, Search};
+use history_reasons::{LogAnswer, Reason, Search, Thinned};
 use std::alloc::{AllocError, Global};
 
 /// What a search of the whole log would answer, from the answer of one among the operations that are kept.

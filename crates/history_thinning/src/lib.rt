@@ -7,9 +7,7 @@ mod enter;
 mod gather;
 mod group;
 pub mod laws;
-mod thinned;
 mod thinner;
 
 pub use answer::answer_of;
-pub use thinned::{LogAnswer, Thinned};
 pub use thinner::Thinner;

@@ -10,9 +10,8 @@ ghost use Rattle.history_thinning.specs.inner.Kept.{IsThinning};
 use crate::enter::{counted_number, entry_fault, join, make_room};
 use crate::gather::{apart, emptied};
 use crate::group::{Group, Placed};
-use crate::thinned::Thinned;
 use history_core::{History, Items, Op, Term};
-use history_reasons::SearchError;
+use history_reasons::{SearchError, Thinned};
 use std::alloc::{AllocError, Global};
 
 /// A log of which at most four operations of each record are kept. Its memory grows with the greatest number of a record.

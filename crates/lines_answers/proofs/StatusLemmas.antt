@@ -3,8 +3,8 @@ use Rattle.std.proofs.Common.{rules, arith, ◌≤◌, ℕ, List, Bool, true, fa
 use Rattle.fsr_runs.specs.Answers.{GivesReply, HasLowStatus}
 use Rattle.fsr_runs.specs.declared.fault.Answer.{Answer}
 use Rattle.fsr_runs.specs.declared.fault.Fault.{Fault}
-use Rattle.history_thinning.specs.declared.thinned.LogAnswer.{LogAnswer}
-use Rattle.history_thinning.specs.declared.thinned.LogAnswer.TheVariants.{Lawful, Unlawful}
+use Rattle.history_reasons.specs.declared.thinned.LogAnswer.{LogAnswer}
+use Rattle.history_reasons.specs.declared.thinned.LogAnswer.TheVariants.{Lawful, Unlawful}
 use Rattle.history_text.specs.Kinds.{are_lines}
 use Rattle.lines_answers.specs.Answers.{IsAnswerIfLines, IsAnswerInLines, IsLinesAnswer, status_of}
 use Rattle.fsr_runs.specs.declared.show.Show.{Show}

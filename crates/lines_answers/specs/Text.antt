@@ -1,7 +1,7 @@
 -- All that is printed of a log in lines (this project's own).
 use Rattle.std.specs.Prelude.{ℕ, ◌++◌, List, codes, Bool, true, false, if◌then◌else◌}
 use Rattle.std.specs.Fmt.{decimal}
-use Rattle.history_thinning.specs.declared.thinned.LogAnswer.{LogAnswer}
+use Rattle.history_reasons.specs.declared.thinned.LogAnswer.{LogAnswer}
 use Rattle.lines_log.specs.declared.lines_log.LinesLog.{LinesLog}
 use Rattle.lines_reasons.specs.Small.{small_text}
 use Rattle.lines_reasons.specs.Text.{verdict_text}

@@ -9,7 +9,7 @@ ghost use Rattle.thinned_search.specs.Limits.{IsCounted};
 use crate::text::shown_text;
 use fsr_runs::{Answer, Fault, Show};
 use history_core::Items;
-use history_thinning::LogAnswer;
+use history_reasons::LogAnswer;
 use lines_log::{LinesLog, read_lines};
 use std::alloc::{AllocError, Global};
 use thinned_search::{counted, search_thinned};

@@ -4,7 +4,7 @@ ghost use Rattle.std.specs.Fmt.{decimal};
 ghost use Rattle.lines_answers.specs.Text.{count_text, counts_text, end_text, lines_text, shown_text};
 
 use fsr_runs::Show;
-use history_thinning::LogAnswer;
+use history_reasons::LogAnswer;
 use itoa::Buffer;
 use lines_log::LinesLog;
 use lines_reasons::{small_text, verdict_text};

@@ -5,8 +5,8 @@ use Rattle.std.specs.Fmt.{decimal}
 use Rattle.history_core.specs.declared.history.Op.{Op}
 use Rattle.history_reasons.specs.declared.reason.Reason.{Reason}
 use Rattle.history_reasons.specs.declared.reason.Reason.TheVariants.{Unwritten, Early, Stale, Crossed, Limit}
-use Rattle.history_thinning.specs.Thinnings.{limit_of}
-use Rattle.history_thinning.specs.declared.thinned.Thinned.{Thinned}
+use Rattle.history_reasons.specs.Kept.{limit_of}
+use Rattle.history_reasons.specs.declared.thinned.Thinned.{Thinned}
 use Rattle.lines_tables.specs.Places.{line_at}
 use Rattle.lines_reasons.specs.KeptAt.{kept_at}
 

@@ -8,10 +8,10 @@ use Rattle.history_core.specs.declared.history.Op.{Op}
 use Rattle.history_core.specs.declared.history.Kind.{Kind}
 use Rattle.history_core.specs.declared.history.Kind.TheVariants.{Write, Read, Refused}
 use Rattle.history_reasons.specs.declared.reason.Reason.{Reason}
-use Rattle.history_thinning.specs.Thinnings.{limit_of}
-use Rattle.history_thinning.specs.declared.thinned.LogAnswer.{LogAnswer}
-use Rattle.history_thinning.specs.declared.thinned.LogAnswer.TheVariants.{Lawful, Unlawful as NoOrder}
-use Rattle.history_thinning.specs.declared.thinned.Thinned.{Thinned}
+use Rattle.history_reasons.specs.Kept.{limit_of}
+use Rattle.history_reasons.specs.declared.thinned.LogAnswer.{LogAnswer}
+use Rattle.history_reasons.specs.declared.thinned.LogAnswer.TheVariants.{Lawful, Unlawful as NoOrder}
+use Rattle.history_reasons.specs.declared.thinned.Thinned.{Thinned}
 use Rattle.lines_reasons.specs.Named.{in_kept, is_named, places_of}
 use Rattle.lines_reasons.specs.Sentences.{number_text}
 

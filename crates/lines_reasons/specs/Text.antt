@@ -5,9 +5,9 @@ use Rattle.std.specs.List.{flat_map}
 use Rattle.history_core.specs.declared.history.Op.{Op}
 use Rattle.history_reasons.specs.declared.reason.Reason.{Reason}
 use Rattle.history_reasons.specs.declared.reason.Reason.TheVariants.{Unwritten, Early, Stale, Crossed, Limit}
-use Rattle.history_thinning.specs.declared.thinned.LogAnswer.{LogAnswer}
-use Rattle.history_thinning.specs.declared.thinned.LogAnswer.TheVariants.{Lawful, Unlawful as NoOrder}
-use Rattle.history_thinning.specs.declared.thinned.Thinned.{Thinned}
+use Rattle.history_reasons.specs.declared.thinned.LogAnswer.{LogAnswer}
+use Rattle.history_reasons.specs.declared.thinned.LogAnswer.TheVariants.{Lawful, Unlawful as NoOrder}
+use Rattle.history_reasons.specs.declared.thinned.Thinned.{Thinned}
 use Rattle.search_text.specs.Text.{reason_text}
 use Rattle.history_text.specs.Splits.{lines_of}
 use Rattle.lines_tables.specs.Places.{line_at}

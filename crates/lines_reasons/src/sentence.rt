@@ -6,8 +6,7 @@ ghost use Rattle.lines_tables.specs.Places.{line_at};
 
 use crate::named::kept_at;
 use history_core::Op;
-use history_reasons::Reason;
-use history_thinning::Thinned;
+use history_reasons::{Reason, Thinned};
 use itoa::Buffer;
 use lines_tables::line_of;
 use std::alloc::AllocError;

@@ -8,8 +8,7 @@ ghost use Rattle.lines_reasons.specs.Small.{one_or_none, op_text, ops_text, outc
 use crate::named::{in_kept, is_named, places_of};
 use crate::sentence::{push_u64, push_words};
 use history_core::{Kind, Op};
-use history_reasons::Reason;
-use history_thinning::{LogAnswer, Thinned};
+use history_reasons::{LogAnswer, Reason, Thinned};
 use std::alloc::{AllocError, Global};
 
 /// The small log of an unlawful one, and of a lawful one nothing.

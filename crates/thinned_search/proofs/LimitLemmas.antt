@@ -1,15 +1,15 @@
 -- A thinned log under another limit, and the limit between one under which an order is lawful and one under which none is.
 use Rattle.std.proofs.Common.{◌≡◌, ◌∙◌, ◌⊎◌, inl, inr, ℕ, ◌+◌, ◌-◌, ◌<◌, ◌≤◌, List, Bool, true, false, refl, sym, subst, arith}
 use Rattle.history_core.specs.declared.history.Op.{Op}
-use Rattle.history_thinning.specs.declared.thinned.LogAnswer.{LogAnswer}
-use Rattle.history_thinning.specs.declared.thinned.LogAnswer.TheVariants.{Lawful, Unlawful}
-use Rattle.history_thinning.specs.declared.thinned.Thinned.{Thinned}
+use Rattle.history_reasons.specs.declared.thinned.LogAnswer.{LogAnswer}
+use Rattle.history_reasons.specs.declared.thinned.LogAnswer.TheVariants.{Lawful, Unlawful}
+use Rattle.history_reasons.specs.declared.thinned.Thinned.{Thinned}
 use Rattle.history_reasons.specs.declared.reason.Reason.{Reason}
 use Rattle.history_reasons.specs.declared.reason.Reason.TheVariants.{Limit}
 use Rattle.history_thinning.specs.Answers.{IsThinnedAnswer}
 use Rattle.history_thinning.specs.Thinnings.{Equal, IsThinned, IsThinnedLog, one_term}
 use Rattle.thinned_search.specs.Limits.{IsCounted, IsCountedBy, IsLawfulUnder, IsMost, is_lawful}
-use Rattle.history_thinning.specs.Thinnings.{limit_of}
+use Rattle.history_reasons.specs.Kept.{limit_of}
 
 pub under_another : (own limit : ℕ) (log : List (Op ℕ)) (a b : Thinned) → b.history.opening ≡ a.history.opening
     → b.history.terms ≡ one_term limit → b.history.ops ≡ a.history.ops → b.places ≡ a.places →

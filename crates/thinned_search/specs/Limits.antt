@@ -5,8 +5,8 @@ use Rattle.history_core.specs.declared.history.Verdict.TheVariants.{Lawful as La
 use Rattle.history_core.specs.Orders.{IsVerdict}
 use Rattle.history_reasons.specs.declared.reason.Reason.{Reason}
 use Rattle.history_reasons.specs.declared.reason.Reason.TheVariants.{Unwritten, Early, Stale, Crossed, Limit}
-use Rattle.history_thinning.specs.declared.thinned.LogAnswer.{LogAnswer}
-use Rattle.history_thinning.specs.declared.thinned.LogAnswer.TheVariants.{Lawful, Unlawful}
+use Rattle.history_reasons.specs.declared.thinned.LogAnswer.{LogAnswer}
+use Rattle.history_reasons.specs.declared.thinned.LogAnswer.TheVariants.{Lawful, Unlawful}
 use Rattle.history_thinning.specs.Thinnings.{Equal, one_term}
 
 -- whether an order of the log is lawful under this limit

@@ -7,8 +7,7 @@ ghost use Rattle.thinned_search.specs.Limits.{IsCounted, IsCountedBy, IsLawfulUn
 
 use crate::search::search_thinned;
 use history_core::{History, Items, Term};
-use history_reasons::Reason;
-use history_thinning::{LogAnswer, Thinned};
+use history_reasons::{LogAnswer, Reason, Thinned};
 use std::alloc::{AllocError, Global};
 
 /// The number that is told besides what was found, or 0.

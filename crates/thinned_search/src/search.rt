@@ -4,9 +4,9 @@ ghost use Rattle.history_reasons.specs.declared.reason.SearchError.TheVariants.{
 ghost use Rattle.history_thinning.specs.Answers.{IsThinnedAnswer, IsOfKept};
 ghost use Rattle.history_thinning.specs.Thinnings.{IsThinnedLog};
 
-use history_reasons::SearchError;
+use history_reasons::{LogAnswer, SearchError, Thinned};
 use history_search::find_order;
-use history_thinning::{LogAnswer, Thinned, answer_of};
+use history_thinning::answer_of;
 use std::alloc::Global;
 
 /// What a search of the whole log would answer, from few of its operations, which has all that a reason names. It takes n log n steps for n

@@ -1,8 +1,8 @@
+use crate::Reason;
 use history_core::{History, Items};
-use history_reasons::Reason;
 
 /// The operations that are kept of a log, in the order of the log.
-#[derive(Debug, Drop)]
+#[derive(Drop)]
 pub struct Thinned {
     /// They, under one term. The opening is 0.
     pub history: History<usize>,
@@ -12,7 +12,7 @@ pub struct Thinned {
 
 impl Thinned {
     ghost use Rattle.std.specs.Prelude.{◌≡◌};
-    ghost use Rattle.history_thinning.specs.Thinnings.{limit_of};
+    ghost use Rattle.history_reasons.specs.Kept.{limit_of};
 
     /// The limit of the one term.
     pub fn limit(&self) -> u64
@@ -26,7 +26,7 @@ impl Thinned {
 }
 
 /// What a search answers about a whole log. Places are those in the log, counted from 0.
-#[derive(Debug, Drop)]
+#[derive(Drop)]
 pub enum LogAnswer {
     /// A lawful order exists. Its writes stand in this order, behind each the finished operations that have its record, by beginning.
     Lawful { writes: Items<usize> },
