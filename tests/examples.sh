@@ -1,6 +1,6 @@
 # Each document of examples/ (NAME.json, or NAME.jsonl of a log in lines), tests/schedules/ and tests/races/ against the text that it
 # prints, NAME.txt (of a refused one the line on standard error), and the status that is wanted, NAME.status (none: 0). The programs that
-# have `check` or `order` alone print the same.
+# have `check` or `order` alone, or `play` of documents of kind `cell`, print the same.
 
 for document in examples/*.json examples/*.jsonl tests/schedules/*.json tests/races/*.json; do
     command=$(command_for "$document")
@@ -8,8 +8,13 @@ for document in examples/*.json examples/*.jsonl tests/schedules/*.json tests/ra
     case $command in
     check) sees "$document, by fsr_check" fsr_check "$document" "${document%.json*}.txt" ;;
     order) sees "$document, by fsr_order" fsr_order "$document" "${document%.json*}.txt" order ;;
+    play) ! is_cell "$document" || sees "$document, by fsr_cell" fsr_cell "$document" "${document%.json*}.txt" ;;
     esac
 done
+
+# A document of another kind is refused by the program that has those of kind `cell` alone.
+cp examples/matrix.json "$room/matrix.json" && echo 3 >"$room/matrix.status" && echo 'fsr: document: kind' >"$room/matrix.txt"
+sees "a matrix, by fsr_cell" fsr_cell "$room/matrix.json" "$room/matrix.txt"
 
 # The controls: the first document beside another's text, with a status that it hasn't, and with more on the other stream.
 catches "another document's text" "something else than examples/found_order.txt" \
