@@ -1,5 +1,5 @@
 -- Documents of kind `cell`: a schedule of a four-slot register (this project's own).
-use Rattle.std.specs.Prelude.{ℕ, ◌+◌, List, [], ◌∷◌, length, codes, if◌then◌else◌, Result, Ok, Err}
+use Rattle.std.specs.Prelude.{ℕ, ◌+◌, List, [], ◌∷◌, length, codes, if◌then◌else◌, Result, Ok, Err, ⊤}
 use Rattle.std.specs.List.{list_all}
 use Rattle.serde_json.specs.Data.{Data}
 use Rattle.history_core.specs.Band.{fits}
@@ -15,6 +15,15 @@ use Rattle.history_text.specs.Refusals.{◌>>=◌, field, must, required}
 use Rattle.history_text.specs.Shapes.{as_whole, as_band, as_list}
 use Rattle.cell_text.specs.Shapes.{as_turns}
 
+-- the ranges, and then the laws
+unfoldable pub allowed : Band → List Band → ℕ → ℕ → Result ⊤ DocError
+allowed opening writes reads steps = do
+  writes_ok ← must (count_in_range (length writes)) (Range Writes)
+  reads_ok ← must (count_in_range (length writes + reads)) (Range Reads)
+  steps_ok ← must (steps_in_range steps) (Range Steps)
+  opening_fits ← must (fits opening) (Law Opening)
+  must (list_all fits writes) (Law Writes)
+
 unfoldable pub cell_in : Data → Result (CellSchedule Band) DocError
 cell_in d = do
   all_there ← required (Opening ∷ Noise ∷ Writes ∷ Reads ∷ Steps ∷ []) d
@@ -23,11 +32,7 @@ cell_in d = do
   writes ← field Writes (as_list as_band) d
   reads ← field Reads as_whole d
   steps ← field Steps as_turns d
-  writes_ok ← must (count_in_range (length writes)) (Range Writes)
-  reads_ok ← must (count_in_range (length writes + reads)) (Range Reads)
-  steps_ok ← must (steps_in_range (length steps)) (Range Steps)
-  opening_fits ← must (fits opening) (Law Opening)
-  writes_fit ← must (list_all fits writes) (Law Writes)
+  all_allowed ← allowed opening writes reads (length steps)
   Ok (record { opening = opening; noise = noise; steps = steps; writes = writes; reads = reads })
 
 -- a document of kind `cell`, and of another kind that refusal

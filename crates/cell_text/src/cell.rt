@@ -3,7 +3,7 @@ ghost use Rattle.std.specs.Prelude.{◌≡◌, ◌+◌};
 ghost use Rattle.std.specs.List.{list_all};
 ghost use Rattle.history_core.specs.Band.{fits};
 ghost use Rattle.serde_json.specs.View.{view};
-ghost use Rattle.cell_text.specs.Cell.{cell_document, cell_in};
+ghost use Rattle.cell_text.specs.Cell.{allowed, cell_document, cell_in};
 ghost use Rattle.history_text.specs.Ranges.{count_in_range};
 ghost use Rattle.history_text.specs.Refusals.{Gives};
 
@@ -48,14 +48,8 @@ pub fn cell_in(alloc: Global, value: &Value) -> Result<CellSchedule<Band>, DocEr
     let writes: Vec<Band> = list_field(alloc, value, Key::Writes)?;
     let reads: u64 = field(alloc, value, Key::Reads)?;
     let steps = steps_in(alloc, value)?;
-    must(count_in_range(writes.len()), DocError::Range(Key::Writes))?;
-    must(has_room(writes.len(), reads), DocError::Range(Key::Reads))?;
-    must(
-        steps_in_range(steps.as_slice().len()),
-        DocError::Range(Key::Steps),
-    )?;
-    must(opening.fits(), DocError::Law(Key::Opening))?;
-    must(all_fit(writes.as_slice()), DocError::Law(Key::Writes))?;
+    let count = steps.as_slice().len();
+    allowed(opening, writes.as_slice(), reads, count)?;
     Ok(CellSchedule {
         opening,
         noise,
@@ -63,6 +57,18 @@ pub fn cell_in(alloc: Global, value: &Value) -> Result<CellSchedule<Band>, DocEr
         writes: Items::new(writes),
         reads,
     })
+}
+
+/// The ranges, and then the laws.
+#[tactic(auto, unfolding(crate::specs::Cell::allowed))]
+fn allowed(opening: Band, writes: &[Band], reads: u64, steps: usize) -> Result<(), DocError>
+    ensures { result ≡ allowed opening writes.now reads steps }
+{
+    must(count_in_range(writes.len()), DocError::Range(Key::Writes))?;
+    must(has_room(writes.len(), reads), DocError::Range(Key::Reads))?;
+    must(steps_in_range(steps), DocError::Range(Key::Steps))?;
+    must(opening.fits(), DocError::Law(Key::Opening))?;
+    must(all_fit(writes), DocError::Law(Key::Writes))
 }
 
 /// Whether there may be so many reads beside the writes.
