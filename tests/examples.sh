@@ -11,13 +11,16 @@ for document in examples/*.json examples/*.jsonl tests/schedules/*.json tests/ra
         program=$(log_program_for "$document")
         sees "$document, by $program" "$program" "$document" "${document%.json*}.txt"
         ;;
-    play) sees "$document, by fsr_play" fsr_play "$document" "${document%.json*}.txt" ;;
+    play)
+        sees "$document, by fsr_play" fsr_play "$document" "${document%.json*}.txt"
+        ! is_cell "$document" || sees "$document, by fsr_cell" fsr_cell "$document" "${document%.json*}.txt"
+        ;;
     esac
 done
 
 # The smaller programs refuse documents that aren't theirs by the kind.
 echo "fsr: document: kind" >"$room/kind.txt"
-for program in fsr_log:examples/lines.jsonl fsr_lines:examples/crossed.json fsr_lines:examples/lawful.json; do
+for program in fsr_log:examples/lines.jsonl fsr_lines:examples/crossed.json fsr_lines:examples/lawful.json fsr_cell:examples/matrix.json; do
     cp "${program#*:}" "$room/kind.json" && echo 3 >"$room/kind.status"
     sees "${program#*:}, refused by ${program%:*}" "${program%:*}" "$room/kind.json" "$room/kind.txt"
 done

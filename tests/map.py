@@ -28,9 +28,9 @@ SUBJECTS = {
     "Running boards": "board_history board_live thread_probe board_tasks board_origins board_receipts board_control board_uses",
     "The library for C": "c_registers c_boards c_handles c_exports",
     "Documents and printed lines": "fsr_streams fsr_refusals fsr_runs history_text log_text search_text lines_tables lines_text lines_log "
-    "lines_reasons schedule_text report_text",
-    "The program fsr": "log_search log_answers lines_answers fsr_words fsr_check_answers fsr_play_answers "
-    "fsr_race_answers fsr_answers fsr_check fsr_log fsr_lines fsr_play fsr",
+    "lines_reasons cell_text schedule_text report_lines report_text",
+    "The program fsr": "log_search log_answers lines_answers fsr_words fsr_check_answers cell_answers fsr_play_answers "
+    "fsr_race_answers fsr_answers fsr_check fsr_log fsr_lines fsr_cell fsr_play fsr",
     "Pictures": "picture_shapes picture_visits picture_text picture_answers picture",
     "Tests and measurements": "test_histories test_four_slots test_matrices test_texts test_cells test_runs test_families "
     "board_teams test_growths headline_uses theorems cells_bench",

@@ -136,3 +136,8 @@ command_for() {
     *) echo play ;;
     esac
 }
+
+# Whether a document is of kind `cell`, which `fsr_cell` plays too.
+is_cell() {
+    grep -q '"kind": *"cell"' "$1"
+}

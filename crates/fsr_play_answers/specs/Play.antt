@@ -1,15 +1,12 @@
 -- The answer to a document of a schedule: the text of the report of its run, or the fault (this project's own).
-use Rattle.std.specs.Prelude.{◌≡◌, ℕ, Bool, List, [], ◌∷◌, Result, Ok, Err}
+use Rattle.std.specs.Prelude.{◌≡◌, ◌↔◌, ℕ, Bool, List, codes, IsTrue, Result, Ok, Err}
 use Rattle.fsr_streams.specs.Exits.{status_of}
 use Rattle.fsr_streams.specs.declared.exit.Exit.TheVariants.{Sound}
 use Rattle.fsr_runs.specs.Answers.{AnswersReading}
 use Rattle.fsr_runs.specs.declared.fault.Answer.{Answer}
 use Rattle.fsr_runs.specs.declared.fault.Fault.{Fault}
 use Rattle.fsr_runs.specs.declared.fault.Fault.TheVariants as fault
-use Rattle.four_slot_play.specs.CellReports.{IsCellReport}
-use Rattle.four_slot_core.specs.Play.{cell_span}
-use Rattle.four_slot_core.specs.declared.schedule.CellReport.{CellReport}
-use Rattle.four_slot_core.specs.declared.schedule.CellSchedule.{CellSchedule}
+use Rattle.cell_answers.specs.Cells.{AnswersCell, IsCellAnswer}
 use Rattle.history_core.specs.Schedules.{HasOperations, IsFirstOverrun, Span}
 use Rattle.history_core.specs.declared.band.Band.{Band}
 use Rattle.matrix_board_play.specs.BoardReports.{IsBoardReport}
@@ -17,9 +14,11 @@ use Rattle.matrix_core.specs.Runs.{board_spans, spans_of}
 use Rattle.matrix_play.specs.MatrixReports.{IsMatrixReport}
 use Rattle.matrix_core.specs.declared.schedule.BoardSchedule.{BoardSchedule}
 use Rattle.matrix_core.specs.declared.schedule.MatrixSchedule.{MatrixSchedule}
+use Rattle.serde_json.specs.Data.{Data}
 use Rattle.report_text.specs.Text.{text_of}
 use Rattle.report_text.specs.declared.report.Report.{Report}
 use Rattle.report_text.specs.declared.report.Report.TheVariants as report
+use Rattle.history_text.specs.Document.{is_kind, value_of}
 use Rattle.schedule_text.specs.Document.{schedule_of}
 use Rattle.schedule_text.specs.declared.document.ScheduleDocument.{ScheduleDocument}
 use Rattle.schedule_text.specs.declared.document.ScheduleDocument.TheVariants.{Cell, Matrix, Board}
@@ -28,18 +27,7 @@ use Rattle.schedule_text.specs.declared.document.ScheduleDocument.TheVariants.{C
 abbrev pub printed : Report → Answer
 printed r = record { text = text_of r; status = status_of Sound }
 
--- the answer to the schedule of a cell: the text of the report of its run, or the first step that has no operation
-abbrev pub AnswersCell : CellSchedule Band → Result Answer Fault → Type 0
-AnswersCell schedule (Ok answer) =
-    (r : CellReport Band) × IsCellReport schedule r × (answer ≡ printed (report.Cell r))
-AnswersCell schedule (Err (fault.Document refusal)) = ⊥
-AnswersCell schedule (Err (fault.History why)) = ⊥
-AnswersCell schedule (Err (fault.Lines why)) = ⊥
-AnswersCell schedule (Err (fault.Schedule position)) = IsFirstOverrun (cell_span schedule ∷ []) position
-AnswersCell schedule (Err fault.NoMemory) = ⊥
-AnswersCell schedule (Err fault.NoThread) = ⊥
-
--- the answer to a schedule with these spans, likewise: the text of a report that is made as it should be
+-- the answer to a schedule with these spans: the text of a report that is made as it should be, or the first step that has no operation
 abbrev pub AnswersTerms : {Made : Type 0} → List (Span Band) → (Made → Type 0) → (Made → Report) → Result Answer Fault → Type 0
 AnswersTerms {Made} spans IsMade told (Ok answer) = (r : Made) × HasOperations spans × IsMade r × (answer ≡ printed (told r))
 AnswersTerms spans IsMade told (Err (fault.Document refusal)) = ⊥
@@ -66,3 +54,8 @@ AnswersSchedule (Board schedule titled) reply = AnswersBoard schedule titled rep
 -- the answer of the command `play` to the bytes of a document
 abbrev pub IsPlayAnswer : List ℕ → Result Answer Fault → Type 0
 IsPlayAnswer bytes reply = AnswersReading AnswersSchedule (schedule_of bytes) reply
+
+-- Of a document of kind `cell` it is the answer of the program that has these alone.
+abbrev pub AnswersCellsAlike : Type 0
+AnswersCellsAlike = (bytes : List ℕ) (d : Data) → value_of bytes ≡ Ok d → IsTrue (is_kind (codes "cell") d) →
+    (reply : Result Answer Fault) → IsPlayAnswer bytes reply ↔ IsCellAnswer bytes reply

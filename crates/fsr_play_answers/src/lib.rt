@@ -2,6 +2,7 @@
 //! alone.
 #![tactic(auto)]
 
+pub mod laws;
 mod plays;
 mod program;
 

@@ -5,10 +5,9 @@ ghost use Rattle.history_text.specs.Refusals.{Gives as Reads};
 ghost use Rattle.matrix_core.specs.Runs.{CanPlay};
 ghost use Rattle.schedule_text.specs.Document.{schedule_of};
 ghost use Rattle.schedule_text.specs.Players.{CanBePlayed};
-ghost use Rattle.fsr_play_answers.specs.Play.{AnswersBoard, AnswersCell, AnswersMatrix, IsPlayAnswer, printed};
+ghost use Rattle.fsr_play_answers.specs.Play.{AnswersBoard, AnswersMatrix, IsPlayAnswer, printed};
 
-use four_slot_core::CellSchedule;
-use four_slot_play::play_cell;
+use cell_answers::cell;
 use fsr_runs::{Answer, Fault};
 use fsr_streams::Exit;
 use history_core::Band;
@@ -43,15 +42,6 @@ fn read(alloc: Global, bytes: &[u8]) -> Result<ScheduleDocument, DocError>
     let document = schedule_document(alloc, &value);
     forget(value);
     document
-}
-
-/// The report of a cell's schedule.
-fn cell(alloc: Global, schedule: &CellSchedule<Band>) -> Result<Answer, Fault>
-    ensures { GivesReply (AnswersCell schedule.now) result }
-{
-    let report = play_cell(alloc, schedule)?;
-    let answer = print(alloc, Report::Cell(report))?;
-    Ok(answer)
 }
 
 /// The report of a matrix's schedule, with the terms told where it is titled.

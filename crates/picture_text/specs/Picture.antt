@@ -14,7 +14,7 @@ use Rattle.history_witnesses.specs.declared.breaks.Break.TheVariants.{NoPlace, T
 use Rattle.history_core.specs.declared.history.Op.{Op}
 use Rattle.history_core.specs.declared.history.Term.{Term}
 use Rattle.stamps.specs.declared.stamp.Stamp.{Stamp}
-use Rattle.report_text.specs.Text.{entry_at}
+use Rattle.report_lines.specs.Lines.{entry_at}
 use Rattle.matrix_core.specs.declared.schedule.MatrixTerm.{MatrixTerm}
 use Rattle.picture_shapes.specs.Looks.{looks}
 use Rattle.picture_shapes.specs.Scales.{actors_of, far_of, scale_of, unit_in, x_of, y_of}

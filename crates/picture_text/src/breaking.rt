@@ -8,7 +8,7 @@ use crate::marks::{op_at, spot_of};
 use history_core::{Band, Op};
 use history_witnesses::Break;
 use picture_shapes::{Class, Join, Scale, bar_of, put_bar, put_join, put_long_words, put_words};
-use report_text::Line;
+use report_lines::Line;
 use std::alloc::AllocError;
 
 #[tactic(auto, unfolding(crate::specs::Picture::break_text))]

@@ -8,7 +8,7 @@ use crate::reasons::{push_reason, put_reason_words};
 use crate::scene::Finding;
 use history_core::{Band, Op};
 use picture_shapes::Scale;
-use report_text::Line;
+use report_lines::Line;
 use std::alloc::AllocError;
 
 /// The marks of what breaks the order, or of the reason why no order is lawful.

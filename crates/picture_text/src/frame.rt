@@ -7,7 +7,7 @@ ghost use Rattle.picture_shapes.specs.Shapes.{cell_rows, lane_text, row_text};
 
 use history_core::{Band, Op, Term};
 use picture_shapes::{Lanes, Scale, push_looks, put_lane, put_row, put_term, put_tick};
-use report_text::Line;
+use report_lines::Line;
 use std::alloc::AllocError;
 
 #[tactic(auto, unfolding(crate::specs::Picture::frame_text), using(std::proofs::Common::append_assoc))]

@@ -2,7 +2,7 @@
 
 ghost use Rattle.std.specs.Prelude.{◌≡◌, ◌≤◌, ◌++◌, None, OnOk, slice_get};
 ghost use Rattle.std.specs.List.{flat_map};
-ghost use Rattle.report_text.specs.Text.{entry_at};
+ghost use Rattle.report_lines.specs.Lines.{entry_at};
 ghost use Rattle.picture_text.specs.Picture.{join_at, joins_text, ops_text, order_shapes, point_at, points_text, row_bar, slot_bar};
 ghost use Rattle.picture_text.specs.Picture.{spot_of, visit_bar, visit_text, write_after};
 ghost use Rattle.picture_shapes.specs.Shapes.{op_shapes};
@@ -13,7 +13,7 @@ use picture_shapes::{
     put_kind_words, put_point, row_y, y_of,
 };
 use picture_visits::Visit;
-use report_text::Line;
+use report_lines::Line;
 use stamps::Stamp;
 use std::alloc::AllocError;
 

@@ -12,7 +12,7 @@ use picture_shapes::{
     Class, Join, Scale, Spot, bar_of, end_of, put_bar, put_first_words, put_join, put_last_words,
     put_long_words, put_place, put_words, y_of,
 };
-use report_text::Line;
+use report_lines::Line;
 use std::alloc::AllocError;
 
 #[tactic(auto, unfolding(crate::specs::Picture::reason_text), using(std::proofs::Common::append_assoc))]

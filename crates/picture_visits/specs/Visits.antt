@@ -17,7 +17,7 @@ use Rattle.history_core.specs.declared.history.Op.{Op}
 use Rattle.history_core.specs.declared.history.Term.{Term}
 use Rattle.matrix_core.specs.Runs.{board_span}
 use Rattle.matrix_core.specs.declared.schedule.MatrixTerm.{MatrixTerm}
-use Rattle.report_text.specs.Text.{entry_at}
+use Rattle.report_lines.specs.Lines.{entry_at}
 use Rattle.picture_visits.specs.declared.visit.Visit.{Visit}
 
 -- ---- one access

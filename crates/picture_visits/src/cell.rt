@@ -3,7 +3,7 @@
 ghost use Rattle.std.specs.Prelude.{◌≡◌, ◌+◌, ◌++◌, [], IfOk, OnOk, map, nat_eq, if◌then◌else◌};
 ghost use Rattle.four_slot_core.specs.Play.{actor};
 ghost use Rattle.history_core.specs.Schedules.{positions};
-ghost use Rattle.report_text.specs.Text.{entry_at};
+ghost use Rattle.report_lines.specs.Lines.{entry_at};
 ghost use Rattle.picture_visits.specs.Visits.{access_visits, cell_visits, events_in, side_visits};
 
 use crate::access::{Access, Steps, made_after, push_access, push_if};

@@ -1,11 +1,9 @@
-//! The lines of played reports.
+//! The lines of a history whose terms are told.
 ghost use Rattle.std.specs.Prelude.{◌≡◌, ◌++◌, OnOk, take};
-ghost use Rattle.report_text.specs.Text.{history_lines, lines_from, order_text, term_line, titled_lines};
+ghost use Rattle.report_text.specs.Text.{history_lines, term_line, titled_lines};
 
-use crate::line::Line;
-use crate::marks::Marks;
-use crate::pieces::push_after_blank;
 use history_core::{Band, History, Op, Term};
+use report_lines::{Line, Marks, push_lines_from};
 use std::alloc::AllocError;
 
 /// A line for each operation of a history; titled, with the lines of its terms between them.
@@ -58,32 +56,4 @@ fn below(ops: &[Op<Band>], end: usize) -> &[Op<Band>]
     ensures { result.now ≡ take end ops.now }
 {
     if end < ops.len() { &ops[..end] } else { ops }
-}
-
-/// A line for each operation from a place on.
-fn push_lines_from<M: Marks>(
-    text: &mut Vec<u8>,
-    marks: &M,
-    ops: &[Op<Band>],
-    from: usize,
-) -> Result<(), AllocError>
-    ensures { OnOk result (text.new.items ≡ text.old.items ++ lines_from (M.mark marks.now) ops.now from) }
-{
-    let mut line = Line::new();
-    for place in from..ops.len() {
-        marks.push_line(text, &mut line, place, &ops[place])?;
-    }
-    Ok(())
-}
-
-/// The line of an order.
-pub fn push_order(text: &mut Vec<u8>, order: &[usize]) -> Result<(), AllocError>
-    ensures { OnOk result (text.new.items ≡ text.old.items ++ order_text order.now) }
-{
-    text.extend_from_slice(b"order:")?;
-    let mut line = Line::new();
-    for place in order {
-        push_after_blank(text, &mut line, Some(*place as u64))?;
-    }
-    text.extend_from_slice(b"\n")
 }

@@ -1,33 +1,23 @@
-//! What a player tells of each operation besides its history. The line of a board, which has a slot for each access, goes out in
-//! pieces.
-ghost use Rattle.std.specs.Prelude.{◌≡◌, ◌+◌, ◌≤◌, ◌++◌, ℕ, List, OnOk, length};
-ghost use Rattle.report_text.specs.Text.{board_mark, entry_at, op_line, slot_mark, slots_at, slots_text, stamp_mark};
+//! What the players of a matrix and of a composed board tell of each operation besides its history. The line of a board, which has a
+//! slot for each access, goes out in pieces.
+ghost use Rattle.std.specs.Prelude.{◌≡◌, ◌+◌, ◌≤◌, ◌++◌, OnOk, length};
+ghost use Rattle.report_lines.specs.Lines.{entry_at};
+ghost use Rattle.report_text.specs.Text.{board_mark, slots_at, slots_text, stamp_mark, stamp_text};
 
-use crate::line::Line;
-use crate::pieces::{push_after_blank, put_op_head, put_op_tail, put_slot, put_stamp, widened};
-use four_slot_core::CellReport;
 use history_core::{Band, Items, Op};
 use matrix_core::{BoardReport, MatrixReport};
+use report_lines::{Line, Marks, push_after_blank, put_op_head, put_op_tail};
 use stamps::Stamp;
 use std::alloc::AllocError;
 
-/// What a player tells of each operation besides its history.
-pub trait Marks {
-    ghost mark: { Self → ℕ → List ℕ };
-
-    /// Pushes the line of the operation at a place. What the buffer has doesn't matter.
-    fn push_line(
-        &self,
-        text: &mut Vec<u8>,
-        line: &mut Line,
-        place: usize,
-        op: &Op<Band>,
-    ) -> Result<(), AllocError>
-        ensures { OnOk result (text.new.items ≡ text.old.items ++ op_line place op.now (mark self.now place)) };
+/// What the player of a matrix tells: the stamp of each operation.
+#[derive(Clone, Copy)]
+pub struct MatrixMarks<'a> {
+    pub report: &'a MatrixReport<Band>,
 }
 
-impl Marks for CellReport<Band> {
-    ghost mark = { λ report. slot_mark report.slots };
+impl<'a> Marks for MatrixMarks<'a> {
+    ghost mark = { λ marks. stamp_mark marks.report.now.stamps };
 
     fn push_line(
         &self,
@@ -38,33 +28,20 @@ impl Marks for CellReport<Band> {
     ) -> Result<(), AllocError> {
         line.clear();
         put_op_tail(line, op);
-        put_slot(line, slot_at(self.slots.as_slice(), place));
-        line.put(b"slot ");
+        put_stamp_mark(line, self.report.stamps.as_slice(), place);
         put_op_head(line, place, op);
         text.extend_from_slice(line.as_bytes())
     }
 }
 
-impl Marks for MatrixReport<Band> {
-    ghost mark = { λ report. stamp_mark report.stamps };
-
-    fn push_line(
-        &self,
-        text: &mut Vec<u8>,
-        line: &mut Line,
-        place: usize,
-        op: &Op<Band>,
-    ) -> Result<(), AllocError> {
-        line.clear();
-        put_op_tail(line, op);
-        put_stamp_mark(line, self.stamps.as_slice(), place);
-        put_op_head(line, place, op);
-        text.extend_from_slice(line.as_bytes())
-    }
+/// What the player of a composed board tells: the stamp, and the slot of each access.
+#[derive(Clone, Copy)]
+pub struct BoardMarks<'a> {
+    pub report: &'a BoardReport<Band>,
 }
 
-impl Marks for BoardReport<Band> {
-    ghost mark = { λ report. board_mark report.stamps report.slots };
+impl<'a> Marks for BoardMarks<'a> {
+    ghost mark = { λ marks. board_mark marks.report.now.stamps marks.report.now.slots };
 
     #[tactic(auto, unfolding(crate::specs::Text::board_mark), using(std::proofs::Common::append_assoc))]
     fn push_line(
@@ -76,10 +53,10 @@ impl Marks for BoardReport<Band> {
     ) -> Result<(), AllocError> {
         line.clear();
         line.put(b", slots");
-        put_stamp_mark(line, self.stamps.as_slice(), place);
+        put_stamp_mark(line, self.report.stamps.as_slice(), place);
         put_op_head(line, place, op);
         text.extend_from_slice(line.as_bytes())?;
-        push_slots(text, line, slots_at(self.slots.as_slice(), place))?;
+        push_slots(text, line, slots_at(self.report.slots.as_slice(), place))?;
         line.clear();
         put_op_tail(line, op);
         text.extend_from_slice(line.as_bytes())
@@ -114,14 +91,29 @@ fn slots_at(slots: &[Items<Option<u8>>], place: usize) -> &[Option<u8>]
     }
 }
 
-fn slot_at(slots: &[Option<u8>], place: usize) -> Option<u8>
-    ensures { result ≡ entry_at slots.now place }
-{
-    *slots.get(place)?
-}
-
 fn stamp_at(stamps: &[Option<Stamp>], place: usize) -> Option<Stamp>
     ensures { result ≡ entry_at stamps.now place }
 {
     *stamps.get(place)?
+}
+
+pub fn put_stamp(line: &mut Line, stamp: Option<Stamp>)
+    requires { length line.old + 41 ≤ 256 }
+    ensures text { line.new ≡ stamp_text stamp ++ line.old }
+    ensures len { length line.new ≤ length line.old + 41 }
+{
+    match stamp {
+        Some(Stamp { tag, writer }) => {
+            line.put_number(writer as u64);
+            line.put(b".");
+            line.put_number(tag);
+        }
+        None => line.put(b"-"),
+    }
+}
+
+fn widened(slot: Option<u8>) -> Option<u64>
+    ensures { result ≡ slot }
+{
+    slot.map(|slot| slot as u64)
 }

@@ -3,7 +3,7 @@ ghost use Rattle.std.specs.Prelude.{◌≡◌, ◌+◌, ◌++◌, OnOk};
 ghost use Rattle.report_text.specs.Text.{broken_line, origin_line, task_line, task_lines};
 
 use crate::Counts;
-use crate::line::Line;
+use report_lines::Line;
 use std::alloc::AllocError;
 
 /// A line for each task.

@@ -1,16 +1,18 @@
-ghost use Rattle.std.specs.Prelude.{◌≡◌, ◌++◌, [], IfOk};
-ghost use Rattle.report_text.specs.Text.{history_lines, order_text, race_text, text_of};
+ghost use Rattle.std.specs.Prelude.{◌≡◌, ◌++◌, IfOk};
+ghost use Rattle.report_lines.specs.Lines.{order_text};
+ghost use Rattle.report_text.specs.Text.{history_lines, race_text, text_of};
 
-use crate::lines::{push_history, push_order};
-use crate::marks::Marks;
+use crate::lines::push_history;
+use crate::marks::{BoardMarks, MatrixMarks};
 use crate::races::{push_origin, push_tasks};
 use crate::{Counts, Report};
 use history_core::{Band, History, Items};
+use report_lines::{Marks, cell_lines, push_order, with_room};
 use std::alloc::{AllocError, Global};
 use std::mem::forget;
 
-/// The greatest number of operations for which room is made before they are printed.
-const MOST_ROOM: usize = 100_000;
+/// The greatest number of tasks for which room is made before they are printed.
+const MOST_TASKS: usize = 100_000;
 
 /// The printed lines of a report, which is left unfreed: a run prints one and ends, and of a board each operation has a list of slots,
 /// which go with the process.
@@ -28,19 +30,11 @@ pub fn report_text(alloc: Global, report: &Report) -> Result<Vec<u8>, AllocError
     ensures { IfOk result (λ v. v.items ≡ text_of report.now) }
 {
     match report {
-        Report::Cell(report) => {
-            played_text(
-                alloc,
-                report,
-                &report.history,
-                false,
-                report.order.as_slice(),
-            )
-        }
+        Report::Cell(report) => cell_lines(alloc, report),
         Report::Matrix { report, titled } => {
             played_text(
                 alloc,
-                report,
+                &MatrixMarks { report },
                 &report.history,
                 *titled,
                 report.order.as_slice(),
@@ -49,7 +43,7 @@ pub fn report_text(alloc: Global, report: &Report) -> Result<Vec<u8>, AllocError
         Report::Board { report, titled } => {
             played_text(
                 alloc,
-                report,
+                &BoardMarks { report },
                 &report.history,
                 *titled,
                 report.order.as_slice(),
@@ -83,16 +77,8 @@ fn race_text(
 ) -> Result<Vec<u8>, AllocError>
     ensures { IfOk result (λ v. v.items ≡ race_text tasks.now broken) }
 {
-    let mut text = Vec::with_capacity(alloc, 64 * tasks.len().min(MOST_ROOM))?;
+    let mut text = Vec::with_capacity(alloc, 64 * tasks.len().min(MOST_TASKS))?;
     push_tasks(&mut text, tasks)?;
     push_origin(&mut text, broken)?;
     Ok(text)
-}
-
-/// No text yet, with room for the lines of most reports of this size.
-fn with_room(alloc: Global, operations: usize, listed: usize) -> Result<Vec<u8>, AllocError>
-    ensures { IfOk result (λ v. v.items ≡ []) }
-{
-    let lines = 64 * operations.min(MOST_ROOM);
-    Vec::with_capacity(alloc, lines + 6 * listed.min(MOST_ROOM))
 }

@@ -1,21 +1,28 @@
 -- The schedule or the race that bytes stand for, or the first refusal with its first key (this project's own).
-use Rattle.std.specs.Prelude.{ℕ, List, codes, if◌then◌else◌, Result, Err}
+use Rattle.std.specs.Prelude.{ℕ, List, codes, if◌then◌else◌, Result, Ok, Err}
 use Rattle.serde_json.specs.Data.{Data}
 use Rattle.history_text.specs.Document.{is_kind, value_of}
 use Rattle.history_text.specs.Refusals.{◌>>=◌}
 use Rattle.fsr_refusals.specs.declared.refusal.DocError.{DocError}
 use Rattle.fsr_refusals.specs.declared.refusal.DocError.TheVariants.{Kind}
+use Rattle.cell_text.specs.Cell.{cell_in}
 use Rattle.schedule_text.specs.Board.{board_in}
-use Rattle.schedule_text.specs.Cell.{cell_in}
 use Rattle.schedule_text.specs.Matrix.{matrix_in}
 use Rattle.schedule_text.specs.Race.{race_in}
 use Rattle.schedule_text.specs.declared.document.RaceDocument.{RaceDocument}
 use Rattle.schedule_text.specs.declared.document.ScheduleDocument.{ScheduleDocument}
+use Rattle.schedule_text.specs.declared.document.ScheduleDocument.TheVariants.{Cell}
+
+-- the schedule of a cell, as one of the schedules
+abbrev pub cell_schedule : Data → Result ScheduleDocument DocError
+cell_schedule d = do
+  schedule ← cell_in d
+  Ok (Cell schedule)
 
 -- a document of one of the kinds of schedules
 abbrev pub schedule_document : Data → Result ScheduleDocument DocError
 schedule_document d =
-    if is_kind (codes "cell") d then cell_in d
+    if is_kind (codes "cell") d then cell_schedule d
     else (if is_kind (codes "matrix") d then matrix_in d
     else (if is_kind (codes "board") d then board_in d
     else Err Kind))

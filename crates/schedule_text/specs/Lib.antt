@@ -1,10 +1,8 @@
 pub mod Board
-pub mod Cell
 pub mod Document
 pub mod Matrix
 pub mod Plans
 pub mod Players
 pub mod Race
-pub mod Ranges
 pub mod Shapes
 pub mod Terms

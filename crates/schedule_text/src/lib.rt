@@ -2,15 +2,12 @@
 #![tactic(auto)]
 
 mod board;
-mod cell;
 mod document;
 mod matrix;
 mod plans;
 mod race;
-mod ranges;
 mod read;
 mod terms;
-mod turns;
 
 pub use document::{RaceDocument, ScheduleDocument};
 pub use read::{race_document, read_race, read_schedule, schedule_document};

@@ -6,10 +6,10 @@ ghost use Rattle.schedule_text.specs.Document.{race_document, race_of, schedule_
 ghost use Rattle.schedule_text.specs.Players.{CanBePlayed, CanRace};
 
 use crate::board::board_in;
-use crate::cell::cell_in;
 use crate::matrix::matrix_in;
 use crate::race::race_in;
 use crate::{RaceDocument, ScheduleDocument};
+use cell_text::cell_in;
 use history_text::{DocError, is_kind, read_value};
 use serde_json::Value;
 use std::alloc::Global;
@@ -31,7 +31,8 @@ pub fn schedule_document(alloc: Global, value: &Value) -> Result<ScheduleDocumen
     ensures playable { IfOk result CanBePlayed }
 {
     if is_kind(value, "cell") {
-        cell_in(alloc, value)
+        let schedule = cell_in(alloc, value)?;
+        Ok(ScheduleDocument::Cell(schedule))
     } else if is_kind(value, "matrix") {
         matrix_in(alloc, value)
     } else if is_kind(value, "board") {

@@ -1,11 +1,12 @@
 //! The words of an operation: its kind, its stamp and its record.
 
 ghost use Rattle.std.specs.Prelude.{◌≡◌, ◌+◌, ◌≤◌, ◌++◌, length};
-ghost use Rattle.report_text.specs.Text.{kind_text};
+ghost use Rattle.report_lines.specs.Lines.{kind_text};
 ghost use Rattle.picture_shapes.specs.Shapes.{item_words, kind_words, stamp_words, words_head};
 
 use history_core::{Band, Kind};
-use report_text::{Line, put_item, put_stamp};
+use report_lines::{Line, put_item};
+use report_text::put_stamp;
 use stamps::Stamp;
 
 #[tactic(auto, unfolding(crate::specs::Shapes::words_head), using(std::proofs::Common::append_assoc))]

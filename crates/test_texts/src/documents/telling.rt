@@ -1,7 +1,8 @@
 use super::A;
 use history_core::{Items, MAX_LIMIT, Verdict};
 use history_text::verdict_text;
-use report_text::{Counts, Line, Report, put_item, put_number, put_stamp, report_text};
+use report_lines::{Line, put_item, put_number};
+use report_text::{Counts, Report, put_stamp, report_text};
 use stamps::Stamp;
 use std::alloc::{AllocError, Global};
 use std::test::Fail;

@@ -1,7 +1,6 @@
 -- What a turn prints is the first of the lines that are left.
 use Rattle.std.proofs.Common.{◌≡◌, ◌<◌, ◌+◌, ◌++◌, ◌∙◌, ℕ, List, ap, append_assoc, drop, get_or, length, sym}
-use Rattle.std.proofs.lemmas.Option.{slice_get-get_or}
-use Rattle.matrix_core.proofs.lists.Elements.{drop_next}
+use Rattle.std.proofs.lemmas.List.{drop_more}
 use Rattle.report_text.specs.declared.report.Counts.{Counts}
 use Rattle.report_text.specs.Text.{task_line, task_lines}
 use Rattle.report_text.proofs.races.push_tasks.Goals as goal
@@ -13,7 +12,7 @@ one_task tasks task default line old new whole lt is line_is was =
     ap (λ text. text ++ task_lines (task + 1) (drop (task + 1) tasks)) (is ∙ ap (λ z. old ++ z) line_is)
     ∙ append_assoc old (task_line task (get_or tasks task default)) (task_lines (task + 1) (drop (task + 1) tasks))
     ∙ ap (λ rest. old ++ task_lines task rest)
-    (sym (drop_next tasks task (get_or tasks task default) (slice_get-get_or tasks task default lt)))
+    (sym (drop_more tasks task default lt))
     ∙ was
 
 pub loop-task-preserved : goal.loop-task-preserved

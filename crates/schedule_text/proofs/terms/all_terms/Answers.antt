@@ -4,7 +4,8 @@ use Rattle.std.specs.Prelude.{slice_get, Some}
 use Rattle.std.proofs.lemmas.Option.{slice_get_read}
 use Rattle.serde_json.specs.View.{view}
 use Rattle.schedule_text.specs.Shapes.{as_term}
-use Rattle.schedule_text.proofs.Reading.{all_read_seen, one_more_seen, one_refused_seen, with_nothing}
+use Rattle.history_text.proofs.ListLemmas.{with_nothing}
+use Rattle.schedule_text.proofs.Reading.{all_read_seen, one_more_seen, one_refused_seen}
 use Rattle.schedule_text.proofs.terms.all_terms.Goals as goal
 
 pub loop-item-init : goal.loop-item-init

@@ -1,0 +1,45 @@
+-- Documents of kind `cell`: a schedule of a four-slot register (this project's own).
+use Rattle.std.specs.Prelude.{ℕ, ◌+◌, List, [], ◌∷◌, length, codes, if◌then◌else◌, Result, Ok, Err, ⊤}
+use Rattle.std.specs.List.{list_all}
+use Rattle.serde_json.specs.Data.{Data}
+use Rattle.history_core.specs.Band.{fits}
+use Rattle.history_core.specs.declared.band.Band.{Band}
+use Rattle.four_slot_core.specs.declared.schedule.CellSchedule.{CellSchedule}
+use Rattle.fsr_refusals.specs.declared.refusal.DocError.{DocError}
+use Rattle.fsr_refusals.specs.declared.refusal.DocError.TheVariants.{Kind, Range, Law}
+use Rattle.fsr_refusals.specs.declared.key.Key.TheVariants.{Opening, Noise, Writes, Reads, Steps}
+use Rattle.history_text.specs.Document.{is_kind, value_of}
+use Rattle.history_text.specs.Ranges.{count_in_range}
+use Rattle.cell_text.specs.Ranges.{steps_in_range}
+use Rattle.history_text.specs.Refusals.{◌>>=◌, field, must, required}
+use Rattle.history_text.specs.Shapes.{as_whole, as_band, as_list}
+use Rattle.cell_text.specs.Shapes.{as_turns}
+
+-- the ranges, and then the laws
+unfoldable pub allowed : Band → List Band → ℕ → ℕ → Result ⊤ DocError
+allowed opening writes reads steps = do
+  writes_ok ← must (count_in_range (length writes)) (Range Writes)
+  reads_ok ← must (count_in_range (length writes + reads)) (Range Reads)
+  steps_ok ← must (steps_in_range steps) (Range Steps)
+  opening_fits ← must (fits opening) (Law Opening)
+  must (list_all fits writes) (Law Writes)
+
+unfoldable pub cell_in : Data → Result (CellSchedule Band) DocError
+cell_in d = do
+  all_there ← required (Opening ∷ Noise ∷ Writes ∷ Reads ∷ Steps ∷ []) d
+  opening ← field Opening as_band d
+  noise ← field Noise as_band d
+  writes ← field Writes (as_list as_band) d
+  reads ← field Reads as_whole d
+  steps ← field Steps as_turns d
+  all_allowed ← allowed opening writes reads (length steps)
+  Ok (record { opening = opening; noise = noise; steps = steps; writes = writes; reads = reads })
+
+-- a document of kind `cell`, and of another kind that refusal
+abbrev pub cell_document : Data → Result (CellSchedule Band) DocError
+cell_document d = if is_kind (codes "cell") d then cell_in d else Err Kind
+
+unfoldable pub cell_of : List ℕ → Result (CellSchedule Band) DocError
+cell_of bytes = do
+  d ← value_of bytes
+  cell_document d
