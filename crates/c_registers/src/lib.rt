@@ -21,4 +21,4 @@ pub use numbered::Numbered;
 pub use roles::{Opens, Reading, Writing};
 pub use room::Room;
 pub use status::{DONE, ENDED, IN_USE, LIMIT, NO_MEMORY, OLDER, OTHER_SIDE, PROCESSES, WORN_OUT};
-pub use triple::{TripleEnds, TripleReader, TripleWriter};
+pub use triple::{TripleEnds, TripleFiller, TripleReader, TripleWriter};
