@@ -38,21 +38,20 @@ module _ {W : Type 0} where
     pub next : q.number ≡ p.number + 1
     pub by : HasWrittenBy p.room.inner q.room.inner (numbered q.number w)
 
-  -- the words in the writing side's slot, which were an older record's or the opening's before they were written in place
-  abbrev pub placed : TripleWriter W → W
-  placed p = (placed_by p.room.inner.put.value).words
+  -- the record in the writing side's slot: until it is written in place, an older one or the opening
+  abbrev pub in_slot : TripleWriter W → Numbered W
+  in_slot p = placed_by p.room.inner.put.value
 
-  -- the same write of the words in the slot
+  -- a write of the words in the slot
   abbrev pub HasPublished : TripleWriter W → TripleWriter W → Type 0
-  HasPublished p q = HasWritten p q (placed p)
+  HasPublished p q = HasWritten p q (in_slot p).words
 
   -- the pass and the writing side with these in their slot, and else as they are
   abbrev pub filler_with : TripleFiller W → Numbered W → TripleFiller W
   filler_with f a = record f { put = with_value f.put (put_with f.put.value a) }
 
   abbrev pub writer_with : TripleWriter W → W → TripleWriter W
-  writer_with p w =
-      record p { room = record { inner = filler_with p.room.inner (numbered (placed_by p.room.inner.put.value).number w) } }
+  writer_with p w = record p { room = record { inner = filler_with p.room.inner (numbered (in_slot p).number w) } }
 
   -- the reading side before and after a read: the answer follows the opening, the answer before and what was told, and comes by at most
   -- three control accesses. It was written: it is the record with its place of the writes known, whole, and with these all answers are

@@ -14,7 +14,7 @@ mod room;
 mod status;
 mod triple;
 
-pub use calls::{end, hold, look, make, read, write};
+pub use calls::{end, hold, loan, look, make, publish, read, write};
 pub use four_slot::{FourSlotReader, FourSlotWriter};
 pub use hands::{Hand, Holds, Offers};
 pub use numbered::Numbered;

@@ -6,7 +6,7 @@ ghost use Rattle.cell_live.specs.Running.{last_or};
 ghost use Rattle.cell_triple.specs.Words.{is_put_of, opening_of, written_by};
 ghost use Rattle.cell_triple.specs.Lent.{placed_by};
 ghost use Rattle.c_registers.specs.Numbers.{numbered};
-ghost use Rattle.c_registers.specs.TripleCalls.{HasWritten, HasWrittenBy, filler_with, writer_with, placed};
+ghost use Rattle.c_registers.specs.TripleCalls.{HasPublished, HasWrittenBy, filler_with, writer_with, in_slot};
 ghost use Rattle.c_registers.specs.contracts.numbered.Numbered as record_of;
 ghost use Rattle.c_registers.specs.contracts.triple.TripleFiller as filler;
 ghost use Rattle.c_registers.specs.contracts.triple.TripleWriter as writer;
@@ -55,9 +55,9 @@ impl<W: Copy> TripleWriter<W> {
     /// Lends the words in the slot, to be filled where the record will lie, until the side is used again. They are an older record's, or
     /// the opening's. `publish` then shows them, and any other write fills the slot anew.
     #[inline]
-    pub fn place<'a>(&'a mut self) -> &'a mut W
+    pub fn loan<'a>(&'a mut self) -> &'a mut W
         ensures* lent { sem 𝓛 (Lends (writer.the_row W.row W.Clone) W.row self.entry result (writer_with self.old)) }
-        ensures value { result.now ≡ placed self.old }
+        ensures value { result.now ≡ (in_slot self.old).words }
     {
         let lent = self.room.inside().place();
         &mut lent.words
@@ -66,7 +66,7 @@ impl<W: Copy> TripleWriter<W> {
     /// Shows the words in the slot to the reader, under the next number. `false` where the numbers are used up.
     #[inline]
     pub fn publish(&mut self) -> bool
-        ensures written { result ≡ true → HasWritten self.old self.new (placed self.old) }
+        ensures written { result ≡ true → HasPublished self.old self.new }
         ensures refused { result ≡ false → self.new ≡ self.old }
         ensures left { result ≡ true → self.old.number + 1 < 2 ^ 64 }
         ensures worn_out { result ≡ false → 2 ^ 64 ≤ self.old.number + 1 }

@@ -1,5 +1,5 @@
 -- The last number is the one just written.
-use Rattle.std.proofs.Common.{◌≡◌, List, ◌∙◌, ap}
+use Rattle.std.proofs.Common.{◌≡◌, ◌∙◌, ap}
 use Rattle.std.specs.Arc.{arc_value}
 use Rattle.cell_live.specs.Running.{last_or}
 use Rattle.cell_triple.specs.Words.{opening_of, written_by}

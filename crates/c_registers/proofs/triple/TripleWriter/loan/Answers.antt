@@ -1,10 +1,10 @@
 -- The side has what its pass has, in its room.
-use Rattle.std.proofs.Common.{◌≡◌, refl, ap, ◌∙◌}
+use Rattle.std.proofs.Common.{refl, ap, ◌∙◌}
 use Rattle.cell_triple.specs.Lent.{placed_by}
 use Rattle.c_registers.specs.Numbers.{numbered}
 use Rattle.c_registers.specs.TripleCalls.{filler_with}
 use Rattle.c_registers.proofs.Same.{same_writer}
-use Rattle.c_registers.proofs.triple.TripleWriter.place.Goals as goal
+use Rattle.c_registers.proofs.triple.TripleWriter.loan.Goals as goal
 
 pub returns : goal.returns
 returns g c =
