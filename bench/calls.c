@@ -2,7 +2,8 @@
  * thread, and calls it N times. Each call goes through a function that passes its arguments on.
  *   calls list               names what can be called, a line each
  *   calls NAME OP PLACES N   OP is write or read, of a register also look, of a triple buffer also hold: a look, and then what gives its
- *                            record where it lies. PLACES is 0 for a register */
+ *                            record where it lies, and loan: what lends the writer's slot, and then the publish. PLACES is 0 for a
+ *                            register */
 #include <nidzaru.h>
 #include <stdio.h>
 #include <stdlib.h>
@@ -50,6 +51,20 @@ static nidzaru_side sides[16];
         return 0;                                                                                                \
     }
 
+/* The loop of a write in place, over a triple buffer. */
+#define LOAN(cell)                                                                                              \
+    PASSES_ON pass_loan_##cell(nidzaru_side *w, void **at) {                                                     \
+        const uint32_t status = nidzaru_##cell##_loan(w, at);                                                    \
+        return status ? status : nidzaru_##cell##_publish(w);                                                    \
+    }                                                                                                            \
+    static int loan_##cell(long calls) {                                                                         \
+        void *at = record;                                                                                       \
+        if (nidzaru_##cell##_make(record, &sides[0], &sides[1])) return 1;                                       \
+        for (long i = 0; i < calls; ++i)                                                                         \
+            if (pass_loan_##cell(&sides[0], &at)) return 1;                                                      \
+        return 0;                                                                                                \
+    }
+
 /* The loops of a board. */
 #define BOARD(board)                                                                                            \
     PASSES_ON pass_write_##board(nidzaru_side *p, const void *item, nidzaru_stamp *stamp) {                      \
@@ -78,6 +93,7 @@ static nidzaru_side sides[16];
 
 EACH(CELL, BOARD)
 EACH_HELD(HOLD)
+EACH_HELD(LOAN)
 
 #define NAMED(name) {#name, call_##name},
 static const struct {
@@ -85,15 +101,18 @@ static const struct {
     int (*call)(char op, size_t places, long calls);
 } loops[] = {EACH(NAMED, NAMED)};
 
-#define NAMED_HOLD(name) {#name, hold_##name},
+#define NAMED_HOLD(name) {#name, hold_##name, loan_##name},
 static const struct {
     const char *name;
-    int (*hold)(long calls);
+    int (*hold)(long calls), (*loan)(long calls);
 } holds[] = {EACH_HELD(NAMED_HOLD)};
 
 int main(int count, char **words) {
-    for (size_t i = 0; count == 5 && !strcmp(words[2], "hold") && i < sizeof holds / sizeof *holds; ++i)
-        if (!strcmp(words[1], holds[i].name)) return holds[i].hold(atol(words[4]));
+    for (size_t i = 0; count == 5 && i < sizeof holds / sizeof *holds; ++i) {
+        if (strcmp(words[1], holds[i].name)) continue;
+        if (!strcmp(words[2], "hold")) return holds[i].hold(atol(words[4]));
+        if (!strcmp(words[2], "loan")) return holds[i].loan(atol(words[4]));
+    }
     for (size_t i = 0; i < sizeof loops / sizeof *loops; ++i) {
         if (count == 2) puts(loops[i].name);
         if (count == 5 && !strcmp(words[1], loops[i].name)) {

@@ -31,7 +31,7 @@ count() {
         count "$name" read "$places"
         case $name in
         *board*) continue ;;
-        triple*) count "$name" hold "$places" ;;
+        triple*) count "$name" hold "$places" && count "$name" loan "$places" ;;
         esac
         count "$name" look "$places"
     done

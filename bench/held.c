@@ -1,6 +1,8 @@
-/* Held reads of records of 4,096 bytes in a triple buffer beside reads that copy them, through the header's functions, in one thread.
- *   held [ROUNDS [CALLS]]     medians in ns of so many rounds, in which the four loops take turns: 21 rounds of 20,000 calls
- * The calls are of a record that was read before, and of one that was just written, without what the write takes. */
+/* Held reads and writes in place of records of 4,096 bytes in a triple buffer beside those that copy them, through the header's functions,
+ * in one thread.
+ *   held [ROUNDS [CALLS]]     medians in ns of so many rounds, in which the loops take turns: 21 rounds of 20,000 calls
+ * The reads are of a record that was read before, and of one that was just written, without what the write takes. A write is of a record of
+ * which one word is changed, or all are filled. */
 #define _POSIX_C_SOURCE 200809L
 #include <nidzaru.h>
 #include <stdio.h>
@@ -12,13 +14,14 @@ struct page {
 };
 NIDZARU_TRIPLE_REGISTER(pages, struct page);
 NIDZARU_HOLD(pages);
+NIDZARU_LOAN(pages);
 
 static pages_writer writer = NIDZARU_EMPTY;
 static pages_reader reader = NIDZARU_EMPTY;
 static struct page given, taken;
 static uint64_t seen;
 
-enum { READ, HOLD, WRITE, WRITE_AND_READ, WRITE_AND_HOLD, LOOPS };
+enum { READ, HOLD, WRITE, WRITE_AND_READ, WRITE_AND_HOLD, CHANGE_COPY, CHANGE_IN_PLACE, FILL_COPY, FILL_IN_PLACE, LOOPS };
 
 /* Two words of what was read count, so that no read can be left out. */
 static void see(const struct page *page) { seen += page->words[0] + page->words[511]; }
@@ -28,10 +31,25 @@ static void refused(void) {
     exit(1);
 }
 
+/* One write of which one word is changed, or all are filled. */
+__attribute__((always_inline)) static inline void fill(int loop) {
+    static uint64_t n;
+    struct page *at = &given;
+    const int in_place = loop == CHANGE_IN_PLACE || loop == FILL_IN_PLACE;
+    if (in_place && pages_loan(&writer, &at)) refused();
+    n++;
+    for (int i = 0; i < (loop < FILL_COPY ? 1 : 512); i++) at->words[i] = n;
+    if (in_place ? pages_publish(&writer) : pages_write(&writer, &given)) refused();
+}
+
 /* One call of a loop. */
 __attribute__((always_inline)) static inline void once(int loop) {
     const struct page *at = &taken;
     uint64_t number;
+    if (loop >= CHANGE_COPY) {
+        fill(loop);
+        return;
+    }
     if (loop >= WRITE && pages_write(&writer, &given)) refused();
     if (loop == WRITE) return;
     if (loop == READ || loop == WRITE_AND_READ ? pages_read(&reader, &taken, &number) : pages_hold(&reader, &at, &number)) refused();
@@ -57,6 +75,10 @@ static double ns_of(int loop, long calls) {
         LOOP(WRITE)
         LOOP(WRITE_AND_READ)
         LOOP(WRITE_AND_HOLD)
+        LOOP(CHANGE_COPY)
+        LOOP(CHANGE_IN_PLACE)
+        LOOP(FILL_COPY)
+        LOOP(FILL_IN_PLACE)
     }
     return (seconds() - began) * 1e9 / (double)calls;
 }
@@ -80,5 +102,8 @@ int main(int count, char **words) {
     printf("of the same record: read %.1f, hold %.1f, ratio %.3f\n", read[middle], hold[middle], hold[middle] / read[middle]);
     const double write = ns[WRITE][middle], new_read = ns[WRITE_AND_READ][middle] - write, new_hold = ns[WRITE_AND_HOLD][middle] - write;
     printf("of a new record: read %.1f, hold %.1f, ratio %.3f\n", new_read, new_hold, new_hold / new_read);
+    for (int loop = CHANGE_COPY; loop < LOOPS; loop += 2)
+        printf("a write, %s: copied %.1f, in place %.1f, ratio %.3f\n", loop == CHANGE_COPY ? "one word changed" : "all words filled",
+               ns[loop][middle], ns[loop + 1][middle], ns[loop + 1][middle] / ns[loop][middle]);
     return pages_end_writer(&writer) || pages_end_reader(&reader) || seen;
 }

@@ -1,5 +1,5 @@
 """What the library for C has once more for each size of record and each cell. The exports: for each cell and size the same six calls, of a
-triple buffer one more, and for each family and size of a board's record the same five. And crates/c_handles/src/pick.rt, which finds
+triple buffer three more, and for each family and size of a board's record the same five. And crates/c_handles/src/pick.rt, which finds
 among the sides that a handle may have the one of a size and of a cell's reader or writer.
 
     exports.py write     writes them: pick.rt, and crates/c_exports/src/exports.rt and exports/
@@ -16,9 +16,11 @@ EXPORTS = os.path.join(TOP, "crates/c_exports/src/exports")
 MADE = "// made by c/exports.py\n"
 SIZES = (8, 24, 64, 128, 256, 1024, 4096)
 BOARD_SIZES = (24, 256, 4096)
+# What a triple buffer's exports for records in place take from the definitions.
+IN_PLACE = ", HasPublished, at_hand, in_slot"
 CELLS = {
     "four_slot": {"words": "A four-slot cell", "prefix": "", "specs": "FourSlotCalls", "name": "four_slot", "type": "FourSlot", "party": "", "holds": ""},
-    "triple": {"words": "A triple buffer", "prefix": "triple_", "specs": "TripleCalls", "name": "triple", "type": "Triple", "party": "Triple", "holds": ", at_hand"},
+    "triple": {"words": "A triple buffer", "prefix": "triple_", "specs": "TripleCalls", "name": "triple", "type": "Triple", "party": "Triple", "holds": IN_PLACE},
 }
 
 # What each side of a cell does.
@@ -29,8 +31,8 @@ FAMILIES = {
     "triple_board": {"words": "A board over triple buffers", "prefix": "triple_", "family": "Triple", "variant": "TripleBoard"},
 }
 
-HEAD = """//! The exports: for each cell and size a make, a write, a read, a look and an end of either side, and of a triple buffer a hold; for
-//! each family and size of a board a make, a write, two reads and an end; and the library's version.
+HEAD = """//! The exports: for each cell and size a make, a write, a read, a look and an end of either side, and of a triple buffer a hold, a
+//! loan and what publishes it; for each family and size of a board a make, a write, two reads and an end; and the library's version.
 """
 
 TEXT = """//! {words} with records of {bytes} bytes.
@@ -104,6 +106,20 @@ pub extern "C" fn nidzaru_{prefix}{size}_hold<'a>(reader: &'a mut Handle, at: &m
     ensures {{ IsHold (λ g. Of{size} ({party}Reads g)) at_hand (held reader.old) at.old.now at.new.now result }}
 {{
     {name}_hold::<Record{size}>(reader, at).status
+}}
+
+#[unsafe(no_mangle)]
+pub extern "C" fn nidzaru_{prefix}{size}_loan<'a>(writer: &'a mut Handle, at: &mut &'a mut Record{size}) -> u32
+    ensures {{ IsHold (λ p. Of{size} ({party}Writes p)) in_slot (held writer.old) at.old.now at.new.now result }}
+{{
+    {name}_loan::<Record{size}>(writer, at)
+}}
+
+#[unsafe(no_mangle)]
+pub extern "C" fn nidzaru_{prefix}{size}_publish(alloc: Global, writer: &mut Handle) -> u32
+    ensures {{ IsPublish (λ p. Of{size} ({party}Writes p)) (λ p. p.number) HasPublished (held writer.old) (held writer.new) result }}
+{{
+    {name}_publish::<Record{size}>(alloc, writer)
 }}
 """
 
@@ -302,10 +318,10 @@ impl<W: Record> Offers<{side}<W>> for Side {{
 
 
 def export(size, cell):
-    calls = ("end_reader", "end_writer", *(["hold"] if cell["holds"] else []), "look", "make", "read", "write")
+    calls = ("end_reader", "end_writer", *(["hold", "loan", "publish"] if cell["holds"] else []), "look", "make", "read", "write")
     names = ["Handle", f"Record{size}", *(f"{cell['name']}_{call}" for call in calls)]
     hold = HOLD_TEXT.format(size=size, **cell) if cell["holds"] else ""
-    is_hold = "IsHold, " if cell["holds"] else ""
+    is_hold = "IsHold, IsPublish, " if cell["holds"] else ""
     return TEXT.format(size=size, bytes=f"{size:,}", names=", ".join(sorted(names)), hold=hold, is_hold=is_hold, **cell)
 
 
@@ -395,7 +411,7 @@ if sys.argv[1:] == ["write"]:
             file.write(text)
 elif sys.argv[1:] == ["check"]:
     found = list(faults())
-    print("\n".join(found) or f"pick.rt, {(6 * len(CELLS) + 1) * len(SIZES)} exports of {len(CELLS) * len(SIZES)} cells, {5 * len(boards())} of {len(boards())} boards")
+    print("\n".join(found) or f"pick.rt, {(6 * len(CELLS) + 3) * len(SIZES)} exports of {len(CELLS) * len(SIZES)} cells, {5 * len(boards())} of {len(boards())} boards")
     sys.exit(1 if found else 0)
 else:
     sys.exit(__doc__)

@@ -240,8 +240,12 @@ NIDZARU_DECLARE(triple_1024)
 NIDZARU_DECLARE(triple_4096)
 #undef NIDZARU_DECLARE
 
-/* Of a triple buffer one more: it makes *at, which leads to a whole record before, lead to the record of the last read or look. */
-#define NIDZARU_DECLARE_HOLD(cell) uint32_t nidzaru_##cell##_hold(nidzaru_side *reader, const void **at);
+/* Of a triple buffer three more. The first two make *at, which leads to a whole record before, lead to the record of the last read or
+ * look, and to the record in the writer's slot. The third one shows that one to the reader, under the next number. */
+#define NIDZARU_DECLARE_HOLD(cell)                                                                                    \
+    uint32_t nidzaru_##cell##_hold(nidzaru_side *reader, const void **at);                                            \
+    uint32_t nidzaru_##cell##_loan(nidzaru_side *writer, void **at);                                                  \
+    uint32_t nidzaru_##cell##_publish(nidzaru_side *writer);
 NIDZARU_DECLARE_HOLD(triple_8)
 NIDZARU_DECLARE_HOLD(triple_24)
 NIDZARU_DECLARE_HOLD(triple_64)
@@ -262,6 +266,8 @@ void __tsan_acquire(void *at);
 void __tsan_release(void *at);
 __attribute__((weak)) char nidzaru_orders[1 << 16];
 __attribute__((weak)) unsigned nidzaru_registers;
+/* By each register's byte, where its reader holds a record. */
+__attribute__((weak)) void *nidzaru_held[1 << 16];
 
 NIDZARU_INLINE void *nidzaru_new_order(void) {
     return &nidzaru_orders[__atomic_fetch_add(&nidzaru_registers, 1, __ATOMIC_RELAXED) % sizeof nidzaru_orders];
@@ -291,6 +297,23 @@ NIDZARU_INLINE void nidzaru_show(nidzaru_handle *writer) {
 NIDZARU_INLINE void nidzaru_see(nidzaru_handle *reader) {
     if (reader->order) __tsan_acquire(reader->order);
 }
+
+/* What a reader did with the record that it held comes before what the writer does once that very slot is lent to it. */
+NIDZARU_INLINE void **nidzaru_held_by(nidzaru_handle *reader) {
+    return reader->order ? &nidzaru_held[NIDZARU_TO(char *, reader->order) - nidzaru_orders] : NIDZARU_NOWHERE;
+}
+
+NIDZARU_INLINE void nidzaru_keep(nidzaru_handle *reader, const void *at) {
+    void **held = nidzaru_held_by(reader);
+    if (held) memcpy(held, &at, sizeof at);
+}
+
+NIDZARU_INLINE void nidzaru_let_go(nidzaru_handle *reader) {
+    void **held = nidzaru_held_by(reader);
+    if (held && *held) __tsan_release(*held);
+}
+
+NIDZARU_INLINE void nidzaru_take(void *slot) { __tsan_acquire(slot); }
 #else
 #define nidzaru_new_order() NIDZARU_NOWHERE
 #define nidzaru_ignore() ((void)0)
@@ -298,6 +321,9 @@ NIDZARU_INLINE void nidzaru_see(nidzaru_handle *reader) {
 #define nidzaru_begin(handle) ((void)0)
 #define nidzaru_show(writer) ((void)0)
 #define nidzaru_see(reader) ((void)0)
+#define nidzaru_keep(reader, at) ((void)0)
+#define nidzaru_let_go(reader) ((void)0)
+#define nidzaru_take(slot) ((void)0)
 #endif
 
 /* The calls with the cell and the size as arguments, which are constants wherever the functions below pass them. */
@@ -343,6 +369,7 @@ NIDZARU_CHECKED int nidzaru_sized_read(int triple, size_t size, nidzaru_handle *
     uint64_t given = 0;
     uint32_t status;
     nidzaru_begin(r);
+    nidzaru_let_go(r);
     status = NIDZARU_PICK(triple, size, read, (&r->side, item, &given));
     nidzaru_see(r);
     nidzaru_heed();
@@ -358,6 +385,7 @@ NIDZARU_CHECKED int nidzaru_sized_read(int triple, size_t size, nidzaru_handle *
 NIDZARU_CHECKED int nidzaru_sized_look(int triple, size_t size, nidzaru_handle *r, uint64_t *number) {
     uint32_t status;
     nidzaru_begin(r);
+    nidzaru_let_go(r);
     status = NIDZARU_PICK(triple, size, look, (&r->side, number));
     nidzaru_see(r);
     nidzaru_heed();
@@ -382,9 +410,11 @@ NIDZARU_CHECKED int nidzaru_sized_hold(size_t size, nidzaru_handle *r, const voi
     uint64_t given = 0;
     uint32_t status;
     nidzaru_begin(r);
+    nidzaru_let_go(r);
     status = NIDZARU_PICK(1, size, look, (&r->side, &given));
     if (!status) status = nidzaru_pick_hold(size, &r->side, &held);
     nidzaru_see(r);
+    if (!status) nidzaru_keep(r, held);
     nidzaru_heed();
     NIDZARU_FILLED(&status, sizeof status);
     if (!status) {
@@ -396,6 +426,45 @@ NIDZARU_CHECKED int nidzaru_sized_hold(size_t size, nidzaru_handle *r, const voi
     }
     return NIDZARU_TO(int, status);
 }
+
+/* The calls that only a triple buffer has, by the size. */
+#define NIDZARU_PICK_TRIPLE(size, call, arguments)                                                                    \
+    ((size) == 8      ? nidzaru_triple_8_##call arguments                                                             \
+     : (size) == 24   ? nidzaru_triple_24_##call arguments                                                            \
+     : (size) == 64   ? nidzaru_triple_64_##call arguments                                                            \
+     : (size) == 128  ? nidzaru_triple_128_##call arguments                                                           \
+     : (size) == 256  ? nidzaru_triple_256_##call arguments                                                           \
+     : (size) == 1024 ? nidzaru_triple_1024_##call arguments                                                          \
+                      : nidzaru_triple_4096_##call arguments)
+
+/* (*at leads to a record of this call's own before) */
+NIDZARU_CHECKED int nidzaru_sized_loan(size_t size, nidzaru_handle *w, void **at) {
+    uint64_t before[512];
+    void *lent = before;
+    uint32_t status;
+    nidzaru_begin(w);
+    status = NIDZARU_PICK_TRIPLE(size, loan, (&w->side, &lent));
+    if (!status) nidzaru_take(lent);
+    nidzaru_heed();
+    NIDZARU_FILLED(&status, sizeof status);
+    if (!status) {
+        NIDZARU_FILLED(&lent, sizeof lent);
+        NIDZARU_FILLED(lent, size);
+        *at = lent;
+    }
+    return NIDZARU_TO(int, status);
+}
+
+NIDZARU_CHECKED int nidzaru_sized_publish(size_t size, nidzaru_handle *w) {
+    uint32_t status;
+    nidzaru_begin(w);
+    nidzaru_show(w);
+    status = NIDZARU_PICK_TRIPLE(size, publish, (&w->side));
+    nidzaru_heed();
+    NIDZARU_FILLED(&status, sizeof status);
+    return NIDZARU_TO(int, status);
+}
+#undef NIDZARU_PICK_TRIPLE
 
 NIDZARU_INLINE int nidzaru_sized_end_writer(int triple, size_t size, nidzaru_handle *w) {
     uint32_t status;
@@ -409,6 +478,7 @@ NIDZARU_INLINE int nidzaru_sized_end_writer(int triple, size_t size, nidzaru_han
 NIDZARU_INLINE int nidzaru_sized_end_reader(int triple, size_t size, nidzaru_handle *r) {
     uint32_t status;
     nidzaru_begin(r);
+    nidzaru_let_go(r);
     status = NIDZARU_PICK(triple, size, end_reader, (&r->side));
     nidzaru_heed();
     NIDZARU_FILLED(&status, sizeof status);
@@ -542,6 +612,35 @@ NIDZARU_CHECKED int nidzaru_move_handle(nidzaru_handle *to, nidzaru_handle *from
         status = nidzaru_sized_hold(NIDZARU_SIZE(sizeof(name##_record)), &reader->handle, &held, number);              \
         if (!status) *at = NIDZARU_TO(const name##_record *, held);                                                    \
         return status;                                                                                                 \
+    }                                                                                                                  \
+    NIDZARU_ASSERT(1, "takes a semicolon")
+
+/* NIDZARU_LOAN(name), below NIDZARU_TRIPLE_REGISTER(name, type), makes NAME_loan and NAME_publish: a write without a copy, of records
+ * aligned to at most 8.
+ *
+ *   limits_loan(&writer, &at)                          makes `at` lead to the writer's slot, where the next record can be filled in
+ *   limits_publish(&writer)                            shows what lies there to the reader, under the next number
+ *
+ * What lies there is an older record, or the opening: of a record that is filled in part, the rest is that one's. Nothing is written or
+ * read through `at` once the next call with this writer begins, which may also be a plain write, or its side is moved or ended. A publish
+ * without a loan shows that older record again. Over four-slot cells both answer NIDZARU_OTHER_SIDE. */
+#define NIDZARU_LOAN(name)                                                                                             \
+    NIDZARU_ASSERT(NIDZARU_ALIGNMENT(name##_record) <= 8, "a record that is filled where it lies is aligned to at most 8"); \
+    NIDZARU_CHECKED int name##_loan(name##_writer *writer, name##_record **at) {                                       \
+        void *lent = NIDZARU_NOWHERE;                                                                                  \
+        int status;                                                                                                    \
+        if (!writer || !at) return NIDZARU_NULL;                                                                       \
+        if (nidzaru_is_copied(&writer->handle)) return NIDZARU_COPIED;                                                 \
+        status = nidzaru_sized_loan(NIDZARU_SIZE(sizeof(name##_record)), &writer->handle, &lent);                      \
+        if (!status) *at = NIDZARU_TO(name##_record *, lent);                                                          \
+        return status;                                                                                                 \
+    }                                                                                                                  \
+    /* What this thread did before comes before what the reading thread does once it has read this number, or a        \
+     * greater one. NIDZARU_WORN_OUT where all numbers are used. */                                                    \
+    NIDZARU_CHECKED int name##_publish(name##_writer *writer) {                                                        \
+        if (!writer) return NIDZARU_NULL;                                                                              \
+        if (nidzaru_is_copied(&writer->handle)) return NIDZARU_COPIED;                                                 \
+        return nidzaru_sized_publish(NIDZARU_SIZE(sizeof(name##_record)), &writer->handle);                            \
     }                                                                                                                  \
     NIDZARU_ASSERT(1, "takes a semicolon")
 

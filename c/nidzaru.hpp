@@ -121,6 +121,22 @@ template <class T, cell C = cell::four_slot> class writer : detail::side {
         }
     }
 
+    // Where the next record can be filled in: the slot in which it will lie, with an older record, or the opening; null where there is no
+    // side. Until the next call of this writer, which is `publish()`, or a write of another record. Of triple buffers alone.
+    [[nodiscard]] T *loan() noexcept {
+        static_assert(C == cell::triple, "a four-slot cell's records are written by a copy: a triple buffer has loan()");
+        static_assert(alignof(T) <= 8, "a record that is filled where it lies is aligned to at most 8");
+        void *at = nullptr;
+        if (nidzaru_sized_loan(record::size, &handle, &at)) return nullptr;
+        return std::launder(static_cast<T *>(at));
+    }
+
+    // Shows the record in the slot to the reader, under the next number, as `write` does. Without a loan before it's an older one again.
+    [[nodiscard]] int publish() noexcept {
+        static_assert(C == cell::triple, "a four-slot cell's records are written by a copy: a triple buffer has publish()");
+        return nidzaru_sized_publish(record::size, &handle);
+    }
+
     // Ends the side before the object goes. The reader keeps the last record.
     int end() noexcept { return nidzaru_sized_end_writer(record::triple, record::size, &handle); }
 

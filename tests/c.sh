@@ -98,7 +98,9 @@ test_in_c() {
     done
     run_here "c/tests/board_edges.c ($c)" "$c" -std=c11 $strict -O1 c/tests/board_edges.c $wrapped $flags -o "$room/program"
     run_here "c/tests/aligned.c ($c)" "$c" -std=c11 $strict -O2 c/tests/aligned.c $flags -o "$room/program"
-    run_here "c/tests/held.c ($c)" "$c" -std=c11 $strict -O2 c/tests/held.c $flags -o "$room/program"
+    for test in held loaned; do
+        run_here "c/tests/$test.c ($c)" "$c" -std=c11 $strict -O2 c/tests/$test.c $flags -o "$room/program"
+    done
     for family in '' -DTRIPLE; do
         run_here "c/tests/boards.c $family($c)" \
             "$c" -std=c11 -D_GNU_SOURCE $strict -O2 $family c/tests/boards.c $wrapped $flags -o "$room/program"

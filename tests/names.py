@@ -20,8 +20,11 @@ TWINS = (
     ({"FourSlotCalls", "TripleCalls"}, "crates/c_registers/specs/{}.antt"),
 )
 
-# Names of one idea over two kinds of thing, as a call of a history and one of a running board.
-OVER_TWO = {"AreForwards", "EndsBefore", "IsBelow", "IsBoardRun", "IsCall", "IsCounted", "IsEarly", "IsFresh", "IsReady", "Sees", "WritesOnce"}
+# Names of one idea over two kinds of thing, as a call of a history and one of a running board, or a slot that has what it was to get.
+OVER_TWO = {
+    "AreForwards", "EndsBefore", "IsBelow", "IsBoardRun", "IsCall", "IsCounted", "IsEarly", "IsFilled", "IsFresh", "IsReady", "IsRefused", "Sees",
+    "WritesOnce",
+}
 
 
 def definitions():

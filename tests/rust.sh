@@ -48,7 +48,7 @@ test_races_in_rust() {
     runtime=$(rustc --print sysroot)/lib/rustlib/x86_64-unknown-linux-gnu/lib
     ls "$runtime"/librustc*_rt.tsan.a >/dev/null 2>&1 || return 0
     wrapped_in_rust=
-    for call in 24_write 24_read 24_look triple_24_write triple_24_look board_24_write board_24_read board_24_read_since; do
+    for call in 24_write 24_read 24_look triple_24_write triple_24_publish triple_24_look board_24_write board_24_read board_24_read_since; do
         wrapped_in_rust="$wrapped_in_rust -Clink-arg=-Wl,--wrap=nidzaru_$call"
     done
     cp -r rust/pairs "$room/pairs" && sed -i 's|"../nidzaru"|"../rust"|' "$room/pairs/Cargo.toml"

@@ -38,17 +38,19 @@ static int sum(const void *bytes, size_t count) {
 REGISTER(wholes, struct whole)
 REGISTER(parts, struct part)
 
-/* What a hold gives, where it lies. */
+/* What a hold and a loan give, where it lies. */
 NIDZARU_HOLD(parts);
+NIDZARU_LOAN(parts);
 static int held_filled(void) {
     parts_writer w = NIDZARU_EMPTY;
     parts_reader r = NIDZARU_EMPTY;
-    struct part first = {{1, 2, 3}};
+    struct part first = {{1, 2, 3}}, *slot;
     const struct part *at;
     uint64_t n;
     int odd;
-    if (parts_make(&first, &w, &r) || parts_write(&w, &first) || parts_hold(&r, &at, &n)) return -1;
+    if (parts_make(&first, &w, &r) || parts_write(&w, &first) || parts_hold(&r, &at, &n) || parts_loan(&w, &slot)) return -1;
     odd = sum(&at, sizeof at) + sum(at, sizeof *at) + sum(&n, sizeof n) + sum(&r.handle, sizeof r.handle);
+    odd += sum(&slot, sizeof slot) + sum(slot, sizeof *slot) + sum(&w.handle, sizeof w.handle);
     return parts_end_writer(&w) || parts_end_reader(&r) ? -1 : odd;
 }
 

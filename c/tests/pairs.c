@@ -1,7 +1,8 @@
 /* Under ThreadSanitizer. Pairs of a plain store and a plain load in two threads whose only order is one call: a read, a look, news, a hold,
- * or a board's read, of a register or board whose handles were moved or not. In one half of the pairs the write stands still behind the library's
- * own call, until the other thread has read and loaded; in the other half the read stands still before it, until the other thread has stored
- * and written. So an order that is told after the write, or looked for before the read, is a race in each run.
+ * also of what was published in place, or a board's read, of a register or board whose handles were moved or not. In one half of the pairs
+ * the write stands still behind the library's own call, until the other thread has read and loaded; in the other half the read stands
+ * still before it, until the other thread has stored and written. So an order that is told after the write, or looked for before the read,
+ * is a race in each run.
  * usage: pairs clean       nothing is to be reported
  *        pairs unread      one pair without its call: a race, which is to be reported
  * Link with the --wrap words of sanitize.sh. */
@@ -13,9 +14,10 @@
 NIDZARU_REGISTER(cells, uint64_t);
 NIDZARU_TRIPLE_REGISTER(loans, uint64_t);
 NIDZARU_HOLD(loans);
+NIDZARU_LOAN(loans);
 NIDZARU_BOARD(boards, uint64_t);
 
-enum call { READ, LOOK, NEWS, HOLD, BOARD_READ, BOARD_READ_SINCE, BOARD_NEWS, CALLS, NONE };
+enum call { READ, LOOK, NEWS, HOLD, PUBLISH, BOARD_READ, BOARD_READ_SINCE, BOARD_NEWS, CALLS, NONE };
 enum { ROUNDS = 8 };
 
 /* The pair that runs now. */
@@ -59,19 +61,28 @@ WRITES(8_write, (nidzaru_side *s, const void *x), (s, x))
 READS(8_read, (nidzaru_side *s, void *x, uint64_t *n), (s, x, n))
 READS(8_look, (nidzaru_side *s, uint64_t *n), (s, n))
 WRITES(triple_8_write, (nidzaru_side *s, const void *x), (s, x))
+WRITES(triple_8_publish, (nidzaru_side *s), (s))
 READS(triple_8_look, (nidzaru_side *s, uint64_t *n), (s, n))
 WRITES(board_24_write, (nidzaru_side *s, const void *x, nidzaru_stamp *n), (s, x, n))
 READS(board_24_read, (nidzaru_side *s, void *x, nidzaru_stamp *n), (s, x, n))
 READS(board_24_read_since, (nidzaru_side *s, const nidzaru_stamp *l, void *x, nidzaru_stamp *n), (s, l, x, n))
+
+static int fill_in_place(uint64_t item) {
+    uint64_t *slot = 0;
+    if (loans_loan(&lender, &slot)) return 1;
+    *slot = item;
+    return loans_publish(&lender);
+}
 
 static void *store_and_write(void *unused) {
     const uint64_t item = 7;
     nidzaru_stamp given;
     if (waits_before_read) wait_for(1);
     *at = 1;
-    wrong |= call == HOLD ? loans_write(&lender, &item)
-             : call < HOLD ? cells_write(&writer, &item)
-                           : boards_write(&places[0], &item, &given);
+    wrong |= call == HOLD      ? loans_write(&lender, &item)
+             : call == PUBLISH ? fill_in_place(item)
+             : call < HOLD     ? cells_write(&writer, &item)
+                               : boards_write(&places[0], &item, &given);
     if (waits_before_read || call == NONE) reach(2);
     return unused;
 }
@@ -86,6 +97,7 @@ static int read_it(void) {
     case READ: return cells_read(&reader, &item, &number) || number != 1 || item != 7;
     case LOOK: return cells_look(&reader, &number) || number != 1;
     case NEWS: return cells_news(&reader, &item, &number) || number != 1 || item != 7;
+    case PUBLISH:
     case HOLD: return loans_hold(&holder, &at, &number) || number != 1 || *at != 7;
     case BOARD_READ: return boards_read(&places[1], &item, &given) || given.tag != 1 || item != 7;
     case BOARD_READ_SINCE: return boards_read_since(&places[1], least, &item, &given) || given.tag != 1 || item != 7;

@@ -22,7 +22,7 @@ sys.path.insert(0, HERE)
 import refused  # noqa: E402
 
 MEMORY = ["malloc", "realloc", "free"]
-PAUSED = ["8_write", "8_read", "8_look", "triple_8_write", "triple_8_look", "board_24_write", "board_24_read", "board_24_read_since"]
+PAUSED = ["8_write", "8_read", "8_look", "triple_8_write", "triple_8_publish", "triple_8_look", "board_24_write", "board_24_read", "board_24_read_since"]
 PAUSED_RUST = [name.replace("8_", "24_") for name in PAUSED]
 PASSED = [f"{cell}{call}" for cell in ("24_", "triple_24_", "board_24_", "triple_board_24_") for call in ("make", "write")]
 
@@ -42,6 +42,8 @@ PROGRAMS = {
     "boards": (C11, "boards.c", ["20"], wraps(MEMORY)),
     "board_edges": (C11, "board_edges.c", [], wraps(MEMORY)),
     "held": (C11, "held.c", ["2000"], []),
+    "loaned": (C11, "loaned.c", ["2000"], []),
+    "loaned, watched": (RACES, "loaned.c", ["2000"], []),
     "test.cpp": (CPP17, "test.cpp", ["300"], wraps(MEMORY)),
     "objects": (CPP17, "boards.cpp", ["20"], wraps(MEMORY)),
     "objects, C++20": (CPP20, "boards.cpp", ["20"], wraps(MEMORY)),
@@ -68,7 +70,7 @@ B_END = "int name##_end(name##_place *place) { if (!place) return NIDZARU_NULL; 
 NO_CHECK = "NIDZARU_CHECKED int name##_{0}", "NIDZARU_INLINE int name##_{0}"
 # The calls whose status the compiler sees to, and how their functions begin.
 STATUSES = [
-    *[(call, f"{call}(") for call in ("look", "hold", "move_writer", "move_reader", "make_limited", "read_since", "move")],
+    *[(call, f"{call}(") for call in ("look", "hold", "loan", "publish", "move_writer", "move_reader", "make_limited", "read_since", "move")],
     ("make", "make(const name##_record *first, name##_writer"),
     *[(call, f"{call}(name##_{side}") for call, side in (("write", "writer"), ("read", "reader"), ("news", "reader"))],
     ("a board's make", "make(const name##_record *first, name##_place"),
@@ -184,6 +186,21 @@ HEADER = [
         "held",
     ),
     ("a hold at no address", "if (!reader || !at || !number) return", "if (!reader || !number) return", "held"),
+    ("a loan of another size", "(size) == 64 ? nidzaru_triple_64_##call arguments : (size) == 128",
+     "(size) == 64 ? nidzaru_triple_24_##call arguments : (size) == 128", "loaned"),
+    ("a lent slot of a refused call", "if (!status) *at = NIDZARU_TO(name##_record *, lent);", "*at = NIDZARU_TO(name##_record *, lent);",
+     "loaned"),
+    ("a loan that leads nowhere", "*at = lent;", "(void)lent;", "loaned"),
+    ("a loan that publishes", "status = NIDZARU_PICK_TRIPLE(size, loan, (&w->side, &lent));",
+     "status = NIDZARU_PICK_TRIPLE(size, loan, (&w->side, &lent)); if (!status) status = NIDZARU_PICK_TRIPLE(size, publish, (&w->side));",
+     "loaned"),
+    ("a publish that lends", "status = NIDZARU_PICK_TRIPLE(size, publish, (&w->side));",
+     "void *at = w; status = NIDZARU_PICK_TRIPLE(size, loan, (&w->side, &at));", "loaned"),
+    ("a copied writer's loan", COPIED.format("writer") + " status = nidzaru_sized_loan(", "status = nidzaru_sized_loan(", "loaned"),
+    ("a copied writer publishes", COPIED.format("writer") + " return nidzaru_sized_publish(", "return nidzaru_sized_publish(", "loaned"),
+    ("a loan at no address", "if (!writer || !at) return", "if (!writer) return", "loaned"),
+    ("a publish of no handle", "if (!writer) return NIDZARU_NULL; if (nidzaru_is_copied(&writer->handle)) return NIDZARU_COPIED; "
+     "return nidzaru_sized_publish", "if (nidzaru_is_copied(&writer->handle)) return NIDZARU_COPIED; return nidzaru_sized_publish", "loaned"),
     ("no handle is a copy", "handle->side.live && handle->home != handle", "handle->side.live && !handle->home", "calls"),
     ("an empty handle is a copy", "return handle->side.live && handle->home != handle", "return handle->home != handle", "calls"),
     ("a copied writer", WRITE + COPIED.format("writer"), WRITE, "edges"),
@@ -316,6 +333,11 @@ HEADER = [
         "nidzaru_see(r); status = NIDZARU_PICK(1, size, look, (&r->side, &given)); if (!status) status = nidzaru_pick_hold(size, &r->side, &held);",
         "pairs",
     ),
+    ("an order told after a publish", "nidzaru_show(w); status = NIDZARU_PICK_TRIPLE(size, publish, (&w->side));",
+     "status = NIDZARU_PICK_TRIPLE(size, publish, (&w->side)); nidzaru_show(w);", "pairs"),
+    ("a slot that is lent without its order", "if (!status) nidzaru_take(lent);", "", "loaned, watched"),
+    ("a held slot that isn't let go", "if (held && *held) __tsan_release(*held);", "(void)held;", "loaned, watched"),
+    ("a held slot that nobody knows", "if (!status) nidzaru_keep(r, held);", "", "loaned, watched"),
     ("an order looked for before a board's read", *before_read("place", "read", "(&place->side, item, &given)"), "pairs"),
     ("an order looked for before read_since", *before_read("place", "read_since", "(&place->side, &least, item, stamp)"), "pairs"),
     ("an order that stays behind", "to->order = from->order;", "to->order = NIDZARU_NOWHERE;", "pairs"),
@@ -329,6 +351,7 @@ HEADER = [
         "filled",
     ),
     ("a hold that counts as unfilled", "NIDZARU_FILLED(held, size);", "", "filled"),
+    ("a loan that counts as unfilled", "NIDZARU_FILLED(lent, size);", "", "filled"),
     ("a look that counts as unfilled", "if (!status) NIDZARU_FILLED(number, sizeof *number);", "", "filled"),
     (
         "a board's read that counts as unfilled",
@@ -427,6 +450,7 @@ CLASSES = [
     ("a side as a number", "explicit operator bool()", "operator bool()", "refused calls c++"),
     *[(f"the answer of {call}", f"[[nodiscard]] {call}", call, "refused calls c++") for call in (
         "explicit operator bool()", "int write(const T &item) noexcept", "int read(T &item, std::uint64_t", "int look(", "const T *hold()",
+        "T *loan() noexcept", "int publish() noexcept",
         "std::optional<T> latest() noexcept { record copy; if (nidzaru_sized_read(", "std::optional<T> news() noexcept { return has_news()",
         "bool has_news() noexcept { std::uint64_t", "std::uint64_t number() const",
         "int write(const T &item, stamp", "int read(T &item, stamp", "int read_since(",
@@ -441,7 +465,20 @@ CLASSES = [
         'static_assert(alignof(T) <= 16, "a record that is read',
         "refused records c++",
     ),
-    ("a hold of four slots", "static_assert(C == cell::triple, ", "static_assert(true, ", "refused records c++"),
+    (
+        "a wide record that a class lends",
+        'static_assert(alignof(T) <= 8, "a record that is filled',
+        'static_assert(alignof(T) <= 16, "a record that is filled',
+        "refused records c++",
+    ),
+    ("a loan of four slots", 'static_assert(C == cell::triple, "a four-slot cell\'s records are written by a copy: a triple buffer has loan',
+     'static_assert(true, "a four-slot cell\'s records are written by a copy: a triple buffer has loan', "refused records c++"),
+    ("a loan of a writer without a side", "if (nidzaru_sized_loan(record::size, &handle, &at)) return nullptr;",
+     "static T none{}; at = &none; (void)nidzaru_sized_loan(record::size, &handle, &at);", "test.cpp"),
+    ("a class's publish that is always done", "return nidzaru_sized_publish(record::size, &handle);",
+     "(void)!nidzaru_sized_publish(record::size, &handle); return 0;", "test.cpp"),
+    ("a hold of four slots", 'static_assert(C == cell::triple, "a four-slot cell\'s records are read',
+     'static_assert(true, "a four-slot cell\'s records are read', "refused records c++"),
     (
         "a held record that is changed",
         "const T *hold() noexcept {",
@@ -479,7 +516,8 @@ CLASSES = [
 ]
 CRATE = [
     ("records that may not go", [LIB, BOARDS], "T: Copy + Send", "T: Copy", "doc"),
-    ("a writer of shorter lifetimes", LIB, "of: PhantomData<(fn(T), M)>", "of: PhantomData<(fn() -> T, M)>", "doc Writer"),
+    ("a writer of shorter lifetimes", LIB, "of: PhantomData<(fn(T) -> T, M)>", "of: PhantomData<(fn() -> T, M)>", "doc Writer"),
+    ("a writer of longer lifetimes", LIB, "of: PhantomData<(fn(T) -> T, M)>", "of: PhantomData<(fn(T), M)>", "doc Writer"),
     ("a reader of longer lifetimes", LIB, "of: PhantomData<(fn() -> T, M)>", "of: PhantomData<(fn(T), M)>", "doc Reader"),
     ("a place of shorter lifetimes", BOARDS, "of: PhantomData<(fn(T) -> T, M)>", "of: PhantomData<(fn() -> T, M)>", "doc Place"),
     ("a place of longer lifetimes", BOARDS, "of: PhantomData<(fn(T) -> T, M)>", "of: PhantomData<(fn(T), M)>", "doc Place"),
@@ -497,8 +535,8 @@ CRATE = [
     (
         "a wide record that is held",
         RAW,
-        "const { assert!(align_of::<T>() <= 8, ",
-        "const { assert!(align_of::<T>() <= 16, ",
+        'const { assert!(align_of::<T>() <= 8, "a record that is read',
+        'const { assert!(align_of::<T>() <= 16, "a record that is read',
         "doc Reader",
     ),
     (
@@ -511,6 +549,12 @@ CRATE = [
     ("a hold that looks alone", RAW, "DONE => hold_for(calls.size)(&mut reader.side, &mut at),", "DONE => DONE,", "test calls"),
     ("a hold without its number", LIB, "self.last = number; item } } impl", "let _ = number; item } } impl", "test calls"),
     ("a hold of another size", RAW, "64 => nidzaru_triple_64_hold,", "64 => nidzaru_triple_24_hold,", "test calls"),
+    ("a loan of another size", RAW, '64 => in_place!("triple_64"),', '64 => in_place!("triple_24"),', "test calls"),
+    ("a wide record that is filled where it lies", RAW,
+     'assert!(align_of::<T>() <= 8, "a record that is filled', 'assert!(align_of::<T>() <= 16, "a record that is filled', "doc Writer"),
+    ("a write in place that isn't filled", RAW, "fill(unsafe { &mut *at.cast::<T>() });", "let _ = fill;", "test calls"),
+    ("a write in place that isn't shown", RAW, "is_written(writer.order.show(|| unsafe { publish(&mut writer.side) }))",
+     "let _ = publish; true", "test calls"),
     (
         "a place that goes without an end",
         RAW,
@@ -588,6 +632,7 @@ CRATE = [
           ("a place's copied read", "place.order.see(||", "read", "&mut place.side, words.as_mut_ptr()"),
           ("a place's read_since", "place.order.see(||", "read_since", "&mut place.side"),
       )],
+    ("no order by a publish", RAW, "writer.order.show(|| unsafe { publish(", "ignore(|| unsafe { publish(", "races"),
     ("no order by a hold", RAW, "reader.order.see(|| unsafe { match (calls.look)", "ignore(|| unsafe { match (calls.look)", "races"),
 ]
 

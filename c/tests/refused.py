@@ -51,13 +51,15 @@ C_MACROS = [
     ("NIDZARU_TRIPLE_REGISTER(held_ok, struct ok); NIDZARU_HOLD(held_ok);", None),
     ("NIDZARU_TRIPLE_REGISTER(held_most, struct most); NIDZARU_HOLD(held_most);", None),
     ("NIDZARU_TRIPLE_REGISTER(held_wide, struct wide); NIDZARU_HOLD(held_wide);", HELD),
+    ("NIDZARU_TRIPLE_REGISTER(lent_ok, struct ok); NIDZARU_LOAN(lent_ok);", None),
+    ("NIDZARU_TRIPLE_REGISTER(lent_wide, struct wide); NIDZARU_LOAN(lent_wide);", HELD),
 ]
 C_DECLARED = (
     "NIDZARU_REGISTER(ds, double); NIDZARU_REGISTER(es, double); NIDZARU_BOARD(bs, double); NIDZARU_BOARD(qs, double); "
-    "NIDZARU_TRIPLE_REGISTER(ts, double); NIDZARU_HOLD(ts);"
+    "NIDZARU_TRIPLE_REGISTER(ts, double); NIDZARU_HOLD(ts); NIDZARU_LOAN(ts);"
 )
-C_ARGUMENTS = "double *x, uint64_t *n, nidzaru_stamp *s, nidzaru_stamp l, const double **at"
-C_HANDLES = "ds_writer *w, ds_reader *r, bs_place *p, es_writer *ew, es_reader *er, qs_place *q, ts_reader *tr"
+C_ARGUMENTS = "double *x, uint64_t *n, nidzaru_stamp *s, nidzaru_stamp l, const double **at, double **slot"
+C_HANDLES = "ds_writer *w, ds_reader *r, bs_place *p, es_writer *ew, es_reader *er, qs_place *q, ts_reader *tr, ts_writer *tw"
 C_CALLS = [
     ("ds_make(x, w, r)", UNUSED),
     ("ds_write(w, x)", UNUSED),
@@ -65,6 +67,8 @@ C_CALLS = [
     ("ds_look(r, n)", UNUSED),
     ("ds_news(r, x, n)", UNUSED),
     ("ts_hold(tr, at, n)", UNUSED),
+    ("ts_loan(tw, slot)", UNUSED),
+    ("ts_publish(tw)", UNUSED),
     ("ds_move_writer(w, w)", UNUSED),
     ("ds_move_reader(r, r)", UNUSED),
     ("ds_end_writer(w)", None),
@@ -94,6 +98,9 @@ C_MIXED = [
     ("(void)!bs_read(q, x, s)", MIXED),
     ("(void)!ts_hold(tr, at, n)", None),
     ("(void)!ts_hold(r, at, n)", MIXED),
+    ("(void)!ts_loan(tw, slot)", None),
+    ("(void)!ts_loan(w, slot)", MIXED),
+    ("(void)!ts_publish(w)", MIXED),
     ("(void)!ds_write(w, vx)", "discards|discarded|invalid conversion|incompatible|cannot convert|no matching function"),
     ("(void)!ds_make(vx, w, r)", "discards|discarded|invalid conversion|incompatible|cannot convert|no matching function"),
 ]
@@ -157,6 +164,10 @@ CPP_ROWS = [
     ("nidzaru::reader<fixed<5>, nidzaru::cell::triple> f5; if (f5.hold()) return;", None),
     ("nidzaru::reader<wide<800>, nidzaru::cell::triple> h1; if (h1.hold()) return;", HELD),
     ("nidzaru::reader<ok<801>> h2; if (h2.hold()) return;", "a triple buffer has hold"),
+    ("nidzaru::writer<fixed<6>, nidzaru::cell::triple> f6; if (f6.loan() || f6.publish()) return;", None),
+    ("nidzaru::writer<wide<802>, nidzaru::cell::triple> h3; if (h3.loan()) return;", HELD),
+    ("nidzaru::writer<ok<803>> h4; if (h4.loan()) return;", "a triple buffer has loan"),
+    ("nidzaru::writer<ok<804>> h5; if (h5.publish()) return;", "a triple buffer has publish"),
 ]
 CPP_DECLARED = """
 using writer = nidzaru::writer<double>; using reader = nidzaru::reader<double>; using place = nidzaru::place<double>;
@@ -177,6 +188,9 @@ CPP_CALLS = [
     ("r.number()", UNUSED),
     ("tr.hold()", UNUSED),
     ("*tr.hold() = x", "read-only|not assignable"),
+    ("tw.loan()", UNUSED),
+    ("*tw.loan() = x", None),
+    ("tw.publish()", UNUSED),
     ("w.operator bool()", UNUSED),
     ("w.end()", None),
     ("r.end()", None),
@@ -224,6 +238,8 @@ STRICT_CPP_ROWS = [
     ("auto p = nidzaru::make_board<2>(1.5f); float x; nidzaru::stamp s; if (p[0].read_since(s, x, s) || p[0].has_news()) return", None),
     ("reals_writer w = NIDZARU_EMPTY; reals_reader r = NIDZARU_EMPTY; double x = 1; if (reals_make(&x, &w, &r)) return", None),
     ("planks_place p[2] = {NIDZARU_EMPTY, NIDZARU_EMPTY}; float x = 1; if (planks_make(&x, p, 2)) return", None),
+    ("loans_writer w = NIDZARU_EMPTY; double *at = nullptr; if (loans_loan(&w, &at) || loans_publish(&w)) return", None),
+    ("auto [w, r] = nidzaru::make_triple(1.5f); if (!w.loan() || w.publish() || r.hold()) return", None),
     ("loans_reader r = NIDZARU_EMPTY; const double *at = nullptr; std::uint64_t n = 0; if (loans_hold(&r, &at, &n)) return", None),
     ("int used = *nidzaru_status_text(NIDZARU_DONE); if (used) return", None),
 ]
@@ -239,6 +255,7 @@ C_HEAD = '#include "nidzaru.h"\n'
 CPP_HEAD = '#include "nidzaru.hpp"\n#include <utility>\n'
 STRICT_TYPES = (
     "NIDZARU_REGISTER(reals, double);\nNIDZARU_TRIPLE_BOARD(planks, float);\nNIDZARU_TRIPLE_REGISTER(loans, double);\nNIDZARU_HOLD(loans);\n"
+    "NIDZARU_LOAN(loans);\n"
 )
 C_FULL = f"{C_HANDLES}, {C_ARGUMENTS}"
 PAGES = [
@@ -258,6 +275,8 @@ PAGES = [
     ] + [
         ("using held = ok<2>; NIDZARU_TRIPLE_REGISTER(helds, held); NIDZARU_HOLD(helds);", None),
         ("using held_wide = wide<2>; NIDZARU_TRIPLE_REGISTER(held_wides, held_wide); NIDZARU_HOLD(held_wides);", HELD),
+        ("using lent = ok<3>; NIDZARU_TRIPLE_REGISTER(lents, lent); NIDZARU_LOAN(lents);", None),
+        ("using lent_wide = wide<3>; NIDZARU_TRIPLE_REGISTER(lent_wides, lent_wide); NIDZARU_LOAN(lent_wides);", HELD),
     ]),
     ("calls", CPP, ["-std=c++17"], CPP_HEAD + CPP_DECLARED, functions(CPP_CALLS, CPP_ARGUMENTS)),
     ("without exceptions", CPP, ["-std=c++17", "-fno-exceptions"], CPP_HEAD, functions(BARE, "")),

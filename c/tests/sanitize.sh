@@ -15,8 +15,8 @@ library=${2:-$room/libnidzaru.a}
 [ -n "$2" ] || make_library "$library" || exit 1
 wrapped='-Wl,--wrap=malloc,--wrap=realloc,--wrap=free'
 paused='-Wl,--wrap=nidzaru_8_write,--wrap=nidzaru_8_read,--wrap=nidzaru_8_look,--wrap=nidzaru_triple_8_write,--wrap=nidzaru_triple_8_look'
-paused=$paused,--wrap=nidzaru_board_24_write,--wrap=nidzaru_board_24_read,--wrap=nidzaru_board_24_read_since
-tests='test edges calls triple_calls held boards triple_boards board_edges test_cpp boards_cpp'
+paused=$paused,--wrap=nidzaru_triple_8_publish,--wrap=nidzaru_board_24_write,--wrap=nidzaru_board_24_read,--wrap=nidzaru_board_24_read_since
+tests='test edges calls triple_calls held loaned boards triple_boards board_edges test_cpp boards_cpp'
 
 # Runs a program whose last line must be 'passed'.
 run() {
@@ -69,7 +69,8 @@ in_cpp() {
 compile() {
     flags=$1
     in_c test test.c && in_c edges edges.c $wrapped && in_c calls calls.c $wrapped && in_c triple_calls calls.c -DTRIPLE $wrapped \
-        && in_c held held.c && in_c boards boards.c $wrapped && in_c triple_boards boards.c -DTRIPLE $wrapped && in_c board_edges board_edges.c $wrapped \
+        && in_c held held.c && in_c loaned loaned.c && in_c boards boards.c $wrapped && in_c triple_boards boards.c -DTRIPLE $wrapped \
+        && in_c board_edges board_edges.c $wrapped \
         && in_cpp test_cpp test.cpp $wrapped && in_cpp boards_cpp boards.cpp $wrapped
 }
 

@@ -211,6 +211,22 @@ template <class T> void holds(T (*of)(std::uint64_t), bool (*same)(const T &, co
     check(!w.end() && at && same(*at, of(200)) && moved.number() == 200, "a reader that was moved");
 }
 
+// What is filled where it lies is the next record, whole, with the next number.
+template <class T> void fills(T (*of)(std::uint64_t), bool (*same)(const T &, const T &)) {
+    auto [w, r] = nidzaru::make_triple(of(0));
+    const long took = asked;
+    for (std::uint64_t n = 1; n <= 100; n++) {
+        T *at = w.loan();
+        check(at && same(*at, of(n < 4 ? 0 : n - 3)), "what lies there");
+        *at = of(n);
+        check(!w.publish() && same(*r.latest(), of(n)) && r.number() == n, "what is published");
+    }
+    check(asked == took, "a write in place took memory");
+    auto moved = std::move(w);
+    check(!w.loan() && w.publish() == NIDZARU_ENDED, "a writer without a side lends nothing");
+    check(!r.end() && moved.loan() && !moved.publish(), "a writer that was moved");
+}
+
 template <nidzaru::cell C> void memory() {
     bool done = false;
     for (long at = 1; !done; at++) {
@@ -258,6 +274,9 @@ int main(int count, char **words) {
     holds<whole>(whole_of, same_whole);
     holds<small>(small_of, same_small);
     holds<double>([](std::uint64_t n) { return double(n); }, [](const double &a, const double &b) { return a == b; });
+    fills<whole>(whole_of, same_whole);
+    fills<small>(small_of, same_small);
+    fills<double>([](std::uint64_t n) { return double(n); }, [](const double &a, const double &b) { return a == b; });
     using page = std::array<std::uint64_t, 512>;
     holds<page>(
         [](std::uint64_t n) {

@@ -30,6 +30,6 @@ pub use side::{
     TripleSeat4096,
 };
 pub use triple::{
-    Lending, triple_end_reader, triple_end_writer, triple_hold, triple_look, triple_make,
-    triple_read, triple_write,
+    Lending, triple_end_reader, triple_end_writer, triple_hold, triple_loan, triple_look,
+    triple_make, triple_publish, triple_read, triple_slot, triple_write,
 };

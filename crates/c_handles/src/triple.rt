@@ -1,9 +1,11 @@
 //! The calls of C on a triple buffer, over any size.
-ghost use Rattle.std.specs.Prelude.{⊤};
-ghost use Rattle.std.specs.Borrow.{sem, follows_so};
+ghost use Rattle.std.specs.Prelude.{◌≡◌, IfOk, IfErr, ⊤};
+ghost use Rattle.std.specs.Borrow.{sem, follows_so, LendsSoOk};
 ghost use mathlib.Core.Option.{none};
-ghost use Rattle.c_registers.specs.TripleCalls.{IsMade, HasWritten, HasRead, Stays, at_hand};
-ghost use Rattle.c_registers.specs.Handles.{IsMake, IsWrite, IsRead, IsLook, IsHold, IsBack, IsEnd};
+ghost use Rattle.c_registers.specs.TripleCalls.{IsMade, HasWritten, HasPublished, HasRead, Stays, at_hand, in_slot, writer_with};
+ghost use Rattle.c_registers.specs.Handles.{IsMake, IsWrite, IsPublish, IsRead, IsLook, IsHold, IsBack, IsEnd};
+ghost use Rattle.c_registers.specs.Handles.{Has, IsFilled, IsRefused};
+ghost use Rattle.c_registers.specs.declared.triple.TripleWriter.{TripleWriter};
 ghost use Rattle.c_handles.specs.Held.{held};
 ghost use Rattle.c_handles.specs.contracts.handle.Handle as handle;
 ghost use Rattle.c_handles.specs.declared.side.Party.TheVariants.{TripleWrites, TripleReads};
@@ -13,7 +15,8 @@ use crate::loose::Loose;
 use crate::pick::Record;
 use crate::side::Side;
 use c_registers::{
-    DONE, ENDED, OTHER_SIDE, TripleReader, TripleWriter, end, hold, look, make, read, write,
+    DONE, ENDED, OTHER_SIDE, TripleReader, TripleWriter, end, hold, loan, look, make, publish,
+    read, write,
 };
 use std::alloc::Global;
 
@@ -90,6 +93,43 @@ pub fn triple_hold<'a, W: Record>(reader: &'a mut Handle, at: &mut &'a W) -> Len
         }
     };
     Lending { status, until: [] }
+}
+
+/// Lends the words in the writer's slot, to be filled where the record will lie, until the handle is used again. They are an older
+/// record's, or the opening's.
+#[inline]
+pub fn triple_slot<'a, W: Record>(writer: &'a mut Handle) -> Result<&'a mut W, u32>
+    ensures* lent { sem 𝓛 (LendsSoOk handle.the_row W.row writer.entry result
+        (λ h w. IsFilled (λ p. W.side (TripleWrites p)) writer_with (held writer.old) (held h) w) (λ h. held h ≡ held writer.old)) }
+    ensures ok { IfOk result (λ at. (p : TripleWriter W) × Has (held writer.old) (W.side (TripleWrites p)) × (at.now ≡ (in_slot p).words)) }
+    ensures err { IfErr result (λ n. IsRefused (λ p. W.side (TripleWrites p)) (held writer.old) n) }
+{
+    if writer.live == 0 {
+        return Err(ENDED);
+    }
+    loan::<Side, W>(writer.loose.reach())
+}
+
+/// Makes `at` lead to the words that `triple_slot` lends.
+#[inline]
+pub fn triple_loan<'a, W: Record>(writer: &'a mut Handle, at: &mut &'a mut W) -> u32
+    ensures { IsHold (λ p. W.side (TripleWrites p)) in_slot (held writer.old) at.old.now at.new.now result }
+{
+    match triple_slot::<W>(writer) {
+        Err(status) => status,
+        Ok(slot) => {
+            *at = slot;
+            DONE
+        }
+    }
+}
+
+/// Publishes what lies in the writer's slot, as it was filled or as it was.
+#[inline]
+pub fn triple_publish<W: Record>(alloc: Global, writer: &mut Handle) -> u32
+    ensures { IsPublish (λ p. W.side (TripleWrites p)) (λ p. p.number) HasPublished (held writer.old) (held writer.new) result }
+{
+    publish::<Side, Loose, W>(alloc, writer.live, &mut writer.loose)
 }
 
 /// Ends the writing side.

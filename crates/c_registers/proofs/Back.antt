@@ -1,5 +1,5 @@
 -- A handle whose side has back what it lent.
-use Rattle.std.proofs.Common.{◌≡◌, ℕ, refl, ap}
+use Rattle.std.proofs.Common.{ℕ, refl, ap}
 use Rattle.std.specs.Prelude.{◌≢◌}
 use Rattle.c_registers.specs.Handles.{holding, IsBack}
 use Rattle.c_registers.specs.Handles as handles

@@ -1,3 +1,4 @@
 pub mod Kept
 pub mod Lives
 pub mod Back
+pub mod Same

@@ -41,6 +41,10 @@ module _ {D : Type 0} where
     worn_out : (p : P) → Has h (writes p) → 2 ^ 64 ≤ last p + 1 → Keeps h k → IsWrite writes last has_written h k item 4
     other : HasOther writes h → Keeps h k → IsWrite writes last has_written h k item 5
 
+  -- a call that publishes what lies in the writing side's slot, and its status: a write of that
+  abbrev pub IsPublish : {P : Type 0} → (P → D) → (P → ℕ) → (P → P → Type 0) → Holding D → Holding D → ℕ → Type 0
+  IsPublish writes last has_published h k = IsWrite writes last (λ p q (_ : Unit {0}). has_published p q) h k tt
+
   -- a call that reads a record and its number into what had others, and its status
   pub data IsRead {G W : Type 0} (reads : G → D) (has_read : G → G → Numbered W → Type 0)
       (h k : Holding D) (item item' : W) (number number' : ℕ) : ℕ → Type 0 where
@@ -63,7 +67,17 @@ module _ {D : Type 0} where
     ended : h.live ≡ 0 → k ≡ h → IsBack reads stays h k
     other : HasOther reads h → k ≡ h → IsBack reads stays h k
 
-  -- a call that makes what led to one record lead to the last answer's, and its status: the handle before, and the two records
+  -- what a handle has once the words in its writing side's slot, which were lent, are back: that side with them in its slot
+  abbrev pub IsFilled : {P W : Type 0} → (P → D) → (P → W → P) → Holding D → Holding D → W → Type 0
+  IsFilled writes filled h k w = (p : _) × Has h (writes p) × Has k (writes (filled p w)) × (k.live ≡ h.live)
+
+  -- why a call on a side was refused, as its status: the handle has none, or another one
+  pub data IsRefused {S : Type 0} (side : S → D) (h : Holding D) : ℕ → Type 0 where
+    ended : h.live ≡ 0 → IsRefused side h 3
+    other : HasOther side h → IsRefused side h 5
+
+  -- a call that makes what led to one record lead to the last answer's, or to the one in a writing side's slot, and its status: the handle
+  -- before, and the two records
   pub data IsHold {G W : Type 0} (reads : G → D) (at_hand : G → Numbered W) (h : Holding D) (seen seen' : W) : ℕ → Type 0 where
     done : (g : G) → Has h (reads g) → seen' ≡ (at_hand g).words → IsHold reads at_hand h seen seen' 0
     ended : h.live ≡ 0 → seen' ≡ seen → IsHold reads at_hand h seen seen' 3

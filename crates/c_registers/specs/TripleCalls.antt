@@ -1,13 +1,15 @@
 -- What the calls do to the sides of a triple buffer (this project's definitions).
 use Rattle.std.specs.Prelude.{◌≡◌, ◌≢◌, ◌+◌, ◌≤◌, [], ◌∷◌, ◌++◌}
 use Rattle.std.specs.Arc.{arc_value}
+use Rattle.std.specs.Box.{with_value}
 use Rattle.cell_live.specs.Intervals.{IsNextAnswer, IsNextCall, no_times, none_known}
 use Rattle.cell_live.specs.Running.{IsAnswer}
 use Rattle.cell_triple.specs.Words.{opening_of, written_by, answers_of, told_to, swaps_of_put, loads_of, swaps_of}
 use Rattle.cell_triple.specs.Words.{put_times, get_times, numbers_of, known_to, at_hand_of}
-use Rattle.cell_triple.specs.Lent.{IsSame}
+use Rattle.cell_triple.specs.Lent.{IsSame, placed_by, put_with}
 use Rattle.c_registers.specs.Numbers.{Always, IsNoEarlier, numbered}
 use Rattle.c_registers.specs.declared.numbered.Numbered.{Numbered}
+use Rattle.c_registers.specs.declared.triple.TripleFiller.{TripleFiller}
 use Rattle.c_registers.specs.declared.triple.TripleWriter.{TripleWriter}
 use Rattle.c_registers.specs.declared.triple.TripleEnds.{TripleEnds}
 use Rattle.c_registers.specs.declared.triple.TripleReader.{TripleReader}
@@ -15,22 +17,41 @@ use Rattle.c_registers.specs.declared.triple.TripleReader.{TripleReader}
 module _ {W : Type 0} where
   -- the two sides are of one new cell, which opened with the record under the number 0
   pub record IsMade (p : TripleWriter W) (g : TripleReader W) (w : W) : Type 0 where
-    pub one : arc_value p.cell ≡ arc_value g.room.inner.cell
-    pub opening : opening_of (arc_value p.cell) ≡ numbered 0 w
-    pub unwritten : written_by p.put.value ≡ []
+    pub one : arc_value p.room.inner.cell ≡ arc_value g.room.inner.cell
+    pub opening : opening_of (arc_value p.room.inner.cell) ≡ numbered 0 w
+    pub unwritten : written_by p.room.inner.put.value ≡ []
     pub unread : answers_of g.room.inner.get.value ≡ []
     pub untold : told_to g.room.inner.get.value ≡ []
-    pub timeless : (put_times p.put.value ≡ no_times) × (get_times g.room.inner.get.value ≡ no_times)
+    pub timeless : (put_times p.room.inner.put.value ≡ no_times) × (get_times g.room.inner.get.value ≡ no_times)
     pub unknown : (numbers_of g.room.inner.get.value ≡ []) × (known_to g.room.inner.get.value ≡ none_known)
 
-  -- the writing side before and after a write of the record: it is written under the next number, and nothing else, by at most three
-  -- control accesses, in an interval after the write before
-  pub record HasWritten (p q : TripleWriter W) (w : W) : Type 0 where
+  -- the writing side's pass before and after a write of the record: it is written, and nothing else, by at most three control accesses, in
+  -- an interval after the write before
+  pub record HasWrittenBy (p q : TripleFiller W) (a : Numbered W) : Type 0 where
     pub same : q.cell ≡ p.cell
-    pub next : q.number ≡ p.number + 1
-    pub written : written_by q.put.value ≡ written_by p.put.value ++ numbered q.number w ∷ []
+    pub written : written_by q.put.value ≡ written_by p.put.value ++ a ∷ []
     pub accesses : swaps_of_put q.put.value ≤ swaps_of_put p.put.value + 3
     pub timed : IsNextCall (put_times p.put.value) (put_times q.put.value)
+
+  -- the writing side before and after a write of the words: they are written under the next number
+  pub record HasWritten (p q : TripleWriter W) (w : W) : Type 0 where
+    pub next : q.number ≡ p.number + 1
+    pub by : HasWrittenBy p.room.inner q.room.inner (numbered q.number w)
+
+  -- the record in the writing side's slot: until it is written in place, an older one or the opening
+  abbrev pub in_slot : TripleWriter W → Numbered W
+  in_slot p = placed_by p.room.inner.put.value
+
+  -- a write of the words in the slot
+  abbrev pub HasPublished : TripleWriter W → TripleWriter W → Type 0
+  HasPublished p q = HasWritten p q (in_slot p).words
+
+  -- the pass and the writing side with these in their slot, and else as they are
+  abbrev pub filler_with : TripleFiller W → Numbered W → TripleFiller W
+  filler_with f a = record f { put = with_value f.put (put_with f.put.value a) }
+
+  abbrev pub writer_with : TripleWriter W → W → TripleWriter W
+  writer_with p w = record p { room = record { inner = filler_with p.room.inner (numbered (in_slot p).number w) } }
 
   -- the reading side before and after a read: the answer follows the opening, the answer before and what was told, and comes by at most
   -- three control accesses. It was written: it is the record with its place of the writes known, whole, and with these all answers are
@@ -66,3 +87,7 @@ module _ {W : Type 0} where
   pub data StaysAmong {D : Type 0} (reads : TripleReader W → D) (d d' : D) : Type 0 where
     reader : (g h : TripleReader W) → d ≡ reads g → d' ≡ reads h → Stays g h → StaysAmong reads d d'
     other : ((g : TripleReader W) → d ≢ reads g) → d' ≡ d → StaysAmong reads d d'
+
+  -- what is the first side with these words in its slot
+  abbrev pub FilledAmong : {D : Type 0} → (TripleWriter W → D) → D → D → W → Type 0
+  FilledAmong writes d d' w = (p : TripleWriter W) × (d ≡ writes p) × (d' ≡ writes (writer_with p w))

@@ -1,16 +1,17 @@
 //! The calls of C, over any record, cell, side and handle.
-ghost use Rattle.std.specs.Prelude.{◌≡◌, ◌≢◌, true, false, IfSome, IfNone, ⊤};
-ghost use Rattle.std.specs.Borrow.{sem, follows_so};
+ghost use Rattle.std.specs.Prelude.{◌≡◌, ◌≢◌, true, false, IfSome, IfNone, IfOk, IfErr, ⊤};
+ghost use Rattle.std.specs.Borrow.{sem, follows_so, LendsSoOk};
 ghost use mathlib.Core.Option.{none};
-ghost use Rattle.c_registers.specs.Handles.{holding, IsMake, IsWrite, IsRead, IsLook, IsEnd};
-ghost use Rattle.c_registers.specs.TripleCalls.{at_hand, StaysAmong};
+ghost use Rattle.c_registers.specs.Handles.{holding, IsMake, IsWrite, IsPublish, IsRead, IsLook, IsEnd};
+ghost use Rattle.c_registers.specs.TripleCalls.{at_hand, in_slot, StaysAmong, FilledAmong, HasPublished};
 ghost use Rattle.c_registers.specs.declared.triple.TripleReader.{TripleReader};
+ghost use Rattle.c_registers.specs.declared.triple.TripleWriter.{TripleWriter};
 
 use crate::hands::{Hand, Holds, Offers};
 use crate::numbered::Numbered;
 use crate::roles::{Opens, Reading, Writing};
 use crate::status::{DONE, ENDED, IN_USE, NO_MEMORY, OTHER_SIDE, WORN_OUT};
-use crate::triple::TripleReader;
+use crate::triple::{TripleReader, TripleWriter};
 use std::alloc::Global;
 
 /// The side in a box, where there is memory.
@@ -109,6 +110,30 @@ pub fn hold<'a, D: Offers<TripleReader<W>>, W: Copy>(side: &'a mut D) -> Option<
     }
 }
 
+/// Lends the words in the slot of the writing side of a triple buffer, where it is one, until that side is used again.
+#[inline]
+pub fn loan<'a, D: Offers<TripleWriter<W>>, W: Copy>(side: &'a mut D) -> Result<&'a mut W, u32>
+    ensures* lent { sem 𝓛 (LendsSoOk D.row W.row side.entry result (λ d w. FilledAmong D.side side.old d w) (λ d. d ≡ side.old)) }
+    ensures ok { IfOk result (λ at. (p : TripleWriter W) × (side.old ≡ D.side p) × (at.now ≡ (in_slot p).words)) }
+    ensures err { IfErr result (λ n. (n ≡ 5) × ((p : TripleWriter W) → side.old ≢ D.side p)) }
+{
+    match side.of() {
+        None => Err(OTHER_SIDE),
+        Some(put) => Ok(put.loan()),
+    }
+}
+
+/// Publishes what lies in the slot of the writing side of a triple buffer, where it is one.
+#[inline]
+fn publish_among<D: Offers<TripleWriter<W>>, W: Copy>(side: &mut D) -> u32
+    ensures { IsPublish D.side (λ p. p.number) HasPublished (holding 1 side.old) (holding 1 side.new) result }
+{
+    match side.of() {
+        None => OTHER_SIDE,
+        Some(put) => if put.publish() { DONE } else { WORN_OUT },
+    }
+}
+
 /// Whether it is an `S`.
 fn is_among<D: Offers<S>, S>(side: &mut D) -> bool
     ensures is { result ≡ true → (s : S) × (side.old ≡ D.side s) }
@@ -139,6 +164,27 @@ pub fn write<D: Offers<P>, L: Holds<D>, W: Copy, P: Writing<W>>(
     }
     let mut side = loose.take(alloc);
     let status = write_among::<D, W, P>(side.as_mut(), item);
+    loose.put(side);
+    status
+}
+
+/// Publishes what lies in the slot of the triple buffer's writing side that a handle has.
+#[inline]
+pub fn publish<D: Offers<TripleWriter<W>>, L: Holds<D>, W: Copy>(
+    alloc: Global,
+    live: u64,
+    loose: &mut L,
+) -> u32
+    requires { live ≢ 0 → L.full loose.old ≡ true }
+    ensures full { L.full loose.new ≡ L.full loose.old }
+    ensures publish { IsPublish D.side (λ p. p.number) HasPublished (holding live (L.side loose.old))
+        (holding live (L.side loose.new)) result }
+{
+    if live == 0 {
+        return ENDED;
+    }
+    let mut side = loose.take(alloc);
+    let status = publish_among::<D, W>(side.as_mut());
     loose.put(side);
     status
 }

@@ -14,11 +14,11 @@ mod room;
 mod status;
 mod triple;
 
-pub use calls::{end, hold, look, make, read, write};
+pub use calls::{end, hold, loan, look, make, publish, read, write};
 pub use four_slot::{FourSlotReader, FourSlotWriter};
 pub use hands::{Hand, Holds, Offers};
 pub use numbered::Numbered;
 pub use roles::{Opens, Reading, Writing};
 pub use room::Room;
 pub use status::{DONE, ENDED, IN_USE, LIMIT, NO_MEMORY, OLDER, OTHER_SIDE, PROCESSES, WORN_OUT};
-pub use triple::{TripleEnds, TripleReader, TripleWriter};
+pub use triple::{TripleEnds, TripleFiller, TripleReader, TripleWriter};

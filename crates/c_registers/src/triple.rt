@@ -12,17 +12,24 @@ use std::sync::Arc;
 
 mod calls;
 mod ends;
+mod fill;
+
+/// The pass that writes, and a share of its cell.
+#[derive(Drop)]
+pub struct TripleFiller<W: Copy> {
+    pub cell: Arc<TripleCell<Numbered<W>>, Global>,
+    /// In a box, so that a side has one size, whatever its records have.
+    pub put: Box<TriplePut<Numbered<W>>>,
+}
 
 /// The writing side.
 #[derive(Drop)]
 pub struct TripleWriter<W: Copy> {
-    pub cell: Arc<TripleCell<Numbered<W>>, Global>,
-    /// In a box, so that a side has one size, whatever its records have.
-    pub put: Box<TriplePut<Numbered<W>>>,
+    pub room: Room<TripleFiller<W>>,
     /// The number of the last record.
     pub number: u64,
-    ghost own: { is_put_of (arc_value cell) put.value },
-    ghost last: { (last_or (opening_of (arc_value cell)) (written_by put.value)).number ≡ number },
+    ghost own: { is_put_of (arc_value room.inner.cell) room.inner.put.value },
+    ghost last: { (last_or (opening_of (arc_value room.inner.cell)) (written_by room.inner.put.value)).number ≡ number },
 }
 
 /// A pass and a share of a cell.

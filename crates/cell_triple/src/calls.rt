@@ -7,6 +7,7 @@ ghost use Rattle.cell_triple.specs.Words.{named_by, swaps_of_put, loads_of, swap
 ghost use Rattle.cell_triple.specs.Words.{put_times, get_times, numbers_of, known_to, time_of, heard_by, writes_of};
 ghost use Rattle.cell_live.specs.Intervals.{AreHeeded, IsNextAnswer, IsNextCall};
 ghost use Rattle.cell_triple.specs.Words.{get_notes};
+ghost use Rattle.cell_triple.specs.Lent.{placed_by};
 
 use crate::cell::{TripleCell, TripleGet, TriplePut, TripleTold};
 use crate::table::TripleTable;
@@ -40,6 +41,21 @@ impl<T: Lawful> TripleCell<T> {
         ensures timed { IsNextCall (put_times put.old) (put_times put.new) }
     {
         self.table.fill(&mut put.seat, put.slot, parts);
+        self.write_placed(put);
+    }
+
+    /// Shows the record in the writer's slot to the reader, as `TriplePut::place` left it. The slot had an older record, or the opening: what
+    /// was not written there since is still that record's.
+    #[inline]
+    pub fn write_placed(&self, put: &mut TriplePut<T>)
+        requires own { is_put_of self.now put.old }
+        requires lawful { T.fits (placed_by put.old) × T.rises (last_or (opening_of self.now) (written_by put.old)) (placed_by put.old) }
+        ensures own { is_put_of self.now put.new }
+        ensures written { written_by put.new ≡ written_by put.old ++ placed_by put.old ∷ [] }
+        ensures accesses { swaps_of_put put.new ≤ swaps_of_put put.old + 3 }
+        ensures swapped { swaps_of_put put.new ≡ swaps_of_put put.old + 1 }
+        ensures timed { IsNextCall (put_times put.old) (put_times put.new) }
+    {
         let found = self.table.publish(&mut put.seat, put.slot as u64 + 4);
         put.slot = (found % 4) as usize;
     }

@@ -6,6 +6,7 @@
 
 mod calls;
 mod cell;
+mod fill;
 mod hold;
 pub mod laws;
 mod notes;

@@ -243,9 +243,10 @@ pub fn register_over<T: Copy + Send, M: Mechanism>(first: T) -> Result<Sides<T, 
 /// let other = writer.clone();
 /// ```
 ///
-/// One that takes records of every lifetime isn't one that takes shorter ones: these could be read when they are gone.
+/// Records of one lifetime aren't records of another: shorter ones could be read when they are gone, and in its slot a writer finds an
+/// older record.
 ///
-/// ```
+/// ```compile_fail
 /// fn narrow<'a>(writer: nidzaru::Writer<&'a str>) -> nidzaru::Writer<&'static str> {
 ///     writer
 /// }
@@ -258,7 +259,7 @@ pub fn register_over<T: Copy + Send, M: Mechanism>(first: T) -> Result<Sides<T, 
 /// ```
 pub struct Writer<T: Copy + Send, M: Mechanism = FourSlot> {
     side: WritingSide,
-    of: PhantomData<(fn(T), M)>,
+    of: PhantomData<(fn(T) -> T, M)>,
 }
 
 impl<T: Copy + Send, M: Mechanism> Writer<T, M> {
@@ -266,6 +267,42 @@ impl<T: Copy + Send, M: Mechanism> Writer<T, M> {
     #[inline]
     pub fn write(&mut self, item: &T) -> Result<(), WornOut> {
         told(raw::write(Known::<T, M>::CALLS, &mut self.side, item))
+    }
+}
+
+impl<T: Copy + Send> Writer<T, Triple> {
+    /// Fills the next record where it will lie, and shows it to the reader, under the next number: a [`write`](Writer::write) without a
+    /// copy. What lies there is an older record, or the opening, so what isn't filled is still that one's.
+    ///
+    /// ```
+    /// let (mut writer, mut reader) = nidzaru::triple_register([0_u64; 512])?;
+    /// writer.write_with(|record| record.fill(7))?;
+    /// assert_eq!((reader.hold()[511], reader.number()), (7, 1));
+    /// # Ok::<(), Box<dyn std::error::Error>>(())
+    /// ```
+    ///
+    /// No reference to the place is left:
+    ///
+    /// ```compile_fail
+    /// let (mut writer, _reader) = nidzaru::triple_register(1_u64).unwrap();
+    /// let mut kept = None;
+    /// writer.write_with(|record| kept = Some(record)).unwrap();
+    /// ```
+    ///
+    /// A record that is aligned to more than 8 isn't filled where it lies:
+    ///
+    /// ```compile_fail,E0080
+    /// #[derive(Clone, Copy)]
+    /// #[repr(align(16))]
+    /// struct Wide(u64);
+    /// let (mut writer, _reader) = nidzaru::triple_register(Wide(1)).unwrap();
+    /// writer.write_with(|record| record.0 = 2).unwrap();
+    /// ```
+    ///
+    /// If `fill` panics, nothing is shown, and what it filled is what the next `write_with` finds.
+    #[inline]
+    pub fn write_with(&mut self, fill: impl FnOnce(&mut T)) -> Result<(), WornOut> {
+        told(raw::write_in_place(Known::<T, Triple>::CALLS, &mut self.side, fill))
     }
 }
 

@@ -11,8 +11,8 @@
 //!    the record has padding: they are copied and never looked at, on either side.
 //! 4. *The record that comes back is a `T`.* The library gives a record that was written into this register or board, whole, or its opening:
 //!    bytes that were copied from a `T`, and a `Copy` type may be had again from its bytes. `T` is `Send`, so it may come in another
-//!    thread. What `T` borrows lives as long as the sides and places, whose types name it: a writer takes no `T` of a shorter lifetime,
-//!    and a reader gives none of a longer one.
+//!    thread. What `T` borrows lives as long as the sides and places, whose types name it: a writer takes no `T` of a shorter lifetime and, since
+//!    its slot shows an older one, gives none of a longer one; nor does a reader.
 //! 5. *The calls are those of the record's size.* They are chosen by `size_of::<T>()` at [`open`] and at each call, in one way.
 //! 6. *No call from a signal handler or a forked child of a process with threads, and one allocator*: this is left to the program, as
 //!    it is for its own use of std's allocator.
@@ -46,6 +46,8 @@ type Write = unsafe extern "C" fn(*mut Side, *const c_void) -> u32;
 type Read = unsafe extern "C" fn(*mut Side, *mut c_void, *mut u64) -> u32;
 type Look = unsafe extern "C" fn(*mut Side, *mut u64) -> u32;
 type Hold = unsafe extern "C" fn(*mut Side, *mut *const c_void) -> u32;
+type Loan = unsafe extern "C" fn(*mut Side, *mut *mut c_void) -> u32;
+type Publish = unsafe extern "C" fn(*mut Side) -> u32;
 type End = unsafe extern "C" fn(*mut Side) -> u32;
 
 /// The calls of one cell, over records of one size.
@@ -120,6 +122,39 @@ const fn hold_for(size: usize) -> Hold {
     }
 }
 
+/// The two calls of a write in place.
+#[derive(Clone, Copy)]
+struct InPlace {
+    loan: Loan,
+    publish: Publish,
+}
+
+/// Declares them, by the cell's name in the library.
+macro_rules! in_place {
+    ($cell:literal) => {{
+        extern "C" {
+            #[link_name = concat!("nidzaru_", $cell, "_loan")]
+            fn loan(writer: *mut Side, at: *mut *mut c_void) -> u32;
+            #[link_name = concat!("nidzaru_", $cell, "_publish")]
+            fn publish(writer: *mut Side) -> u32;
+        }
+        InPlace { loan, publish }
+    }};
+}
+
+/// What lends the writer's slot of a triple buffer and what publishes it, by the library's size.
+const fn in_place_for(size: usize) -> InPlace {
+    match size {
+        8 => in_place!("triple_8"),
+        24 => in_place!("triple_24"),
+        64 => in_place!("triple_64"),
+        128 => in_place!("triple_128"),
+        256 => in_place!("triple_256"),
+        1024 => in_place!("triple_1024"),
+        _ => in_place!("triple_4096"),
+    }
+}
+
 extern "C" {
     fn nidzaru_version() -> u32;
 
@@ -188,6 +223,7 @@ impl Drop for WritingSide {
 
 impl Drop for ReadingSide {
     fn drop(&mut self) {
+        self.order.let_go();
         // As above.
         let status = ignore(|| unsafe { (self.end)(&mut self.side) });
         assert_eq!(status, DONE, "the side is live");
@@ -282,6 +318,22 @@ fn write_by<T: Copy, const N: usize>(calls: &'static Calls, writer: &mut Writing
     is_written(writer.order.show(|| unsafe { (calls.write)(&mut writer.side, words.as_ptr()) }))
 }
 
+/// Fills the record in the writer's slot of a triple buffer where it lies, and publishes it. `false` where the numbers are used up.
+#[inline]
+pub fn write_in_place<T: Copy>(calls: &'static Calls, writer: &mut WritingSide, fill: impl FnOnce(&mut T)) -> bool {
+    const { assert!(align_of::<T>() <= 8, "a record that is filled where it lies is aligned to at most 8") };
+    let InPlace { loan, publish } = in_place_for(calls.size);
+    let mut before = MaybeUninit::<[u64; 512]>::uninit();
+    let mut at = before.as_mut_ptr().cast::<c_void>();
+    // `at` leads to room for a record of this call's own, as the library asks, and then to the writer's slot.
+    must_be_done(ignore(|| unsafe { loan(&mut writer.side, &mut at) }));
+    writer.order.take(at);
+    // The slot begins with the bytes of a `T`, an older record's or the opening's, and is aligned to 8. Nobody else reads or writes there
+    // before it is published.
+    fill(unsafe { &mut *at.cast::<T>() });
+    is_written(writer.order.show(|| unsafe { publish(&mut writer.side) }))
+}
+
 #[inline]
 fn is_written(status: u32) -> bool {
     match status {
@@ -352,13 +404,14 @@ pub fn hold<'a, T: Copy>(calls: &'static Calls, reader: &'a mut ReadingSide) -> 
             status => status,
         }
     }));
+    reader.order.keep(at);
     // It begins with the bytes of a `T` and is aligned to 8. Nothing writes there before the next call, which takes the side by `&mut`.
     (unsafe { &*at.cast::<T>() }, number)
 }
 
 #[inline]
 fn must_be_done(status: u32) {
-    assert_eq!(status, DONE, "the handle has the reading side, or a place");
+    assert_eq!(status, DONE, "the handle has the side, or a place");
 }
 
 /// A stamp of the library.

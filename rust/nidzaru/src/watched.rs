@@ -5,7 +5,7 @@
 #[allow(unsafe_code)]
 mod told {
     use std::ffi::{c_char, c_int, c_void};
-    use std::sync::atomic::{AtomicUsize, Ordering};
+    use std::sync::atomic::{AtomicPtr, AtomicUsize, Ordering};
 
     extern "C" {
         fn AnnotateIgnoreReadsBegin(file: *const c_char, line: c_int);
@@ -18,6 +18,8 @@ mod told {
 
     static BYTES: [u8; 1 << 16] = [0; 1 << 16];
     static MADE: AtomicUsize = AtomicUsize::new(0);
+    /// By each register's byte, where its reader holds a record.
+    static HELD: [AtomicPtr<c_void>; 1 << 16] = [const { AtomicPtr::new(std::ptr::null_mut()) }; 1 << 16];
     const FILE: *const c_char = c"nidzaru".as_ptr();
 
     /// The byte by which a register or a board is known. From the 65,537th on some share one.
@@ -40,8 +42,33 @@ mod told {
             ignore(call)
         }
 
+        fn held(self) -> &'static AtomicPtr<c_void> {
+            &HELD[self.at() as usize - BYTES.as_ptr() as usize]
+        }
+
+        /// The reader holds the record there.
+        pub fn keep(self, at: *const c_void) {
+            self.held().store(at.cast_mut(), Ordering::Relaxed);
+        }
+
+        /// What the reader did with the record that it holds comes before what the writer does once that very slot is lent to it.
+        pub fn let_go(self) {
+            let at = self.held().load(Ordering::Relaxed);
+            if !at.is_null() {
+                // The address stands for the slot; nothing is stored there.
+                unsafe { __tsan_release(at) };
+            }
+        }
+
+        /// The slot there was lent to the writer.
+        pub fn take(self, at: *mut c_void) {
+            // As above.
+            unsafe { __tsan_acquire(at) };
+        }
+
         /// A call that reads or looks: what was shown comes before what follows it.
         pub fn see<R>(self, call: impl FnOnce() -> R) -> R {
+            self.let_go();
             let given = ignore(call);
             // As above.
             unsafe { __tsan_acquire(self.at()) };
@@ -67,6 +94,8 @@ mod told {
 
 #[cfg(not(nidzaru_watched))]
 mod told {
+    use std::ffi::c_void;
+
     #[derive(Clone, Copy)]
     pub struct Order;
 
@@ -84,6 +113,15 @@ mod told {
         pub fn see<R>(self, call: impl FnOnce() -> R) -> R {
             call()
         }
+
+        #[inline(always)]
+        pub fn keep(self, _at: *const c_void) {}
+
+        #[inline(always)]
+        pub fn let_go(self) {}
+
+        #[inline(always)]
+        pub fn take(self, _at: *mut c_void) {}
     }
 
     #[inline(always)]

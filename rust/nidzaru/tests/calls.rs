@@ -126,6 +126,36 @@ fn held_records_at_each_size() {
     holds(|_| ());
 }
 
+/// What is filled in place is the next record, whole, with the next number; what isn't is an older record's; and nothing takes memory.
+fn fills<T: Copy + Send + PartialEq + std::fmt::Debug>(of: impl Fn(u8) -> T) {
+    let (mut writer, mut reader) = triple_register(of(0)).unwrap();
+    let took = ASKED.get();
+    for n in 1..=100 {
+        let mut older = None;
+        assert_eq!(writer.write_with(|record| older = Some(std::mem::replace(record, of(n)))), Ok(()));
+        // The third slot back is the writer's, if the reader takes each record.
+        assert_eq!(older, Some(of(n.saturating_sub(3))));
+        assert_eq!((reader.latest(), reader.number()), (of(n), u64::from(n)));
+    }
+    writer.write_with(|_| {}).unwrap();
+    assert_eq!((*reader.hold(), reader.number()), (of(98), 101));
+    writer.write(&of(100)).unwrap();
+    drop(reader);
+    assert_eq!(writer.write_with(|record| *record = of(7)), Ok(()));
+    assert_eq!(ASKED.get(), took, "a write in place took memory");
+}
+
+#[test]
+fn records_filled_in_place_at_each_size() {
+    macro_rules! fill_sizes {
+        ($($size:literal)*) => {$(fills(|n| [n; $size]);)*};
+    }
+    fill_sizes!(1 7 8 9 23 24 25 63 64 65 127 128 129 255 256 257 1023 1024 1025 4095 4096);
+    fills(|n| [u64::from(n); 512]);
+    fills(|n| (n, f64::from(n)));
+    fills(|_| ());
+}
+
 #[test]
 fn a_record_may_have_no_bytes() {
     let (mut writer, mut reader) = register(()).unwrap();

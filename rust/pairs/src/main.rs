@@ -1,7 +1,8 @@
 //! Under ThreadSanitizer, as c/tests/pairs.c for C. Pairs of a plain store and a plain load in two threads whose only order is one call: a
-//! read, a look, news, a hold, or a board's read, by sides and places that were moved since they were made. In one half of the pairs the write stands
-//! still behind the library's own call, until the other thread has read and loaded; in the other half the read stands still before it, until
-//! the other thread has stored and written. So an order that is told after the write, or looked for before the read, is a race in each run.
+//! read, a look, news, a hold, also of what was published in place, or a board's read, by sides and places that were moved since they were
+//! made. In one half of the pairs the write stands still behind the library's own call, until the other thread has read and loaded; in the
+//! other half the read stands still before it, until the other thread has stored and written. So an order that is told after the write, or
+//! looked for before the read, is a race in each run.
 //! usage: pairs clean       nothing is to be reported
 //!        pairs unread      one pair without its call: a race, which is to be reported
 //! Link with the --wrap words of tests/rust.sh.
@@ -23,6 +24,7 @@ enum Call {
     Look,
     News,
     Hold,
+    Published,
     Read,
     PlaceReadInto,
     ReadSince,
@@ -31,13 +33,14 @@ enum Call {
     None,
 }
 
-const CALLS: [Call; 11] = [
+const CALLS: [Call; 12] = [
     Call::Latest,
     Call::ReadInto,
     Call::Copied,
     Call::Look,
     Call::News,
     Call::Hold,
+    Call::Published,
     Call::Read,
     Call::PlaceReadInto,
     Call::ReadSince,
@@ -90,6 +93,7 @@ stands_still!(false, __real_nidzaru_24_write, __wrap_nidzaru_24_write, side, ite
 stands_still!(true, __real_nidzaru_24_read, __wrap_nidzaru_24_read, side, item, number);
 stands_still!(true, __real_nidzaru_24_look, __wrap_nidzaru_24_look, side, number);
 stands_still!(false, __real_nidzaru_triple_24_write, __wrap_nidzaru_triple_24_write, side, item);
+stands_still!(false, __real_nidzaru_triple_24_publish, __wrap_nidzaru_triple_24_publish, side);
 stands_still!(true, __real_nidzaru_triple_24_look, __wrap_nidzaru_triple_24_look, side, number);
 stands_still!(false, __real_nidzaru_board_24_write, __wrap_nidzaru_board_24_write, side, item, stamp);
 stands_still!(true, __real_nidzaru_board_24_read, __wrap_nidzaru_board_24_read, side, item, stamp);
@@ -152,6 +156,7 @@ fn pair(call: Call, before_read: bool, shared: &'static Shared) -> bool {
         match call {
             Call::Copied => half_writer.write(&[7; 6]).unwrap(),
             Call::Hold => lender.write(&[7; 3]).unwrap(),
+            Call::Published => lender.write_with(|record| *record = [7; 3]).unwrap(),
             Call::PlaceCopied => drop(half.write(&[7; 6]).unwrap()),
             Call::Read | Call::PlaceReadInto | Call::ReadSince | Call::PlaceNews => drop(place.write(&[7; 3]).unwrap()),
             _ => writer.write(&[7; 3]).unwrap(),
@@ -172,7 +177,7 @@ fn pair(call: Call, before_read: bool, shared: &'static Shared) -> bool {
             Call::Copied => half_reader.latest() == [7; 6],
             Call::Look => reader.look() == 1,
             Call::News => reader.news() == Some([7; 3]),
-            Call::Hold => *holder.hold() == [7; 3] && holder.number() == 1,
+            Call::Hold | Call::Published => *holder.hold() == [7; 3] && holder.number() == 1,
             Call::Read => other.read() == [7; 3],
             Call::PlaceReadInto => other.read_into(&mut item).tag == 1 && item == [7; 3],
             Call::ReadSince => other.read_since(Stamp::new(1, 1)) == Since::Fresh([7; 3]),

@@ -1,14 +1,14 @@
 // made by c/exports.py
 //! A triple buffer with records of 256 bytes.
-ghost use Rattle.c_registers.specs.TripleCalls.{IsMade, HasWritten, HasRead, at_hand};
-ghost use Rattle.c_registers.specs.Handles.{IsMake, IsWrite, IsRead, IsLook, IsHold, IsEnd};
+ghost use Rattle.c_registers.specs.TripleCalls.{IsMade, HasWritten, HasRead, HasPublished, at_hand, in_slot};
+ghost use Rattle.c_registers.specs.Handles.{IsMake, IsWrite, IsRead, IsLook, IsHold, IsPublish, IsEnd};
 ghost use Rattle.c_handles.specs.Held.{held};
 ghost use Rattle.c_handles.specs.declared.side.Side.TheVariants.{Of256};
 ghost use Rattle.c_handles.specs.declared.side.Party.TheVariants.{TripleWrites, TripleReads};
 
 use c_handles::{
-    Handle, Record256, triple_end_reader, triple_end_writer, triple_hold, triple_look, triple_make,
-    triple_read, triple_write,
+    Handle, Record256, triple_end_reader, triple_end_writer, triple_hold, triple_loan, triple_look,
+    triple_make, triple_publish, triple_read, triple_write,
 };
 use std::alloc::Global;
 
@@ -65,6 +65,23 @@ pub extern "C" fn nidzaru_triple_256_hold<'a>(reader: &'a mut Handle, at: &mut &
     ensures { IsHold (λ g. Of256 (TripleReads g)) at_hand (held reader.old) at.old.now at.new.now result }
 {
     triple_hold::<Record256>(reader, at).status
+}
+
+#[unsafe(no_mangle)]
+pub extern "C" fn nidzaru_triple_256_loan<'a>(
+    writer: &'a mut Handle,
+    at: &mut &'a mut Record256,
+) -> u32
+    ensures { IsHold (λ p. Of256 (TripleWrites p)) in_slot (held writer.old) at.old.now at.new.now result }
+{
+    triple_loan::<Record256>(writer, at)
+}
+
+#[unsafe(no_mangle)]
+pub extern "C" fn nidzaru_triple_256_publish(alloc: Global, writer: &mut Handle) -> u32
+    ensures { IsPublish (λ p. Of256 (TripleWrites p)) (λ p. p.number) HasPublished (held writer.old) (held writer.new) result }
+{
+    triple_publish::<Record256>(alloc, writer)
 }
 
 #[unsafe(no_mangle)]

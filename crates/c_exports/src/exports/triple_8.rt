@@ -1,14 +1,14 @@
 // made by c/exports.py
 //! A triple buffer with records of 8 bytes.
-ghost use Rattle.c_registers.specs.TripleCalls.{IsMade, HasWritten, HasRead, at_hand};
-ghost use Rattle.c_registers.specs.Handles.{IsMake, IsWrite, IsRead, IsLook, IsHold, IsEnd};
+ghost use Rattle.c_registers.specs.TripleCalls.{IsMade, HasWritten, HasRead, HasPublished, at_hand, in_slot};
+ghost use Rattle.c_registers.specs.Handles.{IsMake, IsWrite, IsRead, IsLook, IsHold, IsPublish, IsEnd};
 ghost use Rattle.c_handles.specs.Held.{held};
 ghost use Rattle.c_handles.specs.declared.side.Side.TheVariants.{Of8};
 ghost use Rattle.c_handles.specs.declared.side.Party.TheVariants.{TripleWrites, TripleReads};
 
 use c_handles::{
-    Handle, Record8, triple_end_reader, triple_end_writer, triple_hold, triple_look, triple_make,
-    triple_read, triple_write,
+    Handle, Record8, triple_end_reader, triple_end_writer, triple_hold, triple_loan, triple_look,
+    triple_make, triple_publish, triple_read, triple_write,
 };
 use std::alloc::Global;
 
@@ -57,6 +57,20 @@ pub extern "C" fn nidzaru_triple_8_hold<'a>(reader: &'a mut Handle, at: &mut &'a
     ensures { IsHold (λ g. Of8 (TripleReads g)) at_hand (held reader.old) at.old.now at.new.now result }
 {
     triple_hold::<Record8>(reader, at).status
+}
+
+#[unsafe(no_mangle)]
+pub extern "C" fn nidzaru_triple_8_loan<'a>(writer: &'a mut Handle, at: &mut &'a mut Record8) -> u32
+    ensures { IsHold (λ p. Of8 (TripleWrites p)) in_slot (held writer.old) at.old.now at.new.now result }
+{
+    triple_loan::<Record8>(writer, at)
+}
+
+#[unsafe(no_mangle)]
+pub extern "C" fn nidzaru_triple_8_publish(alloc: Global, writer: &mut Handle) -> u32
+    ensures { IsPublish (λ p. Of8 (TripleWrites p)) (λ p. p.number) HasPublished (held writer.old) (held writer.new) result }
+{
+    triple_publish::<Record8>(alloc, writer)
 }
 
 #[unsafe(no_mangle)]

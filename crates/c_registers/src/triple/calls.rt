@@ -2,7 +2,7 @@
 ghost use Rattle.std.specs.Prelude.{◌≡◌, ◌+◌, ◌<◌, ◌≤◌, ◌^◌, true, false, IfOk};
 ghost use Rattle.c_registers.specs.TripleCalls.{IsMade, HasWritten, HasRead};
 
-use super::{TripleEnds, TripleReader, TripleWriter};
+use super::{TripleEnds, TripleFiller, TripleReader, TripleWriter};
 use crate::numbered::{Numbered, Numbering};
 use crate::roles::{Opens, Reading, Writing};
 use crate::room::Room;
@@ -35,8 +35,7 @@ impl<W: Copy> Writing<W> for TripleWriter<W> {
         let Some(number) = self.number.checked_add(1) else {
             return false;
         };
-        self.cell
-            .write_laid(self.put.as_mut(), &Numbering { number, words });
+        self.room.inside().write(&Numbering { number, words });
         self.number = number;
         true
     }
@@ -51,11 +50,10 @@ impl<W: Copy> Opens<W, TripleReader<W>> for TripleWriter<W> {
         let get = Box::new(alloc, get)?;
         let cell = Arc::new(alloc, cell)?;
         let other = Arc::try_clone(&cell)?;
-        let writer = TripleWriter {
-            cell,
-            put,
-            number: 0,
+        let room = Room {
+            inner: TripleFiller { cell, put },
         };
+        let writer = TripleWriter { room, number: 0 };
         let inner = TripleEnds { cell: other, get };
         let room = Room { inner };
         Ok((writer, TripleReader { room }))
