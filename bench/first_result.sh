@@ -1,8 +1,8 @@
 #!/bin/sh
 # Measures what a newcomer waits for: in a fresh clone of what is committed, with nothing built, the time until a command of `fsr` gives its
-# first answer. Prints minutes and processor minutes of each beside those that docs/TESTING.md has. The machine should do nothing else
-# meanwhile.
-#   bench/first_result.sh [COMMAND ..]      check, order and play where none is named
+# first answer. Prints minutes and processor minutes of each kind of document beside those that docs/TESTING.md has. The machine should do
+# nothing else meanwhile.
+#   bench/first_result.sh [KIND ..]      check, log, lines and cell where none is named
 top=$(cd "$(dirname "$0")/.." && pwd) || exit 1
 room=$(mktemp -d) || exit 1
 trap 'rm -rf "$room"' EXIT
@@ -14,25 +14,28 @@ if [ -d "$kept" ]; then
     echo "first_result: not from nothing: move $kept away first, and back afterwards" >&2
     exit 1
 fi
-[ $# -gt 0 ] || set -- check order play
+[ $# -gt 0 ] || set -- check log lines cell
 echo "on $(nproc) processors, $(git -C "$top" log -1 --format=%h), $(rt version)"
 before=0
-for command in "$@"; do
-    case $command in
-    check) document=lawful.json ;;
-    order) document=lines.jsonl ;;
-    play) document=stalled_reader.json ;;
+for kind in "$@"; do
+    case $kind in
+    check) command=check document=lawful.json ;;
+    log) command=order document=crossed.json ;;
+    lines) command=order document=lines.jsonl ;;
+    cell) command=play document=stalled_reader.json ;;
     *)
-        echo "first_result: no command $command" >&2
+        echo "first_result: no kind $kind" >&2
         exit 2
         ;;
     esac
     rm -rf "$room/clone"
     git clone -q "$top" "$room/clone" || exit 1
     began=$(date +%s)
-    "$room/clone/fsr" "$command" <"$top/examples/$document" >"$room/answer" 2>"$room/built" || exit 1
+    "$room/clone/fsr" "$command" "$room/clone/examples/$document" >"$room/answer" 2>"$room/built"
+    status=$?
     took=$(($(date +%s) - began))
+    [ "$status" -le 1 ] && cmp -s "$room/answer" "$top/examples/${document%.json*}.txt" || exit 1
     count_spent "$room/times"
-    tell_cost "./fsr $command" "$took" "$(echo "$used $before" | awk '{ print $1 - $2 }')" "fsr_$command"
+    tell_cost "./fsr $command, kind $kind" "$took" "$(echo "$used $before" | awk '{ print $1 - $2 }')" "fsr_$kind"
     before=$used
 done
