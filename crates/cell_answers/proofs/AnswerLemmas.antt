@@ -1,6 +1,6 @@
 -- The answer to a schedule has status 0.
 use Rattle.std.proofs.Common.{rules, ◌≡◌, ◌≤◌, ℕ, List, Result, Ok, Err, ap, arith}
-use Rattle.cell_answers.specs.Cells.{AnswersCell, IsCellAnswer}
+use Rattle.cell_answers.specs.Cells.{AnswersCell, IsCellPlayAnswer}
 use Rattle.cell_text.specs.Cell.{cell_of}
 use Rattle.four_slot_core.specs.declared.schedule.CellSchedule.{CellSchedule}
 use Rattle.fsr_refusals.specs.declared.refusal.DocError.{DocError}
@@ -13,6 +13,6 @@ schedule_is_low : (d : Result (CellSchedule Band) DocError) (a : Answer) → Ans
 schedule_is_low (Ok schedule) a answered = let same : a.status ≡ 0 = ap (λ b. b.status) answered.2 in omega (arith, same)
 schedule_is_low (Err refusal) a answered = absurd (cc)
 
-pub low_cell : (bytes : List ℕ) (r : Result Answer Fault) → GivesReply (IsCellAnswer bytes) r → HasLowStatus r
+pub low_cell : (bytes : List ℕ) (r : Result Answer Fault) → GivesReply (IsCellPlayAnswer bytes) r → HasLowStatus r
 low_cell bytes (Ok a) answered = schedule_is_low (cell_of bytes) a answered
 low_cell bytes (Err e) refused = search rules

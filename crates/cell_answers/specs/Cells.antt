@@ -30,5 +30,5 @@ AnswersCell schedule (Err fault.NoMemory) = ⊥
 AnswersCell schedule (Err fault.NoThread) = ⊥
 
 -- the answer to the bytes of a document, which is refused where it is of another kind
-abbrev pub IsCellAnswer : List ℕ → Result Answer Fault → Type 0
-IsCellAnswer bytes reply = AnswersReading AnswersCell (cell_of bytes) reply
+abbrev pub IsCellPlayAnswer : List ℕ → Result Answer Fault → Type 0
+IsCellPlayAnswer bytes reply = AnswersReading AnswersCell (cell_of bytes) reply

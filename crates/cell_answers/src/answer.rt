@@ -1,5 +1,5 @@
 ghost use Rattle.std.specs.Prelude.{◌≡◌, IfOk};
-ghost use Rattle.cell_answers.specs.Cells.{AnswersCell, IsCellAnswer, printed};
+ghost use Rattle.cell_answers.specs.Cells.{AnswersCell, IsCellPlayAnswer, printed};
 ghost use Rattle.cell_text.specs.Cell.{cell_of};
 ghost use Rattle.fsr_runs.specs.Answers.{GivesReply};
 ghost use Rattle.history_text.specs.Refusals.{Gives};
@@ -17,7 +17,7 @@ use std::mem::forget;
 
 /// The answer to the bytes of a document of kind `cell`: the report of its schedule. Documents of other kinds are refused.
 pub fn play_cell_document(alloc: Global, bytes: &[u8]) -> Result<Answer, Fault>
-    ensures { GivesReply (IsCellAnswer bytes.now) result }
+    ensures { GivesReply (IsCellPlayAnswer bytes.now) result }
 {
     let schedule = read(alloc, bytes)?;
     cell(alloc, &schedule)

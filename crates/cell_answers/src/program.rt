@@ -1,5 +1,5 @@
 ghost use Rattle.std.specs.Prelude.{◌≤◌, ◌+◌};
-ghost use Rattle.cell_answers.specs.Cells.{IsCellAnswer};
+ghost use Rattle.cell_answers.specs.Cells.{IsCellPlayAnswer};
 ghost use Rattle.fsr_runs.specs.Run.{Fails, IsToldBy, never, Runs};
 ghost use Rattle.fsr_streams.specs.Stream.{HasRoom};
 
@@ -12,7 +12,7 @@ use std::alloc::Global;
 struct PlayCell;
 
 impl Command for PlayCell {
-    ghost is_reply = { λ _ bytes reply. IsCellAnswer bytes reply };
+    ghost is_reply = { λ _ bytes reply. IsCellPlayAnswer bytes reply };
 
     fn reply(&self, alloc: Global, bytes: &[u8]) -> Result<Answer, Fault> {
         play_cell_document(alloc, bytes)
@@ -30,7 +30,7 @@ pub fn run<I: Source, O: Sink, E: Sink>(
     requires input { HasRoom (I.failed input.old) }
     requires out { HasRoom (O.failed out.old) }
     requires faults { HasRoom (E.failed faults.old) }
-    ensures runs { Runs (IsToldBy IsCellAnswer) never (I.remaining input.old) (I.remaining input.new)
+    ensures runs { Runs (IsToldBy IsCellPlayAnswer) never (I.remaining input.old) (I.remaining input.new)
         (O.contents out.old) (O.contents out.new) result }
     ensures fails { Fails (I.failed input.old) (I.failed input.new) (O.failed out.old)
         (O.failed out.new) result }

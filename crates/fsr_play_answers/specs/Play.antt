@@ -6,7 +6,7 @@ use Rattle.fsr_runs.specs.Answers.{AnswersReading}
 use Rattle.fsr_runs.specs.declared.fault.Answer.{Answer}
 use Rattle.fsr_runs.specs.declared.fault.Fault.{Fault}
 use Rattle.fsr_runs.specs.declared.fault.Fault.TheVariants as fault
-use Rattle.cell_answers.specs.Cells.{AnswersCell, IsCellAnswer}
+use Rattle.cell_answers.specs.Cells.{AnswersCell, IsCellPlayAnswer}
 use Rattle.history_core.specs.Schedules.{HasOperations, IsFirstOverrun, Span}
 use Rattle.history_core.specs.declared.band.Band.{Band}
 use Rattle.matrix_board_play.specs.BoardReports.{IsBoardReport}
@@ -58,4 +58,4 @@ IsPlayAnswer bytes reply = AnswersReading AnswersSchedule (schedule_of bytes) re
 -- Of a document of kind `cell` it is the answer of the program that has these alone.
 abbrev pub AnswersCellsAlike : Type 0
 AnswersCellsAlike = (bytes : List ℕ) (d : Data) → value_of bytes ≡ Ok d → IsTrue (is_kind (codes "cell") d) →
-    (reply : Result Answer Fault) → IsPlayAnswer bytes reply ↔ IsCellAnswer bytes reply
+    (reply : Result Answer Fault) → IsPlayAnswer bytes reply ↔ IsCellPlayAnswer bytes reply
