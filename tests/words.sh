@@ -260,6 +260,38 @@ else
     fail "$title" "it ended with status $status: $(head -c 200 "$room/out" "$room/err")"
 fi
 
+# As long as the whole program isn't built, smaller ones answer: what one refuses by its kind the next one gets, whole, from a file or from
+# standard input.
+make_small() {
+    mkdir -p "$room/bare/crates/$1/out" && printf '#!/bin/sh\ncat >"$READ"\n%s\n' "$2" >"$room/bare/crates/$1/out/$1" && chmod +x "$room/bare/crates/$1/out/$1"
+}
+make_small fsr_check 'echo "fsr: document: not JSON" >&2; exit 3'
+make_small fsr_lines 'echo "lines $*"'
+make_small fsr_log 'echo "fsr: document: kind" >&2; exit 3'
+make_small fsr_cell 'echo "fsr: document: kind" >&2; exit 3'
+make_small fsr_play 'echo "play $*"; exit 1'
+echo '{"kind":"matrix","cell":"cell"}' >"$room/cell.json"
+
+# Sees what the smaller programs make of a document: the status, and what is told on either stream.
+#   answers_small STATUS TOLD DOCUMENT WORDS..
+answers_small() {
+    wanted_status=$1 wanted=$2 document=$3
+    shift 3
+    title="./fsr $1 by smaller programs: $wanted"
+    READ=$room/read PATH=/usr/bin:/bin "$room/bare/fsr" "$@" <"$document" >"$room/out" 2>"$room/err"
+    status=$?
+    if [ "$status" = "$wanted_status" ] && [ "$(cat "$room/out" "$room/err")" = "$wanted" ] && cmp -s "$room/read" "$document"; then
+        pass "$title"
+    else
+        fail "$title" "it ended with status $status: $(head -c 200 "$room/out" "$room/err")"
+    fi
+}
+
+answers_small 0 "lines --small" "$room/stale.jsonl" order --small "$room/stale.jsonl"
+answers_small 0 "lines " examples/lawful.json order
+answers_small 1 "play " "$room/cell.json" play
+answers_small 3 "fsr: document: not JSON" examples/lawful.json check
+
 # The controls: words that are a command, another beginning, another first line, a status that isn't that of the program, and output
 # beside the line.
 catches "words that are a command" "status 0 and not 2" refuses_words "$room/err" a check
@@ -267,6 +299,7 @@ catches "another beginning" "it ended with status 2" refuses_unread 'Writes a do
 printf 'lawful\nwrites: 2 3\n3 operations, 0 unfinished, 3 records, 1 of them read; no last line `done`\n' >"$room/wanted"
 catches "another order of the writes" "status 0 and not 0" ends_fsr 0 out order --order "$room/turned.jsonl"
 catches "another first line" "Checks that an order" helps check "Checks that no order of a history is atomic" "[FILE]"
+catches "a document that no program takes" "status 3" answers_small 0 "fsr: document: not JSON" examples/lawful.json check
 catches "a picture that is drawn" "status 0 and not 2" ends_picture a examples/lawful.json "$room/drawn" 2 "$no_words"
 make_stub picture <<'STUB'
 echo more; echo 'picture: read failed' >&2; exit 5
