@@ -25,14 +25,14 @@ abbrev pub printed : Search → Answer
 printed search = record { text = search_text search; status = status_of search }
 
 -- the answer to a log: the lines of a lawful order, or of a reason where no order is lawful
-abbrev pub AnswersLog : History Band → Result Answer Fault → Type 0
-AnswersLog log (Ok answer) = (search : Search) × IsLogSearch log search × (answer ≡ printed search)
-AnswersLog log (Err (fault.Document refusal)) = ⊥
-AnswersLog log (Err (fault.History why)) = IsLogFault log (fault.History why)
-AnswersLog log (Err (fault.Lines why)) = ⊥
-AnswersLog log (Err (fault.Schedule position)) = ⊥
-AnswersLog log (Err fault.NoMemory) = ⊥
-AnswersLog log (Err fault.NoThread) = ⊥
+abbrev pub AnswersOrder : History Band → Result Answer Fault → Type 0
+AnswersOrder log (Ok answer) = (search : Search) × IsLogSearch log search × (answer ≡ printed search)
+AnswersOrder log (Err (fault.Document refusal)) = ⊥
+AnswersOrder log (Err (fault.History why)) = IsLogFault log (fault.History why)
+AnswersOrder log (Err (fault.Lines why)) = ⊥
+AnswersOrder log (Err (fault.Schedule position)) = ⊥
+AnswersOrder log (Err fault.NoMemory) = ⊥
+AnswersOrder log (Err fault.NoThread) = ⊥
 
 -- how the refusal of bytes is told that have no header of kind `lines`
 abbrev pub fault_of : DocError → Fault
@@ -43,7 +43,7 @@ fault_of why = fault.Document why
 
 -- the answer to what was read, which is the fault if it was refused
 abbrev pub AnswersRead : Result (History Band) DocError → Result Answer Fault → Type 0
-AnswersRead (Ok log) reply = AnswersLog log reply
+AnswersRead (Ok log) reply = AnswersOrder log reply
 AnswersRead (Err why) reply = reply ≡ Err (fault_of why)
 
 -- the answer to the bytes of a document of kind `log`

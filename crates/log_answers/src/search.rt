@@ -1,6 +1,6 @@
 ghost use Rattle.std.specs.Prelude.{◌≡◌, IfOk};
 ghost use Rattle.fsr_runs.specs.Answers.{GivesReply};
-ghost use Rattle.log_answers.specs.Logs.{AnswersLog, fault_of, IsLogAnswer, printed, status_of};
+ghost use Rattle.log_answers.specs.Logs.{AnswersOrder, fault_of, IsLogAnswer, printed, status_of};
 ghost use Rattle.history_text.specs.Refusals.{Gives as Reads};
 ghost use Rattle.log_text.specs.Log.{CanBeSearched, log_of};
 
@@ -52,7 +52,7 @@ fn read(alloc: Global, bytes: &[u8]) -> Result<History<Band>, DocError>
 /// What is found of a log.
 fn order_log(alloc: Global, log: &History<Band>) -> Result<Answer, Fault>
     requires { CanBeSearched log.now }
-    ensures { GivesReply (AnswersLog log.now) result }
+    ensures { GivesReply (AnswersOrder log.now) result }
 {
     let search = search_log(alloc, log)?;
     let answer = print(alloc, &search)?;
