@@ -1,33 +1,6 @@
 /* Held reads of a triple buffer: the address leads to the whole record, with its number, and what lies there stays until the reader's
  * next call, however much is written meanwhile. usage: held [WRITES] */
-#include "nidzaru.h"
-#include <pthread.h>
-#include <sched.h>
-#include <stdio.h>
-#include <stdlib.h>
-
-static uint64_t writes = 200000;
-static int failed;
-
-static void check(int holds, const char *name, const char *what) {
-    if (!holds) {
-        failed++;
-        printf("FAILED: %s: %s\n", name, what);
-    }
-}
-
-static int is_filled(const void *item, size_t size, unsigned char with) {
-    size_t i;
-    for (i = 0; i < size; i++)
-        if (((const unsigned char *)item)[i] != with) return 0;
-    return 1;
-}
-
-/* A register of records of this many bytes, each of them filled with one byte. */
-#define REGISTER(name, kind, length)                                                                                  \
-    typedef struct { unsigned char bytes[length]; } name;                                                             \
-    kind(name##s, name);                                                                                              \
-    NIDZARU_HOLD(name##s)
+#include "lent.h"
 
 #define TEST(name)                                                                                                    \
     static void test_##name(void) {                                                                                   \
@@ -64,23 +37,7 @@ static int is_filled(const void *item, size_t size, unsigned char with) {
         check(name##s_hold(&reader, &at, &number) == NIDZARU_ENDED && number == 98, #name, "after both");             \
     }
 
-REGISTER(byte, NIDZARU_TRIPLE_REGISTER, 1);
-REGISTER(of8, NIDZARU_TRIPLE_REGISTER, 8);
-REGISTER(of24, NIDZARU_TRIPLE_REGISTER, 24);
-REGISTER(of64, NIDZARU_TRIPLE_REGISTER, 64);
-REGISTER(of100, NIDZARU_TRIPLE_REGISTER, 100);
-REGISTER(of256, NIDZARU_TRIPLE_REGISTER, 256);
-REGISTER(of1000, NIDZARU_TRIPLE_REGISTER, 1000);
-REGISTER(of4096, NIDZARU_TRIPLE_REGISTER, 4096);
-REGISTER(four, NIDZARU_REGISTER, 24);
-TEST(byte)
-TEST(of8)
-TEST(of24)
-TEST(of64)
-TEST(of100)
-TEST(of256)
-TEST(of1000)
-TEST(of4096)
+EACH_SIZE(TEST)
 
 static void test_four_slots(void) {
     four given = {{0}};
@@ -93,17 +50,7 @@ static void test_four_slots(void) {
     check(!fours_end_writer(&writer) && !fours_end_reader(&reader), "four slots", "ends");
 }
 
-/* Each record has its number in all words. */
-struct page {
-    uint64_t words[512];
-};
-NIDZARU_TRIPLE_REGISTER(pages, struct page);
-NIDZARU_HOLD(pages);
-
-static pages_writer page_writer;
-
-/* How many records the reader has met. The writer waits for two of them, by what orders nothing that ThreadSanitizer knows of. */
-static int met;
+/* The writer waits until so many records were met, by what orders nothing that ThreadSanitizer knows of. */
 static void wait_until_met(int count) {
     while (__atomic_load_n(&met, __ATOMIC_RELAXED) < count && !__atomic_load_n(&failed, __ATOMIC_RELAXED)) sched_yield();
 }
@@ -120,45 +67,13 @@ static void *write_pages(void *unused) {
     return unused;
 }
 
-static int is_page(const struct page *page, uint64_t number) {
-    int i;
-    for (i = 0; i < 512; i++)
-        if (page->words[i] != number) return 0;
-    return 1;
-}
-
-static void test_threads(void) {
-    static struct page opening;
-    static pages_reader reader;
-    const struct page *at = 0;
-    uint64_t number = 0, last = 0;
-    pthread_t thread;
-    check(!pages_make(&opening, &page_writer, &reader), "threads", "make");
-    check(!pthread_create(&thread, 0, write_pages, 0), "threads", "start");
-    while (number < writes && !failed) {
-        check(!pages_hold(&reader, &at, &number), "threads", "hold");
-        check(number >= last, "threads", "a number fell");
-        check(is_page(at, number) && is_page(at, number), "threads", "a held record changed");
-        if (number > last) __atomic_fetch_add(&met, 1, __ATOMIC_RELAXED);
-        last = number;
-    }
-    check(!pthread_join(thread, 0), "threads", "join");
-    check(met > 1, "threads", "no two records were met");
-    check(!pages_end_writer(&page_writer) && !pages_end_reader(&reader), "threads", "ends");
-}
+#define CALL(name) test_##name();
 
 int main(int count, char **words) {
     if (count > 1) writes = strtoull(words[1], 0, 10);
-    test_byte();
-    test_of8();
-    test_of24();
-    test_of64();
-    test_of100();
-    test_of256();
-    test_of1000();
-    test_of4096();
+    EACH_SIZE(CALL)
     test_four_slots();
-    test_threads();
-    puts(failed ? "FAILED" : "passed");
-    return failed != 0;
+    hold_pages(write_pages);
+    check(met > 1, "threads", "no two records were met");
+    return told();
 }

@@ -1,33 +1,6 @@
 /* Writes in place over a triple buffer: what is filled in the lent slot is the next record once it is published, whole, and what isn't
  * filled is an older record's. usage: loaned [WRITES] */
-#include "nidzaru.h"
-#include <pthread.h>
-#include <stdio.h>
-#include <stdlib.h>
-
-static uint64_t writes = 200000;
-static int failed;
-
-static void check(int holds, const char *name, const char *what) {
-    if (!holds) {
-        failed++;
-        printf("FAILED: %s: %s\n", name, what);
-    }
-}
-
-static int is_filled(const void *item, size_t size, unsigned char with) {
-    size_t i;
-    for (i = 0; i < size; i++)
-        if (((const unsigned char *)item)[i] != with) return 0;
-    return 1;
-}
-
-/* A register of records of this many bytes, each of them filled with one byte. */
-#define REGISTER(name, kind, length)                                                                                  \
-    typedef struct { unsigned char bytes[length]; } name;                                                             \
-    kind(name##s, name);                                                                                              \
-    NIDZARU_HOLD(name##s);                                                                                            \
-    NIDZARU_LOAN(name##s)
+#include "lent.h"
 
 #define TEST(name)                                                                                                    \
     static void test_##name(void) {                                                                                   \
@@ -79,23 +52,7 @@ static int is_filled(const void *item, size_t size, unsigned char with) {
         check(name##s_publish(&writer) == NIDZARU_ENDED, #name, "to publish after both");                             \
     }
 
-REGISTER(byte, NIDZARU_TRIPLE_REGISTER, 1);
-REGISTER(of8, NIDZARU_TRIPLE_REGISTER, 8);
-REGISTER(of24, NIDZARU_TRIPLE_REGISTER, 24);
-REGISTER(of64, NIDZARU_TRIPLE_REGISTER, 64);
-REGISTER(of100, NIDZARU_TRIPLE_REGISTER, 100);
-REGISTER(of256, NIDZARU_TRIPLE_REGISTER, 256);
-REGISTER(of1000, NIDZARU_TRIPLE_REGISTER, 1000);
-REGISTER(of4096, NIDZARU_TRIPLE_REGISTER, 4096);
-REGISTER(four, NIDZARU_REGISTER, 24);
-TEST(byte)
-TEST(of8)
-TEST(of24)
-TEST(of64)
-TEST(of100)
-TEST(of256)
-TEST(of1000)
-TEST(of4096)
+EACH_SIZE(TEST)
 
 static void test_four_slots(void) {
     four given = {{0}}, *at = &given;
@@ -106,16 +63,6 @@ static void test_four_slots(void) {
     check(fours_publish(&writer) == NIDZARU_OTHER_SIDE, "four slots", "publish");
     check(!fours_end_writer(&writer) && !fours_end_reader(&reader), "four slots", "ends");
 }
-
-/* Each record has its number in all words. */
-struct page {
-    uint64_t words[512];
-};
-NIDZARU_TRIPLE_REGISTER(pages, struct page);
-NIDZARU_HOLD(pages);
-NIDZARU_LOAN(pages);
-
-static pages_writer page_writer;
 
 static void *fill_pages(void *unused) {
     struct page *at = 0;
@@ -129,43 +76,12 @@ static void *fill_pages(void *unused) {
     return unused;
 }
 
-static int is_page(const struct page *page, uint64_t number) {
-    int i;
-    for (i = 0; i < 512; i++)
-        if (page->words[i] != number) return 0;
-    return 1;
-}
-
-static void test_threads(void) {
-    static struct page opening;
-    static pages_reader reader;
-    const struct page *at = 0;
-    uint64_t number = 0, last = 0;
-    pthread_t thread;
-    check(!pages_make(&opening, &page_writer, &reader), "threads", "make");
-    check(!pthread_create(&thread, 0, fill_pages, 0), "threads", "start");
-    while (number < writes && !failed) {
-        check(!pages_hold(&reader, &at, &number), "threads", "hold");
-        check(number >= last, "threads", "a number fell");
-        check(is_page(at, number) && is_page(at, number), "threads", "a record that isn't whole");
-        last = number;
-    }
-    check(!pthread_join(thread, 0), "threads", "join");
-    check(!pages_end_writer(&page_writer) && !pages_end_reader(&reader), "threads", "ends");
-}
+#define CALL(name) test_##name();
 
 int main(int count, char **words) {
     if (count > 1) writes = strtoull(words[1], 0, 10);
-    test_byte();
-    test_of8();
-    test_of24();
-    test_of64();
-    test_of100();
-    test_of256();
-    test_of1000();
-    test_of4096();
+    EACH_SIZE(CALL)
     test_four_slots();
-    test_threads();
-    puts(failed ? "FAILED" : "passed");
-    return failed != 0;
+    hold_pages(fill_pages);
+    return told();
 }

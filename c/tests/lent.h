@@ -1,0 +1,94 @@
+/* What the tests of records in their slots share: checks that are told and counted, registers of all sizes whose records are filled with one
+ * byte, and pages that one thread shows to another, of which each word is the number. */
+#ifndef NIDZARU_TESTS_LENT_H
+#define NIDZARU_TESTS_LENT_H
+
+#include "nidzaru.h"
+#include <pthread.h>
+#include <sched.h>
+#include <stdio.h>
+#include <stdlib.h>
+
+static uint64_t writes = 200000;
+static int failed;
+
+static void check(int holds, const char *name, const char *what) {
+    if (!holds) {
+        failed++;
+        printf("FAILED: %s: %s\n", name, what);
+    }
+}
+
+static int is_filled(const void *item, size_t size, unsigned char with) {
+    size_t i;
+    for (i = 0; i < size; i++)
+        if (((const unsigned char *)item)[i] != with) return 0;
+    return 1;
+}
+
+/* A register of records of this many bytes, each of them filled with one byte. */
+#define REGISTER(name, kind, length)                                                                                  \
+    typedef struct { unsigned char bytes[length]; } name;                                                             \
+    kind(name##s, name);                                                                                              \
+    NIDZARU_HOLD(name##s);                                                                                            \
+    NIDZARU_LOAN(name##s)
+
+REGISTER(byte, NIDZARU_TRIPLE_REGISTER, 1);
+REGISTER(of8, NIDZARU_TRIPLE_REGISTER, 8);
+REGISTER(of24, NIDZARU_TRIPLE_REGISTER, 24);
+REGISTER(of64, NIDZARU_TRIPLE_REGISTER, 64);
+REGISTER(of100, NIDZARU_TRIPLE_REGISTER, 100);
+REGISTER(of256, NIDZARU_TRIPLE_REGISTER, 256);
+REGISTER(of1000, NIDZARU_TRIPLE_REGISTER, 1000);
+REGISTER(of4096, NIDZARU_TRIPLE_REGISTER, 4096);
+REGISTER(four, NIDZARU_REGISTER, 24);
+
+/* What is written once for each triple buffer. */
+#define EACH_SIZE(what) what(byte) what(of8) what(of24) what(of64) what(of100) what(of256) what(of1000) what(of4096)
+
+struct page {
+    uint64_t words[512];
+};
+NIDZARU_TRIPLE_REGISTER(pages, struct page);
+NIDZARU_HOLD(pages);
+NIDZARU_LOAN(pages);
+
+static pages_writer page_writer;
+
+/* How many records the reader has met. */
+static int met;
+
+static int is_page(const struct page *page, uint64_t number) {
+    int i;
+    for (i = 0; i < 512; i++)
+        if (page->words[i] != number) return 0;
+    return 1;
+}
+
+/* Holds the pages that `write_pages` writes in a thread of its own. */
+static void hold_pages(void *(*write_pages)(void *)) {
+    static struct page opening;
+    static pages_reader reader;
+    const struct page *at = 0;
+    uint64_t number = 0, last = 0;
+    pthread_t thread;
+    check(!pages_make(&opening, &page_writer, &reader), "threads", "make");
+    check(!pthread_create(&thread, 0, write_pages, 0), "threads", "start");
+    while (number < writes && !failed) {
+        check(!pages_hold(&reader, &at, &number), "threads", "hold");
+        check(number >= last, "threads", "a number fell");
+        check(is_page(at, number) && is_page(at, number), "threads", "a held record isn't whole, or changed");
+        if (number > last) __atomic_fetch_add(&met, 1, __ATOMIC_RELAXED);
+        last = number;
+    }
+    check(!pthread_join(thread, 0), "threads", "join");
+    check(!pages_end_writer(&page_writer) && !pages_end_reader(&reader), "threads", "ends");
+}
+
+/* How a program ends. */
+static int told(void) {
+    puts(failed ? "FAILED" : "passed");
+    return failed != 0;
+}
+
+#endif
