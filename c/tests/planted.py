@@ -526,8 +526,8 @@ CRATE = [
        f"unsafe impl Send for {side} {{}} unsafe impl Sync for {side} {{}}", f"doc {name}")
       for what, side, name in (("writer", "WritingSide", "Writer"), ("reader", "ReadingSide", "Reader"), ("place", "BoardPlace", "Place"))],
     *[(f"an end of {what} that release builds don't look at", RAW,
-       f"fn drop(&mut self) {{ {note} let status = ignore(|| unsafe {{ (self.end)(&mut self.side) }}); assert_eq!(",
-       "fn drop(&mut self) { let status = ignore(|| unsafe { (self.end)(&mut self.side) }); debug_assert_eq!(", "lib --release")
+       f"{note} let status = ignore(|| unsafe {{ (self.end)(&mut self.side) }}); assert_eq!(",
+       "let status = ignore(|| unsafe { (self.end)(&mut self.side) }); debug_assert_eq!(", "lib --release")
       for what, note in (
           ("a writer", "// The side is live, and is not used again."),
           ("a reader", "// As above."),
