@@ -28,8 +28,8 @@ SOURCES = ("src", "specs", "proofs")
 STORED_RUN = ("stdin", "stdout", "args", "status", "data")
 # Files of out/ that are this script's and its callers' own.
 STAYS = ("building", "build.log")
-# A crate's proof gains little from more processors.
-MOST_JOBS = 2
+# A crate's proof gains little from more processors, and a program's nothing.
+MOST_JOBS, LONGEST_JOBS = 2, 3
 # Bytes that a proof takes for its first job and for each further one.
 FIRST_JOB, NEXT_JOB = 2_000_000_000, 700_000_000
 # Processor seconds that code over these libraries of the kit takes beyond what its text says.
@@ -229,12 +229,16 @@ class Builder:
             above = [self.behind[other] for other in crates if it in other.uses]
             self.behind[it] += max(above, default=0)
 
-    def jobs_now(self, ready):
-        """How many jobs the first of so many proofs gets, 0 where it has to wait. No more are given than there are processors: with more
-        each takes longer, and none ends sooner."""
-        left = self.processors - sum(it.jobs for it in self.rooms.values())
+    def jobs_now(self, crate, ready):
+        """How many jobs a proof gets that is the first of so many, 0 where it has to wait. All wait for the crate with the longest chain
+        behind it, so that gets several, though in these it takes more processor time. Otherwise about as many jobs are given as there are
+        processors: with more each takes longer, and none ends sooner."""
+        longest = all(self.behind[crate] >= self.behind[it] for it in self.rooms)
+        most = 1 if crate.is_program else LONGEST_JOBS if longest else MOST_JOBS
+        left = self.processors + 1 - sum(it.jobs for it in self.rooms.values())
         free = self.memory - sum(it.memory() for it in self.rooms.values())
-        jobs = min(MOST_JOBS, self.processors, -(-left // ready), 1 + int((free - FIRST_JOB) // NEXT_JOB))
+        wanted = most if longest else -(-left // ready)
+        jobs = min(wanted, most, self.processors, left, 1 + int((free - FIRST_JOB) // NEXT_JOB))
         return jobs if jobs > 0 or self.rooms else 1
 
     def start_ready(self):
@@ -242,7 +246,7 @@ class Builder:
         waits = False
         ready = [it for it in self.left if self.built.issuperset(it.uses)]
         for place, crate in enumerate(sorted(ready, key=lambda it: -self.behind[it])):
-            jobs = self.jobs_now(len(ready) - place)
+            jobs = self.jobs_now(crate, len(ready) - place)
             if jobs < 1:
                 break
             lower = lock([it.folder for it in below(crate)])
