@@ -53,10 +53,10 @@ class Crate:
         return sum(map(os.path.getsize, files))
 
     def weight(self):
-        """About how many processor seconds its proof takes, by its text: each crate some, a program more, and code fifteen times what proofs of
-        its size do."""
-        known = (60 if self.is_program else 25) + sum(BEYOND.get(it, 0) for it in self.words)
-        return known + self.size("src") / 330 + self.size("specs", "proofs") / 5000
+        """About how many processor seconds its proof takes, by its text: each crate some, a program more, and what its code is. Its proofs
+        take little beside that."""
+        known = (55 if self.is_program else 16) + sum(BEYOND.get(it, 0) for it in self.words)
+        return known + self.size("src") / 280
 
 
 def read_crates():
