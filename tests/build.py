@@ -30,6 +30,8 @@ STORED_RUN = ("stdin", "stdout", "args", "status", "data")
 STAYS = ("building", "build.log")
 # A crate's proof gains little from more processors, and a program's nothing.
 MOST_JOBS, LONGEST_JOBS = 2, 3
+# Processor seconds below which a proof gets one job.
+SMALL = 40
 # Bytes that a proof takes for its first job and for each further one.
 FIRST_JOB, NEXT_JOB = 2_000_000_000, 700_000_000
 # Processor seconds that code over these libraries of the kit takes beyond what its text says.
@@ -234,7 +236,7 @@ class Builder:
         behind it, so that gets several, though in these it takes more processor time. Otherwise about as many jobs are given as there are
         processors: with more each takes longer, and none ends sooner."""
         longest = all(self.behind[crate] >= self.behind[it] for it in self.rooms)
-        most = 1 if crate.is_program else LONGEST_JOBS if longest else MOST_JOBS
+        most = 1 if crate.is_program or crate.weight() < SMALL else LONGEST_JOBS if longest else MOST_JOBS
         left = self.processors + 1 - sum(it.jobs for it in self.rooms.values())
         free = self.memory - sum(it.memory() for it in self.rooms.values())
         wanted = most if longest else -(-left // ready)
