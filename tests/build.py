@@ -232,15 +232,15 @@ class Builder:
             self.behind[it] += max(above, default=0)
 
     def jobs_now(self, crate, ready):
-        """How many jobs a proof gets that is the first of so many, 0 where it has to wait. All wait for the crate with the longest chain
-        behind it, so that gets several, though in these it takes more processor time. Otherwise about as many jobs are given as there are
-        processors: with more each takes longer, and none ends sooner."""
+        """How many jobs a proof gets that is the first of so many, 0 where it has to wait. A job more costs processor time, as each reads what
+        lies below. So a proof gets several only where processors would have nothing to do: first that with the longest chain behind it,
+        for which all wait."""
         longest = all(self.behind[crate] >= self.behind[it] for it in self.rooms)
         most = 1 if crate.is_program or crate.weight() < SMALL else LONGEST_JOBS if longest else MOST_JOBS
-        left = self.processors + 1 - sum(it.jobs for it in self.rooms.values())
+        left = self.processors - sum(it.jobs for it in self.rooms.values())
         free = self.memory - sum(it.memory() for it in self.rooms.values())
-        wanted = most if longest else -(-left // ready)
-        jobs = min(wanted, most, self.processors, left, 1 + int((free - FIRST_JOB) // NEXT_JOB))
+        wanted = max(left - ready + 1, 1)
+        jobs = min(wanted, most, left, 1 + int((free - FIRST_JOB) // NEXT_JOB))
         return jobs if jobs > 0 or self.rooms else 1
 
     def start_ready(self):

@@ -19,17 +19,16 @@ TOP = os.path.dirname(os.path.dirname(os.path.realpath(__file__)))
 MAP = f"{TOP}/docs/MAP.md"
 MARKS = "<!-- made by tests/map.py -->\n", "<!-- to here -->\n"
 SUBJECTS = {
-    "Histories and their orders": "history_core register_law history_witnesses history_reasons history_search history_thinning "
-    "thinned_search",
+    "Histories and their orders": "history_core history_check register_law history_witnesses history_search history_thinning",
     "The four-slot register, played": "four_slot_core four_slot_play",
     "The matrix and the composed board, played": "stamps matrix_core matrix_play matrix_board_play",
     "Running cells": "cell_live cell_four_slot cell_triple cell_uses",
     "Families: running registers in one time": "family_live family_table family_four_slot family_triple",
     "Running boards": "board_history board_live thread_probe board_tasks board_origins board_receipts board_control board_uses",
     "The library for C": "c_registers c_boards c_handles c_exports",
-    "Documents and printed lines": "fsr_streams fsr_refusals fsr_runs history_text log_text search_text lines_tables lines_text lines_log "
-    "lines_reasons cell_text schedule_text report_lines report_text",
-    "The program fsr": "log_search log_answers lines_answers fsr_words fsr_check_answers cell_answers fsr_play_answers "
+    "Documents and printed lines": "fsr_streams fsr_refusals fsr_runs document_text history_text log_text search_text lines_tables "
+    "lines_text lines_log lines_reasons cell_text schedule_text report_lines report_text",
+    "The program fsr": "log_search log_answers lines_answers lines_small fsr_words fsr_check_answers cell_answers fsr_play_answers "
     "fsr_race_answers fsr_answers fsr_check fsr_log fsr_lines fsr_cell fsr_play fsr",
     "Pictures": "picture_shapes picture_visits picture_text picture_answers picture",
     "Tests and measurements": "test_histories test_four_slots test_matrices test_texts test_cells test_runs test_families "

@@ -287,7 +287,7 @@ answers_small() {
     fi
 }
 
-answers_small 0 "lines --small" "$room/stale.jsonl" order --small "$room/stale.jsonl"
+answers_small 0 "lines --order" "$room/stale.jsonl" order --order "$room/stale.jsonl"
 answers_small 0 "lines " examples/lawful.json order
 answers_small 1 "play " "$room/cell.json" play
 answers_small 3 "fsr: document: not JSON" examples/lawful.json check

@@ -2,15 +2,15 @@ ghost use Rattle.std.specs.Prelude.{◌≡◌, IfOk};
 ghost use Rattle.cell_answers.specs.Cells.{AnswersCell, IsCellPlayAnswer, printed};
 ghost use Rattle.cell_text.specs.Cell.{cell_of};
 ghost use Rattle.fsr_runs.specs.Answers.{GivesReply};
-ghost use Rattle.history_text.specs.Refusals.{Gives};
+ghost use Rattle.document_text.specs.Refusals.{Gives};
 
 use cell_text::cell_document;
+use document_text::{DocError, read_value};
 use four_slot_core::{CellReport, CellSchedule};
 use four_slot_play::play_cell;
 use fsr_runs::{Answer, Fault};
 use fsr_streams::Exit;
 use history_core::{Band, Items};
-use history_text::{DocError, read_value};
 use report_lines::cell_lines;
 use std::alloc::{AllocError, Global};
 use std::mem::forget;

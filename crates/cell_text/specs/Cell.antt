@@ -8,11 +8,12 @@ use Rattle.four_slot_core.specs.declared.schedule.CellSchedule.{CellSchedule}
 use Rattle.fsr_refusals.specs.declared.refusal.DocError.{DocError}
 use Rattle.fsr_refusals.specs.declared.refusal.DocError.TheVariants.{Kind, Range, Law}
 use Rattle.fsr_refusals.specs.declared.key.Key.TheVariants.{Opening, Noise, Writes, Reads, Steps}
-use Rattle.history_text.specs.Document.{is_kind, value_of}
-use Rattle.history_text.specs.Ranges.{count_in_range}
+use Rattle.document_text.specs.Document.{is_kind, value_of}
+use Rattle.document_text.specs.Ranges.{count_in_range}
 use Rattle.cell_text.specs.Ranges.{steps_in_range}
-use Rattle.history_text.specs.Refusals.{◌>>=◌, field, must, required}
-use Rattle.history_text.specs.Shapes.{as_whole, as_band, as_list}
+use Rattle.document_text.specs.Refusals.{◌>>=◌, field, must, required}
+use Rattle.document_text.specs.Values.{as_whole}
+use Rattle.history_text.specs.Shapes.{as_band, as_list}
 use Rattle.cell_text.specs.Shapes.{as_turns}
 
 -- the ranges, and then the laws

@@ -4,16 +4,15 @@ ghost use Rattle.std.specs.List.{list_all};
 ghost use Rattle.history_core.specs.Band.{fits};
 ghost use Rattle.serde_json.specs.View.{view};
 ghost use Rattle.cell_text.specs.Cell.{allowed, cell_document, cell_in};
-ghost use Rattle.history_text.specs.Ranges.{count_in_range};
-ghost use Rattle.history_text.specs.Refusals.{Gives};
+ghost use Rattle.document_text.specs.Ranges.{count_in_range};
+ghost use Rattle.document_text.specs.Refusals.{Gives};
 
 use crate::ranges::steps_in_range;
 use crate::turns::steps_in;
+use document_text::{DocError, Key, MAX_OPERATIONS, count_in_range, is_kind, must, required};
 use four_slot_core::CellSchedule;
 use history_core::{Band, Items};
-use history_text::{
-    DocError, Key, MAX_OPERATIONS, count_in_range, field, is_kind, list_field, must, required,
-};
+use history_text::{field, list_field};
 use serde_json::Value;
 use std::alloc::Global;
 

@@ -1,14 +1,14 @@
 //! The steps of a four-slot register.
 ghost use Rattle.std.specs.Prelude.{◌≡◌, IfOk};
 ghost use Rattle.serde_json.specs.View.{view};
-ghost use Rattle.history_text.specs.Refusals.{field, Gives};
+ghost use Rattle.document_text.specs.Refusals.{field, Gives};
 ghost use Rattle.history_text.specs.Shapes.{all_of};
 ghost use Rattle.fsr_refusals.specs.declared.key.Key.TheVariants.{Steps};
 ghost use Rattle.cell_text.specs.Shapes.{as_turns, turn_named};
 
+use document_text::{DocError, Key, shaped};
 use four_slot_core::Turn;
 use history_core::Items;
-use history_text::{DocError, Key, shaped};
 use serde_json::Value;
 use std::alloc::{AllocError, Global};
 

@@ -11,16 +11,21 @@ use Rattle.board_live.specs.declared.record.Posted.{Posted}
 use Rattle.fsr_check_answers.proofs.AnswerLemmas.{low_check}
 use Rattle.log_answers.proofs.AnswerLemmas.{low_log}
 use Rattle.lines_answers.proofs.StatusLemmas.{low_lines}
+use Rattle.lines_small.proofs.StatusLemmas.{low_small}
 use Rattle.fsr_play_answers.proofs.AnswerLemmas.{low_play}
 use Rattle.fsr_race_answers.proofs.AnswerLemmas.{low_race}
-use Rattle.fsr_runs.specs.declared.show.Show.{Show}
-use Rattle.history_text.specs.Kinds.{are_lines}
+use Rattle.fsr_words.specs.declared.show.Show.{Show}
+use Rattle.document_text.specs.Kinds.{are_lines}
 use Rattle.fsr_answers.specs.Answers.{IsFsrAnswer}
-use Rattle.fsr_answers.specs.Order.{IsAnswerBy, IsOrderAnswer}
+use Rattle.fsr_answers.specs.Order.{IsAnswerBy, IsOrderAnswer, IsShownAnswer}
+
+low_shown : (show : Show) (bytes : List ℕ) (r : Result Answer Fault) → GivesReply (IsShownAnswer show bytes) r → HasLowStatus r
+low_shown (record { order = order; small = true }) bytes r answered = low_small bytes r answered
+low_shown (record { order = order; small = false }) bytes r answered = low_lines order bytes r answered
 
 low_by : (show : Show) (in_lines : Bool) (bytes : List ℕ) (r : Result Answer Fault) →
     GivesReply (IsAnswerBy show in_lines bytes) r → HasLowStatus r
-low_by show true bytes r answered = low_lines show bytes r answered
+low_by show true bytes r answered = low_shown show bytes r answered
 low_by show false bytes r answered = low_log bytes r answered
 
 low_order : (show : Show) (bytes : List ℕ) (r : Result Answer Fault) → GivesReply (IsOrderAnswer show bytes) r → HasLowStatus r

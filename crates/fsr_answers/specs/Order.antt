@@ -2,14 +2,20 @@
 use Rattle.std.specs.Prelude.{ℕ, List, Bool, true, false, Result}
 use Rattle.fsr_runs.specs.declared.fault.Answer.{Answer}
 use Rattle.fsr_runs.specs.declared.fault.Fault.{Fault}
-use Rattle.fsr_runs.specs.declared.show.Show.{Show}
-use Rattle.history_text.specs.Kinds.{are_lines}
+use Rattle.fsr_words.specs.declared.show.Show.{Show}
+use Rattle.document_text.specs.Kinds.{are_lines}
 use Rattle.lines_answers.specs.Answers.{IsLinesAnswer}
+use Rattle.lines_small.specs.Answers.{IsSmallAnswer}
 use Rattle.log_answers.specs.Logs.{IsLogAnswer}
+
+-- the answer to a log in lines: a small log if that is asked for
+abbrev pub IsShownAnswer : Show → List ℕ → Result Answer Fault → Type 0
+IsShownAnswer (record { order = order; small = true }) bytes reply = IsSmallAnswer bytes reply
+IsShownAnswer (record { order = order; small = false }) bytes reply = IsLinesAnswer order bytes reply
 
 -- the answer by the kind: whether the document is a log in lines
 abbrev pub IsAnswerBy : Show → Bool → List ℕ → Result Answer Fault → Type 0
-IsAnswerBy show true bytes reply = IsLinesAnswer show bytes reply
+IsAnswerBy show true bytes reply = IsShownAnswer show bytes reply
 IsAnswerBy show false bytes reply = IsLogAnswer bytes reply
 
 -- the answer of the command `order` to the bytes of a document

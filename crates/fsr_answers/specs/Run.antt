@@ -4,7 +4,7 @@ use Rattle.fsr_runs.specs.Run.{IsToldBy, never, nothing_asked}
 use Rattle.fsr_runs.specs.declared.fault.Answer.{Answer}
 use Rattle.fsr_words.specs.declared.command.Want.{Want}
 use Rattle.fsr_words.specs.declared.command.Want.TheVariants as want
-use Rattle.history_text.specs.Kinds.{are_lines}
+use Rattle.document_text.specs.Kinds.{are_lines}
 use Rattle.history_core.specs.declared.band.Band.{Band}
 use Rattle.family_live.specs.declared.family.Family.{Ghosts as FamilyWords}
 use Rattle.board_live.specs.declared.record.Posted.{Posted}

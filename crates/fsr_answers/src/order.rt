@@ -2,9 +2,11 @@
 ghost use Rattle.fsr_runs.specs.Answers.{GivesReply};
 ghost use Rattle.fsr_answers.specs.Order.{IsOrderAnswer};
 
-use fsr_runs::{Answer, Fault, Show};
-use history_text::are_lines;
+use document_text::are_lines;
+use fsr_runs::{Answer, Fault};
+use fsr_words::Show;
 use lines_answers::order_lines;
+use lines_small::order_small;
 use log_answers::order_document;
 use std::alloc::Global;
 
@@ -15,7 +17,11 @@ pub(crate) fn order(alloc: Global, show: Show, bytes: &[u8]) -> Result<Answer, F
 {
     let in_lines = are_lines(alloc, bytes)?;
     if in_lines {
-        order_lines(alloc, show, bytes)
+        if show.small {
+            order_small(alloc, bytes)
+        } else {
+            order_lines(alloc, show.order, bytes)
+        }
     } else {
         order_document(alloc, bytes)
     }

@@ -4,7 +4,8 @@ ghost use Rattle.fsr_check_answers.specs.Check.{AnswersCheck, IsCheckAnswer, exi
 
 use fsr_runs::{Answer, Fault};
 use fsr_streams::Exit;
-use history_core::{Items, Verdict, check_order};
+use history_check::check_order;
+use history_core::{Items, Verdict};
 use history_text::{CheckDocument, read_check_leaking, verdict_text};
 use std::alloc::{AllocError, Global};
 

@@ -1,9 +1,9 @@
-//! `fsr_lines`: `fsr order` for logs in lines alone, which is built without what all else needs. Its words may be `--order` or `--small`.
+//! `fsr_lines`: `fsr order` for logs in lines alone, which is built without what all else needs. It may be told `--order`.
 #![tactic(auto)]
 
 use fsr_runs::{FSR, words_of};
 use fsr_streams::{Exit, Over, tell};
-use lines_answers::{run, show_of};
+use lines_answers::{order_of, run};
 use std::process::ExitCode;
 
 fn main(rt: HostRuntime) -> ExitCode {
@@ -12,15 +12,12 @@ fn main(rt: HostRuntime) -> ExitCode {
         Ok(words) => words,
         Err(status) => return ExitCode::from(status),
     };
-    let Some(show) = show_of(words.as_slice()) else {
-        tell(
-            &mut faults,
-            "fsr_lines: it may be told --order or --small alone\n",
-        );
+    let Some(order) = order_of(words.as_slice()) else {
+        tell(&mut faults, "fsr_lines: it may be told --order alone\n");
         return ExitCode::from(Exit::NoCommand.status());
     };
     let mut input = Over::new(rt.stdin());
     let mut out = Over::new(rt.stdout());
-    let status = run(rt.alloc(), show, &mut input, &mut out, &mut faults);
+    let status = run(rt.alloc(), order, &mut input, &mut out, &mut faults);
     ExitCode::from(status)
 }

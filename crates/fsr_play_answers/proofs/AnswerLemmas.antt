@@ -5,8 +5,8 @@ use Rattle.cell_answers.specs.Cells.{AnswersCell}
 use Rattle.cell_text.specs.Cell.{cell_document, cell_in, cell_of}
 use Rattle.four_slot_core.specs.declared.schedule.CellSchedule.{CellSchedule}
 use Rattle.history_core.specs.declared.band.Band.{Band}
-use Rattle.history_text.specs.Document.{is_kind}
-use Rattle.history_text.specs.Refusals.{◌>>=◌}
+use Rattle.document_text.specs.Document.{is_kind}
+use Rattle.document_text.specs.Refusals.{◌>>=◌}
 use Rattle.fsr_refusals.specs.declared.refusal.DocError.TheVariants.{Kind}
 use Rattle.fsr_runs.specs.Answers.{AnswersReading, GivesReply, HasLowStatus}
 use Rattle.fsr_runs.specs.declared.fault.Answer.{Answer}

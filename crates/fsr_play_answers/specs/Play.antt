@@ -18,7 +18,7 @@ use Rattle.serde_json.specs.Data.{Data}
 use Rattle.report_text.specs.Text.{text_of}
 use Rattle.report_text.specs.declared.report.Report.{Report}
 use Rattle.report_text.specs.declared.report.Report.TheVariants as report
-use Rattle.history_text.specs.Document.{is_kind, value_of}
+use Rattle.document_text.specs.Document.{is_kind, value_of}
 use Rattle.schedule_text.specs.Document.{schedule_of}
 use Rattle.schedule_text.specs.declared.document.ScheduleDocument.{ScheduleDocument}
 use Rattle.schedule_text.specs.declared.document.ScheduleDocument.TheVariants.{Cell, Matrix, Board}

@@ -1,17 +1,17 @@
 //! Played schedules: the report of each, printed.
 ghost use Rattle.std.specs.Prelude.{◌≡◌, IfOk};
 ghost use Rattle.fsr_runs.specs.Answers.{GivesReply};
-ghost use Rattle.history_text.specs.Refusals.{Gives as Reads};
+ghost use Rattle.document_text.specs.Refusals.{Gives as Reads};
 ghost use Rattle.matrix_core.specs.Runs.{CanPlay};
 ghost use Rattle.schedule_text.specs.Document.{schedule_of};
 ghost use Rattle.schedule_text.specs.Players.{CanBePlayed};
 ghost use Rattle.fsr_play_answers.specs.Play.{AnswersBoard, AnswersMatrix, IsPlayAnswer, printed};
 
 use cell_answers::cell;
+use document_text::{DocError, read_value};
 use fsr_runs::{Answer, Fault};
 use fsr_streams::Exit;
 use history_core::Band;
-use history_text::{DocError, read_value};
 use matrix_board_play::play_board;
 use matrix_core::{BoardSchedule, MatrixSchedule};
 use matrix_play::play_matrix;

@@ -4,11 +4,9 @@
 mod command;
 mod fault;
 mod run;
-mod show;
 mod words;
 
 pub use command::{Command, run_command};
 pub use fault::{Answer, Fault, HistoryFault, LinesFault};
 pub use run::{FSR, Program, give_answer, take_document, take_rest, tell_fault};
-pub use show::Show;
 pub use words::words_of;

@@ -62,8 +62,7 @@ fn read_up_to<I: Source>(input: &mut I, bytes: &mut Vec<u8>, most: usize) -> Res
     Ok(())
 }
 
-/// TakesInput the next piece of the input, and adds it to the bytes, of which there are no more than so many then. The count is 0 at the
-/// end
+/// Takes the next piece of the input, and adds it to the bytes, of which there are no more than so many then. The count is 0 at the end
 /// alone.
 fn take_more<I: Source>(
     input: &mut I,
@@ -104,7 +103,7 @@ pub fn write_text<O: Sink>(out: &mut O, text: &[u8]) -> Result<(), Failed>
     Ok(())
 }
 
-/// TellsLine a line. A failure changes nothing else.
+/// Tells a line. A failure changes nothing else.
 pub fn tell<E: Sink>(faults: &mut E, line: &str)
     requires { HasRoom (E.failed faults.old) }
     ensures told { TellsLine (E.contents faults.old) (E.contents faults.new) (E.failed faults.old)

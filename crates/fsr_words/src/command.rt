@@ -3,9 +3,9 @@ ghost use Rattle.clap.specs.Words.{app_of, found_of, rows_of, rule_of, subcomman
 ghost use Rattle.fsr_words.specs.Command.{fsr, command_of, file_in, file_of, flag, is_told, over_a_document, over_a_log, show_in, want_in};
 ghost use Rattle.fsr_words.specs.Command.{want_named, Refuses};
 
+use crate::Show;
 use clap::error::ErrorKind;
 use clap::{Arg, ArgAction, ArgMatches, Command, Error};
-use fsr_runs::Show;
 use std::alloc::{AllocError, Global};
 use std::convert::AsStr;
 

@@ -8,7 +8,7 @@ use Rattle.history_core.specs.declared.history.Kind.{Kind}
 use Rattle.history_core.specs.declared.history.Kind.TheVariants.{Write, Read, Refused}
 use Rattle.history_core.specs.Orders.{IsAtomicOrder, MayStand, times_of}
 use Rattle.history_core.proofs.Listing.{times_cases, times_cons}
-use Rattle.history_reasons.proofs.Atomic.{once_at}
+use Rattle.history_core.proofs.Atomic.{once_at}
 
 once : (kind : Kind) (ends : Option ℕ) (end times : ℕ) → ends ≡ Some end → MayStand ends kind times → times ≡ 1
 once kind ends end times e h = subst (λ z. MayStand z kind times) e h

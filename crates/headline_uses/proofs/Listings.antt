@@ -6,7 +6,7 @@ use Rattle.history_core.specs.declared.history.Op.{Op}
 use Rattle.history_core.specs.declared.history.Kind.{Kind}
 use Rattle.history_core.specs.declared.history.Kind.TheVariants.{Write, Refused}
 use Rattle.history_core.specs.Orders.{IsAtomicOrder, latest, listed_at, MayStand, ReadsRight, times_of}
-use Rattle.history_reasons.proofs.Atomic.{once_at}
+use Rattle.history_core.proofs.Atomic.{once_at}
 use Rattle.headline_uses.specs.Orders.{SawWhatIsThere, StandsOnceAtMost, VerdictsShow}
 
 apart : false ≡ true → ⊥

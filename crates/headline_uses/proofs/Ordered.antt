@@ -13,7 +13,7 @@ use Rattle.headline_uses.specs.Orders.{HasWhatIsThere, IsOnlyWrite, KeepsInterva
 use Rattle.headline_uses.specs.Orders.{WaitsForTheLimit}
 use Rattle.headline_uses.proofs.Listed.{alone, listed}
 use Rattle.headline_uses.proofs.Latest.{counts_none, is_there}
-use Rattle.history_reasons.proofs.Counts.{times_some}
+use Rattle.history_core.proofs.Counts.{times_some}
 
 -- an operation without an end that stands somewhere is a write
 writes : (kind : Kind) (times : ℕ) → 0 < times → MayStand None kind times → kind ≡ Write

@@ -4,8 +4,8 @@ use Rattle.std.proofs.Common.{refl, sym, ◌∙◌, ap, subst, arith}
 use Rattle.std.proofs.lemmas.Option.{same_Some}
 use Rattle.history_core.specs.declared.history.Op.{Op}
 use Rattle.history_core.specs.Orders.{is_write, Precedes}
-use Rattle.history_reasons.specs.Reasons.{IsOfOpening, OfOneRecord}
-use Rattle.history_reasons.specs.Searches.{AreForwards, IsOpeningWrite, WritesOnce}
+use Rattle.history_core.specs.Reasons.{IsOfOpening, OfOneRecord}
+use Rattle.history_core.specs.Searches.{AreForwards, IsOpeningWrite, WritesOnce}
 use Rattle.headline_uses.specs.Reasons.{AnsweredHistoriesShow, CrossedShows, EarlyShows, FaultsShow, LimitedShows, RunForwardsBelow}
 use Rattle.headline_uses.specs.Reasons.{StaleShows, UnwrittenShows, WriteOnceBelow}
 

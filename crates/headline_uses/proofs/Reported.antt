@@ -8,8 +8,8 @@ use Rattle.history_core.specs.Schedules.{HasShape, HasShapeFrom, IsPlayed, Span}
 use Rattle.four_slot_core.specs.Play.{cell_span}
 use Rattle.matrix_core.specs.Runs.{board_spans, spans_of}
 use Rattle.headline_uses.specs.Reports.{BoardReportsShow, CellReportsShow, HasItsOperations, IsAtomicHistory, KeepsApart, MatrixReportsShow}
-use Rattle.history_reasons.specs.Reasons.{IsReason}
-use Rattle.history_reasons.specs.Searches.{IsOneTerm}
+use Rattle.history_core.specs.Reasons.{IsReason}
+use Rattle.history_core.specs.Searches.{IsOneTerm}
 use Rattle.headline_uses.specs.Reports.{ReadsNoOlderWrite, SearchesRightly}
 
 abbrev first_limit : List Term → ℕ

@@ -3,9 +3,9 @@ use Rattle.std.proofs.Common.{◌≡◌, ◌≢◌, Bool, ℕ, ◌+◌, ◌<◌,
 use Rattle.std.proofs.Common.{refl, sym, ◌∙◌, ap, subst, arith}
 use Rattle.stamps.specs.declared.stamp.Stamp.{Stamp}
 use Rattle.stamps.specs.Stamps.{IsBelow}
-use Rattle.history_reasons.specs.declared.reason.Search.{Search}
-use Rattle.history_reasons.specs.declared.reason.SearchError.{SearchError}
-use Rattle.history_reasons.specs.Searches.{IsAnswered, IsFault}
+use Rattle.history_core.specs.declared.reason.Search.{Search}
+use Rattle.history_core.specs.declared.reason.SearchError.{SearchError}
+use Rattle.history_core.specs.Searches.{IsAnswered, IsFault}
 use Rattle.cell_live.specs.declared.cell.Calls.{Ghosts as CellWords}
 use Rattle.family_live.specs.declared.family.Family.{Ghosts as FamilyWords}
 use Rattle.board_live.specs.declared.record.Posted.{Posted}

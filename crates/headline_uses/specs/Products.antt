@@ -6,12 +6,12 @@ use Rattle.history_core.specs.declared.history.Kind.TheVariants.{Write, Read, Re
 use Rattle.history_core.specs.declared.history.Verdict.{Verdict}
 use Rattle.history_core.specs.declared.history.Verdict.TheVariants.{Lawful}
 use Rattle.history_core.specs.Orders.{IsAtomicOrder, IsVerdict, RefusesLawfully}
-use Rattle.history_reasons.specs.declared.reason.Reason.{Reason}
-use Rattle.history_reasons.specs.declared.reason.Search.{Search}
-use Rattle.history_reasons.specs.declared.reason.Search.TheVariants.{Order, Unlawful}
-use Rattle.history_reasons.specs.declared.reason.SearchError.{SearchError}
-use Rattle.history_reasons.specs.Reasons.{IsReason, rule_of}
-use Rattle.history_reasons.specs.Searches.{IsAnswered, IsFault}
+use Rattle.history_core.specs.declared.reason.Reason.{Reason}
+use Rattle.history_core.specs.declared.reason.Search.{Search}
+use Rattle.history_core.specs.declared.reason.Search.TheVariants.{Order, Unlawful}
+use Rattle.history_core.specs.declared.reason.SearchError.{SearchError}
+use Rattle.history_core.specs.Reasons.{IsReason, rule_of}
+use Rattle.history_core.specs.Searches.{IsAnswered, IsFault}
 use Rattle.stamps.specs.declared.stamp.Stamp.{Stamp}
 use Rattle.cell_live.specs.declared.cell.Calls.{Ghosts as CellWords}
 use Rattle.cell_live.specs.Intervals.{AreAtomic, AreFirst, AreHeeded, HaveEnded, IsNextAnswer, IsNextCall, known_as}

@@ -4,11 +4,11 @@ use Rattle.history_core.specs.declared.history.Op.{Op}
 use Rattle.history_core.specs.declared.history.Term.{Term}
 use Rattle.history_core.specs.declared.history.Kind.TheVariants.{Refused}
 use Rattle.history_core.specs.Orders.{IsAtomicOrder, is_write, writes_in}
-use Rattle.history_reasons.specs.declared.reason.Reason.TheVariants.{Unwritten, Early, Stale, Crossed, Limit}
-use Rattle.history_reasons.specs.declared.reason.Search.{Search}
-use Rattle.history_reasons.specs.declared.reason.SearchError.TheVariants.{Terms, Backwards, WritesOpening, WritesTwice}
-use Rattle.history_reasons.specs.Reasons.{counts, IsReason}
-use Rattle.history_reasons.specs.Searches.{IsAnswered, IsFault}
+use Rattle.history_core.specs.declared.reason.Reason.TheVariants.{Unwritten, Early, Stale, Crossed, Limit}
+use Rattle.history_core.specs.declared.reason.Search.{Search}
+use Rattle.history_core.specs.declared.reason.SearchError.TheVariants.{Terms, Backwards, WritesOpening, WritesTwice}
+use Rattle.history_core.specs.Reasons.{counts, IsReason}
+use Rattle.history_core.specs.Searches.{IsAnswered, IsFault}
 
 module _ (R : Type 0) where
   -- the record of a finished operation isn't the opening, and no write has it

@@ -19,10 +19,10 @@ use Rattle.matrix_core.specs.declared.schedule.MatrixTerm.{MatrixTerm}
 use Rattle.matrix_core.specs.Runs.{board_span, span_of}
 use Rattle.matrix_board_play.specs.BoardReports.{IsBoardReport}
 use Rattle.matrix_play.specs.MatrixReports.{IsMatrixReport}
-use Rattle.history_reasons.specs.Searches.{IsAnswered}
-use Rattle.history_reasons.specs.declared.reason.Search.TheVariants.{Order, Unlawful}
-use Rattle.history_reasons.specs.declared.reason.Reason.{Reason}
-use Rattle.history_reasons.specs.Reasons.{IsReason, rule_of}
+use Rattle.history_core.specs.Searches.{IsAnswered}
+use Rattle.history_core.specs.declared.reason.Search.TheVariants.{Order, Unlawful}
+use Rattle.history_core.specs.declared.reason.Reason.{Reason}
+use Rattle.history_core.specs.Reasons.{IsReason, rule_of}
 
 module _ (R : Type 0) where
   -- the operations of one term that begins with the schedule: each that begins is there, with its interval and what it was to do, nothing

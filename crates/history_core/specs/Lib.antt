@@ -1,9 +1,12 @@
 -- What the contracts speak of.
 pub mod Band
 pub mod Joined
+pub mod Kept
 pub mod Numbers
 pub mod Orders
 pub mod Others
 pub mod Ranges
+pub mod Reasons
 pub mod Schedules
+pub mod Searches
 pub mod inner

@@ -15,24 +15,24 @@ use Rattle.history_core.specs.Orders.{writes_in}
 use Rattle.history_core.proofs.Listed.{some_and_from, some_and_of}
 use Rattle.history_core.proofs.Listing.{times_cases}
 use Rattle.history_search.specs.declared.rank.Rank.{Rank}
-use Rattle.history_reasons.specs.declared.reason.Reason.{Reason}
-use Rattle.history_reasons.specs.declared.reason.Reason.TheVariants.{Unwritten, Early, Stale, Crossed, Limit}
-use Rattle.history_reasons.specs.declared.reason.Search.{Search}
-use Rattle.history_reasons.specs.declared.reason.Search.TheVariants.{Order, Unlawful}
+use Rattle.history_core.specs.declared.reason.Reason.{Reason}
+use Rattle.history_core.specs.declared.reason.Reason.TheVariants.{Unwritten, Early, Stale, Crossed, Limit}
+use Rattle.history_core.specs.declared.reason.Search.{Search}
+use Rattle.history_core.specs.declared.reason.Search.TheVariants.{Order, Unlawful}
 use Rattle.history_search.specs.declared.span.Moment.{Moment}
 use Rattle.history_search.specs.declared.span.Span.{Span}
-use Rattle.history_reasons.specs.Reasons.{IsLimited, IsOfOpening, IsReason, OfOneRecord, rule_of}
-use Rattle.history_reasons.specs.declared.reason.SearchError.{SearchError}
-use Rattle.history_reasons.specs.declared.reason.SearchError.TheVariants.{NoMemory, Terms, Backwards, WritesOpening, WritesTwice}
-use Rattle.history_reasons.specs.Searches.{AreForwards, IsAnswered, IsFault, IsGroupFault, IsOneTerm, IsSearch, IsUnlawful, WritesOnce}
+use Rattle.history_core.specs.Reasons.{IsLimited, IsOfOpening, IsReason, OfOneRecord, rule_of}
+use Rattle.history_core.specs.declared.reason.SearchError.{SearchError}
+use Rattle.history_core.specs.declared.reason.SearchError.TheVariants.{NoMemory, Terms, Backwards, WritesOpening, WritesTwice}
+use Rattle.history_core.specs.Searches.{AreForwards, IsAnswered, IsFault, IsGroupFault, IsOneTerm, IsSearch, IsUnlawful, WritesOnce}
 use Rattle.history_search.specs.inner.Found.{AreSorted, AreStraight, begin_place, crossing_of, cut_by, end_place, HasEnough, HasTooFew}
 use Rattle.history_search.specs.inner.Found.{IsCrossing, IsEarlyIn, IsFound, IsGroupLimit, IsGroupOrder, IsGroupSearch, IsLateOrder}
 use Rattle.history_search.specs.inner.Found.{IsPrepared, IsStaleIn, NoneEarlyIn, NoneStaleIn, place_or, refused_in}
 use Rattle.history_search.specs.inner.Groups.{AreGroups, AreSpans, ends_before, HasGroup, HaveGroups, Member}
 use Rattle.history_search.specs.inner.Limits.{IsFirstRefusal}
 use Rattle.history_search.specs.inner.Ranks.{asks_in, begin_in, cut_after, end_in, IsTurned, moment_at, moment_or, NoneTurned}
-use Rattle.history_reasons.proofs.Atomic.{IsSearched, led, no_crossing, no_early, no_stale, no_unwritten, opened, stands, turned}
-use Rattle.history_reasons.proofs.Counts.{counted, count_up, get_front, of_one_term}
+use Rattle.history_core.proofs.Atomic.{IsSearched, led, no_crossing, no_early, no_stale, no_unwritten, opened, stands, turned}
+use Rattle.history_core.proofs.Counts.{counted, count_up, get_front, of_one_term}
 use Rattle.history_search.proofs.Cuts.{cut_closed, cut_start, cut_step, IsCut, late_by, turned_of, uncrossed}
 use Rattle.history_search.proofs.Groups.{AllHaveGroups, finished_or, has, is_crossed, is_early, is_stale, is_unwritten, none_early}
 use Rattle.history_search.proofs.Groups.{none_stale}

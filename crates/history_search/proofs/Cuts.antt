@@ -16,7 +16,7 @@ use Rattle.history_search.specs.inner.Groups.{AreGroups, AreSpans, Member}
 use Rattle.history_search.specs.inner.Ranks.{AreInOrder, AreRanks, asks_in, begin_in, cut_after, earliest, end_in, ends_at, first_in}
 use Rattle.history_search.specs.inner.Ranks.{is_above}
 use Rattle.history_search.specs.inner.Ranks.{is_late, IsNoLater, IsRank, IsTurned, last_in, late_in, NoneTurned}
-use Rattle.history_reasons.proofs.Atomic.{IsSearched}
+use Rattle.history_core.proofs.Atomic.{IsSearched}
 use Rattle.history_search.proofs.Groups.{AllHaveGroups}
 use Rattle.history_search.proofs.Ranks.{back_by, IsBack, rank_group, rank_op, stands_with_end}
 use Rattle.history_search.proofs.Spans.{first_member, last_member}

@@ -8,9 +8,9 @@ use Rattle.std.proofs.lemmas.Option.{slice_get_within, same_Some, slice_get_case
 use Rattle.history_core.specs.declared.history.Op.{Op}
 use Rattle.history_core.specs.Orders.{is_write, Precedes}
 use Rattle.history_core.proofs.Listed.{some_and_of}
-use Rattle.history_reasons.specs.Reasons.{counts, IsCrossed, IsEarly, IsOfOpening, IsStale, IsUnwritten, OfOneRecord}
+use Rattle.history_core.specs.Reasons.{counts, IsCrossed, IsEarly, IsOfOpening, IsStale, IsUnwritten, OfOneRecord}
 use Rattle.history_search.specs.inner.Groups.{AreGroups, HasGroup, Member}
-use Rattle.history_reasons.proofs.Atomic.{both_opened, IsSearched, joined, opened, some_from, turned}
+use Rattle.history_core.proofs.Atomic.{both_opened, IsSearched, joined, opened, some_from, turned}
 
 -- each finished operation has a group
 abbrev pub AllHaveGroups : {R : Type 0} → List (Op R) → List (Option ℕ) → Type 0

@@ -16,12 +16,12 @@ use Rattle.std.proofs.lemmas.List.{length-map}
 use Rattle.history_core.specs.declared.history.Op.{Op}
 use Rattle.history_core.specs.Orders.{is_write}
 use Rattle.history_core.proofs.Listed.{some_and_from, some_and_of}
-use Rattle.history_reasons.specs.declared.reason.SearchError.{SearchError}
-use Rattle.history_reasons.specs.declared.reason.SearchError.TheVariants.{NoMemory, Terms, Backwards, WritesOpening, WritesTwice}
-use Rattle.history_reasons.specs.Reasons.{counts, IsOfOpening}
-use Rattle.history_reasons.specs.Searches.{AreForwards, IsGroupFault, IsOpeningWrite, IsWrittenTwice, WritesOnce}
+use Rattle.history_core.specs.declared.reason.SearchError.{SearchError}
+use Rattle.history_core.specs.declared.reason.SearchError.TheVariants.{NoMemory, Terms, Backwards, WritesOpening, WritesTwice}
+use Rattle.history_core.specs.Reasons.{counts, IsOfOpening}
+use Rattle.history_core.specs.Searches.{AreForwards, IsGroupFault, IsOpeningWrite, IsWrittenTwice, WritesOnce}
 use Rattle.history_search.specs.inner.Groups.{AreGroups, group_in, HasGroup, IsGroupOf, IsWriteFault, KnowsWrites, written_by}
-use Rattle.history_reasons.proofs.Atomic.{IsAlike, IsSearched, of_one, of_opening, shares, turned}
+use Rattle.history_core.proofs.Atomic.{IsAlike, IsSearched, of_one, of_opening, shares, turned}
 
 is_equal : (r : Ordering) → is_eq r ≡ true → r ≡ Equal
 is_equal Less h = cc

@@ -16,13 +16,13 @@ use Rattle.history_core.proofs.Listing.{times_cases}
 use Rattle.history_search.specs.declared.rank.Rank.{Rank}
 use Rattle.history_search.specs.declared.span.Moment.{Moment}
 use Rattle.history_search.specs.declared.span.Span.{Span}
-use Rattle.history_reasons.specs.Reasons.{IsOfOpening, IsRefusedUpTo, OfOneRecord}
+use Rattle.history_core.specs.Reasons.{IsOfOpening, IsRefusedUpTo, OfOneRecord}
 use Rattle.history_search.specs.inner.Groups.{AreGroups, AreSpans, Member}
 use Rattle.history_search.specs.inner.Limits.{IsFirstRefusal, NoneRefused}
 use Rattle.history_search.specs.inner.Ranks.{AreInOrder, AreRanks, asks_in, begin_in, end_in, is_above, is_late, late_in, moment_or}
 use Rattle.history_search.specs.inner.Ranks.{stands_in}
-use Rattle.history_reasons.proofs.Atomic.{before, IsSearched, joined, Leads, led, led_before, mate, some_from, stands, turned}
-use Rattle.history_reasons.proofs.Counts.{count_cons, counted, front_get, get_front, times_apart, times_self, times_some}
+use Rattle.history_core.proofs.Atomic.{before, IsSearched, joined, Leads, led, led_before, mate, some_from, stands, turned}
+use Rattle.history_core.proofs.Counts.{count_cons, counted, front_get, get_front, times_apart, times_self, times_some}
 use Rattle.history_search.proofs.Cuts.{after, asks, IsLate}
 use Rattle.history_search.proofs.Groups.{AllHaveGroups, alike, apart, finished_or, has, of_opening_group, write_has, write_of}
 use Rattle.history_search.proofs.Ranks.{place_at, places_of, rank_at, rank_group, rank_op, write_before}

@@ -21,7 +21,7 @@ use Rattle.history_core.proofs.Places.{get_pushed_cases, get_last, get_stays, ge
 use Rattle.history_search.specs.declared.rank.Rank.{Rank}
 use Rattle.history_search.specs.declared.span.Moment.{Moment}
 use Rattle.history_search.specs.declared.span.Span.{Span}
-use Rattle.history_reasons.specs.Searches.{AreForwards}
+use Rattle.history_core.specs.Searches.{AreForwards}
 use Rattle.history_search.specs.inner.Groups.{AreSpans, earlier_moment, empty_span, ends_before, HaveGroups, IsSpan, joined_span}
 use Rattle.history_search.specs.inner.Groups.{later_moment}
 use Rattle.history_search.specs.inner.Groups.{Member, refused_at}

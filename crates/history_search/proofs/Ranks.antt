@@ -19,7 +19,7 @@ use Rattle.history_search.specs.declared.span.Span.{Span}
 use Rattle.history_search.specs.inner.Groups.{AreGroups, AreSpans, HasGroup, Member}
 use Rattle.history_search.specs.inner.Ranks.{AreInOrder, AreRanks, begin_in, end_in, first_in, first_of, IsNoLater, IsRank, is_late}
 use Rattle.history_search.specs.inner.Ranks.{last_in, late_in, stands_in}
-use Rattle.history_reasons.proofs.Atomic.{IsSearched, once_at, shares, some_from}
+use Rattle.history_core.proofs.Atomic.{IsSearched, once_at, shares, some_from}
 use Rattle.history_search.proofs.Groups.{AllHaveGroups, finished_or, has, own, write_of}
 use Rattle.history_search.proofs.Spans.{goes_first, least_end, most_begin}
 

@@ -9,7 +9,7 @@ use Rattle.history_search.specs.declared.span.Moment.{Moment}
 use Rattle.history_search.specs.declared.span.Span.{Span}
 use Rattle.history_search.specs.inner.Groups.{AreGroups, AreSpans, HasGroup, IsSpan, Member}
 use Rattle.history_search.specs.inner.Ranks.{asks_in, begin_in, end_in, first_of, moment_at, moment_or}
-use Rattle.history_reasons.proofs.Atomic.{IsSearched, some_of}
+use Rattle.history_core.proofs.Atomic.{IsSearched, some_of}
 use Rattle.history_search.proofs.Groups.{has}
 
 -- of two groups, where something in a has to stand before something in b, and nothing in b before something in a

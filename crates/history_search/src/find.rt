@@ -1,12 +1,11 @@
 //! The search.
 
 ghost use Rattle.std.specs.Prelude.{◌≡◌, ◌↔◌, ℕ, ◌<◌, IfNone, IfOk, IfSome, IsSomeAnd, IsTrue, MatchResult};
-ghost use Rattle.history_reasons.specs.Searches.{AreForwards, IsAnswered, IsBackwards, IsFault, IsOneTerm};
+ghost use Rattle.history_core.specs.Searches.{AreForwards, IsAnswered, IsBackwards, IsFault, IsOneTerm};
 
 use crate::group::group_ops;
 use crate::group_search::search_groups;
-use history_core::{History, Op, Term};
-use history_reasons::{Search, SearchError};
+use history_core::{History, Op, Search, SearchError, Term};
 use std::alloc::Global;
 
 /// A lawful order of the history, or a reason why there is none: of the first rule of `Reason` that any reason has. The history

@@ -4,11 +4,10 @@ ghost use Rattle.std.specs.Prelude.{◌≡◌, ◌+◌, ◌<◌, ◌^◌, ◌↔
 ghost use Rattle.std.specs.Prelude.{Some};
 ghost use Rattle.std.specs.BTreeMap.{get, Updates};
 ghost use Rattle.history_search.specs.inner.Groups.{AreGroups, group_in, HaveGroups, IsUngrouped, IsWriteFault, KnowsWrites, written_by};
-ghost use Rattle.history_reasons.specs.Reasons.{counts};
-ghost use Rattle.history_reasons.specs.Searches.{IsGroupFault, WritesOnce};
+ghost use Rattle.history_core.specs.Reasons.{counts};
+ghost use Rattle.history_core.specs.Searches.{IsGroupFault, WritesOnce};
 
-use history_core::{Kind, Op};
-use history_reasons::SearchError;
+use history_core::{Kind, Op, SearchError};
 use std::alloc::Global;
 use std::collections::BTreeMap;
 

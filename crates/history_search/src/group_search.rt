@@ -10,8 +10,7 @@ use crate::group::first_ungrouped;
 use crate::rank::{Rank, places, rank_ops, span_at};
 use crate::span::{EarlyRead, Span, StaleRead, first_early, first_stale, span_groups};
 use crate::turn::{Turn, crossing, first_turn};
-use history_core::{Items, Kind, Op};
-use history_reasons::{Reason, Search};
+use history_core::{Items, Kind, Op, Reason, Search};
 use std::alloc::{AllocError, Global};
 
 /// The answer to operations in groups.

@@ -6,8 +6,7 @@ ghost use Rattle.history_search.specs.inner.Ranks.{ends_at, IsTurned, later_rank
 
 use crate::rank::Rank;
 use crate::span::{Moment, Span};
-use history_core::Op;
-use history_reasons::Reason;
+use history_core::{Op, Reason};
 
 /// Two ranks of which the second stands behind the first, and its operation precedes that of the first.
 #[derive(Clone, Copy)]

@@ -1,4 +1,4 @@
--- The lists of a document's values, by cases on their elements: serde_json's items are the document's, in their order.
+-- The lists of a document's values, by cases on their elements.
 use Rattle.std.proofs.Common.{◌≡◌, ◌<◌, ◌≤◌, ◌+◌, ℕ, zero, suc, List, [], ◌∷◌, ◌++◌, length, map, drop, refl, ap, sym, subst, ◌∙◌, arith}
 use Rattle.std.proofs.Common.{add-one}
 use Rattle.std.proofs.Common.{Bool, true, false, Option, Some, None, option_map, append_assoc, get_or}
@@ -7,15 +7,11 @@ use Rattle.std.proofs.lemmas.Option.{none-some, same_Some}
 use Rattle.std.specs.Prelude.{slice_get, if◌then◌else◌}
 use Rattle.std.specs.Option.{option_and_then}
 use Rattle.serde_json.specs.Data.{Data}
-use Rattle.serde_json.specs.Find.{as_array}
-use Rattle.serde_json.specs.View.{view, items_of, items_view}
+use Rattle.serde_json.specs.View.{view}
 use Rattle.serde_json.specs.declared.value.Value.{Value}
 use Rattle.history_core.specs.declared.band.Band.{Band}
-use Rattle.history_text.specs.Shapes.{◌>>=◌, all_of, as_items, as_three, as_whole, list_of}
-
-pub list_of-items_of : (ds : List Data) → list_of (items_of ds) ≡ ds
-list_of-items_of [] = refl
-list_of-items_of (d ∷ ds) = ap (λ l. d ∷ l) (list_of-items_of ds)
+use Rattle.document_text.specs.Values.{as_whole}
+use Rattle.history_text.specs.Shapes.{◌>>=◌, all_of, as_three}
 
 -- what was read before, and what the rest gives
 abbrev pub with_front : {B : Type 0} → List B → Option (List B) → Option (List B)
@@ -58,9 +54,6 @@ three_read vs a b c lo mid hi least most ea eb ec of_a of_b of_c =
     ap (λ o. three_of o mid hi) of_a ∙ ap (λ o. three_of (as_whole (view a)) o hi) of_b
     ∙ ap (λ o. three_of (as_whole (view a)) (as_whole (view b)) o) of_c
     ∙ ap (λ l. as_three (map view l)) (three_are vs a b c least most ea eb ec)
-
-pub as_items_seen : (d : Data) (vs : List Value) → Some (items_view vs) ≡ as_array d → Some (map view vs) ≡ as_items d
-as_items_seen d vs e = ap Some (sym (list_of-items_of (map view vs))) ∙ ap (option_map list_of) e
 
 -- ---- a list that is read item by item: what was read stands in front of what the rest gives
 

@@ -9,11 +9,12 @@ use Rattle.history_text.specs.declared.document.CheckDocument.{CheckDocument}
 use Rattle.fsr_refusals.specs.declared.refusal.DocError.{DocError}
 use Rattle.fsr_refusals.specs.declared.refusal.DocError.TheVariants.{Range, Law, Kind as OfKind}
 use Rattle.fsr_refusals.specs.declared.key.Key.TheVariants.{Opening, Limit, Ops, Order}
-use Rattle.history_text.specs.Document.{is_kind, value_of}
+use Rattle.document_text.specs.Document.{is_kind, value_of}
 use Rattle.history_text.specs.Histories.{is_lawful, one_term, ops_in_range}
-use Rattle.history_text.specs.Ranges.{count_in_range, limit_in_range}
-use Rattle.history_text.specs.Refusals.{◌>>=◌, field, must, required}
-use Rattle.history_text.specs.Shapes.{as_whole, as_band, as_op, as_list}
+use Rattle.document_text.specs.Ranges.{count_in_range, limit_in_range}
+use Rattle.document_text.specs.Refusals.{◌>>=◌, field, must, required}
+use Rattle.document_text.specs.Values.{as_whole}
+use Rattle.history_text.specs.Shapes.{as_band, as_op, as_list}
 
 abbrev pub is_place : ℕ → Bool
 is_place place = nat_le place 9999

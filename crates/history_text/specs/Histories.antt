@@ -8,7 +8,7 @@ use Rattle.history_core.specs.declared.history.Kind.{Kind}
 use Rattle.history_core.specs.declared.history.Kind.TheVariants.{Write, Read, Refused}
 use Rattle.history_core.specs.declared.history.Op.{Op}
 use Rattle.history_core.specs.declared.history.Term.{Term}
-use Rattle.history_text.specs.Ranges.{count_in_range}
+use Rattle.document_text.specs.Ranges.{count_in_range}
 
 -- A write has a record that fits. Anything else that is finished has a record.
 abbrev pub item_law : Kind → Bool → Option Band → Bool

@@ -1,9 +1,4 @@
 pub mod Check
-pub mod Document
 pub mod Histories
-pub mod Kinds
-pub mod Ranges
-pub mod Refusals
 pub mod Shapes
-pub mod Splits
 pub mod Verdicts

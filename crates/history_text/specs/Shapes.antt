@@ -1,35 +1,23 @@
 -- The shapes of a document's values: what a value stands for, or nothing where it has another shape (this project's own).
 use Rattle.std.specs.Prelude.{ℕ, List, [], ◌∷◌, codes, if◌then◌else◌, Option, Some, None, option_map, option_and_then}
 use Rattle.std.specs.Str.{bytes_eq}
-use Rattle.serde_json.specs.Data.{Data, null, Items, no_items, item}
-use Rattle.serde_json.specs.Find.{get, as_number, as_str, as_array, as_u64}
+use Rattle.serde_json.specs.Data.{Data}
+use Rattle.serde_json.specs.Find.{get, as_str}
 use Rattle.history_core.specs.declared.band.Band.{Band}
-use Rattle.history_core.specs.declared.history.Kind.{Kind}
-use Rattle.history_core.specs.declared.history.Kind.TheVariants.{Write, Read, Refused}
 use Rattle.history_core.specs.declared.history.Op.{Op}
 use Rattle.history_core.specs.declared.wish.Wish.{Wish}
 use Rattle.history_core.specs.declared.wish.Wish.TheVariants as wish
+use Rattle.document_text.specs.Values.{as_items, as_whole, kind_named, optional}
 
 infixl 10 ◌>>=◌
 abbrev pub ◌>>=◌ : {A B : Type 0} → Option A → (A → Option B) → Option B
 None >>= f = None
 (Some x) >>= f = f x
 
-abbrev pub list_of : Items → List Data
-list_of no_items = []
-list_of (item d ds) = d ∷ list_of ds
-
--- a whole number, as serde_json reads it
-abbrev pub as_whole : Data → Option ℕ
-as_whole d = option_and_then as_u64 (as_number d)
-
 -- each item under f, where each has the shape
 abbrev pub all_of : {A B : Type 0} → (A → Option B) → List A → Option (List B)
 all_of f [] = Some []
 all_of f (x ∷ xs) = option_and_then (λ y. option_map (λ ys. y ∷ ys) (all_of f xs)) (f x)
-
-abbrev pub as_items : Data → Option (List Data)
-as_items d = option_map list_of (as_array d)
 
 abbrev pub as_list : {A : Type 0} → (Data → Option A) → Data → Option (List A)
 as_list f d = option_and_then (all_of f) (as_items d)
@@ -45,18 +33,6 @@ as_three other = None
 
 abbrev pub as_band : Data → Option Band
 as_band d = option_and_then as_three (as_items d)
-
-abbrev pub kind_named : List ℕ → Option Kind
-kind_named s =
-    if bytes_eq s (codes "write") then Some Write
-    else (if bytes_eq s (codes "read") then Some Read
-    else (if bytes_eq s (codes "refused") then Some Refused else None))
-
--- a missing value and null are nothing
-abbrev pub optional : {A : Type 0} → (Data → Option A) → Option Data → Option (Option A)
-optional f None = Some None
-optional f (Some null) = Some None
-optional f (Some d) = option_map Some (f d)
 
 abbrev pub as_op : Data → Option (Op Band)
 as_op d = do

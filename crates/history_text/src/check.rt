@@ -2,14 +2,15 @@
 ghost use Rattle.std.specs.Prelude.{◌≡◌};
 ghost use Rattle.std.specs.List.{list_all};
 ghost use Rattle.history_text.specs.Check.{allowed, check_document, check_in, check_of, is_place, order_in_range};
-ghost use Rattle.history_text.specs.Refusals.{Gives};
+ghost use Rattle.document_text.specs.Refusals.{Gives};
 ghost use Rattle.serde_json.specs.View.{view};
 
-use crate::fields::{field, list_field, must, required};
+use crate::CheckDocument;
 use crate::history::{are_lawful, one_term, ops_in_range};
-use crate::ranges::{count_in_range, limit_in_range};
-use crate::read::{is_kind, read_value};
-use crate::{CheckDocument, DocError, Key};
+use crate::shape::{field, list_field};
+use document_text::{
+    DocError, Key, count_in_range, is_kind, limit_in_range, must, read_value, required,
+};
 use history_core::{Band, History, Items, Op};
 use serde_json::Value;
 use std::alloc::Global;

@@ -3,7 +3,7 @@ ghost use Rattle.std.specs.Prelude.{◌≡◌, IfOk};
 ghost use Rattle.std.specs.List.{list_all};
 ghost use Rattle.history_text.specs.Histories.{has_item, is_actor, is_lawful, one_term, ops_in_range};
 
-use crate::ranges::count_in_range;
+use document_text::count_in_range;
 use history_core::{Band, Items, Kind, Op, Term};
 use std::alloc::{AllocError, Global};
 

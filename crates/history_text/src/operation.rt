@@ -1,11 +1,13 @@
 //! An operation of a history.
 ghost use Rattle.std.specs.Prelude.{◌≡◌, codes, option_and_then, option_map};
-ghost use Rattle.serde_json.specs.Find.{as_str, get};
+ghost use Rattle.serde_json.specs.Find.{get};
 ghost use Rattle.serde_json.specs.View.{view};
-ghost use Rattle.history_text.specs.Shapes.{as_band, as_op, as_whole, kind_named, optional};
+ghost use Rattle.document_text.specs.Values.{as_whole, optional};
+ghost use Rattle.history_text.specs.Shapes.{as_band, as_op};
 
-use crate::shape::{Shape, band_in, place_in};
-use history_core::{Band, Kind, Op};
+use crate::shape::{Shape, band_in};
+use document_text::{kind_of, optional_number, place_in};
+use history_core::{Band, Op};
 use serde_json::Value;
 use std::alloc::{AllocError, Global};
 
@@ -35,41 +37,10 @@ fn actor_of(value: &Value) -> Option<usize>
     place_in(value.get("who")?)
 }
 
-/// The kind that is named under its key.
-pub fn kind_of(value: &Value) -> Option<Kind>
-    ensures { result ≡ option_and_then kind_named (option_and_then as_str (get (codes "kind") (view value.now))) }
-{
-    kind_named(value.get("kind")?.as_str()?)
-}
-
 fn beginning_of(value: &Value) -> Option<u64>
     ensures { result ≡ option_and_then as_whole (get (codes "begin") (view value.now)) }
 {
     value.get("begin")?.as_u64()
-}
-
-fn kind_named(name: &str) -> Option<Kind>
-    ensures { result ≡ kind_named name.now }
-{
-    match name {
-        "write" => Some(Kind::Write),
-        "read" => Some(Kind::Read),
-        "refused" => Some(Kind::Refused),
-        _ => None,
-    }
-}
-
-/// A number that may be missing, or null.
-pub fn optional_number(value: Option<&Value>) -> Option<Option<u64>>
-    ensures { result ≡ optional as_whole (option_map (λ v. view v.now) value.entry) }
-{
-    match value {
-        None | Some(Value::Null) => Some(None),
-        Some(value) => match value.as_u64() {
-            Some(number) => Some(Some(number)),
-            None => None,
-        },
-    }
 }
 
 /// A record that may be missing, or null.

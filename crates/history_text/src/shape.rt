@@ -2,8 +2,11 @@
 ghost use Rattle.std.specs.Prelude.{◌≡◌, ◌++◌, [], ◌∷◌, if◌then◌else◌, Option, Some, None, map, option_map, IfOk};
 ghost use Rattle.serde_json.specs.Data.{Data};
 ghost use Rattle.serde_json.specs.View.{view};
-ghost use Rattle.history_text.specs.Shapes.{all_of, as_band, as_items, as_list, as_three, as_whole};
+ghost use Rattle.document_text.specs.Refusals.{field, Gives};
+ghost use Rattle.document_text.specs.Values.{as_whole};
+ghost use Rattle.history_text.specs.Shapes.{all_of, as_band, as_list, as_three};
 
+use document_text::{DocError, Key, items_in, place_in};
 use history_core::Band;
 use serde_json::Value;
 use std::alloc::{AllocError, Global};
@@ -40,15 +43,6 @@ impl Shape for Band {
     }
 }
 
-pub fn place_in(value: &Value) -> Option<usize>
-    ensures { result ≡ as_whole (view value.now) }
-{
-    match value.as_u64() {
-        Some(number) => Some(number as usize),
-        None => None,
-    }
-}
-
 pub fn band_in(value: &Value) -> Option<Band>
     ensures { result ≡ as_band (view value.now) }
 {
@@ -68,14 +62,29 @@ fn three(items: &[Value]) -> Option<Band>
     })
 }
 
-/// The items of an array.
-#[tactic(auto, using(crate::proofs::ListLemmas::as_items_seen))]
-pub fn items_in(value: &Value) -> Option<&[Value]>
-    ensures { option_map (λ s. map view s.now) result ≡ as_items (view value.now) }
+/// What the key's value stands for.
+pub fn field<T: Shape>(alloc: Global, value: &Value, key: Key) -> Result<T, DocError>
+    ensures { Gives (λ x. x) result (field key T.shape (view value.now)) }
 {
-    match value.as_array() {
-        Some(items) => Some(items.as_slice()),
-        None => None,
+    match value.get(key.name()) {
+        Some(found) => match T::read(alloc, found)? {
+            Some(x) => Ok(x),
+            None => Err(DocError::Shape(key)),
+        },
+        None => Err(DocError::Shape(key)),
+    }
+}
+
+/// The values of the array under the key.
+pub fn list_field<T: Shape>(alloc: Global, value: &Value, key: Key) -> Result<Vec<T>, DocError>
+    ensures { Gives (λ v. v.items) result (field key (as_list T.shape) (view value.now)) }
+{
+    match value.get(key.name()) {
+        Some(found) => match list_of(alloc, found)? {
+            Some(xs) => Ok(xs),
+            None => Err(DocError::Shape(key)),
+        },
+        None => Err(DocError::Shape(key)),
     }
 }
 

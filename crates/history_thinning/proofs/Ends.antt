@@ -10,18 +10,18 @@ use Rattle.history_core.specs.declared.history.Term.{Term}
 use Rattle.history_core.specs.declared.history.Verdict.TheVariants.{Lawful as LawfulOrder}
 use Rattle.history_core.specs.Orders.{is_write, IsVerdict}
 use Rattle.history_core.proofs.Listed.{some_and_of}
-use Rattle.history_reasons.specs.Reasons.{IsOfOpening, IsReason, rule_of}
-use Rattle.history_reasons.specs.Searches.{IsAnswered, IsFault, IsUnlawful}
-use Rattle.history_reasons.specs.declared.reason.Reason.{Reason}
-use Rattle.history_reasons.specs.declared.reason.Reason.TheVariants.{Unwritten, Early, Stale, Crossed, Limit}
-use Rattle.history_reasons.specs.declared.reason.Search.{Search}
-use Rattle.history_reasons.specs.declared.reason.Search.TheVariants.{Order, Unlawful as NoOrder}
-use Rattle.history_reasons.specs.declared.reason.SearchError.{SearchError}
-use Rattle.history_reasons.specs.declared.reason.SearchError.TheVariants.{NoMemory, Terms, Backwards, WritesOpening, WritesTwice}
-use Rattle.history_reasons.proofs.Atomic.{IsSearched, turned}
+use Rattle.history_core.specs.Reasons.{IsOfOpening, IsReason, rule_of}
+use Rattle.history_core.specs.Searches.{IsAnswered, IsFault, IsUnlawful}
+use Rattle.history_core.specs.declared.reason.Reason.{Reason}
+use Rattle.history_core.specs.declared.reason.Reason.TheVariants.{Unwritten, Early, Stale, Crossed, Limit}
+use Rattle.history_core.specs.declared.reason.Search.{Search}
+use Rattle.history_core.specs.declared.reason.Search.TheVariants.{Order, Unlawful as NoOrder}
+use Rattle.history_core.specs.declared.reason.SearchError.{SearchError}
+use Rattle.history_core.specs.declared.reason.SearchError.TheVariants.{NoMemory, Terms, Backwards, WritesOpening, WritesTwice}
+use Rattle.history_core.proofs.Atomic.{IsSearched, turned}
 use Rattle.history_thinning.specs.Answers.{IsLawfulBy, NamesKept}
 use Rattle.history_thinning.specs.Thinnings.{Equal, IsThinned, IsThinnedLog, one_term}
-use Rattle.history_reasons.specs.declared.thinned.Thinned.{Thinned}
+use Rattle.history_core.specs.declared.thinned.Thinned.{Thinned}
 use Rattle.history_thinning.specs.inner.Mapped.{AreWritePlaces, found_or, place_in, reason_in}
 use Rattle.history_thinning.proofs.Reasons.{alike, kept_known, place_of, rule_least, searched, write_kept}
 use Rattle.history_thinning.proofs.Restricting.{keep, limit_of, restricted_lawful}

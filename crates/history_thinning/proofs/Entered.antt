@@ -12,11 +12,11 @@ use Rattle.history_core.specs.declared.history.Kind.TheVariants.{Write, Read, Re
 use Rattle.history_core.specs.Orders.{is_write}
 use Rattle.history_core.proofs.Listed.{some_and_from, some_and_of}
 use Rattle.history_core.proofs.Places.{get_before, get_last, get_pushed_cases, get_set_other, get_set_same, get_stays}
-use Rattle.history_reasons.specs.Reasons.{counts, IsOfOpening}
-use Rattle.history_reasons.specs.Searches.{AreForwards, IsOpeningWrite, IsWrittenTwice, WritesOnce}
-use Rattle.history_reasons.specs.declared.reason.SearchError.{SearchError}
-use Rattle.history_reasons.specs.declared.reason.SearchError.TheVariants.{Backwards, WritesOpening, WritesTwice}
-use Rattle.history_reasons.proofs.Atomic.{of_one, of_opening, shares}
+use Rattle.history_core.specs.Reasons.{counts, IsOfOpening}
+use Rattle.history_core.specs.Searches.{AreForwards, IsOpeningWrite, IsWrittenTwice, WritesOnce}
+use Rattle.history_core.specs.declared.reason.SearchError.{SearchError}
+use Rattle.history_core.specs.declared.reason.SearchError.TheVariants.{Backwards, WritesOpening, WritesTwice}
+use Rattle.history_core.proofs.Atomic.{of_one, of_opening, shares}
 use Rattle.history_thinning.specs.declared.group.Group.{Group}
 use Rattle.history_thinning.specs.declared.group.Placed.{Placed}
 use Rattle.history_thinning.specs.Answers.{IsThinnedFault}

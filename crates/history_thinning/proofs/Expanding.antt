@@ -10,10 +10,10 @@ use Rattle.std.proofs.lemmas.Option.{same_Some, slice_get_within, slice_get_case
 use Rattle.history_core.specs.declared.history.Op.{Op}
 use Rattle.history_core.specs.Orders.{IsAtomicOrder, is_write, is_write_at, Precedes, writes_in}
 use Rattle.history_core.proofs.Listed.{some_and_of}
-use Rattle.history_reasons.specs.Reasons.{counts, IsOfOpening, OfOneRecord}
-use Rattle.history_reasons.proofs.Atomic.{before, both_opened, IsSearched, joined, led, Leads, led_before, mate, no_stale, of_one}
-use Rattle.history_reasons.proofs.Atomic.{of_opening, opened, shares, some_from, some_of, stands, stands_once_at, turned}
-use Rattle.history_reasons.proofs.Counts.{count_up, writes_next}
+use Rattle.history_core.specs.Reasons.{counts, IsOfOpening, OfOneRecord}
+use Rattle.history_core.proofs.Atomic.{before, both_opened, IsSearched, joined, led, Leads, led_before, mate, no_stale, of_one}
+use Rattle.history_core.proofs.Atomic.{of_opening, opened, shares, some_from, some_of, stands, stands_once_at, turned}
+use Rattle.history_core.proofs.Counts.{count_up, writes_next}
 use Rattle.history_thinning.specs.Thinnings.{Equal, IsThinned}
 use Rattle.history_thinning.proofs.Reasons.{alike, kept_known, opened_ends, pair}
 use Rattle.history_thinning.proofs.Finished.{counts_finished}

@@ -9,8 +9,8 @@ use Rattle.std.proofs.lemmas.Option.{same_Some, slice_get_within, slice_get-get_
 use Rattle.history_core.specs.declared.history.Op.{Op}
 use Rattle.history_core.specs.Orders.{is_write}
 use Rattle.history_core.proofs.Places.{get_after, get_before}
-use Rattle.history_reasons.specs.Reasons.{counts}
-use Rattle.history_reasons.proofs.Atomic.{of_one, some_from}
+use Rattle.history_core.specs.Reasons.{counts}
+use Rattle.history_core.proofs.Atomic.{of_one, some_from}
 use Rattle.history_thinning.specs.declared.group.Group.{Group}
 use Rattle.history_thinning.specs.declared.group.Placed.{Placed}
 use Rattle.history_thinning.specs.Thinnings.{Equal, IsMate, IsThinned}

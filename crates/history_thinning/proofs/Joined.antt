@@ -11,8 +11,8 @@ use Rattle.history_core.specs.declared.history.Kind.TheVariants.{Write, Read, Re
 use Rattle.history_core.specs.Orders.{is_write}
 use Rattle.history_core.proofs.Listed.{some_and_from, some_and_of}
 use Rattle.history_core.proofs.Places.{get_last, get_stays}
-use Rattle.history_reasons.specs.Reasons.{counts}
-use Rattle.history_reasons.proofs.Atomic.{some_from}
+use Rattle.history_core.specs.Reasons.{counts}
+use Rattle.history_core.proofs.Atomic.{some_from}
 use Rattle.history_thinning.specs.declared.group.Group.{Group}
 use Rattle.history_thinning.specs.declared.group.Placed.{Placed}
 use Rattle.history_thinning.specs.inner.Kept.{earlier_end, end_of, first_of, IsGroup, IsPlaced, joined_group, later_begin, latest_refused}

@@ -7,11 +7,11 @@ use Rattle.std.proofs.lemmas.Option.{same_Some, slice_get_within, slice_get-get_
 use Rattle.history_core.specs.declared.history.Op.{Op}
 use Rattle.history_core.specs.Orders.{is_write, Precedes}
 use Rattle.history_core.proofs.Listed.{some_and_from, some_and_of}
-use Rattle.history_reasons.specs.Reasons.{counts, IsCrossed, IsEarly, IsOfOpening, IsReason, IsStale, IsUnwritten, OfOneRecord, rule_of}
-use Rattle.history_reasons.specs.Searches.{AreForwards, WritesOnce}
-use Rattle.history_reasons.specs.declared.reason.Reason.{Reason}
-use Rattle.history_reasons.specs.declared.reason.Reason.TheVariants.{Unwritten, Early, Stale, Crossed, Limit}
-use Rattle.history_reasons.proofs.Atomic.{IsAlike, IsSearched, joined, opened, some_from, some_of, turned}
+use Rattle.history_core.specs.Reasons.{counts, IsCrossed, IsEarly, IsOfOpening, IsReason, IsStale, IsUnwritten, OfOneRecord, rule_of}
+use Rattle.history_core.specs.Searches.{AreForwards, WritesOnce}
+use Rattle.history_core.specs.declared.reason.Reason.{Reason}
+use Rattle.history_core.specs.declared.reason.Reason.TheVariants.{Unwritten, Early, Stale, Crossed, Limit}
+use Rattle.history_core.proofs.Atomic.{IsAlike, IsSearched, joined, opened, some_from, some_of, turned}
 use Rattle.history_thinning.specs.Thinnings.{Equal, IsMate, IsThinned}
 
 pub alike : IsAlike Equal

@@ -18,9 +18,9 @@ use Rattle.history_core.specs.Orders.{IsAtomicOrder, IsVerdict, in_term, is_writ
 use Rattle.history_core.specs.Orders.{times_of, writes_in}
 use Rattle.history_core.proofs.Latest.{left_unwritten}
 use Rattle.history_core.proofs.Listing.{listing_from}
-use Rattle.history_reasons.specs.Reasons.{IsLimited, IsRefusedUpTo}
-use Rattle.history_reasons.proofs.Atomic.{IsSearched, some_from, stands, stands_once_at}
-use Rattle.history_reasons.proofs.Counts.{front_get, get_front, of_one_term, times_some}
+use Rattle.history_core.specs.Reasons.{IsLimited, IsRefusedUpTo}
+use Rattle.history_core.proofs.Atomic.{IsSearched, some_from, stands, stands_once_at}
+use Rattle.history_core.proofs.Counts.{front_get, get_front, of_one_term, times_some}
 use Rattle.history_thinning.specs.Thinnings.{Equal, IsThinned, one_term}
 use Rattle.history_thinning.proofs.Reasons.{place_of, same_index, write_kept}
 

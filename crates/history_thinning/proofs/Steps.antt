@@ -6,8 +6,8 @@ use Rattle.std.proofs.lemmas.Bool.{cases_Bool}
 use Rattle.std.proofs.lemmas.Option.{slice_get-get_or}
 use Rattle.history_core.specs.declared.history.Op.{Op}
 use Rattle.history_core.specs.declared.history.Term.{Term}
-use Rattle.history_reasons.specs.Reasons.{counts}
-use Rattle.history_reasons.specs.declared.reason.SearchError.{SearchError}
+use Rattle.history_core.specs.Reasons.{counts}
+use Rattle.history_core.specs.declared.reason.SearchError.{SearchError}
 use Rattle.history_thinning.specs.declared.group.Group.{Group}
 use Rattle.history_thinning.specs.declared.group.Placed.{Placed}
 use Rattle.history_thinning.specs.Answers.{IsThinnedFault}

@@ -19,10 +19,10 @@ use Rattle.history_core.proofs.Latest.{HasItemByNumber, NoWriteBetween, reads_by
 use Rattle.history_core.proofs.Listed.{some_and_of}
 use Rattle.history_core.proofs.Listing.{listing_from, StandsOnce, times_cases, times_once}
 use Rattle.history_core.proofs.Numbered.{keeps_by_number}
-use Rattle.history_reasons.specs.Reasons.{counts, IsOfOpening, OfOneRecord}
-use Rattle.history_reasons.proofs.Atomic.{IsSearched, joined, led, no_early, of_one, opened, shares, some_from, stands}
-use Rattle.history_reasons.proofs.Atomic.{stands_once_at, turned}
-use Rattle.history_reasons.proofs.Counts.{count_up, counted, front_get, get_front, of_one_term, times_some, writes_next}
+use Rattle.history_core.specs.Reasons.{counts, IsOfOpening, OfOneRecord}
+use Rattle.history_core.proofs.Atomic.{IsSearched, joined, led, no_early, of_one, opened, shares, some_from, stands}
+use Rattle.history_core.proofs.Atomic.{stands_once_at, turned}
+use Rattle.history_core.proofs.Counts.{count_up, counted, front_get, get_front, of_one_term, times_some, writes_next}
 use Rattle.history_thinning.specs.Answers.{IsLawfulBy}
 use Rattle.history_thinning.specs.Thinnings.{Equal, IsThinned, one_term}
 use Rattle.history_thinning.specs.inner.Mapped.{AreWritePlaces, found_or, place_in}

@@ -8,7 +8,7 @@ use Rattle.std.proofs.lemmas.Option.{get_or_from_slice_get, same_Some, slice_get
 use Rattle.history_core.specs.declared.history.Op.{Op}
 use Rattle.history_core.specs.Orders.{is_write_at, writes_in}
 use Rattle.history_core.proofs.Places.{get_last, get_stays}
-use Rattle.history_reasons.proofs.Counts.{writes_next}
+use Rattle.history_core.proofs.Counts.{writes_next}
 use Rattle.history_thinning.specs.inner.Mapped.{AreWritePlaces, place_in}
 
 module _ (ops : List (Op ℕ)) (places order : List ℕ) where

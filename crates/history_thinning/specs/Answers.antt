@@ -4,13 +4,13 @@ use Rattle.history_core.specs.declared.history.Op.{Op}
 use Rattle.history_core.specs.declared.history.Verdict.TheVariants.{Lawful as LawfulOrder}
 use Rattle.history_core.specs.Numbers.{StandsAt}
 use Rattle.history_core.specs.Orders.{is_write, IsVerdict, writes_in}
-use Rattle.history_reasons.specs.Reasons.{OfOneRecord}
-use Rattle.history_reasons.specs.Searches.{IsFault, IsUnlawful}
-use Rattle.history_reasons.specs.declared.reason.Reason.{Reason}
-use Rattle.history_reasons.specs.declared.reason.Reason.TheVariants.{Unwritten, Early, Stale, Crossed, Limit}
-use Rattle.history_reasons.specs.declared.reason.SearchError.{SearchError}
-use Rattle.history_reasons.specs.declared.thinned.LogAnswer.{LogAnswer}
-use Rattle.history_reasons.specs.declared.thinned.LogAnswer.TheVariants.{Lawful, Unlawful}
+use Rattle.history_core.specs.Reasons.{OfOneRecord}
+use Rattle.history_core.specs.Searches.{IsFault, IsUnlawful}
+use Rattle.history_core.specs.declared.reason.Reason.{Reason}
+use Rattle.history_core.specs.declared.reason.Reason.TheVariants.{Unwritten, Early, Stale, Crossed, Limit}
+use Rattle.history_core.specs.declared.reason.SearchError.{SearchError}
+use Rattle.history_core.specs.declared.thinned.LogAnswer.{LogAnswer}
+use Rattle.history_core.specs.declared.thinned.LogAnswer.TheVariants.{Lawful, Unlawful}
 use Rattle.history_thinning.specs.Thinnings.{Equal, one_term}
 
 -- an order of the whole log is lawful; its writes stand as listed, each with as many listed before it as stand before it; and answers of

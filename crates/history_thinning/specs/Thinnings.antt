@@ -5,9 +5,9 @@ use Rattle.history_core.specs.declared.history.Op.{Op}
 use Rattle.history_core.specs.declared.history.Term.{Term}
 use Rattle.history_core.specs.declared.history.Kind.TheVariants.{Refused}
 use Rattle.history_core.specs.Orders.{is_write}
-use Rattle.history_reasons.specs.Reasons.{counts, OfOneRecord}
-use Rattle.history_reasons.specs.Searches.{AreForwards, WritesOnce}
-use Rattle.history_reasons.specs.declared.thinned.Thinned.{Thinned}
+use Rattle.history_core.specs.Reasons.{counts, OfOneRecord}
+use Rattle.history_core.specs.Searches.{AreForwards, WritesOnce}
+use Rattle.history_core.specs.declared.thinned.Thinned.{Thinned}
 
 -- two records are the same where their numbers are
 abbrev pub Equal : ℕ → ℕ → Type 0

@@ -3,13 +3,12 @@
 ghost use Rattle.std.specs.Prelude.{◌≡◌, ℕ, List, length, IfOk, slice_get};
 ghost use Rattle.history_core.specs.Orders.{is_write_at};
 ghost use Rattle.history_core.specs.declared.history.Op.{Op};
-ghost use Rattle.history_reasons.specs.Searches.{IsAnswered};
+ghost use Rattle.history_core.specs.Searches.{IsAnswered};
 ghost use Rattle.history_thinning.specs.Answers.{IsThinnedAnswer, IsOfKept};
 ghost use Rattle.history_thinning.specs.Thinnings.{Equal, IsThinnedLog};
 ghost use Rattle.history_thinning.specs.inner.Mapped.{AreWritePlaces, place_in, reason_in};
 
-use history_core::{Items, Kind, Op};
-use history_reasons::{LogAnswer, Reason, Search, Thinned};
+use history_core::{Items, Kind, LogAnswer, Op, Reason, Search, Thinned};
 use std::alloc::{AllocError, Global};
 
 /// What a search of the whole log would answer, from the answer of one among the operations that are kept.

@@ -6,8 +6,7 @@ ghost use Rattle.history_thinning.specs.inner.Entering.{write_fault, write_place
 ghost use Rattle.history_thinning.specs.inner.Kept.{empty_group, joined_group};
 
 use crate::group::{Group, Placed, empty, joined};
-use history_core::{Kind, Op};
-use history_reasons::SearchError;
+use history_core::{Kind, Op, SearchError};
 use std::alloc::AllocError;
 
 /// Why an operation at this place isn't entered, if so.

@@ -2,7 +2,7 @@
 
 ghost use Rattle.std.specs.Prelude.{◌≡◌, ◌++◌, ◌∷◌, [], ℕ, List, true, length, IfErr, IfOk, IsSome, OnErr, OnOk};
 ghost use Rattle.history_core.specs.declared.history.Op.{Op};
-ghost use Rattle.history_reasons.specs.Reasons.{counts};
+ghost use Rattle.history_core.specs.Reasons.{counts};
 ghost use Rattle.history_thinning.specs.Answers.{IsThinnedFault};
 ghost use Rattle.history_thinning.specs.Thinnings.{IsThinnedLog};
 ghost use Rattle.history_thinning.specs.inner.Kept.{IsThinning};
@@ -10,8 +10,7 @@ ghost use Rattle.history_thinning.specs.inner.Kept.{IsThinning};
 use crate::enter::{counted_number, entry_fault, join, make_room};
 use crate::gather::{apart, emptied};
 use crate::group::{Group, Placed};
-use history_core::{History, Items, Op, Term};
-use history_reasons::{SearchError, Thinned};
+use history_core::{History, Items, Op, SearchError, Term, Thinned};
 use std::alloc::{AllocError, Global};
 
 /// A log of which at most four operations of each record are kept. Its memory grows with the greatest number of a record.

@@ -9,7 +9,8 @@ ghost use Rattle.std.specs.Prelude.{IfSome, IsSomeAnd, IsTrue};
 ghost use Rattle.history_witnesses.specs.Breaks.{IsFirstBreak, IsListingBreak, verdict_of};
 ghost use Rattle.history_core.specs.Orders.{IsListing, IsVerdict};
 
-use history_core::{History, Op, Term, Verdict, check_order};
+use history_check::check_order;
+use history_core::{History, Op, Term, Verdict};
 use listing::{miscounted, no_place};
 use precedence::overtaken;
 use reading::reading_break;

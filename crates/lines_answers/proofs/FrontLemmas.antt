@@ -2,9 +2,9 @@
 use Rattle.std.proofs.Common.{rules, tests, ◌≡◌, ℕ, ◌<◌, ◌≤◌, List, [], ◌∷◌, ◌++◌, ◌⊎◌, inl, inr, length, refl, ap, sym, ◌∙◌, arith, Bool}
 use Rattle.std.proofs.Common.{true, false, length-append}
 use Rattle.std.specs.Prelude.{◌==◌, ◌&&◌, nat_le}
-use Rattle.history_text.specs.Document.{value_of}
-use Rattle.history_text.specs.Splits.{in_front, lines_of}
-use Rattle.history_text.specs.Kinds.{are_lines, begin_so, is_header, max_header, says_lines}
+use Rattle.document_text.specs.Document.{value_of}
+use Rattle.document_text.specs.Splits.{in_front, lines_of}
+use Rattle.document_text.specs.Kinds.{are_lines, begin_so, is_header, max_header, says_lines}
 
 -- a front and what more comes have one first line, or the front is a part of the first line
 abbrev Begins : List ℕ → List ℕ → Type 0

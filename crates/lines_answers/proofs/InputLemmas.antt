@@ -6,7 +6,7 @@ use Rattle.std.specs.declared.alloc.Global.{Global}
 use Rattle.std.specs.Io.KnownBytes.{Consumes}
 use Rattle.fsr_streams.specs.Transfer.{most_taken}
 use Rattle.fsr_runs.specs.Run.{IsWholeInput, never, TakesInBound, TakesDocument}
-use Rattle.history_text.specs.Kinds.{are_lines, max_header}
+use Rattle.document_text.specs.Kinds.{are_lines, max_header}
 use Rattle.lines_answers.proofs.FrontLemmas.{front_decides}
 use Rattle.lines_answers.specs.inner.Inputs.{IsLeft, IsLong, TakesBehind}
 

@@ -1,4 +1,5 @@
 mod CountLemmas
 pub mod FrontLemmas
 mod InputLemmas
+mod LimitLemmas
 pub mod StatusLemmas

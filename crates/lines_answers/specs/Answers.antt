@@ -5,28 +5,27 @@ use Rattle.fsr_runs.specs.declared.fault.Fault.{Fault}
 use Rattle.fsr_runs.specs.declared.fault.Fault.TheVariants.{Document}
 use Rattle.fsr_refusals.specs.declared.refusal.DocError.TheVariants.{Kind}
 use Rattle.history_core.specs.declared.history.Op.{Op}
-use Rattle.history_text.specs.Kinds.{are_lines}
+use Rattle.document_text.specs.Kinds.{are_lines}
 use Rattle.history_thinning.specs.Answers.{IsThinnedAnswer, IsOfKept}
-use Rattle.history_reasons.specs.declared.thinned.LogAnswer.{LogAnswer}
-use Rattle.history_reasons.specs.declared.thinned.LogAnswer.TheVariants.{Lawful, Unlawful}
+use Rattle.history_core.specs.declared.thinned.LogAnswer.{LogAnswer}
+use Rattle.history_core.specs.declared.thinned.LogAnswer.TheVariants.{Lawful, Unlawful}
 use Rattle.lines_log.specs.Faults.{IsLinesFault}
 use Rattle.lines_log.specs.Logs.{IsLinesLog}
 use Rattle.lines_log.specs.declared.lines_log.LinesLog.{LinesLog}
-use Rattle.fsr_runs.specs.declared.show.Show.{Show}
-use Rattle.thinned_search.specs.Limits.{IsCounted}
-use Rattle.lines_answers.specs.Text.{shown_text}
+use Rattle.lines_answers.specs.Limits.{IsCounted}
+use Rattle.lines_answers.specs.Text.{lines_text}
 
 abbrev pub status_of : LogAnswer → ℕ
 status_of (Lawful writes) = 0
 status_of (Unlawful reason) = 1
 
 -- the text of what was found, with its status
-abbrev pub printed : Show → List ℕ → LinesLog → ℕ → LogAnswer → Answer
-printed show bytes read most found = record { text = shown_text show bytes read most found; status = status_of found }
+abbrev pub printed : Bool → List ℕ → LinesLog → ℕ → LogAnswer → Answer
+printed order bytes read most found = record { text = lines_text order bytes read most found; status = status_of found }
 
 -- what was found of the whole log that the bytes stand for: a lawful order of it, or that there is none, with a reason, whose operations
 -- are kept; and of a log that is unlawful by its limit how many writes can stand before the first refused write
-pub record Found (show : Show) (bytes : List ℕ) (answer : Answer) : Type 0 where
+pub record Found (order : Bool) (bytes : List ℕ) (answer : Answer) : Type 0 where
   pub log : List (Op ℕ)
   pub read : LinesLog
   pub found : LogAnswer
@@ -35,18 +34,18 @@ pub record Found (show : Show) (bytes : List ℕ) (answer : Answer) : Type 0 whe
   pub named : IsOfKept read.thinned.places found
   pub most : ℕ
   pub counted : IsCounted (unwrap_or is.head.limit 1) log found most
-  pub told : answer ≡ printed show bytes read most found
+  pub told : answer ≡ printed order bytes read most found
 
--- the answer to the bytes of a log in lines
-abbrev pub IsLinesAnswer : Show → List ℕ → Result Answer Fault → Type 0
-IsLinesAnswer show bytes (Ok answer) = Found show bytes answer
-IsLinesAnswer show bytes (Err f) = IsLinesFault bytes f
+-- the answer to the bytes of a log in lines, with the writes in order if that is asked for
+abbrev pub IsLinesAnswer : Bool → List ℕ → Result Answer Fault → Type 0
+IsLinesAnswer order bytes (Ok answer) = Found order bytes answer
+IsLinesAnswer order bytes (Err f) = IsLinesFault bytes f
 
 -- the answer by the kind: whether the document is a log in lines. If it isn't, the kind is refused
-abbrev pub IsAnswerIfLines : Show → Bool → List ℕ → Result Answer Fault → Type 0
-IsAnswerIfLines show true bytes reply = IsLinesAnswer show bytes reply
-IsAnswerIfLines show false bytes reply = reply ≡ Err (Document Kind)
+abbrev pub IsAnswerIfLines : Bool → Bool → List ℕ → Result Answer Fault → Type 0
+IsAnswerIfLines order true bytes reply = IsLinesAnswer order bytes reply
+IsAnswerIfLines order false bytes reply = reply ≡ Err (Document Kind)
 
 -- the answer of the program that answers logs in lines alone
-abbrev pub IsAnswerInLines : Show → List ℕ → Result Answer Fault → Type 0
-IsAnswerInLines show bytes reply = IsAnswerIfLines show (are_lines bytes) bytes reply
+abbrev pub IsAnswerInLines : Bool → List ℕ → Result Answer Fault → Type 0
+IsAnswerInLines order bytes reply = IsAnswerIfLines order (are_lines bytes) bytes reply

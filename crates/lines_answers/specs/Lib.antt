@@ -1,4 +1,5 @@
 pub mod Answers
+pub mod Limits
 pub mod Text
 pub mod Words
 pub mod inner

@@ -1,11 +1,9 @@
 -- All that is printed of a log in lines (this project's own).
-use Rattle.std.specs.Prelude.{ℕ, ◌++◌, List, codes, Bool, true, false, if◌then◌else◌}
+use Rattle.std.specs.Prelude.{ℕ, ◌++◌, List, codes, Bool, true, false}
 use Rattle.std.specs.Fmt.{decimal}
-use Rattle.history_reasons.specs.declared.thinned.LogAnswer.{LogAnswer}
+use Rattle.history_core.specs.declared.thinned.LogAnswer.{LogAnswer}
 use Rattle.lines_log.specs.declared.lines_log.LinesLog.{LinesLog}
-use Rattle.lines_reasons.specs.Small.{small_text}
 use Rattle.lines_reasons.specs.Text.{verdict_text}
-use Rattle.fsr_runs.specs.declared.show.Show.{Show}
 
 abbrev pub count_text : ℕ → List ℕ → List ℕ
 count_text number words = decimal number ++ words
@@ -22,12 +20,7 @@ counts_text log =
     count_text log.ops (codes " operations, ") ++ count_text log.unfinished (codes " unfinished, ")
     ++ count_text log.records (codes " records, ") ++ count_text log.read (codes " of them read") ++ end_text log.ended
 
--- the answer
+-- the answer, with the writes in order if that is asked for
 abbrev pub lines_text : Bool → List ℕ → LinesLog → ℕ → LogAnswer → List ℕ
 lines_text order bytes log most found =
     verdict_text order bytes log.thinned most found ++ counts_text log
-
--- all that is printed: the answer, or where a small log is asked for that alone
-abbrev pub shown_text : Show → List ℕ → LinesLog → ℕ → LogAnswer → List ℕ
-shown_text show bytes log most found =
-    if show.small then small_text log.thinned found else lines_text show.order bytes log most found

@@ -1,16 +1,13 @@
 -- What the words of the program that answers logs in lines alone ask for (this project's own).
-use Rattle.std.specs.Prelude.{ℕ, List, [], ◌∷◌, codes, true, false, Option, Some, None, if◌then◌else◌}
+use Rattle.std.specs.Prelude.{ℕ, List, [], ◌∷◌, codes, Bool, true, false, Option, Some, None, if◌then◌else◌}
 use Rattle.std.specs.Str.{bytes_eq}
-use Rattle.fsr_runs.specs.declared.show.Show.{Show}
 
--- a word asks for the order of the writes, or for a small log
-abbrev pub show_named : List ℕ → Option Show
-show_named word = if bytes_eq word (codes "--order") then Some (record { order = true; small = false })
-    else (if bytes_eq word (codes "--small") then Some (record { order = false; small = true })
-    else None)
+-- a word asks for the writes in order
+abbrev pub order_named : List ℕ → Option Bool
+order_named word = if bytes_eq word (codes "--order") then Some true else None
 
 -- behind the program's name stands no word, or one that asks for something
-abbrev pub show_of : List (List ℕ) → Option Show
-show_of (name ∷ []) = Some (record { order = false; small = false })
-show_of (name ∷ word ∷ []) = show_named word
-show_of words = None
+abbrev pub order_of : List (List ℕ) → Option Bool
+order_of (name ∷ []) = Some false
+order_of (name ∷ word ∷ []) = order_named word
+order_of words = None

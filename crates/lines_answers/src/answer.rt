@@ -4,43 +4,49 @@ ghost use Rattle.history_core.specs.declared.history.Op.{Op};
 ghost use Rattle.history_thinning.specs.Answers.{IsThinnedAnswer, IsOfKept};
 ghost use Rattle.history_thinning.specs.Thinnings.{IsThinnedLog};
 ghost use Rattle.lines_answers.specs.Answers.{IsLinesAnswer, printed, status_of};
-ghost use Rattle.thinned_search.specs.Limits.{IsCounted};
+ghost use Rattle.lines_answers.specs.Limits.{IsCounted};
 
-use crate::text::shown_text;
-use fsr_runs::{Answer, Fault, Show};
-use history_core::Items;
-use history_reasons::LogAnswer;
+use crate::limit::counted;
+use crate::search::search_thinned;
+use crate::text::lines_text;
+use fsr_runs::{Answer, Fault};
+use history_core::{Items, LogAnswer};
 use lines_log::{LinesLog, read_lines};
 use std::alloc::{AllocError, Global};
-use thinned_search::{counted, search_thinned};
 
-/// The answer of the command `order` to the bytes of a log in lines.
-pub fn order_lines(alloc: Global, show: Show, bytes: &[u8]) -> Result<Answer, Fault>
-    ensures gives { GivesReply (IsLinesAnswer show bytes.now) result }
+/// The answer of the command `order` to the bytes of a log in lines, with the writes in order if that is asked for.
+pub fn order_lines(alloc: Global, order: bool, bytes: &[u8]) -> Result<Answer, Fault>
+    ensures gives { GivesReply (IsLinesAnswer order bytes.now) result }
     ensures low { HasLowStatus result }
 {
     let log = match read_lines(alloc, bytes) {
         Ok(log) => log,
         Err(fault) => return Err(fault),
     };
-    match answer_log(alloc, show, bytes, &log) {
+    match answer_log(alloc, order, bytes, &log) {
         Ok(answer) => Ok(answer),
         Err(_) => Err(Fault::NoMemory),
     }
 }
 
 /// What a search finds, printed.
-fn answer_log(alloc: Global, show: Show, bytes: &[u8], log: &LinesLog) -> Result<Answer, AllocError>
+fn answer_log(
+    alloc: Global,
+    order: bool,
+    bytes: &[u8],
+    log: &LinesLog,
+) -> Result<Answer, AllocError>
     ensures { IfOk result (λ answer. (limit : ℕ) (ops : List (Op ℕ)) → IsThinnedLog limit ops log.now.thinned →
         (found : LogAnswer) × (most : ℕ) × IsThinnedAnswer limit ops found × IsOfKept log.now.thinned.places found ×
-        IsCounted limit ops found most × (answer ≡ printed show bytes.now log.now most found)) }
+        IsCounted limit ops found most × (answer ≡ printed order bytes.now log.now most found)) }
 {
-    let found = search(alloc, log)?;
+    let found = search_log(alloc, log)?;
     let most = counted(alloc, &log.thinned, &found)?;
-    print(alloc, show, bytes, log, most, &found)
+    print(alloc, order, bytes, log, most, &found)
 }
 
-fn search(alloc: Global, log: &LinesLog) -> Result<LogAnswer, AllocError>
+/// What one of its orders is, or the reason why there is none.
+pub fn search_log(alloc: Global, log: &LinesLog) -> Result<LogAnswer, AllocError>
     ensures { IfOk result (λ found. (limit : ℕ) (ops : List (Op ℕ)) → IsThinnedLog limit ops log.now.thinned →
         IsThinnedAnswer limit ops found × IsOfKept log.now.thinned.places found) }
 {
@@ -53,15 +59,15 @@ fn search(alloc: Global, log: &LinesLog) -> Result<LogAnswer, AllocError>
 /// The lines of what was found, with its status.
 fn print(
     alloc: Global,
-    show: Show,
+    order: bool,
     bytes: &[u8],
     log: &LinesLog,
     most: u64,
     found: &LogAnswer,
 ) -> Result<Answer, AllocError>
-    ensures { IfOk result (λ answer. answer ≡ printed show bytes.now log.now most found.now) }
+    ensures { IfOk result (λ answer. answer ≡ printed order bytes.now log.now most found.now) }
 {
-    let text = shown_text(alloc, show, bytes, log, most, found)?;
+    let text = lines_text(alloc, order, bytes, log, most, found)?;
     let status = status_of(found);
     Ok(Answer {
         text: Items::new(text),
@@ -69,7 +75,8 @@ fn print(
     })
 }
 
-fn status_of(found: &LogAnswer) -> u8
+/// The status of a run that found this.
+pub fn status_of(found: &LogAnswer) -> u8
     ensures { result ≡ status_of found.now }
 {
     match found {

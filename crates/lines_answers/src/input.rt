@@ -1,12 +1,12 @@
 //! The input of the command `order`.
 ghost use Rattle.fsr_runs.specs.Run.{CountsTaking, TakesDocument, TellsUnlessTaken};
-ghost use Rattle.history_text.specs.Kinds.{are_lines};
+ghost use Rattle.document_text.specs.Kinds.{are_lines};
 ghost use Rattle.lines_answers.specs.inner.Inputs.{TakesBehind};
 ghost use Rattle.fsr_streams.specs.Stream.{HasRoom};
 
+use document_text::are_lines;
 use fsr_runs::{FSR, take_document, take_rest};
 use fsr_streams::{Sink, Source, tell};
-use history_text::are_lines;
 use std::alloc::Global;
 
 /// The greatest number of bytes of a document that isn't in lines.

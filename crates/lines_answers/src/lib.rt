@@ -4,11 +4,13 @@
 mod answer;
 mod input;
 pub mod laws;
+mod limit;
 mod program;
+mod search;
 mod text;
 mod words;
 
-pub use answer::order_lines;
+pub use answer::{order_lines, search_log, status_of};
 pub use input::take_log;
 pub use program::run;
-pub use words::show_of;
+pub use words::order_of;

@@ -1,35 +1,16 @@
 //! All that is printed of a log in lines.
 ghost use Rattle.std.specs.Prelude.{◌≡◌, ◌++◌, IfOk, OnOk};
 ghost use Rattle.std.specs.Fmt.{decimal};
-ghost use Rattle.lines_answers.specs.Text.{count_text, counts_text, end_text, lines_text, shown_text};
+ghost use Rattle.lines_answers.specs.Text.{count_text, counts_text, end_text, lines_text};
 
-use fsr_runs::Show;
-use history_reasons::LogAnswer;
+use history_core::LogAnswer;
 use itoa::Buffer;
 use lines_log::LinesLog;
-use lines_reasons::{small_text, verdict_text};
+use lines_reasons::verdict_text;
 use std::alloc::{AllocError, Global};
 
-/// All that is printed of what was found.
-pub(crate) fn shown_text(
-    alloc: Global,
-    show: Show,
-    bytes: &[u8],
-    log: &LinesLog,
-    most: u64,
-    found: &LogAnswer,
-) -> Result<Vec<u8>, AllocError>
-    ensures { IfOk result (λ text. text.items ≡ shown_text show bytes.now log.now most found.now) }
-{
-    if show.small {
-        small_text(alloc, &log.thinned, found)
-    } else {
-        lines_text(alloc, show.order, bytes, log, most, found)
-    }
-}
-
-/// The answer.
-fn lines_text(
+/// The verdict, with the writes in order if that is asked for, and the counts.
+pub(crate) fn lines_text(
     alloc: Global,
     order: bool,
     bytes: &[u8],

@@ -7,9 +7,9 @@ use Rattle.fsr_refusals.specs.declared.refusal.DocError.{DocError}
 use Rattle.fsr_refusals.specs.declared.refusal.DocError.TheVariants.{Missing}
 use Rattle.fsr_refusals.specs.declared.key.Key.TheVariants as key
 use Rattle.history_core.specs.declared.history.Op.{Op}
-use Rattle.history_text.specs.Refusals.{◌>>=◌}
+use Rattle.document_text.specs.Refusals.{◌>>=◌}
 use Rattle.fsr_runs.specs.declared.fault.Fault.{Fault}
-use Rattle.history_text.specs.Splits.{in_front, IsSplit, lines_of}
+use Rattle.document_text.specs.Splits.{in_front, IsSplit, lines_of}
 use Rattle.lines_text.specs.Lines.{done, LineEntry, entry_of, Head, head_of, operation}
 use Rattle.lines_log.specs.Faults.{IsBodyFault, is_last, IsLineFault}
 use Rattle.lines_log.specs.Logs.{AreAll, AreLines, IsLinesLog, is_refused, judged, judged_line}

@@ -5,7 +5,7 @@ use Rattle.std.specs.Str.{IsTrimAsciiEnd}
 use Rattle.fsr_refusals.specs.declared.refusal.DocError.{DocError}
 use Rattle.fsr_refusals.specs.declared.refusal.DocError.TheVariants.{Kind, Law, Long, Missing, NoMemory, NotJson, Range, Shape}
 use Rattle.fsr_runs.specs.declared.fault.Fault.{Fault}
-use Rattle.history_text.specs.Splits.{IsSplit, lines_of}
+use Rattle.document_text.specs.Splits.{IsSplit, lines_of}
 use Rattle.lines_text.specs.Lines.{Head, head_of}
 use Rattle.lines_log.specs.Faults.{IsBodyFault, IsLinesFault, refused_at}
 

@@ -8,11 +8,11 @@ use Rattle.std.proofs.lemmas.Option.{same_Some, slice_get_within}
 use Rattle.history_core.specs.declared.history.Kind.{Kind}
 use Rattle.history_core.specs.declared.history.Kind.TheVariants.{Write, Read, Refused}
 use Rattle.history_core.specs.Orders.{is_write}
-use Rattle.history_reasons.specs.Reasons.{counts}
+use Rattle.history_core.specs.Reasons.{counts}
 use Rattle.history_thinning.specs.inner.Kept.{IsThinning}
 use Rattle.fsr_runs.specs.declared.fault.Fault.{Fault}
 use Rattle.fsr_runs.specs.declared.fault.Fault.TheVariants.{NoMemory}
-use Rattle.history_reasons.specs.declared.reason.SearchError.{SearchError}
+use Rattle.history_core.specs.declared.reason.SearchError.{SearchError}
 use Rattle.history_thinning.specs.Answers.{IsThinnedFault}
 use Rattle.history_core.proofs.Places.{get_pushed_cases}
 use Rattle.history_core.specs.declared.history.Op.{Op}

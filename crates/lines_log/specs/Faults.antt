@@ -2,9 +2,9 @@
 use Rattle.std.specs.Prelude.{◌≡◌, ℕ, ◌+◌, ◌⊎◌, true, false, List, [], ◌∷◌, ◌++◌, length, Bool, is_some, slice_get, Some, Ok, Err}
 use Rattle.std.specs.Str.{IsTrimAsciiEnd}
 use Rattle.history_core.specs.declared.history.Op.{Op}
-use Rattle.history_reasons.specs.Searches.{WritesOnce}
-use Rattle.history_reasons.specs.declared.reason.SearchError.{SearchError}
-use Rattle.history_reasons.specs.declared.reason.SearchError.TheVariants as search_error
+use Rattle.history_core.specs.Searches.{WritesOnce}
+use Rattle.history_core.specs.declared.reason.SearchError.{SearchError}
+use Rattle.history_core.specs.declared.reason.SearchError.TheVariants as search_error
 use Rattle.history_thinning.specs.Answers.{IsThinnedFault}
 use Rattle.history_thinning.specs.Thinnings.{Equal}
 use Rattle.fsr_refusals.specs.declared.refusal.DocError.{DocError}
@@ -14,7 +14,7 @@ use Rattle.fsr_runs.specs.declared.fault.Fault.{Fault}
 use Rattle.fsr_runs.specs.declared.fault.Fault.TheVariants as fault
 use Rattle.fsr_runs.specs.declared.fault.LinesFault.TheVariants.{Refused, Backwards, Overlaps, WritesOpening, WritesTwice}
 use Rattle.lines_tables.specs.Numberings.{AreDistinct}
-use Rattle.history_text.specs.Splits.{lines_of}
+use Rattle.document_text.specs.Splits.{lines_of}
 use Rattle.lines_tables.specs.Places.{line_at}
 use Rattle.lines_tables.specs.Tasks.{Overlap, TakeTurns}
 use Rattle.lines_text.specs.Lines.{Head, head_of}

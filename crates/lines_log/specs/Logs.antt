@@ -9,12 +9,12 @@ use Rattle.history_core.specs.declared.history.Op.{Op}
 use Rattle.fsr_refusals.specs.declared.refusal.DocError.{DocError}
 use Rattle.fsr_refusals.specs.declared.refusal.DocError.TheVariants.{Law, Missing, Shape}
 use Rattle.fsr_refusals.specs.declared.key.Key.TheVariants as key
-use Rattle.history_text.specs.Refusals.{◌>>=◌}
+use Rattle.document_text.specs.Refusals.{◌>>=◌}
 use Rattle.history_thinning.specs.Thinnings.{IsThinnedLog}
 use Rattle.lines_log.specs.declared.lines_log.LinesLog.{LinesLog}
 use Rattle.lines_tables.specs.Numberings.{AreDistinct}
 use Rattle.lines_tables.specs.Reads.{WereRead}
-use Rattle.history_text.specs.Splits.{lines_of}
+use Rattle.document_text.specs.Splits.{lines_of}
 use Rattle.lines_tables.specs.Tasks.{TakeTurns}
 use Rattle.lines_text.specs.Lines.{LineEntry, operation, done, entry_of, Head, head_of}
 

@@ -3,9 +3,9 @@ ghost use Rattle.std.specs.Prelude.{◌≡◌, ◌⊎◌, IfOk};
 ghost use Rattle.fsr_runs.specs.declared.fault.Fault.TheVariants.{NoMemory};
 ghost use Rattle.lines_log.specs.Faults.{refused_at, told_of};
 
+use document_text::{DocError, Key};
 use fsr_runs::{Fault, LinesFault};
-use history_reasons::SearchError;
-use history_text::{DocError, Key};
+use history_core::SearchError;
 use lines_tables::line_of;
 use std::alloc::AllocError;
 

@@ -1,11 +1,11 @@
 //! One line behind the header.
 ghost use Rattle.std.specs.Prelude.{true, IfOk, IfSome, option_map};
-ghost use Rattle.history_text.specs.Refusals.{Gives};
+ghost use Rattle.document_text.specs.Refusals.{Gives};
 ghost use Rattle.lines_log.specs.Logs.{judged, judged_line};
 ghost use Rattle.lines_text.specs.Lines.{done, IsAllowed, operation, op_seen};
 
+use document_text::{DocError, Key};
 use history_core::Kind;
-use history_text::{DocError, Key};
 use lines_text::{LineOp, LogLine, read_line};
 use std::alloc::Global;
 

@@ -1,4 +1,4 @@
-use history_reasons::Thinned;
+use history_core::Thinned;
 
 /// What is kept of the log that lines stand for. The operation at place p of the log stands on line p + 2.
 #[derive(Drop)]

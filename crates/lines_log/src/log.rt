@@ -5,13 +5,13 @@ ghost use Rattle.lines_log.specs.Faults.{IsBodyFault, IsLinesFault};
 ghost use Rattle.lines_log.specs.Logs.{IsLinesLog};
 ghost use Rattle.lines_log.specs.inner.Readings.{is_end, IsFinished, AreRead, IsReadWhole};
 ghost use Rattle.lines_tables.specs.Numberings.{IsNumbering};
-ghost use Rattle.history_text.specs.Splits.{lines_of};
+ghost use Rattle.document_text.specs.Splits.{lines_of};
 
 use crate::faults::refused_at;
 use crate::lines_log::LinesLog;
 use crate::reader::Reader;
+use document_text::{DocError, split_line};
 use fsr_runs::Fault;
-use history_text::{DocError, split_line};
 use lines_tables::Numbering;
 use lines_text::read_header;
 use std::alloc::{AllocError, Global};

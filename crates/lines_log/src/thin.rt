@@ -1,7 +1,7 @@
 //! How operations are kept.
 ghost use Rattle.std.specs.Prelude.{◌≡◌, ◌+◌, ◌<◌, ◌^◌, ◌++◌, ◌∷◌, [], ℕ, List, true, length, if◌then◌else◌, is_none, IfErr, IsSome, OnOk};
 ghost use Rattle.history_core.specs.declared.history.Op.{Op};
-ghost use Rattle.history_reasons.specs.Reasons.{counts};
+ghost use Rattle.history_core.specs.Reasons.{counts};
 ghost use Rattle.history_thinning.specs.inner.Kept.{IsThinning};
 ghost use Rattle.lines_log.specs.inner.Readings.{IsEntryFault};
 

@@ -1,2 +1,2 @@
-mod CountLemmas
+pub mod CountLemmas
 mod PlaceLemmas

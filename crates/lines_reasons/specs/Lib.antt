@@ -1,5 +1,4 @@
 pub mod KeptAt
 pub mod Named
 pub mod Sentences
-pub mod Small
 pub mod Text

@@ -3,10 +3,10 @@ use Rattle.std.specs.Prelude.{ℕ, ◌++◌, List, codes, slice_get, unwrap_or, 
 use Rattle.std.specs.Option.{option_and_then, option_map_or}
 use Rattle.std.specs.Fmt.{decimal}
 use Rattle.history_core.specs.declared.history.Op.{Op}
-use Rattle.history_reasons.specs.declared.reason.Reason.{Reason}
-use Rattle.history_reasons.specs.declared.reason.Reason.TheVariants.{Unwritten, Early, Stale, Crossed, Limit}
-use Rattle.history_reasons.specs.Kept.{limit_of}
-use Rattle.history_reasons.specs.declared.thinned.Thinned.{Thinned}
+use Rattle.history_core.specs.declared.reason.Reason.{Reason}
+use Rattle.history_core.specs.declared.reason.Reason.TheVariants.{Unwritten, Early, Stale, Crossed, Limit}
+use Rattle.history_core.specs.Kept.{limit_of}
+use Rattle.history_core.specs.declared.thinned.Thinned.{Thinned}
 use Rattle.lines_tables.specs.Places.{line_at}
 use Rattle.lines_reasons.specs.KeptAt.{kept_at}
 

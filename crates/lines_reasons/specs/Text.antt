@@ -3,13 +3,13 @@ use Rattle.std.specs.Prelude.{ℕ, ◌+◌, ◌++◌, ◌&&◌, List, [], ◌∷
 use Rattle.std.specs.Fmt.{decimal}
 use Rattle.std.specs.List.{flat_map}
 use Rattle.history_core.specs.declared.history.Op.{Op}
-use Rattle.history_reasons.specs.declared.reason.Reason.{Reason}
-use Rattle.history_reasons.specs.declared.reason.Reason.TheVariants.{Unwritten, Early, Stale, Crossed, Limit}
-use Rattle.history_reasons.specs.declared.thinned.LogAnswer.{LogAnswer}
-use Rattle.history_reasons.specs.declared.thinned.LogAnswer.TheVariants.{Lawful, Unlawful as NoOrder}
-use Rattle.history_reasons.specs.declared.thinned.Thinned.{Thinned}
+use Rattle.history_core.specs.declared.reason.Reason.{Reason}
+use Rattle.history_core.specs.declared.reason.Reason.TheVariants.{Unwritten, Early, Stale, Crossed, Limit}
+use Rattle.history_core.specs.declared.thinned.LogAnswer.{LogAnswer}
+use Rattle.history_core.specs.declared.thinned.LogAnswer.TheVariants.{Lawful, Unlawful as NoOrder}
+use Rattle.history_core.specs.declared.thinned.Thinned.{Thinned}
 use Rattle.search_text.specs.Text.{reason_text}
-use Rattle.history_text.specs.Splits.{lines_of}
+use Rattle.document_text.specs.Splits.{lines_of}
 use Rattle.lines_tables.specs.Places.{line_at}
 use Rattle.lines_reasons.specs.Named.{in_kept, is_item, is_named, places_of}
 use Rattle.lines_reasons.specs.Sentences.{number_text, sentence_text}

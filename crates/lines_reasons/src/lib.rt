@@ -1,10 +1,10 @@
-//! The verdict on a log in lines, as it is printed: a reason by lines, the lines that it names and a sentence, or a small log.
+//! The verdict on a log in lines, as it is printed: a reason by lines, the lines that it names and a sentence.
 #![tactic(auto)]
 
 mod named;
 mod sentence;
-mod small;
 mod text;
 
-pub use small::small_text;
+pub use named::{in_kept, is_named, places_of};
+pub use sentence::{push_u64, push_words};
 pub use text::verdict_text;

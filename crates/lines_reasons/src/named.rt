@@ -5,12 +5,11 @@ ghost use Rattle.lines_reasons.specs.KeptAt.{kept_at};
 ghost use Rattle.lines_reasons.specs.Named.{in_kept, is_item, is_named, places_of, same_item, writes_one_of};
 ghost use Rattle.lines_reasons.specs.Text.{is_named_next, is_next, next_of};
 
-use history_core::{Kind, Op};
-use history_reasons::Reason;
+use history_core::{Kind, Op, Reason};
 use std::alloc::{AllocError, Global};
 
 /// A reason by the kept operations, which are at these places of the log.
-pub(crate) fn in_kept(places: &[usize], reason: Reason) -> Reason
+pub fn in_kept(places: &[usize], reason: Reason) -> Reason
     ensures { result ≡ in_kept places.now reason }
 {
     match reason {
@@ -38,7 +37,7 @@ pub(crate) fn in_kept(places: &[usize], reason: Reason) -> Reason
 }
 
 /// The places that a reason names.
-pub(crate) fn places_of(alloc: Global, reason: Reason) -> Result<Vec<usize>, AllocError>
+pub fn places_of(alloc: Global, reason: Reason) -> Result<Vec<usize>, AllocError>
     ensures { IfOk result (λ places. places.items ≡ places_of reason) }
 {
     match reason {
@@ -97,7 +96,7 @@ pub(crate) fn next_of(places: &[usize], next: usize, place: usize) -> usize
 }
 
 /// Whether a kept operation is one of these, or the write of the record of one.
-pub(crate) fn is_named(ops: &[Op<usize>], places: &[usize], place: usize) -> bool
+pub fn is_named(ops: &[Op<usize>], places: &[usize], place: usize) -> bool
     ensures { result ≡ is_named ops.now places.now place }
 {
     is_one_of(places, place) || writes_one_of(ops, places, ops.get(place).copied())

@@ -5,8 +5,7 @@ ghost use Rattle.lines_reasons.specs.Sentences.{sentence_text, stale_text, unwri
 ghost use Rattle.lines_tables.specs.Places.{line_at};
 
 use crate::named::kept_at;
-use history_core::Op;
-use history_reasons::{Reason, Thinned};
+use history_core::{Op, Reason, Thinned};
 use itoa::Buffer;
 use lines_tables::line_of;
 use std::alloc::AllocError;
@@ -116,7 +115,8 @@ fn push_apart(text: &mut Vec<u8>, thinned: &Thinned, a: usize, b: usize) -> Resu
     push_u64(text, " began at ", begin_at(thinned, b))
 }
 
-pub(crate) fn push_words(text: &mut Vec<u8>, words: &str) -> Result<(), AllocError>
+/// Adds words.
+pub fn push_words(text: &mut Vec<u8>, words: &str) -> Result<(), AllocError>
     ensures { OnOk result (text.new.items ≡ text.old.items ++ words.now) }
 {
     text.extend_from_slice(words.as_bytes())
@@ -129,8 +129,9 @@ pub(crate) fn push_line_of(text: &mut Vec<u8>, words: &str, place: usize) -> Res
     push_u64(text, words, line as u64)
 }
 
+/// Adds words and a number behind them.
 #[tactic(auto, using(std::proofs::Common::append_assoc))]
-pub(crate) fn push_u64(text: &mut Vec<u8>, words: &str, number: u64) -> Result<(), AllocError>
+pub fn push_u64(text: &mut Vec<u8>, words: &str, number: u64) -> Result<(), AllocError>
     ensures { OnOk result (text.new.items ≡ text.old.items ++ number_text words.now number) }
 {
     let mut buffer = Buffer::new();

@@ -3,15 +3,14 @@ ghost use Rattle.std.specs.Prelude.{◌≡◌, ◌++◌, IfOk, OnOk};
 ghost use Rattle.lines_reasons.specs.Sentences.{number_text};
 ghost use Rattle.lines_reasons.specs.Text.{body_of, in_lines, lawful_text, line_text, named_text, unlawful_text, verdict_text, write_lines};
 ghost use Rattle.lines_reasons.specs.Text.{writes_text};
-ghost use Rattle.history_text.specs.Splits.{lines_of};
+ghost use Rattle.document_text.specs.Splits.{lines_of};
 ghost use Rattle.lines_tables.specs.Places.{line_at};
 ghost use Rattle.search_text.specs.Text.{reason_text};
 
 use crate::named::{in_kept, is_named_next, next_of, places_of};
 use crate::sentence::{push_line_of, push_sentence};
-use history_core::Op;
-use history_reasons::{LogAnswer, Reason, Search, Thinned};
-use history_text::split_line;
+use document_text::split_line;
+use history_core::{LogAnswer, Op, Reason, Search, Thinned};
 use itoa::Buffer;
 use lines_tables::line_of;
 use search_text::search_text;

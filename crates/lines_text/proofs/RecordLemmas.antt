@@ -5,7 +5,7 @@ use Rattle.std.specs.List.{list_all}
 use Rattle.serde_json.specs.Data.{Num, unsigned, negative, float, Data, null, boolean, number, string, array, object, Items, no_items, item}
 use Rattle.serde_json.specs.Find.{as_str}
 use Rattle.serde_json.specs.Written.{has_float, items_have_float}
-use Rattle.history_text.specs.Shapes.{as_items, as_whole, list_of}
+use Rattle.document_text.specs.Values.{as_items, as_whole, list_of}
 use Rattle.lines_text.specs.Records.{are_numbers, is_whole}
 
 pub text_has_no_float : (d : Data) → is_some (as_str d) ≡ true → has_float d ≡ false

@@ -11,10 +11,10 @@ use Rattle.history_core.specs.declared.history.Op.{Op}
 use Rattle.fsr_refusals.specs.declared.refusal.DocError.{DocError}
 use Rattle.fsr_refusals.specs.declared.refusal.DocError.TheVariants.{Law, Range, Shape, Kind as OfKind}
 use Rattle.fsr_refusals.specs.declared.key.Key.TheVariants as key
-use Rattle.history_text.specs.Document.{is_kind, value_of}
-use Rattle.history_text.specs.Ranges.{limit_in_range}
-use Rattle.history_text.specs.Refusals.{◌>>=◌, field, must, required, some_or}
-use Rattle.history_text.specs.Shapes.{as_whole, kind_named, optional}
+use Rattle.document_text.specs.Document.{is_kind, value_of}
+use Rattle.document_text.specs.Ranges.{limit_in_range}
+use Rattle.document_text.specs.Refusals.{◌>>=◌, field, must, required, some_or}
+use Rattle.document_text.specs.Values.{as_whole, kind_named, optional}
 use Rattle.lines_text.specs.Records.{record_text}
 use Rattle.lines_text.specs.declared.line.LogHeader.{LogHeader}
 use Rattle.lines_text.specs.declared.line.LogLine.{LogLine}

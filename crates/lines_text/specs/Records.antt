@@ -6,7 +6,7 @@ use Rattle.std.specs.List.{list_all}
 use Rattle.serde_json.specs.Data.{Data}
 use Rattle.serde_json.specs.Find.{as_str}
 use Rattle.serde_json.specs.Written.{compact_text}
-use Rattle.history_text.specs.Shapes.{as_items, as_whole}
+use Rattle.document_text.specs.Values.{as_items, as_whole}
 
 abbrev pub is_whole : Data → Bool
 is_whole d = is_some (as_whole d)

@@ -3,14 +3,14 @@ ghost use Rattle.std.specs.Prelude.{◌≡◌, true, string_bytes};
 ghost use Rattle.std.specs.Option.{option_map_or};
 ghost use Rattle.serde_json.specs.View.{view};
 ghost use Rattle.fsr_refusals.specs.declared.key.Key.TheVariants.{Opening};
-ghost use Rattle.history_text.specs.Ranges.{limit_in_range};
-ghost use Rattle.history_text.specs.Refusals.{field, Gives};
+ghost use Rattle.document_text.specs.Ranges.{limit_in_range};
+ghost use Rattle.document_text.specs.Refusals.{field, Gives};
 ghost use Rattle.lines_text.specs.Lines.{head_in, head_of, head_seen};
 ghost use Rattle.lines_text.specs.Records.{record_text};
 
 use crate::line::LogHeader;
 use crate::record::record_text;
-use history_text::{
+use document_text::{
     DocError, Key, is_kind, limit_in_range, must, optional_number, read_value, required, shaped,
 };
 use serde_json::Value;

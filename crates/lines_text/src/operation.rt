@@ -1,16 +1,17 @@
 //! The lines behind the header.
 ghost use Rattle.std.specs.Prelude.{◌≡◌, true, option_map, is_some, string_bytes, IfOk, OnOk};
 ghost use Rattle.serde_json.specs.View.{view};
-ghost use Rattle.history_text.specs.Refusals.{Gives};
+ghost use Rattle.document_text.specs.Refusals.{Gives};
 ghost use Rattle.lines_text.specs.Lines.{allowed, done_in, ends_later, entry_in, entry_of, has_record, line_seen, IsAllowed, MayFollow};
 ghost use Rattle.lines_text.specs.Lines.{op_seen, operation_in, record_in};
 
 use crate::line::{LineOp, LogLine};
 use crate::record::record_text;
-use history_core::Kind;
-use history_text::{
-    DocError, Key, field, is_kind, kind_of, must, optional_number, read_value, required, shaped,
+use document_text::{
+    DocError, Key, is_kind, kind_of, must, number_field, optional_number, read_value, required,
+    shaped,
 };
+use history_core::Kind;
 use serde_json::Value;
 use std::alloc::Global;
 
@@ -30,7 +31,7 @@ fn line_in(alloc: Global, value: &Value) -> Result<LogLine, DocError>
     ensures allowed { IfOk result MayFollow }
 {
     if is_kind(value, "done") {
-        let ops = done_in(alloc, value)?;
+        let ops = done_in(value)?;
         Ok(LogLine::Done(ops))
     } else {
         let op = operation_in(alloc, value)?;
@@ -39,11 +40,12 @@ fn line_in(alloc: Global, value: &Value) -> Result<LogLine, DocError>
 }
 
 #[tactic(auto, unfolding(crate::specs::Lines::done_in))]
-fn done_in(alloc: Global, value: &Value) -> Result<usize, DocError>
+fn done_in(value: &Value) -> Result<usize, DocError>
     ensures { Gives (λ n. n) result (done_in (view value.now)) }
 {
     required(value, &[Key::Ops])?;
-    field(alloc, value, Key::Ops)
+    let ops = number_field(value, Key::Ops)?;
+    Ok(ops as usize)
 }
 
 #[tactic(auto, unfolding(crate::specs::Lines::operation_in))]
@@ -55,9 +57,9 @@ fn operation_in(alloc: Global, value: &Value) -> Result<LineOp, DocError>
         value,
         &[Key::Who, Key::Kind, Key::Begin, Key::End, Key::Record],
     )?;
-    let who: usize = field(alloc, value, Key::Who)?;
+    let who = number_field(value, Key::Who)? as usize;
     let kind = shaped(Key::Kind, kind_of(value))?;
-    let begin: u64 = field(alloc, value, Key::Begin)?;
+    let begin = number_field(value, Key::Begin)?;
     let end = shaped(Key::End, optional_number(value.get("end")))?;
     let record = record_in(alloc, value)?;
     allowed(kind, begin, end, record.is_some())?;

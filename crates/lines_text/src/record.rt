@@ -4,10 +4,10 @@ ghost use Rattle.std.specs.Fmt.{decimal};
 ghost use Rattle.std.specs.List.{list_all};
 ghost use Rattle.serde_json.specs.View.{view};
 ghost use Rattle.serde_json.specs.Written.{compact_text, has_float};
-ghost use Rattle.history_text.specs.Shapes.{as_items, as_whole};
+ghost use Rattle.document_text.specs.Values.{as_items, as_whole};
 ghost use Rattle.lines_text.specs.Records.{are_numbers, is_whole, numbers_text, record_text};
 
-use history_text::items_in;
+use document_text::items_in;
 use serde_json::Value;
 use std::alloc::{AllocError, Global};
 

@@ -6,10 +6,10 @@ use Rattle.fsr_runs.specs.declared.fault.Fault.{Fault}
 use Rattle.history_core.specs.declared.band.Band.{Band}
 use Rattle.history_core.specs.declared.history.History.{History}
 use Rattle.fsr_refusals.specs.declared.refusal.DocError.{DocError}
-use Rattle.history_text.specs.Kinds.{are_lines}
+use Rattle.document_text.specs.Kinds.{are_lines}
 use Rattle.log_text.specs.Log.{log_of}
-use Rattle.history_reasons.specs.declared.reason.Search.{Search}
-use Rattle.history_reasons.specs.declared.reason.Search.TheVariants.{Order, Unlawful}
+use Rattle.history_core.specs.declared.reason.Search.{Search}
+use Rattle.history_core.specs.declared.reason.Search.TheVariants.{Order, Unlawful}
 use Rattle.log_answers.specs.Logs.{AnswersRead, IsAnswerToLog, IsAnswerUnlessLines, IsLogAnswer, printed, status_of}
 
 search_is_low : (search : Search) → status_of search ≤ 1

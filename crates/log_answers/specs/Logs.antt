@@ -8,12 +8,12 @@ use Rattle.fsr_runs.specs.declared.fault.Fault.TheVariants as fault
 use Rattle.fsr_runs.specs.declared.fault.LinesFault.TheVariants.{Headless}
 use Rattle.history_core.specs.declared.band.Band.{Band}
 use Rattle.history_core.specs.declared.history.History.{History}
-use Rattle.history_text.specs.Kinds.{are_lines}
+use Rattle.document_text.specs.Kinds.{are_lines}
 use Rattle.log_search.specs.Logs.{IsLogFault, IsLogSearch}
 use Rattle.search_text.specs.Text.{search_text}
 use Rattle.log_text.specs.Log.{log_of}
-use Rattle.history_reasons.specs.declared.reason.Search.{Search}
-use Rattle.history_reasons.specs.declared.reason.Search.TheVariants.{Order, Unlawful}
+use Rattle.history_core.specs.declared.reason.Search.{Search}
+use Rattle.history_core.specs.declared.reason.Search.TheVariants.{Order, Unlawful}
 
 -- the status of what was found: 0 where there is a lawful order, else 1
 abbrev pub status_of : Search → ℕ

@@ -5,9 +5,9 @@ ghost use Rattle.fsr_streams.specs.Stream.{HasRoom};
 ghost use Rattle.log_answers.specs.Logs.{IsAnswerToLog};
 
 use crate::search::order_document;
+use document_text::{DocError, are_lines};
 use fsr_runs::{Answer, Command, FSR, Fault, run_command};
 use fsr_streams::{Sink, Source};
-use history_text::{DocError, are_lines};
 use std::alloc::Global;
 
 /// The command `order` for documents of kind `log`.

@@ -1,13 +1,12 @@
 ghost use Rattle.std.specs.Prelude.{◌≡◌, IfOk};
 ghost use Rattle.fsr_runs.specs.Answers.{GivesReply};
 ghost use Rattle.log_answers.specs.Logs.{AnswersOrder, fault_of, IsLogAnswer, printed, status_of};
-ghost use Rattle.history_text.specs.Refusals.{Gives as Reads};
+ghost use Rattle.document_text.specs.Refusals.{Gives as Reads};
 ghost use Rattle.log_text.specs.Log.{CanBeSearched, log_of};
 
+use document_text::{DocError, read_value};
 use fsr_runs::{Answer, Fault, LinesFault};
-use history_core::{Band, History, Items};
-use history_reasons::Search;
-use history_text::{DocError, read_value};
+use history_core::{Band, History, Items, Search};
 use log_search::search_log;
 use log_text::log_document;
 use search_text::search_text;

@@ -11,10 +11,10 @@ use Rattle.history_core.specs.declared.history.History.{History}
 use Rattle.history_core.specs.declared.history.Op.{Op}
 use Rattle.history_text.specs.Histories.{has_item, is_lawful}
 use Rattle.log_text.specs.Log.{CanBeSearched}
-use Rattle.history_reasons.specs.Searches.{IsAnswered, IsBackwards, IsFault}
-use Rattle.history_reasons.specs.declared.reason.Search.{Search}
-use Rattle.history_reasons.specs.declared.reason.SearchError.{SearchError}
-use Rattle.history_reasons.specs.declared.reason.SearchError.TheVariants.{NoMemory, Terms, Backwards, WritesOpening, WritesTwice}
+use Rattle.history_core.specs.Searches.{IsAnswered, IsBackwards, IsFault}
+use Rattle.history_core.specs.declared.reason.Search.{Search}
+use Rattle.history_core.specs.declared.reason.SearchError.{SearchError}
+use Rattle.history_core.specs.declared.reason.SearchError.TheVariants.{NoMemory, Terms, Backwards, WritesOpening, WritesTwice}
 use Rattle.log_search.specs.Logs.{fault_of, IsLogFault, IsLogSearch, IsOfLog, StandsInTheWay}
 
 -- both hold where both tests do

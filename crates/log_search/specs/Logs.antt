@@ -6,10 +6,10 @@ use Rattle.fsr_runs.specs.declared.fault.Fault.TheVariants as fault
 use Rattle.fsr_runs.specs.declared.fault.HistoryFault.TheVariants as history
 use Rattle.history_core.specs.declared.band.Band.{Band}
 use Rattle.history_core.specs.declared.history.History.{History}
-use Rattle.history_reasons.specs.Searches.{IsAnswered, IsFault}
-use Rattle.history_reasons.specs.declared.reason.Search.{Search}
-use Rattle.history_reasons.specs.declared.reason.SearchError.{SearchError}
-use Rattle.history_reasons.specs.declared.reason.SearchError.TheVariants.{NoMemory, Terms, Backwards, WritesOpening, WritesTwice}
+use Rattle.history_core.specs.Searches.{IsAnswered, IsFault}
+use Rattle.history_core.specs.declared.reason.Search.{Search}
+use Rattle.history_core.specs.declared.reason.SearchError.{SearchError}
+use Rattle.history_core.specs.declared.reason.SearchError.TheVariants.{NoMemory, Terms, Backwards, WritesOpening, WritesTwice}
 
 -- a lawful order of the log, or that there is none, with a reason
 abbrev pub IsLogSearch : History Band → Search → Type 0

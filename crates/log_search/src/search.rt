@@ -3,8 +3,7 @@ ghost use Rattle.log_search.specs.Logs.{fault_of, IsLogFault, IsLogSearch, IsOfL
 ghost use Rattle.log_text.specs.Log.{CanBeSearched};
 
 use fsr_runs::{Fault, HistoryFault};
-use history_core::{Band, History};
-use history_reasons::{Search, SearchError};
+use history_core::{Band, History, Search, SearchError};
 use history_search::find_order;
 use std::alloc::Global;
 

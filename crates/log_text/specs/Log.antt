@@ -8,11 +8,12 @@ use Rattle.history_core.specs.declared.history.History.{History}
 use Rattle.fsr_refusals.specs.declared.refusal.DocError.{DocError}
 use Rattle.fsr_refusals.specs.declared.refusal.DocError.TheVariants.{Range, Law, Kind as OfKind}
 use Rattle.fsr_refusals.specs.declared.key.Key.TheVariants.{Opening, Limit, Ops}
-use Rattle.history_text.specs.Document.{is_kind, value_of}
+use Rattle.document_text.specs.Document.{is_kind, value_of}
 use Rattle.history_text.specs.Histories.{is_lawful, one_term, ops_in_range}
-use Rattle.history_text.specs.Ranges.{limit_in_range}
-use Rattle.history_text.specs.Refusals.{◌>>=◌, field, must, required}
-use Rattle.history_text.specs.Shapes.{as_whole, as_band, as_op, as_list}
+use Rattle.document_text.specs.Ranges.{limit_in_range}
+use Rattle.document_text.specs.Refusals.{◌>>=◌, field, must, required}
+use Rattle.document_text.specs.Values.{as_whole}
+use Rattle.history_text.specs.Shapes.{as_band, as_op, as_list}
 
 unfoldable pub log_in : Data → Result (History Band) DocError
 log_in d = do

@@ -1,14 +1,12 @@
 //! Documents of kind `log`.
 ghost use Rattle.std.specs.Prelude.{◌≡◌, IfOk};
-ghost use Rattle.history_text.specs.Refusals.{Gives};
+ghost use Rattle.document_text.specs.Refusals.{Gives};
 ghost use Rattle.log_text.specs.Log.{CanBeSearched, log_document, log_in, log_of};
 ghost use Rattle.serde_json.specs.View.{view};
 
+use document_text::{DocError, Key, is_kind, limit_in_range, must, read_value, required};
 use history_core::{Band, History, Items, Op};
-use history_text::{
-    DocError, Key, are_lawful, field, is_kind, limit_in_range, list_field, must, one_term,
-    ops_in_range, read_value, required,
-};
+use history_text::{are_lawful, field, list_field, one_term, ops_in_range};
 use serde_json::Value;
 use std::alloc::Global;
 

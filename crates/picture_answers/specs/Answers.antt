@@ -15,8 +15,8 @@ use Rattle.history_core.specs.Schedules.{HasOperations, IsFirstOverrun}
 use Rattle.history_core.specs.declared.band.Band.{Band}
 use Rattle.history_core.specs.declared.history.History.{History}
 use Rattle.history_text.specs.Check.{check_document}
-use Rattle.history_text.specs.Document.{value_of}
-use Rattle.history_text.specs.Refusals.{◌>>=◌}
+use Rattle.document_text.specs.Document.{value_of}
+use Rattle.document_text.specs.Refusals.{◌>>=◌}
 use Rattle.history_text.specs.declared.document.CheckDocument.{CheckDocument}
 use Rattle.fsr_refusals.specs.declared.refusal.DocError.{DocError}
 use Rattle.fsr_refusals.specs.declared.refusal.DocError.TheVariants as doc
@@ -30,7 +30,7 @@ use Rattle.matrix_core.specs.declared.schedule.MatrixReport.{MatrixReport}
 use Rattle.matrix_core.specs.declared.schedule.MatrixSchedule.{MatrixSchedule}
 use Rattle.log_search.specs.Logs.{IsLogFault, IsLogSearch}
 use Rattle.log_text.specs.Log.{CanBeSearched, log_document}
-use Rattle.history_reasons.specs.declared.reason.Search.{Search}
+use Rattle.history_core.specs.declared.reason.Search.{Search}
 use Rattle.picture_text.specs.Picture.{picture_of}
 use Rattle.picture_text.specs.declared.scene.Finding.{Finding}
 use Rattle.picture_text.specs.declared.scene.Finding.TheVariants.{Lawful, Broken, NoOrder}

@@ -1,6 +1,6 @@
 ghost use Rattle.std.specs.Prelude.{◌≡◌, IfOk};
 ghost use Rattle.fsr_runs.specs.Answers.{GivesReply};
-ghost use Rattle.history_text.specs.Refusals.{Gives as Reads};
+ghost use Rattle.document_text.specs.Refusals.{Gives as Reads};
 ghost use Rattle.log_text.specs.Log.{CanBeSearched};
 ghost use Rattle.matrix_core.specs.Runs.{CanPlay};
 ghost use Rattle.picture_answers.specs.Answers.{DrawsBoard, DrawsCell, DrawsCheck, AnswersLog, DrawsMatrix, DrawsSchedule};
@@ -9,12 +9,13 @@ ghost use Rattle.schedule_text.specs.Players.{CanBePlayed};
 ghost use Rattle.serde_json.specs.View.{view};
 
 use crate::scenes::{board_scene, cell_scene, check_scene, log_scene, matrix_scene};
+use document_text::{DocError, read_value};
 use four_slot_core::CellSchedule;
 use four_slot_play::play_cell;
 use fsr_runs::{Answer, Fault};
 use fsr_streams::Exit;
 use history_core::{Band, History, Items};
-use history_text::{CheckDocument, DocError, check_document, read_value};
+use history_text::{CheckDocument, check_document};
 use log_search::search_log;
 use log_text::log_document;
 use matrix_board_play::play_board;

@@ -7,8 +7,7 @@ ghost use Rattle.picture_answers.specs.Scenes.{ArePointsOf, finding_of, IsSceneO
 ghost use Rattle.picture_answers.specs.Scenes.{ShowsMatrix};
 
 use four_slot_core::{CellReport, CellSchedule};
-use history_core::{Band, History, Items};
-use history_reasons::Search;
+use history_core::{Band, History, Items, Search};
 use history_witnesses::{Break, first_break, points};
 use matrix_core::{BoardReport, BoardSchedule, MatrixReport};
 use picture_shapes::Lanes;

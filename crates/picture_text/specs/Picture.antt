@@ -7,8 +7,8 @@ use Rattle.std.specs.List.{flat_map}
 use Rattle.std.specs.Option.{unwrap_or}
 use Rattle.history_core.specs.Orders.{is_write, listed_at}
 use Rattle.history_core.specs.declared.band.Band.{Band}
-use Rattle.history_reasons.specs.declared.reason.Reason.{Reason}
-use Rattle.history_reasons.specs.declared.reason.Reason.TheVariants as reason
+use Rattle.history_core.specs.declared.reason.Reason.{Reason}
+use Rattle.history_core.specs.declared.reason.Reason.TheVariants as reason
 use Rattle.history_witnesses.specs.declared.breaks.Break.{Break}
 use Rattle.history_witnesses.specs.declared.breaks.Break.TheVariants.{NoPlace, Times, Precedence, NoItem, Reading, Limit}
 use Rattle.history_core.specs.declared.history.Op.{Op}

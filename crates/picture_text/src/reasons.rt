@@ -6,8 +6,7 @@ ghost use Rattle.picture_text.specs.Picture.{precedence_text};
 ghost use Rattle.picture_text.specs.Picture.{precedes_words, reason_text, reason_words};
 
 use crate::marks::op_at;
-use history_core::{Band, Op};
-use history_reasons::Reason;
+use history_core::{Band, Op, Reason};
 use picture_shapes::{
     Class, Join, Scale, Spot, bar_of, end_of, put_bar, put_first_words, put_join, put_last_words,
     put_long_words, put_place, put_words, y_of,

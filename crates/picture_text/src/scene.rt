@@ -1,5 +1,4 @@
-use history_core::{Band, History, Items};
-use history_reasons::Reason;
+use history_core::{Band, History, Items, Reason};
 use history_witnesses::Break;
 use picture_shapes::Lanes;
 use picture_visits::Visit;

@@ -14,8 +14,8 @@ use Rattle.matrix_core.specs.declared.schedule.MatrixTerm.{MatrixTerm}
 use Rattle.schedule_text.specs.Players.{CanRace}
 use Rattle.schedule_text.specs.Terms.{single}
 use Rattle.schedule_text.specs.Plans.{are_of, members, plan_fits, plans_fit, plans_in_range, wish_fits, term_in_range, terms_in_range}
-use Rattle.history_text.specs.Ranges.{limit_in_range}
-use Rattle.history_text.specs.Refusals.{must}
+use Rattle.document_text.specs.Ranges.{limit_in_range}
+use Rattle.document_text.specs.Refusals.{must}
 use Rattle.fsr_refusals.specs.declared.refusal.DocError.{DocError}
 
 -- ---- tests that hold

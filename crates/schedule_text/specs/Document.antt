@@ -1,8 +1,8 @@
 -- The schedule or the race that bytes stand for, or the first refusal with its first key (this project's own).
 use Rattle.std.specs.Prelude.{ℕ, List, codes, if◌then◌else◌, Result, Ok, Err}
 use Rattle.serde_json.specs.Data.{Data}
-use Rattle.history_text.specs.Document.{is_kind, value_of}
-use Rattle.history_text.specs.Refusals.{◌>>=◌}
+use Rattle.document_text.specs.Document.{is_kind, value_of}
+use Rattle.document_text.specs.Refusals.{◌>>=◌}
 use Rattle.fsr_refusals.specs.declared.refusal.DocError.{DocError}
 use Rattle.fsr_refusals.specs.declared.refusal.DocError.TheVariants.{Kind}
 use Rattle.cell_text.specs.Cell.{cell_in}

@@ -9,7 +9,7 @@ use Rattle.fsr_refusals.specs.declared.refusal.DocError.{DocError}
 use Rattle.fsr_refusals.specs.declared.refusal.DocError.TheVariants.{Law}
 use Rattle.fsr_refusals.specs.declared.key.Key.TheVariants.{Opening}
 use Rattle.schedule_text.specs.Plans.{term_fits}
-use Rattle.history_text.specs.Refusals.{◌>>=◌, field, must, required}
+use Rattle.document_text.specs.Refusals.{◌>>=◌, field, must, required}
 use Rattle.history_text.specs.Shapes.{as_band}
 use Rattle.schedule_text.specs.Terms.{is_titled, terms_in, terms_there, writes_key}
 

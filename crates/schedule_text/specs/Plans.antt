@@ -6,7 +6,7 @@ use Rattle.history_core.specs.declared.band.Band.{Band}
 use Rattle.history_core.specs.declared.wish.Wish.{Wish}
 use Rattle.history_core.specs.declared.wish.Wish.TheVariants.{Write, Read}
 use Rattle.matrix_core.specs.declared.schedule.MatrixTerm.{MatrixTerm}
-use Rattle.history_text.specs.Ranges.{count_in_range, limit_in_range}
+use Rattle.document_text.specs.Ranges.{count_in_range, limit_in_range}
 use Rattle.cell_text.specs.Ranges.{steps_in_range}
 
 -- the operations that all plans ask for

@@ -7,9 +7,10 @@ use Rattle.fsr_refusals.specs.declared.refusal.DocError.{DocError}
 use Rattle.fsr_refusals.specs.declared.refusal.DocError.TheVariants.{Range, Law}
 use Rattle.fsr_refusals.specs.declared.key.Key.TheVariants.{Opening, Limit, Scripts}
 use Rattle.schedule_text.specs.Plans.{plans_fit, plans_in_range}
-use Rattle.history_text.specs.Ranges.{limit_in_range}
-use Rattle.history_text.specs.Refusals.{◌>>=◌, field, must, required}
-use Rattle.history_text.specs.Shapes.{as_whole, as_band, as_list, as_plan}
+use Rattle.document_text.specs.Ranges.{limit_in_range}
+use Rattle.document_text.specs.Refusals.{◌>>=◌, field, must, required}
+use Rattle.document_text.specs.Values.{as_whole}
+use Rattle.history_text.specs.Shapes.{as_band, as_list, as_plan}
 
 -- a script is a plan by another name
 unfoldable pub race_in : Data → Result RaceDocument DocError

@@ -3,7 +3,8 @@ use Rattle.std.specs.Prelude.{codes, Option, Some, option_and_then}
 use Rattle.serde_json.specs.Data.{Data}
 use Rattle.serde_json.specs.Find.{get}
 use Rattle.history_core.specs.declared.band.Band.{Band}
-use Rattle.history_text.specs.Shapes.{◌>>=◌, as_list, as_plan, as_whole}
+use Rattle.document_text.specs.Values.{as_whole}
+use Rattle.history_text.specs.Shapes.{◌>>=◌, as_list, as_plan}
 use Rattle.matrix_core.specs.declared.schedule.MatrixTerm.{MatrixTerm}
 
 abbrev pub as_term : Data → Option (MatrixTerm Band)

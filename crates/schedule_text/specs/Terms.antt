@@ -12,9 +12,10 @@ use Rattle.fsr_refusals.specs.declared.key.Key.{Key}
 use Rattle.fsr_refusals.specs.declared.key.Key.TheVariants.{Limit, Plans, Steps, Terms}
 use Rattle.fsr_refusals.specs.Keys.{name_of}
 use Rattle.schedule_text.specs.Plans.{are_of, plans_in_range, terms_in_range}
-use Rattle.history_text.specs.Ranges.{limit_in_range}
-use Rattle.history_text.specs.Refusals.{◌>>=◌, field, must, required}
-use Rattle.history_text.specs.Shapes.{as_whole, as_list, as_plan}
+use Rattle.document_text.specs.Ranges.{limit_in_range}
+use Rattle.document_text.specs.Refusals.{◌>>=◌, field, must, required}
+use Rattle.document_text.specs.Values.{as_whole}
+use Rattle.history_text.specs.Shapes.{as_list, as_plan}
 use Rattle.schedule_text.specs.Shapes.{as_term}
 
 -- the terms stand under their key, and are told in the report

@@ -3,13 +3,14 @@ ghost use Rattle.std.specs.Prelude.{IfOk};
 ghost use Rattle.serde_json.specs.View.{view};
 ghost use Rattle.schedule_text.specs.Matrix.{matrix_in};
 ghost use Rattle.schedule_text.specs.Players.{CanBePlayed};
-ghost use Rattle.history_text.specs.Refusals.{Gives};
+ghost use Rattle.document_text.specs.Refusals.{Gives};
 
 use crate::ScheduleDocument;
 use crate::plans::terms_fit;
 use crate::terms::{is_titled, terms_in, terms_there, writes_key};
+use document_text::{DocError, Key, must, required};
 use history_core::Band;
-use history_text::{DocError, Key, field, must, required};
+use history_text::field;
 use matrix_core::MatrixSchedule;
 use serde_json::Value;
 use std::alloc::Global;

@@ -3,12 +3,12 @@ ghost use Rattle.std.specs.Prelude.{◌≡◌, ◌+◌, ◌<◌, IfNone, IfSome,
 ghost use Rattle.std.specs.List.{list_all};
 ghost use Rattle.schedule_text.specs.Plans.{are_of, members, plan_fits, plans_fit, plans_in_range, term_fits, wish_fits};
 ghost use Rattle.schedule_text.specs.Plans.{term_in_range, terms_in_range};
-ghost use Rattle.history_text.specs.Ranges.{count_in_range};
+ghost use Rattle.document_text.specs.Ranges.{count_in_range};
 ghost use Rattle.cell_text.specs.Ranges.{steps_in_range};
 
 use cell_text::{MAX_STEPS, steps_in_range};
+use document_text::{MAX_OPERATIONS, limit_in_range};
 use history_core::{Band, Items, Wish};
-use history_text::{MAX_OPERATIONS, limit_in_range};
 use matrix_core::MatrixTerm;
 
 const MIN_PROCESSES: usize = 2;

@@ -3,12 +3,13 @@ ghost use Rattle.std.specs.Prelude.{IfOk};
 ghost use Rattle.serde_json.specs.View.{view};
 ghost use Rattle.schedule_text.specs.Players.{CanRace};
 ghost use Rattle.schedule_text.specs.Race.{race_in};
-ghost use Rattle.history_text.specs.Refusals.{Gives};
+ghost use Rattle.document_text.specs.Refusals.{Gives};
 
 use crate::RaceDocument;
 use crate::plans::{plans_fit, plans_in_range};
+use document_text::{DocError, Key, limit_in_range, must, required};
 use history_core::{Band, Items, Wish};
-use history_text::{DocError, Key, field, limit_in_range, list_field, must, required};
+use history_text::{field, list_field};
 use serde_json::Value;
 use std::alloc::Global;
 

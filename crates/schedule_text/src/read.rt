@@ -1,7 +1,7 @@
 //! From bytes to a document.
 ghost use Rattle.std.specs.Prelude.{IfOk};
 ghost use Rattle.serde_json.specs.View.{view};
-ghost use Rattle.history_text.specs.Refusals.{Gives};
+ghost use Rattle.document_text.specs.Refusals.{Gives};
 ghost use Rattle.schedule_text.specs.Document.{race_document, race_of, schedule_document, schedule_of};
 ghost use Rattle.schedule_text.specs.Players.{CanBePlayed, CanRace};
 
@@ -10,7 +10,7 @@ use crate::matrix::matrix_in;
 use crate::race::race_in;
 use crate::{RaceDocument, ScheduleDocument};
 use cell_text::cell_in;
-use history_text::{DocError, is_kind, read_value};
+use document_text::{DocError, is_kind, read_value};
 use serde_json::Value;
 use std::alloc::Global;
 

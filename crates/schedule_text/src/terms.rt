@@ -2,17 +2,16 @@
 ghost use Rattle.std.specs.Prelude.{◌≡◌, IfOk, map, option_map};
 ghost use Rattle.serde_json.specs.View.{view};
 ghost use Rattle.matrix_core.specs.Runs.{CanPlay};
-ghost use Rattle.history_text.specs.Refusals.{field, Gives};
+ghost use Rattle.document_text.specs.Refusals.{field, Gives};
 ghost use Rattle.history_text.specs.Shapes.{all_of, as_list};
 ghost use Rattle.fsr_refusals.specs.declared.key.Key.TheVariants.{Terms};
 ghost use Rattle.schedule_text.specs.Shapes.{as_term};
 ghost use Rattle.schedule_text.specs.Terms.{is_titled, several_in, single, single_in, terms_in, terms_there, writes_key};
 
 use crate::plans::{are_of, plans_in_range, terms_in_range};
+use document_text::{DocError, Key, items_in, limit_in_range, must, required, shaped};
 use history_core::{Band, Items, Wish};
-use history_text::{
-    DocError, Key, field, items_in, limit_in_range, list_field, list_of, must, required, shaped,
-};
+use history_text::{field, list_field, list_of};
 use matrix_core::MatrixTerm;
 use serde_json::Value;
 use std::alloc::{AllocError, Global};

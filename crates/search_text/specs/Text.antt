@@ -2,10 +2,10 @@
 use Rattle.std.specs.Prelude.{ℕ, ◌++◌, List, [], ◌∷◌, codes}
 use Rattle.std.specs.Fmt.{decimal}
 use Rattle.std.specs.List.{flat_map}
-use Rattle.history_reasons.specs.declared.reason.Reason.{Reason}
-use Rattle.history_reasons.specs.declared.reason.Reason.TheVariants.{Unwritten, Early, Stale, Crossed, Limit}
-use Rattle.history_reasons.specs.declared.reason.Search.{Search}
-use Rattle.history_reasons.specs.declared.reason.Search.TheVariants.{Order, Unlawful}
+use Rattle.history_core.specs.declared.reason.Reason.{Reason}
+use Rattle.history_core.specs.declared.reason.Reason.TheVariants.{Unwritten, Early, Stale, Crossed, Limit}
+use Rattle.history_core.specs.declared.reason.Search.{Search}
+use Rattle.history_core.specs.declared.reason.Search.TheVariants.{Order, Unlawful}
 
 abbrev pub line_feed : ℕ
 line_feed = 10

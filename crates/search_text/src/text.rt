@@ -2,7 +2,7 @@ ghost use Rattle.std.specs.Prelude.{◌≡◌, ◌++◌, codes, IfOk, OnOk};
 ghost use Rattle.std.specs.Fmt.{decimal};
 ghost use Rattle.search_text.specs.Text.{line_of, places_text, reason_text, search_text};
 
-use history_reasons::{Reason, Search};
+use history_core::{Reason, Search};
 use itoa::Buffer;
 use std::alloc::{AllocError, Global};
 

@@ -1,8 +1,9 @@
 ghost use Rattle.std.specs.Prelude.{IfOk};
 ghost use Rattle.schedule_text.specs.Players.{CanBePlayed};
 
+use document_text::DocError;
 use history_core::PlayError;
-use history_text::{CheckDocument, DocError, read_check};
+use history_text::{CheckDocument, read_check};
 use schedule_text::{RaceDocument, ScheduleDocument, read_race, read_schedule};
 use std::alloc::{AllocError, Global};
 

@@ -1,6 +1,7 @@
 //! Worked orders and their verdicts. Nothing here is taken from the program's own answers.
 
-use history_core::{Band, History, Items, Kind, MAX_LIMIT, Op, Term, Verdict, check_order};
+use history_check::check_order;
+use history_core::{Band, History, Items, Kind, MAX_LIMIT, Op, Term, Verdict};
 use history_witnesses::{Break, first_break, points};
 use std::alloc::{AllocError, Global};
 use std::test::Fail;

@@ -1,7 +1,7 @@
 //! Worked logs and their answers. Nothing here is taken from the program's own answers.
 
-use history_core::{History, Items, Kind, Op, Term, Verdict, check_order};
-use history_reasons::{Reason, Search, SearchError};
+use history_check::check_order;
+use history_core::{History, Items, Kind, Op, Reason, Search, SearchError, Term, Verdict};
 use history_search::find_order;
 use std::alloc::{AllocError, Global};
 use std::test::Fail;

@@ -31,9 +31,8 @@ mod limits;
 mod matrices;
 mod stepped;
 
-use history_core::{
-    Band, History, Items, Kind, MAX_LIMIT, Op, PlayError, Verdict, Wish, check_order,
-};
+use history_check::check_order;
+use history_core::{Band, History, Items, Kind, MAX_LIMIT, Op, PlayError, Verdict, Wish};
 use matrix_core::MatrixTerm;
 use stamps::Stamp;
 use std::alloc::{AllocError, Global};

@@ -1,4 +1,5 @@
-use history_core::{Verdict, check_order};
+use history_check::check_order;
+use history_core::Verdict;
 use matrix_board_play::play_board;
 use schedule_text::{ScheduleDocument, read_schedule};
 use std::test::Fail;

@@ -2,8 +2,8 @@
 ghost use Rattle.std.specs.Prelude.{IsTrue};
 ghost use Rattle.theorems.specs.Checkers.{CheckerTheorem};
 
-use history_core::{History, Verdict, check_order};
-use history_reasons::{Search, SearchError};
+use history_check::check_order;
+use history_core::{History, Search, SearchError, Verdict};
 use history_search::find_order;
 use std::alloc::Global;
 

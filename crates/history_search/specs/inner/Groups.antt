@@ -11,11 +11,11 @@ use Rattle.history_core.specs.declared.history.Op.{Op}
 use Rattle.history_core.specs.declared.history.Kind.{Kind}
 use Rattle.history_core.specs.declared.history.Kind.TheVariants.{Write, Read, Refused}
 use Rattle.history_core.specs.Orders.{is_write}
-use Rattle.history_reasons.specs.declared.reason.SearchError.{SearchError}
-use Rattle.history_reasons.specs.declared.reason.SearchError.TheVariants.{NoMemory, WritesOpening, WritesTwice}
+use Rattle.history_core.specs.declared.reason.SearchError.{SearchError}
+use Rattle.history_core.specs.declared.reason.SearchError.TheVariants.{NoMemory, WritesOpening, WritesTwice}
 use Rattle.history_search.specs.declared.span.Moment.{Moment}
 use Rattle.history_search.specs.declared.span.Span.{Span}
-use Rattle.history_reasons.specs.Reasons.{counts, IsOfOpening, OfOneRecord}
+use Rattle.history_core.specs.Reasons.{counts, IsOfOpening, OfOneRecord}
 
 module _ {R : Type 0} where
   -- the record of an operation is that of this group

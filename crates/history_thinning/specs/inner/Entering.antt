@@ -4,9 +4,9 @@ use Rattle.std.specs.Option.{option_and_then, option_map}
 use Rattle.history_core.specs.declared.history.Op.{Op}
 use Rattle.history_core.specs.declared.history.Kind.{Kind}
 use Rattle.history_core.specs.declared.history.Kind.TheVariants.{Write, Read, Refused}
-use Rattle.history_reasons.specs.Reasons.{counts}
-use Rattle.history_reasons.specs.declared.reason.SearchError.{SearchError}
-use Rattle.history_reasons.specs.declared.reason.SearchError.TheVariants.{Backwards, WritesOpening, WritesTwice}
+use Rattle.history_core.specs.Reasons.{counts}
+use Rattle.history_core.specs.declared.reason.SearchError.{SearchError}
+use Rattle.history_core.specs.declared.reason.SearchError.TheVariants.{Backwards, WritesOpening, WritesTwice}
 use Rattle.history_thinning.specs.declared.group.Group.{Group}
 use Rattle.history_thinning.specs.declared.group.Placed.{Placed}
 use Rattle.history_thinning.specs.inner.Kept.{empty_group}

@@ -5,8 +5,8 @@ use Rattle.history_core.specs.declared.history.Op.{Op}
 use Rattle.history_core.specs.declared.history.Kind.{Kind}
 use Rattle.history_core.specs.declared.history.Kind.TheVariants.{Write, Read, Refused}
 use Rattle.history_core.specs.Orders.{is_write}
-use Rattle.history_reasons.specs.Reasons.{counts}
-use Rattle.history_reasons.specs.Searches.{AreForwards, WritesOnce}
+use Rattle.history_core.specs.Reasons.{counts}
+use Rattle.history_core.specs.Searches.{AreForwards, WritesOnce}
 use Rattle.history_thinning.specs.declared.group.Group.{Group}
 use Rattle.history_thinning.specs.declared.group.Placed.{Placed}
 use Rattle.history_thinning.specs.declared.thinner.Thinner.{Thinner}

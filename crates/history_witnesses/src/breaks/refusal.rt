@@ -6,7 +6,7 @@ ghost use Rattle.history_core.specs.Orders.{KeepsLimit, ListsPlaces, RefusesLawf
 ghost use Rattle.history_core.specs.Ranges.{is_between};
 ghost use Rattle.history_witnesses.specs.inner.Searches.{end_of, entry_of, IsEarly};
 
-use history_core::ranges::{count, is_within};
+use history_check::ranges::{count, is_within};
 use history_core::{Op, Term};
 
 /// A write that was refused too early.

@@ -3,7 +3,7 @@ use Rattle.std.specs.Prelude.{◌≡◌, ◌<◌, ◌≤◌, ◌⊎◌, ℕ, tru
 use Rattle.std.specs.declared.alloc.Global.{Global}
 use Rattle.fsr_streams.specs.Transfer.{most_taken}
 use Rattle.fsr_runs.specs.Run.{TakesRestOf}
-use Rattle.history_text.specs.Kinds.{are_lines}
+use Rattle.document_text.specs.Kinds.{are_lines}
 
 -- the front stays alone: it isn't longer than a document, or not in lines
 abbrev pub IsLeft : List ℕ → Option (List ℕ) → Option (List ℕ) → List ℕ → Type 0

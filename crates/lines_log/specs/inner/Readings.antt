@@ -2,11 +2,11 @@
 use Rattle.std.specs.Prelude.{◌≡◌, ℕ, List, [], ◌∷◌, ◌++◌, ◌⊎◌, length, Bool, true, false, slice_get, None, Some, Ok}
 use Rattle.lines_tables.specs.Numberings.{IsNumbering}
 use Rattle.lines_tables.specs.Reads.{WereRead, KnowsReads}
-use Rattle.history_text.specs.Splits.{lines_of}
+use Rattle.document_text.specs.Splits.{lines_of}
 use Rattle.lines_tables.specs.Tasks.{KnowsTasks}
 use Rattle.lines_log.specs.Logs.{AreAll, AreLines, judged_line, unfinished_in}
 use Rattle.history_core.specs.declared.history.Op.{Op}
-use Rattle.history_reasons.specs.declared.reason.SearchError.{SearchError}
+use Rattle.history_core.specs.declared.reason.SearchError.{SearchError}
 use Rattle.history_thinning.specs.Answers.{IsThinnedFault}
 use Rattle.history_thinning.specs.Thinnings.{IsThinnedLog}
 use Rattle.history_thinning.specs.inner.Kept.{IsThinning}

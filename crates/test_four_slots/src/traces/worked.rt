@@ -4,7 +4,8 @@
 use super::has;
 use four_slot_core::{CellReport, CellSchedule, Turn};
 use four_slot_play::play_cell;
-use history_core::{History, Items, Kind, MAX_LIMIT, Op, PlayError, Term, Verdict, check_order};
+use history_check::check_order;
+use history_core::{History, Items, Kind, MAX_LIMIT, Op, PlayError, Term, Verdict};
 use std::alloc::{AllocError, Global};
 use std::test::Fail;
 

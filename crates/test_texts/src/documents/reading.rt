@@ -1,7 +1,8 @@
 use super::{A, ZERO};
+use document_text::{DocError, Key, read_value};
 use four_slot_core::{CellSchedule, Turn};
 use history_core::{Band, Items, Wish};
-use history_text::{DocError, Key, check_document, read_check, read_value};
+use history_text::{check_document, read_check};
 use schedule_text::{ScheduleDocument, race_document, read_race, read_schedule, schedule_document};
 use std::alloc::{AllocError, Global};
 use std::test::Fail;

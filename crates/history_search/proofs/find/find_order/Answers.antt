@@ -2,7 +2,7 @@
 use Rattle.std.proofs.Common.{rules, ℕ, List, slice_get, sym, ap, subst, ◌∙◌}
 use Rattle.std.specs.Prelude.{IsTrue}
 use Rattle.history_core.specs.declared.history.Op.{Op}
-use Rattle.history_reasons.specs.Searches.{AreForwards, IsFault}
+use Rattle.history_core.specs.Searches.{AreForwards, IsFault}
 use Rattle.history_search.proofs.Assembled.{answered, group_fault, groups_within, if_none}
 use Rattle.history_search.proofs.Known.{searched}
 use Rattle.history_search.proofs.find.find_order.Goals as goal

@@ -1,5 +1,5 @@
 -- No operation met so far ends before it begins.
-use Rattle.history_reasons.specs.Searches.{AreForwards}
+use Rattle.history_core.specs.Searches.{AreForwards}
 use Rattle.history_search.proofs.find.first_backwards.Given as goal
 
 abbrev pub invariant-loop-place : goal.invariant-loop-place

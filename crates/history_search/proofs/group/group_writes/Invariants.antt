@@ -1,7 +1,7 @@
 -- The written records met so far are known, each once and none the opening.
 use Rattle.std.specs.Prelude.{IsTrue}
 use Rattle.history_search.specs.inner.Groups.{KnowsWrites}
-use Rattle.history_reasons.specs.Searches.{WritesOnce}
+use Rattle.history_core.specs.Searches.{WritesOnce}
 use Rattle.history_search.proofs.group.group_writes.Given as goal
 
 abbrev pub invariant-loop-place : goal.invariant-loop-place

@@ -4,7 +4,7 @@ use Rattle.std.proofs.Common.{◌∙◌}
 use Rattle.std.specs.Prelude.{if◌then◌else◌}
 use Rattle.std.proofs.lemmas.Option.{slice_get-get_or}
 use Rattle.history_core.specs.Orders.{is_write_at}
-use Rattle.history_reasons.proofs.Counts.{writes_next}
+use Rattle.history_core.proofs.Counts.{writes_next}
 use Rattle.history_search.proofs.Loops.{few_more, none_refused, refusal_at}
 use Rattle.history_search.proofs.group_search.first_too_few.Goals as goal
 

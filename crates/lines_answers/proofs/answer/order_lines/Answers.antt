@@ -24,7 +24,7 @@ pub returns-in-Ok-answer_log-clause-low : goal.returns-in-Ok-answer_log-clause-l
 returns-in-Ok-answer_log-clause-low c =
     let log = c.in-Ok.ensures.log in
     let told = c.in-Ok-answer_log.ensures (unwrap_or log.1.head.limit 1) log.0 log.1.thinned in
-    let found : Found c.args.show c.args.bytes.now c.in-Ok-answer_log.answer = record {
+    let found : Found c.args.order c.args.bytes.now c.in-Ok-answer_log.answer = record {
       log = log.0;
       read = c.in-Ok.log;
       found = told.0;
@@ -34,4 +34,4 @@ returns-in-Ok-answer_log-clause-low c =
       most = told.1;
       counted = told.4;
       told = told.5;
-    } in low_lines c.args.show c.args.bytes.now (Ok c.in-Ok-answer_log.answer) found
+    } in low_lines c.args.order c.args.bytes.now (Ok c.in-Ok-answer_log.answer) found

@@ -1,6 +1,6 @@
 -- What was printed so far stands before what the rest gives, and each line took a byte of the text at least.
 use Rattle.std.proofs.Common.{◌≡◌, ◌+◌, ◌≤◌, ◌++◌, length}
-use Rattle.history_text.specs.Splits.{lines_of}
+use Rattle.document_text.specs.Splits.{lines_of}
 use Rattle.lines_reasons.specs.Text.{named_text}
 use Rattle.lines_reasons.proofs.text.push_named.Given as goal
 

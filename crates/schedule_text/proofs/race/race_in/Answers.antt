@@ -1,7 +1,7 @@
 -- The race can be run, as its limit, scripts and opening passed their ranges and laws.
 use Rattle.std.proofs.Common.{rules, ◌≡◌, ◌∙◌, ap, sym, subst, true}
 use Rattle.history_core.specs.Band.{fits}
-use Rattle.history_text.specs.Ranges.{limit_in_range}
+use Rattle.document_text.specs.Ranges.{limit_in_range}
 use Rattle.schedule_text.specs.Plans.{plans_fit, plans_in_range}
 use Rattle.schedule_text.specs.Players.{CanRace}
 use Rattle.schedule_text.specs.Race.{race_in}

@@ -2,7 +2,7 @@
 use Rattle.std.proofs.Common.{◌≡◌, ◌∙◌, ap, length, sym, subst, true}
 use Rattle.matrix_core.specs.Runs.{CanPlay}
 use Rattle.schedule_text.specs.Plans.{are_of, plans_in_range}
-use Rattle.history_text.specs.Ranges.{limit_in_range}
+use Rattle.document_text.specs.Ranges.{limit_in_range}
 use Rattle.schedule_text.proofs.Accepted.{must_holds, single_can_play}
 use Rattle.schedule_text.proofs.terms.single_in.Goals as goal
 

@@ -1,0 +1,17 @@
+//! What documents of every kind share: the JSON value that they are, their keys, shapes, ranges and refusals, and the lines of a text.
+#![tactic(auto)]
+
+mod fields;
+mod kinds;
+mod ranges;
+mod read;
+mod split;
+mod value;
+
+pub use fields::{must, number_field, required, shaped};
+pub use fsr_refusals::{DocError, Key};
+pub use kinds::are_lines;
+pub use ranges::{MAX_OPERATIONS, count_in_range, limit_in_range};
+pub use read::{is_kind, read_value};
+pub use split::split_line;
+pub use value::{items_in, kind_of, optional_number, place_in};

@@ -1,0 +1,3 @@
+-- What the check of an order stands on.
+pub mod Backwards
+pub mod Entries

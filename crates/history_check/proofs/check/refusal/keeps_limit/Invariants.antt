@@ -1,0 +1,6 @@
+-- The writes among the entries met so far are counted, and its refused writes are lawful.
+use Rattle.history_core.proofs.Limits.{CountsTo}
+use Rattle.history_check.proofs.check.refusal.keeps_limit.Given as goal
+
+abbrev pub invariant-loop-place : goal.invariant-loop-place
+invariant-loop-place g l = CountsTo l.first l.next l.limit l.ops l.order l.place-index l.writes

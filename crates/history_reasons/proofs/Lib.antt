@@ -1,3 +1,0 @@
--- Lemmas.
-pub mod Atomic
-pub mod Counts

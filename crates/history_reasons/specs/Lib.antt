@@ -1,4 +1,0 @@
--- What the contracts speak of.
-pub mod Kept
-pub mod Reasons
-pub mod Searches

@@ -1,8 +1,0 @@
-//! The search of a thinned log: what one of the whole log would answer, and how many writes can stand before the first refused write.
-#![tactic(auto)]
-
-mod limit;
-mod search;
-
-pub use limit::counted;
-pub use search::search_thinned;
