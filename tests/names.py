@@ -22,7 +22,7 @@ TWINS = (
 
 # Names of one idea over two kinds of thing, as a call of a history and one of a running board, or a slot that has what it was to get.
 OVER_TWO = {
-    "AreForwards", "EndsBefore", "IsBelow", "IsBoardRun", "IsCall", "IsCounted", "IsEarly", "IsFilled", "IsFresh", "IsReady", "IsRefused", "Sees",
+    "AreForwards", "EndsBefore", "IsBelow", "IsBoardRun", "IsCall", "IsCounted", "IsEarly", "IsFresh", "IsReady", "Sees",
     "WritesOnce",
 }
 

@@ -4,7 +4,7 @@ ghost use Rattle.std.specs.Borrow.{sem, follows_so, LendsSoOk};
 ghost use mathlib.Core.Option.{none};
 ghost use Rattle.c_registers.specs.TripleCalls.{IsMade, HasWritten, HasPublished, HasRead, Stays, at_hand, in_slot, writer_with};
 ghost use Rattle.c_registers.specs.Handles.{IsMake, IsWrite, IsPublish, IsRead, IsLook, IsHold, IsBack, IsEnd};
-ghost use Rattle.c_registers.specs.Handles.{Has, IsFilled, IsRefused};
+ghost use Rattle.c_registers.specs.Handles.{Has, IsSlotFilled, LacksSide};
 ghost use Rattle.c_registers.specs.declared.triple.TripleWriter.{TripleWriter};
 ghost use Rattle.c_handles.specs.Held.{held};
 ghost use Rattle.c_handles.specs.contracts.handle.Handle as handle;
@@ -100,9 +100,9 @@ pub fn triple_hold<'a, W: Record>(reader: &'a mut Handle, at: &mut &'a W) -> Len
 #[inline]
 pub fn triple_slot<'a, W: Record>(writer: &'a mut Handle) -> Result<&'a mut W, u32>
     ensures* lent { sem 𝓛 (LendsSoOk handle.the_row W.row writer.entry result
-        (λ h w. IsFilled (λ p. W.side (TripleWrites p)) writer_with (held writer.old) (held h) w) (λ h. held h ≡ held writer.old)) }
+        (λ h w. IsSlotFilled (λ p. W.side (TripleWrites p)) writer_with (held writer.old) (held h) w) (λ h. held h ≡ held writer.old)) }
     ensures ok { IfOk result (λ at. (p : TripleWriter W) × Has (held writer.old) (W.side (TripleWrites p)) × (at.now ≡ (in_slot p).words)) }
-    ensures err { IfErr result (λ n. IsRefused (λ p. W.side (TripleWrites p)) (held writer.old) n) }
+    ensures err { IfErr result (λ n. LacksSide (λ p. W.side (TripleWrites p)) (held writer.old) n) }
 {
     if writer.live == 0 {
         return Err(ENDED);

@@ -68,13 +68,13 @@ module _ {D : Type 0} where
     other : HasOther reads h → k ≡ h → IsBack reads stays h k
 
   -- what a handle has once the words in its writing side's slot, which were lent, are back: that side with them in its slot
-  abbrev pub IsFilled : {P W : Type 0} → (P → D) → (P → W → P) → Holding D → Holding D → W → Type 0
-  IsFilled writes filled h k w = (p : _) × Has h (writes p) × Has k (writes (filled p w)) × (k.live ≡ h.live)
+  abbrev pub IsSlotFilled : {P W : Type 0} → (P → D) → (P → W → P) → Holding D → Holding D → W → Type 0
+  IsSlotFilled writes filled h k w = (p : _) × Has h (writes p) × Has k (writes (filled p w)) × (k.live ≡ h.live)
 
   -- why a call on a side was refused, as its status: the handle has none, or another one
-  pub data IsRefused {S : Type 0} (side : S → D) (h : Holding D) : ℕ → Type 0 where
-    ended : h.live ≡ 0 → IsRefused side h 3
-    other : HasOther side h → IsRefused side h 5
+  pub data LacksSide {S : Type 0} (side : S → D) (h : Holding D) : ℕ → Type 0 where
+    ended : h.live ≡ 0 → LacksSide side h 3
+    other : HasOther side h → LacksSide side h 5
 
   -- a call that makes what led to one record lead to the last answer's, or to the one in a writing side's slot, and its status: the handle
   -- before, and the two records

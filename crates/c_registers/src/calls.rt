@@ -38,7 +38,7 @@ pub fn make<D: Offers<P> + Offers<G>, H: Hand<D>, W: Copy, P: Opens<W, G>, G: Re
     if reader.is_live() {
         return IN_USE;
     }
-    let Ok((put, get)) = P::open(alloc, *first) else {
+    let Ok((put, get)) = P::open(alloc, first) else {
         return NO_MEMORY;
     };
     let Some(put) = boxed::<D, P>(alloc, put) else {

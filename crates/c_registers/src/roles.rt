@@ -42,6 +42,6 @@ pub trait Opens<W: Copy, G: Reading<W>>: Writing<W> {
     ghost is_made: { Self → G → W → Type 0 };
 
     /// A cell with the opening numbered 0, as its two sides.
-    fn open(alloc: Global, words: W) -> Result<(Self, G), AllocError>
-        ensures { IfOk result (λ r. is_made r.0 r.1 words) };
+    fn open(alloc: Global, words: &W) -> Result<(Self, G), AllocError>
+        ensures { IfOk result (λ r. is_made r.0 r.1 words.now) };
 }

@@ -26,10 +26,10 @@ module _ {T : Type 0} where
   opening_of c = c.table.inner.shared.key
 
   abbrev pub put_notes : FourSlotPut T → WriterNotes T
-  put_notes p = writer_or (first_writer p.spare) p.seat.inner.me.0
+  put_notes p = writer_or (first_writer p.spare.value) p.seat.inner.me.0
 
   abbrev pub get_notes : FourSlotGet T → ReaderNotes T
-  get_notes g = reader_or (first_reader g.spare) g.seat.inner.me.0
+  get_notes g = reader_or (first_reader g.spare.value) g.seat.inner.me.0
 
   abbrev pub is_put_of : FourSlotCell T → FourSlotPut T → Type 0
   is_put_of c p = IsName (record { table = p.seat.inner.table_id; opening = (put_notes p).opening.value }) (cell_name c)
@@ -51,14 +51,14 @@ module _ {T : Type 0} where
 
   -- the record that a receipt names
   abbrev pub named_by : FourSlotTold T → T
-  named_by t = (receipt_or (dated t.spare) t.seat.inner.me.0).item
+  named_by t = (receipt_or (dated t.spare.value) t.seat.inner.me.0).item
 
   -- a time at which that record was written, and all the writes up to then
   abbrev pub time_of : FourSlotTold T → ℕ
-  time_of t = (receipt_or (dated t.spare) t.seat.inner.me.0).time
+  time_of t = (receipt_or (dated t.spare.value) t.seat.inner.me.0).time
 
   abbrev pub writes_of : FourSlotTold T → Known T
-  writes_of t = (receipt_or (dated t.spare) t.seat.inner.me.0).writes
+  writes_of t = (receipt_or (dated t.spare.value) t.seat.inner.me.0).writes
 
   -- the calls made with a pass, in the table's time; the numbers of the answers; the writes of which a reader knows; and those of which
   -- receipts told it

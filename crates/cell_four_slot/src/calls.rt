@@ -15,7 +15,7 @@ ghost use Rattle.cell_four_slot.specs.Words.{heard_by, writes_of};
 use crate::bits::{bit_of, other_bit, set_bit, slot_of, word_of};
 use crate::cell::{FourSlotCell, FourSlotGet, FourSlotPut, FourSlotTold};
 use crate::table::FourSlotTable;
-use cell_live::{Calls, Cell, Kept, Lawful, Lays, Whole};
+use cell_live::{Calls, Cell, Kept, Lawful, Lays, Spare, Whole};
 use std::alloc::{AllocError, Global};
 use std::marker::Brand;
 
@@ -34,6 +34,40 @@ fn choose<T: Lawful>(cell: &FourSlotCell<T>, get: &mut FourSlotGet<T>) -> usize
 }
 
 impl<T: Lawful> FourSlotCell<T> {
+    /// A cell that holds what lies at `first`, with its two passes.
+    pub fn make_from(
+        alloc: Global,
+        first: &T,
+    ) -> Result<(Self, FourSlotPut<T>, FourSlotGet<T>), AllocError>
+        requires { T.fits first.now }
+        ensures own { IfOk result (λ r. (opening_of r.0 ≡ first.now) × is_put_of r.0 r.1 × is_get_of r.0 r.2) }
+        ensures empty { IfOk result (λ r. (written_by r.1 ≡ []) × (answers_of r.2 ≡ []) × (told_to r.2 ≡ [])) }
+        ensures unused { IfOk result (λ r. (writer_accesses r.1 ≡ 0) × (reader_accesses r.2 ≡ 0)) }
+        ensures events { IfOk result (λ r. (write_events r.1 ≡ []) × (read_events r.2 ≡ [])) }
+        ensures timeless { IfOk result (λ r. (put_times r.1 ≡ no_times) × (get_times r.2 ≡ no_times) × (numbers_of r.2 ≡ [])
+            × (known_to r.2 ≡ none_known)) }
+        ensures unheard { IfOk result (λ r. heard_by r.2 ≡ []) }
+    {
+        let (table, mut put) = FourSlotTable::new(alloc, first)?;
+        let get = table.part(&mut put);
+        let put_spare = Spare::of(first);
+        let get_spare = Spare::of(first);
+        Ok((
+            FourSlotCell { table },
+            FourSlotPut {
+                seat: put,
+                remembered: [0, 0],
+                latest: 0,
+                spare: put_spare,
+            },
+            FourSlotGet {
+                seat: get,
+                said: 2,
+                spare: get_spare,
+            },
+        ))
+    }
+
     /// Shows the record that the parts make to the reader, and copies each part once, into the slot.
     #[inline]
     pub fn write_laid<L: Lays<T>>(&self, put: &mut FourSlotPut<T>, parts: &L)
@@ -115,22 +149,7 @@ impl<T: Lawful> Calls<T> for FourSlotCell<T> {
             × (known_to r.2 ≡ none_known)) }
         ensures unheard { IfOk result (λ r. heard_by r.2 ≡ []) }
     {
-        let (table, mut put) = FourSlotTable::new(alloc, first)?;
-        let get = table.part(&mut put);
-        Ok((
-            FourSlotCell { table },
-            FourSlotPut {
-                seat: put,
-                remembered: [0, 0],
-                latest: 0,
-                spare: first,
-            },
-            FourSlotGet {
-                seat: get,
-                said: 2,
-                spare: first,
-            },
-        ))
+        FourSlotCell::make_from(alloc, &first)
     }
 
     #[inline]
@@ -224,10 +243,8 @@ impl<T: Lawful> Calls<T> for FourSlotCell<T> {
         ensures tells { writes_of result ≡ known_as (written_by put.old) (put_times put.old) }
     {
         let seat = self.table.tell(&mut put.seat);
-        FourSlotTold {
-            seat,
-            spare: put.spare,
-        }
+        let spare = put.spare.again();
+        FourSlotTold { seat, spare }
     }
 
     fn learn(&self, get: &mut FourSlotGet<T>, receipt: FourSlotTold<T>)

@@ -17,7 +17,7 @@ ghost use Rattle.cell_live.specs.Intervals.{dated};
 use crate::notes::FourSlotSight;
 use crate::table::{FourSlotSeat, FourSlotTable};
 use atomic_table::TableRule;
-use cell_live::Lawful;
+use cell_live::{Lawful, Spare};
 
 /// The rule of the table of a four-slot cell.
 pub struct FourSlot;
@@ -47,12 +47,12 @@ pub struct FourSlotPut<T: Copy> {
     /// What `latest` has, as this pass stored it.
     pub(crate) latest: u64,
     /// The opening: the notes' default in proofs.
-    pub(crate) spare: T,
-    ghost known: { seat.inner.me ≡ (Writer (writer_or (first_writer spare) seat.inner.me.0), []) },
-    ghost idle: { (writer_or (first_writer spare) seat.inner.me.0).stage ≡ W5 },
-    ghost bits: { bit_words (writer_or (first_writer spare) seat.inner.me.0).remembered ≡ remembered },
-    ghost shown: { latest ≡ bit_number (writer_or (first_writer spare) seat.inner.me.0).latest },
-    ghost newest: { let p = writer_or (first_writer spare) seat.inner.me.0 in p.finished.value ≡ last_or p.opening.value p.written },
+    pub(crate) spare: Spare<T>,
+    ghost known: { seat.inner.me ≡ (Writer (writer_or (first_writer spare.value) seat.inner.me.0), []) },
+    ghost idle: { (writer_or (first_writer spare.value) seat.inner.me.0).stage ≡ W5 },
+    ghost bits: { bit_words (writer_or (first_writer spare.value) seat.inner.me.0).remembered ≡ remembered },
+    ghost shown: { latest ≡ bit_number (writer_or (first_writer spare.value) seat.inner.me.0).latest },
+    ghost newest: { let p = writer_or (first_writer spare.value) seat.inner.me.0 in p.finished.value ≡ last_or p.opening.value p.written },
 }
 
 /// The right to read a four-slot cell. From its first read on it holds the slot of its last answer.
@@ -62,11 +62,11 @@ pub struct FourSlotGet<T: Copy> {
     /// What `reading` has, as this pass stored it: 2 where it has stored nothing.
     pub(crate) said: u64,
     /// The opening: the notes' default in proofs.
-    pub(crate) spare: T,
-    ghost known: { seat.inner.me.0 ≡ Reader (reader_or (first_reader spare) seat.inner.me.0) },
-    ghost idle: { (reader_or (first_reader spare) seat.inner.me.0).stage ≡ R5 },
-    ghost holds: { let g = reader_or (first_reader spare) seat.inner.me.0 in seat.inner.me.1 ≡ slot_of_choice g.chosen g.at_hand.value },
-    ghost stored: { said ≡ word_said (reader_or (first_reader spare) seat.inner.me.0).chosen },
+    pub(crate) spare: Spare<T>,
+    ghost known: { seat.inner.me.0 ≡ Reader (reader_or (first_reader spare.value) seat.inner.me.0) },
+    ghost idle: { (reader_or (first_reader spare.value) seat.inner.me.0).stage ≡ R5 },
+    ghost holds: { let g = reader_or (first_reader spare.value) seat.inner.me.0 in seat.inner.me.1 ≡ slot_of_choice g.chosen g.at_hand.value },
+    ghost stored: { said ≡ word_said (reader_or (first_reader spare.value) seat.inner.me.0).chosen },
 }
 
 /// A receipt of a four-slot cell.
@@ -74,6 +74,6 @@ pub struct FourSlotGet<T: Copy> {
 pub struct FourSlotTold<T: Copy> {
     pub(crate) seat: FourSlotSeat<T>,
     /// The opening: the record's default in proofs.
-    pub(crate) spare: T,
-    ghost known: { seat.inner.me ≡ (Told (snap (receipt_or (dated spare) seat.inner.me.0)), []) },
+    pub(crate) spare: Spare<T>,
+    ghost known: { seat.inner.me ≡ (Told (snap (receipt_or (dated spare.value) seat.inner.me.0)), []) },
 }

@@ -14,10 +14,12 @@ mod closed;
 pub mod laws;
 mod lays;
 mod sight;
+mod spare;
 mod times;
 
 pub use cell::{Calls, Cell, Kept, Lawful};
 pub use closed::empty;
 pub use lays::{Lays, Whole};
 pub use sight::{Parts, Sight};
+pub use spare::Spare;
 pub use times::{Dated, Known, Times};

@@ -1,7 +1,7 @@
 -- The intervals of the calls and the numbers of the answers through each step, at a time later than all before. A write is one step, and
 -- the step that decides a read finds the record written last.
-use Rattle.std.proofs.Common.{◌≡◌, ℕ, ◌+◌, ◌<◌, ◌≤◌, max, List, [], ◌∷◌, ◌++◌, length, slice_get, Some, refl, sym, ap, ◌∙◌, arith, subst}
-use Rattle.std.proofs.Common.{length-append, le_refl, le_trans}
+use Rattle.std.proofs.Common.{◌≡◌, ℕ, ◌+◌, ◌<◌, ◌≤◌, max, [], ◌∷◌, ◌++◌, length, slice_get, Some, refl, sym, ◌∙◌, arith}
+use Rattle.std.proofs.Common.{length-append, le_refl}
 use native.Mathlib.Nat.{le-max_left, max-le}
 use Rattle.std.proofs.lemmas.Option.{slice_get_within, none-some}
 use Rattle.four_slot_core.proofs.Pushed.{get_before, get_within}

@@ -22,7 +22,7 @@ module _ {T : Type 0} where
 
   -- the record in the slot that the writer's pass holds, of which the default is never taken
   abbrev pub placed_by : TriplePut T → T
-  placed_by p = (get_or p.seat.inner.me.1 0 (p.slot, p.spare)).1
+  placed_by p = (get_or p.seat.inner.me.1 0 (p.slot, p.spare.value)).1
 
   -- the writer's pass with x in its slot: it knows the same, and holds the same slot and no other
   abbrev pub put_with : TriplePut T → T → TriplePut T

@@ -1,17 +1,17 @@
 //! The calls of the triple buffer.
-ghost use Rattle.std.specs.Prelude.{◌≡◌, ℕ, ◌+◌, ◌<◌, ◌≤◌, [], ◌∷◌, ◌++◌};
+ghost use Rattle.std.specs.Prelude.{◌≡◌, ℕ, ◌+◌, ◌<◌, ◌≤◌, [], ◌∷◌, ◌++◌, IfOk};
 ghost use Rattle.std.specs.Fn.{FnOnceTakesAt, FnOnceReturnsAt};
 ghost use Rattle.cell_live.specs.Running.{last_or, IsAnswer};
 ghost use Rattle.cell_triple.specs.Words.{opening_of, is_put_of, is_get_of, is_told_of, written_by, answers_of, at_hand_of, told_to};
 ghost use Rattle.cell_triple.specs.Words.{named_by, swaps_of_put, loads_of, swaps_of, held_by, found_by, HasLooked};
 ghost use Rattle.cell_triple.specs.Words.{put_times, get_times, numbers_of, known_to, time_of, heard_by, writes_of};
-ghost use Rattle.cell_live.specs.Intervals.{AreHeeded, IsNextAnswer, IsNextCall};
+ghost use Rattle.cell_live.specs.Intervals.{AreHeeded, IsNextAnswer, IsNextCall, no_times, none_known};
 ghost use Rattle.cell_triple.specs.Words.{get_notes};
 ghost use Rattle.cell_triple.specs.Lent.{placed_by};
 
 use crate::cell::{TripleCell, TripleGet, TriplePut, TripleTold};
 use crate::table::TripleTable;
-use cell_live::{Calls, Cell, Kept, Lawful, Lays, Whole};
+use cell_live::{Calls, Cell, Kept, Lawful, Lays, Spare, Whole};
 use std::alloc::{AllocError, Global};
 
 /// Takes the middle slot where the word has the mark. The answer is then at hand.
@@ -29,6 +29,40 @@ fn refresh<T: Lawful>(cell: &TripleCell<T>, get: &mut TripleGet<T>)
 }
 
 impl<T: Lawful> TripleCell<T> {
+    /// A cell that holds what lies at `first`, with its two passes.
+    pub fn make_from(
+        alloc: Global,
+        first: &T,
+    ) -> Result<(Self, TriplePut<T>, TripleGet<T>), AllocError>
+        requires { T.fits first.now }
+        ensures own { IfOk result (λ r. (opening_of r.0 ≡ first.now) × is_put_of r.0 r.1 × is_get_of r.0 r.2) }
+        ensures empty { IfOk result (λ r. (written_by r.1 ≡ []) × (answers_of r.2 ≡ []) × (told_to r.2 ≡ [])) }
+        ensures unused { IfOk result (λ r. (swaps_of_put r.1 ≡ 0) × (loads_of r.2 + swaps_of r.2 ≡ 0)) }
+        ensures timeless { IfOk result (λ r. (put_times r.1 ≡ no_times) × (get_times r.2 ≡ no_times) × (numbers_of r.2 ≡ [])
+            × (known_to r.2 ≡ none_known)) }
+        ensures unheard { IfOk result (λ r. heard_by r.2 ≡ []) }
+    {
+        let (table, mut put) = TripleTable::new(alloc, first)?;
+        let mut get = table.part(&mut put);
+        table.take_put(&mut put);
+        table.take_get(&mut get);
+        let put_spare = Spare::of(first);
+        let get_spare = Spare::of(first);
+        Ok((
+            TripleCell { table },
+            TriplePut {
+                seat: put,
+                slot: 0,
+                spare: put_spare,
+            },
+            TripleGet {
+                seat: get,
+                slot: 2,
+                spare: get_spare,
+            },
+        ))
+    }
+
     /// Shows the record that the parts make to the reader, and copies each part once, into the slot.
     #[inline]
     pub fn write_laid<L: Lays<T>>(&self, put: &mut TriplePut<T>, parts: &L)
@@ -119,23 +153,7 @@ impl<T: Lawful> Calls<T> for TripleCell<T> {
     ghost heard = { heard_by };
 
     fn make(alloc: Global, first: T) -> Result<(Self, TriplePut<T>, TripleGet<T>), AllocError> {
-        let (table, mut put) = TripleTable::new(alloc, first)?;
-        let mut get = table.part(&mut put);
-        table.take_put(&mut put);
-        table.take_get(&mut get);
-        Ok((
-            TripleCell { table },
-            TriplePut {
-                seat: put,
-                slot: 0,
-                spare: first,
-            },
-            TripleGet {
-                seat: get,
-                slot: 2,
-                spare: first,
-            },
-        ))
+        TripleCell::make_from(alloc, &first)
     }
 
     #[inline]
@@ -217,10 +235,8 @@ impl<T: Lawful> Calls<T> for TripleCell<T> {
 
     fn tell(&self, put: &mut TriplePut<T>) -> TripleTold<T> {
         let seat = self.table.tell(&mut put.seat);
-        TripleTold {
-            seat,
-            spare: put.spare,
-        }
+        let spare = put.spare.again();
+        TripleTold { seat, spare }
     }
 
     fn learn(&self, get: &mut TripleGet<T>, receipt: TripleTold<T>) {

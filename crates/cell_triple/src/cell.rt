@@ -12,7 +12,7 @@ ghost use Rattle.cell_live.specs.Intervals.{dated};
 use crate::notes::TripleSight;
 use crate::table::{TripleSeat, TripleTable};
 use atomic_table::TableRule;
-use cell_live::Lawful;
+use cell_live::{Lawful, Spare};
 
 /// The rule of the table of a triple buffer.
 pub struct Triple;
@@ -38,9 +38,9 @@ pub struct TriplePut<T: Copy> {
     pub(crate) seat: TripleSeat<T>,
     pub(crate) slot: usize,
     /// The opening: the notes' default in proofs.
-    pub(crate) spare: T,
-    ghost known: { seat.inner.me.0 ≡ Writer (writer_or (first_writer spare) seat.inner.me.0) },
-    ghost ready: { let p = writer_or (first_writer spare) seat.inner.me.0 in (p.has ≡ 1) × (p.slot ≡ slot) },
+    pub(crate) spare: Spare<T>,
+    ghost known: { seat.inner.me.0 ≡ Writer (writer_or (first_writer spare.value) seat.inner.me.0) },
+    ghost ready: { let p = writer_or (first_writer spare.value) seat.inner.me.0 in (p.has ≡ 1) × (p.slot ≡ slot) },
     ghost held: { held_slots seat.inner.me.1 ≡ slot ∷ [] },
     ghost low: { slot < 3 },
 }
@@ -51,10 +51,10 @@ pub struct TripleGet<T: Copy> {
     pub(crate) seat: TripleSeat<T>,
     pub(crate) slot: usize,
     /// The opening: the notes' default in proofs.
-    pub(crate) spare: T,
-    ghost known: { seat.inner.me.0 ≡ Reader (reader_or (first_reader spare) seat.inner.me.0) },
-    ghost ready: { let g = reader_or (first_reader spare) seat.inner.me.0 in (g.has ≡ 1) × (g.slot ≡ slot) × (g.asked ≡ 0) },
-    ghost held: { seat.inner.me.1 ≡ (slot, (reader_or (first_reader spare) seat.inner.me.0).at_hand.value) ∷ [] },
+    pub(crate) spare: Spare<T>,
+    ghost known: { seat.inner.me.0 ≡ Reader (reader_or (first_reader spare.value) seat.inner.me.0) },
+    ghost ready: { let g = reader_or (first_reader spare.value) seat.inner.me.0 in (g.has ≡ 1) × (g.slot ≡ slot) × (g.asked ≡ 0) },
+    ghost held: { seat.inner.me.1 ≡ (slot, (reader_or (first_reader spare.value) seat.inner.me.0).at_hand.value) ∷ [] },
     ghost low: { slot < 3 },
 }
 
@@ -63,6 +63,6 @@ pub struct TripleGet<T: Copy> {
 pub struct TripleTold<T: Copy> {
     pub(crate) seat: TripleSeat<T>,
     /// The opening: the record's default in proofs.
-    pub(crate) spare: T,
-    ghost known: { seat.inner.me ≡ (Told (snap (receipt_or (dated spare) seat.inner.me.0)), []) },
+    pub(crate) spare: Spare<T>,
+    ghost known: { seat.inner.me ≡ (Told (snap (receipt_or (dated spare.value) seat.inner.me.0)), []) },
 }

@@ -38,16 +38,16 @@ pub struct TripleSeat<T: Copy> {
 
 impl<T: Lawful> TripleTable<T> {
     /// A table with the record in each slot, and its first seat.
-    pub(crate) fn new(alloc: Global, first: T) -> Result<(Self, TripleSeat<T>), AllocError>
-        requires { T.fits first }
-        ensures key { IfOk result (λ r. r.0.inner.shared.key ≡ first) }
-        ensures seat { IfOk result (λ r. (r.1.inner.table_id ≡ r.0.inner.shared.table_id) × (r.1.inner.me ≡ (first_sight first, []))) }
+    pub(crate) fn new(alloc: Global, first: &T) -> Result<(Self, TripleSeat<T>), AllocError>
+        requires { T.fits first.now }
+        ensures key { IfOk result (λ r. r.0.inner.shared.key ≡ first.now) }
+        ensures seat { IfOk result (λ r. (r.1.inner.table_id ≡ r.0.inner.shared.table_id) × (r.1.inner.me ≡ (first_sight first.now, []))) }
     {
         let mut slots = Vec::new(alloc);
-        slots.push(first).map_err(|_| AllocError)?;
-        slots.push(first).map_err(|_| AllocError)?;
-        slots.push(first).map_err(|_| AllocError)?;
-        let (table, seat) = Table::new(alloc, &[1], slots, &first).map_err(|_| AllocError)?;
+        slots.push(*first).map_err(|_| AllocError)?;
+        slots.push(*first).map_err(|_| AllocError)?;
+        slots.push(*first).map_err(|_| AllocError)?;
+        let (table, seat) = Table::new(alloc, &[1], slots, first).map_err(|_| AllocError)?;
         Ok((TripleTable { inner: table }, TripleSeat { inner: seat }))
     }
 

@@ -45,8 +45,15 @@ impl<W: Copy> Writing<W> for FourSlotWriter<W> {
 impl<W: Copy> Opens<W, FourSlotReader<W>> for FourSlotWriter<W> {
     ghost is_made = { IsMade };
 
-    fn open(alloc: Global, words: W) -> Result<(FourSlotWriter<W>, FourSlotReader<W>), AllocError> {
-        let (cell, put, get) = FourSlotCell::make(alloc, Numbered { number: 0, words })?;
+    fn open(
+        alloc: Global,
+        words: &W,
+    ) -> Result<(FourSlotWriter<W>, FourSlotReader<W>), AllocError> {
+        let opening = Numbered {
+            number: 0,
+            words: *words,
+        };
+        let (cell, put, get) = FourSlotCell::make_from(alloc, &opening)?;
         let put = Box::new(alloc, put)?;
         let get = Box::new(alloc, get)?;
         let cell = Arc::new(alloc, cell)?;

@@ -44,8 +44,12 @@ impl<W: Copy> Writing<W> for TripleWriter<W> {
 impl<W: Copy> Opens<W, TripleReader<W>> for TripleWriter<W> {
     ghost is_made = { IsMade };
 
-    fn open(alloc: Global, words: W) -> Result<(TripleWriter<W>, TripleReader<W>), AllocError> {
-        let (cell, put, get) = TripleCell::make(alloc, Numbered { number: 0, words })?;
+    fn open(alloc: Global, words: &W) -> Result<(TripleWriter<W>, TripleReader<W>), AllocError> {
+        let opening = Numbered {
+            number: 0,
+            words: *words,
+        };
+        let (cell, put, get) = TripleCell::make_from(alloc, &opening)?;
         let put = Box::new(alloc, put)?;
         let get = Box::new(alloc, get)?;
         let cell = Arc::new(alloc, cell)?;

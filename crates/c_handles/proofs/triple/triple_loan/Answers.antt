@@ -1,12 +1,12 @@
 -- What `triple_slot` gave, or why it gave nothing.
 use Rattle.std.proofs.Common.{ℕ, refl}
-use Rattle.c_registers.specs.Handles.{Holding, IsRefused, IsHold, done}
+use Rattle.c_registers.specs.Handles.{Holding, LacksSide, IsHold, done}
 use Rattle.c_registers.specs.Handles as handles
 use Rattle.c_registers.specs.declared.numbered.Numbered.{Numbered}
 use Rattle.c_handles.proofs.triple.triple_loan.Goals as goal
 
 refused : {D G W : Type 0} (side : G → D) (lies : G → Numbered W) (h : Holding D) (seen : W) (n : ℕ)
-    → IsRefused side h n → IsHold side lies h seen seen n
+    → LacksSide side h n → IsHold side lies h seen seen n
 refused side lies h seen n (handles.ended none) = handles.ended none refl
 refused side lies h seen n (handles.other none) = handles.other none refl
 

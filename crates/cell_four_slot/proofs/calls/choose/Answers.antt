@@ -16,13 +16,13 @@ use Rattle.cell_four_slot.proofs.calls.choose.Goals as goal
 pub announce-latest-requires-clause-idle : goal.announce-latest-requires-clause-idle
 announce-latest-requires-clause-idle g c =
     let get = c.args.get.now in
-    let n : ReaderNotes g.row.T.Denot = reader_or (first_reader get.spare) get.seat.inner.me.0 in
+    let n : ReaderNotes g.row.T.Denot = reader_or (first_reader get.spare.value) get.seat.inner.me.0 in
     (n, (λ i. (get.known i, get.holds i)), get.idle, get.stored)
 
 pub take-index-requires-clause-said : goal.take-index-requires-clause-said
 take-index-requires-clause-said g c =
     let get = c.args.get.now in
-    let n : ReaderNotes g.row.T.Denot = reader_or (first_reader get.spare) get.seat.inner.me.0 in
+    let n : ReaderNotes g.row.T.Denot = reader_or (first_reader get.spare.value) get.seat.inner.me.0 in
     let a = c.announce-latest.ensures.announced n get.known get.holds in
     let n2 : ReaderNotes g.row.T.Denot = said_with (asked_by n a.0 a.2) a.4 a.3 in
     let word : c.word_of-word.result ≡ 10 + bit_number a.0 = c.word_of-word.ensures a.0 a.1 in
@@ -31,13 +31,13 @@ take-index-requires-clause-said g c =
 pub word_of-word-requires : goal.word_of-word-requires
 word_of-word-requires g c =
     let get = c.args.get.now in
-    let n : ReaderNotes g.row.T.Denot = reader_or (first_reader get.spare) get.seat.inner.me.0 in
+    let n : ReaderNotes g.row.T.Denot = reader_or (first_reader get.spare.value) get.seat.inner.me.0 in
     let a = c.announce-latest.ensures.announced n get.known get.holds in (a.0, a.1)
 
 pub slot_of-requires : goal.slot_of-requires
 slot_of-requires g c =
     let get = c.args.get.now in
-    let n : ReaderNotes g.row.T.Denot = reader_or (first_reader get.spare) get.seat.inner.me.0 in
+    let n : ReaderNotes g.row.T.Denot = reader_or (first_reader get.spare.value) get.seat.inner.me.0 in
     let a = c.announce-latest.ensures.announced n get.known get.holds in
     let n2 : ReaderNotes g.row.T.Denot = said_with (asked_by n a.0 a.2) a.4 a.3 in
     let t = c.take-index.ensures.taken n2 a.9 in (a.0, t.0, a.1, t.2)
@@ -45,10 +45,10 @@ slot_of-requires g c =
 pub invariant_of-get : goal.invariant_of-get
 invariant_of-get g c =
     let get = c.args.get.now in
-    let n : ReaderNotes g.row.T.Denot = reader_or (first_reader get.spare) get.seat.inner.me.0 in
+    let n : ReaderNotes g.row.T.Denot = reader_or (first_reader get.spare.value) get.seat.inner.me.0 in
     let a = c.announce-latest.ensures.announced n get.known get.holds in
     let n2 : ReaderNotes g.row.T.Denot = said_with (asked_by n a.0 a.2) a.4 a.3 in
-    let t = c.take-index.ensures.taken n2 a.9 in let d : ReaderNotes g.row.T.Denot = first_reader get.spare in let v = t.7 in
+    let t = c.take-index.ensures.taken n2 a.9 in let d : ReaderNotes g.row.T.Denot = first_reader get.spare.value in let v = t.7 in
     record {
       known = v ∙ ap (λ z. Reader (reader_or d z)) (sym v);
       idle = ap (λ z. (reader_or d z).stage) v;
@@ -59,10 +59,10 @@ invariant_of-get g c =
 pub returns : goal.returns
 returns g c =
     let get = c.args.get.now in
-    let n : ReaderNotes g.row.T.Denot = reader_or (first_reader get.spare) get.seat.inner.me.0 in
+    let n : ReaderNotes g.row.T.Denot = reader_or (first_reader get.spare.value) get.seat.inner.me.0 in
     let a = c.announce-latest.ensures.announced n get.known get.holds in
     let n2 : ReaderNotes g.row.T.Denot = said_with (asked_by n a.0 a.2) a.4 a.3 in
-    let t = c.take-index.ensures.taken n2 a.9 in let d : ReaderNotes g.row.T.Denot = first_reader get.spare in let v = t.7 in
+    let t = c.take-index.ensures.taken n2 a.9 in let d : ReaderNotes g.row.T.Denot = first_reader get.spare.value in let v = t.7 in
     let slot : c.slot_of.result ≡ slot_number (slot_with a.0 t.0) = c.slot_of.ensures a.0 t.0 a.1 t.2 in
     let next : IsNextCall n.times (got_by n2 t.0 t.1 t.3 t.4 t.5).times =
     record { begin = a.2; end = t.3; after = a.5; forwards = le_trans a.6 (le_of_lt t.6); begins = refl; ends = refl; clock = refl } in

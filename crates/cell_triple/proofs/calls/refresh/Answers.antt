@@ -1,5 +1,5 @@
 -- The load tells the notes whether the word had the mark: without it the answer is at hand, with it the swap brings it.
-use Rattle.std.proofs.Common.{rules, arith, ◌≡◌, ◌+◌, ◌%◌, ◌∷◌, ◌++◌, [], sym, ap, ◌∙◌, subst, refl, le_refl}
+use Rattle.std.proofs.Common.{rules, arith, ◌≡◌, ◌%◌, ◌∷◌, ◌++◌, [], sym, ap, ◌∙◌, subst, refl, le_refl}
 use Rattle.cell_live.specs.Running.{IsAnswer, last_or}
 use Rattle.cell_live.specs.Sights.{reader_or}
 use Rattle.cell_triple.specs.Steps.{first_reader, asked_by}
@@ -12,13 +12,13 @@ use Rattle.cell_triple.proofs.calls.refresh.Goals as goal
 pub look-found-requires-clause-idle : goal.look-found-requires-clause-idle
 look-found-requires-clause-idle g c =
     let get = c.args.get.now in
-    let n : ReaderNotes g.row.T.Denot = reader_or (first_reader get.spare) get.seat.inner.me.0 in
+    let n : ReaderNotes g.row.T.Denot = reader_or (first_reader get.spare.value) get.seat.inner.me.0 in
     (n, get.known, get.ready.2)
 
 pub invariant_of-get : goal.invariant_of-get
 invariant_of-get g c =
     let get = c.args.get.now in
-    let d : ReaderNotes g.row.T.Denot = first_reader get.spare in
+    let d : ReaderNotes g.row.T.Denot = first_reader get.spare.value in
     let n : ReaderNotes g.row.T.Denot = reader_or d get.seat.inner.me.0 in
     let t = c.look-found.ensures.looked n get.known in let v = (t.2 c.if-found-lt4.true).4 in let had = t.0 ∙ get.held in record {
       known = v ∙ ap (λ z. Reader (reader_or d z)) (sym v);
@@ -34,7 +34,7 @@ invariant_of-get g c =
 pub returns-then-found-lt4 : goal.returns-then-found-lt4
 returns-then-found-lt4 g c =
     let get = c.args.get.now in
-    let d : ReaderNotes g.row.T.Denot = first_reader get.spare in
+    let d : ReaderNotes g.row.T.Denot = first_reader get.spare.value in
     let n : ReaderNotes g.row.T.Denot = reader_or d get.seat.inner.me.0 in
     let t = c.look-found.ensures.looked n get.known in
     let u = t.2 c.if-found-lt4.true in let v = u.4 in
@@ -67,7 +67,7 @@ returns-then-found-lt4 g c =
 pub fetch-taken-requires-clause-marked : goal.fetch-taken-requires-clause-marked
 fetch-taken-requires-clause-marked g c =
     let get = c.args.get.now in
-    let n : ReaderNotes g.row.T.Denot = reader_or (first_reader get.spare) get.seat.inner.me.0 in
+    let n : ReaderNotes g.row.T.Denot = reader_or (first_reader get.spare.value) get.seat.inner.me.0 in
     let t = c.look-found.ensures.looked n get.known in
     let m : ReaderNotes g.row.T.Denot = asked_by n c.look-found.result in
     let had = t.0 ∙ get.held in
@@ -77,7 +77,7 @@ fetch-taken-requires-clause-marked g c =
 pub invariant_of-get-2 : goal.invariant_of-get-2
 invariant_of-get-2 g c =
     let get = c.args.get.now in
-    let d : ReaderNotes g.row.T.Denot = first_reader get.spare in
+    let d : ReaderNotes g.row.T.Denot = first_reader get.spare.value in
     let n : ReaderNotes g.row.T.Denot = reader_or d get.seat.inner.me.0 in
     let t = c.look-found.ensures.looked n get.known in
     let m : ReaderNotes g.row.T.Denot = asked_by n c.look-found.result in
@@ -95,7 +95,7 @@ invariant_of-get-2 g c =
 pub returns : goal.returns
 returns g c =
     let get = c.args.get.now in
-    let d : ReaderNotes g.row.T.Denot = first_reader get.spare in
+    let d : ReaderNotes g.row.T.Denot = first_reader get.spare.value in
     let n : ReaderNotes g.row.T.Denot = reader_or d get.seat.inner.me.0 in
     let t = c.look-found.ensures.looked n get.known in
     let m : ReaderNotes g.row.T.Denot = asked_by n c.look-found.result in

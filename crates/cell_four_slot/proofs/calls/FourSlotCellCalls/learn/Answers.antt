@@ -14,12 +14,12 @@ use Rattle.cell_four_slot.proofs.calls.FourSlotCellCalls.learn.Goals as goal
 pub hear-requires-clause-idle : goal.hear-requires-clause-idle
 hear-requires-clause-idle g c =
     let get = c.args.get.now in
-    let n : ReaderNotes g.row.T.Denot = reader_or (first_reader get.spare) get.seat.inner.me.0 in
+    let n : ReaderNotes g.row.T.Denot = reader_or (first_reader get.spare.value) get.seat.inner.me.0 in
     (n, get.known, get.idle)
 
 pub hear-requires-clause-receipt : goal.hear-requires-clause-receipt
 hear-requires-clause-receipt g c = let receipt = c.args.receipt in (
-  snap (receipt_or (dated receipt.spare) receipt.seat.inner.me.0),
+  snap (receipt_or (dated receipt.spare.value) receipt.seat.inner.me.0),
   receipt.known,
 )
 
@@ -27,9 +27,9 @@ pub returns-clause-timed : goal.returns-clause-timed
 returns-clause-timed g c =
     let get = c.args.get.now in
     let receipt = c.args.receipt in
-    let d : ReaderNotes g.row.T.Denot = first_reader get.spare in
+    let d : ReaderNotes g.row.T.Denot = first_reader get.spare.value in
     let n : ReaderNotes g.row.T.Denot = reader_or d get.seat.inner.me.0 in
-    let x : Dated g.row.T.Denot = receipt_or (dated receipt.spare) receipt.seat.inner.me.0 in
+    let x : Dated g.row.T.Denot = receipt_or (dated receipt.spare.value) receipt.seat.inner.me.0 in
     let after : ReaderNotes g.row.T.Denot = heard_by n x in
     let e : c.hear.new.seat.inner.me.0 ≡ Reader after =
     ap (λ m. m.0) c.hear.ensures.joined ∙ (λ i. hears_of (get.known i) ((ap (λ m. m.0) receipt.known) i)) in

@@ -17,7 +17,7 @@ pub begin-reading-requires-clause-idle : goal.begin-reading-requires-clause-idle
 begin-reading-requires-clause-idle g c =
     let item : g.row.T.Denot = g.L.Lays.whole c.args.parts.now in
     let put = c.args.put.now in
-    let p : WriterNotes g.row.T.Denot = writer_or (first_writer put.spare) put.seat.inner.me.0 in
+    let p : WriterNotes g.row.T.Denot = writer_or (first_writer put.spare.value) put.seat.inner.me.0 in
     let named = c.name-named.ensures in
     subst (λ (x : g.row.T.Denot). (q : WriterNotes g.row.T.Denot) × (put.seat.inner.me ≡ (Writer q, [])) × (q.stage ≡ stage.W5)
     × g.T.Lawful.fits x × g.T.Lawful.rises (last_or q.opening.value q.written) x) (sym named) (
@@ -32,7 +32,7 @@ pub bit_of-stored-requires : goal.bit_of-stored-requires
 bit_of-stored-requires g c =
     let item : g.row.T.Denot = g.L.Lays.whole c.args.parts.now in
     let put = c.args.put.now in
-    let d : WriterNotes g.row.T.Denot = first_writer put.spare in
+    let d : WriterNotes g.row.T.Denot = first_writer put.spare.value in
     let p : WriterNotes g.row.T.Denot = writer_or d put.seat.inner.me.0 in
     let is : put.seat.inner.me.0 ≡ Writer p = ap (λ m. m.0) put.known in
     let t = c.begin-reading.ensures.begun p item is (ap (λ z. z ∷ []) c.name-named.ensures) in
@@ -44,7 +44,7 @@ pub slot_of-slot-requires : goal.slot_of-slot-requires
 slot_of-slot-requires g c =
     let item : g.row.T.Denot = g.L.Lays.whole c.args.parts.now in
     let put = c.args.put.now in
-    let d : WriterNotes g.row.T.Denot = first_writer put.spare in
+    let d : WriterNotes g.row.T.Denot = first_writer put.spare.value in
     let p : WriterNotes g.row.T.Denot = writer_or d put.seat.inner.me.0 in
     let is : put.seat.inner.me.0 ≡ Writer p = ap (λ m. m.0) put.known in
     let t = c.begin-reading.ensures.begun p item is (ap (λ z. z ∷ []) c.name-named.ensures) in
@@ -59,7 +59,7 @@ pub set_bit-requires : goal.set_bit-requires
 set_bit-requires g c =
     let item : g.row.T.Denot = g.L.Lays.whole c.args.parts.now in
     let put = c.args.put.now in
-    let d : WriterNotes g.row.T.Denot = first_writer put.spare in
+    let d : WriterNotes g.row.T.Denot = first_writer put.spare.value in
     let p : WriterNotes g.row.T.Denot = writer_or d put.seat.inner.me.0 in
     let is : put.seat.inner.me.0 ≡ Writer p = ap (λ m. m.0) put.known in
     let t = c.begin-reading.ensures.begun p item is (ap (λ z. z ∷ []) c.name-named.ensures) in
@@ -71,7 +71,7 @@ pub fill-requires-clause-held : goal.fill-requires-clause-held
 fill-requires-clause-held g c =
     let item : g.row.T.Denot = g.L.Lays.whole c.args.parts.now in
     let put = c.args.put.now in
-    let d : WriterNotes g.row.T.Denot = first_writer put.spare in
+    let d : WriterNotes g.row.T.Denot = first_writer put.spare.value in
     let p : WriterNotes g.row.T.Denot = writer_or d put.seat.inner.me.0 in
     let is : put.seat.inner.me.0 ≡ Writer p = ap (λ m. m.0) put.known in
     let t = c.begin-reading.ensures.begun p item is (ap (λ z. z ∷ []) c.name-named.ensures) in
@@ -88,7 +88,7 @@ pub publish-requires-clause-filled : goal.publish-requires-clause-filled
 publish-requires-clause-filled g c =
     let item : g.row.T.Denot = g.L.Lays.whole c.args.parts.now in
     let put = c.args.put.now in
-    let d : WriterNotes g.row.T.Denot = first_writer put.spare in
+    let d : WriterNotes g.row.T.Denot = first_writer put.spare.value in
     let p : WriterNotes g.row.T.Denot = writer_or d put.seat.inner.me.0 in
     let is : put.seat.inner.me.0 ≡ Writer p = ap (λ m. m.0) put.known in
     let t = c.begin-reading.ensures.begun p item is (ap (λ z. z ∷ []) c.name-named.ensures) in
@@ -106,7 +106,7 @@ pub invariant_of-put : goal.invariant_of-put
 invariant_of-put g c =
     let item : g.row.T.Denot = g.L.Lays.whole c.args.parts.now in
     let put = c.args.put.now in
-    let d : WriterNotes g.row.T.Denot = first_writer put.spare in
+    let d : WriterNotes g.row.T.Denot = first_writer put.spare.value in
     let p : WriterNotes g.row.T.Denot = writer_or d put.seat.inner.me.0 in
     let is : put.seat.inner.me.0 ≡ Writer p = ap (λ m. m.0) put.known in
     let t = c.begin-reading.ensures.begun p item is (ap (λ z. z ∷ []) c.name-named.ensures) in
@@ -118,7 +118,7 @@ invariant_of-put g c =
     let index : c.other_bit-index.result ≡ bit_number other = c.other_bit-index.ensures (side p.remembered (not b)) stored in
     let slot : c.slot_of-slot.result ≡ slot_number q.slot = c.slot_of-slot.ensures (not b) other pair index in
     let now = c.fill.ensures.filled in let me0 = ap (λ m. m.0) now ∙ t.5 in let me1 = ap (λ m. m.1) now ∙ (λ i. (slot i, item) ∷ []) in
-    let v = c.publish.ensures.published q me0 me1 in let d' : WriterNotes g.row.T.Denot = first_writer put.spare in let w = v.7 in
+    let v = c.publish.ensures.published q me0 me1 in let d' : WriterNotes g.row.T.Denot = first_writer put.spare.value in let w = v.7 in
     record {
       known = λ i. ((w ∙ ap (λ z. Writer (writer_or d' z)) (sym w)) i, v.8 i);
       idle = ap (λ z. (writer_or d' z).stage) w;
@@ -133,7 +133,7 @@ pub returns : goal.returns
 returns g c =
     let item : g.row.T.Denot = g.L.Lays.whole c.args.parts.now in
     let put = c.args.put.now in
-    let d : WriterNotes g.row.T.Denot = first_writer put.spare in
+    let d : WriterNotes g.row.T.Denot = first_writer put.spare.value in
     let p : WriterNotes g.row.T.Denot = writer_or d put.seat.inner.me.0 in
     let is : put.seat.inner.me.0 ≡ Writer p = ap (λ m. m.0) put.known in
     let t = c.begin-reading.ensures.begun p item is (ap (λ z. z ∷ []) c.name-named.ensures) in

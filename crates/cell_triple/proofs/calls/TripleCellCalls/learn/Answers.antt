@@ -13,20 +13,20 @@ use Rattle.cell_triple.proofs.calls.TripleCellCalls.learn.Goals as goal
 pub hear-requires-clause-reader : goal.hear-requires-clause-reader
 hear-requires-clause-reader g c =
     let get = c.args.get.now in
-    let n : ReaderNotes g.row.T.Denot = reader_or (first_reader get.spare) get.seat.inner.me.0 in
+    let n : ReaderNotes g.row.T.Denot = reader_or (first_reader get.spare.value) get.seat.inner.me.0 in
     (n, get.known)
 
 pub hear-requires-clause-receipt : goal.hear-requires-clause-receipt
 hear-requires-clause-receipt g c = let receipt = c.args.receipt in
-    (snap (receipt_or (dated receipt.spare) receipt.seat.inner.me.0), receipt.known)
+    (snap (receipt_or (dated receipt.spare.value) receipt.seat.inner.me.0), receipt.known)
 
 pub returns-clause-timed : goal.returns-clause-timed
 returns-clause-timed g c =
     let get = c.args.get.now in
     let receipt = c.args.receipt in
-    let d : ReaderNotes g.row.T.Denot = first_reader get.spare in
+    let d : ReaderNotes g.row.T.Denot = first_reader get.spare.value in
     let n : ReaderNotes g.row.T.Denot = reader_or d get.seat.inner.me.0 in
-    let x : Dated g.row.T.Denot = receipt_or (dated receipt.spare) receipt.seat.inner.me.0 in
+    let x : Dated g.row.T.Denot = receipt_or (dated receipt.spare.value) receipt.seat.inner.me.0 in
     let e : c.hear.new.seat.inner.me.0 ≡ Reader (heard_by n x) =
     ap (λ m. m.0) c.hear.ensures.joined ∙ (λ i. hears_of (get.known i) ((ap (λ m. m.0) receipt.known) i)) in
     let heard : IsHeard n.times (heard_by n x).times x.time =

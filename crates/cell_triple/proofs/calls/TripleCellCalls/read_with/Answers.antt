@@ -17,7 +17,7 @@ pub returns-clause-looked : goal.returns-clause-looked
 returns-clause-looked g c =
     let get = c.refresh.new.get in
     let t = c.lend.ensures.seen in
-    let d : ReaderNotes g.row.T.Denot = first_reader get.spare in
+    let d : ReaderNotes g.row.T.Denot = first_reader get.spare.value in
     subst (λ (x : g.row.T.Denot). FnOnceReturnsAt g.F.FnOnce c.args.look x c.lend.result)
     (ap (λ (cs : List (ℕ × g.row.T.Denot)). (get_or cs 0 (get.slot, t.0)).1) (sym t.1 ∙ get.held)
     ∙ ap (λ m. (reader_or d m.0).at_hand.value) (sym c.lend.ensures.same)) t.2

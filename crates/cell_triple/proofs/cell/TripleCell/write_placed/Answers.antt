@@ -14,8 +14,8 @@ pub publish-found-requires-clause-filled : goal.publish-found-requires-clause-fi
 publish-found-requires-clause-filled g c =
     let put = c.args.put.now in
     let item : g.row.T.Denot = placed_by put in
-    let p : WriterNotes g.row.T.Denot = writer_or (first_writer put.spare) put.seat.inner.me.0 in
-    let has = lies put.seat.inner.me.1 put.slot put.spare put.held in (
+    let p : WriterNotes g.row.T.Denot = writer_or (first_writer put.spare.value) put.seat.inner.me.0 in
+    let has = lies put.seat.inner.me.1 put.slot put.spare.value put.held in (
       p,
       item,
       (λ i. (put.known i, (has ∙ (λ j. (sym put.ready.1 j, item) ∷ [])) i)),
@@ -29,9 +29,9 @@ pub invariant_of-put : goal.invariant_of-put
 invariant_of-put g c =
     let put = c.args.put.now in
     let item : g.row.T.Denot = placed_by put in
-    let d : WriterNotes g.row.T.Denot = first_writer put.spare in
+    let d : WriterNotes g.row.T.Denot = first_writer put.spare.value in
     let p : WriterNotes g.row.T.Denot = writer_or d put.seat.inner.me.0 in
-    let has = lies put.seat.inner.me.1 put.slot put.spare put.held in
+    let has = lies put.seat.inner.me.1 put.slot put.spare.value put.held in
     let t = c.publish-found.ensures.swapped p item put.known (has ∙ (λ i. (sym put.ready.1 i, item) ∷ [])) in record {
       known = t.4 ∙ ap (λ v. Writer (writer_or d v)) (sym t.4);
       ready = (ap (λ v. (writer_or d v).has) t.4 ∙ put.ready.0, ap (λ v. (writer_or d v).slot) t.4);
@@ -43,9 +43,9 @@ pub returns-clause-timed : goal.returns-clause-timed
 returns-clause-timed g c =
     let put = c.args.put.now in
     let item : g.row.T.Denot = placed_by put in
-    let d : WriterNotes g.row.T.Denot = first_writer put.spare in
+    let d : WriterNotes g.row.T.Denot = first_writer put.spare.value in
     let p : WriterNotes g.row.T.Denot = writer_or d put.seat.inner.me.0 in
-    let has = lies put.seat.inner.me.1 put.slot put.spare put.held in
+    let has = lies put.seat.inner.me.1 put.slot put.spare.value put.held in
     let t = c.publish-found.ensures.swapped p item put.known (has ∙ (λ i. (sym put.ready.1 i, item) ∷ [])) in
     subst (λ z. IsNextCall p.times (writer_or d z).times) (sym t.4)
     (record { begin = t.2; end = t.2; after = t.3; forwards = le_refl t.2; begins = refl; ends = refl; clock = refl })
