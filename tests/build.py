@@ -57,8 +57,8 @@ class Crate:
     def weight(self):
         """About how many processor seconds its proof takes, by its text: each crate some, a program more, and what its code is. Its proofs
         take little beside that."""
-        known = (55 if self.is_program else 16) + sum(BEYOND.get(it, 0) for it in self.words)
-        return known + self.size("src") / 280
+        known = (48 if self.is_program else 8) + sum(BEYOND.get(it, 0) for it in self.words)
+        return known + self.size("src") / 290
 
 
 def read_crates():
