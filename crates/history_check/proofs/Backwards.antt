@@ -4,7 +4,7 @@ use Rattle.std.proofs.Common.{◌≡◌, ℕ, ◌+◌, ◌<◌, ◌≤◌, min, 
 use Rattle.std.proofs.lemmas.Bool.{cases_lt}
 use Rattle.std.proofs.lemmas.Option.{same_Some}
 use Rattle.history_core.specs.declared.history.Op.{Op}
-use Rattle.history_core.specs.inner.Ends.{earlier_of}
+use Rattle.history_check.specs.inner.Ends.{earlier_of}
 use Rattle.history_core.specs.Orders.{listed_at, KeepsPrecedence}
 use Rattle.history_core.proofs.Listed.{NoneBackFrom, some_and_of, some_and_from}
 

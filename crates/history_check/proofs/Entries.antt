@@ -6,7 +6,7 @@ use Rattle.std.proofs.lemmas.Bool.{cases_lt}
 use Rattle.std.proofs.lemmas.Option.{none-some, same_Some, slice_get-get_or, slice_get_within}
 use Rattle.history_core.specs.declared.history.Op.{Op}
 use Rattle.history_core.specs.Orders.{ListsPlaces, times_of}
-use Rattle.history_core.specs.inner.Marks.{AddsMark, times_marked}
+use Rattle.history_check.specs.inner.Marks.{AddsMark, times_marked}
 use Rattle.history_check.proofs.Backwards.{IsLeastEnd}
 use Rattle.history_core.proofs.Counting.{times_more}
 use Rattle.history_core.proofs.Listed.{NoneBackFrom, listed_within}

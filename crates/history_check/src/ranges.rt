@@ -1,7 +1,7 @@
 //! A range of places, as that of a term, and the writes among them.
 
 ghost use Rattle.std.specs.Prelude.{◌≡◌, ◌+◌, ◌<◌, ◌^◌, IfNone, IfSome};
-ghost use Rattle.history_core.specs.Ranges.{is_between, MayRefuse, writes_after};
+ghost use Rattle.history_check.specs.Ranges.{is_between, MayRefuse, writes_after};
 
 use history_core::{Kind, Op};
 

@@ -5,8 +5,6 @@ pub mod Kept
 pub mod Numbers
 pub mod Orders
 pub mod Others
-pub mod Ranges
 pub mod Reasons
 pub mod Schedules
 pub mod Searches
-pub mod inner

@@ -6,7 +6,7 @@ use Rattle.std.proofs.lemmas.List.{take-take, take_all}
 use Rattle.std.proofs.lemmas.Option.{slice_get_within, slice_get_read}
 use Rattle.history_witnesses.specs.Breaks.{IsRefusedAt, IsRefusedEarly}
 use Rattle.history_core.specs.Orders.{in_term, is_write_at, KeepsLimit, ListsPlaces, RefusesLawfully, writes_in}
-use Rattle.history_core.specs.Ranges.{is_between}
+use Rattle.history_check.specs.Ranges.{is_between}
 use Rattle.history_witnesses.specs.inner.Searches.{end_of, entry_of, IsEarly}
 use Rattle.history_witnesses.specs.declared.breaks.refusal.Early.{Early}
 use Rattle.history_core.specs.declared.history.Kind.TheVariants.{Refused}
@@ -14,7 +14,7 @@ use Rattle.history_core.specs.declared.history.Op.{Op}
 use Rattle.history_core.specs.declared.history.Term.{Term}
 use Rattle.history_core.proofs.Counting.{count_agree}
 use Rattle.history_witnesses.proofs.Fronts.{front_get, limit_front, places_of_front}
-use Rattle.history_core.proofs.Limits.{CountsTo, TermsFrom, terms_start, terms_step}
+use Rattle.history_check.proofs.Limits.{CountsTo, TermsFrom, terms_start, terms_step}
 use Rattle.history_core.proofs.Listed.{some_and_from}
 
 module _ {R : Type 0} where

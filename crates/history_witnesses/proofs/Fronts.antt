@@ -6,7 +6,7 @@ use Rattle.std.proofs.lemmas.Option.{option_and_then_some, get_or_from_slice_get
 use Rattle.std.specs.Option.{option_and_then}
 use Rattle.history_core.specs.declared.history.Op.{Op}
 use Rattle.history_core.specs.Orders.{KeepsLimit, latest, listed_at, ListsPlaces, ReadsLatest, ReadsRight, writes_in}
-use Rattle.history_core.proofs.Forwards.{ReadsUpTo}
+use Rattle.history_check.proofs.Forwards.{ReadsUpTo}
 
 pub front_get : {X : Type 0} (n : ℕ) (xs : List X) (i : ℕ) (x : X) → slice_get (take n xs) i ≡ Some x → (i < n) × (slice_get xs i ≡ Some x)
 front_get zero xs i x h = cc

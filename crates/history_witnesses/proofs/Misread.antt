@@ -9,7 +9,7 @@ use Rattle.history_witnesses.specs.declared.breaks.Break.TheVariants as break
 use Rattle.history_core.specs.declared.history.Kind.{Kind}
 use Rattle.history_core.specs.declared.history.Kind.TheVariants.{Write, Read, Refused}
 use Rattle.history_core.specs.declared.history.Op.{Op}
-use Rattle.history_core.proofs.Forwards.{ReadsUpTo}
+use Rattle.history_check.proofs.Forwards.{ReadsUpTo}
 use Rattle.history_witnesses.proofs.Fronts.{reads_front}
 use Rattle.history_core.proofs.Listed.{some_and_from}
 

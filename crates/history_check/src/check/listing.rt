@@ -1,7 +1,7 @@
 //! The first rule: every entry is a place, and every operation stands as often as it may.
 
 ghost use Rattle.std.specs.Prelude.{◌≡◌, ◌+◌, ◌-◌, ◌≤◌, ◌↔◌, IsTrue, IsFalse, length, if◌then◌else◌};
-ghost use Rattle.history_core.specs.inner.Marks.{AddsMark, HasMark};
+ghost use Rattle.history_check.specs.inner.Marks.{AddsMark, HasMark};
 ghost use Rattle.history_core.specs.Orders.{EachStands, ListsPlaces, MayStand};
 
 use history_core::{Kind, Op};

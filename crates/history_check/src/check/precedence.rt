@@ -1,7 +1,7 @@
 //! The second rule: of two operations, one that precedes the other stands before it.
 
 ghost use Rattle.std.specs.Prelude.{◌≡◌, ◌<◌, ◌↔◌, IsTrue, IsSomeAnd};
-ghost use Rattle.history_core.specs.inner.Ends.{earlier_of};
+ghost use Rattle.history_check.specs.inner.Ends.{earlier_of};
 ghost use Rattle.history_core.specs.Orders.{KeepsPrecedence, ListsPlaces};
 
 use history_core::Op;

@@ -2,7 +2,7 @@
 
 ghost use Rattle.std.specs.Prelude.{◌<◌, ◌↔◌, IsTrue};
 ghost use Rattle.history_core.specs.Orders.{KeepsLimit, ListsPlaces, RefusesLawfully};
-ghost use Rattle.history_core.specs.Ranges.{is_between};
+ghost use Rattle.history_check.specs.Ranges.{is_between};
 
 use crate::ranges::{count, is_within};
 use history_core::{Op, Term};

@@ -10,7 +10,7 @@ use Rattle.history_witnesses.specs.declared.breaks.precedence.Begun.{Begun}
 use Rattle.history_witnesses.specs.declared.breaks.refusal.Early.{Early}
 use Rattle.history_core.specs.declared.history.Op.{Op}
 use Rattle.history_core.specs.Orders.{ReadsRight, writes_in}
-use Rattle.history_core.specs.Ranges.{is_between}
+use Rattle.history_check.specs.Ranges.{is_between}
 
 -- the count of this place rises by one, and no other changes; a place of another block changes none
 abbrev pub AddsOne : List ℕ → List ℕ → ℕ → ℕ → Type 0

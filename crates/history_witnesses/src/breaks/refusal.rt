@@ -3,7 +3,7 @@
 ghost use Rattle.std.specs.Prelude.{◌≡◌, ◌<◌, ◌≤◌, ◌⊎◌, IfNone, IfSome, length, take};
 ghost use Rattle.history_witnesses.specs.Breaks.{IsRefusedEarly};
 ghost use Rattle.history_core.specs.Orders.{KeepsLimit, ListsPlaces, RefusesLawfully};
-ghost use Rattle.history_core.specs.Ranges.{is_between};
+ghost use Rattle.history_check.specs.Ranges.{is_between};
 ghost use Rattle.history_witnesses.specs.inner.Searches.{end_of, entry_of, IsEarly};
 
 use history_check::ranges::{count, is_within};

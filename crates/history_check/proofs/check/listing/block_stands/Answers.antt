@@ -5,8 +5,8 @@ use Rattle.std.proofs.lemmas.List.{take_all}
 use Rattle.std.proofs.lemmas.Option.{slice_get_read}
 use Rattle.history_core.specs.declared.history.Op.{Op}
 use Rattle.history_core.specs.Orders.{times_of, EachStands, MayStand}
-use Rattle.history_core.specs.inner.Marks.{times_marked}
-use Rattle.history_core.proofs.Counting.{marked_twice, block_step, block_all}
+use Rattle.history_check.specs.inner.Marks.{times_marked}
+use Rattle.history_check.proofs.Blocks.{marked_twice, block_step, block_all}
 use Rattle.history_check.proofs.Entries.{marks_step}
 use Rattle.history_check.proofs.check.listing.block_stands.Goals as goal
 

@@ -1,7 +1,7 @@
 -- The marks count the entries met so far; and the operations met so far stand as often as they may.
 use Rattle.std.proofs.Common.{◌≡◌, ℕ, ◌+◌, ◌<◌, take, length}
 use Rattle.history_core.specs.Orders.{EachStands, times_of}
-use Rattle.history_core.specs.inner.Marks.{times_marked}
+use Rattle.history_check.specs.inner.Marks.{times_marked}
 use Rattle.history_check.proofs.check.listing.block_stands.Given as goal
 
 abbrev pub invariant-loop-place : goal.invariant-loop-place

@@ -3,7 +3,7 @@ use Rattle.std.proofs.Common.{arith, refl, ap, ◌∙◌}
 use Rattle.history_core.specs.Orders.{left_by}
 use Rattle.history_check.proofs.Entries.{entry_in}
 use Rattle.history_core.proofs.Listed.{listed_read}
-use Rattle.history_core.proofs.Forwards.{latest_step, reads_step, reads_broken, reads_all}
+use Rattle.history_check.proofs.Forwards.{latest_step, reads_step, reads_broken, reads_all}
 use Rattle.history_check.proofs.check.reading.reads_latest.Goals as goal
 
 pub returns-in-None : goal.returns-in-None

@@ -1,7 +1,7 @@
 -- The entries met so far have the latest record, and the one after them is known.
 use Rattle.std.proofs.Common.{◌≡◌, take, Some, IsTrue}
 use Rattle.history_core.specs.Orders.{latest}
-use Rattle.history_core.proofs.Forwards.{ReadsUpTo}
+use Rattle.history_check.proofs.Forwards.{ReadsUpTo}
 use Rattle.history_check.proofs.check.reading.reads_latest.Given as goal
 
 abbrev pub invariant-loop-place : goal.invariant-loop-place

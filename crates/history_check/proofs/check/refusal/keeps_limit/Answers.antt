@@ -3,9 +3,9 @@ use Rattle.std.proofs.Common.{◌≡◌, ℕ, ◌<◌, List, slice_get, get_or, 
 use Rattle.std.proofs.lemmas.Option.{slice_get-get_or, slice_get_read}
 use Rattle.history_core.specs.declared.history.Op.{Op}
 use Rattle.history_core.specs.Orders.{ListsPlaces}
-use Rattle.history_core.specs.Ranges.{writes_after}
+use Rattle.history_check.specs.Ranges.{writes_after}
 use Rattle.history_check.proofs.Entries.{entry_in}
-use Rattle.history_core.proofs.Limits.{counts_start, counts_step, counts_all, counts_broken}
+use Rattle.history_check.proofs.Limits.{counts_start, counts_step, counts_all, counts_broken}
 use Rattle.history_check.proofs.check.refusal.keeps_limit.Goals as goal
 
 listed : {R : Type 0} (ops : List (Op R)) (order : List ℕ) (i : ℕ) (o : Op R) → ListsPlaces ops order → i < length order →

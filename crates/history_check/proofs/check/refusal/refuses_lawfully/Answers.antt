@@ -2,7 +2,7 @@
 use Rattle.std.proofs.Common.{◌≡◌, ◌-◌, get_or, arith, refl}
 use Rattle.std.proofs.lemmas.List.{get_or_default}
 use Rattle.history_core.specs.declared.history.Term.{Term}
-use Rattle.history_core.proofs.Limits.{terms_start, terms_step, terms_broken}
+use Rattle.history_check.proofs.Limits.{terms_start, terms_step, terms_broken}
 use Rattle.history_check.proofs.check.refusal.refuses_lawfully.Goals as goal
 
 pub loop-k-init : goal.loop-k-init

@@ -3,7 +3,7 @@ use Rattle.std.proofs.Common.{ℕ, ◌+◌, Option, arith, ap, sym, subst, ◌�
 use Rattle.history_witnesses.specs.Breaks.{IsLastWrite}
 use Rattle.history_core.specs.Orders.{left_by}
 use Rattle.history_core.proofs.Listed.{listed_read}
-use Rattle.history_core.proofs.Forwards.{latest_step, reads_step, reads_all}
+use Rattle.history_check.proofs.Forwards.{latest_step, reads_step, reads_all}
 use Rattle.history_witnesses.proofs.Misread.{reading_at, write_more}
 use Rattle.history_witnesses.proofs.breaks.reading.reading_break.Goals as goal
 

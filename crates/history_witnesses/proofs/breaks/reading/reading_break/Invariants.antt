@@ -2,7 +2,7 @@
 use Rattle.std.proofs.Common.{◌≡◌, take, Some, IsTrue}
 use Rattle.history_witnesses.specs.Breaks.{IsLastWrite}
 use Rattle.history_core.specs.Orders.{latest}
-use Rattle.history_core.proofs.Forwards.{ReadsUpTo}
+use Rattle.history_check.proofs.Forwards.{ReadsUpTo}
 use Rattle.history_witnesses.proofs.breaks.reading.reading_break.Given as goal
 
 abbrev pub invariant-loop-entry : goal.invariant-loop-entry

@@ -4,14 +4,14 @@ use Rattle.std.proofs.Common.{slice_get, get_or, take, true, false, Bool}
 use Rattle.std.proofs.lemmas.Bool.{cases_lt}
 use Rattle.std.proofs.lemmas.Option.{slice_get-get_or, slice_get_read}
 use Rattle.history_core.specs.Orders.{KeepsLimit, ListsPlaces}
-use Rattle.history_core.specs.Ranges.{is_between, MayRefuse, writes_after}
+use Rattle.history_check.specs.Ranges.{is_between, MayRefuse, writes_after}
 use Rattle.history_witnesses.specs.inner.Searches.{end_of, entry_of}
 use Rattle.history_witnesses.specs.declared.breaks.refusal.Early.{Early}
 use Rattle.history_core.specs.declared.history.Kind.{Kind}
 use Rattle.history_core.specs.declared.history.Kind.TheVariants.{Write, Read, Refused}
 use Rattle.history_core.specs.declared.history.Op.{Op}
 use Rattle.history_witnesses.proofs.Early.{counted_front}
-use Rattle.history_core.proofs.Limits.{counts_start, counts_step}
+use Rattle.history_check.proofs.Limits.{counts_start, counts_step}
 use Rattle.history_witnesses.proofs.breaks.refusal.early_before.Goals as goal
 
 end_within : (found : Option Early) (n : ℕ) → IfSome found (λ e. e.entry ≤ n) → end_of (entry_of found) n ≤ n

@@ -1,5 +1,5 @@
 -- The writes among the entries met so far are counted, and its refused writes are lawful.
-use Rattle.history_core.proofs.Limits.{CountsTo}
+use Rattle.history_check.proofs.Limits.{CountsTo}
 use Rattle.history_witnesses.proofs.breaks.refusal.early_before.Given as goal
 
 abbrev pub invariant-loop-entry : goal.invariant-loop-entry

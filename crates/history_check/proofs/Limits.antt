@@ -13,7 +13,7 @@ use Rattle.history_core.specs.declared.history.Op.{Op}
 use Rattle.history_core.specs.declared.history.Term.{Term}
 use Rattle.history_core.specs.declared.history.Kind.TheVariants.{Refused}
 use Rattle.history_core.specs.Orders.{in_term, KeepsLimit, RefusesLawfully, ListsPlaces, is_write_at, is_write, writes_in}
-use Rattle.history_core.specs.Ranges.{is_between, writes_after, MayRefuse}
+use Rattle.history_check.specs.Ranges.{is_between, writes_after, MayRefuse}
 use Rattle.history_core.proofs.Counting.{count_agree}
 
 -- the entries before n keep the limit, and there are this many writes among them
