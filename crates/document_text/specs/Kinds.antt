@@ -16,10 +16,11 @@ says_lines (Err why) = false
 abbrev pub is_header : List ℕ → Bool
 is_header line = nat_le (length line) max_header && says_lines (value_of line)
 
-abbrev pub begin_so : List (List ℕ) → Bool
-begin_so [] = false
-begin_so (first ∷ lines) = is_header first
+-- the first of these lines is a header
+abbrev pub first_is_header : List (List ℕ) → Bool
+first_is_header [] = false
+first_is_header (first ∷ lines) = is_header first
 
 -- the first line is a header of kind `lines`
 abbrev pub are_lines : List ℕ → Bool
-are_lines bytes = begin_so (lines_of bytes)
+are_lines bytes = first_is_header (lines_of bytes)

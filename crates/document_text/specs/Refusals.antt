@@ -20,12 +20,12 @@ Gives see (Ok x) answer = answer ≡ Ok (see x)
 Gives see (Err e) answer = e ≢ NoMemory → answer ≡ Err e
 
 abbrev pub some_or : {A : Type 0} → DocError → Option A → Result A DocError
-some_or fault None = Err fault
-some_or fault (Some x) = Ok x
+some_or refusal None = Err refusal
+some_or refusal (Some x) = Ok x
 
 abbrev pub must : Bool → DocError → Result ⊤ DocError
-must true fault = Ok tt
-must false fault = Err fault
+must true refusal = Ok tt
+must false refusal = Err refusal
 
 abbrev pub none_missing : Option Key → Result ⊤ DocError
 none_missing None = Ok tt

@@ -7,11 +7,11 @@ ghost use Rattle.document_text.specs.Values.{as_whole};
 use crate::{DocError, Key};
 use serde_json::Value;
 
-/// The test holds, or else the fault.
-pub fn must(test: bool, fault: DocError) -> Result<(), DocError>
-    ensures { result ≡ must test fault }
+/// The test holds, or else the refusal.
+pub fn must(test: bool, refusal: DocError) -> Result<(), DocError>
+    ensures { result ≡ must test refusal }
 {
-    if test { Ok(()) } else { Err(fault) }
+    if test { Ok(()) } else { Err(refusal) }
 }
 
 /// Each key is there, or the first that is missing.
@@ -26,7 +26,7 @@ pub fn required(value: &Value, keys: &[Key]) -> Result<(), DocError>
     Ok(())
 }
 
-/// What was found under the key, or that nothing of its shape was.
+/// What was found under the key, or the refusal that it has another shape.
 pub fn shaped<T: Drop>(key: Key, found: Option<T>) -> Result<T, DocError>
     ensures { result ≡ some_or (DocError.Shape key) found }
 {

@@ -1,4 +1,4 @@
-//! What documents of every kind share: the JSON value that they are, their keys, shapes, ranges and refusals, and the lines of a text.
+//! What documents of several kinds share: the JSON value that they are, their keys, numbers, ranges and refusals, and the lines of a text.
 #![tactic(auto)]
 
 mod fields;

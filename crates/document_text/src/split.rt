@@ -3,7 +3,7 @@ ghost use Rattle.std.specs.Prelude.{◌≡◌, ◌==◌, [], MatchOption};
 ghost use Rattle.std.specs.List.{position, position_or_len};
 ghost use Rattle.document_text.specs.Splits.{IsSplit};
 
-/// The first line of a text, without the line feed that ends it, and the text behind it.
+/// The first line of a text, without the line feed that ends it, and the text behind it; nothing of an empty text.
 pub fn split_line(bytes: &[u8]) -> Option<(&[u8], &[u8])>
     ensures { MatchOption result (bytes.now ≡ []) (λ split. IsSplit bytes.now split.0.now split.1.now) }
 {

@@ -1,4 +1,4 @@
-//! Values that documents of every kind have: whole numbers, the items of an array, and the kind of an operation.
+//! Values that documents of several kinds have: whole numbers, the items of an array, and the kind of an operation.
 ghost use Rattle.std.specs.Prelude.{◌≡◌, codes, map, option_and_then, option_map};
 ghost use Rattle.serde_json.specs.Find.{as_str, get};
 ghost use Rattle.serde_json.specs.View.{view};

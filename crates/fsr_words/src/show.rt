@@ -3,6 +3,6 @@
 pub struct Show {
     /// The lines of the writes, in the order that was found.
     pub order: bool,
-    /// In place of all else a small log that has no order, if this one has none.
+    /// In place of all else a small log that has no lawful order, if this one has none.
     pub small: bool,
 }

@@ -12,7 +12,7 @@ pub fn is_within(first: usize, next: usize, place: usize) -> bool
     first <= place && place < next
 }
 
-/// The writes after an operation, or none where it is refused too early.
+/// How many writes there are after an operation; none where it is a write that was refused too early.
 pub fn count<R>(within: bool, op: &Op<R>, limit: u64, writes: u64) -> Option<u64>
     requires { writes + 1 < 2 ^ 64 }
     ensures counted { IfSome result (λ n. n ≡ writes_after within op.now.kind writes) }

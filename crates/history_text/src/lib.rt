@@ -1,4 +1,5 @@
-//! Documents of histories with an order of them, and the line of a verdict; and what such documents share: operations, lists and laws.
+//! Documents of histories with an order of them, the line of a verdict, and the shapes of records, lists and plans that documents of
+//! other kinds have too.
 #![tactic(auto)]
 
 mod check;

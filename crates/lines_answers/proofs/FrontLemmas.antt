@@ -4,7 +4,7 @@ use Rattle.std.proofs.Common.{true, false, length-append}
 use Rattle.std.specs.Prelude.{◌==◌, ◌&&◌, nat_le}
 use Rattle.document_text.specs.Document.{value_of}
 use Rattle.document_text.specs.Splits.{in_front, lines_of}
-use Rattle.document_text.specs.Kinds.{are_lines, begin_so, is_header, max_header, says_lines}
+use Rattle.document_text.specs.Kinds.{are_lines, first_is_header, is_header, max_header, says_lines}
 
 -- a front and what more comes have one first line, or the front is a part of the first line
 abbrev Begins : List ℕ → List ℕ → Type 0
@@ -49,7 +49,7 @@ front_decides [] more long = absurd (omega (arith, long))
 front_decides (x ∷ xs) more long = by_way (begins x xs more)
   where
     by_way : Begins (x ∷ xs) more → are_lines ((x ∷ xs) ++ more) ≡ are_lines (x ∷ xs)
-    by_way (inl same) = ap begin_so same.4 ∙ sym (ap begin_so same.3)
+    by_way (inl same) = ap first_is_header same.4 ∙ sym (ap first_is_header same.3)
     by_way (inr on) =
-        ap begin_so on.3 ∙ too_long ((x ∷ xs) ++ on.0) (omega (arith, long, length-append (x ∷ xs) on.0))
-        ∙ sym (ap begin_so on.2 ∙ too_long (x ∷ xs) long)
+        ap first_is_header on.3 ∙ too_long ((x ∷ xs) ++ on.0) (omega (arith, long, length-append (x ∷ xs) on.0))
+        ∙ sym (ap first_is_header on.2 ∙ too_long (x ∷ xs) long)

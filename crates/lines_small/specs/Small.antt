@@ -1,4 +1,4 @@
--- A small log that has no order as a larger one has none: of the kept operations those that the reason names, and the writes of their
+-- A small log without a lawful order, made of a larger one: of the kept operations those that the reason names, with the writes of their
 -- records. It is printed as a document of kind `log`, in which the record with the number n is [n,n,n] (this project's own).
 use Rattle.std.specs.Prelude.{ℕ, ◌++◌, ◌==◌, zero, suc, List, [], ◌∷◌, codes, length, if◌then◌else◌, slice_get, unwrap_or, Option, None}
 use Rattle.std.specs.Prelude.{Some}
@@ -10,7 +10,7 @@ use Rattle.history_core.specs.declared.history.Kind.TheVariants.{Write, Read, Re
 use Rattle.history_core.specs.declared.reason.Reason.{Reason}
 use Rattle.history_core.specs.Kept.{limit_of}
 use Rattle.history_core.specs.declared.thinned.LogAnswer.{LogAnswer}
-use Rattle.history_core.specs.declared.thinned.LogAnswer.TheVariants.{Lawful, Unlawful as NoOrder}
+use Rattle.history_core.specs.declared.thinned.LogAnswer.TheVariants.{Lawful, Unlawful}
 use Rattle.history_core.specs.declared.thinned.Thinned.{Thinned}
 use Rattle.lines_reasons.specs.Named.{in_kept, is_named, places_of}
 use Rattle.lines_reasons.specs.Sentences.{number_text}
@@ -74,12 +74,12 @@ abbrev pub ops_text : List (Op ℕ) → List (Op ℕ) → List ℕ
 ops_text ops [] = []
 ops_text ops (first ∷ rest) = op_text ops first ++ flat_map (next_text ops) rest
 
-abbrev pub document_text : ℕ → List (Op ℕ) → List ℕ
-document_text limit ops =
+abbrev pub small_document : ℕ → List (Op ℕ) → List ℕ
+small_document limit ops =
     number_text (codes "{\"kind\":\"log\",\"opening\":[0,0,0],\"limit\":") limit ++ codes ",\"ops\":[\n" ++ ops_text ops ops
     ++ codes "]}\n"
 
 -- the small log of an unlawful one; of a lawful one nothing
 abbrev pub small_text : Thinned → LogAnswer → List ℕ
 small_text thinned (Lawful writes) = []
-small_text thinned (NoOrder reason) = document_text (limit_of thinned) (small_ops thinned reason)
+small_text thinned (Unlawful reason) = small_document (limit_of thinned) (small_ops thinned reason)

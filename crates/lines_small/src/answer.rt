@@ -1,3 +1,4 @@
+//! The answer of which a small log is asked for.
 ghost use Rattle.std.specs.Prelude.{◌≡◌, ℕ, List, IfOk};
 ghost use Rattle.fsr_runs.specs.Answers.{GivesReply};
 ghost use Rattle.history_core.specs.declared.history.Op.{Op};

@@ -1,4 +1,4 @@
-//! The small log that shows why a log in lines has no order, and the answer that is such a log.
+//! The small log that shows why a log in lines has no lawful order, and the answer that is such a log.
 #![tactic(auto)]
 
 mod answer;

@@ -1,8 +1,8 @@
-//! A small log that has no order, as a document of kind `log`.
+//! A small log that has no lawful order, as a document of kind `log`.
 ghost use Rattle.std.specs.Prelude.{◌≡◌, ◌++◌, ◌==◌, ℕ, IfOk, OnOk, length};
 ghost use Rattle.std.specs.List.{flat_map, position};
 ghost use Rattle.history_core.specs.declared.history.Op.{Op};
-ghost use Rattle.lines_small.specs.Small.{band_text, begin_text, document_text, end_text, kind_text, named_of, next_text, one_named};
+ghost use Rattle.lines_small.specs.Small.{band_text, begin_text, small_document, end_text, kind_text, named_of, next_text, one_named};
 ghost use Rattle.lines_small.specs.Small.{one_or_none, op_text, ops_text, outcome_text, record_text, small_ops, small_text, task_of};
 
 use history_core::{Kind, LogAnswer, Op, Reason, Thinned};
@@ -21,7 +21,7 @@ pub(crate) fn small_text(
         LogAnswer::Lawful { .. } => Ok(Vec::new(alloc)),
         LogAnswer::Unlawful { reason } => {
             let ops = small_ops(alloc, thinned, *reason)?;
-            document_text(alloc, thinned.limit(), ops.as_slice())
+            small_document(alloc, thinned.limit(), ops.as_slice())
         }
     }
 }
@@ -68,8 +68,8 @@ fn push_one(found: &mut Vec<Op<usize>>, op: Option<Op<usize>>) -> Result<(), All
 }
 
 #[tactic(auto, using(std::proofs::Common::append_assoc))]
-fn document_text(alloc: Global, limit: u64, ops: &[Op<usize>]) -> Result<Vec<u8>, AllocError>
-    ensures { IfOk result (λ text. text.items ≡ document_text limit ops.now) }
+fn small_document(alloc: Global, limit: u64, ops: &[Op<usize>]) -> Result<Vec<u8>, AllocError>
+    ensures { IfOk result (λ text. text.items ≡ small_document limit ops.now) }
 {
     let mut text = Vec::new(alloc);
     push_u64(&mut text, HEAD, limit)?;

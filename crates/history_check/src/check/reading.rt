@@ -1,4 +1,5 @@
-//! The third rule: each operation has an item, and each read or refused write has that of the last write before it.
+//! The third rule: each operation that is listed has an item, and a read or refused write has that of the last write before it, or the
+//! opening.
 
 ghost use Rattle.std.specs.Prelude.{◌≡◌, ◌↔◌, Some, IsTrue, IfNone, IfSome};
 ghost use Rattle.history_core.specs.Orders.{left_by, ListsPlaces, ReadsLatest, ReadsRight};
@@ -20,7 +21,8 @@ pub(super) fn reads_latest<R: Copy + Eq>(opening: R, ops: &[Op<R>], order: &[usi
     true
 }
 
-/// The latest record after an operation, or none where it has no item or its item is not the latest before it.
+/// The latest record after an operation, or none where it has no item, or is no write and its item is not the
+/// latest before it.
 fn left<R: Copy + Eq>(latest: R, op: &Op<R>) -> Option<R>
     ensures right { IfSome result (λ _. ReadsRight (λ x y. IsTrue (R.eq x y)) op.now.kind op.now.item (Some latest)) }
     ensures wrong { IfNone result (¬ ReadsRight (λ x y. IsTrue (R.eq x y)) op.now.kind op.now.item (Some latest)) }

@@ -1,4 +1,4 @@
-//! The fourth rule: each refused write has the limit of its term in writes of this term before it.
+//! The fourth rule: before each refused write stand at least as many writes of its term as the limit of the term.
 
 ghost use Rattle.std.specs.Prelude.{◌<◌, ◌↔◌, IsTrue};
 ghost use Rattle.history_core.specs.Orders.{KeepsLimit, ListsPlaces, RefusesLawfully};
@@ -24,7 +24,8 @@ pub(super) fn refuses_lawfully<R>(terms: &[Term], ops: &[Op<R>], order: &[usize]
     true
 }
 
-/// Whether each refused write at a place from `first` up to `next` has `limit` writes before it at such places.
+/// Whether each refused write at a place from `first` up to `next` has at least `limit` writes before it at
+/// such places.
 fn keeps_limit<R>(ops: &[Op<R>], order: &[usize], first: usize, next: usize, limit: u64) -> bool
     requires { ListsPlaces ops.now order.now }
     ensures { IsTrue result ↔ KeepsLimit (is_between first next) limit ops.now order.now }

@@ -1,4 +1,4 @@
--- The writes among the entries met so far are counted, and its refused writes are lawful.
+-- The writes among the entries met so far are counted, and their refused writes are lawful.
 use Rattle.history_check.proofs.Limits.{CountsTo}
 use Rattle.history_check.proofs.check.refusal.keeps_limit.Given as goal
 
