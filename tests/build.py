@@ -244,10 +244,11 @@ class Builder:
         return jobs if jobs > 0 or self.rooms else 1
 
     def start_ready(self):
-        """Begins what can begin, the longest chain first, and says whether something waits for another rt."""
+        """Begins what can begin, and says whether something waits for another rt. The longest chain goes first, but before one that is little
+        longer a crate that takes long itself, since a crate is proved in one piece."""
         waits = False
         ready = [it for it in self.left if self.built.issuperset(it.uses)]
-        for place, crate in enumerate(sorted(ready, key=lambda it: -self.behind[it])):
+        for place, crate in enumerate(sorted(ready, key=lambda it: -self.behind[it] - it.weight() / 2)):
             jobs = self.jobs_now(crate, len(ready) - place)
             if jobs < 1:
                 break
