@@ -232,9 +232,9 @@ class Builder:
             self.behind[it] += max(above, default=0)
 
     def jobs_now(self, crate, ready):
-        """How many jobs a proof gets that is the first of so many, 0 where it has to wait. A job more costs processor time, as each reads what
-        lies below. So a proof gets several only where processors would have nothing to do: first that with the longest chain behind it,
-        for which all wait."""
+        """How many jobs a proof gets that is the first of so many, 0 where it has to wait. A job more costs processor time, as each reads
+        what lies below. So a proof gets several only where processors would have nothing to do: first that with the longest chain behind
+        it, for which all wait."""
         longest = all(self.behind[crate] >= self.behind[it] for it in self.rooms)
         most = 1 if crate.is_program or crate.weight() < SMALL else LONGEST_JOBS if longest else MOST_JOBS
         left = self.processors - sum(it.jobs for it in self.rooms.values())
@@ -244,8 +244,8 @@ class Builder:
         return jobs if jobs > 0 or self.rooms else 1
 
     def start_ready(self):
-        """Begins what can begin, and says whether something waits for another rt. The longest chain goes first, but before one that is little
-        longer a crate that takes long itself, since a crate is proved in one piece."""
+        """Begins what can begin, and says whether something waits for another rt. The longest chain goes first, but before one that is
+        little longer a crate that takes long itself, since a crate is proved in one piece."""
         waits = False
         ready = [it for it in self.left if self.built.issuperset(it.uses)]
         for place, crate in enumerate(sorted(ready, key=lambda it: -self.behind[it] - it.weight() / 2)):
