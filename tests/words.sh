@@ -292,6 +292,15 @@ answers_small 0 "lines " examples/lawful.json order
 answers_small 1 "play " "$room/cell.json" play
 answers_small 3 "fsr: document: not JSON" examples/lawful.json check
 
+title="./fsr order --small by the whole program alone"
+READ=$room/read PATH=/usr/bin:/bin "$room/bare/fsr" order --small "$room/stale.jsonl" >"$room/out" 2>"$room/err" </dev/null
+status=$?
+if [ "$status" = 70 ] && [ ! -s "$room/out" ] && grep -q "can't be built" "$room/err"; then
+    pass "$title"
+else
+    fail "$title" "it ended with status $status: $(head -c 200 "$room/out" "$room/err")"
+fi
+
 # The controls: words that are a command, another beginning, another first line, a status that isn't that of the program, and output
 # beside the line.
 catches "words that are a command" "status 0 and not 2" refuses_words "$room/err" a check
