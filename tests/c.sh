@@ -118,6 +118,8 @@ test_in_c() {
     run_here "examples/c/small.c ($c)" "$c" -std=c11 $strict -O2 examples/c/small.c $flags -o "$room/program"
     run_here "examples/c/tasks.c ($c)" "$c" -std=c11 $strict -O2 examples/c/tasks.c $flags -o "$room/program"
     run_here "examples/c/board.c ($c)" "$c" -std=c11 $strict -O2 examples/c/board.c $flags -o "$room/program"
+    wants='.* bytes of the block were taken, all by make'
+    run_here "examples/c/own_memory.c ($c)" "$c" -std=c11 $strict -O2 examples/c/own_memory.c $flags -o "$room/program"
     wants='a torn record'
     run_control "c/tests/test.c over a plain buffer ($c)" \
         "$c" -std=c11 -D_GNU_SOURCE $strict -O2 -I c c/tests/test.c c/tests/control.c -o "$room/program"
