@@ -10,7 +10,7 @@
 
 #define PASSES_ON __attribute__((noinline)) static uint32_t
 
-static uint64_t record[512];
+static uint64_t record[131072];
 static nidzaru_side sides[16];
 
 /* The loops of a register. */
@@ -86,10 +86,11 @@ static nidzaru_side sides[16];
     }
 
 #define EACH(CELL, BOARD)                                                                                       \
-    CELL(24) CELL(256) CELL(4096) CELL(triple_24) CELL(triple_256) CELL(triple_4096)                             \
+    CELL(24) CELL(256) CELL(4096) CELL(65536) CELL(1048576)                                                     \
+    CELL(triple_24) CELL(triple_256) CELL(triple_4096) CELL(triple_65536) CELL(triple_1048576)                  \
     BOARD(board_24) BOARD(triple_board_24)
 
-#define EACH_HELD(HOLD) HOLD(triple_24) HOLD(triple_256) HOLD(triple_4096)
+#define EACH_HELD(HOLD) HOLD(triple_24) HOLD(triple_256) HOLD(triple_4096) HOLD(triple_65536) HOLD(triple_1048576)
 
 EACH(CELL, BOARD)
 EACH_HELD(HOLD)

@@ -1,5 +1,5 @@
-/* Held reads and writes in place of records of 4,096 bytes in a triple buffer beside those that copy them, through the header's functions,
- * in one thread.
+/* Held reads and writes in place of records of BYTES bytes, 4,096 if nothing else is said, in a triple buffer beside those that copy them,
+ * through the header's functions, in one thread.
  *   held [ROUNDS [CALLS]]     medians in ns of so many rounds, in which the loops take turns: 21 rounds of 20,000 calls
  * The reads are of a record that was read before, and of one that was just written, without what the write takes. A write is of a record of
  * which one word is changed, or all are filled. */
@@ -9,8 +9,13 @@
 #include <stdlib.h>
 #include <time.h>
 
+#ifndef BYTES
+#define BYTES 4096
+#endif
+enum { WORDS = BYTES / 8 };
+
 struct page {
-    uint64_t words[512];
+    uint64_t words[WORDS];
 };
 NIDZARU_TRIPLE_REGISTER(pages, struct page);
 NIDZARU_HOLD(pages);
@@ -24,7 +29,7 @@ static uint64_t seen;
 enum { READ, HOLD, WRITE, WRITE_AND_READ, WRITE_AND_HOLD, CHANGE_COPY, CHANGE_IN_PLACE, FILL_COPY, FILL_IN_PLACE, LOOPS };
 
 /* Two words of what was read count, so that no read can be left out. */
-static void see(const struct page *page) { seen += page->words[0] + page->words[511]; }
+static void see(const struct page *page) { seen += page->words[0] + page->words[WORDS - 1]; }
 
 static void refused(void) {
     puts("a call was refused");
@@ -38,7 +43,7 @@ __attribute__((always_inline)) static inline void fill(int loop) {
     const int in_place = loop == CHANGE_IN_PLACE || loop == FILL_IN_PLACE;
     if (in_place && pages_loan(&writer, &at)) refused();
     n++;
-    for (int i = 0; i < (loop < FILL_COPY ? 1 : 512); i++) at->words[i] = n;
+    for (int i = 0; i < (loop < FILL_COPY ? 1 : WORDS); i++) at->words[i] = n;
     if (in_place ? pages_publish(&writer) : pages_write(&writer, &given)) refused();
 }
 

@@ -14,7 +14,7 @@ TOP = os.path.dirname(os.path.dirname(os.path.realpath(__file__)))
 EXPORTS = os.path.join(TOP, "crates/c_exports/src/exports")
 # The first line of each file that is made.
 MADE = "// made by c/exports.py\n"
-SIZES = (8, 24, 64, 128, 256, 1024, 4096)
+SIZES = (8, 24, 64, 256, 1024, 4096, 65536, 1048576)
 BOARD_SIZES = (24, 256, 4096)
 # What a triple buffer's exports for records in place take from the definitions.
 IN_PLACE = ", HasPublished, at_hand, in_slot"

@@ -59,8 +59,8 @@
 
 /* The size of the library's records that a record of this size goes into. */
 #define NIDZARU_SIZE(size)                                                                                            \
-    ((size) <= 8 ? 8 : (size) <= 24 ? 24 : (size) <= 64 ? 64 : (size) <= 128 ? 128                                    \
-     : (size) <= 256 ? 256 : (size) <= 1024 ? 1024 : 4096)
+    ((size) <= 8 ? 8 : (size) <= 24 ? 24 : (size) <= 64 ? 64 : (size) <= 256 ? 256                                    \
+     : (size) <= 1024 ? 1024 : (size) <= 4096 ? 4096 : (size) <= 65536 ? 65536 : 1048576)
 
 /* Records that are as large as the library's and aligned to 8 or more are passed where they lie, others through a copy that the
  * compiler lays out with zeros behind it. ThreadSanitizer sees what a copy reads and writes, so there each record has one. */
@@ -227,17 +227,19 @@ void __msan_unpoison(const volatile void *at, size_t size);
 NIDZARU_DECLARE(8)
 NIDZARU_DECLARE(24)
 NIDZARU_DECLARE(64)
-NIDZARU_DECLARE(128)
 NIDZARU_DECLARE(256)
 NIDZARU_DECLARE(1024)
 NIDZARU_DECLARE(4096)
+NIDZARU_DECLARE(65536)
+NIDZARU_DECLARE(1048576)
 NIDZARU_DECLARE(triple_8)
 NIDZARU_DECLARE(triple_24)
 NIDZARU_DECLARE(triple_64)
-NIDZARU_DECLARE(triple_128)
 NIDZARU_DECLARE(triple_256)
 NIDZARU_DECLARE(triple_1024)
 NIDZARU_DECLARE(triple_4096)
+NIDZARU_DECLARE(triple_65536)
+NIDZARU_DECLARE(triple_1048576)
 #undef NIDZARU_DECLARE
 
 /* Of a triple buffer three more. The first two make *at, which leads to a whole record before, lead to the record of the last read or
@@ -249,10 +251,11 @@ NIDZARU_DECLARE(triple_4096)
 NIDZARU_DECLARE_HOLD(triple_8)
 NIDZARU_DECLARE_HOLD(triple_24)
 NIDZARU_DECLARE_HOLD(triple_64)
-NIDZARU_DECLARE_HOLD(triple_128)
 NIDZARU_DECLARE_HOLD(triple_256)
 NIDZARU_DECLARE_HOLD(triple_1024)
 NIDZARU_DECLARE_HOLD(triple_4096)
+NIDZARU_DECLARE_HOLD(triple_65536)
+NIDZARU_DECLARE_HOLD(triple_1048576)
 #undef NIDZARU_DECLARE_HOLD
 
 #if NIDZARU_WATCHED
@@ -328,14 +331,15 @@ NIDZARU_INLINE void nidzaru_take(void *slot) { __tsan_acquire(slot); }
 
 /* The calls with the cell and the size as arguments, which are constants wherever the functions below pass them. */
 #define NIDZARU_PICK(triple, size, call, arguments)                                                                   \
-    ((size) == 8      ? (triple) ? nidzaru_triple_8_##call arguments : nidzaru_8_##call arguments                     \
-     : (size) == 24   ? (triple) ? nidzaru_triple_24_##call arguments : nidzaru_24_##call arguments                   \
-     : (size) == 64   ? (triple) ? nidzaru_triple_64_##call arguments : nidzaru_64_##call arguments                   \
-     : (size) == 128  ? (triple) ? nidzaru_triple_128_##call arguments : nidzaru_128_##call arguments                 \
-     : (size) == 256  ? (triple) ? nidzaru_triple_256_##call arguments : nidzaru_256_##call arguments                 \
-     : (size) == 1024 ? (triple) ? nidzaru_triple_1024_##call arguments : nidzaru_1024_##call arguments               \
-     : (triple)       ? nidzaru_triple_4096_##call arguments                                                          \
-                      : nidzaru_4096_##call arguments)
+    ((size) == 8       ? (triple) ? nidzaru_triple_8_##call arguments : nidzaru_8_##call arguments                    \
+     : (size) == 24    ? (triple) ? nidzaru_triple_24_##call arguments : nidzaru_24_##call arguments                  \
+     : (size) == 64    ? (triple) ? nidzaru_triple_64_##call arguments : nidzaru_64_##call arguments                  \
+     : (size) == 256   ? (triple) ? nidzaru_triple_256_##call arguments : nidzaru_256_##call arguments                \
+     : (size) == 1024  ? (triple) ? nidzaru_triple_1024_##call arguments : nidzaru_1024_##call arguments              \
+     : (size) == 4096  ? (triple) ? nidzaru_triple_4096_##call arguments : nidzaru_4096_##call arguments              \
+     : (size) == 65536 ? (triple) ? nidzaru_triple_65536_##call arguments : nidzaru_65536_##call arguments            \
+     : (triple)        ? nidzaru_triple_1048576_##call arguments                                                      \
+                       : nidzaru_1048576_##call arguments)
 
 NIDZARU_CHECKED int nidzaru_sized_make(int triple, size_t size, const void *first, nidzaru_handle *w, nidzaru_handle *r) {
     uint32_t status;
@@ -394,25 +398,32 @@ NIDZARU_CHECKED int nidzaru_sized_look(int triple, size_t size, nidzaru_handle *
     return NIDZARU_TO(int, status);
 }
 
-NIDZARU_INLINE uint32_t nidzaru_pick_hold(size_t size, nidzaru_side *side, const void **at) {
-    return size == 8      ? nidzaru_triple_8_hold(side, at)
-           : size == 24   ? nidzaru_triple_24_hold(side, at)
-           : size == 64   ? nidzaru_triple_64_hold(side, at)
-           : size == 128  ? nidzaru_triple_128_hold(side, at)
-           : size == 256  ? nidzaru_triple_256_hold(side, at)
-           : size == 1024 ? nidzaru_triple_1024_hold(side, at)
-                          : nidzaru_triple_4096_hold(side, at);
+/* The calls that only a triple buffer has, by the size. */
+#define NIDZARU_PICK_TRIPLE(size, call, arguments)                                                                    \
+    ((size) == 8       ? nidzaru_triple_8_##call arguments                                                            \
+     : (size) == 24    ? nidzaru_triple_24_##call arguments                                                           \
+     : (size) == 64    ? nidzaru_triple_64_##call arguments                                                           \
+     : (size) == 256   ? nidzaru_triple_256_##call arguments                                                          \
+     : (size) == 1024  ? nidzaru_triple_1024_##call arguments                                                         \
+     : (size) == 4096  ? nidzaru_triple_4096_##call arguments                                                         \
+     : (size) == 65536 ? nidzaru_triple_65536_##call arguments                                                        \
+                       : nidzaru_triple_1048576_##call arguments)
+
+/* A record of zeros, for what has to lead to one before a hold. Nobody writes there. */
+NIDZARU_INLINE const void *nidzaru_any_record(size_t size) {
+    static const uint64_t words[4096 / 8] = {0};
+    static uint64_t large_words[1048576 / 8];
+    return size <= 4096 ? NIDZARU_TO(const void *, words) : large_words;
 }
 
 NIDZARU_CHECKED int nidzaru_sized_hold(size_t size, nidzaru_handle *r, const void **at, uint64_t *number) {
-    static const uint64_t nothing[512] = {0};
-    const void *held = nothing;
+    const void *held = nidzaru_any_record(size);
     uint64_t given = 0;
     uint32_t status;
     nidzaru_begin(r);
     nidzaru_let_go(r);
     status = NIDZARU_PICK(1, size, look, (&r->side, &given));
-    if (!status) status = nidzaru_pick_hold(size, &r->side, &held);
+    if (!status) status = NIDZARU_PICK_TRIPLE(size, hold, (&r->side, &held));
     nidzaru_see(r);
     if (!status) nidzaru_keep(r, held);
     nidzaru_heed();
@@ -427,23 +438,29 @@ NIDZARU_CHECKED int nidzaru_sized_hold(size_t size, nidzaru_handle *r, const voi
     return NIDZARU_TO(int, status);
 }
 
-/* The calls that only a triple buffer has, by the size. */
-#define NIDZARU_PICK_TRIPLE(size, call, arguments)                                                                    \
-    ((size) == 8      ? nidzaru_triple_8_##call arguments                                                             \
-     : (size) == 24   ? nidzaru_triple_24_##call arguments                                                            \
-     : (size) == 64   ? nidzaru_triple_64_##call arguments                                                            \
-     : (size) == 128  ? nidzaru_triple_128_##call arguments                                                           \
-     : (size) == 256  ? nidzaru_triple_256_##call arguments                                                           \
-     : (size) == 1024 ? nidzaru_triple_1024_##call arguments                                                          \
-                      : nidzaru_triple_4096_##call arguments)
+/* Makes *at lead to the writer's slot. The library is passed what leads to a record of this call's own. The functions for large records
+ * aren't inlined, so that no other one takes their room on the stack. */
+#define NIDZARU_LOAN_OVER(bytes, apart)                                                                               \
+    __attribute__((unused, warn_unused_result)) static apart uint32_t nidzaru_loan_over_##bytes(                      \
+        size_t size, nidzaru_side *side, void **at) {                                                                 \
+        uint64_t before[bytes / 8];                                                                                   \
+        void *lent = before;                                                                                          \
+        uint32_t status = NIDZARU_PICK_TRIPLE(size, loan, (side, &lent));                                             \
+        if (!status) *at = lent;                                                                                      \
+        return status;                                                                                                \
+    }
+NIDZARU_LOAN_OVER(4096, inline)
+NIDZARU_LOAN_OVER(65536, __attribute__((noinline)))
+NIDZARU_LOAN_OVER(1048576, __attribute__((noinline)))
+#undef NIDZARU_LOAN_OVER
 
-/* (*at leads to a record of this call's own before) */
 NIDZARU_CHECKED int nidzaru_sized_loan(size_t size, nidzaru_handle *w, void **at) {
-    uint64_t before[512];
-    void *lent = before;
+    void *lent = NIDZARU_NOWHERE;
     uint32_t status;
     nidzaru_begin(w);
-    status = NIDZARU_PICK_TRIPLE(size, loan, (&w->side, &lent));
+    status = size <= 4096    ? nidzaru_loan_over_4096(size, &w->side, &lent)
+             : size == 65536 ? nidzaru_loan_over_65536(size, &w->side, &lent)
+                             : nidzaru_loan_over_1048576(size, &w->side, &lent);
     if (!status) nidzaru_take(lent);
     nidzaru_heed();
     NIDZARU_FILLED(&status, sizeof status);
@@ -505,7 +522,7 @@ NIDZARU_CHECKED int nidzaru_move_handle(nidzaru_handle *to, nidzaru_handle *from
 #define NIDZARU_FUNCTIONS(name, type, triple)                                                                          \
     NIDZARU_ASSERT(NIDZARU_PLAIN(type), "a record of a register is neither const nor volatile");                       \
     NIDZARU_ASSERT(NIDZARU_COPIES(type), "a record of a register is trivially copyable");                              \
-    NIDZARU_ASSERT(sizeof(type) <= 4096, "a record of a register has at most 4096 bytes");                             \
+    NIDZARU_ASSERT(sizeof(type) <= 1048576, "a record of a register has at most 1048576 bytes");                       \
     /* (below stands this name alone: a type may be called as an argument is) */                                       \
     typedef type name##_record;                                                                                        \
     typedef struct {                                                                                                   \
@@ -518,10 +535,15 @@ NIDZARU_CHECKED int nidzaru_move_handle(nidzaru_handle *to, nidzaru_handle *from
     } name##_reader;                                                                                                   \
     /* Makes a register that holds `first` as number 0, and puts its sides into two empty handles. */                  \
     NIDZARU_CHECKED int name##_make(const name##_record *first, name##_writer *writer, name##_reader *reader) {        \
-        uint64_t words[NIDZARU_SIZE(sizeof(name##_record)) / 8] = {0};                                                 \
         if (!first || !writer || !reader) return NIDZARU_NULL;                                                         \
-        memcpy(words, NIDZARU_TO(const void *, first), sizeof(name##_record));                                         \
-        return nidzaru_sized_make(triple, sizeof words, words, &writer->handle, &reader->handle);                      \
+        if (NIDZARU_PASSES(sizeof(name##_record), NIDZARU_ALIGNMENT(name##_record))) {                                 \
+            return nidzaru_sized_make(triple, sizeof(name##_record), NIDZARU_TO(const void *, first), &writer->handle, \
+                                      &reader->handle);                                                                \
+        } else {                                                                                                       \
+            uint64_t words[NIDZARU_SIZE(sizeof(name##_record)) / 8] = {0};                                             \
+            memcpy(words, NIDZARU_TO(const void *, first), sizeof(name##_record));                                     \
+            return nidzaru_sized_make(triple, sizeof words, words, &writer->handle, &reader->handle);                  \
+        }                                                                                                              \
     }                                                                                                                  \
     /* Shows the record to the reader, under the next number. What this thread did before comes before what the        \
      * reading thread does once it has read this number, or a greater one. */                                          \

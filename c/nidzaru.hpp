@@ -17,7 +17,7 @@
 //
 // `if (writer)`, `if (reader)` and `if (places[0])` ask whether there is a side.
 //
-// The record's type is neither const nor volatile, trivially copyable, and of at most 4096 bytes. It may be aligned to 16, 32, 64 and more.
+// The record's type is neither const nor volatile, trivially copyable, and of at most 1048576 bytes, on a board 4096. It may be aligned to 16, 32, 64 and more.
 #ifndef NIDZARU_HPP
 #define NIDZARU_HPP
 #include "nidzaru.h"
@@ -52,7 +52,7 @@ template <class T, cell C, std::size_t bytes = NIDZARU_SIZE(sizeof(T))> struct r
     static_assert(NIDZARU_PLAIN(T), "a record of a register or board is neither const nor volatile");
     static_assert(std::is_trivially_copyable<T>::value, "a record of a register or board is trivially copyable");
     static_assert(!std::is_array<T>::value, "a record of a register or board is no array: std::array may be one");
-    static_assert(sizeof(T) <= 4096, "a record of a register or board has at most 4096 bytes");
+    static_assert(sizeof(T) <= bytes, "a record of a register has at most 1048576 bytes, and of a board at most 4096 bytes");
     static constexpr std::size_t size = bytes;
     static constexpr bool passes = !NIDZARU_WATCHED && sizeof(T) == bytes && alignof(T) >= 8;
     static constexpr bool in_place = passes && !shares_tail<T>::value;
@@ -230,8 +230,14 @@ template <class T, cell C = cell::four_slot> class reader : detail::side {
 template <class T, cell C> std::optional<sides<T, C>> try_make(const T &first) noexcept {
     using record = detail::record<T, C>;
     std::optional<sides<T, C>> both(std::in_place);
-    record copy(first);
-    if (nidzaru_sized_make(record::triple, record::size, copy.words, &both->first.handle, &both->second.handle)) return std::nullopt;
+    int status;
+    if constexpr (record::passes) {
+        status = nidzaru_sized_make(record::triple, record::size, std::addressof(first), &both->first.handle, &both->second.handle);
+    } else {
+        record copy(first);
+        status = nidzaru_sized_make(record::triple, record::size, copy.words, &both->first.handle, &both->second.handle);
+    }
+    if (status) return std::nullopt;
     return both;
 }
 

@@ -101,6 +101,12 @@ test_in_c() {
     for test in held loaned; do
         run_here "c/tests/$test.c ($c)" "$c" -std=c11 $strict -O2 c/tests/$test.c $flags -o "$room/program"
     done
+    for words in 8192 131072; do
+        for family in '' -DTRIPLE; do
+            run_here "c/tests/large.c -DWORDS=$words $family($c)" \
+                "$c" -std=c11 $strict -O2 -DWORDS=$words $family c/tests/large.c $flags -o "$room/program"
+        done
+    done
     for family in '' -DTRIPLE; do
         run_here "c/tests/boards.c $family($c)" \
             "$c" -std=c11 -D_GNU_SOURCE $strict -O2 $family c/tests/boards.c $wrapped $flags -o "$room/program"

@@ -1,5 +1,5 @@
 #!/bin/sh
-# By hand: the library's registers with records of six sizes, and its boards of 2, 4 and 16 tasks with records of 24, 256 and 4,096 bytes,
+# By hand: the library's registers with records of eight sizes, and its boards of 2, 4 and 16 tasks with records of 24, 256 and 4,096 bytes,
 # over both mechanisms, for so many seconds each. With a seed threads are stopped, moved between processors and given other priorities at
 # random meanwhile (disturb.c). Before that each program has to find a torn and an older record that are planted in it. The last lines are
 # the sums of calls and what was found. It ends with status 1 at the first wrong record.
@@ -7,7 +7,7 @@
 top=$(dirname -- "$(dirname -- "$(readlink -f -- "$0")")")
 case $#:$1:${2:-0} in
 [12]:*[!0-9:]* | [12]::* | [12]:0* | [!12]:*)
-    echo "usage: tests/library_soak.sh SECONDS [SEED]      of each of 12 registers and 18 boards" >&2
+    echo "usage: tests/library_soak.sh SECONDS [SEED]      of each of 16 registers and 18 boards" >&2
     exit 2
     ;;
 esac
@@ -46,7 +46,7 @@ soak() {
 seconds=$1
 for family in '' -DTRIPLE; do
     kind=register counts=2
-    for bytes in 24 64 128 256 1024 4096; do soak; done
+    for bytes in 24 64 128 256 1024 4096 65536 1048576; do soak; done
     kind=board counts='2 4 16'
     for bytes in 24 256 4096; do soak; done
 done >"$room/told"
@@ -56,4 +56,4 @@ cat "$room/told"
 awk -F'[:,] ' '{ kind = / pairs/ ? "registers" : "boards"; lines[kind] += /nothing found$/
         for (i = 1; i <= NF; i++) { if ($i ~ / writes$/) writes[kind] += $i + 0; if ($i ~ / reads$/) reads[kind] += $i + 0 } }
     END { for (kind in lines) printf "%d %s: %.0f writes, %.0f reads\n", lines[kind], kind, writes[kind], reads[kind]
-        exit lines["registers"] != 12 || lines["boards"] != 18 }' "$room/told"
+        exit lines["registers"] != 16 || lines["boards"] != 18 }' "$room/told"

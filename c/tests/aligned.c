@@ -76,7 +76,7 @@ static int is_filled(const void *item, size_t size, unsigned char from) {
         check(!name##s_end(&places[0]) && !name##s_end(&places[1]), #name, "ends");                                   \
     }
 
-/* A size of the library's own is passed where it lies (64, 128, 256 and 4,096 bytes), another goes through a copy. */
+/* A size of the library's own is passed where it lies (64, 256, 4,096 and 65,536 bytes), another goes through a copy. */
 REGISTER(by16_of_16, NIDZARU_REGISTER, 16, 16)
 REGISTER(by16_of_48, NIDZARU_TRIPLE_REGISTER, 16, 48)
 REGISTER(by16_of_64, NIDZARU_REGISTER, 16, 64)
@@ -86,6 +86,8 @@ REGISTER(by64_of_64, NIDZARU_TRIPLE_REGISTER, 64, 64)
 REGISTER(by64_of_192, NIDZARU_REGISTER, 64, 192)
 REGISTER(by64_of_256, NIDZARU_REGISTER, 64, 256)
 REGISTER(by4096_of_4096, NIDZARU_TRIPLE_REGISTER, 4096, 4096)
+REGISTER(by64_of_65536, NIDZARU_TRIPLE_REGISTER, 64, 65536)
+REGISTER(by64_of_8192, NIDZARU_REGISTER, 64, 8192)
 BOARD(by16_of_16_on_a_board, NIDZARU_BOARD, 16, 16)
 BOARD(by32_of_256_on_a_board, NIDZARU_TRIPLE_BOARD, 32, 256)
 BOARD(by64_of_64_on_a_board, NIDZARU_TRIPLE_BOARD, 64, 64)
@@ -101,6 +103,8 @@ int main(void) {
     test_by64_of_192();
     test_by64_of_256();
     test_by4096_of_4096();
+    test_by64_of_65536();
+    test_by64_of_8192();
     test_by16_of_16_on_a_board();
     test_by32_of_256_on_a_board();
     test_by64_of_64_on_a_board();

@@ -19,10 +19,11 @@ typedef struct {
     {#cell, size, triple, nidzaru_##cell##_write, nidzaru_##cell##_read, nidzaru_##cell##_look, nidzaru_##cell##_end_writer,  \
      nidzaru_##cell##_end_reader}
 static const calls library[] = {
-    CALLS(8, 8, 0),           CALLS(24, 24, 0),         CALLS(64, 64, 0),         CALLS(128, 128, 0),
-    CALLS(256, 256, 0),       CALLS(1024, 1024, 0),     CALLS(4096, 4096, 0),     CALLS(triple_8, 8, 1),
-    CALLS(triple_24, 24, 1),  CALLS(triple_64, 64, 1),  CALLS(triple_128, 128, 1), CALLS(triple_256, 256, 1),
-    CALLS(triple_1024, 1024, 1), CALLS(triple_4096, 4096, 1),
+    CALLS(8, 8, 0),           CALLS(24, 24, 0),         CALLS(64, 64, 0),         CALLS(256, 256, 0),
+    CALLS(1024, 1024, 0),     CALLS(4096, 4096, 0),     CALLS(65536, 65536, 0),   CALLS(1048576, 1048576, 0),
+    CALLS(triple_8, 8, 1),    CALLS(triple_24, 24, 1),  CALLS(triple_64, 64, 1),  CALLS(triple_256, 256, 1),
+    CALLS(triple_1024, 1024, 1), CALLS(triple_4096, 4096, 1), CALLS(triple_65536, 65536, 1),
+    CALLS(triple_1048576, 1048576, 1),
 };
 enum { CELLS = sizeof library / sizeof library[0] };
 
@@ -36,21 +37,23 @@ static const calls *cell_of(size_t size, int triple) {
 /* Of all the library's calls just those of one cell and side know these handles, and what they give is the record with zeros
  * behind it. */
 static void only_these(const char *name, size_t size, int triple, nidzaru_side *w, nidzaru_side *r, const void *now, uint64_t last) {
-    static uint64_t large[4096 / 8 + 8];
+    static uint64_t large[1048576 / 8 + 8];
     const calls *mine = cell_of(size, triple);
     for (int k = 0; k < CELLS; k++) {
         const calls *its = &library[k];
         uint32_t status;
         uint64_t n = 77, seen = 78;
-        memset(large, 0xee, sizeof large);
+        /* (of a large cell that isn't this one the first bytes show whether anything is given) */
+        size_t room = (its == mine || its->size < 4096 ? its->size : 4096) + GUARD;
+        memset(large, 0xee, room);
         status = its->read(r, large, &n);
         check(status == (its == mine ? NIDZARU_DONE : NIDZARU_OTHER_SIDE), name, "which read is called");
         if (its == mine) {
             check(n == last && !memcmp(large, now, size), name, "what the library gives");
             check(is_all((char *)large + size, its->size - size, 0), name, "zeros behind the record");
-            check(is_all((char *)large + its->size, sizeof large - its->size, 0xee), name, "the size of the library's record");
+            check(is_all((char *)large + its->size, GUARD, 0xee), name, "the size of the library's record");
         } else {
-            check(n == 77 && is_all(large, sizeof large, 0xee), name, "what a read of another cell leaves");
+            check(n == 77 && is_all(large, room, 0xee), name, "what a read of another cell leaves");
         }
         check(its->look(r, &seen) == status && seen == (its == mine ? last : 78), name, "which look is called");
         check(its->read(w, large, &n) == NIDZARU_OTHER_SIDE && its->look(w, &n) == NIDZARU_OTHER_SIDE, name, "a writer reads");
@@ -182,9 +185,9 @@ static size_t most_bytes(size_t size, int triple) { return 13 * (8 + NIDZARU_SIZ
 /* The sizes: each greatest one that goes into a record of the library, and one beyond. */
 #define ALL_BYTES(each)                                                                                                       \
     each(1) each(8) each(9) each(24) each(25) each(64) each(65) each(128) each(129) each(256) each(257) each(1024) each(1025) \
-    each(4096)
+    each(4096) each(4097) each(65536) each(65537)
 /* The same in words. */
-#define ALL_WORDS(each) each(1) each(2) each(3) each(8) each(9) each(16) each(32) each(128) each(512)
+#define ALL_WORDS(each) each(1) each(2) each(3) each(8) each(9) each(16) each(32) each(128) each(512) each(8192)
 
 ALL_BYTES(BYTES)
 ALL_WORDS(WORDS)

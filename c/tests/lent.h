@@ -41,10 +41,15 @@ REGISTER(of100, NIDZARU_TRIPLE_REGISTER, 100);
 REGISTER(of256, NIDZARU_TRIPLE_REGISTER, 256);
 REGISTER(of1000, NIDZARU_TRIPLE_REGISTER, 1000);
 REGISTER(of4096, NIDZARU_TRIPLE_REGISTER, 4096);
+REGISTER(of5000, NIDZARU_TRIPLE_REGISTER, 5000);
+REGISTER(of65536, NIDZARU_TRIPLE_REGISTER, 65536);
+REGISTER(of1048576, NIDZARU_TRIPLE_REGISTER, 1048576);
 REGISTER(four, NIDZARU_REGISTER, 24);
 
 /* What is written once for each triple buffer. */
-#define EACH_SIZE(what) what(byte) what(of8) what(of24) what(of64) what(of100) what(of256) what(of1000) what(of4096)
+#define EACH_SIZE(what)                                                                                                \
+    what(byte) what(of8) what(of24) what(of64) what(of100) what(of256) what(of1000) what(of4096) what(of5000)         \
+    what(of65536) what(of1048576)
 
 struct page {
     uint64_t words[512];

@@ -42,6 +42,7 @@ PROGRAMS = {
     "boards": (C11, "boards.c", ["20"], wraps(MEMORY)),
     "board_edges": (C11, "board_edges.c", [], wraps(MEMORY)),
     "held": (C11, "held.c", ["2000"], []),
+    "large": (C11, "large.c", [], ["-DWORDS=131072", "-DTRIPLE"]),
     "loaned": (C11, "loaned.c", ["2000"], []),
     "loaned, watched": (RACES, "loaned.c", ["2000"], []),
     "test.cpp": (CPP17, "test.cpp", ["300"], wraps(MEMORY)),
@@ -92,8 +93,8 @@ def before_read(handle, call, arguments):
 HEADER = [
     (
         "a larger record of a register",
-        "sizeof(type) <= 4096, \"a record of a register",
-        "sizeof(type) <= 8192, \"a record of a register",
+        "sizeof(type) <= 1048576, \"a record of a register",
+        "sizeof(type) <= 2097152, \"a record of a register",
         "refused records c",
     ),
     (
@@ -132,6 +133,7 @@ HEADER = [
         "refused handles c",
     ),
     ("25 bytes in 24", "(size) <= 24 ? 24 : (size) <= 64", "(size) <= 25 ? 24 : (size) <= 64", "edges"),
+    ("4,097 bytes in a megabyte", "(size) <= 4096 ? 4096 : (size) <= 65536 ? 65536", "(size) <= 4096 ? 4096 : (size) <= 4096 ? 65536", "edges"),
     (
         "257 bytes of a board in 256",
         "(size) <= 24 ? 24 : (size) <= 256 ? 256 : 4096)",
@@ -165,18 +167,39 @@ HEADER = [
           ("a board of triple buffers", "NIDZARU_BOARD_FUNCTIONS", "board_edges"))],
     (
         "a hold without a look",
-        "status = NIDZARU_PICK(1, size, look, (&r->side, &given)); if (!status) status = nidzaru_pick_hold",
-        "status = nidzaru_pick_hold",
+        "status = NIDZARU_PICK(1, size, look, (&r->side, &given)); if (!status) status = NIDZARU_PICK_TRIPLE(size, hold,",
+        "status = NIDZARU_PICK_TRIPLE(size, hold,",
         "held",
     ),
     (
         "a hold that looks alone",
-        "if (!status) status = nidzaru_pick_hold(size, &r->side, &held);",
+        "if (!status) status = NIDZARU_PICK_TRIPLE(size, hold, (&r->side, &held));",
         "",
         "held",
     ),
-    ("a hold of another size", "size == 64 ? nidzaru_triple_64_hold(side, at)", "size == 64 ? nidzaru_triple_24_hold(side, at)", "held"),
+    *[(f"a hold of another size, of {size}", f"(size) == {size} ? nidzaru_triple_{size}_##call arguments : (size) ==",
+       f"(size) == {size} ? nidzaru_triple_24_##call arguments : (size) ==", "held") for size in (64, 4096)],
+    (
+        "a hold of a large record in a larger one",
+        "(size) == 65536 ? nidzaru_triple_65536_##call arguments : nidzaru_triple",
+        "(size) == 65536 ? nidzaru_triple_1048576_##call arguments : nidzaru_triple",
+        "held",
+    ),
     ("a hold without its number", "*at = held; *number = given;", "*at = held;", "held"),
+    (
+        "an opening that comes to the stack",
+        "if (NIDZARU_PASSES(sizeof(name##_record), NIDZARU_ALIGNMENT(name##_record))) { return nidzaru_sized_make(",
+        "if (0) { return nidzaru_sized_make(",
+        "large",
+    ),
+    (
+        "a write that comes to the stack",
+        "if (NIDZARU_PASSES(sizeof(name##_record), NIDZARU_ALIGNMENT(name##_record))) { return nidzaru_sized_write(",
+        "if (0) { return nidzaru_sized_write(",
+        "large",
+    ),
+    ("a read that comes to the stack", "if (NIDZARU_IN_PLACE(name##_record)) { return nidzaru_sized_read(", "if (0) { return nidzaru_sized_read(",
+     "large"),
     ("a held record of a refused call", "if (!status) *at = NIDZARU_TO(const name##_record *, held);",
      "*at = NIDZARU_TO(const name##_record *, held);", "held"),
     (
@@ -186,13 +209,14 @@ HEADER = [
         "held",
     ),
     ("a hold at no address", "if (!reader || !at || !number) return", "if (!reader || !number) return", "held"),
-    ("a loan of another size", "(size) == 64 ? nidzaru_triple_64_##call arguments : (size) == 128",
-     "(size) == 64 ? nidzaru_triple_24_##call arguments : (size) == 128", "loaned"),
+    ("a loan of another size", "(size) == 64 ? nidzaru_triple_64_##call arguments : (size) == 256",
+     "(size) == 64 ? nidzaru_triple_24_##call arguments : (size) == 256", "loaned"),
     ("a lent slot of a refused call", "if (!status) *at = NIDZARU_TO(name##_record *, lent);", "*at = NIDZARU_TO(name##_record *, lent);",
      "loaned"),
-    ("a loan that leads nowhere", "*at = lent;", "(void)lent;", "loaned"),
-    ("a loan that publishes", "status = NIDZARU_PICK_TRIPLE(size, loan, (&w->side, &lent));",
-     "status = NIDZARU_PICK_TRIPLE(size, loan, (&w->side, &lent)); if (!status) status = NIDZARU_PICK_TRIPLE(size, publish, (&w->side));",
+    ("a loan that leads nowhere", "NIDZARU_FILLED(lent, size); *at = lent;", "NIDZARU_FILLED(lent, size);", "loaned"),
+    ("a loan that leads to its own record", "if (!status) *at = lent; return status;", "if (!status) *at = before; return status;", "loaned"),
+    ("a loan that publishes", "status = NIDZARU_PICK_TRIPLE(size, loan, (side, &lent));",
+     "status = NIDZARU_PICK_TRIPLE(size, loan, (side, &lent)); if (!status) status = NIDZARU_PICK_TRIPLE(size, publish, (side));",
      "loaned"),
     ("a publish that lends", "status = NIDZARU_PICK_TRIPLE(size, publish, (&w->side));",
      "void *at = w; status = NIDZARU_PICK_TRIPLE(size, loan, (&w->side, &at));", "loaned"),
@@ -292,7 +316,7 @@ HEADER = [
       for what, record, call, before in (
           ("a write", "item", "write", ""),
           ("a board's write", "item", "board_write", ""),
-          ("an opening", "first", "make", " if (!first || !writer || !reader) return NIDZARU_NULL;"),
+          ("an opening", "first", "make", ""),
           ("a board's opening", "first", "board_make",
            " nidzaru_handle *handles[16] = {NIDZARU_NOWHERE}; size_t i; if (!first || !places) return NIDZARU_NULL; "
            "for (i = 0; i < count && i < 16; i++) handles[i] = &places[i].handle;"))],
@@ -329,8 +353,10 @@ HEADER = [
     ("an order looked for before a look", *before_read("r", "look", "(&r->side, number)"), "pairs"),
     (
         "an order looked for before a hold",
-        "status = NIDZARU_PICK(1, size, look, (&r->side, &given)); if (!status) status = nidzaru_pick_hold(size, &r->side, &held); nidzaru_see(r);",
-        "nidzaru_see(r); status = NIDZARU_PICK(1, size, look, (&r->side, &given)); if (!status) status = nidzaru_pick_hold(size, &r->side, &held);",
+        "status = NIDZARU_PICK(1, size, look, (&r->side, &given)); if (!status) status = NIDZARU_PICK_TRIPLE(size, hold, (&r->side, &held)); "
+        "nidzaru_see(r);",
+        "nidzaru_see(r); status = NIDZARU_PICK(1, size, look, (&r->side, &given)); "
+        "if (!status) status = NIDZARU_PICK_TRIPLE(size, hold, (&r->side, &held));",
         "pairs",
     ),
     ("an order told after a publish", "nidzaru_show(w); status = NIDZARU_PICK_TRIPLE(size, publish, (&w->side));",
@@ -368,7 +394,7 @@ def member(kind):
 
 
 CLASSES = [
-    ("a class's larger record", "static_assert(sizeof(T) <= 4096", "static_assert(sizeof(T) <= 8192", "refused records c++"),
+    ("a class's larger record", "static_assert(sizeof(T) <= bytes", "static_assert(sizeof(T) <= 2 * bytes", "refused records c++"),
     ("a class's array", "static_assert(!std::is_array<T>::value", "static_assert(true", "refused records c++"),
     ("a class's volatile record", "static_assert(NIDZARU_PLAIN(T)", "static_assert(true", "refused records c++"),
     ("any record of a class", "static_assert(std::is_trivially_copyable<T>::value", "static_assert(true", "refused records c++"),
@@ -549,6 +575,15 @@ CRATE = [
     ("a hold that looks alone", RAW, "DONE => hold_for(calls.size)(&mut reader.side, &mut at),", "DONE => DONE,", "test calls"),
     ("a hold without its number", LIB, "self.last = number; item } } impl", "let _ = number; item } } impl", "test calls"),
     ("a hold of another size", RAW, "64 => nidzaru_triple_64_hold,", "64 => nidzaru_triple_24_hold,", "test calls"),
+    ("a hold of a larger size", RAW, "65536 => nidzaru_triple_65536_hold,", "65536 => nidzaru_triple_1048576_hold,", "test large"),
+    ("a loan of a larger size", RAW, '65536 => in_place!("triple_65536"),', '65536 => in_place!("triple_1048576"),', "test large"),
+    (
+        "an opening that comes to the stack",
+        RAW,
+        "if passes::<T>(calls.size) { // The opening is as large",
+        "if false { // The opening is as large",
+        "test large",
+    ),
     ("a loan of another size", RAW, '64 => in_place!("triple_64"),', '64 => in_place!("triple_24"),', "test calls"),
     ("a wide record that is filled where it lies", RAW,
      'assert!(align_of::<T>() <= 8, "a record that is filled', 'assert!(align_of::<T>() <= 16, "a record that is filled', "doc Writer"),

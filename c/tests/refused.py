@@ -22,13 +22,14 @@ STRICT_C = STRICT + "-Wstrict-prototypes -Wmissing-prototypes -Wold-style-defini
 STRICT_CPP = STRICT + "-Wold-style-cast -Wzero-as-null-pointer-constant -Weffc++ -Wnon-virtual-dtor -Woverloaded-virtual".split()
 
 SIZES = "at most 4096 bytes"
+LARGE = "at most 1048576 bytes"
 PLAIN = "neither const nor volatile"
 COPIES = "trivially copyable"
 HELD = "aligned to at most 8"
 
 C_TYPES = """
 struct ok { double low, high; }; struct most { char bytes[4096]; };
-struct large1 { char bytes[4097]; }; struct large2 { char bytes[4097]; };
+struct large1 { char bytes[4097]; }; struct large2 { char bytes[1048576]; }; struct larger { char bytes[1048577]; };
 struct wide { _Alignas(16) char bytes[16]; };
 """
 C_MACROS = [
@@ -39,7 +40,9 @@ C_MACROS = [
             ("struct ok", None),
             ("struct most", None),
             ("double", None),
-            ("struct large1", SIZES),
+            ("struct large1", None if "REGISTER" in kind else SIZES),
+            ("struct large2", None if "REGISTER" in kind else SIZES),
+            ("struct larger", LARGE if "REGISTER" in kind else SIZES),
             ("struct wide", None),
             ("volatile struct ok", PLAIN),
             ("const struct ok", PLAIN),
@@ -50,6 +53,7 @@ C_MACROS = [
 ] + [
     ("NIDZARU_TRIPLE_REGISTER(held_ok, struct ok); NIDZARU_HOLD(held_ok);", None),
     ("NIDZARU_TRIPLE_REGISTER(held_most, struct most); NIDZARU_HOLD(held_most);", None),
+    ("NIDZARU_TRIPLE_REGISTER(held_large, struct large2); NIDZARU_HOLD(held_large); NIDZARU_LOAN(held_large);", None),
     ("NIDZARU_TRIPLE_REGISTER(held_wide, struct wide); NIDZARU_HOLD(held_wide);", HELD),
     ("NIDZARU_TRIPLE_REGISTER(lent_ok, struct ok); NIDZARU_LOAN(lent_ok);", None),
     ("NIDZARU_TRIPLE_REGISTER(lent_wide, struct wide); NIDZARU_LOAN(lent_wide);", HELD),
@@ -111,6 +115,7 @@ CPP_TYPES = """
 template <int> struct ok { double low, high; };
 template <int> struct most { char bytes[4096]; };
 template <int> struct large { char bytes[4097]; };
+template <int> struct larger { char bytes[1048577]; };
 template <int> struct alignas(16) wide { char bytes[16]; };
 template <int> struct text { std::string words; };
 template <int> struct rooted { double x; rooted() = default; rooted(const rooted &from) : x(from.x) {} };
@@ -124,21 +129,23 @@ template <std::size_t N, nidzaru::cell C, class T> int make_board(const T &);
 template <class T> int give(T *, const void *);
 }
 """
+# A value, why it is refused as a register's record, and why as a board's.
 CPP_MADE = [
-    ("ok<%d>{}", None),
-    ("most<%d>{}", None),
-    ("std::array<ok<%d>, 3>{}", None),
-    ("large<%d>{}", SIZES),
-    ("wide<%d>{}", None),
-    ("text<%d>{}", COPIES),
-    ("rooted<%d>{}", COPIES),
+    ("ok<%d>{}", None, None),
+    ("most<%d>{}", None, None),
+    ("std::array<ok<%d>, 3>{}", None, None),
+    ("large<%d>{}", None, SIZES),
+    ("larger<%d>{}", LARGE, SIZES),
+    ("wide<%d>{}", None, None),
+    ("text<%d>{}", COPIES, COPIES),
+    ("rooted<%d>{}", COPIES, COPIES),
 ]
 CPP_MAKERS = ["make(%s)", "make_triple(%s)", "try_make(%s)", "try_make_triple(%s)", "make_board<2>(%s)", "try_make_board<2>(%s)",
               "make_board<2, nidzaru::cell::triple>(%s)"]
 CPP_ROWS = [
-    (f"(void)nidzaru::{maker % (value % (10 * m + v))};", wants)
+    (f"(void)nidzaru::{maker % (value % (10 * m + v))};", on_a_board if "board" in maker else wants)
     for m, maker in enumerate(CPP_MAKERS)
-    for v, (value, wants) in enumerate(CPP_MADE)
+    for v, (value, wants, on_a_board) in enumerate(CPP_MADE)
 ] + [
     ("static volatile double v1 = 1; (void)nidzaru::make(v1);", PLAIN),
     ("static volatile ok<900> v2{}; (void)nidzaru::make_triple(v2);", PLAIN),
@@ -270,7 +277,8 @@ PAGES = [
         (f"using t{k}_{kind} = {type_}; NIDZARU_{kind}(n{k}_{kind}, t{k}_{kind});", wants)
         for kind in ("REGISTER", "BOARD")
         for k, (type_, wants) in enumerate([
-            ("ok<1>", None), ("large<1>", SIZES), ("wide<1>", None), ("text<1>", COPIES), ("rooted<1>", COPIES),
+            ("ok<1>", None), ("large<1>", None if kind == "REGISTER" else SIZES), ("larger<1>", LARGE if kind == "REGISTER" else SIZES),
+            ("wide<1>", None), ("text<1>", COPIES), ("rooted<1>", COPIES),
             ("volatile ok<1>", PLAIN), ("const ok<1>", PLAIN), ("const volatile ok<1>", PLAIN)])
     ] + [
         ("using held = ok<2>; NIDZARU_TRIPLE_REGISTER(helds, held); NIDZARU_HOLD(helds);", None),

@@ -2,8 +2,8 @@
  * four slots, or with -DTRIPLE a triple buffer. Every word of a record is the number of its write, and the reader looks at each word.
  * usage: register_soak [PAIRS SECONDS], 2 pairs for a second where nothing is named. It prints what was counted, and ends with status 1 at
  * the first wrong record: a torn one, whose words are of several writes; a foreign one, which isn't that of the number that the read gives;
- * one older than the one before. With -DTORN each 10,000th record that a task reads has a word of another write, with -DOLDER it is the
- * opening. */
+ * one older than the one before. With -DTORN each 10,000th record that a task reads, of more than 4,096 bytes each 100th, has a word of
+ * another write, with -DOLDER it is the opening. */
 #ifdef TRIPLE
 #define MECHANISM "triple buffer"
 #define MAKES NIDZARU_TRIPLE_REGISTER
@@ -13,7 +13,7 @@
 #endif
 #include "soaked.h"
 
-enum { MOST_PAIRS = 16 };
+enum { MOST_PAIRS = 16, PLANTED = BYTES > 4096 ? 100 : 10000 };
 
 MAKES(items, struct item);
 
@@ -57,9 +57,9 @@ static void *read_all(void *argument) {
         if (items_read(&pair->reader, &item, &number)) break;
         reads++;
 #ifdef TORN
-        if (reads % 10000 == 0) item.words[1]++;
+        if (reads % PLANTED == 0) item.words[1]++;
 #elif defined OLDER
-        if (reads % 10000 == 0) item = opening, number = 0;
+        if (reads % PLANTED == 0) item = opening, number = 0;
 #endif
         found = wrong(&item, number, last);
         last = number;

@@ -35,9 +35,15 @@ typedef struct { uint64_t words[16]; } r128;
 typedef struct { uint64_t words[32]; } r256;
 typedef struct { uint64_t words[128]; } r1024;
 typedef struct { uint64_t words[512]; } r4096;
+typedef struct { uint64_t words[8192]; } r65536;
+typedef struct { uint64_t words[131072]; } r1048576;
 typedef struct { uint32_t words[5]; } r20;
 typedef struct { uint32_t words[6]; } r24_by_4;
 typedef struct { unsigned char words[3000]; } r3000;
+typedef struct { unsigned char words[5000]; } r5000;
+
+/* A large record's register has fewer writes. */
+#define MANY(type) (sizeof(type) > 4096 ? many / 16 + 1 : many)
 
 /* Word k of the record with this number, cut to the word's width. */
 #define FILL(record, number)                                                                                                  \
@@ -57,7 +63,7 @@ typedef struct { unsigned char words[3000]; } r3000;
     } name##_both;                                                                                                            \
     static void *name##_write_all(void *unused) {                                                                             \
         pthread_barrier_wait(&start);                                                                                         \
-        for (uint64_t i = 1; i <= many; i++) {                                                                                \
+        for (uint64_t i = 1; i <= MANY(type); i++) {                                                                          \
             type x;                                                                                                           \
             FILL(x, i);                                                                                                       \
             if (name##_write(&name##_both.writer, &x)) name##_both.refused++;                                                 \
@@ -69,7 +75,7 @@ typedef struct { unsigned char words[3000]; } r3000;
     static void *name##_read_all(void *unused) {                                                                              \
         uint64_t last = 0;                                                                                                    \
         pthread_barrier_wait(&start);                                                                                         \
-        while (last < many) {                                                                                                 \
+        while (last < MANY(type)) {                                                                                           \
             type x;                                                                                                           \
             uint64_t n = ~0ull, seen = 0;                                                                                     \
             if (last % 4 == 3 && name##_look(&name##_both.reader, &seen)) name##_both.refused++;                              \
@@ -103,11 +109,11 @@ typedef struct { unsigned char words[3000]; } r3000;
         check(!name##_both.torn, #name, "a torn record");                                                                     \
         check(!name##_both.fell, #name, "a number that fell");                                                                \
         check(!name##_both.refused, #name, "a call that was refused");                                                        \
-        check(name##_both.fresh >= many / 512, #name, "the threads didn't run at once");                                \
+        check(name##_both.fresh >= MANY(type) / 512, #name, "the threads didn't run at once");                                \
         if (writer_first) {                                                                                                   \
             check(name##_write(&name##_both.writer, &x) == NIDZARU_ENDED, #name, "a write after the end");                    \
             check(name##_end_writer(&name##_both.writer) == NIDZARU_ENDED, #name, "a second end");                            \
-            check(!name##_read(&name##_both.reader, &x, &n) && n == many, #name, "the last record after the writer's end");   \
+            check(!name##_read(&name##_both.reader, &x, &n) && n == MANY(type), #name, "the last record after the writer's end"); \
             check(!name##_end_reader(&name##_both.reader), #name, "the reader's end");                                        \
         } else {                                                                                                              \
             check(name##_read(&name##_both.reader, &x, &n) == NIDZARU_ENDED, #name, "a read after the end");                  \
@@ -128,9 +134,12 @@ typedef struct { unsigned char words[3000]; } r3000;
     each(four256, r256, NIDZARU_REGISTER, ~0ull)                                                                              \
     each(four1024, r1024, NIDZARU_REGISTER, ~0ull)                                                                            \
     each(four4096, r4096, NIDZARU_REGISTER, ~0ull)                                                                            \
+    each(four65536, r65536, NIDZARU_REGISTER, ~0ull)                                                                          \
+    each(four1048576, r1048576, NIDZARU_REGISTER, ~0ull)                                                                      \
     each(four20, r20, NIDZARU_REGISTER, 0xffffffffull)                                                                        \
     each(four24_by_4, r24_by_4, NIDZARU_REGISTER, 0xffffffffull)                                                              \
     each(four3000, r3000, NIDZARU_REGISTER, 0xffull)                                                                          \
+    each(four5000, r5000, NIDZARU_REGISTER, 0xffull)                                                                          \
     each(triple8, r8, NIDZARU_TRIPLE_REGISTER, ~0ull)                                                                         \
     each(triple24, r24, NIDZARU_TRIPLE_REGISTER, ~0ull)                                                                       \
     each(triple64, r64, NIDZARU_TRIPLE_REGISTER, ~0ull)                                                                       \
@@ -138,9 +147,12 @@ typedef struct { unsigned char words[3000]; } r3000;
     each(triple256, r256, NIDZARU_TRIPLE_REGISTER, ~0ull)                                                                     \
     each(triple1024, r1024, NIDZARU_TRIPLE_REGISTER, ~0ull)                                                                   \
     each(triple4096, r4096, NIDZARU_TRIPLE_REGISTER, ~0ull)                                                                   \
+    each(triple65536, r65536, NIDZARU_TRIPLE_REGISTER, ~0ull)                                                                 \
+    each(triple1048576, r1048576, NIDZARU_TRIPLE_REGISTER, ~0ull)                                                             \
     each(triple20, r20, NIDZARU_TRIPLE_REGISTER, 0xffffffffull)                                                               \
     each(triple24_by_4, r24_by_4, NIDZARU_TRIPLE_REGISTER, 0xffffffffull)                                                     \
-    each(triple3000, r3000, NIDZARU_TRIPLE_REGISTER, 0xffull)
+    each(triple3000, r3000, NIDZARU_TRIPLE_REGISTER, 0xffull)                                                                 \
+    each(triple5000, r5000, NIDZARU_TRIPLE_REGISTER, 0xffull)
 #define RUN(name, type, register_of, mask) name##_all();
 ALL(TEST)
 

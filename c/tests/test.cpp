@@ -19,6 +19,15 @@ struct whole {
     std::uint64_t words[3];
 };
 
+// An array of this number, and whether two are the same.
+template <class T> T filled(std::uint64_t n) {
+    T x;
+    x.fill(typename T::value_type(n));
+    return x;
+}
+
+template <class T> bool same(const T &a, const T &b) { return a == b; }
+
 template <nidzaru::cell C, class T, class Of, class Same> void threads(std::uint64_t many, Of of, Same same) {
     auto [w, r] = nidzaru::make<T, C>(of(0));
     std::uint64_t torn = 0, fell = 0, fresh = 0, last = 0;
@@ -278,13 +287,16 @@ int main(int count, char **words) {
     fills<small>(small_of, same_small);
     fills<double>([](std::uint64_t n) { return double(n); }, [](const double &a, const double &b) { return a == b; });
     using page = std::array<std::uint64_t, 512>;
-    holds<page>(
-        [](std::uint64_t n) {
-            page x;
-            x.fill(n);
-            return x;
-        },
-        [](const page &a, const page &b) { return a == b; });
+    holds<page>(filled<page>, same<page>);
+    // Large records: as large as the library's, and one that isn't.
+    using scan = std::array<std::uint64_t, 8192>;
+    using larger = std::array<unsigned char, 70000>;
+    holds<scan>(filled<scan>, same<scan>);
+    holds<larger>(filled<larger>, same<larger>);
+    fills<scan>(filled<scan>, same<scan>);
+    fills<larger>(filled<larger>, same<larger>);
+    threads<nidzaru::cell::four_slot, scan>(many / 16 + 1, filled<scan>, same<scan>);
+    threads<nidzaru::cell::triple, larger>(many / 16 + 1, filled<larger>, same<larger>);
     moves();
     moves_into_live();
     news();

@@ -24,7 +24,9 @@ pub use four_slot::{
 pub use handle::{Handle, handles_cross};
 pub use loose::Loose;
 pub use pick::{Record, Role};
-pub use record::{Record8, Record24, Record64, Record128, Record256, Record1024, Record4096};
+pub use record::{
+    Record8, Record24, Record64, Record256, Record1024, Record4096, Record65536, Record1048576,
+};
 pub use side::{
     FourSlotSeat24, FourSlotSeat256, FourSlotSeat4096, Party, Side, TripleSeat24, TripleSeat256,
     TripleSeat4096,

@@ -5,12 +5,14 @@ ghost use Rattle.std.specs.Borrow.{LendsIf, sem};
 ghost use Rattle.std.proofs.Common.{rules};
 ghost use Rattle.c_handles.specs.declared.side.Side.{Side};
 ghost use Rattle.c_handles.specs.declared.side.Party.{Party};
-ghost use Rattle.c_handles.specs.declared.side.Side.TheVariants.{Of8, Of24, Of64, Of128, Of256, Of1024, Of4096};
+ghost use Rattle.c_handles.specs.declared.side.Side.TheVariants.{Of8, Of24, Of64, Of256, Of1024, Of4096, Of65536, Of1048576};
 ghost use Rattle.c_handles.specs.declared.side.Party.TheVariants.{Writes, Reads, TripleWrites, TripleReads};
 ghost use Rattle.c_handles.specs.contracts.side.Side as sides;
 ghost use Rattle.c_handles.specs.contracts.side.Party as parties;
 
-use crate::record::{Record8, Record24, Record64, Record128, Record256, Record1024, Record4096};
+use crate::record::{
+    Record8, Record24, Record64, Record256, Record1024, Record4096, Record65536, Record1048576,
+};
 use crate::side::{Party, Side};
 use c_registers::{FourSlotReader, FourSlotWriter, Offers, TripleReader, TripleWriter};
 
@@ -93,26 +95,6 @@ impl Record for Record64 {
     ghost only = { Prim.search rules };
 }
 
-impl Record for Record128 {
-    ghost side = { Of128 };
-
-    fn party(among: &mut Side) -> Option<&mut Party<Record128>> {
-        if let Side::Of128(party) = among {
-            Some(party)
-        } else {
-            None
-        }
-    }
-
-    fn into_side(party: Party<Record128>) -> Side
-        ensures { result ≡ Of128 party }
-    {
-        Side::Of128(party)
-    }
-
-    ghost only = { Prim.search rules };
-}
-
 impl Record for Record256 {
     ghost side = { Of256 };
 
@@ -168,6 +150,46 @@ impl Record for Record4096 {
         ensures { result ≡ Of4096 party }
     {
         Side::Of4096(party)
+    }
+
+    ghost only = { Prim.search rules };
+}
+
+impl Record for Record65536 {
+    ghost side = { Of65536 };
+
+    fn party(among: &mut Side) -> Option<&mut Party<Record65536>> {
+        if let Side::Of65536(party) = among {
+            Some(party)
+        } else {
+            None
+        }
+    }
+
+    fn into_side(party: Party<Record65536>) -> Side
+        ensures { result ≡ Of65536 party }
+    {
+        Side::Of65536(party)
+    }
+
+    ghost only = { Prim.search rules };
+}
+
+impl Record for Record1048576 {
+    ghost side = { Of1048576 };
+
+    fn party(among: &mut Side) -> Option<&mut Party<Record1048576>> {
+        if let Side::Of1048576(party) = among {
+            Some(party)
+        } else {
+            None
+        }
+    }
+
+    fn into_side(party: Party<Record1048576>) -> Side
+        ensures { result ≡ Of1048576 party }
+    {
+        Side::Of1048576(party)
     }
 
     ghost only = { Prim.search rules };

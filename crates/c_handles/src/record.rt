@@ -26,13 +26,6 @@ pub struct Record64 {
     pub words: [u64; 8],
 }
 
-/// A record of 128 bytes.
-#[repr(C)]
-#[derive(Clone, Copy)]
-pub struct Record128 {
-    pub words: [u64; 16],
-}
-
 /// A record of 256 bytes.
 #[repr(C)]
 #[derive(Clone, Copy, PartialEq, Eq)]
@@ -52,6 +45,20 @@ pub struct Record1024 {
 #[derive(Clone, Copy, PartialEq, Eq)]
 pub struct Record4096 {
     pub words: [u64; 512],
+}
+
+/// A record of 65,536 bytes.
+#[repr(C)]
+#[derive(Clone, Copy)]
+pub struct Record65536 {
+    pub words: [u64; 8192],
+}
+
+/// A record of 1,048,576 bytes.
+#[repr(C)]
+#[derive(Clone, Copy)]
+pub struct Record1048576 {
+    pub words: [u64; 131072],
 }
 
 impl RecordLaw for Record24 {

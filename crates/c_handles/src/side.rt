@@ -1,6 +1,8 @@
 //! What a handle can have.
 
-use crate::record::{Record8, Record24, Record64, Record128, Record256, Record1024, Record4096};
+use crate::record::{
+    Record8, Record24, Record64, Record256, Record1024, Record4096, Record65536, Record1048576,
+};
 use board_live::Posted;
 use c_boards::{Place, Seated};
 use c_registers::{FourSlotReader, FourSlotWriter, TripleReader, TripleWriter};
@@ -37,10 +39,11 @@ pub enum Side {
     Of8(Party<Record8>),
     Of24(Party<Record24>),
     Of64(Party<Record64>),
-    Of128(Party<Record128>),
     Of256(Party<Record256>),
     Of1024(Party<Record1024>),
     Of4096(Party<Record4096>),
+    Of65536(Party<Record65536>),
+    Of1048576(Party<Record1048576>),
     Board24(FourSlotSeat24),
     Board256(FourSlotSeat256),
     Board4096(FourSlotSeat4096),

@@ -1,7 +1,6 @@
 -- What the calls do to the sides of a triple buffer (this project's definitions).
 use Rattle.std.specs.Prelude.{◌≡◌, ◌≢◌, ◌+◌, ◌≤◌, [], ◌∷◌, ◌++◌}
 use Rattle.std.specs.Arc.{arc_value}
-use Rattle.std.specs.Box.{with_value}
 use Rattle.cell_live.specs.Intervals.{IsNextAnswer, IsNextCall, no_times, none_known}
 use Rattle.cell_live.specs.Running.{IsAnswer}
 use Rattle.cell_triple.specs.Words.{opening_of, written_by, answers_of, told_to, swaps_of_put, loads_of, swaps_of}
@@ -19,19 +18,19 @@ module _ {W : Type 0} where
   pub record IsMade (p : TripleWriter W) (g : TripleReader W) (w : W) : Type 0 where
     pub one : arc_value p.room.inner.cell ≡ arc_value g.room.inner.cell
     pub opening : opening_of (arc_value p.room.inner.cell) ≡ numbered 0 w
-    pub unwritten : written_by p.room.inner.put.value ≡ []
-    pub unread : answers_of g.room.inner.get.value ≡ []
-    pub untold : told_to g.room.inner.get.value ≡ []
-    pub timeless : (put_times p.room.inner.put.value ≡ no_times) × (get_times g.room.inner.get.value ≡ no_times)
-    pub unknown : (numbers_of g.room.inner.get.value ≡ []) × (known_to g.room.inner.get.value ≡ none_known)
+    pub unwritten : written_by p.room.inner.put ≡ []
+    pub unread : answers_of g.room.inner.get ≡ []
+    pub untold : told_to g.room.inner.get ≡ []
+    pub timeless : (put_times p.room.inner.put ≡ no_times) × (get_times g.room.inner.get ≡ no_times)
+    pub unknown : (numbers_of g.room.inner.get ≡ []) × (known_to g.room.inner.get ≡ none_known)
 
   -- the writing side's pass before and after a write of the record: it is written, and nothing else, by at most three control accesses, in
   -- an interval after the write before
   pub record HasWrittenBy (p q : TripleFiller W) (a : Numbered W) : Type 0 where
     pub same : q.cell ≡ p.cell
-    pub written : written_by q.put.value ≡ written_by p.put.value ++ a ∷ []
-    pub accesses : swaps_of_put q.put.value ≤ swaps_of_put p.put.value + 3
-    pub timed : IsNextCall (put_times p.put.value) (put_times q.put.value)
+    pub written : written_by q.put ≡ written_by p.put ++ a ∷ []
+    pub accesses : swaps_of_put q.put ≤ swaps_of_put p.put + 3
+    pub timed : IsNextCall (put_times p.put) (put_times q.put)
 
   -- the writing side before and after a write of the words: they are written under the next number
   pub record HasWritten (p q : TripleWriter W) (w : W) : Type 0 where
@@ -40,7 +39,7 @@ module _ {W : Type 0} where
 
   -- the record in the writing side's slot: until it is written in place, an older one or the opening
   abbrev pub in_slot : TripleWriter W → Numbered W
-  in_slot p = placed_by p.room.inner.put.value
+  in_slot p = placed_by p.room.inner.put
 
   -- a write of the words in the slot
   abbrev pub HasPublished : TripleWriter W → TripleWriter W → Type 0
@@ -48,7 +47,7 @@ module _ {W : Type 0} where
 
   -- the pass and the writing side with these in their slot, and else as they are
   abbrev pub filler_with : TripleFiller W → Numbered W → TripleFiller W
-  filler_with f a = record f { put = with_value f.put (put_with f.put.value a) }
+  filler_with f a = record f { put = put_with f.put a }
 
   abbrev pub writer_with : TripleWriter W → W → TripleWriter W
   writer_with p w = record p { room = record { inner = filler_with p.room.inner (numbered (in_slot p).number w) } }
@@ -58,27 +57,27 @@ module _ {W : Type 0} where
   -- atomic by their intervals
   pub record HasReadBy (g h : TripleEnds W) (a : Numbered W) : Type 0 where
     pub same : h.cell ≡ g.cell
-    pub at_hand : at_hand_of h.get.value ≡ a
-    pub answers : answers_of h.get.value ≡ answers_of g.get.value ++ a ∷ []
-    pub told : told_to h.get.value ≡ told_to g.get.value
-    pub accesses : loads_of h.get.value + swaps_of h.get.value ≤ loads_of g.get.value + swaps_of g.get.value + 3
-    pub running : IsAnswer Always IsNoEarlier (opening_of (arc_value g.cell)) (answers_of g.get.value) (told_to g.get.value) a
-    pub timed : IsNextCall (get_times g.get.value) (get_times h.get.value)
-    pub written : IsNextAnswer (opening_of (arc_value g.cell)) (known_to g.get.value)
-        (known_to h.get.value) (numbers_of g.get.value) (numbers_of h.get.value)
-        (answers_of h.get.value) (get_times h.get.value) a
+    pub at_hand : at_hand_of h.get ≡ a
+    pub answers : answers_of h.get ≡ answers_of g.get ++ a ∷ []
+    pub told : told_to h.get ≡ told_to g.get
+    pub accesses : loads_of h.get + swaps_of h.get ≤ loads_of g.get + swaps_of g.get + 3
+    pub running : IsAnswer Always IsNoEarlier (opening_of (arc_value g.cell)) (answers_of g.get) (told_to g.get) a
+    pub timed : IsNextCall (get_times g.get) (get_times h.get)
+    pub written : IsNextAnswer (opening_of (arc_value g.cell)) (known_to g.get)
+        (known_to h.get) (numbers_of g.get) (numbers_of h.get)
+        (answers_of h.get) (get_times h.get) a
 
   abbrev pub HasRead : TripleReader W → TripleReader W → Numbered W → Type 0
   HasRead g h a = HasReadBy g.room.inner h.room.inner a
 
   -- the last answer, or the opening
   abbrev pub at_hand : TripleReader W → Numbered W
-  at_hand g = at_hand_of g.room.inner.get.value
+  at_hand g = at_hand_of g.room.inner.get
 
   -- the second reading side is the first one: it has the same cell, knows the same, and holds the same record in the same slot
   pub record StaysBy (g h : TripleEnds W) : Type 0 where
     pub same : h.cell ≡ g.cell
-    pub pass : IsSame g.get.value h.get.value
+    pub pass : IsSame g.get h.get
 
   abbrev pub Stays : TripleReader W → TripleReader W → Type 0
   Stays g h = StaysBy g.room.inner h.room.inner

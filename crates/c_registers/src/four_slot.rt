@@ -15,18 +15,17 @@ mod calls;
 #[derive(Drop)]
 pub struct FourSlotWriter<W: Copy> {
     pub cell: Arc<FourSlotCell<Numbered<W>>, Global>,
-    /// In a box, so that a side has one size, whatever its records have.
-    pub put: Box<FourSlotPut<Numbered<W>>>,
+    pub put: FourSlotPut<Numbered<W>>,
     /// The number of the last record.
     pub number: u64,
-    ghost own: { is_put_of (arc_value cell) put.value },
-    ghost last: { (last_or (opening_of (arc_value cell)) (written_by put.value)).number ≡ number },
+    ghost own: { is_put_of (arc_value cell) put },
+    ghost last: { (last_or (opening_of (arc_value cell)) (written_by put)).number ≡ number },
 }
 
 /// The reading side.
 #[derive(Drop)]
 pub struct FourSlotReader<W: Copy> {
     pub cell: Arc<FourSlotCell<Numbered<W>>, Global>,
-    pub get: Box<FourSlotGet<Numbered<W>>>,
-    ghost own: { is_get_of (arc_value cell) get.value },
+    pub get: FourSlotGet<Numbered<W>>,
+    ghost own: { is_get_of (arc_value cell) get },
 }

@@ -18,8 +18,7 @@ mod fill;
 #[derive(Drop)]
 pub struct TripleFiller<W: Copy> {
     pub cell: Arc<TripleCell<Numbered<W>>, Global>,
-    /// In a box, so that a side has one size, whatever its records have.
-    pub put: Box<TriplePut<Numbered<W>>>,
+    pub put: TriplePut<Numbered<W>>,
 }
 
 /// The writing side.
@@ -28,20 +27,20 @@ pub struct TripleWriter<W: Copy> {
     pub room: Room<TripleFiller<W>>,
     /// The number of the last record.
     pub number: u64,
-    ghost own: { is_put_of (arc_value room.inner.cell) room.inner.put.value },
-    ghost last: { (last_or (opening_of (arc_value room.inner.cell)) (written_by room.inner.put.value)).number ≡ number },
+    ghost own: { is_put_of (arc_value room.inner.cell) room.inner.put },
+    ghost last: { (last_or (opening_of (arc_value room.inner.cell)) (written_by room.inner.put)).number ≡ number },
 }
 
 /// A pass and a share of a cell.
 #[derive(Drop)]
 pub struct TripleEnds<W: Copy> {
     pub cell: Arc<TripleCell<Numbered<W>>, Global>,
-    pub get: Box<TripleGet<Numbered<W>>>,
+    pub get: TripleGet<Numbered<W>>,
 }
 
 /// The reading side: a pass with a share of its cell.
 #[derive(Drop)]
 pub struct TripleReader<W: Copy> {
     pub room: Room<TripleEnds<W>>,
-    ghost own: { is_get_of (arc_value room.inner.cell) room.inner.get.value },
+    ghost own: { is_get_of (arc_value room.inner.cell) room.inner.get },
 }

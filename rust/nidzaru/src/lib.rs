@@ -164,7 +164,7 @@ struct Known<T, M>(PhantomData<(T, M)>);
 
 impl<T: Copy + Send, M: Mechanism> Known<T, M> {
     const CALLS: &'static Calls = {
-        assert!(size_of::<T>() <= 4096, "a record of a register has at most 4096 bytes");
+        assert!(size_of::<T>() <= 1_048_576, "a record of a register has at most 1048576 bytes");
         raw::calls_for(size_of::<T>(), M::TRIPLE)
     };
 }
@@ -181,7 +181,7 @@ impl<T: Copy + Send, M: Mechanism> Known<T, M> {
 /// Records that are too large or not `Copy` don't compile:
 ///
 /// ```compile_fail,E0080
-/// let both = nidzaru::register([0u8; 4097]);
+/// let both = nidzaru::register([0u8; 1048577]);
 /// ```
 ///
 /// ```compile_fail,E0277
@@ -222,7 +222,23 @@ pub fn triple_register<T: Copy + Send>(first: T) -> Result<Sides<T, Triple>, Out
 /// # Ok::<(), Box<dyn std::error::Error>>(())
 /// ```
 pub fn register_over<T: Copy + Send, M: Mechanism>(first: T) -> Result<Sides<T, M>, OutOfMemory> {
-    let (writes, reads) = raw::open(Known::<T, M>::CALLS, &first).ok_or(OutOfMemory)?;
+    register_from(&first)
+}
+
+/// The same of an opening that lies somewhere else, as a large one on the heap, which so never comes to the stack:
+///
+/// ```
+/// # fn main() -> Result<(), Box<dyn std::error::Error>> {
+/// let mut scan = Box::new([0_u64; 8192]);
+/// let (mut writer, mut reader) = nidzaru::register_from::<_, nidzaru::Triple>(&*scan)?;
+/// scan[8191] = 7;
+/// writer.write(&scan)?;
+/// assert_eq!((reader.hold()[8191], reader.read_into(&mut scan)), (7, 1));
+/// # Ok(())
+/// # }
+/// ```
+pub fn register_from<T: Copy + Send, M: Mechanism>(first: &T) -> Result<Sides<T, M>, OutOfMemory> {
+    let (writes, reads) = raw::open(Known::<T, M>::CALLS, first).ok_or(OutOfMemory)?;
     let writer = Writer { side: writes, of: PhantomData };
     Ok((writer, Reader { side: reads, last: 0, of: PhantomData }))
 }

@@ -19,6 +19,7 @@
 #![allow(unsafe_code)]
 
 use crate::watched::{ignore, Order};
+use std::cell::UnsafeCell;
 use std::ffi::c_void;
 use std::mem::MaybeUninit;
 use std::ptr;
@@ -87,26 +88,29 @@ macro_rules! calls {
 calls!(FOUR_SLOT_8, 8, "8");
 calls!(FOUR_SLOT_24, 24, "24");
 calls!(FOUR_SLOT_64, 64, "64");
-calls!(FOUR_SLOT_128, 128, "128");
 calls!(FOUR_SLOT_256, 256, "256");
 calls!(FOUR_SLOT_1024, 1024, "1024");
 calls!(FOUR_SLOT_4096, 4096, "4096");
+calls!(FOUR_SLOT_65536, 65536, "65536");
+calls!(FOUR_SLOT_1048576, 1048576, "1048576");
 calls!(TRIPLE_8, 8, "triple_8");
 calls!(TRIPLE_24, 24, "triple_24");
 calls!(TRIPLE_64, 64, "triple_64");
-calls!(TRIPLE_128, 128, "triple_128");
 calls!(TRIPLE_256, 256, "triple_256");
 calls!(TRIPLE_1024, 1024, "triple_1024");
 calls!(TRIPLE_4096, 4096, "triple_4096");
+calls!(TRIPLE_65536, 65536, "triple_65536");
+calls!(TRIPLE_1048576, 1048576, "triple_1048576");
 
 extern "C" {
     fn nidzaru_triple_8_hold(reader: *mut Side, at: *mut *const c_void) -> u32;
     fn nidzaru_triple_24_hold(reader: *mut Side, at: *mut *const c_void) -> u32;
     fn nidzaru_triple_64_hold(reader: *mut Side, at: *mut *const c_void) -> u32;
-    fn nidzaru_triple_128_hold(reader: *mut Side, at: *mut *const c_void) -> u32;
     fn nidzaru_triple_256_hold(reader: *mut Side, at: *mut *const c_void) -> u32;
     fn nidzaru_triple_1024_hold(reader: *mut Side, at: *mut *const c_void) -> u32;
     fn nidzaru_triple_4096_hold(reader: *mut Side, at: *mut *const c_void) -> u32;
+    fn nidzaru_triple_65536_hold(reader: *mut Side, at: *mut *const c_void) -> u32;
+    fn nidzaru_triple_1048576_hold(reader: *mut Side, at: *mut *const c_void) -> u32;
 }
 
 /// What holds a record of a triple buffer, by the library's size.
@@ -115,10 +119,11 @@ const fn hold_for(size: usize) -> Hold {
         8 => nidzaru_triple_8_hold,
         24 => nidzaru_triple_24_hold,
         64 => nidzaru_triple_64_hold,
-        128 => nidzaru_triple_128_hold,
         256 => nidzaru_triple_256_hold,
         1024 => nidzaru_triple_1024_hold,
-        _ => nidzaru_triple_4096_hold,
+        4096 => nidzaru_triple_4096_hold,
+        65536 => nidzaru_triple_65536_hold,
+        _ => nidzaru_triple_1048576_hold,
     }
 }
 
@@ -148,10 +153,11 @@ const fn in_place_for(size: usize) -> InPlace {
         8 => in_place!("triple_8"),
         24 => in_place!("triple_24"),
         64 => in_place!("triple_64"),
-        128 => in_place!("triple_128"),
         256 => in_place!("triple_256"),
         1024 => in_place!("triple_1024"),
-        _ => in_place!("triple_4096"),
+        4096 => in_place!("triple_4096"),
+        65536 => in_place!("triple_65536"),
+        _ => in_place!("triple_1048576"),
     }
 }
 
@@ -174,24 +180,26 @@ pub fn version() -> u32 {
     unsafe { nidzaru_version() }
 }
 
-/// The calls for records of a size of at most 4,096 bytes.
+/// The calls for records of a size of at most 1,048,576 bytes.
 pub const fn calls_for(size: usize, triple: bool) -> &'static Calls {
     match (size, triple) {
         (0..=8, false) => &FOUR_SLOT_8,
         (9..=24, false) => &FOUR_SLOT_24,
         (25..=64, false) => &FOUR_SLOT_64,
-        (65..=128, false) => &FOUR_SLOT_128,
-        (129..=256, false) => &FOUR_SLOT_256,
+        (65..=256, false) => &FOUR_SLOT_256,
         (257..=1024, false) => &FOUR_SLOT_1024,
         (1025..=4096, false) => &FOUR_SLOT_4096,
+        (4097..=65536, false) => &FOUR_SLOT_65536,
+        (65537..=1048576, false) => &FOUR_SLOT_1048576,
         (0..=8, true) => &TRIPLE_8,
         (9..=24, true) => &TRIPLE_24,
         (25..=64, true) => &TRIPLE_64,
-        (65..=128, true) => &TRIPLE_128,
-        (129..=256, true) => &TRIPLE_256,
+        (65..=256, true) => &TRIPLE_256,
         (257..=1024, true) => &TRIPLE_1024,
         (1025..=4096, true) => &TRIPLE_4096,
-        _ => panic!("a record of a register has at most 4096 bytes"),
+        (4097..=65536, true) => &TRIPLE_65536,
+        (65537..=1048576, true) => &TRIPLE_1048576,
+        _ => panic!("a record of a register has at most 1048576 bytes"),
     }
 }
 
@@ -265,14 +273,30 @@ impl<const N: usize> Words<N> {
     }
 }
 
+/// Makes a call that takes so much of the stack that no other function is to take it in.
+#[inline(never)]
+fn apart<R>(call: impl FnOnce() -> R) -> R {
+    call()
+}
+
 /// Calls `$call` with the number of words of the library's records.
 macro_rules! by_size {
+    ($calls:expr, $call:ident, $arguments:tt) => {
+        match $calls.size {
+            65536 => apart(|| $call::<_, 8192> $arguments),
+            1048576 => apart(|| $call::<_, 131072> $arguments),
+            _ => by_small_size!($calls, $call, $arguments),
+        }
+    };
+}
+
+/// The same of records of at most 4,096 bytes, which a board's are.
+macro_rules! by_small_size {
     ($calls:expr, $call:ident, $arguments:tt) => {
         match $calls.size {
             8 => $call::<_, 1> $arguments,
             24 => $call::<_, 3> $arguments,
             64 => $call::<_, 8> $arguments,
-            128 => $call::<_, 16> $arguments,
             256 => $call::<_, 32> $arguments,
             1024 => $call::<_, 128> $arguments,
             _ => $call::<_, 512> $arguments,
@@ -283,13 +307,24 @@ macro_rules! by_size {
 /// Both sides of a new register. None where memory is refused.
 pub fn open<T: Copy>(calls: &'static Calls, first: &T) -> Option<(WritingSide, ReadingSide)> {
     ask_for_release();
-    by_size!(calls, open_by, (calls, first))
+    if passes::<T>(calls.size) {
+        // The opening is as large and aligned as the library's record.
+        unsafe { open_at(calls, ptr::from_ref(first).cast()) }
+    } else {
+        by_size!(calls, open_by, (calls, first))
+    }
 }
 
 fn open_by<T: Copy, const N: usize>(calls: &'static Calls, first: &T) -> Option<(WritingSide, ReadingSide)> {
+    // The words are as many as the library's record has.
+    unsafe { open_at(calls, Words::<N>::of(first).as_ptr()) }
+}
+
+/// The same, where `first` leads to a whole record of the library.
+unsafe fn open_at(calls: &'static Calls, first: *const c_void) -> Option<(WritingSide, ReadingSide)> {
     let (mut writer, mut reader) = (Side::EMPTY, Side::EMPTY);
-    // The handles are empty, and the words are as many as the library's record has.
-    let status = ignore(|| unsafe { (calls.make)(Words::<N>::of(first).as_ptr(), &mut writer, &mut reader) });
+    // The handles are empty.
+    let status = ignore(|| unsafe { (calls.make)(first, &mut writer, &mut reader) });
     match status {
         DONE => {}
         NO_MEMORY => return None,
@@ -318,15 +353,27 @@ fn write_by<T: Copy, const N: usize>(calls: &'static Calls, writer: &mut Writing
     is_written(writer.order.show(|| unsafe { (calls.write)(&mut writer.side, words.as_ptr()) }))
 }
 
+/// What a loan answers, and where it leads. It takes room of the stack for a record of so many words.
+#[inline]
+fn lend<const N: usize>(loan: Loan, writer: &mut Side) -> (u32, *mut c_void) {
+    let mut before = MaybeUninit::<[u64; N]>::uninit();
+    let mut at = before.as_mut_ptr().cast::<c_void>();
+    // `at` leads to room for a record of this call's own, as the library asks, and then to the writer's slot.
+    let status = unsafe { loan(writer, &mut at) };
+    (status, at)
+}
+
 /// Fills the record in the writer's slot of a triple buffer where it lies, and publishes it. `false` where the numbers are used up.
 #[inline]
 pub fn write_in_place<T: Copy>(calls: &'static Calls, writer: &mut WritingSide, fill: impl FnOnce(&mut T)) -> bool {
     const { assert!(align_of::<T>() <= 8, "a record that is filled where it lies is aligned to at most 8") };
     let InPlace { loan, publish } = in_place_for(calls.size);
-    let mut before = MaybeUninit::<[u64; 512]>::uninit();
-    let mut at = before.as_mut_ptr().cast::<c_void>();
-    // `at` leads to room for a record of this call's own, as the library asks, and then to the writer's slot.
-    must_be_done(ignore(|| unsafe { loan(&mut writer.side, &mut at) }));
+    let (status, at) = ignore(|| match calls.size {
+        65536 => apart(|| lend::<8192>(loan, &mut writer.side)),
+        1048576 => apart(|| lend::<131072>(loan, &mut writer.side)),
+        _ => lend::<512>(loan, &mut writer.side),
+    });
+    must_be_done(status);
     writer.order.take(at);
     // The slot begins with the bytes of a `T`, an older record's or the opening's, and is aligned to 8. Nobody else reads or writes there
     // before it is published.
@@ -376,9 +423,11 @@ pub fn read_into<T: Copy>(calls: &'static Calls, reader: &mut ReadingSide, item:
         must_be_done(reader.order.see(|| unsafe { (calls.read)(&mut reader.side, ptr::from_mut(item).cast(), &mut number) }));
         number
     } else {
-        let (record, number) = read(calls, reader);
-        *item = record;
-        number
+        apart(|| {
+            let (record, number) = read(calls, reader);
+            *item = record;
+            number
+        })
     }
 }
 
@@ -391,12 +440,28 @@ pub fn look(calls: &'static Calls, reader: &mut ReadingSide) -> u64 {
     number
 }
 
+/// A large record, in a cell so that its zeros take no room in the program's file.
+struct Large(UnsafeCell<[u64; 131_072]>);
+
+// Nobody writes there.
+unsafe impl Sync for Large {}
+
+/// A record of zeros of this size of the library's, for what has to lead to one before a hold.
+fn any_record(size: usize) -> *const c_void {
+    static SMALL: [u64; 512] = [0; 512];
+    static LARGE: Large = Large(UnsafeCell::new([0; 131_072]));
+    if size <= 4096 {
+        SMALL.as_ptr().cast()
+    } else {
+        LARGE.0.get().cast_const().cast()
+    }
+}
+
 /// Where a record of a triple buffer's lies that a read would give, and its number.
 #[inline]
 pub fn hold<'a, T: Copy>(calls: &'static Calls, reader: &'a mut ReadingSide) -> (&'a T, u64) {
     const { assert!(align_of::<T>() <= 8, "a record that is read where it lies is aligned to at most 8") };
-    static NOTHING: [u64; 512] = [0; 512];
-    let (mut at, mut number) = (NOTHING.as_ptr().cast::<c_void>(), 0);
+    let (mut at, mut number) = (any_record(calls.size), 0);
     // `at` leads to a whole record, as the library asks, and then to the one that the reader holds.
     must_be_done(reader.order.see(|| unsafe {
         match (calls.look)(&mut reader.side, &mut number) {
@@ -513,7 +578,7 @@ pub fn open_board<T: Copy>(calls: &'static BoardCalls, n: usize, limit: u64, fir
     places.try_reserve_exact(n).map_err(|_| NoBoard::Memory)?;
     let mut sides = [const { Side::EMPTY }; 16];
     ask_for_release();
-    by_size!(calls, open_board_by, (calls, &mut sides[..n], limit, first))?;
+    by_small_size!(calls, open_board_by, (calls, &mut sides[..n], limit, first))?;
     let order = Order::new();
     places.extend(sides.into_iter().take(n).map(|side| BoardPlace { side, order, end: calls.end }));
     Ok(places)
@@ -540,7 +605,7 @@ pub fn write_place<T: Copy>(calls: &'static BoardCalls, place: &mut BoardPlace, 
         let status = place.order.show(|| unsafe { (calls.write)(&mut place.side, ptr::from_ref(item).cast(), &mut stamp) });
         is_written(status).then_some(stamp)
     } else {
-        by_size!(calls, write_place_by, (calls, place, item))
+        by_small_size!(calls, write_place_by, (calls, place, item))
     }
 }
 
@@ -563,7 +628,7 @@ pub fn read_place<T: Copy>(calls: &'static BoardCalls, place: &mut BoardPlace) -
         // The call has filled it with the bytes of a `T`.
         (unsafe { item.assume_init() }, stamp)
     } else {
-        by_size!(calls, read_place_by, (calls, place))
+        by_small_size!(calls, read_place_by, (calls, place))
     }
 }
 
@@ -595,7 +660,7 @@ pub fn read_place_into<T: Copy>(calls: &'static BoardCalls, place: &mut BoardPla
 /// Reads a record and its stamp, and says whether the stamp is at least this one.
 #[inline]
 pub fn read_place_since<T: Copy>(calls: &'static BoardCalls, place: &mut BoardPlace, least: Mark) -> (T, Mark, bool) {
-    by_size!(calls, read_place_since_by, (calls, place, least))
+    by_small_size!(calls, read_place_since_by, (calls, place, least))
 }
 
 #[inline]
@@ -637,9 +702,9 @@ mod tests {
 
     #[test]
     fn the_least_calls_that_have_room_are_chosen() {
-        for size in 0..=4096 {
-            assert_eq!(calls_for(size, false).size, least([8, 24, 64, 128, 256, 1024, 4096], size));
-            assert_eq!(calls_for(size, true).size, least([8, 24, 64, 128, 256, 1024, 4096], size));
+        for size in 0..=1_048_576 {
+            assert_eq!(calls_for(size, false).size, least([8, 24, 64, 256, 1024, 4096, 65_536, 1_048_576], size));
+            assert_eq!(calls_for(size, true).size, least([8, 24, 64, 256, 1024, 4096, 65_536, 1_048_576], size));
             assert_ne!(calls_for(size, false).write as usize, calls_for(size, true).write as usize);
         }
     }

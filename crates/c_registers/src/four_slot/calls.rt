@@ -15,13 +15,12 @@ impl<W: Copy> Reading<W> for FourSlotReader<W> {
 
     #[inline]
     fn read(&mut self) -> Numbered<W> {
-        self.cell.read(self.get.as_mut())
+        self.cell.read(&mut self.get)
     }
 
     #[inline]
     fn look(&mut self) -> u64 {
-        self.cell
-            .read_with(self.get.as_mut(), |record| record.number)
+        self.cell.read_with(&mut self.get, |record| record.number)
     }
 }
 
@@ -36,7 +35,7 @@ impl<W: Copy> Writing<W> for FourSlotWriter<W> {
             return false;
         };
         self.cell
-            .write_laid(self.put.as_mut(), &Numbering { number, words });
+            .write_laid(&mut self.put, &Numbering { number, words });
         self.number = number;
         true
     }
@@ -54,8 +53,6 @@ impl<W: Copy> Opens<W, FourSlotReader<W>> for FourSlotWriter<W> {
             words: *words,
         };
         let (cell, put, get) = FourSlotCell::make_from(alloc, &opening)?;
-        let put = Box::new(alloc, put)?;
-        let get = Box::new(alloc, get)?;
         let cell = Arc::new(alloc, cell)?;
         let other = Arc::try_clone(&cell)?;
         let writer = FourSlotWriter {

@@ -50,8 +50,6 @@ impl<W: Copy> Opens<W, TripleReader<W>> for TripleWriter<W> {
             words: *words,
         };
         let (cell, put, get) = TripleCell::make_from(alloc, &opening)?;
-        let put = Box::new(alloc, put)?;
-        let get = Box::new(alloc, get)?;
         let cell = Arc::new(alloc, cell)?;
         let other = Arc::try_clone(&cell)?;
         let room = Room {

@@ -16,32 +16,31 @@ use cell_live::Calls;
 impl<W: Copy> TripleEnds<W> {
     #[inline]
     pub(super) fn read(&mut self) -> Numbered<W>
-        requires own { is_get_of (arc_value self.old.cell) self.old.get.value }
-        ensures own { is_get_of (arc_value self.new.cell) self.new.get.value }
+        requires own { is_get_of (arc_value self.old.cell) self.old.get }
+        ensures own { is_get_of (arc_value self.new.cell) self.new.get }
         ensures read { HasReadBy self.old self.new result }
     {
-        self.cell.read(self.get.as_mut())
+        self.cell.read(&mut self.get)
     }
 
     #[inline]
     pub(super) fn look(&mut self) -> u64
-        requires own { is_get_of (arc_value self.old.cell) self.old.get.value }
-        ensures own { is_get_of (arc_value self.new.cell) self.new.get.value }
+        requires own { is_get_of (arc_value self.old.cell) self.old.get }
+        ensures own { is_get_of (arc_value self.new.cell) self.new.get }
         ensures look { (w : W) × HasReadBy self.old self.new (numbered result w) }
     {
-        self.cell
-            .read_with(self.get.as_mut(), |record| record.number)
+        self.cell.read_with(&mut self.get, |record| record.number)
     }
 
     #[inline]
     fn hold<'a>(&'a mut self) -> &'a Numbered<W>
-        requires own { is_get_of (arc_value self.old.cell) self.old.get.value }
+        requires own { is_get_of (arc_value self.old.cell) self.old.get }
         ensures* same { sem 𝓛 (follows_so (ends.the_row W.row W.Clone) (ends.the_row W.row W.Clone) self.entry.ghost_name none
             (λ _ _. ⊤) (λ g. StaysBy self.old g)) }
-        ensures held { result.now ≡ at_hand_of self.old.get.value }
+        ensures held { result.now ≡ at_hand_of self.old.get }
     {
         let cell = &*self.cell;
-        self.get.as_mut().hold(cell)
+        self.get.hold(cell)
     }
 }
 

@@ -18,36 +18,36 @@ impl<W: Copy> TripleFiller<W> {
     /// Writes the record under its number, which is above the last one.
     #[inline]
     pub(super) fn write(&mut self, numbering: &Numbering<'_, W>)
-        requires own { is_put_of (arc_value self.old.cell) self.old.put.value }
-        requires above { (last_or (opening_of (arc_value self.old.cell)) (written_by self.old.put.value)).number < numbering.now.number }
-        ensures own { is_put_of (arc_value self.new.cell) self.new.put.value }
+        requires own { is_put_of (arc_value self.old.cell) self.old.put }
+        requires above { (last_or (opening_of (arc_value self.old.cell)) (written_by self.old.put)).number < numbering.now.number }
+        ensures own { is_put_of (arc_value self.new.cell) self.new.put }
         ensures written { HasWrittenBy self.old self.new (numbered numbering.now.number numbering.now.words.now) }
     {
-        self.cell.write_laid(self.put.as_mut(), numbering);
+        self.cell.write_laid(&mut self.put, numbering);
     }
 
     /// Lends the slot with the record that lies there.
     #[inline]
     fn place<'a>(&'a mut self) -> &'a mut Numbered<W>
-        requires own { is_put_of (arc_value self.old.cell) self.old.put.value }
+        requires own { is_put_of (arc_value self.old.cell) self.old.put }
         ensures* lent { sem 𝓛 (Lends (filler.the_row W.row W.Clone) (record_of.the_row W.row) self.entry result
             (filler_with self.old)) }
-        ensures value { result.now ≡ placed_by self.old.put.value }
+        ensures value { result.now ≡ placed_by self.old.put }
     {
         let cell = &*self.cell;
-        self.put.as_mut().place(cell)
+        self.put.place(cell)
     }
 
     /// Shows the record that lies in the slot, under this number, which is above the last one.
     #[inline]
     fn publish(&mut self, number: u64)
-        requires own { is_put_of (arc_value self.old.cell) self.old.put.value }
-        requires above { (last_or (opening_of (arc_value self.old.cell)) (written_by self.old.put.value)).number < number }
-        ensures own { is_put_of (arc_value self.new.cell) self.new.put.value }
-        ensures written { HasWrittenBy self.old self.new (numbered number (placed_by self.old.put.value).words) }
+        requires own { is_put_of (arc_value self.old.cell) self.old.put }
+        requires above { (last_or (opening_of (arc_value self.old.cell)) (written_by self.old.put)).number < number }
+        ensures own { is_put_of (arc_value self.new.cell) self.new.put }
+        ensures written { HasWrittenBy self.old self.new (numbered number (placed_by self.old.put).words) }
     {
         self.place().number = number;
-        self.cell.write_placed(self.put.as_mut());
+        self.cell.write_placed(&mut self.put);
     }
 }
 

@@ -8,7 +8,7 @@ use Rattle.c_registers.proofs.triple.TripleWriter.loan.Goals as goal
 
 pub returns : goal.returns
 returns g c =
-    let lent = c.place-lent.ensures.value ∙ ap (λ f. placed_by f.put.value) c.inside.ensures.value in (
+    let lent = c.place-lent.ensures.value ∙ ap (λ f. placed_by f.put) c.inside.ensures.value in (
       (
         refl,
         λ w. same_writer g.row.W g.W.Clone _ _ (λ i. record { inner = filler_with (c.inside.ensures.value i) (numbered (lent i).number w) }) refl,

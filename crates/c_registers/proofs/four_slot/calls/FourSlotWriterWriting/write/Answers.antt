@@ -12,7 +12,7 @@ use Rattle.c_registers.proofs.four_slot.calls.FourSlotWriterWriting.write.Goals 
 pub invariant_of-self : goal.invariant_of-self
 invariant_of-self g c =
     let item : Numbered g.row.W.Denot = numbered c.in-Some.number c.args.words.now in
-    let put = c.as_mut.result.now in
+    let put = c.args.self.now.put in
     let o = opening_of (arc_value c.args.self.now.cell) in
     let last : (last_or o (written_by c.write_laid.new.put)).number ≡ c.in-Some.number =
     ap (λ (xs : List (Numbered g.row.W.Denot)). (last_or o xs).number) c.write_laid.ensures.written

@@ -14,7 +14,7 @@ invariant_of-self g c =
     let after = c.write.new.self in
     let item : Numbered g.row.W.Denot = numbered c.in-Some.number c.args.words.now in
     let opening = ap (λ x. opening_of (arc_value x)) c.write.ensures.written.same in
-    let last : (last_or (opening_of (arc_value after.cell)) (written_by after.put.value)).number ≡ c.in-Some.number =
+    let last : (last_or (opening_of (arc_value after.cell)) (written_by after.put)).number ≡ c.in-Some.number =
     (λ i. (last_or (opening i) (c.write.ensures.written.written i)).number)
-    ∙ ap (λ (x : Numbered g.row.W.Denot). x.number) (last_snoc (opening_of (arc_value before.cell)) (written_by before.put.value) item) in
+    ∙ ap (λ (x : Numbered g.row.W.Denot). x.number) (last_snoc (opening_of (arc_value before.cell)) (written_by before.put) item) in
     record { own = c.write.ensures.own; last = last }
