@@ -17,15 +17,16 @@ use Rattle.fsr_race_answers.proofs.AnswerLemmas.{low_race}
 use Rattle.fsr_words.specs.declared.show.Show.{Show}
 use Rattle.document_text.specs.Kinds.{are_lines}
 use Rattle.fsr_answers.specs.Answers.{IsFsrAnswer}
-use Rattle.fsr_answers.specs.Order.{IsAnswerBy, IsOrderAnswer, IsShownAnswer}
+use Rattle.fsr_answers.specs.Order.{IsAnswerBy, IsAnswerIfSmall, IsOrderAnswer}
 
-low_shown : (show : Show) (bytes : List ℕ) (r : Result Answer Fault) → GivesReply (IsShownAnswer show bytes) r → HasLowStatus r
-low_shown (record { order = order; small = true }) bytes r answered = low_small bytes r answered
-low_shown (record { order = order; small = false }) bytes r answered = low_lines order bytes r answered
+low_if_small : (small order : Bool) (bytes : List ℕ) (r : Result Answer Fault) →
+    GivesReply (IsAnswerIfSmall small order bytes) r → HasLowStatus r
+low_if_small true order bytes r answered = low_small bytes r answered
+low_if_small false order bytes r answered = low_lines order bytes r answered
 
 low_by : (show : Show) (in_lines : Bool) (bytes : List ℕ) (r : Result Answer Fault) →
     GivesReply (IsAnswerBy show in_lines bytes) r → HasLowStatus r
-low_by show true bytes r answered = low_shown show bytes r answered
+low_by show true bytes r answered = low_if_small show.small show.order bytes r answered
 low_by show false bytes r answered = low_log bytes r answered
 
 low_order : (show : Show) (bytes : List ℕ) (r : Result Answer Fault) → GivesReply (IsOrderAnswer show bytes) r → HasLowStatus r

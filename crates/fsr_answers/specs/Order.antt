@@ -8,14 +8,14 @@ use Rattle.lines_answers.specs.Answers.{IsLinesAnswer}
 use Rattle.lines_small.specs.Answers.{IsSmallAnswer}
 use Rattle.log_answers.specs.Logs.{IsLogAnswer}
 
--- the answer to a log in lines: a small log if that is asked for
-abbrev pub IsShownAnswer : Show → List ℕ → Result Answer Fault → Type 0
-IsShownAnswer (record { order = order; small = true }) bytes reply = IsSmallAnswer bytes reply
-IsShownAnswer (record { order = order; small = false }) bytes reply = IsLinesAnswer order bytes reply
+-- the answer to a log in lines: a small log if that is asked for, else the verdict, with the writes in order if those are
+abbrev pub IsAnswerIfSmall : Bool → Bool → List ℕ → Result Answer Fault → Type 0
+IsAnswerIfSmall true order bytes reply = IsSmallAnswer bytes reply
+IsAnswerIfSmall false order bytes reply = IsLinesAnswer order bytes reply
 
 -- the answer by the kind: whether the document is a log in lines
 abbrev pub IsAnswerBy : Show → Bool → List ℕ → Result Answer Fault → Type 0
-IsAnswerBy show true bytes reply = IsShownAnswer show bytes reply
+IsAnswerBy show true bytes reply = IsAnswerIfSmall show.small show.order bytes reply
 IsAnswerBy show false bytes reply = IsLogAnswer bytes reply
 
 -- the answer of the command `order` to the bytes of a document
