@@ -97,7 +97,7 @@ static size_t most_bytes(size_t size, int triple) { return 13 * (8 + NIDZARU_SIZ
         check(!name##_read(r, &out.x, &n) && n == last && name##_is(&out, seed), #name, what);                                \
         only_these(#name, sizeof(type), triple, &w->handle.side, &r->handle.side, &out.x, last);                              \
     }                                                                                                                         \
-    static void name##_handles(void) {                                                                                        \
+    __attribute__((noinline)) static void name##_handles(void) {                                                              \
         name##_writer w = NIDZARU_EMPTY, w2 = NIDZARU_EMPTY, copied_w, moved_w = NIDZARU_EMPTY;                               \
         name##_reader r = NIDZARU_EMPTY, r2 = NIDZARU_EMPTY, copied_r, moved_r = NIDZARU_EMPTY;                               \
         name##_guarded item;                                                                                                  \
@@ -160,7 +160,7 @@ static size_t most_bytes(size_t size, int triple) { return 13 * (8 + NIDZARU_SIZ
         name##_refuses(&moved_w, &moved_r, NIDZARU_ENDED, "ended handles");                                                   \
         check(!moved_w.handle.side.at && !moved_r.handle.side.at, #name, "ended handles have no pointer");                    \
     }                                                                                                                         \
-    static void name##_memory(void) {                                                                                         \
+    __attribute__((noinline)) static void name##_memory(void) {                                                               \
         for (long at = 1, done = 0; !done; at++) {                                                                            \
             name##_writer w = NIDZARU_EMPTY;                                                                                  \
             name##_reader r = NIDZARU_EMPTY;                                                                                  \
@@ -185,7 +185,7 @@ static size_t most_bytes(size_t size, int triple) { return 13 * (8 + NIDZARU_SIZ
 /* The sizes: each greatest one that goes into a record of the library, and one beyond. */
 #define ALL_BYTES(each)                                                                                                       \
     each(1) each(8) each(9) each(24) each(25) each(64) each(65) each(128) each(129) each(256) each(257) each(1024) each(1025) \
-    each(4096) each(4097) each(65536) each(65537)
+    each(4096) each(4097) each(65536)
 /* The same in words. */
 #define ALL_WORDS(each) each(1) each(2) each(3) each(8) each(9) each(16) each(32) each(128) each(512) each(8192)
 

@@ -32,6 +32,7 @@ def wraps(names, prefix=""):
 
 
 C11 = ["gcc", "-std=c11", "-D_GNU_SOURCE", "-O0", "-w", "-pthread"]
+OPTIMIZED = ["gcc", "-std=c11", "-O2", "-w", "-pthread"]
 CPP17 = ["g++", "-std=c++17", "-O0", "-w", "-pthread"]
 CPP20 = ["g++", "-std=c++20", "-O0", "-w", "-pthread"]
 RACES = ["gcc", "-std=c11", "-D_GNU_SOURCE", "-g", "-O1", "-w", "-pthread", "-fsanitize=thread"]
@@ -42,7 +43,7 @@ PROGRAMS = {
     "boards": (C11, "boards.c", ["20"], wraps(MEMORY)),
     "board_edges": (C11, "board_edges.c", [], wraps(MEMORY)),
     "held": (C11, "held.c", ["2000"], []),
-    "large": (C11, "large.c", [], ["-DWORDS=131072", "-DTRIPLE"]),
+    "large": (OPTIMIZED, "large.c", [], ["-DWORDS=131072", "-DTRIPLE"]),
     "loaned": (C11, "loaned.c", ["2000"], []),
     "loaned, watched": (RACES, "loaned.c", ["2000"], []),
     "test.cpp": (CPP17, "test.cpp", ["300"], wraps(MEMORY)),
