@@ -48,7 +48,7 @@ pub written : {W : Type 0} → WrittenShows W
 written p q w h = (
   h.same,
   h.next,
-  h.written ∙ ap (λ z. written_by p.put.value ++ numbered z w ∷ []) h.next,
+  h.written ∙ ap (λ z. written_by p.put ++ numbered z w ∷ []) h.next,
   h.accesses,
   h.quiet,
   h.moved,

@@ -29,11 +29,11 @@ module _ (W : Type 0) where
   -- the cell is the same, and has the record under the next number, by two accesses or three
   abbrev pub WrittenShows : Type 0
   WrittenShows = (p q : FourSlotWriter W) (w : W) → HasWritten p q w → (q.cell ≡ p.cell) × (q.number ≡ p.number + 1)
-      × (written_by q.put.value ≡ written_by p.put.value ++ numbered (p.number + 1) w ∷ [])
-      × (writer_accesses q.put.value ≤ writer_accesses p.put.value + 3)
-      × (pair_shown q.put.value ≡ pair_shown p.put.value → writer_accesses q.put.value ≡ writer_accesses p.put.value + 2)
-      × (pair_shown q.put.value ≢ pair_shown p.put.value → writer_accesses q.put.value ≡ writer_accesses p.put.value + 3)
-      × IsNextCall (put_times p.put.value) (put_times q.put.value)
+      × (written_by q.put ≡ written_by p.put ++ numbered (p.number + 1) w ∷ [])
+      × (writer_accesses q.put ≤ writer_accesses p.put + 3)
+      × (pair_shown q.put ≡ pair_shown p.put → writer_accesses q.put ≡ writer_accesses p.put + 2)
+      × (pair_shown q.put ≢ pair_shown p.put → writer_accesses q.put ≡ writer_accesses p.put + 3)
+      × IsNextCall (put_times p.put) (put_times q.put)
 
 module _ (T : Type 0) where
   -- a pass is of a cell if both are of one table, and opened with one record
