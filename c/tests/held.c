@@ -67,13 +67,9 @@ static void *write_pages(void *unused) {
     return unused;
 }
 
-#define CALL(name) test_##name();
-
-int main(int count, char **words) {
-    if (count > 1) writes = strtoull(words[1], 0, 10);
-    EACH_SIZE(CALL)
-    test_four_slots();
+static void test_threads(void) {
     hold_pages(write_pages);
     check(met > 1, "threads", "no two records were met");
-    return told();
 }
+
+MAIN

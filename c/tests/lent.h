@@ -96,4 +96,16 @@ static int told(void) {
     return failed != 0;
 }
 
+#define CALL_TEST(name) test_##name();
+
+/* The tests of each size, of four slots and of threads, with as many writes as the first word says. */
+#define MAIN                                                                                                          \
+    int main(int count, char **words) {                                                                               \
+        if (count > 1) writes = strtoull(words[1], 0, 10);                                                            \
+        EACH_SIZE(CALL_TEST)                                                                                          \
+        test_four_slots();                                                                                            \
+        test_threads();                                                                                               \
+        return told();                                                                                                \
+    }
+
 #endif

@@ -76,12 +76,6 @@ static void *fill_pages(void *unused) {
     return unused;
 }
 
-#define CALL(name) test_##name();
+static void test_threads(void) { hold_pages(fill_pages); }
 
-int main(int count, char **words) {
-    if (count > 1) writes = strtoull(words[1], 0, 10);
-    EACH_SIZE(CALL)
-    test_four_slots();
-    hold_pages(fill_pages);
-    return told();
-}
+MAIN
