@@ -47,8 +47,8 @@
 //!
 //! # Records
 //!
-//! A record is of a type that is `Copy` and `Send`, of at most 4,096 bytes, whatever its alignment; others are refused when the
-//! program is compiled. It may borrow, as what threads of a [`std::thread::scope`] share may:
+//! A record is of a type that is `Copy` and `Send`, of at most 1,048,576 bytes, on a board 4,096, whatever its alignment;
+//! others are refused when the program is compiled. It may borrow, as what threads of a [`std::thread::scope`] share may:
 //!
 //! ```
 //! let names = [String::from("idle"), String::from("busy")];
