@@ -8,12 +8,6 @@ room=$(mktemp -d) || exit 1
 trap 'rm -rf "$room"' EXIT
 trap 'exit 1' HUP INT TERM
 . "$top/tests/spent.sh"
-# (`rt check` and `rt lib` begin with what any checkout on this machine kept)
-kept=$(dirname "$(dirname "$(rt doc)")")/rattle-kept/work
-if [ -d "$kept" ]; then
-    echo "first_result: not from nothing: move $kept away first, and back afterwards" >&2
-    exit 1
-fi
 [ $# -gt 0 ] || set -- check log lines cell
 echo "on $(nproc) processors, $(git -C "$top" log -1 --format=%h), $(rt version)"
 before=0

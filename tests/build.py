@@ -2,15 +2,15 @@
 
     build.py CRATE ..
 
-While `rt` works on a crate it locks that crate and each below it, so that two crates over one library would wait for each other.
-So each crate is built in a room: a small repository with this crate and copies of those below it, which are built by then. `rt`
-knows what is built by its content and not by its place: in a room it proves anew just what it would prove anew in the crate's
-folder, and refuses the same. What it keeps is moved into the room and back, so that `rt check` in the crate's folder goes on from it.
+A crate is proved by the toolchain's `rattle build`, over what the libraries below it state and without their proofs: so a verdict of
+`rt` proves it too, and it takes a fifth less than `rt lib`, which keeps all for the next check. What is built of a library stands in the
+folder STATED of its out/, and is built again where a file of it or below it has changed. What `rt` keeps in out/ stays as it is.
 
-RT_JOBS=N allots N processors in place of all that there are. The status is 0 where everything that was named is built.
+RT_JOBS=N allots N processors in place of all that there are. The status is 0 where all that was named is built.
 """
 
 import fcntl
+import hashlib
 import os
 import re
 import selectors
@@ -18,16 +18,15 @@ import shutil
 import signal
 import subprocess
 import sys
-import tempfile
 import time
 
-from listed import read_rows
+from listed import rattle_words, read_rows
 
 TOP = os.path.dirname(os.path.dirname(os.path.realpath(__file__)))
 SOURCES = ("src", "specs", "proofs")
-STORED_RUN = ("stdin", "stdout", "args", "status", "data")
-# Files of out/ that are this script's and its callers' own.
-STAYS = ("building", "build.log")
+# The folder of out/ for what is built of a library, and for the sum of what a crate was built from.
+STATED = "stated"
+TARGET = "x86_64-unknown-linux-gnu"
 # A crate's proof gains little from more processors, and a program's nothing.
 MOST_JOBS, LONGEST_JOBS = 2, 3
 # Processor seconds below which a proof gets one job.
@@ -36,7 +35,9 @@ SMALL = 40
 FIRST_JOB, NEXT_JOB = 2_000_000_000, 700_000_000
 # Processor seconds that code over these libraries of the kit takes beyond what its text says.
 BEYOND = {"clap": 75}
-# Seconds after which a folder that another rt works in is asked for again.
+# The programs that answer first. Rattle's own code generator makes them, in half of the time that LLVM takes.
+FIRST = ("fsr_check", "fsr_log", "fsr_lines", "fsr_cell", "fsr_play")
+# Seconds after which a folder that another build works in is asked for again.
 PAUSE = 1
 
 
@@ -44,21 +45,75 @@ def say(text):
     print(f"build: {text}", flush=True)
 
 
+def text_of(path):
+    try:
+        with open(path, encoding="utf-8") as file:
+            return file.read()
+    except OSError:
+        return None
+
+
+class Kit:
+    """The toolchain that the command rt belongs to."""
+
+    def __init__(self):
+        page, self.version = (subprocess.run(["rt", it], capture_output=True, text=True, check=True).stdout.strip() for it in ("doc", "version"))
+        self.folder = os.path.dirname(page)
+
+
 class Crate:
     def __init__(self, row, name, words):
         self.row, self.name, self.words = row, name, words
         self.folder = f"{TOP}/crates/{name}"
+        self.stated = f"{self.folder}/out/{STATED}"
         self.is_program = os.path.isfile(f"{self.folder}/src/main.rt")
+        self.is_static = "staticlib" in row.partition(":")[0].split()
+        self.made = f"{self.stated}/{name}.rlib"
+        if self.is_program or self.is_static:
+            self.made = f"{self.folder}/out/{name if self.is_program else f'lib{name}.a'}"
 
-    def size(self, *parts):
-        files = (f"{at}/{it}" for part in parts for at, _, names in os.walk(f"{self.folder}/{part}") for it in names)
-        return sum(map(os.path.getsize, files))
+    def files(self, *parts):
+        return sorted(f"{at}/{it}" for part in parts for at, _, names in os.walk(f"{self.folder}/{part}") for it in names)
 
     def weight(self):
         """About how many processor seconds its proof takes, by its text: each crate some, a program more, and what its code is. Its proofs
         take little beside that."""
         known = (48 if self.is_program else 8) + sum(BEYOND.get(it, 0) for it in self.words)
-        return known + self.size("src") / 290
+        return known + sum(map(os.path.getsize, self.files("src"))) / 290
+
+    def sum(self, kit):
+        """Of what it is made: the toolchain, its row, the crates below it as they are built, and its files."""
+        found = hashlib.sha256(repr([kit.version, self.row, *(text_of(f"{it.stated}/sum") for it in self.uses)]).encode())
+        for path in self.files(*SOURCES):
+            with open(path, "rb") as file:
+                found.update(repr([os.path.relpath(path, self.folder), file.read()]).encode())
+        return found.hexdigest()
+
+    def seal(self):
+        """What tells that a program or the library for C is still the one that was built here: `rt` builds it in the same place."""
+        if not (self.is_program or self.is_static):
+            return "-"
+        found = os.stat(self.made)
+        return f"{found.st_ino} {found.st_size}"
+
+    def is_built(self, kit):
+        """Whether it is built of what it is made of now. The crates below it are."""
+        return os.path.exists(self.made) and text_of(f"{self.stated}/sum") == f"{self.sum(kit)} {self.seal()}"
+
+    def commands(self, kit, jobs):
+        """What proves and builds it, run in its folder."""
+        root = f"src/{'main' if self.is_program else 'lib'}.rt"
+        lower = {it.name: it.stated for it in below(self)}
+        words = rattle_words(kit.folder, self.name, root, self.words, lower)
+        build = [f"{kit.folder}/bin/rattle", "build", *words, "--jobs", str(jobs)]
+        linked = ["--toolchain", f"{kit.folder}/toolchain", "--backend", "rattle" if self.name in FIRST else "llvm"]
+        if self.is_static:
+            return [[*build, "--crate-type", "staticlib", "--links", f"{self.name}=", *linked, "-o", self.made]]
+        if not self.is_program:
+            return [[*build, "--statements", "-o", self.made]]
+        code, of_c = f"{self.stated}/{self.name}.o", [f"{kit.folder}/c/{it}" for it in ("libos_c.a", "liblibc_c.a")]
+        link = [f"{kit.folder}/bin/rattle-link", "--target", TARGET, *linked[:2], "-o", self.made, code, *of_c]
+        return [[*build, *linked, "-o", code], link]
 
 
 def read_crates():
@@ -79,9 +134,8 @@ def below(crate):
 
 def number_in(path, pattern):
     try:
-        with open(path, encoding="utf-8") as file:
-            return int(re.search(pattern, file.read())[1])
-    except (OSError, TypeError):
+        return int(re.search(pattern, text_of(path))[1])
+    except TypeError:
         return None
 
 
@@ -100,13 +154,13 @@ def free_memory():
     return free if limit is None or held is None else min(free, limit - held)
 
 
-def lock(folders):
-    """Keeps every other rt out of all these folders, or out of none where one is taken."""
+def lock(own, lower):
+    """Keeps other builds from changing these folders and out of its own, or out of none where one of them is at work."""
     held = []
-    for folder in folders:
+    for folder in [own, *lower]:
         held.append(os.open(folder, os.O_RDONLY))
         try:
-            fcntl.flock(held[-1], fcntl.LOCK_EX | fcntl.LOCK_NB)
+            fcntl.flock(held[-1], fcntl.LOCK_NB | (fcntl.LOCK_EX if folder == own else fcntl.LOCK_SH))
         except BlockingIOError:
             unlock(held)
             return None
@@ -121,109 +175,53 @@ def unlock(held):
         os.close(it)
 
 
-def link(file, to):
-    try:
-        os.link(file, to)
-    except OSError:
-        shutil.copy2(file, to)
+class Work:
+    """A crate that is being proved and built. The crates below it are built."""
 
-
-def move_all(source, to):
-    """Moves what stands in a folder into another, in place of what has the same name there."""
-    os.makedirs(to, exist_ok=True)
-    for name in os.listdir(source) if os.path.isdir(source) else ():
-        if name not in STAYS:
-            remove(f"{to}/{name}")
-            shutil.move(f"{source}/{name}", f"{to}/{name}")
-
-
-def remove(path):
-    if os.path.isdir(path):
-        shutil.rmtree(path)
-    elif os.path.lexists(path):
-        os.remove(path)
-
-
-class Room:
-    """A crate that is being built. The crates below it are built."""
-
-    def __init__(self, crate, place, jobs, lower_locks, own_lock):
-        self.crate, self.jobs, self.held = crate, jobs, own_lock
-        self.began, self.rest = time.monotonic(), b""
-        self.root = f"{place}/{crate.name}"
-        self.folder = f"{self.root}/crates/{crate.name}"
-        self.furnish(below(crate))
-        unlock(lower_locks)
-        os.makedirs(f"{crate.folder}/out", exist_ok=True)
+    def __init__(self, crate, kit, jobs, held):
+        self.crate, self.kit, self.jobs, self.held = crate, kit, jobs, held
+        self.began, self.spent, self.sum = time.monotonic(), 0, crate.sum(kit)
+        if os.path.exists(f"{crate.stated}/sum"):
+            os.remove(f"{crate.stated}/sum")
         self.log = open(f"{crate.folder}/out/build.log", "wb")
-        move_all(f"{crate.folder}/out", f"{self.folder}/out")
-        given = f"{self.folder}/stdin"
-        with open(given if os.path.isfile(given) else os.devnull, "rb") as stdin:
-            how = {"cwd": self.folder, "stdin": stdin, "stdout": subprocess.PIPE, "stderr": subprocess.STDOUT}
-            self.process = subprocess.Popen(["rt", *self.command()], **how)
+        self.commands = crate.commands(kit, jobs)
+        self.start()
+
+    def start(self):
+        how = {"cwd": self.crate.folder, "stdin": subprocess.DEVNULL, "stdout": subprocess.PIPE, "stderr": subprocess.STDOUT}
+        self.process = subprocess.Popen(self.commands.pop(0), **how)
         os.set_blocking(self.process.stdout.fileno(), False)
-
-    def furnish(self, lower):
-        os.makedirs(f"{self.root}/crates")
-        with open(f"{self.root}/crates.txt", "w", encoding="utf-8") as file:
-            file.writelines(it.row for it in [*lower, self.crate])
-        for it in [*lower, self.crate]:
-            for part in SOURCES:
-                if os.path.isdir(f"{it.folder}/{part}"):
-                    shutil.copytree(f"{it.folder}/{part}", f"{self.root}/crates/{it.name}/{part}")
-        for it in lower:
-            if os.path.isdir(f"{it.folder}/out/rlib"):
-                shutil.copytree(f"{it.folder}/out/rlib", f"{self.root}/crates/{it.name}/out/rlib", copy_function=link)
-        for name in STORED_RUN:
-            path = f"{self.crate.folder}/{name}"
-            if os.path.isdir(path):
-                shutil.copytree(path, f"{self.folder}/{name}")
-            elif os.path.isfile(path):
-                shutil.copy2(path, f"{self.folder}/{name}")
-
-    def command(self):
-        if not self.crate.is_program:
-            return ["lib", "--jobs", str(self.jobs)]
-        # (rt links a program in order to run it: this is its stored run)
-        words = []
-        if os.path.isfile(f"{self.folder}/args"):
-            with open(f"{self.folder}/args", encoding="utf-8") as file:
-                words = file.read().splitlines()
-        return ["run", "--jobs", str(self.jobs), "--", *words]
 
     def memory(self):
         return FIRST_JOB + NEXT_JOB * (self.jobs - 1)
 
     def listen(self):
-        """Tells how far the proof is, and says whether rt has more to say."""
+        """Notes what the command says, and whether it may say more."""
         more = os.read(self.process.stdout.fileno(), 1 << 16)
         self.log.write(more)
-        *lines, self.rest = (self.rest + more).split(b"\n")
-        for line in lines:
-            done = re.match(rb"so far: (\d+) of (\d+)", line)
-            if done:
-                say(f"{self.crate.name}: {int(done[1])} of {int(done[2])} functions proved")
         return bool(more)
 
-    def close(self):
-        """Waits until rt has ended, gives the crate back what was made and kept, and says whether it was built."""
+    def end(self):
+        """Waits until the command has ended, and says whether it passed."""
         _, status, used = os.wait4(self.process.pid, 0)
         self.process.returncode = os.waitstatus_to_exitcode(status)
-        self.spent = used.ru_utime + used.ru_stime
-        self.log.close()
-        self.leave()
+        self.process.stdout.close()
+        self.spent += used.ru_utime + used.ru_stime
         return status == 0
 
-    def leave(self):
-        move_all(f"{self.folder}/out", f"{self.crate.folder}/out")
-        shutil.rmtree(self.root, ignore_errors=True)
+    def close(self, is_built):
+        """Notes what a crate was built from that is built, unless its files have changed meanwhile."""
+        self.log.close()
+        if is_built and self.crate.sum(self.kit) == self.sum:
+            with open(f"{self.crate.stated}/sum", "w", encoding="utf-8") as file:
+                file.write(f"{self.sum} {self.crate.seal()}")
         unlock(self.held)
 
 
 class Builder:
-    def __init__(self, crates, place):
-        self.left, self.place = list(crates), place
-        self.built, self.refused, self.rooms, self.told = set(), set(), {}, set()
+    def __init__(self, crates, kit):
+        self.left, self.kit = list(crates), kit
+        self.built, self.refused, self.works, self.told = set(), set(), {}, set()
         self.processors, self.memory = processors(), 0.85 * free_memory()
         self.selector = selectors.DefaultSelector()
         self.behind = {it: it.weight() for it in crates}
@@ -235,78 +233,83 @@ class Builder:
         """How many jobs a proof gets that is the first of so many, 0 where it has to wait. A job more costs processor time, as each reads
         what lies below. So a proof gets several only where processors would have nothing to do: first that with the longest chain behind
         it, for which all wait."""
-        longest = all(self.behind[crate] >= self.behind[it] for it in self.rooms)
+        longest = all(self.behind[crate] >= self.behind[it] for it in self.works)
         most = 1 if crate.is_program or crate.weight() < SMALL else LONGEST_JOBS if longest else MOST_JOBS
-        left = self.processors - sum(it.jobs for it in self.rooms.values())
-        free = self.memory - sum(it.memory() for it in self.rooms.values())
+        left = self.processors - sum(it.jobs for it in self.works.values())
+        free = self.memory - sum(it.memory() for it in self.works.values())
         wanted = max(left - ready + 1, 1)
         jobs = min(wanted, most, left, 1 + int((free - FIRST_JOB) // NEXT_JOB))
-        return jobs if jobs > 0 or self.rooms else 1
+        return jobs if jobs > 0 or self.works else 1
 
     def start_ready(self):
-        """Begins what can begin, and says whether something waits for another rt. The longest chain goes first, but before one that is
-        little longer a crate that takes long itself, since a crate is proved in one piece."""
+        """Begins what can begin, the longest chain first, and says whether something waits for another build."""
         waits = False
         ready = [it for it in self.left if self.built.issuperset(it.uses)]
-        for place, crate in enumerate(sorted(ready, key=lambda it: -self.behind[it] - it.weight() / 2)):
+        for place, crate in enumerate(sorted(ready, key=lambda it: -self.behind[it])):
             jobs = self.jobs_now(crate, len(ready) - place)
             if jobs < 1:
                 break
-            lower = lock([it.folder for it in below(crate)])
-            own = lower is not None and lock([crate.folder])
-            if not own:
-                unlock(lower or [])
+            os.makedirs(crate.stated, exist_ok=True)
+            held = lock(crate.stated, [it.stated for it in below(crate)])
+            if held is None:
                 waits = True
                 if crate not in self.told:
                     self.told.add(crate)
-                    say(f"{crate.name} waits for another rt to finish in its folder or below")
+                    say(f"{crate.name} waits for another build to finish in its folder or below")
                 continue
             self.left.remove(crate)
+            if crate.is_built(self.kit):
+                unlock(held)
+                self.built.add(crate)
+                return self.start_ready() or waits
             say(f"{crate.name} begins")
-            room = self.rooms[crate] = Room(crate, self.place, jobs, lower, own)
-            self.selector.register(room.process.stdout, selectors.EVENT_READ, room)
+            self.begin(Work(crate, self.kit, jobs, held))
         return waits
 
-    def finish(self, room):
-        crate = room.crate
-        self.selector.unregister(room.process.stdout)
-        del self.rooms[crate]
-        if room.close():
-            self.built.add(crate)
-            say(f"{crate.name} is built, after {time.monotonic() - room.began:.0f} s, {room.spent:.0f} of a processor")
+    def begin(self, work):
+        self.works[work.crate] = work
+        self.selector.register(work.process.stdout, selectors.EVENT_READ, work)
+
+    def go_on(self, work):
+        """Hears what a command says; where it has ended, begins the next of its crate or notes whether this is built."""
+        output = work.process.stdout
+        if work.listen():
+            return
+        self.selector.unregister(output)
+        is_good = work.end()
+        if is_good and work.commands:
+            work.start()
+            self.begin(work)
+            return
+        crate = work.crate
+        del self.works[crate]
+        work.close(is_good)
+        (self.built if is_good else self.refused).add(crate)
+        if is_good:
+            took = f"{time.monotonic() - work.began:.0f} s, {work.spent:.0f} of a processor"
+            say(f"{crate.name} is proved and built, after {took}; {len(self.left) + len(self.works)} to go")
         else:
-            self.refused.add(crate)
             say(f"{crate.name} isn't proved and built; crates/{crate.name}/out/build.log says why")
 
     def run(self):
         """Builds all, and says whether all were built. What doesn't stand on a crate that was refused is built all the same."""
-        while self.left or self.rooms:
+        while self.left or self.works:
             waits = self.start_ready()
             self.left = [it for it in self.left if not self.refused.intersection(below(it))]
-            if self.rooms:
+            if self.works:
                 for key, _ in self.selector.select(PAUSE if waits else None):
-                    if not key.data.listen():
-                        self.finish(key.data)
+                    self.go_on(key.data)
             elif self.left:
                 time.sleep(PAUSE)
         return not self.refused
 
     def stop(self):
-        """Ends what is under way, and gives back what was kept of it."""
-        for room in self.rooms.values():
-            room.process.terminate()
-        for room in self.rooms.values():
-            room.close()
-
-
-def clear_rooms(base):
-    """Removes the rooms of builds that were killed. (A build locks its own a moment after it has made them.)"""
-    for name in os.listdir(base):
-        if name.startswith("rooms-") and os.stat(f"{base}/{name}").st_mtime < time.time() - 60:
-            held = lock([f"{base}/{name}"])
-            if held:
-                shutil.rmtree(f"{base}/{name}", ignore_errors=True)
-                unlock(held)
+        """Ends what is under way."""
+        for work in self.works.values():
+            work.process.terminate()
+        for work in self.works.values():
+            work.end()
+            work.close(False)
 
 
 def main(names):
@@ -326,25 +329,16 @@ def main(names):
     for it in (signal.SIGTERM, signal.SIGHUP, signal.SIGINT):
         signal.signal(it, lambda *_: sys.exit(1))
     began = time.time()
-    # (below .git, where the gate looks for no crates, and in the file system of out/, so that moving and linking cost nothing)
-    base = f"{TOP}/.git" if os.path.isdir(f"{TOP}/.git") else f"{TOP}/out"
-    os.makedirs(base, exist_ok=True)
-    clear_rooms(base)
-    with tempfile.TemporaryDirectory(prefix="rooms-", dir=base) as place:
-        held = lock([place])
-        builder = Builder(wanted, place)
-        try:
-            is_built = builder.run()
-        except BaseException:
-            builder.stop()
-            raise
-        finally:
-            unlock(held or [])
+    builder = Builder(wanted, Kit())
+    try:
+        is_built = builder.run()
+    except BaseException:
+        builder.stop()
+        raise
     for top in tops:
-        for made in (f"{top.folder}/out/{top.name}", f"{top.folder}/out/lib{top.name}.a"):
-            if top in builder.built and os.path.isfile(made):
-                # what is made has the time at which its build began, so that an edit during the build isn't missed
-                os.utime(made, (began, began))
+        if top in builder.built and os.path.isfile(top.made):
+            # what is made has the time at which its build began, so that an edit during the build isn't missed
+            os.utime(top.made, (began, began))
         say(f"{top.name} is built" if top in builder.built else f"{top.name} can't be built")
     return 0 if is_built else 1
 

@@ -1,4 +1,4 @@
-"""The rows of crates.txt."""
+"""The rows of crates.txt, and what `rattle` is told of a crate."""
 
 
 def read_rows(top):
@@ -10,3 +10,14 @@ def read_rows(top):
             if colon:
                 found[head.split()[0]] = row, words.split()
     return found
+
+
+def rattle_words(kit, name, root, words, lower):
+    """What `rattle` is told of a crate with this root and these words behind its colon, for the kit in this folder. By the name of each crate
+    below it stands the folder with what is built of that."""
+    found = ["--crate-name", name, root]
+    for it in dict.fromkeys(["std", *words]):
+        found += ["--extern", f"{it}={lower.get(it, f'{kit}/rlibs')}/{it}.rlib"]
+    for it in [f"{kit}/rlibs", *lower.values()]:
+        found += ["-L", f"dependency={it}"]
+    return found + ["--antt-project", f"{kit}/rattle/logic/antt-project.json", "--logic-built", f"{kit}/logic_built"]

@@ -38,7 +38,7 @@ import time
 from concurrent.futures import ThreadPoolExecutor
 from pathlib import Path
 
-from listed import read_rows
+from listed import rattle_words, read_rows
 
 TOP = Path(__file__).resolve().parent.parent
 SOURCES = ("src", "specs", "proofs")
@@ -126,9 +126,8 @@ def without_search(folder, function, texts):
 
 class Crate:
     def __init__(self, name, words, crates):
-        self.name, self.folder = name, TOP / "crates" / name
+        self.name, self.words, self.folder = name, words, TOP / "crates" / name
         self.uses = [crates[it] for it in words if it in crates]
-        self.of_kit = [it for it in words if it not in crates]
 
     def below(self):
         found = dict.fromkeys(self.uses)
@@ -145,15 +144,8 @@ class Crate:
 
     def command(self, kit):
         root = "src/main.rt" if (self.folder / "src/main.rt").is_file() else "src/lib.rt"
-        words = [f"{kit}/bin/rattle", "check", "--crate-name", self.name, root]
-        for name in ["std", *self.of_kit]:
-            words += ["--extern", f"{name}={kit}/rlibs/{name}.rlib"]
-        words += ["-L", f"dependency={kit}/rlibs"]
-        for it in self.uses:
-            words += ["--extern", f"{it.name}={it.folder}/out/rlib/{it.name}.rlib"]
-        for it in self.below():
-            words += ["-L", f"dependency={it.folder}/out/rlib"]
-        return words + ["--antt-project", f"{kit}/rattle/logic/antt-project.json", "--logic-built", f"{kit}/logic_built"]
+        lower = {it.name: f"{it.folder}/out/rlib" for it in self.below()}
+        return [f"{kit}/bin/rattle", "check", *rattle_words(kit, self.name, root, self.words, lower)]
 
 
 def read_crates():

@@ -1,7 +1,7 @@
 -- One more operation: a read gave a record that was read before, or a new one, or none.
 use Rattle.std.proofs.Common.{◌≡◌, ℕ, ◌+◌, ◌<◌, Bool, true, false, List, [], ◌∷◌, ◌++◌, get_or, length, set, slice_get, Option, None, Some}
 use Rattle.std.proofs.Common.{◌⊎◌, inl, inr}
-use Rattle.std.proofs.Common.{◌∙◌, ap, arith, length-append, refl, subst, sym}
+use Rattle.std.proofs.Common.{◌∙◌, ap, length-append, refl, subst, sym}
 use Rattle.std.specs.Prelude.{unwrap_or}
 use Rattle.std.proofs.lemmas.Bool.{cases_eq}
 use Rattle.std.proofs.lemmas.Option.{same_Some, slice_get-get_or}
@@ -124,3 +124,11 @@ grows_more old new h = record {
   stays = λ n b e. get_stays new b false n (h.stays n b e);
   from = λ n b e. elim (get_pushed_cases new false n b e) [ inl k ↦ h.from n b k | inr s ↦ inr (sym s.1) ];
 }
+
+pub grows_pushed : (old mid new : List Bool) → GrowsUnread old mid → new ≡ mid ++ false ∷ [] → GrowsUnread old new
+grows_pushed old mid new h added = subst (GrowsUnread old) (sym added) (grows_more old mid h)
+
+pub room_more : (old mid new : List Bool) (n : ℕ) → GrowsUnread old mid × (length mid ≡ n) → new ≡ mid ++ false ∷ []
+    → GrowsUnread old new × (length new ≡ n + 1)
+room_more old mid new n h added =
+    (grows_pushed old mid new h.0 added, ap length added ∙ (length-append mid (false ∷ []) ∙ ap (λ k. k + 1) h.1))

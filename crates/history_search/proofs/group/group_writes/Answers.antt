@@ -1,6 +1,7 @@
 -- One more write is known, or its record was.
-use Rattle.std.proofs.Common.{◌≡◌, ◌<◌, ℕ, length, refl, sym, slice_get, Some, ◌∙◌}
+use Rattle.std.proofs.Common.{◌≡◌, ◌<◌, ◌≤◌, ℕ, arith, length, refl, subst, sym, slice_get, Some, ◌∙◌}
 use Rattle.std.proofs.lemmas.Option.{slice_get_read}
+use Rattle.history_search.specs.inner.Groups.{KnowsWrites}
 use Rattle.history_search.proofs.Known.{known_more, known_skip, once_all, once_more, once_skip, write_fault}
 use Rattle.history_search.proofs.group.group_writes.Goals as goal
 use Rattle.history_search.proofs.group.group_writes.Goals.{in-Some+in-Ok, in-None}
@@ -45,3 +46,10 @@ pub returns-clause-once : goal.returns-clause-once
 returns-clause-once g c =
     once_all g.R.PartialEq.eq g.R.Ord.cmp g.met.R.Eq.laws g.met.R.Ord.total g.met.R.Ord.matches_eq c.args.opening c.args.ops.now
     c.loop-place.place c.loop-place-test.false c.loop-place.invariant.once (length c.args.ops.now)
+
+pub returns-clause-known : goal.returns-clause-known
+returns-clause-known g c =
+    let done : length c.args.ops.now ≤ c.loop-place.place = c.loop-place-test.false in
+    let same : c.loop-place.place ≡ length c.args.ops.now = let l = c.loop-place.auto.place-end in omega arith in
+    let P : ℕ → Type 0 = λ z. KnowsWrites g.R.Ord.cmp c.args.ops.now z c.loop-place.writes in
+    subst P same c.loop-place.invariant.known

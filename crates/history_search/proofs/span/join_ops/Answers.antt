@@ -26,6 +26,13 @@ bounds g c = subst (λ (z : ℕ). c.loop-place.place < z) (sym c.requires.long) 
 pub bounds-groups-place : goal.bounds-groups-place
 bounds-groups-place g c = subst (λ (z : ℕ). c.loop-place.place < z) (sym c.requires.long) c.loop-place-test.true
 
+pub offset_bounds-spans-group : goal.offset_bounds-spans-group
+offset_bounds-spans-group g c =
+    let inside : c.in-Some.group < length c.loop-place.spans =
+    spanned c.args.groups.now c.loop-place.place c.in-Some.group (length c.args.ops.now) (length c.loop-place.spans)
+    c.loop-place-test.true c.requires.long c.in-Some.is c.requires.within c.loop-place.invariant.long in
+    omega (arith, inside)
+
 pub slice_copy_out-joined : goal.slice_copy_out-joined
 slice_copy_out-joined g c =
     spanned c.args.groups.now c.loop-place.place c.in-Some.group (length c.args.ops.now) (length c.loop-place.spans)
@@ -33,6 +40,13 @@ slice_copy_out-joined g c =
 
 pub bounds-ops-place : goal.bounds-ops-place
 bounds-ops-place g c = c.loop-place-test.true
+
+pub offset_bounds-spans-group-in-Some : goal.offset_bounds-spans-group-in-Some
+offset_bounds-spans-group-in-Some g c =
+    let inside : c.in-Some.group < length c.loop-place.spans =
+    spanned c.args.groups.now c.loop-place.place c.in-Some.group (length c.args.ops.now) (length c.loop-place.spans)
+    c.loop-place-test.true c.requires.long c.in-Some.is c.requires.within c.loop-place.invariant.long in
+    omega (arith, inside)
 
 pub bounds-spans-group : goal.bounds-spans-group
 bounds-spans-group g c =

@@ -1,8 +1,24 @@
--- The spans begin empty.
-use Rattle.std.proofs.Common.{◌∙◌}
+-- The spans begin empty, and what the vector holds at the end is the slice that was joined.
+use Rattle.std.proofs.Common.{rules, ◌≡◌, ◌++◌, ◌∙◌, ℕ, List, length, take, arith, ap, subst, sym}
+use Rattle.std.proofs.lemmas.List.{take-append-le, take_all}
+use Rattle.history_search.specs.declared.span.Span.{Span}
+use Rattle.history_search.specs.inner.Groups.{AreSpans}
 use Rattle.history_search.proofs.Loops.{spans_start}
 use Rattle.history_search.proofs.span.span_groups.Goals as goal
+
+-- what a vector holds whose slice was changed as a whole
+whole : (n : ℕ) (old before new rest : List Span) → n ≡ length old → before ≡ old → length new ≡ length before → take n (new ++ rest) ≡ new
+whole n old before new rest count same lengths =
+    let long : n ≡ length new = count ∙ ap length (sym same) ∙ sym lengths in
+    take-append-le n new rest (omega (arith, long)) ∙ take_all n new (omega (arith, long))
 
 pub join_ops-requires-clause-empty : goal.join_ops-requires-clause-empty
 join_ops-requires-clause-empty g c =
     spans_start c.args.ops.now c.args.groups.now c.as_mut_slice.result.now (c.as_mut_slice.ensures.value ∙ c.in_ok-spans.ensures)
+
+pub returns : goal.returns
+returns g c =
+    let count : c.in_ok-spans.spans.len ≡ length c.in_ok-spans.spans.items = search rules in
+    let P : List Span → Type 0 = λ z. AreSpans c.args.ops.now c.args.groups.now (length c.args.ops.now) z in
+    subst P (sym (whole c.in_ok-spans.spans.len c.in_ok-spans.spans.items c.as_mut_slice.result.now c.join_ops.new.spans _ count
+    c.as_mut_slice.ensures.value c.join_ops.auto.spans)) c.join_ops.ensures

@@ -1,12 +1,18 @@
 -- A rank that begins no later than the last begun stands no less against precedence.
-use Rattle.std.proofs.Common.{◌≡◌, get_or, false, true, refl}
+use Rattle.std.proofs.Common.{◌≡◌, ◌<◌, arith, length, get_or, false, true, refl}
 use Rattle.std.proofs.lemmas.Option.{slice_get-get_or}
 use Rattle.history_search.specs.declared.rank.Rank.{Rank}
-use Rattle.history_search.proofs.Loops.{last_more}
+use Rattle.history_search.proofs.Loops.{last_more, last_start}
 use Rattle.history_search.proofs.turn.first_turn.Goals as goal
 
 none : Rank
 none = record { late = false; first = 0; last = 0; group = 0; answers = false; starts = 0; place = 0 }
+
+pub loop-i-init : goal.loop-i-init
+unfolding none
+loop-i-init g c =
+    let l : 0 < length c.args.ranks.now = let e = c.if-ranks-eq0.false in omega arith in
+    last_start c.args.ops.now c.args.ranks.now (get_or c.args.ranks.now 0 none) (slice_get-get_or c.args.ranks.now 0 none l)
 
 pub returns-then-is_turned-clause-some : goal.returns-then-is_turned-clause-some
 unfolding none

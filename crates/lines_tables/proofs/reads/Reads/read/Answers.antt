@@ -1,8 +1,14 @@
 -- The record was read before, or is one more.
 use Rattle.std.proofs.Common.{ap, refl, sym, ◌∙◌}
-use Rattle.lines_tables.proofs.ReadsLemmas.{given_first, not_before}
+use Rattle.lines_tables.proofs.ReadsLemmas.{given_again, given_first, not_before, read_before}
 use Rattle.lines_tables.specs.Reads.{was_read}
 use Rattle.lines_tables.proofs.reads.Reads.read.Goals as goal
+
+pub returns-then-was_read : goal.returns-then-was_read
+returns-then-was_read c = λ log op is knows.
+    given_again log op c.args.self.now c.args.number is
+    (read_before c.args.self.now.seen.items c.args.number (ap (λ z. was_read z c.args.number) (sym c.as_slice.ensures.value)
+    ∙ sym c.was_read.ensures ∙ c.if-was_read.true)) knows
 
 pub returns : goal.returns
 returns c = λ log op is knows.

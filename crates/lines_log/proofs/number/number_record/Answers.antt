@@ -1,0 +1,26 @@
+-- A record that got its number is of those that were met, or one more, and those stay where they stand.
+use Rattle.std.proofs.Common.{◌≡◌, ◌∙◌, inl, inr, ℕ, List, Option, Some, slice_get, subst, sym, ap}
+use Rattle.std.specs.Prelude.{option_map, string_bytes}
+use Rattle.history_core.proofs.Places.{get_stays}
+use Rattle.lines_tables.specs.Numberings.{GaveNumber, MeetsRecord}
+use Rattle.lines_tables.specs.declared.numbering.Numbering.{Numbering}
+use Rattle.lines_log.specs.inner.Numbers.{Grow, IsRecordNow}
+use Rattle.lines_log.proofs.number.number_record.Goals as goal
+
+grows : (records after : List (List ℕ)) (text : List ℕ) → MeetsRecord records text after → Grow records after
+grows records after text (inl same) n t at = ap (λ l. slice_get l n) same ∙ at
+grows records after text (inr more) n t at = ap (λ l. slice_get l n) more ∙ get_stays records t text n at
+
+numbered : (records : List (List ℕ)) (said : Option (List ℕ)) (text fitted : List ℕ) (n : ℕ) (numbering : Numbering)
+    → said ≡ Some text → fitted ≡ text → GaveNumber records fitted n numbering → IsRecordNow records said numbering (Some n)
+numbered records said text fitted n numbering is fit gave =
+    subst (λ z. IsRecordNow records z numbering (Some n)) (ap Some fit ∙ sym is) (record {
+      after = gave.after;
+      grows = grows records gave.after fitted gave.meets;
+      numbers = gave.numbers;
+      is = gave.at;
+    })
+
+pub returns-in_ok-number-in-Some : goal.returns-in_ok-number-in-Some
+returns-in_ok-number-in-Some c = λ records is.
+    numbered records _ _ _ _ _ (ap (option_map string_bytes) c.in-Some.is) c.fitted.ensures (c.in_ok-number-in-Some.ensures records is)
