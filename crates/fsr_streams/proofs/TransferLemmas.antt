@@ -61,9 +61,14 @@ pub piece_added : (a b : Option (List ℕ)) (before after buffer rest : List ℕ
 piece_added a b before after buffer rest most n fits read added room =
     let front : take n (buffer ++ rest) ≡ take n buffer = take-append-le n buffer rest fits in
     let all : after ≡ before ++ take n buffer = added ∙ ap (λ l. before ++ l) front in
-    let many : length (take n buffer) ≡ n = length-take-le n buffer fits in
-    (take n buffer, read.0, all, omega (arith, ap length all, length-append before (take n buffer), many, room.1), many,
-    λ none. read.1 none room.0)
+    let many : length (take n buffer) ≡ n = length-take-le n buffer fits in (
+      take n buffer,
+      read.0,
+      all,
+      omega (arith, ap length all, length-append before (take n buffer), many, room.1),
+      many,
+      λ none. read.1 none room.0,
+    )
 
 -- such a buffer
 pub within_room : (before buffer chunk : List ℕ) (room most len : ℕ) → length buffer ≡ length (take room chunk) → length chunk ≡ 4096

@@ -14,14 +14,14 @@ input-smaller g c = nearer _ _ c.input.bytes.items c.take_more.new.bytes.items c
 
 pub input-preserved : goal.input-preserved
 input-preserved g c = (
-    adds_piece _ _ _ c.args.bytes.now.items c.input.bytes.items c.take_more.new.bytes.items c.args.most c.in-Ok.field-0
-        c.input.invariant.0 c.in-Ok.ensures.more,
-    λ fits. c.in-Ok.ensures.more.3,
-    c.in-Ok.ensures.counts ∙ c.input.invariant.2,
+  adds_piece _ _ _ c.args.bytes.now.items c.input.bytes.items c.take_more.new.bytes.items c.args.most c.in-Ok.field-0
+      c.input.invariant.0 c.in-Ok.ensures.more,
+  λ fits. c.in-Ok.ensures.more.3,
+  c.in-Ok.ensures.counts ∙ c.input.invariant.2,
 )
 
 pub returns-in-Ok-eq0-clause-taken : goal.returns-in-Ok-eq0-clause-taken
 returns-in-Ok-eq0-clause-taken g c =
     let all = adds_piece _ _ _ c.args.bytes.now.items c.input.bytes.items c.take_more.new.bytes.items c.args.most
-        c.in-Ok-eq0.field-0 c.input.invariant.0 c.in-Ok-eq0.ensures.more in
+    c.in-Ok-eq0.field-0 c.input.invariant.0 c.in-Ok-eq0.ensures.more in
     (all.0, all.1, all.2, inr (c.in-Ok-eq0.ensures.more.5 c.in-Ok-eq0.field-0-test), λ fits. c.in-Ok-eq0.ensures.more.3)

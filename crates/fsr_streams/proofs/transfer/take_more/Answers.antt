@@ -12,6 +12,6 @@ slice_bounds-extend_from_slice-end g c = front_length _ _ _ c.in-Ok.ensures.boun
 pub returns-in-Ok-extend_from_slice-clause-more : goal.returns-in-Ok-extend_from_slice-clause-more
 returns-in-Ok-extend_from_slice-clause-more g c =
     piece_added _ _ c.args.bytes.now.items c.extend_from_slice.new.self.items c.take.new.buf _ c.args.most c.in-Ok.count
-        c.in-Ok.ensures.bound.0 c.in-Ok.ensures.bytes c.in-Ok-extend_from_slice.ensures.items
-        (within_room c.args.bytes.now.items c.take.new.buf _ c.min-room.result c.args.most c.len.result c.take.auto.buf refl
-            c.min-room.ensures (c.len.ensures ∙ c.args.bytes.now.ok.0) c.requires.short)
+    c.in-Ok.ensures.bound.0 c.in-Ok.ensures.bytes c.in-Ok-extend_from_slice.ensures.items
+    (within_room c.args.bytes.now.items c.take.new.buf _ c.min-room.result c.args.most c.len.result c.take.auto.buf refl
+    c.min-room.ensures (c.len.ensures ∙ c.args.bytes.now.ok.0) c.requires.short)
