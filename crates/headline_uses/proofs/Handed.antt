@@ -9,27 +9,27 @@ use Rattle.c_registers.specs.Numbers.{numbered}
 use Rattle.headline_uses.specs.Handles.{PassesOfCellsShow, StatusesShow, WrittenShows}
 
 module _ {D P W : Type 0} (writes : P → D) (last : P → ℕ) (has_written : P → P → W → Type 0) (h k : Holding D) (item : W) where
-  done : (n : ℕ) → n ≡ 0 → IsWrite writes last has_written h k item n → (p : P) × (q : P) × (h.live ≢ 0) × (h.side ≡ writes p)
+  pub done : (n : ℕ) → n ≡ 0 → IsWrite writes last has_written h k item n → (p : P) × (q : P) × (h.live ≢ 0) × (h.side ≡ writes p)
       × (k.live ≢ 0) × (k.side ≡ writes q) × has_written p q item
   done n e (handles.done p q had has wrote) = (p, q, had.0, had.1, has.0, has.1, wrote)
   done n e (handles.ended gone keeps) = absurd (omega (arith, e))
   done n e (handles.worn_out p had most keeps) = absurd (omega (arith, e))
   done n e (handles.other had keeps) = absurd (omega (arith, e))
 
-  ended : (n : ℕ) → n ≡ 3 → IsWrite writes last has_written h k item n → (h.live ≡ 0) × (k.live ≡ 0) × (k.side ≡ h.side)
+  pub ended : (n : ℕ) → n ≡ 3 → IsWrite writes last has_written h k item n → (h.live ≡ 0) × (k.live ≡ 0) × (k.side ≡ h.side)
   ended n e (handles.done p q had has wrote) = absurd (omega (arith, e))
   ended n e (handles.ended gone keeps) = (gone, keeps.1.1 gone, keeps.0)
   ended n e (handles.worn_out p had most keeps) = absurd (omega (arith, e))
   ended n e (handles.other had keeps) = absurd (omega (arith, e))
 
-  worn_out : (n : ℕ) → n ≡ 4 → IsWrite writes last has_written h k item n → (p : P) × (h.live ≢ 0) × (h.side ≡ writes p)
+  pub worn_out : (n : ℕ) → n ≡ 4 → IsWrite writes last has_written h k item n → (p : P) × (h.live ≢ 0) × (h.side ≡ writes p)
       × (2 ^ 64 ≤ last p + 1) × (k.live ≢ 0) × (k.side ≡ h.side)
   worn_out n e (handles.done p q had has wrote) = absurd (omega (arith, e))
   worn_out n e (handles.ended gone keeps) = absurd (omega (arith, e))
   worn_out n e (handles.worn_out p had most keeps) = (p, had.0, had.1, most, λ z. had.0 (keeps.1.0 z), keeps.0)
   worn_out n e (handles.other had keeps) = absurd (omega (arith, e))
 
-  other : (n : ℕ) → n ≡ 5 → IsWrite writes last has_written h k item n → (h.live ≢ 0) × ((p : P) → h.side ≢ writes p)
+  pub other : (n : ℕ) → n ≡ 5 → IsWrite writes last has_written h k item n → (h.live ≢ 0) × ((p : P) → h.side ≢ writes p)
       × (k.live ≢ 0) × (k.side ≡ h.side)
   other n e (handles.done p q had has wrote) = absurd (omega (arith, e))
   other n e (handles.ended gone keeps) = absurd (omega (arith, e))

@@ -18,3 +18,4 @@ mod Boarded
 mod Theorems
 mod Logged
 mod Handed
+mod Placed

@@ -3,6 +3,7 @@ pub mod Cells
 pub mod Composed
 pub mod Going
 pub mod Handles
+pub mod Lent
 pub mod Logs
 pub mod Mechanisms
 pub mod Orders

@@ -8,6 +8,7 @@ pub mod composed;
 pub mod going;
 pub mod handles;
 pub mod heard;
+pub mod lent;
 pub mod logs;
 pub mod mechanisms;
 pub mod orders;
