@@ -17,7 +17,6 @@ next p q w h = (
   h.by.timed,
 )
 
-
 pub publishes : {D W : Type 0} → PublishesShow D W
 publishes writes last h k = (
   handed.done writes last (λ p q (_ : Unit {0}). HasPublished p q) h k tt 0 refl,
