@@ -57,7 +57,8 @@ class Kit:
     """The toolchain that the command rt belongs to."""
 
     def __init__(self):
-        page, self.version = (subprocess.run(["rt", it], capture_output=True, text=True, check=True).stdout.strip() for it in ("doc", "version"))
+        how = {"capture_output": True, "text": True, "check": True}
+        page, self.version = (subprocess.run(["rt", it], **how).stdout.strip() for it in ("doc", "version"))
         self.folder = os.path.dirname(page)
 
 
@@ -68,12 +69,16 @@ class Crate:
         self.stated = f"{self.folder}/out/{STATED}"
         self.is_program = os.path.isfile(f"{self.folder}/src/main.rt")
         self.is_static = "staticlib" in row.partition(":")[0].split()
-        self.made = f"{self.stated}/{name}.rlib"
+        # where it is built, and where it stands then
+        self.output = self.made = f"{self.stated}/{name}.rlib"
         if self.is_program or self.is_static:
-            self.made = f"{self.folder}/out/{name if self.is_program else f'lib{name}.a'}"
+            file = name if self.is_program else f"lib{name}.a"
+            self.output, self.made = f"{self.stated}/{file}", f"{self.folder}/out/{file}"
 
     def files(self, *parts):
-        return sorted(f"{at}/{it}" for part in parts for at, _, names in os.walk(f"{self.folder}/{part}") for it in names)
+        walked = (it for part in parts for it in os.walk(f"{self.folder}/{part}"))
+        # (a name with a dot in front is an editor's)
+        return sorted(f"{at}/{it}" for at, _, names in walked for it in names if not it.startswith("."))
 
     def weight(self):
         """About how many processor seconds its proof takes, by its text: each crate some, a program more, and what its code is. Its proofs
@@ -91,14 +96,23 @@ class Crate:
 
     def seal(self):
         """What tells that a program or the library for C is still the one that was built here: `rt` builds it in the same place."""
-        if not (self.is_program or self.is_static):
+        if self.made == self.output:
             return "-"
-        found = os.stat(self.made)
-        return f"{found.st_ino} {found.st_size}"
+        with open(self.made, "rb") as file:
+            return hashlib.sha256(file.read()).hexdigest()
 
     def is_built(self, kit):
         """Whether it is built of what it is made of now. The crates below it are."""
-        return os.path.exists(self.made) and text_of(f"{self.stated}/sum") == f"{self.sum(kit)} {self.seal()}"
+        kept = text_of(f"{self.stated}/sum")
+        below_kept = all(text_of(f"{it.stated}/sum") for it in self.uses)
+        return below_kept and os.path.exists(self.made) and kept == f"{self.sum(kit)} {self.seal()}"
+
+    def settle(self, began):
+        """Puts a program or the library for C in its place, with the time at which its build began, so that an edit during the build isn't
+        missed."""
+        if self.made != self.output:
+            os.utime(self.output, (began, began))
+            os.replace(self.output, self.made)
 
     def commands(self, kit, jobs):
         """What proves and builds it, run in its folder."""
@@ -108,11 +122,11 @@ class Crate:
         build = [f"{kit.folder}/bin/rattle", "build", *words, "--jobs", str(jobs)]
         linked = ["--toolchain", f"{kit.folder}/toolchain", "--backend", "rattle" if self.name in FIRST else "llvm"]
         if self.is_static:
-            return [[*build, "--crate-type", "staticlib", "--links", f"{self.name}=", *linked, "-o", self.made]]
+            return [[*build, "--crate-type", "staticlib", "--links", f"{self.name}=", *linked, "-o", self.output]]
         if not self.is_program:
-            return [[*build, "--statements", "-o", self.made]]
+            return [[*build, "--statements", "-o", self.output]]
         code, of_c = f"{self.stated}/{self.name}.o", [f"{kit.folder}/c/{it}" for it in ("libos_c.a", "liblibc_c.a")]
-        link = [f"{kit.folder}/bin/rattle-link", "--target", TARGET, *linked[:2], "-o", self.made, code, *of_c]
+        link = [f"{kit.folder}/bin/rattle-link", "--target", TARGET, *linked[:2], "-o", self.output, code, *of_c]
         return [[*build, *linked, "-o", code], link]
 
 
@@ -144,20 +158,24 @@ def processors():
     if asked.isdigit() and int(asked):
         return int(asked)
     found = len(os.sched_getaffinity(0))
-    quota, period = (number_in("/sys/fs/cgroup/cpu.max", it) for it in (r"^(\d+)", r" (\d+)"))
+    old = "/sys/fs/cgroup/cpu/cpu.cfs"
+    quota = number_in("/sys/fs/cgroup/cpu.max", r"^(\d+)") or number_in(f"{old}_quota_us", r"^(\d+)")
+    period = number_in("/sys/fs/cgroup/cpu.max", r" (\d+)") or number_in(f"{old}_period_us", r"^(\d+)")
     return max(min(found, quota // period), 1) if quota and period else found
 
 
 def free_memory():
     free = 1024 * (number_in("/proc/meminfo", r"MemAvailable:\s+(\d+)") or 4_000_000)
-    limit, held = number_in("/sys/fs/cgroup/memory.max", r"^(\d+)"), number_in("/sys/fs/cgroup/memory.stat", r"anon (\d+)")
+    old = "/sys/fs/cgroup/memory/memory"
+    limit = number_in("/sys/fs/cgroup/memory.max", r"^(\d+)") or number_in(f"{old}.limit_in_bytes", r"^(\d+)")
+    held = number_in("/sys/fs/cgroup/memory.stat", r"anon (\d+)") or number_in(f"{old}.stat", r"total_rss (\d+)")
     return free if limit is None or held is None else min(free, limit - held)
 
 
-def lock(own, lower):
-    """Keeps other builds from changing these folders and out of its own, or out of none where one of them is at work."""
+def lock(shared, own=None):
+    """Keeps other builds from changing these folders, and out of its own if it has one; or takes none where another build is in the way."""
     held = []
-    for folder in [own, *lower]:
+    for folder in [own, *shared] if own else shared:
         held.append(os.open(folder, os.O_RDONLY))
         try:
             fcntl.flock(held[-1], fcntl.LOCK_NB | (fcntl.LOCK_EX if folder == own else fcntl.LOCK_SH))
@@ -180,7 +198,7 @@ class Work:
 
     def __init__(self, crate, kit, jobs, held):
         self.crate, self.kit, self.jobs, self.held = crate, kit, jobs, held
-        self.began, self.spent, self.sum = time.monotonic(), 0, crate.sum(kit)
+        self.began, self.spent, self.sum = time.time(), 0, crate.sum(kit)
         if os.path.exists(f"{crate.stated}/sum"):
             os.remove(f"{crate.stated}/sum")
         self.log = open(f"{crate.folder}/out/build.log", "wb")
@@ -189,7 +207,8 @@ class Work:
 
     def start(self):
         how = {"cwd": self.crate.folder, "stdin": subprocess.DEVNULL, "stdout": subprocess.PIPE, "stderr": subprocess.STDOUT}
-        self.process = subprocess.Popen(self.commands.pop(0), **how)
+        # (the command has the locks too, so that they last as long as it does if this script is killed)
+        self.process = subprocess.Popen(self.commands.pop(0), pass_fds=self.held, **how)
         os.set_blocking(self.process.stdout.fileno(), False)
 
     def memory(self):
@@ -207,11 +226,15 @@ class Work:
         self.process.returncode = os.waitstatus_to_exitcode(status)
         self.process.stdout.close()
         self.spent += used.ru_utime + used.ru_stime
+        if self.process.returncode < 0:
+            self.log.write(b"killed by signal %d, most likely for want of memory\n" % -self.process.returncode)
         return status == 0
 
     def close(self, is_built):
         """Notes what a crate was built from that is built, unless its files have changed meanwhile."""
         self.log.close()
+        if is_built:
+            self.crate.settle(self.began)
         if is_built and self.crate.sum(self.kit) == self.sum:
             with open(f"{self.crate.stated}/sum", "w", encoding="utf-8") as file:
                 file.write(f"{self.sum} {self.crate.seal()}")
@@ -250,7 +273,10 @@ class Builder:
             if jobs < 1:
                 break
             os.makedirs(crate.stated, exist_ok=True)
-            held = lock(crate.stated, [it.stated for it in below(crate)])
+            lower = [it.stated for it in below(crate)]
+            if self.finds_built(crate, lock([crate.stated, *lower])):
+                return self.start_ready() or waits
+            held = lock(lower, crate.stated)
             if held is None:
                 waits = True
                 if crate not in self.told:
@@ -258,13 +284,20 @@ class Builder:
                     say(f"{crate.name} waits for another build to finish in its folder or below")
                 continue
             self.left.remove(crate)
-            if crate.is_built(self.kit):
-                unlock(held)
-                self.built.add(crate)
-                return self.start_ready() or waits
             say(f"{crate.name} begins")
             self.begin(Work(crate, self.kit, jobs, held))
         return waits
+
+    def finds_built(self, crate, held):
+        """Whether a crate is built that no other build may change meanwhile; it is then done."""
+        if held is None:
+            return False
+        is_built = crate.is_built(self.kit)
+        unlock(held)
+        if is_built:
+            self.left.remove(crate)
+            self.built.add(crate)
+        return is_built
 
     def begin(self, work):
         self.works[work.crate] = work
@@ -286,7 +319,7 @@ class Builder:
         work.close(is_good)
         (self.built if is_good else self.refused).add(crate)
         if is_good:
-            took = f"{time.monotonic() - work.began:.0f} s, {work.spent:.0f} of a processor"
+            took = f"{time.time() - work.began:.0f} s, {work.spent:.0f} of a processor"
             say(f"{crate.name} is proved and built, after {took}; {len(self.left) + len(self.works)} to go")
         else:
             say(f"{crate.name} isn't proved and built; crates/{crate.name}/out/build.log says why")
@@ -305,9 +338,10 @@ class Builder:
 
     def stop(self):
         """Ends what is under way."""
-        for work in self.works.values():
+        works = [it for it in self.works.values() if it.process.returncode is None]
+        for work in works:
             work.process.terminate()
-        for work in self.works.values():
+        for work in works:
             work.end()
             work.close(False)
 
@@ -327,7 +361,8 @@ def main(names):
         wanted += [it for it in [*below(top), top] if it not in wanted]
     say(f"proves and builds {' and '.join(names)} and what stands below: {' '.join(it.name for it in wanted)}")
     for it in (signal.SIGTERM, signal.SIGHUP, signal.SIGINT):
-        signal.signal(it, lambda *_: sys.exit(1))
+        if signal.getsignal(it) != signal.SIG_IGN:
+            signal.signal(it, lambda *_: sys.exit(1))
     began = time.time()
     builder = Builder(wanted, Kit())
     try:
@@ -337,7 +372,7 @@ def main(names):
         raise
     for top in tops:
         if top in builder.built and os.path.isfile(top.made):
-            # what is made has the time at which its build began, so that an edit during the build isn't missed
+            # (what was built before is no older than this look at its files)
             os.utime(top.made, (began, began))
         say(f"{top.name} is built" if top in builder.built else f"{top.name} can't be built")
     return 0 if is_built else 1

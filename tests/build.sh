@@ -22,8 +22,8 @@ crates_below() {
 is_newer_than_sources() {
     [ -e "$1" ] || return 1
     newer_than=$1
-    set -- $(crates_below "$2" | sed "s|.*|$top/crates/&/src $top/crates/&/specs $top/crates/&/proofs|")
-    [ -z "$(find "$top/crates.txt" "$@" -newer "$newer_than" -print -quit 2>/dev/null)" ]
+    set -- $(crates_below "$2" | sed 's|.*|crates/&/src crates/&/specs crates/&/proofs|')
+    [ -z "$(cd "$top" && find crates.txt "$@" -newer "$newer_than" -print -quit 2>/dev/null)" ]
 }
 
 # Whether a program is there and no source that it is made of is newer.

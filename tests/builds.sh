@@ -1,9 +1,9 @@
 # How tests/build.py builds, tried on two small crates: what was changed is proved and built again with what stands above it and nothing else,
 # what isn't proved isn't built, and of two builds at once one waits.
 
-# Lays out a repository with these scripts and a program over a library.
+# Lays out a repository with these scripts and a program over a library, in a folder with a blank in its name.
 lay_out_crates() {
-    tree_of_two=$room/builds
+    tree_of_two="$room/two crates"
     rm -rf "$tree_of_two"
     mkdir -p "$tree_of_two/tests" "$tree_of_two/crates/low/src" "$tree_of_two/crates/high/src"
     cp tests/build.py tests/listed.py "$tree_of_two/tests/"
