@@ -69,6 +69,19 @@ build_at_once() {
     wait "$first" && [ "$second" = 0 ] && [ "$(cat "$room/first" "$room/second" | grep -c ' begins$')" = 2 ]
 }
 
+# Builds, and changes the library while it is being proved.
+change_during_build() {
+    change low/src/lib.rt '1s/.*/\/\/! A number, at first./'
+    python3 "$tree_of_two/tests/build.py" high >"$room/out" 2>&1 &
+    for waited in $(seq 100); do
+        grep -q '^build: low begins$' "$room/out" && break
+        sleep 0.2
+    done
+    sleep 1
+    change low/src/lib.rt '1s/.*/\/\/! A number, in the end./'
+    wait $!
+}
+
 if ! command -v python3 >/dev/null 2>&1; then
     fail "tests/build.py" "there is no python3"
 else
@@ -87,6 +100,10 @@ else
     fi
     builds "a crate that isn't in crates.txt" 2 "" 7 higher
     change low/src/lib.rt 's/^    8$/    7/'
+    change_during_build
+    builds "what was changed during a build is built again" 0 "high low " 7
+    printf '#!/bin/sh\nexit 3\n' >"$tree_of_two/crates/high/out/high"
+    builds "a program in whose place another one stands is built again" 0 "high " 7
     if build_at_once; then
         pass "of two builds at once one waits"
     else
