@@ -8,12 +8,12 @@ use Rattle.std.proofs.lemmas.Option.{same_Some, slice_get_within}
 use Rattle.history_core.specs.declared.history.Op.{Op}
 use Rattle.history_core.specs.Orders.{IsAtomicOrder, Precedes, RefusesLawfully}
 use Rattle.history_core.proofs.Played.{later_operation}
-use Rattle.register_law.specs.Registers.{intervals, IsReadOf}
-use Rattle.register_law.proofs.Times.{of_before, to_before}
-use Rattle.stamps.specs.declared.stamp.Stamp.{Stamp}
-use Rattle.stamps.specs.declared.stamp.Stamped.{Stamped}
-use Rattle.stamps.specs.Choices.{AllChoose, Choice, Chooses, ChoosesByKind, HasChoices, IsAtMost, IsChoiceOf, IsEarlier, IsFrom, IsIn}
-use Rattle.stamps.proofs.choices.Stamps.{at_most_trans}
+use Rattle.history_core.specs.Registers.{intervals, IsReadOf}
+use Rattle.history_core.proofs.Times.{of_before, to_before}
+use Rattle.matrix_core.specs.declared.stamp.Stamp.{Stamp}
+use Rattle.matrix_core.specs.declared.stamp.Stamped.{Stamped}
+use Rattle.matrix_core.specs.Choices.{AllChoose, Choice, Chooses, ChoosesByKind, HasChoices, IsAtMost, IsChoiceOf, IsEarlier, IsFrom, IsIn}
+use Rattle.matrix_core.proofs.choices.Stamps.{at_most_trans}
 use Rattle.matrix_core.specs.Lines.{first_record, other}
 use Rattle.matrix_core.specs.Listings.{IsInOrder}
 use Rattle.matrix_core.proofs.lines.Others.{other_differs, other_inside, other_reached}

@@ -6,9 +6,9 @@ use Rattle.std.proofs.lemmas.List.{length_push, length-append}
 use Rattle.std.proofs.lemmas.Option.{none-some, slice_get_within}
 use Rattle.history_core.proofs.Places.{get_after, get_before, get_last, get_pushed, get_pushed_cases}
 use Rattle.history_core.proofs.Played.{later_operation}
-use Rattle.stamps.specs.declared.stamp.Stamped.{Stamped}
-use Rattle.stamps.specs.Choices.{ChoosesByKind}
-use Rattle.stamps.specs.Stamps.{greatest}
+use Rattle.matrix_core.specs.declared.stamp.Stamped.{Stamped}
+use Rattle.matrix_core.specs.Choices.{ChoosesByKind}
+use Rattle.matrix_core.specs.Stamps.{greatest}
 use Rattle.matrix_core.specs.Lines.{other}
 use Rattle.matrix_core.proofs.lists.Elements.{get_exists}
 use Rattle.board_history.specs.Accesses.{HasDoneNothing, IsInterval, MakesCall}

@@ -2,10 +2,10 @@
 use Rattle.std.proofs.Common.{◌≡◌, ◌≢◌, ℕ, zero, suc, ◌+◌, ◌-◌, ◌<◌, [], ◌∷◌, slice_get, Some, true, false}
 use Rattle.std.proofs.Common.{refl, sym, ◌∙◌, ap, subst, arith}
 use Rattle.std.proofs.lemmas.Option.{none-some, same_Some}
-use Rattle.register_law.specs.Registers.{IsBefore, IsReadOf}
-use Rattle.stamps.specs.declared.stamp.Stamped.{Stamped}
-use Rattle.stamps.specs.Choices.{ChoosesByKind}
-use Rattle.stamps.specs.Stamps.{greater}
+use Rattle.history_core.specs.Registers.{IsBefore, IsReadOf}
+use Rattle.matrix_core.specs.declared.stamp.Stamped.{Stamped}
+use Rattle.matrix_core.specs.Choices.{ChoosesByKind}
+use Rattle.matrix_core.specs.Stamps.{greater}
 use Rattle.history_core.specs.declared.history.Kind.{Kind}
 use Rattle.history_core.specs.declared.history.Kind.TheVariants.{Write, Read}
 use Rattle.history_core.specs.Schedules.{positions}

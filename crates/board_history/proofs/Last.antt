@@ -6,10 +6,10 @@ use Rattle.std.proofs.lemmas.Bool.{cases_eq}
 use Rattle.std.proofs.lemmas.Option.{same_Some, slice_get_within}
 use Rattle.history_core.specs.declared.history.Op.{Op}
 use Rattle.history_core.specs.Orders.{latest}
-use Rattle.stamps.specs.declared.stamp.Stamp.{Stamp}
-use Rattle.stamps.specs.declared.stamp.Stamped.{Stamped}
-use Rattle.stamps.specs.Choices.{Choice, HasChoices, IsAtMost, IsChoiceOf, IsFrom}
-use Rattle.stamps.proofs.choices.Stamps.{at_most_trans}
+use Rattle.matrix_core.specs.declared.stamp.Stamp.{Stamp}
+use Rattle.matrix_core.specs.declared.stamp.Stamped.{Stamped}
+use Rattle.matrix_core.specs.Choices.{Choice, HasChoices, IsAtMost, IsChoiceOf, IsFrom}
+use Rattle.matrix_core.proofs.choices.Stamps.{at_most_trans}
 use Rattle.matrix_core.specs.Lines.{first_record}
 use Rattle.matrix_core.specs.Listings.{IsInOrder}
 use Rattle.matrix_core.proofs.lists.Elements.{get_exists}

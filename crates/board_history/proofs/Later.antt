@@ -6,11 +6,11 @@ use Rattle.std.proofs.lemmas.Option.{same_Some}
 use Rattle.history_core.specs.declared.history.Op.{Op}
 use Rattle.history_core.specs.declared.history.Kind.TheVariants.{Write}
 use Rattle.history_core.specs.Orders.{Precedes}
-use Rattle.stamps.specs.declared.stamp.Stamp.{Stamp}
-use Rattle.stamps.specs.declared.stamp.Stamped.{Stamped}
-use Rattle.stamps.specs.Choices.{Choice, HasChoices, IsAtMost, IsChoiceOf, IsEarlier, IsIn}
-use Rattle.stamps.specs.Stamps.{IsBelow, first_stamp}
-use Rattle.stamps.proofs.choices.Rise.{have_writes, HasWrite, one_write_each, stamps_rise, tags_rise}
+use Rattle.matrix_core.specs.declared.stamp.Stamp.{Stamp}
+use Rattle.matrix_core.specs.declared.stamp.Stamped.{Stamped}
+use Rattle.matrix_core.specs.Choices.{Choice, HasChoices, IsAtMost, IsChoiceOf, IsEarlier, IsIn}
+use Rattle.matrix_core.specs.Stamps.{IsBelow, first_stamp}
+use Rattle.matrix_core.proofs.choices.Rise.{have_writes, HasWrite, one_write_each, stamps_rise, tags_rise}
 use Rattle.matrix_core.specs.Lines.{first_record}
 use Rattle.board_history.specs.BoardRuns.{Called, Did, IsBoardRun}
 use Rattle.board_history.specs.Histories.{ChoseFrom, IsCall, IsHistory}

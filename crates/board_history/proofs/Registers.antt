@@ -15,11 +15,11 @@ use Rattle.history_core.specs.Numbers.{StandsAt}
 use Rattle.history_core.specs.Orders.{in_term, IsAtomicOrder, is_write, is_write_at, listed_at, Precedes, RefusesLawfully, times_of}
 use Rattle.history_core.specs.Orders.{writes_in}
 use Rattle.history_core.proofs.Listing.{times_cases}
-use Rattle.stamps.specs.declared.stamp.Stamp.{Stamp}
-use Rattle.stamps.specs.declared.stamp.Stamped.{Stamped}
-use Rattle.stamps.specs.Choices.{ChoosesByKind, IsAtMost}
-use Rattle.stamps.specs.Stamps.{first_stamp, IsBelow}
-use Rattle.stamps.proofs.choices.Stamps.{at_most_trans, below_at_most, below_itself}
+use Rattle.matrix_core.specs.declared.stamp.Stamp.{Stamp}
+use Rattle.matrix_core.specs.declared.stamp.Stamped.{Stamped}
+use Rattle.matrix_core.specs.Choices.{ChoosesByKind, IsAtMost}
+use Rattle.matrix_core.specs.Stamps.{first_stamp, IsBelow}
+use Rattle.matrix_core.proofs.choices.Stamps.{at_most_trans, below_at_most, below_itself}
 use Rattle.matrix_core.specs.Lines.{first_record}
 use Rattle.matrix_core.specs.Listings.{IsInOrder, is_listed, MayPrecede}
 use Rattle.matrix_core.proofs.lists.Elements.{get_exists}

@@ -5,11 +5,11 @@ use Rattle.std.proofs.lemmas.Bool.{cases_order}
 use Rattle.std.proofs.lemmas.Option.{none-some, same_Some}
 use Rattle.history_core.specs.declared.history.Kind.{Kind}
 use Rattle.history_core.specs.declared.history.Kind.TheVariants.{Write, Read, Refused}
-use Rattle.stamps.specs.declared.stamp.Stamp.{Stamp}
-use Rattle.stamps.specs.declared.stamp.Stamped.{Stamped}
-use Rattle.stamps.specs.Choices.{Choice, ChoosesByKind, IsAtMost}
-use Rattle.stamps.proofs.choices.Stamps.{at_most_trans, greater_first, greater_is, greater_second, stamp_same}
-use Rattle.stamps.specs.Stamps.{first_stamp, greater, greatest, IsBelow}
+use Rattle.matrix_core.specs.declared.stamp.Stamp.{Stamp}
+use Rattle.matrix_core.specs.declared.stamp.Stamped.{Stamped}
+use Rattle.matrix_core.specs.Choices.{Choice, ChoosesByKind, IsAtMost}
+use Rattle.matrix_core.proofs.choices.Stamps.{at_most_trans, greater_first, greater_is, greater_second, stamp_same}
+use Rattle.matrix_core.specs.Stamps.{first_stamp, greater, greatest, IsBelow}
 use Rattle.matrix_core.specs.Lines.{first_record}
 use Rattle.matrix_core.proofs.lists.Elements.{get_exists}
 use Rattle.board_history.specs.BoardRuns.{Called, Did, IsBoardRun, own_before}

@@ -2,11 +2,11 @@
 use Rattle.std.proofs.Common.{◌≡◌, ◌≢◌, ℕ, zero, suc, ◌+◌, ◌-◌, ◌<◌, [], ◌∷◌, slice_get, Some, true, false}
 use Rattle.std.proofs.Common.{refl, sym, ◌∙◌, ap, subst, arith}
 use Rattle.std.proofs.lemmas.Option.{none-some, same_Some}
-use Rattle.stamps.specs.declared.stamp.Stamped.{Stamped}
-use Rattle.stamps.specs.Choices.{ChoosesByKind}
+use Rattle.matrix_core.specs.declared.stamp.Stamped.{Stamped}
+use Rattle.matrix_core.specs.Choices.{ChoosesByKind}
 use Rattle.history_core.specs.declared.history.Kind.TheVariants.{Write, Read}
 use Rattle.history_core.specs.Schedules.{positions}
-use Rattle.register_law.specs.Registers.{IsBefore, IsReadOf}
+use Rattle.history_core.specs.Registers.{IsBefore, IsReadOf}
 use Rattle.board_history.specs.BoardRuns.{AreReads, AreWrites, Called, IsBoardRun, IsProcess, IsRegister, own_before, Sees}
 use Rattle.board_history.specs.BoardRuns.{steps_before, steps_of_call, told}
 use Rattle.board_history.proofs.Growing.{not_both}

@@ -2,7 +2,7 @@
 use Rattle.std.proofs.Common.{◌≡◌, ℕ, zero, suc, ◌<◌, List, [], ◌∷◌, slice_get, Some, refl, sym, ap, subst, arith}
 use Rattle.std.proofs.Common.{◌⊎◌, inl, inr, ⊎_elim}
 use Rattle.std.proofs.lemmas.Option.{none-some, same_Some}
-use Rattle.stamps.specs.Choices.{IsIn}
+use Rattle.matrix_core.specs.Choices.{IsIn}
 use Rattle.board_history.proofs.Members.{in_here}
 
 -- where an element stands

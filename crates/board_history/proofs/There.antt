@@ -10,12 +10,12 @@ use Rattle.history_core.specs.declared.history.Op.{Op}
 use Rattle.history_core.specs.declared.history.Kind.TheVariants.{Read}
 use Rattle.history_core.specs.Orders.{is_write}
 use Rattle.history_core.proofs.Listing.{times_once}
-use Rattle.stamps.specs.declared.stamp.Stamp.{Stamp}
-use Rattle.stamps.specs.Choices.{IsIn}
+use Rattle.matrix_core.specs.declared.stamp.Stamp.{Stamp}
+use Rattle.matrix_core.specs.Choices.{IsIn}
 use Rattle.matrix_core.specs.Lines.{first_record}
 use Rattle.matrix_core.specs.Listings.{IsInOrder, is_listed, MayPrecede}
-use Rattle.stamps.specs.Stamps.{first_stamp, IsBelow}
-use Rattle.stamps.proofs.choices.Stamps.{below_itself, below_trans, stamp_same}
+use Rattle.matrix_core.specs.Stamps.{first_stamp, IsBelow}
+use Rattle.matrix_core.proofs.choices.Stamps.{below_itself, below_trans, stamp_same}
 use Rattle.board_history.proofs.Members.{append_left, append_right, in_append, in_here}
 use Rattle.matrix_core.proofs.orders.Listing.{get_map_back}
 use Rattle.board_history.specs.BoardRuns.{Called, Did, IsBoardRun}

@@ -4,7 +4,7 @@ use Rattle.std.proofs.Common.{Bool, true, false, refl, sym, ◌∙◌, ap, arith
 use Rattle.std.specs.Prelude.{if◌then◌else◌}
 use Rattle.std.proofs.lemmas.Option.{none-some, same_Some}
 use Rattle.history_core.proofs.Played.{later_operation}
-use Rattle.stamps.specs.declared.stamp.Stamped.{Stamped}
+use Rattle.matrix_core.specs.declared.stamp.Stamped.{Stamped}
 use Rattle.board_history.specs.BoardRuns.{Called, own_before, records, steps_before, steps_of_call, told}
 
 abbrev pub one_if : Bool → ℕ

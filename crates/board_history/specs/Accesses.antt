@@ -1,9 +1,9 @@
 -- A call of a process, access by access: so many reads, one of each other process, rising, and then as many writes, or none (this
 -- project's own).
 use Rattle.std.specs.Prelude.{◌≡◌, ℕ, ◌+◌, ◌-◌, ◌*◌, ◌<◌, List, [], ◌∷◌, ◌++◌, length, slice_get, Some, true, false}
-use Rattle.stamps.specs.declared.stamp.Stamped.{Stamped}
-use Rattle.stamps.specs.Choices.{ChoosesByKind}
-use Rattle.stamps.specs.Stamps.{greatest}
+use Rattle.matrix_core.specs.declared.stamp.Stamped.{Stamped}
+use Rattle.matrix_core.specs.Choices.{ChoosesByKind}
+use Rattle.matrix_core.specs.Stamps.{greatest}
 use Rattle.matrix_core.specs.Lines.{other}
 use Rattle.board_history.specs.BoardRuns.{Answered, Called, Did, own_before, steps_of_call, Written}
 

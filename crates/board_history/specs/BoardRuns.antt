@@ -6,11 +6,11 @@ use Rattle.std.specs.Prelude.{◌≡◌, ◌≢◌, ℕ, ◌+◌, ◌-◌, ◌*�
 use Rattle.std.specs.Prelude.{Bool, true, false, if◌then◌else◌}
 use Rattle.history_core.specs.declared.history.Kind.{Kind}
 use Rattle.history_core.specs.Schedules.{positions}
-use Rattle.stamps.specs.declared.stamp.Stamped.{Stamped}
+use Rattle.matrix_core.specs.declared.stamp.Stamped.{Stamped}
 use Rattle.matrix_core.specs.Lines.{other}
-use Rattle.stamps.specs.Choices.{ChoosesByKind}
-use Rattle.stamps.specs.Stamps.{greatest}
-use Rattle.register_law.specs.Registers.{intervals, IsRegular}
+use Rattle.matrix_core.specs.Choices.{ChoosesByKind}
+use Rattle.matrix_core.specs.Stamps.{greatest}
+use Rattle.history_core.specs.Registers.{intervals, IsRegular}
 
 -- the steps of a call: so many reads, and as many writes where it tells what it chose, of so many steps each
 abbrev pub steps_of_call : ℕ → ℕ → Bool → ℕ

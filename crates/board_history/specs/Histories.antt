@@ -3,9 +3,9 @@
 use Rattle.std.specs.Prelude.{◌≡◌, ◌⊎◌, ℕ, ◌<◌, List, length, slice_get, Option, Some}
 use Rattle.history_core.specs.declared.history.Kind.TheVariants.{Write}
 use Rattle.history_core.specs.declared.history.Op.{Op}
-use Rattle.stamps.specs.declared.stamp.Stamp.{Stamp}
-use Rattle.stamps.specs.declared.stamp.Stamped.{Stamped}
-use Rattle.stamps.specs.Choices.{IsAtMost}
+use Rattle.matrix_core.specs.declared.stamp.Stamp.{Stamp}
+use Rattle.matrix_core.specs.declared.stamp.Stamped.{Stamped}
+use Rattle.matrix_core.specs.Choices.{IsAtMost}
 use Rattle.board_history.specs.BoardRuns.{Called, Did, own_before}
 
 module _ {V : Type 0} where

@@ -5,7 +5,7 @@
 -- record before the write began, and one that has the write and keeps it to itself.
 use Rattle.std.specs.Prelude.{ℕ, zero, suc, [], ◌∷◌, true, false}
 use Rattle.history_core.specs.declared.history.Kind.TheVariants.{Write, Read}
-use Rattle.stamps.specs.declared.stamp.Stamped.{Stamped}
+use Rattle.matrix_core.specs.declared.stamp.Stamped.{Stamped}
 use Rattle.matrix_core.specs.Lines.{first_record}
 use Rattle.board_history.specs.BoardRuns.{Called, Did}
 

@@ -4,10 +4,10 @@ ghost use Rattle.std.specs.Prelude.{◌≡◌, ◌<◌, ◌≤◌, ℕ, List, []
 ghost use Rattle.history_core.specs.declared.history.Op.{Op};
 ghost use Rattle.history_core.specs.declared.history.Kind.TheVariants.{Write};
 ghost use Rattle.history_core.specs.Orders.{IsAtomicOrder, latest, RefusesLawfully};
-ghost use Rattle.stamps.specs.declared.stamp.Stamp.{Stamp};
-ghost use Rattle.stamps.specs.declared.stamp.Stamped.{Stamped};
-ghost use Rattle.stamps.specs.Choices.{IsAtMost};
-ghost use Rattle.stamps.specs.Stamps.{IsBelow};
+ghost use Rattle.matrix_core.specs.declared.stamp.Stamp.{Stamp};
+ghost use Rattle.matrix_core.specs.declared.stamp.Stamped.{Stamped};
+ghost use Rattle.matrix_core.specs.Choices.{IsAtMost};
+ghost use Rattle.matrix_core.specs.Stamps.{IsBelow};
 ghost use Rattle.matrix_core.specs.Lines.{first_record};
 ghost use Rattle.matrix_core.specs.Listings.{IsInOrder};
 ghost use Rattle.board_history.specs.Accesses.{HasDoneNothing, MakesCall};

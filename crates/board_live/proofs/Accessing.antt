@@ -8,12 +8,12 @@ use Rattle.std.proofs.lemmas.List.Sums.{fold-append}
 use Rattle.std.proofs.lemmas.Option.{none-some, same_Some, slice_get_within}
 use Rattle.history_core.proofs.Places.{get_after, get_before, get_pushed_cases}
 use Rattle.history_core.proofs.Played.{later_operation}
-use Rattle.cell_live.specs.declared.times.Times.{Times}
-use Rattle.cell_live.specs.Running.{last_or}
-use Rattle.family_live.specs.declared.family.Family.{Ghosts as FamilyWords}
-use Rattle.family_live.specs.Accesses.{IsAccess, IsWriteAccess, KeepsEach, KeepsOthers, ReadAccesses, RisesAfter as Later, WriteAccesses}
-use Rattle.family_live.specs.Rows.{OneByOne, IsReadFrom, IsWriteTo}
-use Rattle.family_live.specs.Rows.OneByOne.{no_call, one_more}
+use Rattle.cell_contract.specs.declared.times.Times.{Times}
+use Rattle.cell_contract.specs.Running.{last_or}
+use Rattle.cell_contract.specs.declared.family.Family.{Ghosts as FamilyWords}
+use Rattle.cell_contract.specs.Accesses.{IsAccess, IsWriteAccess, KeepsEach, KeepsOthers, ReadAccesses, RisesAfter as Later, WriteAccesses}
+use Rattle.cell_contract.specs.Rows.{OneByOne, IsReadFrom, IsWriteTo}
+use Rattle.cell_contract.specs.Rows.OneByOne.{no_call, one_more}
 use Rattle.matrix_core.specs.Lines.{other}
 use Rattle.matrix_core.proofs.lines.Others.{other_above, other_below}
 use Rattle.board_history.specs.Accesses.{IsInterval}

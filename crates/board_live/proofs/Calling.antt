@@ -9,15 +9,15 @@ use Rattle.std.proofs.lemmas.List.Elements.{All-weaker}
 use Rattle.std.proofs.lemmas.Option.{slice_get_within}
 use Rattle.history_core.specs.declared.history.Kind.{Kind}
 use Rattle.history_core.proofs.Places.{get_after, get_before}
-use Rattle.cell_live.specs.Intervals.{AreFirst, AreHeeded, IsHeeded}
-use Rattle.cell_live.specs.Running.{last_or}
-use Rattle.cell_live.proofs.ListLaws.{last_snoc}
-use Rattle.family_live.specs.declared.family.Family.{Ghosts as FamilyWords}
-use Rattle.family_live.specs.Accesses.{IsWriteAccess}
-use Rattle.stamps.specs.declared.stamp.Stamped.{Stamped}
-use Rattle.stamps.specs.Choices.{ChoosesByKind, IsAtMost}
-use Rattle.stamps.proofs.choices.Stamps.{at_most_trans}
-use Rattle.stamps.specs.Stamps.{greatest as greatest_stamped}
+use Rattle.cell_contract.specs.Intervals.{AreFirst, AreHeeded, IsHeeded}
+use Rattle.cell_contract.specs.Running.{last_or}
+use Rattle.cell_contract.proofs.ListLaws.{last_snoc}
+use Rattle.cell_contract.specs.declared.family.Family.{Ghosts as FamilyWords}
+use Rattle.cell_contract.specs.Accesses.{IsWriteAccess}
+use Rattle.matrix_core.specs.declared.stamp.Stamped.{Stamped}
+use Rattle.matrix_core.specs.Choices.{ChoosesByKind, IsAtMost}
+use Rattle.matrix_core.proofs.choices.Stamps.{at_most_trans}
+use Rattle.matrix_core.specs.Stamps.{greatest as greatest_stamped}
 use Rattle.matrix_core.specs.Lines.{other}
 use Rattle.matrix_core.proofs.lines.Others.{other_differs, other_inside, other_reached}
 use Rattle.matrix_core.proofs.lists.Elements.{get_exists}

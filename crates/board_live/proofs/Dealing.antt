@@ -4,11 +4,11 @@ use Rattle.std.proofs.Common.{Global, refl, sym, ◌∙◌, ap, subst, arith, ap
 use Rattle.std.specs.Prelude.{IsTrue, Vec, vec_capacity}
 use Rattle.std.proofs.lemmas.List.{length_push, reverse-append}
 use Rattle.std.proofs.lemmas.Option.{none-some, same_Some, slice_get_within}
-use Rattle.cell_live.specs.Running.{last_or}
-use Rattle.family_live.specs.declared.family.Family.{Ghosts as FamilyWords}
-use Rattle.family_live.specs.Accesses.{IsUnused}
-use Rattle.family_live.specs.Ends.{Each}
-use Rattle.stamps.specs.Stamps.{first_stamp}
+use Rattle.cell_contract.specs.Running.{last_or}
+use Rattle.cell_contract.specs.declared.family.Family.{Ghosts as FamilyWords}
+use Rattle.cell_contract.specs.Accesses.{IsUnused}
+use Rattle.cell_contract.specs.Ends.{Each}
+use Rattle.matrix_core.specs.Stamps.{first_stamp}
 use Rattle.board_history.proofs.Growing.{nothing_made}
 use Rattle.board_live.specs.declared.board.Board.{Board}
 use Rattle.board_live.specs.declared.board.Pass.{Pass}

@@ -5,9 +5,9 @@ use Rattle.std.specs.Prelude.{vec_capacity}
 use Rattle.std.proofs.lemmas.Bool.{cases_lt}
 use Rattle.std.proofs.lemmas.Option.{same_Some}
 use Rattle.history_core.proofs.Places.{get_last}
-use Rattle.stamps.specs.Choices.{IsAtMost}
-use Rattle.stamps.specs.Stamps.{IsBelow}
-use Rattle.stamps.proofs.choices.Stamps.{at_most_below, at_most_trans, greater_first, greater_second}
+use Rattle.matrix_core.specs.Choices.{IsAtMost}
+use Rattle.matrix_core.specs.Stamps.{IsBelow}
+use Rattle.matrix_core.proofs.choices.Stamps.{at_most_below, at_most_trans, greater_first, greater_second}
 use Rattle.board_live.specs.declared.board.Pass.{Pass}
 use Rattle.board_live.specs.declared.record.Posted.{Posted}
 use Rattle.board_live.specs.inner.Room.{HaveRoom}

@@ -4,12 +4,12 @@ use Rattle.std.proofs.Common.{arith, inl, inr}
 use Rattle.std.specs.Prelude.{if◌then◌else◌, IsTrue}
 use Rattle.std.proofs.lemmas.Bool.Decides.{nat_tests}
 use Rattle.std.proofs.lemmas.Option.{none-some, same_Some}
-use Rattle.stamps.specs.declared.stamp.Stamp.{Stamp}
-use Rattle.stamps.specs.Stamps.{greater as greater_stamped, IsBelow, is_below}
+use Rattle.matrix_core.specs.declared.stamp.Stamp.{Stamp}
+use Rattle.matrix_core.specs.Stamps.{greater as greater_stamped, IsBelow, is_below}
 use Rattle.board_live.specs.declared.record.Posted.{Posted}
-use Rattle.stamps.specs.Choices.{IsAtMost}
-use Rattle.stamps.proofs.choices.Stamps.{at_most_trans, below_itself, greater_second}
-use Rattle.stamps.specs.Stamps.{greatest as greatest_stamped}
+use Rattle.matrix_core.specs.Choices.{IsAtMost}
+use Rattle.matrix_core.proofs.choices.Stamps.{at_most_trans, below_itself, greater_second}
+use Rattle.matrix_core.specs.Stamps.{greatest as greatest_stamped}
 use Rattle.board_live.specs.Records.{greater, greatest, Rises, rises_itself, rises_on, stamped}
 
 by_test : {V : Type 0} (a b : Posted V) (t : Bool) → stamped (if t then b else a) ≡ (if t then stamped b else stamped a)

@@ -3,8 +3,8 @@ use Rattle.std.proofs.Common.{◌≡◌, Bool, IsTrue, ℕ, zero, suc, ◌+◌, 
 use Rattle.std.proofs.Common.{refl, sym, ap, ◌∙◌, subst, arith, ◌⊎◌, inl, inr, length-append}
 use Rattle.std.proofs.lemmas.Option.{same_Some, none-some}
 use Rattle.std.specs.Prelude.{vec_capacity}
-use Rattle.cell_live.specs.Running.{last_or}
-use Rattle.family_live.specs.declared.family.Family.{Ghosts as FamilyWords}
+use Rattle.cell_contract.specs.Running.{last_or}
+use Rattle.cell_contract.specs.declared.family.Family.{Ghosts as FamilyWords}
 use Rattle.history_core.proofs.Places.{get_last}
 use Rattle.board_live.specs.declared.board.Board.{Board}
 use Rattle.board_live.specs.declared.board.Pass.{Pass}

@@ -5,11 +5,11 @@ use Rattle.std.specs.Option.{option_map}
 use Rattle.std.proofs.lemmas.List.{length-map}
 use Rattle.std.proofs.lemmas.Option.{same_Some, slice_get-map, slice_get_within}
 use Rattle.history_core.specs.Schedules.{positions}
-use Rattle.family_live.specs.declared.family.Family.{Ghosts as FamilyWords}
-use Rattle.family_live.specs.Accesses.{ReadAccesses, WriteAccesses}
-use Rattle.family_live.specs.Ends.{Each, EachTwo, IsAtomicCell, IsSchedule}
-use Rattle.stamps.specs.declared.stamp.Stamped.{Stamped}
-use Rattle.stamps.specs.Choices.{IsAtMost}
+use Rattle.cell_contract.specs.declared.family.Family.{Ghosts as FamilyWords}
+use Rattle.cell_contract.specs.Accesses.{ReadAccesses, WriteAccesses}
+use Rattle.cell_contract.specs.Ends.{Each, EachTwo, IsAtomicCell, IsSchedule}
+use Rattle.matrix_core.specs.declared.stamp.Stamped.{Stamped}
+use Rattle.matrix_core.specs.Choices.{IsAtMost}
 use Rattle.matrix_core.specs.Lines.{first_record}
 use Rattle.matrix_core.proofs.lists.Elements.{get_exists}
 use Rattle.board_history.specs.BoardRuns.{IsBoardRun, IsProcess, IsRegister, own_before}

@@ -1,8 +1,8 @@
 -- What a new board is, with its passes (this project's own).
 use Rattle.std.specs.Prelude.{◌≡◌, Bool, IsTrue, ℕ, ◌<◌, ◌≤◌, List, [], length, slice_get, Some, Result, Ok, Err, Vec}
 use Rattle.std.proofs.Common.{Global}
-use Rattle.family_live.specs.declared.family.Family.{Ghosts as FamilyWords}
-use Rattle.stamps.specs.Stamps.{first_stamp}
+use Rattle.cell_contract.specs.declared.family.Family.{Ghosts as FamilyWords}
+use Rattle.matrix_core.specs.Stamps.{first_stamp}
 use Rattle.board_live.specs.declared.board.Board.{Board}
 use Rattle.board_live.specs.declared.board.Pass.{Pass}
 use Rattle.board_live.specs.declared.deals.BoardError.{BoardError}

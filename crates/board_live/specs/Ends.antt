@@ -1,13 +1,13 @@
 -- A board that ends: the calls of all its passes together (atomic orders are L. Lamport's, On Interprocess Communication, Parts I and II,
 -- Distributed Computing 1, 1986).
 use Rattle.std.specs.Prelude.{◌≡◌, Bool, ℕ, ◌<◌, List, [], ◌∷◌, length, slice_get, Option, Some, None}
-use Rattle.family_live.specs.declared.family.Family.{Ghosts as FamilyWords}
-use Rattle.family_live.specs.Ends.{EachTwo, IsAtomicCell}
+use Rattle.cell_contract.specs.declared.family.Family.{Ghosts as FamilyWords}
+use Rattle.cell_contract.specs.Ends.{EachTwo, IsAtomicCell}
 use Rattle.history_core.specs.declared.history.Op.{Op}
 use Rattle.history_core.specs.Orders.{IsAtomicOrder, latest, RefusesLawfully}
-use Rattle.stamps.specs.declared.stamp.Stamp.{Stamp}
-use Rattle.stamps.specs.Choices.{IsAtMost}
-use Rattle.stamps.specs.Stamps.{IsBelow}
+use Rattle.matrix_core.specs.declared.stamp.Stamp.{Stamp}
+use Rattle.matrix_core.specs.Choices.{IsAtMost}
+use Rattle.matrix_core.specs.Stamps.{IsBelow}
 use Rattle.matrix_core.specs.Listings.{IsInOrder}
 use Rattle.matrix_core.specs.Lines.{first_record}
 use Rattle.board_history.specs.BoardRuns.{Called, Did, IsBoardRun}

@@ -1,15 +1,15 @@
 -- The passes of a board's processes, and the calls that were made with them (this project's own).
 use Rattle.std.specs.Prelude.{◌≡◌, ◌≢◌, ◌⊎◌, Bool, IsTrue, ℕ, ◌+◌, ◌-◌, ◌*◌, ◌<◌, ◌≤◌, List, [], ◌∷◌, ◌++◌, length, map, slice_get, Some}
 use Rattle.std.specs.Prelude.{All, vec_capacity, Result, Ok, Err, true, false}
-use Rattle.cell_live.specs.Intervals.{AreFirst, AreHeeded}
-use Rattle.cell_live.specs.Running.{IsAnswer, last_or}
-use Rattle.family_live.specs.declared.family.Family.{Ghosts as FamilyWords}
-use Rattle.family_live.specs.Accesses.{IsReadAccess, IsWriteAccess, KeepsEach, ReadAccesses, WriteAccesses}
+use Rattle.cell_contract.specs.Intervals.{AreFirst, AreHeeded}
+use Rattle.cell_contract.specs.Running.{IsAnswer, last_or}
+use Rattle.cell_contract.specs.declared.family.Family.{Ghosts as FamilyWords}
+use Rattle.cell_contract.specs.Accesses.{IsReadAccess, IsWriteAccess, KeepsEach, ReadAccesses, WriteAccesses}
 use Rattle.history_core.specs.declared.history.Kind.{Kind}
 use Rattle.history_core.specs.declared.history.Kind.TheVariants.{Write, Refused}
-use Rattle.stamps.specs.declared.stamp.Stamp.{Stamp}
-use Rattle.stamps.specs.Choices.{IsAtMost}
-use Rattle.stamps.specs.Stamps.{first_stamp}
+use Rattle.matrix_core.specs.declared.stamp.Stamp.{Stamp}
+use Rattle.matrix_core.specs.Choices.{IsAtMost}
+use Rattle.matrix_core.specs.Stamps.{first_stamp}
 use Rattle.matrix_core.specs.Lines.{other}
 use Rattle.board_history.specs.BoardRuns.{Answered, Called, Did, IsProcess, own_before, steps_of_call, Written}
 use Rattle.board_live.specs.declared.board.Board.{Board}

@@ -1,8 +1,8 @@
 -- What a receipt tells (this project's own).
 use Rattle.std.specs.Prelude.{◌≡◌, ◌≢◌, ℕ, ◌<◌, ◌≤◌}
-use Rattle.cell_live.specs.Intervals.{known_as}
-use Rattle.family_live.specs.declared.family.Family.{Ghosts as FamilyWords}
-use Rattle.family_live.specs.Accesses.{IsHeardRead, KeepsEach, KeepsOthers}
+use Rattle.cell_contract.specs.Intervals.{known_as}
+use Rattle.cell_contract.specs.declared.family.Family.{Ghosts as FamilyWords}
+use Rattle.cell_contract.specs.Accesses.{IsHeardRead, KeepsEach, KeepsOthers}
 use Rattle.board_live.specs.declared.board.Board.{Board}
 use Rattle.board_live.specs.declared.board.Pass.{Pass}
 use Rattle.board_live.specs.declared.receipts.Receipt.{Receipt}

@@ -1,9 +1,9 @@
 -- Records with stamps: their order, and the greatest of several (this project's own).
 use Rattle.std.specs.Prelude.{◌≡◌, ◌⊎◌, List, Option, Some, None, if◌then◌else◌}
 use Rattle.std.proofs.Common.{refl, ◌∙◌, inl, inr, arith}
-use Rattle.stamps.specs.declared.stamp.Stamp.{Stamp}
-use Rattle.stamps.specs.declared.stamp.Stamped.{Stamped}
-use Rattle.stamps.specs.Stamps.{greater_by, greatest_by, IsBelow}
+use Rattle.matrix_core.specs.declared.stamp.Stamp.{Stamp}
+use Rattle.matrix_core.specs.declared.stamp.Stamped.{Stamped}
+use Rattle.matrix_core.specs.Stamps.{greater_by, greatest_by, IsBelow}
 use Rattle.board_live.specs.declared.record.Posted.{Posted}
 
 -- the record as a played board has it

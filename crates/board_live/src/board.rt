@@ -1,7 +1,7 @@
 //! The board, and the passes of its processes.
 
 use crate::record::{Posted, RecordLaw};
-use family_live::Family;
+use cell_contract::Family;
 
 /// A board: a family of registers, one from each process to each other one.
 #[derive(Drop)]

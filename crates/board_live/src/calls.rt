@@ -1,16 +1,16 @@
 //! Reading and writing.
 ghost use Rattle.std.specs.Prelude.{◌≡◌, ◌≢◌, ◌+◌, ◌-◌, ◌*◌, ◌<◌, length, IfErr, IfOk, IsTrue};
 ghost use Rattle.board_live.specs.inner.Calls.{HasReadColumn, HasRow, HasWrittenRow, IsOf};
-ghost use Rattle.cell_live.specs.Running.{last_or};
+ghost use Rattle.cell_contract.specs.Running.{last_or};
 ghost use Rattle.history_core.specs.declared.history.Kind.TheVariants.{Read};
 ghost use Rattle.board_live.specs.Passes.{ChoosesStamp, IsBounded, IsCall, IsKnown, IsPass, kind_of};
-ghost use Rattle.stamps.specs.Stamps.{IsBelow};
+ghost use Rattle.matrix_core.specs.Stamps.{IsBelow};
 ghost use Rattle.board_live.specs.Records.{Rises};
 
 use crate::board::{Board, Pass, TagsEnded};
 use crate::record::{Posted, RecordLaw};
-use family_live::Family;
-use stamps::Stamp;
+use cell_contract::Family;
+use matrix_core::Stamp;
 
 /// Reads what each other process shows, rising, and raises `seen` to the greatest.
 #[inline(always)]

@@ -1,12 +1,12 @@
 //! Making a board.
 ghost use Rattle.std.specs.Prelude.{◌≡◌, ◌<◌, ◌≤◌, IfOk, IsTrue};
-ghost use Rattle.stamps.specs.Stamps.{first_stamp};
+ghost use Rattle.matrix_core.specs.Stamps.{first_stamp};
 ghost use Rattle.board_live.specs.Deals.{IsNew, OpensWith};
 
 use crate::board::{Board, Pass};
 use crate::record::{Posted, RecordLaw};
-use family_live::Family;
-use stamps::Stamp;
+use cell_contract::Family;
+use matrix_core::Stamp;
 use std::alloc::{AllocError, Global};
 use std::mem;
 

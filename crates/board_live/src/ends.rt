@@ -1,13 +1,13 @@
 //! What all calls are together: while the board goes on, and at its end.
 ghost use Rattle.std.specs.Prelude.{◌≡◌, ℕ, ◌+◌, ◌≤◌, ◌<◌, List, length, vec_len, vec_capacity, map};
 ghost use Rattle.history_core.specs.Schedules.{positions};
-ghost use Rattle.family_live.specs.Ends.{Each, EachTwo, IsSchedule, IsAtomicCell};
+ghost use Rattle.cell_contract.specs.Ends.{Each, EachTwo, IsSchedule, IsAtomicCell};
 ghost use Rattle.board_live.specs.Ends.{AllAtomic, AllPasses, HaveAtomicOrder, IsGreatest, standing};
 ghost use Rattle.board_live.specs.inner.Room.{HaveRoom, in_order};
 
 use crate::board::{Board, Pass};
 use crate::record::{Posted, RecordLaw};
-use family_live::Family;
+use cell_contract::Family;
 
 /// The greatest of the own records, of equal stamps that of the smaller process number.
 fn greatest_own<V: RecordLaw, F: Family<Posted<V>>>(passes: &Vec<Pass<V, F>>) -> Posted<V>

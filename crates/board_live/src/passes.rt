@@ -4,7 +4,7 @@ ghost use Rattle.std.specs.Prelude.{◌≡◌};
 use crate::board::Pass;
 use crate::receipts::Receipt;
 use crate::record::{Posted, RecordLaw};
-use family_live::Family;
+use cell_contract::Family;
 
 impl<V: RecordLaw, F: Family<Posted<V>>> Pass<V, F> {
     /// The process that calls with it.

@@ -5,7 +5,7 @@ ghost use Rattle.board_live.specs.Receipts.{HasLearnt, HasTold, IsDuplicate, IsR
 
 use crate::board::{Board, Pass};
 use crate::record::{Posted, RecordLaw};
-use family_live::Family;
+use cell_contract::Family;
 
 /// A receipt of one process for all that it has done and knows of: whoever learns it reads nothing that is older.
 #[derive(Drop)]

@@ -1,10 +1,9 @@
 //! Records that several processes share, with the stamps under which they were written.
 ghost use Rattle.std.specs.Prelude.{◌≡◌, Bool, IsTrue};
 
-use cell_live::{Kept, Lawful};
-use family_live::Sees;
+use cell_contract::{Kept, Lawful, Sees};
 use history_core::Band;
-use stamps::Stamp;
+use matrix_core::Stamp;
 
 /// A type of records with a law that a caller can test.
 pub trait RecordLaw: Copy + Eq {

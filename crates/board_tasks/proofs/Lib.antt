@@ -5,3 +5,7 @@ pub mod Logged
 pub mod Ordered
 pub mod Runs
 pub mod Works
+pub mod FoundWrites
+pub mod SoundLogs
+pub mod SoundOrders
+pub mod SoundRuns

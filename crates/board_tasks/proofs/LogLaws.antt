@@ -9,9 +9,9 @@ use Rattle.std.proofs.lemmas.List.{take_more, map-append}
 use Rattle.std.proofs.lemmas.Bool.Decides.{nat_tests}
 use Rattle.history_core.specs.declared.wish.Wish.{Wish}
 use Rattle.history_core.specs.declared.wish.Wish.TheVariants.{Write, Read}
-use Rattle.stamps.specs.Stamps.{IsBelow}
-use Rattle.stamps.specs.declared.stamp.Stamp.{Stamp}
-use Rattle.family_live.specs.declared.family.Family.{Ghosts as FamilyWords}
+use Rattle.matrix_core.specs.Stamps.{IsBelow}
+use Rattle.matrix_core.specs.declared.stamp.Stamp.{Stamp}
+use Rattle.cell_contract.specs.declared.family.Family.{Ghosts as FamilyWords}
 use Rattle.board_live.specs.declared.board.Board.{Board}
 use Rattle.board_live.specs.declared.board.Pass.{Pass}
 use Rattle.board_live.specs.declared.record.Posted.{Posted}

@@ -14,17 +14,17 @@ use Rattle.history_core.specs.declared.history.Kind.{Kind}
 use Rattle.history_core.specs.declared.history.Kind.TheVariants.{Refused, Read as ReadKind, Write as WriteKind}
 use Rattle.history_core.specs.declared.wish.Wish.{Wish}
 use Rattle.history_core.specs.declared.wish.Wish.TheVariants.{Write, Read}
-use Rattle.stamps.specs.declared.stamp.Stamp.{Stamp}
-use Rattle.stamps.specs.declared.stamp.Stamped.{Stamped}
-use Rattle.stamps.specs.Choices.{IsIn}
-use Rattle.stamps.specs.Stamps.{first_stamp, IsBelow}
+use Rattle.matrix_core.specs.declared.stamp.Stamp.{Stamp}
+use Rattle.matrix_core.specs.declared.stamp.Stamped.{Stamped}
+use Rattle.matrix_core.specs.Choices.{IsIn}
+use Rattle.matrix_core.specs.Stamps.{first_stamp, IsBelow}
 use Rattle.matrix_core.specs.Lines.{first_record}
 use Rattle.matrix_core.proofs.lists.Elements.{get_exists}
 use Rattle.matrix_core.proofs.orders.Listing.{get_map_back}
 use Rattle.board_history.specs.BoardRuns.{Called, Did}
 use Rattle.board_history.specs.OneRegister.{AreOfOne as CallsOfOne, IsOneOrder, Named, Takes as CallTakes}
 use Rattle.board_history.proofs.Registers.{one_order}
-use Rattle.family_live.specs.declared.family.Family.{Ghosts as FamilyWords}
+use Rattle.cell_contract.specs.declared.family.Family.{Ghosts as FamilyWords}
 use Rattle.board_live.specs.declared.board.Board.{Board}
 use Rattle.board_live.specs.declared.board.Pass.{Pass}
 use Rattle.board_live.specs.declared.record.Posted.{Posted}

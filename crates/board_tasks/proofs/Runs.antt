@@ -2,7 +2,7 @@
 use Rattle.std.proofs.Common.{◌≡◌, Bool, ℕ, ◌+◌, ◌<◌, ◌≤◌, List, [], ◌∷◌, ◌++◌, length, length-append, append_assoc, refl, ◌∙◌, ap, arith}
 use Rattle.std.proofs.Common.{◌⊎◌}
 use Rattle.std.proofs.Common.{subst, ⊎_elim}
-use Rattle.family_live.specs.declared.family.Family.{Ghosts as FamilyWords}
+use Rattle.cell_contract.specs.declared.family.Family.{Ghosts as FamilyWords}
 use Rattle.board_live.specs.declared.board.Board.{Board}
 use Rattle.board_live.specs.declared.record.Posted.{Posted}
 use Rattle.board_tasks.specs.declared.lane.Entry.{Entry}

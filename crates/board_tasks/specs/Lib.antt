@@ -4,3 +4,6 @@ pub mod LogOrders
 pub mod Logs
 pub mod Tasks
 pub mod Worked
+pub mod Origins
+pub mod Told
+pub mod inner

@@ -3,8 +3,8 @@ use Rattle.std.specs.Prelude.{◌≡◌, ℕ, ◌+◌, ◌<◌, ◌≤◌, Bool,
 use Rattle.std.specs.List.{filter}
 use Rattle.history_core.specs.declared.wish.Wish.{Wish}
 use Rattle.history_core.specs.declared.wish.Wish.TheVariants.{Write, Read}
-use Rattle.stamps.specs.Choices.{IsIn}
-use Rattle.stamps.specs.Stamps.{IsBelow, first_stamp}
+use Rattle.matrix_core.specs.Choices.{IsIn}
+use Rattle.matrix_core.specs.Stamps.{IsBelow, first_stamp}
 use Rattle.board_live.specs.declared.record.Posted.{Posted}
 use Rattle.board_tasks.specs.declared.lane.Reply.{Reply}
 use Rattle.board_tasks.specs.declared.lane.Reply.TheVariants.{Written, Seen, Ended}

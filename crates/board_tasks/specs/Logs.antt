@@ -2,8 +2,8 @@
 use Rattle.std.specs.Prelude.{◌≡◌, Bool, IsTrue, true, not, ℕ, ◌<◌, ◌≤◌, List, length, map, take, slice_get, Some}
 use Rattle.history_core.specs.declared.wish.Wish.{Wish}
 use Rattle.history_core.specs.declared.wish.Wish.TheVariants.{Write, Read}
-use Rattle.stamps.specs.declared.stamp.Stamp.{Stamp}
-use Rattle.stamps.specs.Stamps.{is_below}
+use Rattle.matrix_core.specs.declared.stamp.Stamp.{Stamp}
+use Rattle.matrix_core.specs.Stamps.{is_below}
 use Rattle.board_tasks.specs.declared.lane.Reply.{Reply}
 use Rattle.board_tasks.specs.declared.lane.Reply.TheVariants.{Written, Seen, Ended}
 use Rattle.board_tasks.specs.declared.lane.Entry.{Entry}

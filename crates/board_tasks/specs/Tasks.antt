@@ -4,7 +4,7 @@ use Rattle.history_core.specs.declared.history.Kind.{Kind}
 use Rattle.history_core.specs.declared.history.Kind.TheVariants.{Refused, Read as ReadKind, Write as WriteKind}
 use Rattle.history_core.specs.declared.wish.Wish.{Wish}
 use Rattle.history_core.specs.declared.wish.Wish.TheVariants.{Write, Read}
-use Rattle.family_live.specs.declared.family.Family.{Ghosts as FamilyWords}
+use Rattle.cell_contract.specs.declared.family.Family.{Ghosts as FamilyWords}
 use Rattle.board_live.specs.declared.board.Board.{Board}
 use Rattle.board_live.specs.declared.board.Pass.{Pass}
 use Rattle.board_live.specs.declared.record.Posted.{Posted}

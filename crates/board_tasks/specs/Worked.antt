@@ -2,8 +2,8 @@
 use Rattle.std.specs.Prelude.{◌≡◌, Bool, ℕ, ◌<◌, List, [], ◌∷◌, length, map, slice_get, Some}
 use Rattle.history_core.specs.declared.wish.Wish.{Wish}
 use Rattle.history_core.specs.declared.wish.Wish.TheVariants.{Write, Read}
-use Rattle.family_live.specs.declared.family.Family.{Ghosts as FamilyWords}
-use Rattle.stamps.specs.declared.stamp.Stamped.{Stamped}
+use Rattle.cell_contract.specs.declared.family.Family.{Ghosts as FamilyWords}
+use Rattle.matrix_core.specs.declared.stamp.Stamped.{Stamped}
 use Rattle.board_history.specs.BoardRuns.{Called}
 use Rattle.board_live.specs.declared.board.Board.{Board}
 use Rattle.board_live.specs.declared.board.Pass.{Pass}

@@ -4,7 +4,7 @@ ghost use Rattle.board_tasks.specs.Tasks.{WasMade};
 
 use crate::lane::Entry;
 use board_live::{Posted, RecordLaw};
-use family_live::Family;
+use cell_contract::Family;
 use std::sync::atomic::{AtomicU64, Ordering};
 
 /// What decides before each call of a task whether it goes on. It stands between the calls of running tasks, so here a program

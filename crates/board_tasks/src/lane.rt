@@ -2,9 +2,9 @@
 ghost use Rattle.std.specs.Prelude.{◌≡◌};
 
 use board_live::{Pass, Posted, RecordLaw};
-use family_live::Family;
+use cell_contract::Family;
 use history_core::Wish;
-use stamps::Stamp;
+use matrix_core::Stamp;
 
 mod calls;
 

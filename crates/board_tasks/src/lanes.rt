@@ -8,7 +8,7 @@ ghost use Rattle.board_tasks.specs.Worked.{AreAtomicLogs, HaveWorked, logs_of};
 
 use crate::lane::{Entry, Lane};
 use board_live::{Board, Pass, Posted, RecordLaw};
-use family_live::Family;
+use cell_contract::Family;
 use history_core::{Items, Wish};
 use std::alloc::{AllocError, Global};
 

@@ -8,7 +8,7 @@ use crate::gate::Gate;
 use crate::jobs::{Job, run_each};
 use crate::lane::{Lane, run_lane};
 use board_live::{Board, Posted, RecordLaw};
-use family_live::{Family, SharedFamily};
+use cell_contract::{Family, SharedFamily};
 use std::thread::Threads;
 
 /// A board with the gate of its tasks.

@@ -2,7 +2,7 @@
 //! number alone.
 ghost use Rattle.std.specs.Prelude.{◌≡◌, All, IfOk, IsTrue, length};
 ghost use Rattle.history_core.specs.Band.{fits};
-ghost use Rattle.stamps.specs.Stamps.{first_stamp};
+ghost use Rattle.matrix_core.specs.Stamps.{first_stamp};
 ghost use Rattle.board_live.specs.Deals.{IsNew};
 ghost use Rattle.board_tasks.specs.Lanes.{AreLanes};
 ghost use Rattle.board_tasks.specs.Logs.{Obeys};
@@ -10,7 +10,7 @@ ghost use Rattle.board_tasks.specs.Worked.{HaveWorked};
 
 use board_live::{Board, Posted};
 use board_tasks::{Gate, Lane, make_lanes, run_tasks};
-use family_live::{Family, SharedFamily};
+use cell_contract::{Family, SharedFamily};
 use history_core::{Band, Items, Wish};
 use std::alloc::{AllocError, Global};
 use std::thread::Threads;

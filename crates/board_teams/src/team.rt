@@ -4,9 +4,9 @@ ghost use Rattle.history_core.specs.Band.{fits};
 ghost use Rattle.board_live.specs.Ends.{AllPasses};
 
 use board_live::{Board, BoardError, Pass, Posted, RecordLaw, TagsEnded};
-use family_live::Family;
+use cell_contract::Family;
 use history_core::Band;
-use stamps::Stamp;
+use matrix_core::Stamp;
 use std::alloc::Global;
 
 /// A call of a process, which is named by its number.

@@ -1,7 +1,7 @@
 -- What a call did to a place, it did to the handle that has it.
 use Rattle.std.proofs.Common.{◌≡◌, ℕ, refl, sym, ◌∙◌, suc-ne-zero}
 use Rattle.std.specs.Prelude.{◌≢◌}
-use Rattle.stamps.specs.declared.stamp.Stamp.{Stamp}
+use Rattle.matrix_core.specs.declared.stamp.Stamp.{Stamp}
 use Rattle.board_live.specs.declared.record.Posted.{Posted}
 use Rattle.c_registers.specs.Handles.{holding}
 use Rattle.c_registers.proofs.Kept.{same_side}

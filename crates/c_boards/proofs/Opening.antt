@@ -1,7 +1,7 @@
 -- The places of a new board, from its passes.
 use Rattle.std.proofs.Common.{◌≡◌, ℕ, List, length, map, sym, ◌∙◌, subst}
 use Rattle.std.specs.Prelude.{Bool, slice_get, Some}
-use Rattle.family_live.specs.declared.family.Family.{Ghosts as FamilyWords}
+use Rattle.cell_contract.specs.declared.family.Family.{Ghosts as FamilyWords}
 use Rattle.board_live.specs.Deals.{IsNew}
 use Rattle.board_live.specs.Passes.{IsPass}
 use Rattle.board_live.specs.declared.board.Board.{Board}

@@ -1,7 +1,7 @@
 -- What a read is, where its answer is older than a stamp and where it isn't.
 use Rattle.std.proofs.Common.{◌≡◌, ℕ, refl, sym, suc-ne-zero, true, false}
 use Rattle.std.specs.Prelude.{◌≢◌}
-use Rattle.stamps.specs.Stamps.{is_below}
+use Rattle.matrix_core.specs.Stamps.{is_below}
 use Rattle.board_live.specs.declared.record.Posted.{Posted}
 use Rattle.c_boards.specs.Marks.{stamp_of}
 use Rattle.c_boards.specs.Places.{IsBoardRead, IsBoardReadSince, done, fresh, older, ended, other}

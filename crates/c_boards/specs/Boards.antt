@@ -1,9 +1,9 @@
 -- What the calls do to a place at a board (this project's definitions).
 use Rattle.std.specs.Prelude.{◌≡◌, ℕ, ◌≤◌, Bool, true, List, slice_get, Some, Ok}
-use Rattle.family_live.specs.declared.family.Family.{Ghosts as FamilyWords}
+use Rattle.cell_contract.specs.declared.family.Family.{Ghosts as FamilyWords}
 use Rattle.history_core.specs.declared.history.Kind.TheVariants.{Read, Write, Refused}
-use Rattle.stamps.specs.declared.stamp.Stamp.{Stamp}
-use Rattle.stamps.specs.Stamps.{IsBelow, first_stamp}
+use Rattle.matrix_core.specs.declared.stamp.Stamp.{Stamp}
+use Rattle.matrix_core.specs.Stamps.{IsBelow, first_stamp}
 use Rattle.board_live.specs.Deals.{IsNew}
 use Rattle.board_live.specs.Passes.{ChoosesStamp, IsCall, IsKnown, IsPass}
 use Rattle.board_live.specs.declared.board.Board.{Board}

@@ -1,5 +1,5 @@
 -- The stamp that C has (this project's definitions).
-use Rattle.stamps.specs.declared.stamp.Stamp.{Stamp}
+use Rattle.matrix_core.specs.declared.stamp.Stamp.{Stamp}
 use Rattle.c_boards.specs.declared.mark.Mark.{Mark}
 
 abbrev pub stamp_of : Mark → Stamp

@@ -1,8 +1,8 @@
 -- What the calls on boards do to handles (this project's definitions).
 use Rattle.std.specs.Prelude.{◌≡◌, ◌≢◌, ℕ, ◌≤◌, ◌<◌, true, false, List, length, slice_get, Some}
 use Rattle.std.specs.Global.{Box}
-use Rattle.stamps.specs.declared.stamp.Stamp.{Stamp}
-use Rattle.stamps.specs.Stamps.{is_below}
+use Rattle.matrix_core.specs.declared.stamp.Stamp.{Stamp}
+use Rattle.matrix_core.specs.Stamps.{is_below}
 use Rattle.board_live.specs.declared.record.Posted.{Posted}
 use Rattle.c_registers.specs.Handles.{Holding, Has, HasOther, Keeps}
 use Rattle.c_boards.specs.Marks.{stamp_of}

@@ -1,9 +1,9 @@
 //! The stamp of a record, as C has it.
 ghost use Rattle.std.specs.Prelude.{◌≡◌};
-ghost use Rattle.stamps.specs.Stamps.{is_below};
+ghost use Rattle.matrix_core.specs.Stamps.{is_below};
 ghost use Rattle.c_boards.specs.Marks.{stamp_of};
 
-use stamps::Stamp;
+use matrix_core::Stamp;
 
 /// A stamp: of two the one with the greater tag is later, of equal tags the one with the greater writer.
 #[repr(C)]

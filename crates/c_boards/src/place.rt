@@ -1,6 +1,6 @@
 //! A place at a board: a share of the board, and the pass of one process.
 use board_live::{Board, Pass, Posted, RecordLaw};
-use family_live::Family;
+use cell_contract::Family;
 use std::alloc::Global;
 use std::sync::Arc;
 

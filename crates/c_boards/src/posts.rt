@@ -1,6 +1,6 @@
 //! The calls on a place whose pass is the board's: nothing is asked of them.
 ghost use Rattle.std.specs.Prelude.{◌≡◌, ℕ, ◌≤◌, List, map, IfOk, IfSome, IfNone, slice_get, Some, length};
-ghost use Rattle.stamps.specs.declared.stamp.Stamp.{Stamp};
+ghost use Rattle.matrix_core.specs.declared.stamp.Stamp.{Stamp};
 ghost use Rattle.board_live.specs.declared.record.Posted.{Posted};
 ghost use Rattle.c_boards.specs.Opens.{OpensPlaces, Pairs};
 ghost use Rattle.c_boards.specs.declared.seated.Seated.{Seated};
@@ -9,7 +9,7 @@ use crate::known::known;
 use crate::seated::Seated;
 use crate::sits::{Sits, Sitting};
 use board_live::{BoardError, Posted};
-use stamps::Stamp;
+use matrix_core::Stamp;
 use std::alloc::{AllocError, Global};
 
 /// A place that can be called at any time.

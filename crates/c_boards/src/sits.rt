@@ -1,11 +1,11 @@
 //! What a place at a board does, where its pass is the board's.
 ghost use Rattle.std.specs.Prelude.{◌≡◌, ℕ, List, slice_get, Some, IfOk, IfSome, IfNone, IsTrue};
-ghost use Rattle.stamps.specs.declared.stamp.Stamp.{Stamp};
+ghost use Rattle.matrix_core.specs.declared.stamp.Stamp.{Stamp};
 ghost use Rattle.board_live.specs.declared.record.Posted.{Posted};
 ghost use Rattle.c_boards.specs.Opens.{OpensPlaces};
 
 use board_live::{BoardError, Posted, RecordLaw};
-use stamps::Stamp;
+use matrix_core::Stamp;
 use std::alloc::Global;
 
 /// Records without a law.

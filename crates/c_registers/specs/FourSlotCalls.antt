@@ -1,8 +1,8 @@
 -- What the calls do to the sides of a four-slot cell (this project's definitions).
 use Rattle.std.specs.Prelude.{◌≡◌, ◌≢◌, ◌≤◌, ◌+◌, [], ◌∷◌, ◌++◌}
 use Rattle.std.specs.Arc.{arc_value}
-use Rattle.cell_live.specs.Intervals.{IsNextAnswer, IsNextCall, no_times, none_known}
-use Rattle.cell_live.specs.Running.{IsAnswer}
+use Rattle.cell_contract.specs.Intervals.{IsNextAnswer, IsNextCall, no_times, none_known}
+use Rattle.cell_contract.specs.Running.{IsAnswer}
 use Rattle.cell_four_slot.specs.Words.{opening_of, written_by, answers_of, told_to, writer_accesses, reader_accesses}
 use Rattle.cell_four_slot.specs.Words.{pair_said, pair_shown, put_times, get_times, numbers_of, known_to}
 use Rattle.c_registers.specs.Numbers.{Always, IsNoEarlier, numbered}

@@ -1,8 +1,8 @@
 -- What the calls do to the sides of a triple buffer (this project's definitions).
 use Rattle.std.specs.Prelude.{◌≡◌, ◌≢◌, ◌+◌, ◌≤◌, [], ◌∷◌, ◌++◌}
 use Rattle.std.specs.Arc.{arc_value}
-use Rattle.cell_live.specs.Intervals.{IsNextAnswer, IsNextCall, no_times, none_known}
-use Rattle.cell_live.specs.Running.{IsAnswer}
+use Rattle.cell_contract.specs.Intervals.{IsNextAnswer, IsNextCall, no_times, none_known}
+use Rattle.cell_contract.specs.Running.{IsAnswer}
 use Rattle.cell_triple.specs.Words.{opening_of, written_by, answers_of, told_to, swaps_of_put, loads_of, swaps_of}
 use Rattle.cell_triple.specs.Words.{put_times, get_times, numbers_of, known_to, at_hand_of}
 use Rattle.cell_triple.specs.Lent.{IsSame, placed_by, put_with}

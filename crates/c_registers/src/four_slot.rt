@@ -1,7 +1,7 @@
 //! The two sides of a four-slot cell, each with a share of the cell and its pass.
 ghost use Rattle.std.specs.Prelude.{◌≡◌};
 ghost use Rattle.std.specs.Arc.{arc_value};
-ghost use Rattle.cell_live.specs.Running.{last_or};
+ghost use Rattle.cell_contract.specs.Running.{last_or};
 ghost use Rattle.cell_four_slot.specs.Words.{opening_of, is_put_of, is_get_of, written_by};
 
 use crate::numbered::Numbered;

@@ -1,7 +1,7 @@
 //! The record that lies in a cell.
 ghost use Rattle.c_registers.specs.Numbers.{numbered, NumberFollows, follows_itself, follows_on};
 
-use cell_live::{Kept, Lawful, Lays};
+use cell_contract::{Kept, Lawful, Lays};
 use std::snapshot::Snapshot;
 
 /// A record with its number: 0 is the opening, and each write has the next one.

@@ -18,7 +18,7 @@ use Rattle.four_slot_core.specs.Interleaving.{Leads}
 use Rattle.four_slot_core.specs.Invariant.{IsSound, IsSoundAt}
 use Rattle.four_slot_core.proofs.events.Interleaved.{then_writes, then_reads}
 use Rattle.four_slot_core.proofs.events.Keeping.{keep_write, keep_read}
-use Rattle.cell_live.specs.Running.{snap}
+use Rattle.cell_contract.specs.Running.{snap}
 use Rattle.cell_four_slot.specs.Rule.{IsWriterShown, named_slot, control_writes, control_reads}
 use Rattle.cell_four_slot.proofs.Clear.{begun, read_on}
 

@@ -15,11 +15,11 @@ use Rattle.four_slot_core.specs.Events.{side, record_in, with_record, slot_with,
 use Rattle.four_slot_core.specs.Invariant.{IsUnderWay, IsStored, IsAnnounced, IsFilled, HasSlot, latest_slot, IsSound}
 use Rattle.four_slot_core.specs.Freshness.{IsBegun}
 use Rattle.four_slot_core.proofs.events.TwoSides.{bit_cases, side_same, side_other, record_same, record_other}
-use Rattle.cell_live.specs.Running.{last_or, Settled, Rising, IsAnswer}
+use Rattle.cell_contract.specs.Running.{last_or, Settled, Rising, IsAnswer}
 use Rattle.cell_four_slot.specs.Rule.{number_in, finished_number, named_slot, StandsBy, UpTo, IsNumbered, IsSettled, IsWriterShown}
 use Rattle.cell_four_slot.proofs.Slots.{same_or_not, not_named, number_here, number_else, number_bound}
 use Rattle.cell_four_slot.proofs.Clear.{free_slot, begun, read_on, same_opposite}
-use Rattle.cell_live.proofs.ListLaws.{settled_more, settled_at, last_by, all_each, rises_at, fits_at, take_more}
+use Rattle.cell_contract.proofs.ListLaws.{settled_more, settled_at, last_by, all_each, rises_at, fits_at, take_more}
 
 -- the stages of a write that a table shows
 shown_cases : (z : Stage) → IsWriterShown z → (z ≡ writer.W3) ⊎ ((z ≡ writer.W4) ⊎ (z ≡ writer.W5))

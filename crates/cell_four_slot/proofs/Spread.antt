@@ -9,8 +9,8 @@ use Rattle.atomic_table.specs.Table.{State, Me, step, Allows, Splits, Joins, ope
 use Rattle.four_slot_core.specs.declared.state.Stage.TheVariants as writer
 use Rattle.four_slot_core.specs.declared.state.ReaderStage.TheVariants as reader
 use Rattle.four_slot_core.specs.Events.{bit_number, slot_number}
-use Rattle.cell_live.specs.Running.{last_or}
-use Rattle.cell_live.specs.declared.sight.Sight.TheVariants.{Writer, Reader}
+use Rattle.cell_contract.specs.Running.{last_or}
+use Rattle.cell_contract.specs.declared.sight.Sight.TheVariants.{Writer, Reader}
 use Rattle.cell_four_slot.specs.declared.notes.WriterNotes.{WriterNotes}
 use Rattle.cell_four_slot.specs.declared.notes.ReaderNotes.{ReaderNotes}
 use Rattle.cell_four_slot.specs.Steps.{FourSlotSight, begins, stores_on, finishes, asks_counting, says_counting, takes, slot_of_choice}

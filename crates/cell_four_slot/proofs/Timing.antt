@@ -10,18 +10,18 @@ use Rattle.four_slot_core.specs.declared.state.ReaderStage.{ReaderStage}
 use Rattle.four_slot_core.specs.declared.state.ReaderStage.TheVariants as reader
 use Rattle.four_slot_core.specs.Freshness.{IsBegun}
 use Rattle.four_slot_core.proofs.Pushed.{get_before, get_within}
-use Rattle.cell_live.specs.Intervals.{At, begun_at, passed_at, ended_at, known_as, AreAtomic, IsHeeded}
-use Rattle.register_law.specs.Registers.{intervals, IsReadOf}
-use Rattle.cell_live.specs.declared.times.Dated.{Dated}
-use Rattle.cell_live.specs.declared.times.Known.{Known}
+use Rattle.cell_contract.specs.Intervals.{At, begun_at, passed_at, ended_at, known_as, AreAtomic, IsHeeded}
+use Rattle.history_core.specs.Registers.{intervals, IsReadOf}
+use Rattle.cell_contract.specs.declared.times.Dated.{Dated}
+use Rattle.cell_contract.specs.declared.times.Known.{Known}
 use Rattle.cell_four_slot.specs.declared.notes.WriterNotes.{WriterNotes}
 use Rattle.cell_four_slot.specs.declared.notes.ReaderNotes.{ReaderNotes}
 use Rattle.cell_four_slot.specs.Rule.{finished_number, begun_number, IsTimed}
 use Rattle.cell_four_slot.specs.Steps.{begun_with, stored_by, finished_with, asked_by, said_with, got_by, heard_by, first_writer}
 use Rattle.cell_four_slot.specs.Steps.{first_reader}
-use Rattle.cell_live.proofs.Timing.{late_up, late_ended, begun_longer, turn_begun, turn_ended, by_passed, by_begun, by_ended, read_of}
-use Rattle.cell_live.proofs.Timing.{heeded_begun, heeded_passed, heeded_ended, each_heeded, one_heeded}
-use Rattle.cell_live.proofs.Timing.{late_asked, late_more, begun_more, most_more, rising_more, source_more}
+use Rattle.cell_contract.proofs.Timing.{late_up, late_ended, begun_longer, turn_begun, turn_ended, by_passed, by_begun, by_ended, read_of}
+use Rattle.cell_contract.proofs.Timing.{heeded_begun, heeded_passed, heeded_ended, each_heeded, one_heeded}
+use Rattle.cell_contract.proofs.Timing.{late_asked, late_more, begun_more, most_more, rising_more, source_more}
 
 module _ {T : Type 0} (o : T) where
   -- W1

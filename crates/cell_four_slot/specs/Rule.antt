@@ -20,12 +20,12 @@ use Rattle.four_slot_core.specs.Events.{side, record_in, slot_with, same_slot, b
 use Rattle.four_slot_core.specs.Invariant.{IsUnderWay, HasSlot, IsStored, IsKept, latest_slot, IsSound}
 use Rattle.four_slot_core.specs.Freshness.{IsBegun}
 use Rattle.four_slot_core.specs.Interleaving.{Leads}
-use Rattle.cell_live.specs.Running.{Settled, Rising}
-use Rattle.cell_live.specs.Intervals.{At, InTurn, IsBy, IsLate, HasBegun, AreFirst, AreHeeded, IsHeeded, known_as}
+use Rattle.cell_contract.specs.Running.{Settled, Rising}
+use Rattle.cell_contract.specs.Intervals.{At, InTurn, IsBy, IsLate, HasBegun, AreFirst, AreHeeded, IsHeeded, known_as}
 use Rattle.cell_four_slot.specs.declared.notes.WriterNotes.{WriterNotes}
 use Rattle.cell_four_slot.specs.declared.notes.ReaderNotes.{ReaderNotes}
 use Rattle.cell_four_slot.specs.Steps.{FourSlotSight}
-use Rattle.cell_live.specs.declared.sight.Sight.TheVariants.{Spent, Told, Writer, Reader, Both}
+use Rattle.cell_contract.specs.declared.sight.Sight.TheVariants.{Spent, Told, Writer, Reader, Both}
 
 -- the number of the last of the writes n + 1, n + 2, .. with the slot k, where the slots of these writes are given; `best`
 -- where there is none

@@ -8,15 +8,15 @@ use Rattle.four_slot_core.specs.declared.state.ReaderStage.TheVariants as reader
 use Rattle.four_slot_core.specs.declared.event.WriteEvent.TheVariants.{W1, W2, W3, W4, W5}
 use Rattle.four_slot_core.specs.declared.event.ReadEvent.TheVariants.{R1, R2, R3, R4, R5}
 use Rattle.four_slot_core.specs.Events.{side, with_side, slot_with, bit_number, slot_number, both}
-use Rattle.cell_live.specs.Running.{IsAnswer, snap}
-use Rattle.cell_live.specs.Intervals.{begun_at, passed_at, ended_at, heard_at, no_times, none_known, dated_at, known_as, AreHeeded}
-use Rattle.cell_live.specs.Intervals.{IsNextAnswer}
-use Rattle.cell_live.specs.declared.times.Dated.{Dated}
-use Rattle.cell_live.specs.declared.times.Known.{Known}
+use Rattle.cell_contract.specs.Running.{IsAnswer, snap}
+use Rattle.cell_contract.specs.Intervals.{begun_at, passed_at, ended_at, heard_at, no_times, none_known, dated_at, known_as, AreHeeded}
+use Rattle.cell_contract.specs.Intervals.{IsNextAnswer}
+use Rattle.cell_contract.specs.declared.times.Dated.{Dated}
+use Rattle.cell_contract.specs.declared.times.Known.{Known}
 use Rattle.cell_four_slot.specs.declared.notes.WriterNotes.{WriterNotes}
 use Rattle.cell_four_slot.specs.declared.notes.ReaderNotes.{ReaderNotes}
-use Rattle.cell_live.specs.declared.sight.Sight.{Sight}
-use Rattle.cell_live.specs.declared.sight.Sight.TheVariants.{Spent, Told, Writer, Reader, Both}
+use Rattle.cell_contract.specs.declared.sight.Sight.{Sight}
+use Rattle.cell_contract.specs.declared.sight.Sight.TheVariants.{Spent, Told, Writer, Reader, Both}
 
 abbrev pub FourSlotSight : Type 0 → Type 0
 FourSlotSight T = Sight (Dated T) (WriterNotes T) (ReaderNotes T)

@@ -4,13 +4,13 @@ use Rattle.four_slot_core.specs.Events.{slot_number, bit_number}
 use Rattle.four_slot_core.specs.declared.event.WriteEvent.{WriteEvent}
 use Rattle.four_slot_core.specs.declared.event.ReadEvent.{ReadEvent}
 use Rattle.four_slot_core.specs.declared.event.ReadEvent.TheVariants.{R1, R2, R3, R4, R5}
-use Rattle.cell_live.specs.Running.{Name, IsName, IsAnswer, last_or, snap}
-use Rattle.cell_live.specs.Intervals.{AreHeeded, IsNextCall, IsNextAnswer}
-use Rattle.cell_live.specs.declared.times.Times.{Times}
-use Rattle.cell_live.specs.declared.times.Known.{Known}
-use Rattle.cell_live.specs.Sights.{writer_or, reader_or, receipt_or}
+use Rattle.cell_contract.specs.Running.{Name, IsName, IsAnswer, last_or, snap}
+use Rattle.cell_contract.specs.Intervals.{AreHeeded, IsNextCall, IsNextAnswer}
+use Rattle.cell_contract.specs.declared.times.Times.{Times}
+use Rattle.cell_contract.specs.declared.times.Known.{Known}
+use Rattle.cell_contract.specs.Sights.{writer_or, reader_or, receipt_or}
 use Rattle.cell_four_slot.specs.Steps.{first_writer, first_reader, word_said}
-use Rattle.cell_live.specs.Intervals.{dated}
+use Rattle.cell_contract.specs.Intervals.{dated}
 use Rattle.cell_four_slot.specs.declared.notes.WriterNotes.{WriterNotes}
 use Rattle.cell_four_slot.specs.declared.notes.ReaderNotes.{ReaderNotes}
 use Rattle.cell_four_slot.specs.declared.cell.FourSlotCell.{FourSlotCell}

@@ -3,9 +3,9 @@ ghost use Rattle.std.specs.Prelude.{◌≡◌, ◌≢◌, ◌≤◌, ◌+◌, []
 ghost use Rattle.std.specs.Fn.{FnOnceTakesAt, FnOnceReturnsAt};
 ghost use Rattle.four_slot_core.specs.declared.event.WriteEvent.TheVariants.{W1, W2, W3, W4, W5};
 ghost use Rattle.four_slot_core.specs.declared.event.ReadEvent.TheVariants.{R1, R2, R3, R4, R5};
-ghost use Rattle.cell_live.specs.Running.{last_or, IsAnswer, Settled, snap};
-ghost use Rattle.cell_live.specs.Intervals.{AreAtomic, AreFirst, AreHeeded, HaveEnded, IsHeard, IsNextAnswer, IsNextCall};
-ghost use Rattle.cell_live.specs.Intervals.{known_as, no_times, none_known};
+ghost use Rattle.cell_contract.specs.Running.{last_or, IsAnswer, Settled, snap};
+ghost use Rattle.cell_contract.specs.Intervals.{AreAtomic, AreFirst, AreHeeded, HaveEnded, IsHeard, IsNextAnswer, IsNextCall};
+ghost use Rattle.cell_contract.specs.Intervals.{known_as, no_times, none_known};
 ghost use Rattle.cell_four_slot.specs.Words.{opening_of, is_put_of, is_get_of, is_told_of, written_by, answers_of, at_hand_of};
 ghost use Rattle.cell_four_slot.specs.Words.{told_to, named_by, write_events, read_events, writer_accesses, reader_accesses};
 ghost use Rattle.cell_four_slot.specs.Words.{pair_said, pair_shown};
@@ -15,7 +15,7 @@ ghost use Rattle.cell_four_slot.specs.Words.{heard_by, writes_of};
 use crate::bits::{bit_of, other_bit, set_bit, slot_of, word_of};
 use crate::cell::{FourSlotCell, FourSlotGet, FourSlotPut, FourSlotTold};
 use crate::table::FourSlotTable;
-use cell_live::{Calls, Cell, Kept, Lawful, Lays, Spare, Whole};
+use cell_contract::{Calls, Cell, Kept, Lawful, Lays, Spare, Whole};
 use std::alloc::{AllocError, Global};
 use std::marker::Brand;
 

@@ -7,17 +7,17 @@
 ghost use Rattle.std.specs.Prelude.{◌≡◌, [], ◌∷◌};
 ghost use Rattle.four_slot_core.specs.declared.state.Stage.TheVariants.{W5};
 ghost use Rattle.four_slot_core.specs.declared.state.ReaderStage.TheVariants.{R5};
-ghost use Rattle.cell_live.specs.declared.sight.Sight.TheVariants.{Writer, Reader, Told};
+ghost use Rattle.cell_contract.specs.declared.sight.Sight.TheVariants.{Writer, Reader, Told};
 ghost use Rattle.four_slot_core.specs.Events.{bit_number};
-ghost use Rattle.cell_live.specs.Running.{last_or, snap};
-ghost use Rattle.cell_live.specs.Sights.{writer_or, reader_or, receipt_or};
+ghost use Rattle.cell_contract.specs.Running.{last_or, snap};
+ghost use Rattle.cell_contract.specs.Sights.{writer_or, reader_or, receipt_or};
 ghost use Rattle.cell_four_slot.specs.Steps.{first_writer, first_reader, slot_of_choice, word_said, bit_words};
-ghost use Rattle.cell_live.specs.Intervals.{dated};
+ghost use Rattle.cell_contract.specs.Intervals.{dated};
 
 use crate::notes::FourSlotSight;
 use crate::table::{FourSlotSeat, FourSlotTable};
 use atomic_table::TableRule;
-use cell_live::{Lawful, Spare};
+use cell_contract::{Lawful, Spare};
 
 /// The rule of the table of a four-slot cell.
 pub struct FourSlot;

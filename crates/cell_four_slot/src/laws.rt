@@ -5,8 +5,8 @@ ghost use Rattle.atomic_table.specs.Table.{State};
 ghost use Rattle.four_slot_core.specs.Events.{opening_state};
 ghost use Rattle.four_slot_core.specs.Interleaving.{Leads};
 ghost use Rattle.four_slot_core.specs.Invariant.{IsSound, latest_slot};
-ghost use Rattle.cell_live.specs.Intervals.{AreFirst, At};
-ghost use Rattle.register_law.specs.Registers.{intervals, IsReadOf};
+ghost use Rattle.cell_contract.specs.Intervals.{AreFirst, At};
+ghost use Rattle.history_core.specs.Registers.{intervals, IsReadOf};
 ghost use Rattle.cell_four_slot.specs.Rule.{InTable, InViews, UpTo, number_in, control_writes, control_reads};
 ghost use Rattle.cell_four_slot.specs.Spread.{gathered};
 ghost use Rattle.cell_four_slot.specs.Steps.{FourSlotSight};
@@ -14,7 +14,7 @@ ghost use Rattle.cell_four_slot.specs.Steps.{FourSlotSight};
 use crate::cell::FourSlot;
 use crate::notes;
 use atomic_table::TableRule;
-use cell_live::Lawful;
+use cell_contract::Lawful;
 
 /// Where the rule of a four-slot cell holds, words, home slots and views show a state of the four-slot register, with the
 /// opening as its noise. This state keeps the register's invariant, and some interleaving of the events of the two passes leads

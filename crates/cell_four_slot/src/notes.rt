@@ -1,5 +1,5 @@
 //! What the seats of a four-slot cell know. No value of these types is made.
-use cell_live::{Dated, Known, Sight, Times};
+use cell_contract::{Dated, Known, Sight, Times};
 use four_slot_core::{ReadEvent, ReaderStage, Sides, Slot, Stage, WriteEvent};
 use std::collections::LinkedList;
 use std::snapshot::Snapshot;

@@ -1,11 +1,11 @@
 //! What each step tells.
 ghost use Rattle.std.specs.Prelude.{List, []};
 ghost use Rattle.cell_four_slot.specs.Steps.{begins, stores_on, finishes, asks_on, says, takes, receipt_for, hears_of, whole_of};
-ghost use Rattle.cell_live.specs.declared.sight.Sight.TheVariants.{Spent};
+ghost use Rattle.cell_contract.specs.declared.sight.Sight.TheVariants.{Spent};
 
 use crate::notes::FourSlotSight;
 use atomic_table::{Join, Play, Split};
-use cell_live::Lawful;
+use cell_contract::Lawful;
 use std::marker::{Brand, PhantomData};
 
 /// The record of a write, which its first load tells the view.

@@ -11,22 +11,22 @@ use Rattle.std.specs.declared.snapshot.Snapshot.{Snapshot}
 use Rattle.cell_triple.specs.declared.notes.WriterNotes.{WriterNotes}
 use Rattle.cell_triple.specs.declared.notes.ReaderNotes.{ReaderNotes}
 use Rattle.cell_triple.specs.Steps.{TripleSight}
-use Rattle.cell_live.specs.declared.sight.Sight.TheVariants.{Spent, Told, Writer, Reader, Both}
-use Rattle.cell_live.specs.Acts.{ProperAll}
-use Rattle.cell_live.specs.Running.{last_or, Settled, Stands, Rising, IsAnswer, snap}
-use Rattle.cell_live.specs.Intervals.{IsNextAnswer, AreFirst, AreHeeded, IsHeeded, begun_at, known_as}
-use Rattle.cell_live.specs.declared.times.Dated.{Dated}
-use Rattle.cell_live.specs.declared.times.Known.{Known}
+use Rattle.cell_contract.specs.declared.sight.Sight.TheVariants.{Spent, Told, Writer, Reader, Both}
+use Rattle.cell_contract.specs.Acts.{ProperAll}
+use Rattle.cell_contract.specs.Running.{last_or, Settled, Stands, Rising, IsAnswer, snap}
+use Rattle.cell_contract.specs.Intervals.{IsNextAnswer, AreFirst, AreHeeded, IsHeeded, begun_at, known_as}
+use Rattle.cell_contract.specs.declared.times.Dated.{Dated}
+use Rattle.cell_contract.specs.declared.times.Known.{Known}
 use Rattle.cell_triple.specs.Rule.{IsCounted, IsTimed, Sees, TripleRule}
-use Rattle.cell_live.specs.Sights.{writer_or, reader_or, writer_part, reader_part}
+use Rattle.cell_contract.specs.Sights.{writer_or, reader_or, writer_part, reader_part}
 use Rattle.cell_triple.specs.Steps.{first_writer, first_reader, first_sight, put_took, get_took, put_swapped, published, answered}
 use Rattle.cell_triple.specs.Steps.{clock_of, looked, looked_by, asked_by, fetched, get_swapped, receipt_for, told_by, hears_of, heard_by}
 use Rattle.cell_triple.specs.Steps.{whole_of}
 use Rattle.cell_triple.specs.Steps.{HasAnswered, MayAnswer}
-use Rattle.cell_live.proofs.ListLaws.{last_here, last_snoc, settled_more, settled_last, last_stands, stands_more, stands_last, all_each}
-use Rattle.cell_live.proofs.ListLaws.{all_snoc}
-use Rattle.cell_live.proofs.ListLaws.{rising_snoc, last_fits, last_rises, stands_below, seats_stay}
-use Rattle.cell_live.proofs.Timing.{first_begun, first_ended, first_all, heeded_all, heeded_begun, heeded_ended}
+use Rattle.cell_contract.proofs.ListLaws.{last_here, last_snoc, settled_more, settled_last, last_stands, stands_more, stands_last, all_each}
+use Rattle.cell_contract.proofs.ListLaws.{all_snoc}
+use Rattle.cell_contract.proofs.ListLaws.{rising_snoc, last_fits, last_rises, stands_below, seats_stay}
+use Rattle.cell_contract.proofs.Timing.{first_begun, first_ended, first_all, heeded_all, heeded_begun, heeded_ended}
 use Rattle.cell_triple.proofs.Timing.{timed_puts, timed_looks, timed_asks, timed_fetched, timed_answers, timed_hears, timed_put_taken}
 use Rattle.cell_triple.proofs.Timing.{timed_get_taken, timed_starts, timed_atomic}
 

@@ -1,7 +1,7 @@
 -- What lies in the one slot that a pass holds.
 use Rattle.std.proofs.Common.{◌≡◌, ℕ, List, [], ◌∷◌, ◌∙◌, sym, ap, get_or}
-use Rattle.cell_live.specs.Running.{held_slots}
-use Rattle.cell_live.proofs.ListLaws.{may_exchange, none_behind}
+use Rattle.cell_contract.specs.Running.{held_slots}
+use Rattle.cell_contract.proofs.ListLaws.{may_exchange, none_behind}
 
 module _ {T : Type 0} where
   pub lies : (cs : List (ℕ × T)) (k : ℕ) (d : T) → held_slots cs ≡ k ∷ [] → cs ≡ (k, (get_or cs 0 (k, d)).1) ∷ []

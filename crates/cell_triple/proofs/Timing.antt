@@ -5,17 +5,17 @@ use Rattle.std.proofs.Common.{length-append, le_refl}
 use native.Mathlib.Nat.{le-max_left, max-le}
 use Rattle.std.proofs.lemmas.Option.{slice_get_within, none-some}
 use Rattle.four_slot_core.proofs.Pushed.{get_before, get_within}
-use Rattle.cell_live.specs.Intervals.{At, begun_at, ended_at, known_as, AreAtomic, IsHeeded}
-use Rattle.register_law.specs.Registers.{intervals, IsReadOf}
-use Rattle.cell_live.specs.declared.times.Dated.{Dated}
-use Rattle.cell_live.specs.declared.times.Known.{Known}
+use Rattle.cell_contract.specs.Intervals.{At, begun_at, ended_at, known_as, AreAtomic, IsHeeded}
+use Rattle.history_core.specs.Registers.{intervals, IsReadOf}
+use Rattle.cell_contract.specs.declared.times.Dated.{Dated}
+use Rattle.cell_contract.specs.declared.times.Known.{Known}
 use Rattle.cell_triple.specs.declared.notes.WriterNotes.{WriterNotes}
 use Rattle.cell_triple.specs.declared.notes.ReaderNotes.{ReaderNotes}
 use Rattle.cell_triple.specs.Rule.{IsTimed}
 use Rattle.cell_triple.specs.Steps.{published, looked_by, asked_by, fetched, answered, heard_by, first_writer, first_reader}
-use Rattle.cell_live.proofs.Timing.{late_ended, begun_longer, turn_begun, turn_ended, within_pushed, by_passed, by_begun, by_ended, read_of}
-use Rattle.cell_live.proofs.Timing.{heeded_begun, heeded_ended, each_heeded, one_heeded}
-use Rattle.cell_live.proofs.Timing.{late_asked, late_more, begun_more, most_more, rising_more, source_more}
+use Rattle.cell_contract.proofs.Timing.{late_ended, begun_longer, turn_begun, turn_ended, within_pushed, by_passed, by_begun, by_ended, read_of}
+use Rattle.cell_contract.proofs.Timing.{heeded_begun, heeded_ended, each_heeded, one_heeded}
+use Rattle.cell_contract.proofs.Timing.{late_asked, late_more, begun_more, most_more, rising_more, source_more}
 
 module _ {T : Type 0} (o : T) where
   -- the write

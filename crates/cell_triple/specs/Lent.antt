@@ -1,8 +1,8 @@
 -- What a seat and the two passes are when what they lent is back (this project's own).
 use Rattle.std.specs.Prelude.{◌≡◌, ℕ, ◌∷◌, get_or}
 use Rattle.std.proofs.Common.{ap}
-use Rattle.cell_live.specs.Running.{held_slots}
-use Rattle.cell_live.proofs.ListLaws.{none_behind}
+use Rattle.cell_contract.specs.Running.{held_slots}
+use Rattle.cell_contract.proofs.ListLaws.{none_behind}
 use Rattle.atomic_table.specs.Lent.{seat_with as with_slot}
 use Rattle.cell_triple.specs.declared.table.TripleSeat.{TripleSeat}
 use Rattle.cell_triple.specs.declared.cell.TripleGet.{TripleGet}

@@ -1,14 +1,14 @@
 -- The steps of the triple buffer: what each tells its seat (this project's own).
 use Rattle.std.specs.Prelude.{◌≡◌, ℕ, ◌+◌, ◌%◌, ◌<◌, ◌≤◌, max, [], ◌∷◌, ◌++◌}
 use Rattle.atomic_table.specs.Table.{Me, Step}
-use Rattle.cell_live.specs.Running.{last_or, IsAnswer, snap}
-use Rattle.cell_live.specs.Intervals.{made_at, heard_at, no_times, none_known, dated_at, known_as, AreHeeded, IsNextAnswer}
-use Rattle.cell_live.specs.declared.times.Dated.{Dated}
-use Rattle.cell_live.specs.declared.times.Known.{Known}
+use Rattle.cell_contract.specs.Running.{last_or, IsAnswer, snap}
+use Rattle.cell_contract.specs.Intervals.{made_at, heard_at, no_times, none_known, dated_at, known_as, AreHeeded, IsNextAnswer}
+use Rattle.cell_contract.specs.declared.times.Dated.{Dated}
+use Rattle.cell_contract.specs.declared.times.Known.{Known}
 use Rattle.cell_triple.specs.declared.notes.WriterNotes.{WriterNotes}
 use Rattle.cell_triple.specs.declared.notes.ReaderNotes.{ReaderNotes}
-use Rattle.cell_live.specs.declared.sight.Sight.{Sight}
-use Rattle.cell_live.specs.declared.sight.Sight.TheVariants.{Spent, Told, Writer, Reader, Both}
+use Rattle.cell_contract.specs.declared.sight.Sight.{Sight}
+use Rattle.cell_contract.specs.declared.sight.Sight.TheVariants.{Spent, Told, Writer, Reader, Both}
 
 abbrev pub TripleSight : Type 0 → Type 0
 TripleSight T = Sight (Dated T) (WriterNotes T) (ReaderNotes T)

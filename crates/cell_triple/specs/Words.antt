@@ -1,12 +1,12 @@
 -- The words of the contract, of the passes of a triple buffer (this project's own).
 use Rattle.std.specs.Prelude.{◌≡◌, ℕ, ◌+◌, ◌<◌, ◌≤◌, List, [], ◌∷◌, ◌++◌}
-use Rattle.cell_live.specs.Running.{Name, IsName, IsAnswer, last_or}
-use Rattle.cell_live.specs.Intervals.{AreHeeded, IsNextCall, IsNextAnswer}
-use Rattle.cell_live.specs.declared.times.Times.{Times}
-use Rattle.cell_live.specs.declared.times.Known.{Known}
-use Rattle.cell_live.specs.Sights.{writer_or, reader_or, receipt_or}
+use Rattle.cell_contract.specs.Running.{Name, IsName, IsAnswer, last_or}
+use Rattle.cell_contract.specs.Intervals.{AreHeeded, IsNextCall, IsNextAnswer}
+use Rattle.cell_contract.specs.declared.times.Times.{Times}
+use Rattle.cell_contract.specs.declared.times.Known.{Known}
+use Rattle.cell_contract.specs.Sights.{writer_or, reader_or, receipt_or}
 use Rattle.cell_triple.specs.Steps.{first_writer, first_reader}
-use Rattle.cell_live.specs.Intervals.{dated}
+use Rattle.cell_contract.specs.Intervals.{dated}
 use Rattle.cell_triple.specs.declared.notes.WriterNotes.{WriterNotes}
 use Rattle.cell_triple.specs.declared.notes.ReaderNotes.{ReaderNotes}
 use Rattle.cell_triple.specs.declared.cell.TripleCell.{TripleCell}

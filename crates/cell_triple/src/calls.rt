@@ -1,17 +1,17 @@
 //! The calls of the triple buffer.
 ghost use Rattle.std.specs.Prelude.{◌≡◌, ℕ, ◌+◌, ◌<◌, ◌≤◌, [], ◌∷◌, ◌++◌, IfOk};
 ghost use Rattle.std.specs.Fn.{FnOnceTakesAt, FnOnceReturnsAt};
-ghost use Rattle.cell_live.specs.Running.{last_or, IsAnswer};
+ghost use Rattle.cell_contract.specs.Running.{last_or, IsAnswer};
 ghost use Rattle.cell_triple.specs.Words.{opening_of, is_put_of, is_get_of, is_told_of, written_by, answers_of, at_hand_of, told_to};
 ghost use Rattle.cell_triple.specs.Words.{named_by, swaps_of_put, loads_of, swaps_of, held_by, found_by, HasLooked};
 ghost use Rattle.cell_triple.specs.Words.{put_times, get_times, numbers_of, known_to, time_of, heard_by, writes_of};
-ghost use Rattle.cell_live.specs.Intervals.{AreHeeded, IsNextAnswer, IsNextCall, no_times, none_known};
+ghost use Rattle.cell_contract.specs.Intervals.{AreHeeded, IsNextAnswer, IsNextCall, no_times, none_known};
 ghost use Rattle.cell_triple.specs.Words.{get_notes};
 ghost use Rattle.cell_triple.specs.Lent.{placed_by};
 
 use crate::cell::{TripleCell, TripleGet, TriplePut, TripleTold};
 use crate::table::TripleTable;
-use cell_live::{Calls, Cell, Kept, Lawful, Lays, Spare, Whole};
+use cell_contract::{Calls, Cell, Kept, Lawful, Lays, Spare, Whole};
 use std::alloc::{AllocError, Global};
 
 /// Takes the middle slot where the word has the mark. The answer is then at hand.

@@ -3,16 +3,16 @@
 //! The word is `middle + 4 * mark`. A write fills the writer's slot and swaps it with the middle, with a mark. A read loads the
 //! word and, where it has the mark, swaps its own slot with the middle, without one; the answer is the record of its slot.
 ghost use Rattle.std.specs.Prelude.{◌≡◌, ℕ, ◌<◌, [], ◌∷◌};
-ghost use Rattle.cell_live.specs.declared.sight.Sight.TheVariants.{Writer, Reader, Told};
-ghost use Rattle.cell_live.specs.Running.{held_slots, snap};
-ghost use Rattle.cell_live.specs.Sights.{writer_or, reader_or, receipt_or};
+ghost use Rattle.cell_contract.specs.declared.sight.Sight.TheVariants.{Writer, Reader, Told};
+ghost use Rattle.cell_contract.specs.Running.{held_slots, snap};
+ghost use Rattle.cell_contract.specs.Sights.{writer_or, reader_or, receipt_or};
 ghost use Rattle.cell_triple.specs.Steps.{first_writer, first_reader};
-ghost use Rattle.cell_live.specs.Intervals.{dated};
+ghost use Rattle.cell_contract.specs.Intervals.{dated};
 
 use crate::notes::TripleSight;
 use crate::table::{TripleSeat, TripleTable};
 use atomic_table::TableRule;
-use cell_live::{Lawful, Spare};
+use cell_contract::{Lawful, Spare};
 
 /// The rule of the table of a triple buffer.
 pub struct Triple;

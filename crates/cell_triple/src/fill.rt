@@ -6,7 +6,7 @@ ghost use Rattle.cell_triple.specs.Lent.{placed_by, put_with};
 ghost use Rattle.cell_triple.specs.contracts.cell.TriplePut.{the_row};
 
 use crate::cell::{TripleCell, TriplePut};
-use cell_live::Lawful;
+use cell_contract::Lawful;
 
 impl<T: Lawful> TriplePut<T> {
     /// Lends the writer's slot, to be filled where the record will lie, until the pass is used again. Makes no access. It still has an

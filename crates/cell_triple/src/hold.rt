@@ -7,7 +7,7 @@ ghost use Rattle.cell_triple.specs.Lent.{IsSame};
 ghost use Rattle.cell_triple.specs.contracts.cell.TripleGet.{the_row};
 
 use crate::cell::{TripleCell, TripleGet};
-use cell_live::Lawful;
+use cell_contract::Lawful;
 
 /// Nothing is written to the place while it is lent.
 #[inline]

@@ -3,15 +3,15 @@ ghost use Rattle.std.specs.Prelude.{◌≡◌, ◌≤◌, ◌+◌, ℕ, ◌∷�
 ghost use mathlib.Core.Option.{some};
 ghost use lib.ListN.{get_elem?};
 ghost use Rattle.atomic_table.specs.Table.{State};
-ghost use Rattle.cell_live.specs.Running.{last_or, Settled};
-ghost use Rattle.cell_live.specs.Intervals.{AreFirst, At};
-ghost use Rattle.register_law.specs.Registers.{intervals, IsReadOf};
+ghost use Rattle.cell_contract.specs.Running.{last_or, Settled};
+ghost use Rattle.cell_contract.specs.Intervals.{AreFirst, At};
+ghost use Rattle.history_core.specs.Registers.{intervals, IsReadOf};
 ghost use Rattle.cell_triple.specs.Steps.{TripleSight};
 
 use crate::cell::Triple;
 use crate::notes;
 use atomic_table::TableRule;
-use cell_live::Lawful;
+use cell_contract::Lawful;
 
 /// Where the rule of a triple buffer holds, the answers are settled against what was written, and the record written last (the
 /// opening where there is none) is in the home slot `middle` where the word has the mark, else in the reader's slot. The writer's

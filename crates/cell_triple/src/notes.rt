@@ -1,5 +1,5 @@
 //! What the seats of a triple buffer know. No value of these types is made.
-use cell_live::{Dated, Known, Sight, Times};
+use cell_contract::{Dated, Known, Sight, Times};
 use std::collections::LinkedList;
 use std::snapshot::Snapshot;
 

@@ -1,10 +1,10 @@
 //! What each step tells.
 ghost use Rattle.cell_triple.specs.Steps.{put_took, get_took, put_swapped, looked, get_swapped, receipt_for, hears_of, whole_of};
-ghost use Rattle.cell_live.specs.declared.sight.Sight.TheVariants.{Spent};
+ghost use Rattle.cell_contract.specs.declared.sight.Sight.TheVariants.{Spent};
 
 use crate::notes::TripleSight;
 use atomic_table::{Join, Play, Split};
-use cell_live::Lawful;
+use cell_contract::Lawful;
 
 pub(crate) struct PutTakes;
 

@@ -5,22 +5,22 @@ ghost use Rattle.std.specs.Fn.{FnOnceTakesAt, FnOnceReturnsAt};
 ghost use mathlib.Core.Option.{none};
 ghost use Rattle.std.specs.declared.snapshot.Snapshot.{Snapshot};
 ghost use Rattle.atomic_table.specs.Table.{step};
-ghost use Rattle.cell_live.specs.Running.{last_or, Settled, held_slots};
-ghost use Rattle.cell_live.specs.Sights.{writer_part, reader_part};
+ghost use Rattle.cell_contract.specs.Running.{last_or, Settled, held_slots};
+ghost use Rattle.cell_contract.specs.Sights.{writer_part, reader_part};
 ghost use Rattle.cell_triple.specs.Steps.{put_took, get_took, put_swapped, looked, get_swapped, first_sight, receipt_for, hears_of};
 ghost use Rattle.cell_triple.specs.Steps.{whole_of};
 ghost use Rattle.cell_triple.specs.Rule.{IsTimed};
-ghost use Rattle.cell_live.specs.Intervals.{AreFirst};
-ghost use Rattle.cell_live.specs.declared.times.Dated.{Dated};
+ghost use Rattle.cell_contract.specs.Intervals.{AreFirst};
+ghost use Rattle.cell_contract.specs.declared.times.Dated.{Dated};
 ghost use Rattle.cell_triple.specs.declared.notes.WriterNotes.{WriterNotes};
 ghost use Rattle.cell_triple.specs.declared.notes.ReaderNotes.{ReaderNotes};
-ghost use Rattle.cell_live.specs.declared.sight.Sight.TheVariants.{Spent, Writer, Reader, Told, Both};
+ghost use Rattle.cell_contract.specs.declared.sight.Sight.TheVariants.{Spent, Writer, Reader, Told, Both};
 
 use crate::cell::Triple;
 use crate::notes::TripleSight;
 use crate::plays::{Ends, GetSwaps, GetTakes, Hears, Looks, PutSwaps, PutTakes, Tells, Yields};
 use atomic_table::{Seat, Table};
-use cell_live::{Lawful, Lays, Parts, empty};
+use cell_contract::{Lawful, Lays, Parts, empty};
 use std::alloc::{AllocError, Global};
 
 /// One word and three slots.

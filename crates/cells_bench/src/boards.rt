@@ -6,7 +6,7 @@ ghost use Rattle.cells_bench.specs.Items.{no_law};
 use crate::boards_at_once;
 use crate::measure::{Batch, Op, per_call, say};
 use board_live::{Board, Pass, Posted, RecordLaw};
-use family_live::{Family, SharedFamily};
+use cell_contract::{Family, SharedFamily};
 use std::alloc::{AllocError, Global};
 use std::io;
 use std::rt::Clock;

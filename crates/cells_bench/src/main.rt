@@ -13,11 +13,10 @@ mod solo;
 
 use board_live::Posted;
 use boards::{Item, PROCESSES};
+use cell_contract::{Cell, SharedFamily};
 use cell_four_slot::FourSlotCell;
-use cell_live::Cell;
 use cell_triple::TripleCell;
 use family_four_slot::FourSlotFamily;
-use family_live::SharedFamily;
 use family_triple::TripleFamily;
 use measure::{Asked, Op};
 use record::{Record, Shared};

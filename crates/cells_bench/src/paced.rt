@@ -2,7 +2,7 @@
 use crate::measure::{clock_cost, quantile, say, since};
 use crate::record::{Record, Shared};
 use crate::sides::{Beats, Side, at_once};
-use cell_live::{Calls, Cell};
+use cell_contract::{Calls, Cell};
 use crossbeam_utils::CachePadded;
 use std::alloc::{AllocError, Global};
 use std::io;

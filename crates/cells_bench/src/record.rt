@@ -1,5 +1,5 @@
 //! Records of some words, with no law.
-use cell_live::{Kept, Lawful};
+use cell_contract::{Kept, Lawful};
 
 /// The words of a record.
 pub trait Words: Copy {

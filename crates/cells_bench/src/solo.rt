@@ -3,7 +3,7 @@ ghost use Rattle.std.specs.Prelude.{◌≡◌, ◌≤◌};
 
 use crate::measure::{Batch, Op, per_call, say};
 use crate::record::{Record, Shared, Words};
-use cell_live::{Calls, Cell};
+use cell_contract::{Calls, Cell};
 use std::alloc::{AllocError, Global};
 use std::io;
 use std::marker::PhantomData;

@@ -1,18 +1,18 @@
 -- What three steps make a call: one access more, with a record or an answer, and the process is at rest again.
 use Rattle.std.proofs.Common.{◌≡◌, ◌≢◌, ℕ, ◌*◌, ◌<◌, Bool, List, [], ◌∷◌, ◌++◌, length, nat_eq, cond, refl, sym, ap, ◌∙◌, subst, arith}
 use Rattle.four_slot_core.specs.Events.{bit_number, slot_number, slot_with}
-use Rattle.cell_live.specs.Running.{last_or, held_slots}
-use Rattle.cell_live.specs.Sights.{writer_or, reader_or}
-use Rattle.cell_live.specs.declared.times.Known.{Known}
-use Rattle.cell_live.specs.declared.times.Times.{Times}
+use Rattle.cell_contract.specs.Running.{last_or, held_slots}
+use Rattle.cell_contract.specs.Sights.{writer_or, reader_or}
+use Rattle.cell_contract.specs.declared.times.Known.{Known}
+use Rattle.cell_contract.specs.declared.times.Times.{Times}
 use Rattle.cell_four_slot.specs.declared.notes.WriterNotes.{WriterNotes}
 use Rattle.cell_four_slot.specs.declared.notes.ReaderNotes.{ReaderNotes}
-use Rattle.cell_live.specs.declared.sight.Sight.TheVariants.{Spent, Writer, Reader}
+use Rattle.cell_contract.specs.declared.sight.Sight.TheVariants.{Spent, Writer, Reader}
 use Rattle.cell_four_slot.specs.Steps.{FourSlotSight, first_writer, first_reader, bit_words, slot_of_choice}
 use Rattle.cell_four_slot.specs.Steps.{begun_with, stored_by, finished_with, asked_by, said_with, got_by, HasAnswered}
-use Rattle.cell_live.specs.Intervals.{AreHeeded, IsNextAnswer}
-use Rattle.cell_live.proofs.ListLaws.{last_snoc}
-use Rattle.family_live.specs.Accesses.{IsAccess, IsReadAccess, IsWriteAccess, KeepsEach, KeepsOthers, ReadAccesses}
+use Rattle.cell_contract.specs.Intervals.{AreHeeded, IsNextAnswer}
+use Rattle.cell_contract.proofs.ListLaws.{last_snoc}
+use Rattle.cell_contract.specs.Accesses.{IsAccess, IsReadAccess, IsWriteAccess, KeepsEach, KeepsOthers, ReadAccesses}
 use Rattle.family_four_slot.specs.declared.family.Stored.{Stored}
 use Rattle.family_table.specs.declared.notes.Process.{Process}
 use Rattle.family_table.specs.Layouts.{shift}

@@ -1,7 +1,7 @@
 -- A column on its way: what its next read needs.
 use Rattle.std.proofs.Common.{◌≡◌, ℕ, sym, ap, ◌∙◌}
-use Rattle.family_live.specs.Rows.{OneByOne, IsReadFrom}
-use Rattle.family_live.proofs.Rows.{column_own}
+use Rattle.cell_contract.specs.Rows.{OneByOne, IsReadFrom}
+use Rattle.cell_contract.proofs.Rows.{column_own}
 use Rattle.family_four_slot.specs.declared.family.FourSlotFamily.{FourSlotFamily}
 use Rattle.family_four_slot.specs.Seated.{FourSlotSeat}
 use Rattle.family_table.specs.Places.{place}

@@ -1,16 +1,16 @@
 -- What a whole call makes of a seat, by what its three steps told.
 use Rattle.std.proofs.Common.{◌≡◌, ◌≢◌, ℕ, ◌<◌, ◌≤◌, arith, length, not, Bool, List, [], ◌∷◌, ◌++◌, set, refl, sym, ap, ◌∙◌, subst}
 use Rattle.four_slot_core.specs.Events.{bit_number, slot_number, slot_with}
-use Rattle.cell_live.specs.Intervals.{AreHeeded}
-use Rattle.cell_live.specs.Running.{held_slots, IsAnswer}
-use Rattle.cell_live.specs.declared.times.Known.{Known}
+use Rattle.cell_contract.specs.Intervals.{AreHeeded}
+use Rattle.cell_contract.specs.Running.{held_slots, IsAnswer}
+use Rattle.cell_contract.specs.declared.times.Known.{Known}
 use Rattle.cell_four_slot.specs.declared.notes.WriterNotes.{WriterNotes}
 use Rattle.cell_four_slot.specs.declared.notes.ReaderNotes.{ReaderNotes}
-use Rattle.cell_live.specs.declared.sight.Sight.TheVariants.{Spent, Writer, Reader}
+use Rattle.cell_contract.specs.declared.sight.Sight.TheVariants.{Spent, Writer, Reader}
 use Rattle.cell_four_slot.specs.Steps.{FourSlotSight, begun_with, stored_by, finished_with, asked_by, said_with, got_by, slot_of_choice}
 use Rattle.cell_four_slot.specs.Steps.{bit_words, HasAnswered}
-use Rattle.cell_live.proofs.ListLaws.{last_snoc}
-use Rattle.family_live.specs.Accesses.{IsAccess, IsReadAccess, IsWriteAccess, KeepsEach, KeepsOthers, ReadAccesses}
+use Rattle.cell_contract.proofs.ListLaws.{last_snoc}
+use Rattle.cell_contract.specs.Accesses.{IsAccess, IsReadAccess, IsWriteAccess, KeepsEach, KeepsOthers, ReadAccesses}
 use Rattle.family_four_slot.specs.declared.family.FourSlotFamily.{FourSlotFamily}
 use Rattle.family_four_slot.specs.Seated.{FourSlotSeat}
 use Rattle.family_four_slot.specs.declared.family.Shown.{Shown}

@@ -1,11 +1,11 @@
 -- A call on one cell leaves what contracts see of each other one.
 use Rattle.std.proofs.Common.{◌≡◌, ◌≢◌, ℕ, ap, inl, inr}
-use Rattle.cell_live.specs.Sights.{writer_or, reader_or}
+use Rattle.cell_contract.specs.Sights.{writer_or, reader_or}
 use Rattle.cell_four_slot.specs.declared.notes.WriterNotes.{WriterNotes}
 use Rattle.cell_four_slot.specs.declared.notes.ReaderNotes.{ReaderNotes}
-use Rattle.cell_live.specs.declared.sight.Sight.TheVariants.{Spent}
+use Rattle.cell_contract.specs.declared.sight.Sight.TheVariants.{Spent}
 use Rattle.cell_four_slot.specs.Steps.{FourSlotSight, first_writer, first_reader}
-use Rattle.family_live.specs.Accesses.{WriteAccesses, ReadAccesses}
+use Rattle.cell_contract.specs.Accesses.{WriteAccesses, ReadAccesses}
 use Rattle.family_table.specs.declared.notes.Process.{Process}
 use Rattle.family_table.specs.Family.{of_cell}
 use Rattle.family_table.specs.Places.{place}

@@ -3,14 +3,14 @@ use Rattle.std.proofs.Common.{◌≡◌, ◌≢◌, ℕ, ◌+◌, ◌*◌, ◌<�
 use Rattle.std.proofs.Common.{mul-le-mul_right}
 use Rattle.std.proofs.lemmas.Bool.{cases_eq, cases_lt}
 use Rattle.four_slot_core.specs.declared.state.ReaderStage.TheVariants as reader
-use Rattle.cell_live.specs.Running.{snap}
-use Rattle.cell_live.specs.Sights.{writer_or, reader_or}
-use Rattle.cell_live.specs.declared.times.Dated.{Dated}
+use Rattle.cell_contract.specs.Running.{snap}
+use Rattle.cell_contract.specs.Sights.{writer_or, reader_or}
+use Rattle.cell_contract.specs.declared.times.Dated.{Dated}
 use Rattle.cell_four_slot.specs.declared.notes.WriterNotes.{WriterNotes}
 use Rattle.cell_four_slot.specs.declared.notes.ReaderNotes.{ReaderNotes}
-use Rattle.cell_live.specs.declared.sight.Sight.TheVariants.{Spent, Told, Writer, Reader, Both}
+use Rattle.cell_contract.specs.declared.sight.Sight.TheVariants.{Spent, Told, Writer, Reader, Both}
 use Rattle.cell_four_slot.specs.Steps.{FourSlotSight, first_writer, first_reader, receipt_for, heard_by as cell_heard, hears_of, word_said}
-use Rattle.family_live.specs.Accesses.{IsHeardRead, KeepsEach, KeepsOthers, ReadAccesses}
+use Rattle.cell_contract.specs.Accesses.{IsHeardRead, KeepsEach, KeepsOthers, ReadAccesses}
 use Rattle.family_four_slot.specs.declared.family.Stored.{Stored}
 use Rattle.family_table.specs.declared.notes.Process.{Process}
 use Rattle.family_table.specs.declared.notes.Receipt.{Receipt}

@@ -7,13 +7,13 @@ use mathlib.Core.Option.{some}
 use lib.ListN.{get_elem?}
 use Rattle.atomic_table.specs.Seated.{TableId}
 use Rattle.history_core.specs.Schedules.{positions}
-use Rattle.cell_live.specs.Sights.{writer_or, reader_or}
+use Rattle.cell_contract.specs.Sights.{writer_or, reader_or}
 use Rattle.cell_four_slot.specs.declared.notes.WriterNotes.{WriterNotes}
 use Rattle.cell_four_slot.specs.declared.notes.ReaderNotes.{ReaderNotes}
-use Rattle.cell_live.specs.declared.sight.Sight.TheVariants.{Spent, Writer, Reader}
+use Rattle.cell_contract.specs.declared.sight.Sight.TheVariants.{Spent, Writer, Reader}
 use Rattle.cell_four_slot.specs.Steps.{FourSlotSight, first_writer, first_reader, receipt_for}
-use Rattle.family_live.specs.Accesses.{WriteAccesses, ReadAccesses, IsUnused, no_writes, no_reads}
-use Rattle.family_live.specs.Ends.{Each, EachTwo, IsSchedule, IsAtomicCell}
+use Rattle.cell_contract.specs.Accesses.{WriteAccesses, ReadAccesses, IsUnused, no_writes, no_reads}
+use Rattle.cell_contract.specs.Ends.{Each, EachTwo, IsSchedule, IsAtomicCell}
 use Rattle.family_four_slot.specs.declared.family.FourSlotFamily.{FourSlotFamily}
 use Rattle.family_four_slot.specs.Seated.{FourSlotSeat}
 use Rattle.family_table.specs.declared.table.FamilySeat.{FamilySeat}

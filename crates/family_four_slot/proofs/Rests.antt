@@ -6,10 +6,10 @@ use Rattle.four_slot_core.specs.declared.state.Slot.{Slot}
 use Rattle.four_slot_core.specs.declared.state.Stage.TheVariants as writer
 use Rattle.four_slot_core.specs.declared.state.ReaderStage.TheVariants as reader
 use Rattle.four_slot_core.specs.Events.{bit_number, slot_number}
-use Rattle.cell_live.specs.Running.{last_or, held_slots}
+use Rattle.cell_contract.specs.Running.{last_or, held_slots}
 use Rattle.cell_four_slot.specs.declared.notes.WriterNotes.{WriterNotes}
 use Rattle.cell_four_slot.specs.declared.notes.ReaderNotes.{ReaderNotes}
-use Rattle.cell_live.specs.declared.sight.Sight.TheVariants.{Spent, Writer, Reader}
+use Rattle.cell_contract.specs.declared.sight.Sight.TheVariants.{Spent, Writer, Reader}
 use Rattle.cell_four_slot.specs.Steps.{FourSlotSight, bit_words, slot_of_choice, word_said, receipt_for}
 use Rattle.cell_four_slot.proofs.Slots.{slot_low}
 use Rattle.family_four_slot.specs.declared.family.Stored.{Stored}

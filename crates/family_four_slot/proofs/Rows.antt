@@ -1,9 +1,9 @@
 -- A row on its way: what its next write needs.
 use Rattle.std.proofs.Common.{◌≡◌, ℕ, ◌-◌, ◌<◌, ◌≤◌, sym, ap, ◌∙◌, subst, arith}
-use Rattle.cell_live.specs.Running.{last_or}
-use Rattle.family_live.specs.Accesses.{WriteAccesses}
-use Rattle.family_live.specs.Rows.{OneByOne, IsWriteTo}
-use Rattle.family_live.proofs.Rows.{not_after, not_before, row_own}
+use Rattle.cell_contract.specs.Running.{last_or}
+use Rattle.cell_contract.specs.Accesses.{WriteAccesses}
+use Rattle.cell_contract.specs.Rows.{OneByOne, IsWriteTo}
+use Rattle.cell_contract.proofs.Rows.{not_after, not_before, row_own}
 use Rattle.family_four_slot.specs.declared.family.FourSlotFamily.{FourSlotFamily}
 use Rattle.family_four_slot.specs.Seated.{FourSlotSeat}
 use Rattle.family_table.specs.Places.{place}

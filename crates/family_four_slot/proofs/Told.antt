@@ -5,13 +5,13 @@ use Rattle.atomic_table.specs.Table.{State, Me, step, Allows}
 use Rattle.four_slot_core.specs.declared.state.Stage.TheVariants as writer
 use Rattle.four_slot_core.specs.declared.state.ReaderStage.TheVariants as reader
 use Rattle.four_slot_core.specs.Events.{bit_number, slot_number, slot_with}
-use Rattle.cell_live.specs.Running.{last_or, held_slots, IsAnswer}
-use Rattle.cell_live.specs.Sights.{writer_or, reader_or}
-use Rattle.cell_live.specs.declared.times.Known.{Known}
+use Rattle.cell_contract.specs.Running.{last_or, held_slots, IsAnswer}
+use Rattle.cell_contract.specs.Sights.{writer_or, reader_or}
+use Rattle.cell_contract.specs.declared.times.Known.{Known}
 use Rattle.cell_four_slot.specs.declared.notes.WriterNotes.{WriterNotes}
 use Rattle.cell_four_slot.specs.declared.notes.ReaderNotes.{ReaderNotes}
-use Rattle.cell_live.specs.declared.sight.Sight.TheVariants.{Spent, Writer, Reader}
-use Rattle.cell_live.specs.Intervals.{AreHeeded}
+use Rattle.cell_contract.specs.declared.sight.Sight.TheVariants.{Spent, Writer, Reader}
+use Rattle.cell_contract.specs.Intervals.{AreHeeded}
 use Rattle.cell_four_slot.specs.Steps.{FourSlotSight, clock_of, begun_with, stored_by, finished_with, asked_by, said_with, got_by}
 use Rattle.cell_four_slot.specs.Steps.{slot_of_choice, HasAnswered}
 use Rattle.cell_four_slot.specs.Steps.{begins as cell_begins, stores as cell_stores, finishes_counting as cell_finishes, asks as cell_asks}

@@ -10,7 +10,7 @@ use Rattle.four_slot_core.specs.declared.state.ReaderStage.TheVariants as reader
 use Rattle.four_slot_core.specs.Invariant.{latest_slot}
 use Rattle.cell_four_slot.specs.declared.notes.WriterNotes.{WriterNotes}
 use Rattle.cell_four_slot.specs.declared.notes.ReaderNotes.{ReaderNotes}
-use Rattle.cell_live.specs.declared.sight.Sight.TheVariants.{Writer, Reader}
+use Rattle.cell_contract.specs.declared.sight.Sight.TheVariants.{Writer, Reader}
 use Rattle.cell_four_slot.specs.Rule.{FourSlotRule, IsTimed, number_in, named_slot}
 use Rattle.cell_four_slot.specs.Steps.{FourSlotSight}
 use Rattle.cell_four_slot.proofs.Timing.{timed_atomic}

@@ -3,7 +3,7 @@ use Rattle.std.specs.Prelude.{◌≡◌, ℕ, ◌*◌, ◌≤◌, nat_eq, cond, 
 use Rattle.atomic_table.specs.Table.{State, Me}
 use Rattle.four_slot_core.specs.declared.state.Stage.TheVariants as writer
 use Rattle.four_slot_core.specs.declared.state.ReaderStage.TheVariants as reader
-use Rattle.cell_live.specs.declared.sight.Sight.TheVariants.{Spent, Writer, Reader}
+use Rattle.cell_contract.specs.declared.sight.Sight.TheVariants.{Spent, Writer, Reader}
 use Rattle.cell_four_slot.specs.Rule.{FourSlotRule}
 use Rattle.cell_four_slot.specs.Steps.{FourSlotSight, first_writer, first_reader, clock_of}
 use Rattle.family_table.specs.declared.notes.Process.{Process}

@@ -2,14 +2,14 @@
 use Rattle.std.specs.Prelude.{◌≡◌, ◌≢◌, ℕ, ◌<◌, ◌≤◌, [], ◌∷◌, length, slice_index}
 use Rattle.atomic_table.specs.Seated.{TableId}
 use Rattle.std.proofs.Common.{arith}
-use Rattle.cell_live.specs.Intervals.{dated}
-use Rattle.cell_live.specs.Running.{snap}
-use Rattle.cell_live.specs.Sights.{receipt_or}
-use Rattle.cell_live.specs.declared.times.Dated.{Dated}
-use Rattle.cell_live.specs.declared.times.Known.{Known}
-use Rattle.cell_live.specs.declared.sight.Sight.TheVariants.{Spent, Told as Tells}
+use Rattle.cell_contract.specs.Intervals.{dated}
+use Rattle.cell_contract.specs.Running.{snap}
+use Rattle.cell_contract.specs.Sights.{receipt_or}
+use Rattle.cell_contract.specs.declared.times.Dated.{Dated}
+use Rattle.cell_contract.specs.declared.times.Known.{Known}
+use Rattle.cell_contract.specs.declared.sight.Sight.TheVariants.{Spent, Told as Tells}
 use Rattle.cell_four_slot.specs.Steps.{FourSlotSight}
-use Rattle.family_live.specs.Accesses.{WriteAccesses, ReadAccesses}
+use Rattle.cell_contract.specs.Accesses.{WriteAccesses, ReadAccesses}
 use Rattle.family_four_slot.specs.declared.family.FourSlotFamily.{FourSlotFamily}
 use Rattle.family_four_slot.specs.declared.family.Stored.{Stored}
 use Rattle.family_table.specs.declared.processes.ProcessSeat.{ProcessSeat}

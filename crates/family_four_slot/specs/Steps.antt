@@ -4,12 +4,12 @@
 use Rattle.std.specs.Prelude.{◌≡◌, ◌≢◌, ℕ, ◌<◌, Bool, List, [], ◌∷◌, ◌++◌}
 use Rattle.atomic_table.specs.Table.{Me, Step}
 use Rattle.four_slot_core.specs.Events.{slot_with, bit_number, slot_number}
-use Rattle.cell_live.specs.Intervals.{AreHeeded}
-use Rattle.cell_live.specs.Running.{IsAnswer, held_slots}
-use Rattle.cell_live.specs.declared.times.Known.{Known}
+use Rattle.cell_contract.specs.Intervals.{AreHeeded}
+use Rattle.cell_contract.specs.Running.{IsAnswer, held_slots}
+use Rattle.cell_contract.specs.declared.times.Known.{Known}
 use Rattle.cell_four_slot.specs.declared.notes.WriterNotes.{WriterNotes}
 use Rattle.cell_four_slot.specs.declared.notes.ReaderNotes.{ReaderNotes}
-use Rattle.cell_live.specs.declared.sight.Sight.TheVariants.{Spent, Writer, Reader}
+use Rattle.cell_contract.specs.declared.sight.Sight.TheVariants.{Spent, Writer, Reader}
 use Rattle.cell_four_slot.specs.Steps.{FourSlotSight, begun_with, stored_by, finished_with, asked_by, said_with, got_by, slot_of_choice}
 use Rattle.cell_four_slot.specs.Steps.{word_said, HasAnswered}
 use Rattle.family_table.specs.declared.notes.Process.{Process}

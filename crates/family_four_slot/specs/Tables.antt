@@ -2,13 +2,13 @@
 use Rattle.std.specs.Prelude.{◌≡◌, ℕ, ◌<◌, List, [], ◌∷◌, length}
 use Rattle.four_slot_core.specs.declared.state.Stage.TheVariants as writer
 use Rattle.four_slot_core.specs.declared.state.ReaderStage.TheVariants as reader
-use Rattle.cell_live.specs.Intervals.{AreAtomic, AreFirst, HaveEnded}
+use Rattle.cell_contract.specs.Intervals.{AreAtomic, AreFirst, HaveEnded}
 use Rattle.family_four_slot.specs.Places.{four_slots}
 use Rattle.atomic_table.specs.Table.{Me}
-use Rattle.cell_live.specs.Running.{held_slots}
+use Rattle.cell_contract.specs.Running.{held_slots}
 use Rattle.cell_four_slot.specs.declared.notes.WriterNotes.{WriterNotes}
 use Rattle.cell_four_slot.specs.declared.notes.ReaderNotes.{ReaderNotes}
-use Rattle.cell_live.specs.declared.sight.Sight.TheVariants.{Spent, Writer, Reader}
+use Rattle.cell_contract.specs.declared.sight.Sight.TheVariants.{Spent, Writer, Reader}
 use Rattle.cell_four_slot.specs.Steps.{FourSlotSight}
 use Rattle.family_table.specs.declared.notes.Process.{Process}
 use Rattle.family_table.specs.declared.notes.View.{View}

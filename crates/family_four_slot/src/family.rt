@@ -1,9 +1,9 @@
 //! The family of four-slot cells, and its calls.
 ghost use Rattle.std.specs.Prelude.{◌≡◌, ◌≢◌, ℕ, ◌<◌, List, [], ◌∷◌, IfOk, vec_len, vec_capacity};
 ghost use Rattle.history_core.specs.Schedules.{positions};
-ghost use Rattle.cell_live.specs.Running.{last_or};
-ghost use Rattle.family_live.specs.Ends.{Each, EachTwo, IsSchedule, IsAtomicCell};
-ghost use Rattle.family_live.specs.Rows.{IsReadFrom, IsWriteTo};
+ghost use Rattle.cell_contract.specs.Running.{last_or};
+ghost use Rattle.cell_contract.specs.Ends.{Each, EachTwo, IsSchedule, IsAtomicCell};
+ghost use Rattle.cell_contract.specs.Rows.{IsReadFrom, IsWriteTo};
 ghost use Rattle.family_table.specs.Places.{place};
 ghost use Rattle.family_four_slot.specs.FourSlots.{first_view};
 ghost use Rattle.family_table.specs.declared.notes.View.TheVariants.{Has};
@@ -17,9 +17,8 @@ ghost use Rattle.family_table.specs.Seated.{sender_of, time_of};
 ghost use Rattle.family_four_slot.specs.Seated.{named_by, carried_by, IsTold, three_are_few, three_steps};
 
 use crate::table::{FamilySeat, FamilyTable};
+use cell_contract::{Family, Kept, Lawful, Sees, SharedFamily};
 use cell_four_slot::{FourSlotSight, bit_of, other_bit, set_bit, slot_of};
-use cell_live::{Kept, Lawful};
-use family_live::{Family, Sees, SharedFamily};
 use family_table::place;
 use family_table::processes::{ProcessSeat, ProcessTold, gathered, show};
 use std::alloc::{AllocError, Global};

@@ -1,6 +1,6 @@
 //! What a family of four-slot cells is of.
 ghost use Rattle.std.specs.Prelude.{refl};
-ghost use Rattle.cell_live.specs.declared.sight.Sight.TheVariants.{Spent};
+ghost use Rattle.cell_contract.specs.declared.sight.Sight.TheVariants.{Spent};
 ghost use Rattle.cell_four_slot.specs.Steps.{hears_of, receipt_for};
 ghost use Rattle.family_four_slot.specs.Places.{four_slots};
 ghost use Rattle.family_four_slot.specs.FourSlots.{CellRule, Idle, first_view};
@@ -8,8 +8,8 @@ ghost use Rattle.family_four_slot.specs.Tables.{Done};
 ghost use Rattle.family_four_slot.specs.Cells.{cell_tells, cell_hears, deaf, mute};
 ghost use Rattle.family_four_slot.specs.Ends.{cell_ends};
 
+use cell_contract::Lawful;
 use cell_four_slot::FourSlotSight;
-use cell_live::Lawful;
 use family_table::mechanism::Mechanism;
 
 /// The mechanism of the registers.

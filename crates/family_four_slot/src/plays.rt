@@ -4,7 +4,7 @@ ghost use Rattle.family_four_slot.specs.Steps.{begins, stores_on, finishes, asks
 
 use crate::notes::FamilySight;
 use atomic_table::Play;
-use cell_live::Lawful;
+use cell_contract::Lawful;
 use std::marker::{Brand, PhantomData};
 
 /// The record of a write, which its first load tells the view.

@@ -7,8 +7,8 @@ use mathlib.Core.Option.{some, none, Option, some-injective, some-ne-none}
 use lib.ListN.{get_elem?}
 use Rattle.atomic_table.specs.Table.{Act, keeps, takes, gives, chain, carried_after, homes_after, Valid}
 use Rattle.atomic_table.proofs.Lists.{set_here, set_else}
-use Rattle.cell_live.specs.Acts.{Proper}
-use Rattle.cell_live.specs.Running.{held_slots}
+use Rattle.cell_contract.specs.Acts.{Proper}
+use Rattle.cell_contract.specs.Running.{held_slots}
 use Rattle.family_table.specs.Layouts.{shift, shift_act, IsInCell, Distinct, Disjoint, Out}
 use Rattle.family_table.proofs.Slices.{in_more, in_less, in_middle, distinct_more, distinct_less, within}
 

@@ -12,8 +12,8 @@ use mathlib.Core.Option.{some, none, Option}
 use lib.ListN.{get_elem?}
 use Rattle.atomic_table.specs.Table.{State, Me, Act, carried_after, homes_after, Valid, stepped, Allows}
 use Rattle.atomic_table.proofs.Lists.{at_set, at_map, at_longer, set_here, set_else}
-use Rattle.cell_live.specs.Acts.{Proper}
-use Rattle.cell_live.specs.Running.{held_slots}
+use Rattle.cell_contract.specs.Acts.{Proper}
+use Rattle.cell_contract.specs.Running.{held_slots}
 use Rattle.family_table.specs.declared.notes.Process.{Process}
 use Rattle.family_table.specs.declared.notes.Receipt.{Receipt}
 use Rattle.family_table.specs.declared.notes.View.{View}

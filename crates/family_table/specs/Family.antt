@@ -5,8 +5,8 @@ use Rattle.std.specs.Prelude.{slice_index_or, slice_set}
 use mathlib.Core.Option.{Option, some, none}
 use lib.ListN.{get_elem?}
 use Rattle.history_core.specs.Schedules.{positions}
-use Rattle.cell_live.specs.Acts.{Proper}
-use Rattle.cell_live.specs.Running.{held_slots}
+use Rattle.cell_contract.specs.Acts.{Proper}
+use Rattle.cell_contract.specs.Running.{held_slots}
 use Rattle.family_table.specs.declared.notes.Process.{Process}
 use Rattle.family_table.specs.declared.notes.Receipt.{Receipt}
 use Rattle.family_table.specs.declared.notes.View.{View}

@@ -1,6 +1,6 @@
 //! The seats of processes, and what all of them have done.
 ghost use Rattle.std.specs.Prelude.{◌≡◌, ◌<◌, List, [], ◌∷◌, vec_len, vec_capacity};
-ghost use Rattle.family_live.specs.Ends.{Each};
+ghost use Rattle.cell_contract.specs.Ends.{Each};
 ghost use Rattle.family_table.specs.declared.notes.Process.{Process};
 ghost use Rattle.family_table.specs.declared.notes.View.TheVariants.{Has};
 ghost use Rattle.family_table.specs.Ends.{AllDone};

@@ -12,8 +12,7 @@ use crate::mechanism::{FamilyLaw, Mechanism};
 use crate::notes::{Opened, Opening, View};
 use crate::plays::{All, First, Gathers, Learns, Repeats, Shows, Tells};
 use atomic_table::{Seat, Table};
-use cell_live::empty;
-use family_live::Sees;
+use cell_contract::{Sees, empty};
 use std::alloc::{AllocError, Global};
 use std::marker::Brand;
 

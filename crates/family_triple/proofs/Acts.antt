@@ -6,8 +6,8 @@ use mathlib.Core.Option.{some, none, Option, some-injective, some-ne-none}
 use lib.ListN.{get_elem?}
 use Rattle.atomic_table.specs.Table.{Act, keeps, takes, gives, chain, carried_after, homes_after, Valid}
 use Rattle.atomic_table.proofs.Lists.{set_here, set_else}
-use Rattle.cell_live.specs.Acts.{ProperAll}
-use Rattle.cell_live.specs.Running.{held_slots}
+use Rattle.cell_contract.specs.Acts.{ProperAll}
+use Rattle.cell_contract.specs.Running.{held_slots}
 use Rattle.family_table.specs.Layouts.{gather, shift, shift_act, Inside, IsInCell, Distinct, Disjoint, Out}
 use Rattle.family_table.proofs.Slices.{gather_at, gather_set, gather_apart, set_long, within}
 

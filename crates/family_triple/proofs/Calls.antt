@@ -3,16 +3,16 @@ use Rattle.std.proofs.Common.{◌≡◌, ◌≢◌, ◌⊎◌, ℕ, ◌+◌, ◌
 use Rattle.std.proofs.Common.{refl, sym, ap, ◌∙◌, subst, arith, ⊎_elim, inl, inr, mul-le-mul_right}
 use Rattle.std.proofs.lemmas.Bool.{cases_eq, cases_lt}
 use Rattle.std.proofs.lemmas.Bool.Decides.{nat_tests}
-use Rattle.cell_live.specs.Intervals.{AreHeeded, IsNextAnswer}
-use Rattle.cell_live.proofs.ListLaws.{last_snoc}
-use Rattle.cell_live.specs.Sights.{writer_or, reader_or}
-use Rattle.cell_live.specs.declared.times.Known.{Known}
-use Rattle.cell_live.specs.declared.times.Times.{Times}
+use Rattle.cell_contract.specs.Intervals.{AreHeeded, IsNextAnswer}
+use Rattle.cell_contract.proofs.ListLaws.{last_snoc}
+use Rattle.cell_contract.specs.Sights.{writer_or, reader_or}
+use Rattle.cell_contract.specs.declared.times.Known.{Known}
+use Rattle.cell_contract.specs.declared.times.Times.{Times}
 use Rattle.cell_triple.specs.declared.notes.WriterNotes.{WriterNotes}
 use Rattle.cell_triple.specs.declared.notes.ReaderNotes.{ReaderNotes}
-use Rattle.cell_live.specs.declared.sight.Sight.TheVariants.{Spent, Writer, Reader}
+use Rattle.cell_contract.specs.declared.sight.Sight.TheVariants.{Spent, Writer, Reader}
 use Rattle.cell_triple.specs.Steps.{TripleSight, first_writer, first_reader, published, answered, HasAnswered}
-use Rattle.family_live.specs.Accesses.{IsAccess, IsReadAccess, IsWriteAccess, KeepsEach, KeepsOthers, ReadAccesses, WriteAccesses}
+use Rattle.cell_contract.specs.Accesses.{IsAccess, IsReadAccess, IsWriteAccess, KeepsEach, KeepsOthers, ReadAccesses, WriteAccesses}
 use Rattle.family_table.specs.declared.notes.Process.{Process}
 use Rattle.family_table.specs.Family.{of_cell, knows}
 use Rattle.family_table.specs.Places.{place}

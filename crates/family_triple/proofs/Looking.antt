@@ -3,8 +3,8 @@ use Rattle.std.proofs.Common.{◌≡◌, ℕ, ◌+◌, ◌*◌, ◌%◌, ◌<◌
 use Rattle.std.proofs.Common.{append-nil}
 use mathlib.Core.Option.{none}
 use Rattle.atomic_table.specs.Table.{Me, step}
-use Rattle.cell_live.specs.Running.{held_slots}
-use Rattle.cell_live.specs.declared.sight.Sight.TheVariants.{Spent, Reader}
+use Rattle.cell_contract.specs.Running.{held_slots}
+use Rattle.cell_contract.specs.declared.sight.Sight.TheVariants.{Spent, Reader}
 use Rattle.cell_triple.specs.declared.notes.ReaderNotes.{ReaderNotes}
 use Rattle.cell_triple.specs.Steps.{TripleSight, looked_by, asked_by, fetched, answered}
 use Rattle.family_table.specs.declared.notes.Process.{Process}

@@ -6,10 +6,10 @@ use mathlib.Core.Option.{some}
 use lib.ListN.{get_elem?, get_or-replicate}
 use Rattle.atomic_table.specs.Seated.{TableId}
 use Rattle.history_core.specs.Schedules.{positions}
-use Rattle.cell_live.specs.declared.sight.Sight.TheVariants.{Spent, Writer, Reader}
+use Rattle.cell_contract.specs.declared.sight.Sight.TheVariants.{Spent, Writer, Reader}
 use Rattle.cell_triple.specs.Steps.{TripleSight}
-use Rattle.family_live.specs.Accesses.{WriteAccesses, ReadAccesses, IsUnused}
-use Rattle.family_live.specs.Ends.{Each, EachTwo, IsSchedule, IsAtomicCell}
+use Rattle.cell_contract.specs.Accesses.{WriteAccesses, ReadAccesses, IsUnused}
+use Rattle.cell_contract.specs.Ends.{Each, EachTwo, IsSchedule, IsAtomicCell}
 use Rattle.family_table.specs.declared.notes.Process.{Process}
 use Rattle.family_table.specs.declared.notes.View.TheVariants.{Has}
 use Rattle.family_table.specs.Family.{of_cell}

@@ -3,7 +3,7 @@ use Rattle.std.proofs.Common.{◌≡◌, ◌≢◌, ℕ, zero, suc, ◌+◌, ◌
 use Rattle.std.proofs.Common.{arith, length-append, mul-le-mul_right}
 use mathlib.Core.Option.{some}
 use lib.ListN.{get_elem?}
-use Rattle.cell_live.specs.Running.{held_slots}
+use Rattle.cell_contract.specs.Running.{held_slots}
 use Rattle.family_triple.specs.Tables.{IsRotated}
 use Rattle.family_triple.proofs.Looking.{unturned}
 use Rattle.family_triple.proofs.Rests.{Replaced}

@@ -10,8 +10,8 @@ use Rattle.history_core.proofs.Positions.{positions_mine, positions_other}
 use Rattle.history_core.proofs.Places.{get_pushed_cases}
 use Rattle.atomic_table.specs.Table.{State, Me, Act, carried_after, homes_after, Valid, stepped}
 use Rattle.atomic_table.proofs.Lists.{at_set, set_here}
-use Rattle.cell_live.specs.Acts.{ProperAll}
-use Rattle.cell_live.specs.Running.{held_slots}
+use Rattle.cell_contract.specs.Acts.{ProperAll}
+use Rattle.cell_contract.specs.Running.{held_slots}
 use Rattle.family_table.specs.declared.notes.Process.{Process}
 use Rattle.family_table.specs.declared.notes.Receipt.{Receipt}
 use Rattle.family_table.specs.declared.notes.View.{View}

@@ -8,11 +8,11 @@ use mathlib.Core.Option.{some}
 use lib.ListN.{get_elem?}
 use Rattle.atomic_table.specs.Table.{Me, turned}
 use Rattle.atomic_table.proofs.Lists.{at_longer}
-use Rattle.cell_live.specs.Running.{held_slots}
-use Rattle.cell_live.specs.Sights.{writer_or, reader_or}
-use Rattle.cell_live.specs.declared.sight.Sight.TheVariants.{Spent, Writer, Reader}
+use Rattle.cell_contract.specs.Running.{held_slots}
+use Rattle.cell_contract.specs.Sights.{writer_or, reader_or}
+use Rattle.cell_contract.specs.declared.sight.Sight.TheVariants.{Spent, Writer, Reader}
 use Rattle.cell_triple.specs.Steps.{TripleSight, first_writer, first_reader, receipt_for}
-use Rattle.family_live.specs.Accesses.{no_writes, no_reads}
+use Rattle.cell_contract.specs.Accesses.{no_writes, no_reads}
 use Rattle.family_table.specs.declared.notes.Process.{Process}
 use Rattle.family_table.specs.declared.notes.View.{View}
 use Rattle.family_table.specs.declared.notes.View.TheVariants.{Has}

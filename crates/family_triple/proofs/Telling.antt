@@ -1,12 +1,12 @@
 -- A receipt tells of each cell of its process's row what the process wrote last, and of other cells nothing.
 use Rattle.std.proofs.Common.{◌≡◌, ◌≢◌, ◌<◌, ℕ, [], refl, sym, ap, ◌∙◌, subst}
 use Rattle.atomic_table.specs.Table.{Me}
-use Rattle.cell_live.specs.Intervals.{dated, known_as}
-use Rattle.cell_live.specs.Running.{snap}
-use Rattle.cell_live.specs.Sights.{receipt_or}
-use Rattle.cell_live.specs.declared.sight.Sight.TheVariants.{Spent, Told as Tells}
+use Rattle.cell_contract.specs.Intervals.{dated, known_as}
+use Rattle.cell_contract.specs.Running.{snap}
+use Rattle.cell_contract.specs.Sights.{receipt_or}
+use Rattle.cell_contract.specs.declared.sight.Sight.TheVariants.{Spent, Told as Tells}
 use Rattle.cell_triple.specs.Steps.{TripleSight, receipt_for, hears_of}
-use Rattle.family_live.specs.Accesses.{WriteAccesses}
+use Rattle.cell_contract.specs.Accesses.{WriteAccesses}
 use Rattle.family_table.specs.declared.notes.View.{View}
 use Rattle.family_table.specs.declared.notes.View.TheVariants.{Told}
 use Rattle.family_table.specs.Family.{of_cell, receipt_of}

@@ -6,13 +6,13 @@ use mathlib.Core.Option.{none, some}
 use lib.ListN.{get_elem?}
 use Rattle.atomic_table.specs.Table.{State, Me, step, Allows, carried_after}
 use Rattle.atomic_table.proofs.Lists.{at_map, at_longer}
-use Rattle.cell_live.specs.Intervals.{AreHeeded}
-use Rattle.cell_live.specs.Running.{last_or, held_slots}
-use Rattle.cell_live.specs.Sights.{writer_or, reader_or}
-use Rattle.cell_live.specs.declared.times.Known.{Known}
+use Rattle.cell_contract.specs.Intervals.{AreHeeded}
+use Rattle.cell_contract.specs.Running.{last_or, held_slots}
+use Rattle.cell_contract.specs.Sights.{writer_or, reader_or}
+use Rattle.cell_contract.specs.declared.times.Known.{Known}
 use Rattle.cell_triple.specs.declared.notes.WriterNotes.{WriterNotes}
 use Rattle.cell_triple.specs.declared.notes.ReaderNotes.{ReaderNotes}
-use Rattle.cell_live.specs.declared.sight.Sight.TheVariants.{Spent, Writer, Reader}
+use Rattle.cell_contract.specs.declared.sight.Sight.TheVariants.{Spent, Writer, Reader}
 use Rattle.cell_triple.specs.Steps.{TripleSight, clock_of, published, looked_by, asked_by, fetched, answered, MayAnswer, HasAnswered}
 use Rattle.cell_triple.specs.Steps.{put_took, get_took, put_swapped, looked, get_swapped}
 use Rattle.cell_triple.proofs.Keeps.{put_takes_at, get_takes_at, puts_at, asks_at, decides_at, gets_at}

@@ -5,7 +5,7 @@ use Rattle.std.proofs.lemmas.List.{map-append}
 use mathlib.Core.Option.{some, Option, some-ne-none, some-injective}
 use lib.ListN.{get_elem?}
 use Rattle.atomic_table.specs.Table.{turned}
-use Rattle.cell_live.specs.Running.{held_slots}
+use Rattle.cell_contract.specs.Running.{held_slots}
 use Rattle.family_table.specs.Layouts.{IsInCell, Distinct, Disjoint, Out}
 use Rattle.family_triple.specs.Tables.{IsRotated}
 

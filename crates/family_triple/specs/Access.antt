@@ -1,13 +1,13 @@
 -- What an access of one cell makes of a seat (this project's own).
 use Rattle.std.specs.Prelude.{◌≡◌, ℕ, ◌<◌, List, [], ◌∷◌, length, slice_index_or}
 use Rattle.atomic_table.specs.Table.{Me}
-use Rattle.cell_live.specs.Intervals.{AreHeeded}
-use Rattle.cell_live.specs.Running.{held_slots}
-use Rattle.cell_live.specs.declared.times.Known.{Known}
-use Rattle.cell_live.specs.declared.sight.Sight.TheVariants.{Spent, Reader}
+use Rattle.cell_contract.specs.Intervals.{AreHeeded}
+use Rattle.cell_contract.specs.Running.{held_slots}
+use Rattle.cell_contract.specs.declared.times.Known.{Known}
+use Rattle.cell_contract.specs.declared.sight.Sight.TheVariants.{Spent, Reader}
 use Rattle.cell_triple.specs.declared.notes.ReaderNotes.{ReaderNotes}
 use Rattle.cell_triple.specs.Steps.{TripleSight, answered, MayAnswer, HasAnswered}
-use Rattle.family_live.specs.Accesses.{IsUnused}
+use Rattle.cell_contract.specs.Accesses.{IsUnused}
 use Rattle.family_table.specs.declared.notes.Process.{Process}
 use Rattle.family_table.specs.declared.notes.View.{View}
 use Rattle.family_table.specs.declared.notes.View.TheVariants.{Has}

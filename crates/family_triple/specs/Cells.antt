@@ -6,7 +6,7 @@ use mathlib.Core.Option.{some}
 use lib.ListN.{get_elem?}
 use Rattle.atomic_table.specs.Table.{State}
 use Rattle.atomic_table.proofs.Lists.{at_snoc, set_again}
-use Rattle.cell_live.specs.declared.sight.Sight.TheVariants.{Spent, Told, Writer, Reader, Both}
+use Rattle.cell_contract.specs.declared.sight.Sight.TheVariants.{Spent, Told, Writer, Reader, Both}
 use Rattle.cell_triple.specs.Rule.{Sees}
 use Rattle.cell_triple.specs.Steps.{TripleSight, first_writer, first_reader, receipt_for, hears_of}
 use Rattle.cell_triple.proofs.Keeps.{reseated_by, tells_by, hears_by, starts_by}

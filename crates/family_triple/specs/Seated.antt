@@ -2,14 +2,14 @@
 use Rattle.std.specs.Prelude.{◌≡◌, ◌≢◌, ℕ, ◌<◌, ◌≤◌, [], ◌∷◌}
 use Rattle.atomic_table.specs.Seated.{TableId}
 use Rattle.std.proofs.Common.{arith}
-use Rattle.cell_live.specs.Intervals.{dated}
-use Rattle.cell_live.specs.Running.{snap}
-use Rattle.cell_live.specs.Sights.{receipt_or}
-use Rattle.cell_live.specs.declared.times.Dated.{Dated}
-use Rattle.cell_live.specs.declared.times.Known.{Known}
-use Rattle.cell_live.specs.declared.sight.Sight.TheVariants.{Spent, Told as Tells}
+use Rattle.cell_contract.specs.Intervals.{dated}
+use Rattle.cell_contract.specs.Running.{snap}
+use Rattle.cell_contract.specs.Sights.{receipt_or}
+use Rattle.cell_contract.specs.declared.times.Dated.{Dated}
+use Rattle.cell_contract.specs.declared.times.Known.{Known}
+use Rattle.cell_contract.specs.declared.sight.Sight.TheVariants.{Spent, Told as Tells}
 use Rattle.cell_triple.specs.Steps.{TripleSight}
-use Rattle.family_live.specs.Accesses.{WriteAccesses, ReadAccesses, IsUnused}
+use Rattle.cell_contract.specs.Accesses.{WriteAccesses, ReadAccesses, IsUnused}
 use Rattle.family_table.specs.declared.notes.View.TheVariants.{Told, Has}
 use Rattle.family_table.specs.Family.{of_cell}
 use Rattle.family_table.specs.Places.{place, writer_of}

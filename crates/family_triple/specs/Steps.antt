@@ -2,12 +2,12 @@
 -- write or decides a read. The cell is the one whose word the step is on (this project's own).
 use Rattle.std.specs.Prelude.{◌≡◌, ℕ, ◌%◌, ◌<◌, ◌≤◌, List, [], ◌∷◌, slice_set}
 use Rattle.atomic_table.specs.Table.{Me, Step}
-use Rattle.cell_live.specs.Intervals.{AreHeeded}
-use Rattle.cell_live.specs.Running.{held_slots}
-use Rattle.cell_live.specs.declared.times.Known.{Known}
+use Rattle.cell_contract.specs.Intervals.{AreHeeded}
+use Rattle.cell_contract.specs.Running.{held_slots}
+use Rattle.cell_contract.specs.declared.times.Known.{Known}
 use Rattle.cell_triple.specs.declared.notes.WriterNotes.{WriterNotes}
 use Rattle.cell_triple.specs.declared.notes.ReaderNotes.{ReaderNotes}
-use Rattle.cell_live.specs.declared.sight.Sight.TheVariants.{Spent, Writer, Reader}
+use Rattle.cell_contract.specs.declared.sight.Sight.TheVariants.{Spent, Writer, Reader}
 use Rattle.cell_triple.specs.Steps.{TripleSight, published, looked_by, asked_by, fetched, answered, MayAnswer, HasAnswered}
 use Rattle.family_table.specs.declared.notes.Process.{Process}
 use Rattle.family_table.specs.declared.notes.View.{View}

@@ -1,11 +1,11 @@
 -- What the seat of a process has of a cell (this project's own).
 use Rattle.std.specs.Prelude.{◌≡◌, ℕ, ◌<◌, List, [], ◌∷◌, ◌++◌, length}
 use Rattle.atomic_table.specs.Table.{Me}
-use Rattle.cell_live.specs.Intervals.{AreAtomic, AreFirst, HaveEnded}
-use Rattle.cell_live.specs.Running.{held_slots}
+use Rattle.cell_contract.specs.Intervals.{AreAtomic, AreFirst, HaveEnded}
+use Rattle.cell_contract.specs.Running.{held_slots}
 use Rattle.cell_triple.specs.declared.notes.WriterNotes.{WriterNotes}
 use Rattle.cell_triple.specs.declared.notes.ReaderNotes.{ReaderNotes}
-use Rattle.cell_live.specs.declared.sight.Sight.TheVariants.{Spent, Writer, Reader}
+use Rattle.cell_contract.specs.declared.sight.Sight.TheVariants.{Spent, Writer, Reader}
 use Rattle.cell_triple.specs.Steps.{TripleSight}
 use Rattle.family_table.specs.declared.notes.Process.{Process}
 use Rattle.family_table.specs.declared.notes.View.{View}

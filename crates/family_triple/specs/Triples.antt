@@ -1,7 +1,7 @@
 -- A family of triple buffers (this project's own).
 use Rattle.std.specs.Prelude.{ℕ, ◌*◌, ◌≤◌, nat_eq, cond, []}
 use Rattle.atomic_table.specs.Table.{State}
-use Rattle.cell_live.specs.declared.sight.Sight.TheVariants.{Spent, Writer, Reader}
+use Rattle.cell_contract.specs.declared.sight.Sight.TheVariants.{Spent, Writer, Reader}
 use Rattle.cell_triple.specs.Rule.{TripleRule}
 use Rattle.cell_triple.specs.Steps.{TripleSight, first_writer, first_reader}
 use Rattle.family_table.specs.declared.notes.Process.{Process}

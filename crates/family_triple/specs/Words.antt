@@ -2,13 +2,13 @@
 use Rattle.std.specs.Prelude.{◌≡◌, ◌≢◌, ℕ, ◌+◌, ◌*◌, ◌-◌, ◌<◌, nat_eq, cond, List, length, slice_index_or}
 use mathlib.Core.Option.{some}
 use lib.ListN.{get_elem?}
-use Rattle.cell_live.specs.Running.{held_slots}
-use Rattle.cell_live.specs.Sights.{writer_or, reader_or}
+use Rattle.cell_contract.specs.Running.{held_slots}
+use Rattle.cell_contract.specs.Sights.{writer_or, reader_or}
 use Rattle.cell_triple.specs.declared.notes.WriterNotes.{WriterNotes}
 use Rattle.cell_triple.specs.declared.notes.ReaderNotes.{ReaderNotes}
-use Rattle.cell_live.specs.declared.sight.Sight.TheVariants.{Spent, Writer, Reader}
+use Rattle.cell_contract.specs.declared.sight.Sight.TheVariants.{Spent, Writer, Reader}
 use Rattle.cell_triple.specs.Steps.{TripleSight, first_writer, first_reader, receipt_for}
-use Rattle.family_live.specs.Accesses.{WriteAccesses, ReadAccesses}
+use Rattle.cell_contract.specs.Accesses.{WriteAccesses, ReadAccesses}
 use Rattle.family_table.specs.declared.notes.Process.{Process}
 use Rattle.family_table.specs.Family.{of_cell}
 use Rattle.family_table.specs.Places.{place, writer_of}

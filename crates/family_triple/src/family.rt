@@ -1,8 +1,8 @@
 //! The family of triple buffers, and its calls.
 ghost use Rattle.std.specs.Prelude.{◌≡◌, ◌≢◌, ℕ, ◌≤◌, ◌<◌, List, [], ◌∷◌, IfOk, vec_len, vec_capacity};
 ghost use Rattle.history_core.specs.Schedules.{positions};
-ghost use Rattle.family_live.specs.Ends.{Each, EachTwo, IsSchedule, IsAtomicCell};
-ghost use Rattle.family_live.specs.Rows.{IsReadFrom};
+ghost use Rattle.cell_contract.specs.Ends.{Each, EachTwo, IsSchedule, IsAtomicCell};
+ghost use Rattle.cell_contract.specs.Rows.{IsReadFrom};
 ghost use Rattle.family_table.specs.Places.{place};
 ghost use Rattle.family_table.specs.declared.notes.View.TheVariants.{Has};
 ghost use Rattle.family_triple.specs.Triples.{first_view};
@@ -17,9 +17,8 @@ ghost use Rattle.family_triple.specs.Seated.{named_by, carried_by, IsTold, one_i
 
 use crate::slots::{among, newest, take_slots, turn_by};
 use crate::table::{FamilySeat, FamilyTable, slot_place};
-use cell_live::{Kept, Lawful};
+use cell_contract::{Family, Kept, Lawful, Sees, SharedFamily};
 use cell_triple::TripleSight;
-use family_live::{Family, Sees, SharedFamily};
 use family_table::place;
 use family_table::processes::{ProcessSeat, ProcessTold, gathered, show};
 use std::alloc::{AllocError, Global};

@@ -1,6 +1,6 @@
 //! What a family of triple buffers is of.
 ghost use Rattle.std.specs.Prelude.{refl};
-ghost use Rattle.cell_live.specs.declared.sight.Sight.TheVariants.{Spent};
+ghost use Rattle.cell_contract.specs.declared.sight.Sight.TheVariants.{Spent};
 ghost use Rattle.cell_triple.specs.Steps.{hears_of, receipt_for};
 ghost use Rattle.family_triple.specs.Places.{triples};
 ghost use Rattle.family_triple.specs.Triples.{CellRule, Any, first_view};
@@ -8,7 +8,7 @@ ghost use Rattle.family_triple.specs.Tables.{Done};
 ghost use Rattle.family_triple.specs.Cells.{cell_tells, cell_hears, deaf, mute};
 ghost use Rattle.family_triple.specs.Ends.{cell_ends};
 
-use cell_live::Lawful;
+use cell_contract::Lawful;
 use cell_triple::TripleSight;
 use family_table::mechanism::Mechanism;
 

@@ -3,7 +3,7 @@ ghost use Rattle.family_triple.specs.Steps.{put_takes, get_takes, publishes, loo
 
 use crate::notes::FamilySight;
 use atomic_table::Play;
-use cell_live::Lawful;
+use cell_contract::Lawful;
 
 pub(crate) struct PutTakes;
 

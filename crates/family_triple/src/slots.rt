@@ -13,7 +13,7 @@ ghost use Rattle.family_triple.specs.Tables.{HasReader};
 ghost use Rattle.family_triple.specs.Triples.{first_process};
 
 use crate::table::{FamilySeat, FamilyTable};
-use cell_live::Lawful;
+use cell_contract::Lawful;
 use family_table::place;
 
 /// The number of process `j` among the others of process `i`.

@@ -3,7 +3,7 @@
 ghost use Rattle.std.specs.Prelude.{◌≡◌, ℕ, ◌+◌, ◌*◌, ◌-◌, ◌<◌, ◌≤◌, List, [], ◌∷◌, IfOk};
 ghost use mathlib.Core.Option.{none};
 ghost use Rattle.atomic_table.specs.Table.{step, turned};
-ghost use Rattle.cell_live.specs.Running.{last_or};
+ghost use Rattle.cell_contract.specs.Running.{last_or};
 ghost use Rattle.cell_triple.specs.declared.notes.WriterNotes.{WriterNotes};
 ghost use Rattle.cell_triple.specs.declared.notes.ReaderNotes.{ReaderNotes};
 ghost use Rattle.cell_triple.specs.Steps.{TripleSight, hears_of, receipt_for};
@@ -15,9 +15,8 @@ ghost use Rattle.family_triple.specs.Tables.{HasWriter, HasReader, IsEnded};
 
 use crate::mechanism::TripleMechanism;
 use crate::plays::{Fetches, GetTakes, Looks, Publishes, PutTakes};
-use cell_live::Lawful;
+use cell_contract::{Lawful, Sees};
 use cell_triple::TripleSight;
-use family_live::Sees;
 use family_table::table::Rows;
 use std::alloc::{AllocError, Global};
 

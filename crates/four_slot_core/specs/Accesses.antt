@@ -2,7 +2,7 @@
 -- Computing 1, 1986): when the slot accesses are clear of each other, and which reads are fresh. Only the order of the positions
 -- counts.
 use Rattle.std.specs.Prelude.{◌≡◌, ℕ, ◌+◌, ◌<◌, ◌≤◌, Option, Some, IsSome, ◌⊎◌}
-use Rattle.register_law.specs.Registers.{Intervals, IsBefore, IsReadOf}
+use Rattle.history_core.specs.Registers.{Intervals, IsBefore, IsReadOf}
 
 -- the accesses of one side: the position of each event of each access (W1 and R1 are event 0), none where it isn't made; and
 -- the slot of each access, none where it isn't chosen

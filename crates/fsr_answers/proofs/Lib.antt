@@ -1,2 +1,3 @@
 pub mod LowStatus
-pub mod ProgramLemmas
+pub mod AnswerLemmas
+pub mod RaceLemmas

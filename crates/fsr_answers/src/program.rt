@@ -1,24 +1,22 @@
-ghost use Rattle.std.specs.Prelude.{◌≡◌, ◌≤◌, ◌+◌, Some, map};
-ghost use Rattle.fsr_runs.specs.Answers.{GivesReply};
-ghost use Rattle.fsr_runs.specs.Run.{CountsTaking, Fails, Runs, TakesDocument, TellsUnlessTaken};
+ghost use Rattle.std.specs.Prelude.{◌≡◌, ◌≤◌, ◌+◌};
+ghost use Rattle.program_runs.specs.Answers.{GivesReply};
+ghost use Rattle.program_runs.specs.Run.{CountsTaking, Fails, IsToldBy, Runs, TakesDocument, TellsUnlessTaken};
 ghost use Rattle.fsr_answers.specs.Answers.{IsFsrAnswer};
-ghost use Rattle.fsr_answers.specs.Run.{is_unbounded, IsFsrOutcome};
-ghost use Rattle.fsr_words.specs.Command.{command_of};
-ghost use Rattle.fsr_streams.specs.Stream.{HasRoom};
+ghost use Rattle.fsr_answers.specs.Run.{is_unbounded};
+ghost use Rattle.program_streams.specs.Stream.{HasRoom};
 
-use crate::order::order;
+use crate::races::run_race;
 use board_live::Posted;
-use family_live::{Family, SharedFamily};
+use cell_contract::{Family, SharedFamily};
 use fsr_check_answers::check;
+use fsr_order_answers::{order, take_log};
 use fsr_play_answers::play;
-use fsr_race_answers::run_race;
-use fsr_runs::{Answer, FSR, Fault, give_answer, take_document};
-use fsr_streams::{Sink, Source};
-use fsr_words::{Want, command_of, tell_refusal};
+use fsr_words::Want;
 use history_core::Band;
-use lines_answers::take_log;
+use program_runs::{Answer, Command, FSR, Fault, Program, run_command, take_document};
+use program_streams::{Sink, Source};
 use std::alloc::Global;
-use std::convert::AsStr;
+use std::marker::PhantomData;
 use std::thread::Threads;
 
 /// The answer of a command to the bytes of a document. A race is run over a board of this family.
@@ -41,37 +39,60 @@ where
     }
 }
 
-/// Runs the program over its words, of which the first is its name, and its streams, and gives the status that it ends with.
-/// The text goes to `out`, and what is to be told besides goes to `faults`, whose failures change no status.
-pub fn run<
-    'a,
-    F: SharedFamily<Posted<Band>>,
-    R: Threads + Sync,
-    S: AsStr,
-    I: Source,
-    O: Sink,
-    E: Sink,
->(rt: &R, alloc: Global, words: &'a [S], input: &mut I, out: &mut O, faults: &mut E) -> u8
-where
-    F::Seat: Send,
-    F::Told: Send,
+/// Takes the input of a command: a log in lines to its end, and any other document as far as a run reads one. Or tells why it was not read
+/// and gives the status that the run ends with.
+fn take_input<I: Source, E: Sink>(
+    alloc: Global,
+    program: &Program,
+    want: Want,
+    input: &mut I,
+    faults: &mut E,
+) -> Result<Vec<u8>, u8>
     requires input { HasRoom (I.failed input.old) }
-    requires out { HasRoom (O.failed out.old) }
     requires faults { HasRoom (E.failed faults.old) }
-    ensures runs { Runs (IsFsrOutcome ⟦<F as Family<Posted<Band>>>⟧ (command_of (map S.text words.now)))
-        (is_unbounded (command_of (map S.text words.now))) (I.remaining input.old) (I.remaining input.new)
-        (O.contents out.old) (O.contents out.new) result }
-    ensures fails { Fails (I.failed input.old) (I.failed input.new) (O.failed out.old)
-        (O.failed out.new) result }
-    ensures faults { E.failed faults.new ≤ E.failed faults.old + 1 }
+    ensures taken { TakesDocument (is_unbounded want) (I.remaining input.old) (I.remaining input.new) result }
+    ensures counts { CountsTaking (I.failed input.old) (I.failed input.new) result }
+    ensures faults { TellsUnlessTaken (E.failed faults.old) (E.failed faults.new) result }
 {
-    match command_of(alloc, words) {
-        Ok(want) => run_command::<F, R, I, O, E>(rt, alloc, want, input, out, faults),
-        Err(refusal) => tell_refusal(alloc, FSR.no_memory, refusal, faults),
+    match want {
+        Want::Order(_) => take_log(alloc, program, input, faults),
+        Want::Check | Want::Play | Want::Race => take_document(alloc, program, input, faults),
     }
 }
 
-fn run_command<F: SharedFamily<Posted<Band>>, R: Threads + Sync, I: Source, O: Sink, E: Sink>(
+/// A command of `fsr`, whose races are run in threads over boards of this family.
+struct Asked<'a, F, R> {
+    rt: &'a R,
+    want: Want,
+    family: PhantomData<F>,
+}
+
+impl<F: SharedFamily<Posted<Band>>, R: Threads + Sync> Command for Asked<'_, F, R>
+where
+    F::Seat: Send,
+    F::Told: Send,
+{
+    ghost is_reply = { λ self bytes reply. IsFsrAnswer ⟦<F as Family<Posted<Band>>>⟧ self.want bytes reply };
+    ghost is_unbounded = { λ self. is_unbounded self.want };
+
+    fn take<I: Source, E: Sink>(
+        &self,
+        alloc: Global,
+        program: &Program,
+        input: &mut I,
+        faults: &mut E,
+    ) -> Result<Vec<u8>, u8> {
+        take_input(alloc, program, self.want, input, faults)
+    }
+
+    fn reply(&self, alloc: Global, bytes: &[u8]) -> Result<Answer, Fault> {
+        answer::<F, R>(self.rt, alloc, self.want, bytes)
+    }
+}
+
+/// Runs a command over the streams of `fsr`, and gives the status that the run ends with. The text goes to `out`, and what is to be told
+/// besides goes to `faults`, whose failures change no status.
+pub fn run<F: SharedFamily<Posted<Band>>, R: Threads + Sync, I: Source, O: Sink, E: Sink>(
     rt: &R,
     alloc: Global,
     want: Want,
@@ -85,38 +106,16 @@ where
     requires input { HasRoom (I.failed input.old) }
     requires out { HasRoom (O.failed out.old) }
     requires faults { HasRoom (E.failed faults.old) }
-    ensures runs { Runs (IsFsrOutcome ⟦<F as Family<Posted<Band>>>⟧ (Some want))
-        (is_unbounded (Some want)) (I.remaining input.old) (I.remaining input.new)
-        (O.contents out.old) (O.contents out.new) result }
+    ensures runs { Runs (IsToldBy (IsFsrAnswer ⟦<F as Family<Posted<Band>>>⟧ want)) (is_unbounded want)
+        (I.remaining input.old) (I.remaining input.new) (O.contents out.old) (O.contents out.new) result }
     ensures fails { Fails (I.failed input.old) (I.failed input.new) (O.failed out.old)
         (O.failed out.new) result }
     ensures faults { E.failed faults.new ≤ E.failed faults.old + 1 }
 {
-    match take_input(alloc, want, input, faults) {
-        Ok(bytes) => {
-            let reply = answer::<F, R>(rt, alloc, want, bytes.as_slice());
-            give_answer(alloc, &FSR, reply, out, faults)
-        }
-        Err(status) => status,
-    }
-}
-
-/// Takes the input of a command: a log in lines to its end, and any other document as far as a run reads one. Or tells why it was not read
-/// and gives the status that the run ends with.
-fn take_input<I: Source, E: Sink>(
-    alloc: Global,
-    want: Want,
-    input: &mut I,
-    faults: &mut E,
-) -> Result<Vec<u8>, u8>
-    requires input { HasRoom (I.failed input.old) }
-    requires faults { HasRoom (E.failed faults.old) }
-    ensures taken { TakesDocument (is_unbounded (Some want)) (I.remaining input.old) (I.remaining input.new) result }
-    ensures counts { CountsTaking (I.failed input.old) (I.failed input.new) result }
-    ensures faults { TellsUnlessTaken (E.failed faults.old) (E.failed faults.new) result }
-{
-    match want {
-        Want::Order(_) => take_log(alloc, input, faults),
-        Want::Check | Want::Play | Want::Race => take_document(alloc, &FSR, input, faults),
-    }
+    let asked = Asked::<F, R> {
+        rt,
+        want,
+        family: PhantomData,
+    };
+    run_command(alloc, &FSR, &asked, input, out, faults)
 }

@@ -1,15 +1,15 @@
 -- The answer to a history with an order of it, from what the calls of `check` gave, and that its status is 0 or 1.
 use Rattle.std.proofs.Common.{rules, arith, ◌≡◌, ◌≤◌, ℕ, List, Result, Ok, Err, ap, sym, subst}
-use Rattle.fsr_streams.specs.Exits.{status_of}
+use Rattle.program_streams.specs.Exits.{status_of}
 use Rattle.history_core.specs.Orders.{IsVerdict}
 use Rattle.history_core.specs.declared.history.Verdict.{Verdict}
 use Rattle.history_core.specs.declared.history.Verdict.TheVariants.{Lawful, Listing, Precedence, Reading, Limit}
-use Rattle.history_text.specs.Check.{check_of}
-use Rattle.history_text.specs.declared.document.CheckDocument.{CheckDocument}
-use Rattle.fsr_refusals.specs.declared.refusal.DocError.{DocError}
-use Rattle.fsr_runs.specs.Answers.{AnswersReading, GivesReply, HasLowStatus}
-use Rattle.fsr_runs.specs.declared.fault.Answer.{Answer}
-use Rattle.fsr_runs.specs.declared.fault.Fault.{Fault}
+use Rattle.read_history.specs.Check.{check_of}
+use Rattle.read_history.specs.declared.document.CheckDocument.{CheckDocument}
+use Rattle.read_document.specs.declared.refusal.DocError.{DocError}
+use Rattle.program_runs.specs.Answers.{AnswersReading, GivesReply, HasLowStatus}
+use Rattle.program_runs.specs.declared.fault.Answer.{Answer}
+use Rattle.program_runs.specs.declared.fault.Fault.{Fault}
 use Rattle.history_core.proofs.Bands.{HaveSameFields, fields_are_equality}
 use Rattle.fsr_check_answers.specs.Check.{AnswersCheck, IsCheckAnswer, exit_of, printed}
 

@@ -1,19 +1,19 @@
 -- The answer to a document of kind `check`: the verdict on its order with its status, or the fault (this project's own).
 use Rattle.std.specs.Prelude.{◌≡◌, ℕ, List, Result, Ok, Err}
-use Rattle.fsr_streams.specs.Exits.{status_of}
-use Rattle.fsr_streams.specs.declared.exit.Exit.{Exit}
-use Rattle.fsr_streams.specs.declared.exit.Exit.TheVariants as exit
+use Rattle.program_streams.specs.Exits.{status_of}
+use Rattle.program_streams.specs.declared.exit.Exit.{Exit}
+use Rattle.program_streams.specs.declared.exit.Exit.TheVariants as exit
 use Rattle.history_core.specs.Orders.{IsVerdict}
 use Rattle.history_core.specs.declared.band.Band.{Band}
 use Rattle.history_core.specs.declared.history.History.{History}
 use Rattle.history_core.specs.declared.history.Verdict.{Verdict}
 use Rattle.history_core.specs.declared.history.Verdict.TheVariants.{Lawful, Listing, Precedence, Reading, Limit}
-use Rattle.history_text.specs.Check.{check_of}
-use Rattle.history_text.specs.Verdicts.{verdict_text}
-use Rattle.history_text.specs.declared.document.CheckDocument.{CheckDocument}
-use Rattle.fsr_runs.specs.Answers.{AnswersReading}
-use Rattle.fsr_runs.specs.declared.fault.Answer.{Answer}
-use Rattle.fsr_runs.specs.declared.fault.Fault.{Fault}
+use Rattle.read_history.specs.Check.{check_of}
+use Rattle.read_history.specs.Verdicts.{verdict_text}
+use Rattle.read_history.specs.declared.document.CheckDocument.{CheckDocument}
+use Rattle.program_runs.specs.Answers.{AnswersReading}
+use Rattle.program_runs.specs.declared.fault.Answer.{Answer}
+use Rattle.program_runs.specs.declared.fault.Fault.{Fault}
 
 -- how a run with this verdict ends
 abbrev pub exit_of : Verdict → Exit

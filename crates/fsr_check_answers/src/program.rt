@@ -1,11 +1,11 @@
 ghost use Rattle.std.specs.Prelude.{◌≤◌, ◌+◌};
 ghost use Rattle.fsr_check_answers.specs.Check.{IsCheckAnswer};
-ghost use Rattle.fsr_runs.specs.Run.{Fails, IsToldBy, never, Runs};
-ghost use Rattle.fsr_streams.specs.Stream.{HasRoom};
+ghost use Rattle.program_runs.specs.Run.{Fails, IsToldBy, never, Runs};
+ghost use Rattle.program_streams.specs.Stream.{HasRoom};
 
 use crate::verdict::check;
-use fsr_runs::{Answer, Command, FSR, Fault, run_command};
-use fsr_streams::{Sink, Source};
+use program_runs::{Answer, Command, FSR, Fault, Program, run_command, take_document};
+use program_streams::{Sink, Source};
 use std::alloc::Global;
 
 /// The command `check`.
@@ -13,6 +13,17 @@ struct Check;
 
 impl Command for Check {
     ghost is_reply = { λ _ bytes reply. IsCheckAnswer bytes reply };
+    ghost is_unbounded = { λ _. never };
+
+    fn take<I: Source, E: Sink>(
+        &self,
+        alloc: Global,
+        program: &Program,
+        input: &mut I,
+        faults: &mut E,
+    ) -> Result<Vec<u8>, u8> {
+        take_document(alloc, program, input, faults)
+    }
 
     fn reply(&self, alloc: Global, bytes: &[u8]) -> Result<Answer, Fault> {
         check(alloc, bytes)

@@ -1,12 +1,12 @@
 ghost use Rattle.std.specs.Prelude.{◌≡◌, IfOk};
-ghost use Rattle.fsr_runs.specs.Answers.{GivesReply};
+ghost use Rattle.program_runs.specs.Answers.{GivesReply};
 ghost use Rattle.fsr_check_answers.specs.Check.{AnswersCheck, IsCheckAnswer, exit_of, printed};
 
-use fsr_runs::{Answer, Fault};
-use fsr_streams::Exit;
 use history_check::check_order;
 use history_core::{Items, Verdict};
-use history_text::{CheckDocument, read_check_leaking, verdict_text};
+use program_runs::{Answer, Fault};
+use program_streams::Exit;
+use read_history::{CheckDocument, read_check_leaking, verdict_text};
 use std::alloc::{AllocError, Global};
 
 /// The answer of the command `check` to the bytes of a document: the verdict on its order.

@@ -2,7 +2,7 @@
 #![tactic(auto)]
 
 use fsr_play_answers::run;
-use fsr_streams::Over;
+use program_streams::Over;
 use std::process::ExitCode;
 
 fn main(rt: HostRuntime) -> ExitCode {

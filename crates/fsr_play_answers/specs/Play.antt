@@ -1,27 +1,25 @@
 -- The answer to a document of a schedule: the text of the report of its run, or the fault (this project's own).
-use Rattle.std.specs.Prelude.{◌≡◌, ◌↔◌, ℕ, Bool, List, codes, IsTrue, Result, Ok, Err}
-use Rattle.fsr_streams.specs.Exits.{status_of}
-use Rattle.fsr_streams.specs.declared.exit.Exit.TheVariants.{Sound}
-use Rattle.fsr_runs.specs.Answers.{AnswersReading}
-use Rattle.fsr_runs.specs.declared.fault.Answer.{Answer}
-use Rattle.fsr_runs.specs.declared.fault.Fault.{Fault}
-use Rattle.fsr_runs.specs.declared.fault.Fault.TheVariants as fault
-use Rattle.cell_answers.specs.Cells.{AnswersCell, IsCellPlayAnswer}
+use Rattle.std.specs.Prelude.{◌≡◌, ℕ, Bool, List, Result, Ok, Err}
+use Rattle.program_streams.specs.Exits.{status_of}
+use Rattle.program_streams.specs.declared.exit.Exit.TheVariants.{Sound}
+use Rattle.program_runs.specs.Answers.{AnswersReading}
+use Rattle.program_runs.specs.declared.fault.Answer.{Answer}
+use Rattle.program_runs.specs.declared.fault.Fault.{Fault}
+use Rattle.program_runs.specs.declared.fault.Fault.TheVariants as fault
+use Rattle.fsr_play_answers.specs.Cells.{AnswersCell}
 use Rattle.history_core.specs.Schedules.{HasOperations, IsFirstOverrun, Span}
 use Rattle.history_core.specs.declared.band.Band.{Band}
-use Rattle.matrix_board_play.specs.BoardReports.{IsBoardReport}
+use Rattle.composed_play.specs.BoardReports.{IsBoardReport}
 use Rattle.matrix_core.specs.Runs.{board_spans, spans_of}
 use Rattle.matrix_play.specs.MatrixReports.{IsMatrixReport}
 use Rattle.matrix_core.specs.declared.schedule.BoardSchedule.{BoardSchedule}
 use Rattle.matrix_core.specs.declared.schedule.MatrixSchedule.{MatrixSchedule}
-use Rattle.serde_json.specs.Data.{Data}
-use Rattle.report_text.specs.Text.{text_of}
-use Rattle.report_text.specs.declared.report.Report.{Report}
-use Rattle.report_text.specs.declared.report.Report.TheVariants as report
-use Rattle.document_text.specs.Document.{is_kind, value_of}
-use Rattle.schedule_text.specs.Document.{schedule_of}
-use Rattle.schedule_text.specs.declared.document.ScheduleDocument.{ScheduleDocument}
-use Rattle.schedule_text.specs.declared.document.ScheduleDocument.TheVariants.{Cell, Matrix, Board}
+use Rattle.print_report.specs.Text.{text_of}
+use Rattle.print_report.specs.declared.report.Report.{Report}
+use Rattle.print_report.specs.declared.report.Report.TheVariants as report
+use Rattle.read_schedule.specs.Document.{schedule_of}
+use Rattle.read_schedule.specs.declared.document.ScheduleDocument.{ScheduleDocument}
+use Rattle.read_schedule.specs.declared.document.ScheduleDocument.TheVariants.{Cell, Matrix, Board}
 
 -- the text of the report of a schedule, with the status of one that was played
 abbrev pub printed : Report → Answer
@@ -54,8 +52,3 @@ AnswersSchedule (Board schedule titled) reply = AnswersBoard schedule titled rep
 -- the answer of the command `play` to the bytes of a document
 abbrev pub IsPlayAnswer : List ℕ → Result Answer Fault → Type 0
 IsPlayAnswer bytes reply = AnswersReading AnswersSchedule (schedule_of bytes) reply
-
--- Of a document of kind `cell` it is the answer of the program that has these alone.
-abbrev pub AnswersCellsAlike : Type 0
-AnswersCellsAlike = (bytes : List ℕ) (d : Data) → value_of bytes ≡ Ok d → IsTrue (is_kind (codes "cell") d) →
-    (reply : Result Answer Fault) → IsPlayAnswer bytes reply ↔ IsCellPlayAnswer bytes reply

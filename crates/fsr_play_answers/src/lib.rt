@@ -2,7 +2,7 @@
 //! alone.
 #![tactic(auto)]
 
-pub mod laws;
+mod cell_answer;
 mod plays;
 mod program;
 

@@ -1,22 +1,22 @@
 //! Played schedules: the report of each, printed.
 ghost use Rattle.std.specs.Prelude.{◌≡◌, IfOk};
-ghost use Rattle.fsr_runs.specs.Answers.{GivesReply};
-ghost use Rattle.document_text.specs.Refusals.{Gives as Reads};
+ghost use Rattle.program_runs.specs.Answers.{GivesReply};
+ghost use Rattle.read_document.specs.Refusals.{Gives as Reads};
 ghost use Rattle.matrix_core.specs.Runs.{CanPlay};
-ghost use Rattle.schedule_text.specs.Document.{schedule_of};
-ghost use Rattle.schedule_text.specs.Players.{CanBePlayed};
+ghost use Rattle.read_schedule.specs.Document.{schedule_of};
+ghost use Rattle.read_schedule.specs.Players.{CanBePlayed};
 ghost use Rattle.fsr_play_answers.specs.Play.{AnswersBoard, AnswersMatrix, IsPlayAnswer, printed};
 
-use cell_answers::cell;
-use document_text::{DocError, read_value};
-use fsr_runs::{Answer, Fault};
-use fsr_streams::Exit;
+use crate::cell;
+use composed_play::play_board;
 use history_core::Band;
-use matrix_board_play::play_board;
 use matrix_core::{BoardSchedule, MatrixSchedule};
 use matrix_play::play_matrix;
-use report_text::{Report, report_text_leaking};
-use schedule_text::{ScheduleDocument, schedule_document};
+use print_report::{Report, report_text_leaking};
+use program_runs::{Answer, Fault};
+use program_streams::Exit;
+use read_document::{DocError, read_value};
+use read_schedule::{ScheduleDocument, schedule_document};
 use std::alloc::{AllocError, Global};
 use std::mem::forget;
 
@@ -33,7 +33,7 @@ pub fn play(alloc: Global, bytes: &[u8]) -> Result<Answer, Fault>
 
 /// The schedule that the bytes stand for. The JSON value that they are is left unfreed: a run reads one document and ends, and
 /// the value goes with the process.
-#[tactic(auto, unfolding(schedule_text::specs::Document::schedule_of))]
+#[tactic(auto, unfolding(read_schedule::specs::Document::schedule_of))]
 fn read(alloc: Global, bytes: &[u8]) -> Result<ScheduleDocument, DocError>
     ensures document { Reads (λ d. d) result (schedule_of bytes.now) }
     ensures playable { IfOk result CanBePlayed }

@@ -1,11 +1,11 @@
 ghost use Rattle.std.specs.Prelude.{◌≤◌, ◌+◌};
 ghost use Rattle.fsr_play_answers.specs.Play.{IsPlayAnswer};
-ghost use Rattle.fsr_runs.specs.Run.{Fails, IsToldBy, never, Runs};
-ghost use Rattle.fsr_streams.specs.Stream.{HasRoom};
+ghost use Rattle.program_runs.specs.Run.{Fails, IsToldBy, never, Runs};
+ghost use Rattle.program_streams.specs.Stream.{HasRoom};
 
 use crate::plays::play;
-use fsr_runs::{Answer, Command, FSR, Fault, run_command};
-use fsr_streams::{Sink, Source};
+use program_runs::{Answer, Command, FSR, Fault, Program, run_command, take_document};
+use program_streams::{Sink, Source};
 use std::alloc::Global;
 
 /// The command `play`.
@@ -13,6 +13,17 @@ struct Play;
 
 impl Command for Play {
     ghost is_reply = { λ _ bytes reply. IsPlayAnswer bytes reply };
+    ghost is_unbounded = { λ _. never };
+
+    fn take<I: Source, E: Sink>(
+        &self,
+        alloc: Global,
+        program: &Program,
+        input: &mut I,
+        faults: &mut E,
+    ) -> Result<Vec<u8>, u8> {
+        take_document(alloc, program, input, faults)
+    }
 
     fn reply(&self, alloc: Global, bytes: &[u8]) -> Result<Answer, Fault> {
         play(alloc, bytes)

@@ -11,9 +11,7 @@ use Rattle.clap.specs.declared.error.kind.ErrorKind.TheVariants as kind
 use Rattle.clap.specs.declared.parser.matches.ArgMatches.{ArgMatches}
 use Rattle.clap.proofs.OnLiterals.{clap_on_literals}
 use Rattle.fsr_words.specs.declared.command.Want.{Want}
-use Rattle.fsr_words.specs.Command.{fsr, command_of, file_in, file_of, is_true, want_in, want_named, Refuses, TellsRefusal}
-use Rattle.fsr_words.specs.declared.command.NoCommand.{NoCommand}
-use Rattle.fsr_words.specs.declared.command.NoCommand.TheVariants.{NoMemory, Refused, Unknown}
+use Rattle.fsr_words.specs.Command.{fsr, command_of, file_in, file_of, is_true, want_in, want_named}
 
 pub fsr_is_simple : is_simple fsr ≡ true
 unfolding clap_on_literals
@@ -80,14 +78,6 @@ refused a words e is_fsr faults other =
     let has : HasKind (fault_of fsr words) e =
     subst (λ b. HasKind (fault_of b words) e) is_fsr (faults (ap is_simple_and_free is_fsr ∙ fsr_is_free)) in
     rw (some_kind _ e other has) refl
-
--- a run whose words are no command ends as one of no command, or without memory
-pub ends_refused : (e : NoCommand) (found : Option Want) (status : ℕ) → Refuses e found → TellsRefusal e status
-    → ((status ≡ 2) × (found ≡ None)) ⊎ (status ≡ 4)
-ends_refused NoMemory found status refuses told = inr told
-ends_refused (Refused e) found status refuses (inl two) = inl (two, refuses)
-ends_refused (Refused e) found status refuses (inr four) = inr four
-ends_refused Unknown found status refuses two = inl (two, refuses)
 
 -- the matches of the subcommand name a file, or there is no subcommand
 pub file_among : (o : Option (Text × List Row)) (rows : List Row) (file : Option Text) → Some rows ≡ option_map (λ p. p.1) o

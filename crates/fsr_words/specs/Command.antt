@@ -5,7 +5,10 @@ use Rattle.clap.specs.Words.{App, Row, Rule, Shape, Text, first_of, new_app, new
 use Rattle.clap.specs.Walk.{is_empty}
 use Rattle.clap.specs.Simple.{on_top}
 use Rattle.clap.specs.declared.builder.action.ArgAction.TheVariants.{SetTrue}
-use Rattle.fsr_words.specs.declared.show.Show.{Show}
+use Rattle.program_runs.specs.declared.show.Show.{Show}
+use Rattle.clap.specs.Words.{kind_of}
+use Rattle.clap.specs.declared.error.Error.{Error}
+use Rattle.clap.specs.declared.error.kind.ErrorKind.TheVariants.{DisplayHelp, DisplayVersion}
 use Rattle.fsr_words.specs.declared.command.NoCommand.{NoCommand}
 use Rattle.fsr_words.specs.declared.command.NoCommand.TheVariants.{Refused, Unknown, NoMemory}
 use Rattle.fsr_words.specs.declared.command.Want.{Want}
@@ -27,7 +30,7 @@ over_a_log = (with_rule (with_rule (with_rule (new_app (codes "order")) (new_rul
 -- the command line of `fsr`: one of the subcommands is required
 abbrev pub fsr : App
 fsr =
-    let none : App = on_top (λ s. record s { subcommand_required = true }) (new_app (codes "fsr")) in
+    let none : App = on_top (λ s. record s { subcommand_required = true; has_version = true }) (new_app (codes "fsr")) in
     with_subcommand (with_subcommand (with_subcommand (with_subcommand none (over_a_document (codes "check")))
     over_a_log) (over_a_document (codes "play"))) (over_a_document (codes "race"))
 
@@ -71,8 +74,18 @@ Refuses NoMemory found = Unit {0}
 Refuses (Refused e) found = found ≡ None
 Refuses Unknown found = found ≡ None
 
--- the status of a run whose words are no command: 2, or that of want of memory
-abbrev pub TellsRefusal : NoCommand → ℕ → Type 0
-TellsRefusal NoMemory status = status ≡ 4
-TellsRefusal (Refused e) status = (status ≡ 2) ⊎ (status ≡ 4)
-TellsRefusal Unknown status = status ≡ 2
+-- what clap says is what was asked for, help or the version, and no refusal
+abbrev pub WasAskedFor : Error → Type 0
+WasAskedFor e = (kind_of e ≡ DisplayHelp) ⊎ (kind_of e ≡ DisplayVersion)
+
+-- How a run ends in which clap has something to say, by what had gone out before and after: with status 0 if that was asked for, or 5 if
+-- it couldn't be written, and with 2 if the words are refused, when nothing goes out. Or with 4, if memory ran out.
+pub record TellsError (e : Error) (old new : Option (List ℕ)) (status : ℕ) : Type 0 where
+  pub asked : WasAskedFor e → (status ≡ 0) ⊎ ((status ≡ 5) ⊎ (status ≡ 4))
+  pub refused : (WasAskedFor e → ⊥) → ((status ≡ 2) ⊎ (status ≡ 4)) × (new ≡ old)
+
+-- how a run ends whose words are no command
+abbrev pub TellsRefusal : NoCommand → Option (List ℕ) → Option (List ℕ) → ℕ → Type 0
+TellsRefusal NoMemory old new status = (status ≡ 4) × (new ≡ old)
+TellsRefusal (Refused e) old new status = TellsError e old new status
+TellsRefusal Unknown old new status = (status ≡ 2) × (new ≡ old)

@@ -3,9 +3,9 @@ ghost use Rattle.clap.specs.Words.{app_of, found_of, rows_of, rule_of, subcomman
 ghost use Rattle.fsr_words.specs.Command.{fsr, command_of, file_in, file_of, flag, is_told, over_a_document, over_a_log, show_in, want_in};
 ghost use Rattle.fsr_words.specs.Command.{want_named, Refuses};
 
-use crate::Show;
 use clap::error::ErrorKind;
 use clap::{Arg, ArgAction, ArgMatches, Command, Error};
+use program_runs::Show;
 use std::alloc::{AllocError, Global};
 use std::convert::AsStr;
 
@@ -18,15 +18,25 @@ pub enum Want {
     Race,
 }
 
+/// A command, and the file that it takes its document from, if one is named.
+#[derive(Clone, Copy, Debug)]
+pub struct Asked<'a> {
+    pub want: Want,
+    pub file: Option<&'a str>,
+}
+
 /// Why words are no command.
 #[derive(Drop)]
 pub enum NoCommand {
-    /// Among them a request for help.
+    /// Among them requests for help and for the version.
     Refused(Error),
     /// The line has a subcommand that no command stands for.
     Unknown,
     NoMemory,
 }
+
+/// The version, that of all parts.
+const VERSION: &str = "2.1.0";
 
 /// The help that names what each command reads.
 const FORMATS: &str = "What each command reads, as docs/FORMATS.md has it:
@@ -82,6 +92,7 @@ fn command_line<'a>(alloc: Global) -> Result<Command<'a>, AllocError>
 {
     let line = Command::new(alloc, "fsr")
         .about("Reads a document from a file or from standard input")
+        .version(VERSION)
         .after_help(FORMATS)
         .subcommand_required(true);
     let line = with_command(
@@ -146,41 +157,28 @@ fn is_told(found: &ArgMatches<'_>, flag: &str) -> bool
     }
 }
 
-/// The command that the words name. The first word is the program's name.
-pub fn command_of<'a, S: AsStr>(alloc: Global, words: &'a [S]) -> Result<Want, NoCommand>
-    ensures ok { IfOk result (λ want. command_of (map S.text words.now) ≡ Some want) }
+/// What the words ask for. The first word is the program's name.
+pub fn asked_of<'a, S: AsStr>(alloc: Global, words: &'a [S]) -> Result<Asked<'a>, NoCommand>
+    ensures want { IfOk result (λ asked. command_of (map S.text words.now) ≡ Some asked.want) }
+    ensures file { IfOk result (λ asked. option_map (λ name. name.now) asked.file ≡ file_of (map S.text words.now)) }
     ensures err { IfErr result (λ e. Refuses e (command_of (map S.text words.now))) }
 {
     let Ok(line) = command_line(alloc) else {
         return Err(NoCommand::NoMemory);
     };
     match line.try_get_matches_from(words) {
-        Ok(matches) => match want_in(&matches) {
-            Some(want) => Ok(want),
-            None => Err(NoCommand::Unknown),
-        },
+        Ok(matches) => {
+            let file = file_in(&matches);
+            match want_in(&matches) {
+                Some(want) => Ok(Asked { want, file }),
+                None => Err(NoCommand::Unknown),
+            }
+        }
         Err(e) => {
             if e.kind() == ErrorKind::OutOfMemory {
                 Err(NoCommand::NoMemory)
             } else {
                 Err(NoCommand::Refused(e))
-            }
-        }
-    }
-}
-
-/// The file that the words name for the document, if they are a command.
-pub fn file_of<'a, S: AsStr>(alloc: Global, words: &'a [S]) -> Result<Option<&'a str>, AllocError>
-    ensures { IfOk result (λ file. option_map (λ name. name.now) file ≡ file_of (map S.text words.now)) }
-{
-    let line = command_line(alloc)?;
-    match line.try_get_matches_from(words) {
-        Ok(matches) => Ok(file_in(&matches)),
-        Err(e) => {
-            if e.kind() == ErrorKind::OutOfMemory {
-                Err(AllocError)
-            } else {
-                Ok(None)
             }
         }
     }

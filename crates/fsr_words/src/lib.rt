@@ -3,8 +3,6 @@
 
 mod command;
 mod refusal;
-mod show;
 
-pub use command::{NoCommand, Want, command_of, file_of};
+pub use command::{Asked, NoCommand, Want, asked_of};
 pub use refusal::{tell_refusal, tell_unopened};
-pub use show::Show;

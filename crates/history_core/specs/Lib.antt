@@ -8,3 +8,4 @@ pub mod Others
 pub mod Reasons
 pub mod Schedules
 pub mod Searches
+pub mod Registers

@@ -1,15 +1,17 @@
 //! Laws over the definitions.
 
-ghost use Rattle.std.specs.Prelude.{◌≡◌, ℕ, List, ◌∷◌, ◌++◌, IsTrue, length, slice_get, Some};
+ghost use Rattle.std.specs.Prelude.{◌≡◌, ℕ, List, ◌∷◌, ◌++◌, IsTrue, length, slice_get, Some, []};
 ghost use Rattle.history_core.specs.declared.history.Kind.TheVariants.{Write};
 ghost use Rattle.history_core.specs.declared.history.Op.{Op};
 ghost use Rattle.history_core.specs.declared.history.Term.{Term};
 ghost use Rattle.history_core.specs.declared.history.Verdict.{Verdict};
 ghost use Rattle.history_core.specs.declared.history.Verdict.TheVariants.{Lawful};
-ghost use Rattle.history_core.specs.Joined.{HasFirstTerm, IsInTurn, ops_of, order_after, order_from, Part, StaysBehind, terms_after};
-ghost use Rattle.history_core.specs.Joined.{terms_from};
+ghost use Rattle.history_core.specs.Joined.{HasFirstTerm, IsInTurn, ops_of, order_after, order_from, Part, StaysBehind};
+ghost use Rattle.history_core.specs.Joined.{terms_after, terms_from};
 ghost use Rattle.history_core.specs.Numbers.{IsByNumber};
-ghost use Rattle.history_core.specs.Orders.{HasNoWrites, IsAtomicOrder, IsVerdict, KeepsPrecedence, latest, ListsPlaces, RefusesLawfully};
+ghost use Rattle.history_core.specs.Orders.{HasNoWrites, IsAtomicOrder, IsVerdict, KeepsPrecedence, latest};
+ghost use Rattle.history_core.specs.Orders.{ListsPlaces, RefusesLawfully};
+ghost use Rattle.history_core.specs.Registers.{Intervals, IsAlone, IsRegular, one_long_write, two_short_reads};
 
 /// An order by number keeps precedence.
 pub fn order_by_number<R>()
@@ -56,4 +58,17 @@ pub fn parts_join<R>()
         RefusesLawfully (terms_from 0 parts) (ops_of parts) (order_from 0 parts) }
     ensures last { (opening last : R) (parts : List (Part R)) → IsInTurn (λ x y. x ≡ y) opening parts last →
         latest opening (ops_of parts) (order_from 0 parts) ≡ Some last }
+{}
+
+/// A regular register is safe: a read that meets no write answers the last record written before it.
+pub fn regular_is_safe<R>()
+    ensures { (opening : R) (written : List R) (writes : Intervals) (answers : List R) (numbers : List ℕ) (reads : Intervals) (m last : ℕ)
+        (answer : R) → IsRegular opening written writes answers numbers reads → IsAlone writes reads m last →
+        slice_get answers m ≡ Some answer → slice_get (opening ∷ written) last ≡ Some answer }
+{}
+
+/// A regular register may answer out of order: of two reads beside one write of 8 over 7 the first may have 8, and the second 7. So a
+/// register whose calls are atomic promises more.
+pub fn regular_may_fall()
+    ensures { IsRegular {T = ℕ} 7 (8 ∷ []) one_long_write (8 ∷ 7 ∷ []) (1 ∷ 0 ∷ []) two_short_reads }
 {}

@@ -3,14 +3,14 @@ use Rattle.std.proofs.Common.{◌≡◌, ℕ, List, [], ◌∷◌, ◌++◌, len
 use Rattle.std.proofs.Common.{Bool, true, false, ◌⊎◌, inl, inr, append_assoc}
 use Rattle.std.specs.Prelude.{◌==◌, not, if◌then◌else◌}
 use Rattle.std.proofs.lemmas.List.{append-nil}
-use Rattle.fsr_refusals.specs.declared.refusal.DocError.{DocError}
-use Rattle.fsr_refusals.specs.declared.refusal.DocError.TheVariants.{Missing}
-use Rattle.fsr_refusals.specs.declared.key.Key.TheVariants as key
+use Rattle.read_document.specs.declared.refusal.DocError.{DocError}
+use Rattle.read_document.specs.declared.refusal.DocError.TheVariants.{Missing}
+use Rattle.read_document.specs.declared.key.Key.TheVariants as key
 use Rattle.history_core.specs.declared.history.Op.{Op}
-use Rattle.document_text.specs.Refusals.{◌>>=◌}
-use Rattle.fsr_runs.specs.declared.fault.Fault.{Fault}
-use Rattle.document_text.specs.Splits.{in_front, IsSplit, lines_of}
-use Rattle.lines_text.specs.Lines.{done, LineEntry, entry_of, Head, head_of, operation}
+use Rattle.read_document.specs.Refusals.{◌>>=◌}
+use Rattle.program_runs.specs.declared.fault.Fault.{Fault}
+use Rattle.read_document.specs.Splits.{in_front, IsSplit, lines_of}
+use Rattle.read_line.specs.Lines.{done, LineEntry, entry_of, Head, head_of, operation}
 use Rattle.lines_log.specs.Faults.{IsBodyFault, is_last, IsLineFault}
 use Rattle.lines_log.specs.Logs.{AreAll, AreLines, IsLinesLog, is_refused, judged, judged_line}
 use Rattle.std.specs.Prelude.{is_some, MatchOption, unwrap_or}

@@ -2,11 +2,11 @@
 use Rattle.std.proofs.Common.{◌≡◌, ◌≢◌, ◌⊎◌, inl, inr, ℕ, List, Bool, Result, Ok, Err, refl, ap, ◌∙◌, subst}
 use Rattle.std.specs.Prelude.{is_some}
 use Rattle.std.specs.Str.{IsTrimAsciiEnd}
-use Rattle.fsr_refusals.specs.declared.refusal.DocError.{DocError}
-use Rattle.fsr_refusals.specs.declared.refusal.DocError.TheVariants.{Kind, Law, Long, Missing, NoMemory, NotJson, Range, Shape}
-use Rattle.fsr_runs.specs.declared.fault.Fault.{Fault}
-use Rattle.document_text.specs.Splits.{IsSplit, lines_of}
-use Rattle.lines_text.specs.Lines.{Head, head_of}
+use Rattle.read_document.specs.declared.refusal.DocError.{DocError}
+use Rattle.read_document.specs.declared.refusal.DocError.TheVariants.{Kind, Law, Long, Missing, NoMemory, NotJson, Range, Shape}
+use Rattle.program_runs.specs.declared.fault.Fault.{Fault}
+use Rattle.read_document.specs.Splits.{IsSplit, lines_of}
+use Rattle.read_line.specs.Lines.{Head, head_of}
 use Rattle.lines_log.specs.Faults.{IsBodyFault, IsLinesFault, refused_at}
 
 is_memory : (why : DocError) → (why ≡ NoMemory) ⊎ (why ≢ NoMemory)

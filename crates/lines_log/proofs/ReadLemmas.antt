@@ -10,20 +10,20 @@ use Rattle.history_core.specs.declared.history.Kind.TheVariants.{Write, Read, Re
 use Rattle.history_core.specs.Orders.{is_write}
 use Rattle.history_core.specs.Reasons.{counts}
 use Rattle.history_thinning.specs.inner.Kept.{IsThinning}
-use Rattle.fsr_runs.specs.declared.fault.Fault.{Fault}
-use Rattle.fsr_runs.specs.declared.fault.Fault.TheVariants.{NoMemory}
+use Rattle.program_runs.specs.declared.fault.Fault.{Fault}
+use Rattle.program_runs.specs.declared.fault.Fault.TheVariants.{NoMemory}
 use Rattle.history_core.specs.declared.reason.SearchError.{SearchError}
 use Rattle.history_thinning.specs.Answers.{IsThinnedFault}
 use Rattle.history_core.proofs.Places.{get_pushed_cases}
 use Rattle.history_core.specs.declared.history.Op.{Op}
-use Rattle.lines_tables.specs.Numberings.{AreDistinct, IsNumbering}
-use Rattle.lines_tables.specs.Tasks.{KnowsTasks, Overlap}
-use Rattle.lines_tables.specs.declared.numbering.Numbering.{Numbering}
-use Rattle.lines_text.specs.Lines.{has_record, IsAllowed, op_seen}
-use Rattle.lines_text.specs.declared.line.LineOp.{LineOp}
+use Rattle.read_line.specs.Numberings.{AreDistinct, IsNumbering}
+use Rattle.read_line.specs.Tasks.{KnowsTasks, Overlap}
+use Rattle.read_line.specs.declared.numbering.Numbering.{Numbering}
+use Rattle.read_line.specs.Lines.{has_record, IsAllowed, op_seen}
+use Rattle.read_line.specs.declared.line.LineOp.{LineOp}
 use Rattle.lines_log.specs.Faults.{IsLineFault, IsOverlap, told_of}
-use Rattle.lines_tables.specs.Reads.{KnowsReads}
-use Rattle.lines_tables.specs.Places.{line_at}
+use Rattle.read_line.specs.Reads.{KnowsReads}
+use Rattle.read_line.specs.Places.{line_at}
 use Rattle.lines_log.specs.Logs.{AreLines, IsItem, IsNumberedOp, judged_line, unfinished_in}
 use Rattle.lines_log.specs.inner.Numbers.{Grow, IsNumberedNow}
 use Rattle.lines_log.specs.inner.Readings.{IsEntryFault, AreRead}

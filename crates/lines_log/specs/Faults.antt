@@ -7,17 +7,17 @@ use Rattle.history_core.specs.declared.reason.SearchError.{SearchError}
 use Rattle.history_core.specs.declared.reason.SearchError.TheVariants as search_error
 use Rattle.history_thinning.specs.Answers.{IsThinnedFault}
 use Rattle.history_thinning.specs.Thinnings.{Equal}
-use Rattle.fsr_refusals.specs.declared.refusal.DocError.{DocError}
-use Rattle.fsr_refusals.specs.declared.refusal.DocError.TheVariants.{Law, NoMemory as no_memory, NotJson}
-use Rattle.fsr_refusals.specs.declared.key.Key.TheVariants.{End}
-use Rattle.fsr_runs.specs.declared.fault.Fault.{Fault}
-use Rattle.fsr_runs.specs.declared.fault.Fault.TheVariants as fault
-use Rattle.fsr_runs.specs.declared.fault.LinesFault.TheVariants.{Refused, Backwards, Overlaps, WritesOpening, WritesTwice}
-use Rattle.lines_tables.specs.Numberings.{AreDistinct}
-use Rattle.document_text.specs.Splits.{lines_of}
-use Rattle.lines_tables.specs.Places.{line_at}
-use Rattle.lines_tables.specs.Tasks.{Overlap, TakeTurns}
-use Rattle.lines_text.specs.Lines.{Head, head_of}
+use Rattle.read_document.specs.declared.refusal.DocError.{DocError}
+use Rattle.read_document.specs.declared.refusal.DocError.TheVariants.{Law, NoMemory as no_memory, NotJson}
+use Rattle.read_document.specs.declared.key.Key.TheVariants.{End}
+use Rattle.program_runs.specs.declared.fault.Fault.{Fault}
+use Rattle.program_runs.specs.declared.fault.Fault.TheVariants as fault
+use Rattle.program_runs.specs.declared.fault.LinesFault.TheVariants.{Refused, Backwards, Overlaps, WritesOpening, WritesTwice}
+use Rattle.read_line.specs.Numberings.{AreDistinct}
+use Rattle.read_document.specs.Splits.{lines_of}
+use Rattle.read_line.specs.Places.{line_at}
+use Rattle.read_line.specs.Tasks.{Overlap, TakeTurns}
+use Rattle.read_line.specs.Lines.{Head, head_of}
 use Rattle.lines_log.specs.Logs.{AreLines, judged_line}
 
 -- how a refusal of this line is told

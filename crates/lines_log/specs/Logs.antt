@@ -6,17 +6,17 @@ use Rattle.std.specs.Str.{IsTrimAsciiEnd}
 use Rattle.history_core.specs.declared.history.Kind.{Kind}
 use Rattle.history_core.specs.declared.history.Kind.TheVariants.{Write, Read, Refused}
 use Rattle.history_core.specs.declared.history.Op.{Op}
-use Rattle.fsr_refusals.specs.declared.refusal.DocError.{DocError}
-use Rattle.fsr_refusals.specs.declared.refusal.DocError.TheVariants.{Law, Missing, Shape}
-use Rattle.fsr_refusals.specs.declared.key.Key.TheVariants as key
-use Rattle.document_text.specs.Refusals.{◌>>=◌}
+use Rattle.read_document.specs.declared.refusal.DocError.{DocError}
+use Rattle.read_document.specs.declared.refusal.DocError.TheVariants.{Law, Missing, Shape}
+use Rattle.read_document.specs.declared.key.Key.TheVariants as key
+use Rattle.read_document.specs.Refusals.{◌>>=◌}
 use Rattle.history_thinning.specs.Thinnings.{IsThinnedLog}
 use Rattle.lines_log.specs.declared.lines_log.LinesLog.{LinesLog}
-use Rattle.lines_tables.specs.Numberings.{AreDistinct}
-use Rattle.lines_tables.specs.Reads.{WereRead}
-use Rattle.document_text.specs.Splits.{lines_of}
-use Rattle.lines_tables.specs.Tasks.{TakeTurns}
-use Rattle.lines_text.specs.Lines.{LineEntry, operation, done, entry_of, Head, head_of}
+use Rattle.read_line.specs.Numberings.{AreDistinct}
+use Rattle.read_line.specs.Reads.{WereRead}
+use Rattle.read_document.specs.Splits.{lines_of}
+use Rattle.read_line.specs.Tasks.{TakeTurns}
+use Rattle.read_line.specs.Lines.{LineEntry, operation, done, entry_of, Head, head_of}
 
 abbrev pub is_refused : Kind → Bool
 is_refused Write = false

@@ -1,12 +1,12 @@
 //! How faults are told.
 ghost use Rattle.std.specs.Prelude.{◌≡◌, ◌⊎◌, IfOk};
-ghost use Rattle.fsr_runs.specs.declared.fault.Fault.TheVariants.{NoMemory};
+ghost use Rattle.program_runs.specs.declared.fault.Fault.TheVariants.{NoMemory};
 ghost use Rattle.lines_log.specs.Faults.{refused_at, told_of};
 
-use document_text::{DocError, Key};
-use fsr_runs::{Fault, LinesFault};
 use history_core::SearchError;
-use lines_tables::line_of;
+use program_runs::{Fault, LinesFault};
+use read_document::{DocError, Key};
+use read_line::line_of;
 use std::alloc::AllocError;
 
 /// How a refusal of this line is told.

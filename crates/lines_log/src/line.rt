@@ -1,12 +1,12 @@
 //! One line behind the header.
 ghost use Rattle.std.specs.Prelude.{true, IfOk, IfSome, option_map};
-ghost use Rattle.document_text.specs.Refusals.{Gives};
+ghost use Rattle.read_document.specs.Refusals.{Gives};
 ghost use Rattle.lines_log.specs.Logs.{judged, judged_line};
-ghost use Rattle.lines_text.specs.Lines.{done, IsAllowed, operation, op_seen};
+ghost use Rattle.read_line.specs.Lines.{done, IsAllowed, operation, op_seen};
 
-use document_text::{DocError, Key};
 use history_core::Kind;
-use lines_text::{LineOp, LogLine, read_line};
+use read_document::{DocError, Key};
+use read_line::{LineOp, LogLine, read_line};
 use std::alloc::Global;
 
 /// The operation of a line that stands behind so many operations, or none where it ends the log.

@@ -4,16 +4,15 @@ ghost use Rattle.history_core.specs.declared.history.Op.{Op};
 ghost use Rattle.lines_log.specs.Faults.{IsBodyFault, IsLinesFault};
 ghost use Rattle.lines_log.specs.Logs.{IsLinesLog};
 ghost use Rattle.lines_log.specs.inner.Readings.{is_end, IsFinished, AreRead, IsReadWhole};
-ghost use Rattle.lines_tables.specs.Numberings.{IsNumbering};
-ghost use Rattle.document_text.specs.Splits.{lines_of};
+ghost use Rattle.read_line.specs.Numberings.{IsNumbering};
+ghost use Rattle.read_document.specs.Splits.{lines_of};
 
 use crate::faults::refused_at;
 use crate::lines_log::LinesLog;
 use crate::reader::Reader;
-use document_text::{DocError, split_line};
-use fsr_runs::Fault;
-use lines_tables::Numbering;
-use lines_text::read_header;
+use program_runs::Fault;
+use read_document::{DocError, split_line};
+use read_line::{Numbering, read_header};
 use std::alloc::{AllocError, Global};
 
 /// The line of the header.

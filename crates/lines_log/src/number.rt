@@ -1,12 +1,11 @@
 //! Numbers in place of records.
 ghost use Rattle.std.specs.Prelude.{◌≡◌, ℕ, List, option_map, IfOk, string_bytes};
-ghost use Rattle.lines_tables.specs.Numberings.{IsNumbering};
+ghost use Rattle.read_line.specs.Numberings.{IsNumbering};
 ghost use Rattle.lines_log.specs.inner.Numbers.{IsNumberedNow, IsRecordNow};
-ghost use Rattle.lines_text.specs.Lines.{op_seen};
+ghost use Rattle.read_line.specs.Lines.{op_seen};
 
 use history_core::Op;
-use lines_tables::Numbering;
-use lines_text::LineOp;
+use read_line::{LineOp, Numbering};
 use std::alloc::AllocError;
 
 /// An operation with the number of its record.

@@ -3,16 +3,15 @@ ghost use Rattle.std.specs.Prelude.{◌≡◌, ◌<◌, ◌≤◌, Bool, Ok, Som
 ghost use Rattle.std.specs.Prelude.{IfErr, IfOk, OnOk, string_bytes};
 ghost use Rattle.lines_log.specs.Faults.{IsLineFault};
 ghost use Rattle.lines_log.specs.Logs.{judged_line};
-ghost use Rattle.lines_text.specs.Lines.{IsAllowed, op_seen};
+ghost use Rattle.read_line.specs.Lines.{IsAllowed, op_seen};
 
 use crate::faults::refused_at;
 use crate::line::read_op;
 use crate::number::number_op;
 use crate::thin::{thin, with_unfinished};
-use fsr_runs::{Fault, LinesFault};
 use history_thinning::Thinner;
-use lines_tables::{Numbering, Reads, TurnError, Turns, line_at};
-use lines_text::{LineOp, LogHeader};
+use program_runs::{Fault, LinesFault};
+use read_line::{LineOp, LogHeader, Numbering, Reads, TurnError, Turns, line_at};
 use std::alloc::{AllocError, Global};
 
 /// What was read of a log.

@@ -6,9 +6,9 @@ ghost use Rattle.history_thinning.specs.inner.Kept.{IsThinning};
 ghost use Rattle.lines_log.specs.inner.Readings.{IsEntryFault};
 
 use crate::faults::told_of;
-use fsr_runs::Fault;
 use history_core::Op;
 use history_thinning::Thinner;
+use program_runs::Fault;
 
 /// Enters the operation at a place.
 pub(crate) fn thin(thinner: &mut Thinner, op: Op<usize>, place: usize) -> Result<(), Fault>

@@ -1,4 +1,6 @@
--- From what cells answer to the law of choices.
+-- The order of stamps, what follows from the law of choices, and that law from what cells answer.
+pub mod Rise
+pub mod Stamps
 pub mod Atomic
 pub mod ByAccesses
 pub mod Gathered

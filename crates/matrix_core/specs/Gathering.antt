@@ -3,9 +3,9 @@
 use Rattle.std.specs.Prelude.{◌≡◌, ℕ, zero, suc, ◌+◌, ◌<◌, List, [], ◌∷◌, ◌++◌, length, slice_get, Option, Some, nat_eq}
 use Rattle.std.specs.Prelude.{if◌then◌else◌}
 use Rattle.std.specs.Option.{option_map}
-use Rattle.stamps.specs.declared.stamp.Stamped.{Stamped}
-use Rattle.stamps.specs.Choices.{Choice, ChoosesByKind, IsIn}
-use Rattle.stamps.specs.Stamps.{greatest}
+use Rattle.matrix_core.specs.declared.stamp.Stamped.{Stamped}
+use Rattle.matrix_core.specs.Choices.{Choice, ChoosesByKind, IsIn}
+use Rattle.matrix_core.specs.Stamps.{greatest}
 use Rattle.matrix_core.specs.Lines.{first_record, other}
 
 module _ {R : Type 0} where

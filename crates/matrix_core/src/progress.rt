@@ -5,8 +5,8 @@ ghost use Rattle.matrix_core.specs.declared.progress.Progress.{Progress};
 ghost use Rattle.matrix_core.specs.Lines.{after_write, cell_place, chosen, first_record, other};
 ghost use Rattle.matrix_core.specs.inner.Operations.{greatest_own};
 
+use crate::{Stamp, Stamped};
 use history_core::Wish;
-use stamps::{Stamp, Stamped};
 use std::alloc::{AllocError, Global};
 
 /// What an operation answers.

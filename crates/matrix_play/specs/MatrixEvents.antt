@@ -4,7 +4,7 @@
 use Rattle.std.specs.Prelude.{◌≡◌, ℕ, ◌+◌, ◌-◌, ◌*◌, ◌≤◌, List, length, replicate, slice_get, slice_set, Option, None, Some, nat_lt, nat_eq}
 use Rattle.std.specs.Prelude.{if◌then◌else◌}
 use Rattle.history_core.specs.declared.wish.Wish.{Wish}
-use Rattle.stamps.specs.declared.stamp.Stamped.{Stamped}
+use Rattle.matrix_core.specs.declared.stamp.Stamped.{Stamped}
 use Rattle.matrix_core.specs.declared.progress.Progress.{Progress}
 use Rattle.matrix_core.specs.Lines.{other, cell_place, after_read, after_write, first_record, opening_line}
 use Rattle.matrix_play.specs.declared.matrix.MatrixStage.{MatrixStage}

@@ -5,9 +5,9 @@ use Rattle.history_core.specs.declared.history.Op.{Op}
 use Rattle.history_core.specs.Joined.{ops_of, order_from, Part, terms_from}
 use Rattle.history_core.specs.Orders.{IsAtomicOrder, latest, RefusesLawfully}
 use Rattle.history_core.specs.Schedules.{HasShape, IsPlayed}
-use Rattle.stamps.specs.declared.stamp.Stamp.{Stamp}
-use Rattle.stamps.specs.declared.stamp.Stamped.{Stamped}
-use Rattle.stamps.specs.Choices.{Choice, HasChoices}
+use Rattle.matrix_core.specs.declared.stamp.Stamp.{Stamp}
+use Rattle.matrix_core.specs.declared.stamp.Stamped.{Stamped}
+use Rattle.matrix_core.specs.Choices.{Choice, HasChoices}
 use Rattle.matrix_core.specs.declared.schedule.MatrixTerm.{MatrixTerm}
 use Rattle.matrix_core.specs.declared.schedule.MatrixSchedule.{MatrixSchedule}
 use Rattle.matrix_core.specs.declared.schedule.MatrixReport.{MatrixReport}

@@ -3,8 +3,8 @@
 ghost use Rattle.std.specs.Prelude.{◌≡◌, ◌<◌, ℕ, List, length, Option, Some};
 ghost use Rattle.history_core.specs.declared.history.Op.{Op};
 ghost use Rattle.history_core.specs.Schedules.{IsPlayed, Span};
-ghost use Rattle.stamps.specs.declared.stamp.Stamp.{Stamp};
-ghost use Rattle.stamps.specs.declared.stamp.Stamped.{Stamped};
+ghost use Rattle.matrix_core.specs.declared.stamp.Stamp.{Stamp};
+ghost use Rattle.matrix_core.specs.declared.stamp.Stamped.{Stamped};
 ghost use Rattle.matrix_core.specs.ByAccesses.{IsCut, chooses_at};
 ghost use Rattle.matrix_play.specs.MatrixRuns.{IsMatrixRun};
 

@@ -9,9 +9,9 @@ ghost use Rattle.matrix_play.specs.MatrixEvents.{Matrix, after_access, IsMatrix,
 
 use history_core::Wish;
 use matrix_core::{
-    Outcome, Progress, cell_index, choose, done_at, filled, greatest_of, other, write_line,
+    Outcome, Progress, Stamp, Stamped, cell_index, choose, done_at, filled, greatest_of, other,
+    write_line,
 };
-use stamps::{Stamp, Stamped};
 use std::alloc::{AllocError, Global};
 use std::marker::Model;
 

@@ -10,8 +10,7 @@ ghost use Rattle.matrix_play.specs.inner.PlayedReports.{IsReport};
 
 use crate::matrix_term::{Play, play_term};
 use history_core::{History, Items, Op, PlayError, Term};
-use matrix_core::{Cells, MatrixReport, MatrixSchedule, first_overrun, list_last_term};
-use stamps::Stamp;
+use matrix_core::{Cells, MatrixReport, MatrixSchedule, Stamp, first_overrun, list_last_term};
 use std::alloc::{AllocError, Global};
 
 /// Plays a schedule over matrices of atomic cells.

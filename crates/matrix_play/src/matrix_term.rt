@@ -12,8 +12,7 @@ ghost use Rattle.matrix_core.specs.Runs.{IsTerm, span_of};
 
 use crate::matrix::MatrixCore;
 use history_core::{Items, Op, Wish};
-use matrix_core::{MatrixTerm, begun_op, chose, ended, filled, planned};
-use stamps::Stamp;
+use matrix_core::{MatrixTerm, Stamp, begun_op, chose, ended, filled, planned};
 use std::alloc::{AllocError, Global};
 use std::marker::Model;
 

@@ -1,8 +1,8 @@
 //! `picture`: draws a history with an order of it, or the report of a schedule, that comes as a document on standard input.
 #![tactic(auto)]
 
-use fsr_streams::{Exit, Over, tell};
 use picture_answers::{PICTURE, run};
+use program_streams::{Exit, Over, tell};
 use std::io::ErrorKind;
 use std::process::ExitCode;
 

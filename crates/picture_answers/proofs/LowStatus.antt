@@ -1,14 +1,14 @@
 -- The answer with a picture has status 0 or 1.
 use Rattle.std.proofs.Common.{rules, ◌≡◌, ◌≤◌, List, ℕ, Result, Ok, Err, ap, arith}
-use Rattle.fsr_streams.specs.Exits.{status_of}
-use Rattle.fsr_runs.specs.Answers.{AnswersReading, GivesReply, HasLowStatus}
-use Rattle.fsr_runs.specs.declared.fault.Answer.{Answer}
-use Rattle.fsr_runs.specs.declared.fault.Fault.{Fault}
-use Rattle.fsr_refusals.specs.declared.refusal.DocError.{DocError}
-use Rattle.picture_text.specs.declared.scene.Finding.{Finding}
-use Rattle.picture_text.specs.declared.scene.Finding.TheVariants.{Lawful, Broken, NoOrder}
-use Rattle.picture_text.specs.declared.scene.Scene.{Scene}
-use Rattle.schedule_text.specs.declared.document.ScheduleDocument.TheVariants.{Cell, Matrix, Board}
+use Rattle.program_streams.specs.Exits.{status_of}
+use Rattle.program_runs.specs.Answers.{AnswersReading, GivesReply, HasLowStatus}
+use Rattle.program_runs.specs.declared.fault.Answer.{Answer}
+use Rattle.program_runs.specs.declared.fault.Fault.{Fault}
+use Rattle.read_document.specs.declared.refusal.DocError.{DocError}
+use Rattle.print_picture.specs.declared.scene.Finding.{Finding}
+use Rattle.print_picture.specs.declared.scene.Finding.TheVariants.{Lawful, Broken, NoOrder}
+use Rattle.print_picture.specs.declared.scene.Scene.{Scene}
+use Rattle.read_schedule.specs.declared.document.ScheduleDocument.TheVariants.{Cell, Matrix, Board}
 use Rattle.picture_answers.specs.Answers.{Answers, IsPictureAnswer, document_of, drawn, exit_of}
 use Rattle.picture_answers.specs.declared.drawings.Shown.{Shown}
 use Rattle.picture_answers.specs.declared.drawings.Shown.TheVariants as shown

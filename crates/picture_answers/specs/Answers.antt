@@ -1,12 +1,12 @@
 -- The answer to a document: its picture with its status, or the fault (this project's own).
 use Rattle.std.specs.Prelude.{◌≡◌, ℕ, List, [], ◌∷◌, Option, None, Some, Result, Ok, Err}
-use Rattle.fsr_streams.specs.Exits.{status_of}
-use Rattle.fsr_streams.specs.declared.exit.Exit.{Exit}
-use Rattle.fsr_streams.specs.declared.exit.Exit.TheVariants.{Sound, Unsound}
-use Rattle.fsr_runs.specs.Answers.{AnswersReading}
-use Rattle.fsr_runs.specs.declared.fault.Answer.{Answer}
-use Rattle.fsr_runs.specs.declared.fault.Fault.{Fault}
-use Rattle.fsr_runs.specs.declared.fault.Fault.TheVariants as fault
+use Rattle.program_streams.specs.Exits.{status_of}
+use Rattle.program_streams.specs.declared.exit.Exit.{Exit}
+use Rattle.program_streams.specs.declared.exit.Exit.TheVariants.{Sound, Unsound}
+use Rattle.program_runs.specs.Answers.{AnswersReading}
+use Rattle.program_runs.specs.declared.fault.Answer.{Answer}
+use Rattle.program_runs.specs.declared.fault.Fault.{Fault}
+use Rattle.program_runs.specs.declared.fault.Fault.TheVariants as fault
 use Rattle.four_slot_play.specs.CellReports.{IsCellReport}
 use Rattle.four_slot_core.specs.Play.{cell_span}
 use Rattle.four_slot_core.specs.declared.schedule.CellReport.{CellReport}
@@ -14,13 +14,13 @@ use Rattle.four_slot_core.specs.declared.schedule.CellSchedule.{CellSchedule}
 use Rattle.history_core.specs.Schedules.{HasOperations, IsFirstOverrun}
 use Rattle.history_core.specs.declared.band.Band.{Band}
 use Rattle.history_core.specs.declared.history.History.{History}
-use Rattle.history_text.specs.Check.{check_document}
-use Rattle.document_text.specs.Document.{value_of}
-use Rattle.document_text.specs.Refusals.{◌>>=◌}
-use Rattle.history_text.specs.declared.document.CheckDocument.{CheckDocument}
-use Rattle.fsr_refusals.specs.declared.refusal.DocError.{DocError}
-use Rattle.fsr_refusals.specs.declared.refusal.DocError.TheVariants as doc
-use Rattle.matrix_board_play.specs.BoardReports.{IsBoardReport}
+use Rattle.read_history.specs.Check.{check_document}
+use Rattle.read_document.specs.Document.{value_of}
+use Rattle.read_document.specs.Refusals.{◌>>=◌}
+use Rattle.read_history.specs.declared.document.CheckDocument.{CheckDocument}
+use Rattle.read_document.specs.declared.refusal.DocError.{DocError}
+use Rattle.read_document.specs.declared.refusal.DocError.TheVariants as doc
+use Rattle.composed_play.specs.BoardReports.{IsBoardReport}
 use Rattle.matrix_core.specs.Runs.{board_spans}
 use Rattle.matrix_play.specs.MatrixReports.{IsMatrixReport}
 use Rattle.matrix_core.specs.Runs.{spans_of}
@@ -28,17 +28,17 @@ use Rattle.matrix_core.specs.declared.schedule.BoardReport.{BoardReport}
 use Rattle.matrix_core.specs.declared.schedule.BoardSchedule.{BoardSchedule}
 use Rattle.matrix_core.specs.declared.schedule.MatrixReport.{MatrixReport}
 use Rattle.matrix_core.specs.declared.schedule.MatrixSchedule.{MatrixSchedule}
-use Rattle.log_search.specs.Logs.{IsLogFault, IsLogSearch}
-use Rattle.log_text.specs.Log.{CanBeSearched, log_document}
+use Rattle.read_log.specs.Logs.{IsLogFault, IsLogSearch}
+use Rattle.read_log.specs.Log.{CanBeSearched, log_document}
 use Rattle.history_core.specs.declared.reason.Search.{Search}
-use Rattle.picture_text.specs.Picture.{picture_of}
-use Rattle.picture_text.specs.declared.scene.Finding.{Finding}
-use Rattle.picture_text.specs.declared.scene.Finding.TheVariants.{Lawful, Broken, NoOrder}
-use Rattle.picture_text.specs.declared.scene.Scene.{Scene}
-use Rattle.schedule_text.specs.Document.{schedule_document}
-use Rattle.schedule_text.specs.Players.{CanBePlayed}
-use Rattle.schedule_text.specs.declared.document.ScheduleDocument.{ScheduleDocument}
-use Rattle.schedule_text.specs.declared.document.ScheduleDocument.TheVariants.{Cell, Matrix, Board}
+use Rattle.print_picture.specs.Picture.{picture_of}
+use Rattle.print_picture.specs.declared.scene.Finding.{Finding}
+use Rattle.print_picture.specs.declared.scene.Finding.TheVariants.{Lawful, Broken, NoOrder}
+use Rattle.print_picture.specs.declared.scene.Scene.{Scene}
+use Rattle.read_schedule.specs.Document.{schedule_document}
+use Rattle.read_schedule.specs.Players.{CanBePlayed}
+use Rattle.read_schedule.specs.declared.document.ScheduleDocument.{ScheduleDocument}
+use Rattle.read_schedule.specs.declared.document.ScheduleDocument.TheVariants.{Cell, Matrix, Board}
 use Rattle.serde_json.specs.Data.{Data}
 use Rattle.picture_answers.specs.Scenes.{ShowsBoard, ShowsCell, ShowsCheck, ShowsLog, ShowsMatrix}
 use Rattle.picture_answers.specs.declared.drawings.Shown.{Shown}

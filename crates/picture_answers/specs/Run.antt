@@ -1,7 +1,7 @@
 -- What comes of the input of the program that draws (this project's own).
 use Rattle.std.specs.Prelude.{◌≡◌, ℕ, Bool, true, false, List}
-use Rattle.fsr_runs.specs.Run.{IsToldBy, nothing_asked}
-use Rattle.fsr_runs.specs.declared.fault.Answer.{Answer}
+use Rattle.program_runs.specs.Run.{IsToldBy, nothing_asked}
+use Rattle.program_runs.specs.declared.fault.Answer.{Answer}
 use Rattle.picture_answers.specs.Answers.{IsPictureAnswer}
 
 -- what is made of the input; where words besides the program's name were given, nothing is, with status 2

@@ -5,25 +5,25 @@ use Rattle.four_slot_core.specs.declared.schedule.CellReport.{CellReport}
 use Rattle.four_slot_core.specs.declared.schedule.CellSchedule.{CellSchedule}
 use Rattle.history_core.specs.declared.reason.Search.{Search}
 use Rattle.history_core.specs.declared.reason.Search.TheVariants.{Order, Unlawful}
-use Rattle.history_witnesses.specs.Breaks.{IsFirstBreak, verdict_of}
+use Rattle.history_explain.specs.Breaks.{IsFirstBreak, verdict_of}
 use Rattle.history_core.specs.Orders.{IsVerdict}
-use Rattle.history_witnesses.specs.Points.{AreEarliest, HasPoints}
+use Rattle.history_explain.specs.Points.{AreEarliest, HasPoints}
 use Rattle.history_core.specs.declared.band.Band.{Band}
-use Rattle.history_witnesses.specs.declared.breaks.Break.{Break}
+use Rattle.history_explain.specs.declared.breaks.Break.{Break}
 use Rattle.history_core.specs.declared.history.History.{History}
 use Rattle.history_core.specs.declared.history.Op.{Op}
 use Rattle.matrix_core.specs.declared.schedule.MatrixReport.{MatrixReport}
 use Rattle.matrix_core.specs.declared.schedule.BoardReport.{BoardReport}
 use Rattle.matrix_core.specs.declared.schedule.BoardSchedule.{BoardSchedule}
-use Rattle.stamps.specs.declared.stamp.Stamp.{Stamp}
+use Rattle.matrix_core.specs.declared.stamp.Stamp.{Stamp}
 use Rattle.picture_shapes.specs.declared.shape.lanes.Lanes.{Lanes}
 use Rattle.picture_shapes.specs.declared.shape.lanes.Lanes.TheVariants.{Actors, Cell}
-use Rattle.picture_text.specs.Picture.{board_lanes}
-use Rattle.picture_text.specs.declared.scene.Finding.{Finding}
-use Rattle.picture_text.specs.declared.scene.Finding.TheVariants.{Lawful, Broken, NoOrder}
-use Rattle.picture_text.specs.declared.scene.Scene.{Scene}
-use Rattle.picture_visits.specs.Visits.{board_visits, cell_visits}
-use Rattle.picture_visits.specs.declared.visit.Visit.{Visit}
+use Rattle.print_picture.specs.Picture.{board_lanes}
+use Rattle.print_picture.specs.declared.scene.Finding.{Finding}
+use Rattle.print_picture.specs.declared.scene.Finding.TheVariants.{Lawful, Broken, NoOrder}
+use Rattle.print_picture.specs.declared.scene.Scene.{Scene}
+use Rattle.picture_shapes.specs.Visits.{board_visits, cell_visits}
+use Rattle.picture_shapes.specs.declared.visit.Visit.{Visit}
 
 -- two records are the same where their three numbers are
 abbrev pub AreSame : Band → Band → Type 0

@@ -1,12 +1,12 @@
 ghost use Rattle.std.specs.Prelude.{◌≡◌, ◌≤◌, ◌+◌};
-ghost use Rattle.fsr_runs.specs.Run.{Fails, never, Runs};
+ghost use Rattle.program_runs.specs.Run.{Fails, never, Runs};
 ghost use Rattle.picture_answers.specs.Answers.{IsPictureAnswer};
 ghost use Rattle.picture_answers.specs.Run.{IsPictureOutcome};
-ghost use Rattle.fsr_streams.specs.Stream.{HasRoom};
+ghost use Rattle.program_streams.specs.Stream.{HasRoom};
 
 use crate::answer;
-use fsr_runs::{Answer, Command, Fault, Program, run_command};
-use fsr_streams::{Exit, Sink, Source, tell};
+use program_runs::{Answer, Command, Fault, Program, run_command, take_document};
+use program_streams::{Exit, Sink, Source, tell};
 use std::alloc::Global;
 
 /// The name of `picture`, and the lines that it tells where a stream fails or memory runs out. It starts no thread.
@@ -26,6 +26,17 @@ struct Draw;
 
 impl Command for Draw {
     ghost is_reply = { λ _ bytes reply. IsPictureAnswer bytes reply };
+    ghost is_unbounded = { λ _. never };
+
+    fn take<I: Source, E: Sink>(
+        &self,
+        alloc: Global,
+        program: &Program,
+        input: &mut I,
+        faults: &mut E,
+    ) -> Result<Vec<u8>, u8> {
+        take_document(alloc, program, input, faults)
+    }
 
     fn reply(&self, alloc: Global, bytes: &[u8]) -> Result<Answer, Fault> {
         answer(alloc, bytes)

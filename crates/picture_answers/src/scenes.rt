@@ -8,12 +8,10 @@ ghost use Rattle.picture_answers.specs.Scenes.{ShowsMatrix};
 
 use four_slot_core::{CellReport, CellSchedule};
 use history_core::{Band, History, Items, Search};
-use history_witnesses::{Break, first_break, points};
-use matrix_core::{BoardReport, BoardSchedule, MatrixReport};
-use picture_shapes::Lanes;
-use picture_text::{Finding, Scene, board_lanes};
-use picture_visits::{Visit, board_visits, cell_visits};
-use stamps::Stamp;
+use history_explain::{Break, first_break, points};
+use matrix_core::{BoardReport, BoardSchedule, MatrixReport, Stamp};
+use picture_shapes::{Lanes, Visit, board_visits, cell_visits};
+use print_picture::{Finding, Scene, board_lanes};
 use std::alloc::{AllocError, Global};
 
 pub fn check_scene(

@@ -1,3 +1,4 @@
 pub mod Looks
 pub mod Scales
 pub mod Shapes
+pub mod Visits

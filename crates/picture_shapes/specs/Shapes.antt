@@ -7,9 +7,9 @@ use Rattle.history_core.specs.declared.history.Kind.{Kind}
 use Rattle.history_core.specs.declared.history.Kind.TheVariants.{Write, Read, Refused}
 use Rattle.history_core.specs.declared.history.Op.{Op}
 use Rattle.history_core.specs.Others.{other}
-use Rattle.stamps.specs.declared.stamp.Stamp.{Stamp}
-use Rattle.report_lines.specs.Lines.{item_text, kind_text}
-use Rattle.report_text.specs.Text.{stamp_text}
+use Rattle.matrix_core.specs.declared.stamp.Stamp.{Stamp}
+use Rattle.print_report.specs.Lines.{item_text, kind_text}
+use Rattle.print_report.specs.Text.{stamp_text}
 use Rattle.picture_shapes.specs.Scales.{far_of, x_of, y_of}
 use Rattle.picture_shapes.specs.declared.scale.Scale.{Scale}
 use Rattle.picture_shapes.specs.declared.shape.lanes.Lanes.{Lanes}

@@ -7,7 +7,7 @@ ghost use Rattle.picture_shapes.specs.Shapes.{bar_end, bar_head, bar_of, bar_sid
 use crate::places::y_of;
 use crate::scale::Scale;
 use history_core::Kind;
-use report_lines::Line;
+use print_report::Line;
 
 pub mod axis;
 pub mod headline;

@@ -4,23 +4,20 @@
 #![tactic(auto)]
 
 use board_live::Posted;
+use cell_contract::{Cell, SharedFamily};
 use cell_four_slot::FourSlotCell;
-use cell_live::Cell;
 use cell_triple::TripleCell;
 use family_four_slot::FourSlotFamily;
-use family_live::SharedFamily;
 use family_triple::TripleFamily;
-use fsr_streams::Exit;
-use soak_findings::{Finding, Tally, exit};
+use program_streams::{Exit, can_start};
 use soak_rounds::record::{Record, Shared};
-use soak_rounds::{pair, planted};
+use soak_rounds::{Finding, Tally, exit, pair, planted};
 use std::alloc::{AllocError, Global};
 use std::io;
 use std::process::ExitCode;
 use std::rt::Clock;
 use std::thread::Threads;
 use std::time::Instant;
-use thread_probe::can_start;
 
 const FOUR_SLOT: &str = "four_slot";
 
@@ -192,7 +189,7 @@ where
     for board in boards {
         let tasks = board.tasks;
         let calls = board.calls(bytes);
-        let (tally, last) = soak_boards::round::<R, W, F>(
+        let (tally, last) = soak_rounds::round::<R, W, F>(
             rt,
             alloc,
             tasks,

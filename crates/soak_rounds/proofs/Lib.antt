@@ -1,2 +1,5 @@
 pub mod Lists
 pub mod Wholes
+mod LaneRounds
+mod BoardLists
+mod Origins

@@ -1,8 +1,8 @@
 -- Lists that get one more.
 use Rattle.std.proofs.Common.{◌≡◌, ℕ, ◌+◌, List, [], ◌∷◌, ◌++◌, length-append, append_assoc, refl, ◌∙◌, ap, arith}
 use Rattle.std.specs.Prelude.{Option}
-use Rattle.soak_findings.specs.declared.finding.Tally.{Tally}
-use Rattle.soak_findings.specs.Findings.{counted, last_read, no_tally, with_read, with_write}
+use Rattle.soak_rounds.specs.declared.finding.Tally.{Tally}
+use Rattle.soak_rounds.specs.Findings.{counted, last_read, no_tally, with_read, with_write}
 use Rattle.soak_rounds.specs.Records.{AreOf, IsWholeRecord}
 use Rattle.soak_rounds.specs.Rounds.{Adds, NotedReads, no_read, no_write, one_read, one_write, Wrote}
 

@@ -1,2 +1,4 @@
 pub mod Records
 pub mod Rounds
+pub mod Findings
+pub mod Scripts

@@ -1,9 +1,9 @@
 -- What the sides of a cell do in rounds, by the lists of their passes (this project's own).
 use Rattle.std.specs.Prelude.{◌≡◌, ℕ, ◌+◌, List, [], ◌∷◌, ◌++◌, length, Option}
-use Rattle.cell_live.specs.declared.cell.Calls.{Ghosts as CellWords}
-use Rattle.cell_live.specs.Running.{last_or}
-use Rattle.soak_findings.specs.declared.finding.Tally.{Tally}
-use Rattle.soak_findings.specs.Findings.{counted, last_read, no_tally, with_end, with_read, with_tally, with_write}
+use Rattle.cell_contract.specs.declared.cell.Calls.{Ghosts as CellWords}
+use Rattle.cell_contract.specs.Running.{last_or}
+use Rattle.soak_rounds.specs.declared.finding.Tally.{Tally}
+use Rattle.soak_rounds.specs.Findings.{counted, last_read, no_tally, with_end, with_read, with_tally, with_write}
 use Rattle.soak_rounds.specs.Records.{AreOf, IsWholeRecord}
 
 -- `words` are those of a record

@@ -1,13 +1,13 @@
 //! One writer and one reader, each in a thread of its own.
 ghost use Rattle.std.specs.Prelude.{◌≡◌, ℕ, List, [], ◌∷◌, ◌++◌, IfOk};
-ghost use Rattle.soak_findings.specs.declared.finding.Tally.{Tally};
-ghost use Rattle.soak_findings.specs.Findings.{with_end, with_tally};
+ghost use Rattle.soak_rounds.specs.declared.finding.Tally.{Tally};
+ghost use Rattle.soak_rounds.specs.Findings.{with_end, with_tally};
 ghost use Rattle.soak_rounds.specs.Records.{AreOf};
 ghost use Rattle.soak_rounds.specs.Rounds.{Adds, HasSoaked, NotedReads, Wrote};
 
 use crate::record::{Record, Shared, Words};
-use cell_live::{Calls, Cell};
-use soak_findings::{Tally, last_read};
+use crate::{Tally, last_read};
+use cell_contract::{Calls, Cell};
 use std::alloc::{AllocError, Global};
 use std::thread::{Threads, join_mut};
 

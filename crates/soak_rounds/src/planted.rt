@@ -1,7 +1,7 @@
 //! A register with a planted bug, which a soak has to find: four slots of words that are written one by one, whose reader skips
 //! its store of `reading`.
 use crate::pair::{Side, at_once};
-use soak_findings::{Tally, last_read};
+use crate::{Tally, last_read};
 use std::alloc::{AllocError, Global};
 use std::sync::atomic::{AtomicU64, Ordering};
 use std::thread::Threads;

@@ -4,7 +4,7 @@ ghost use Rattle.soak_rounds.specs.Records.{AreOf, IsWholeRecord};
 ghost use Rattle.soak_rounds.specs.Records.{no_law};
 
 use board_live::RecordLaw;
-use cell_live::{Kept, Lawful};
+use cell_contract::{Kept, Lawful};
 
 /// The words of a record.
 pub trait Words: Copy + Eq {

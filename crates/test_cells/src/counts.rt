@@ -1,10 +1,10 @@
 //! The rows of the running cells, over each cell.
 ghost use Rattle.std.specs.Prelude.{◌≡◌, ◌≤◌, ◌<◌, ◌+◌, ◌^◌, []};
 ghost use Rattle.std.proofs.Common.{le_refl, le_trans};
-ghost use Rattle.cell_live.specs.Running.{last_or};
+ghost use Rattle.cell_contract.specs.Running.{last_or};
 
+use cell_contract::{Calls, Cell, Kept, Lawful};
 use cell_four_slot::FourSlotCell;
-use cell_live::{Calls, Cell, Kept, Lawful};
 use cell_triple::TripleCell;
 use std::alloc::{AllocError, Global};
 use std::test::Fail;

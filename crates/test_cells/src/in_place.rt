@@ -2,8 +2,8 @@
 ghost use Rattle.std.specs.Prelude.{◌≡◌, ◌≤◌};
 ghost use Rattle.std.proofs.Common.{le_refl, le_trans};
 
+use cell_contract::{Calls, Cell, Kept, Lawful};
 use cell_four_slot::FourSlotCell;
-use cell_live::{Calls, Cell, Kept, Lawful};
 use cell_triple::TripleCell;
 use std::alloc::{AllocError, Global};
 use std::test::Fail;

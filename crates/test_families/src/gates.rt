@@ -4,7 +4,7 @@ ghost use Rattle.std.specs.Prelude.{◌≡◌};
 use board_live::{Posted, RecordLaw};
 use board_tasks::{CountingGate, Entry, Gate, Lane, TimedGate};
 use board_teams::run_plans;
-use family_live::{Family, SharedFamily};
+use cell_contract::{Family, SharedFamily};
 use history_core::Band;
 use std::alloc::{AllocError, Global};
 use std::sync::atomic::{AtomicBool, AtomicU64, Ordering};

@@ -4,9 +4,9 @@ ghost use Rattle.std.specs.Prelude.{◌≡◌};
 use board_live::{Pass, Posted, RecordLaw};
 use board_tasks::{Entry, Gate, Lane, OpenGate, Reply, into_passes};
 use board_teams::{point, run_plans};
-use family_live::{Family, SharedFamily};
+use cell_contract::{Family, SharedFamily};
 use history_core::Band;
-use stamps::Stamp;
+use matrix_core::Stamp;
 use std::alloc::{AllocError, Global};
 use std::thread::Threads;
 

@@ -5,10 +5,9 @@ ghost use Rattle.history_core.specs.declared.band.Band.{Band};
 ghost use Rattle.board_tasks.specs.LogOrders.{LogsInOrder};
 
 use board_live::{Posted, RecordLaw};
-use board_origins::{Origin, check_origin};
-use board_tasks::{Entry, Gate, finish_lanes};
+use board_tasks::{Entry, Gate, Origin, check_origin, finish_lanes};
 use board_teams::{point, run_plans};
-use family_live::{Family, SharedFamily};
+use cell_contract::{Family, SharedFamily};
 use history_core::Band;
 use std::alloc::{AllocError, Global};
 use std::sync::atomic::{AtomicBool, AtomicUsize, Ordering};

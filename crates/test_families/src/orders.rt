@@ -1,11 +1,10 @@
 //! Tasks over a board that is ended.
 use board_live::Posted;
-use board_origins::{Origin, check_origin};
-use board_tasks::{Entry, OpenGate, Reply, finish_lanes};
+use board_tasks::{Entry, OpenGate, Origin, Reply, check_origin, finish_lanes};
 use board_teams::{point, run_plans};
-use family_live::SharedFamily;
+use cell_contract::SharedFamily;
 use history_core::Band;
-use stamps::Stamp;
+use matrix_core::Stamp;
 use std::alloc::{AllocError, Global};
 use std::thread::Threads;
 

@@ -1,10 +1,9 @@
 //! The check of logs that a program kept itself.
 use board_live::Posted;
-use board_origins::{Origin, check_origin};
-use board_tasks::{Entry, Reply};
+use board_tasks::{Entry, Origin, Reply, check_origin};
 use board_teams::point;
 use history_core::{Band, Wish};
-use stamps::Stamp;
+use matrix_core::Stamp;
 use std::alloc::{AllocError, Global};
 use std::test::Fail;
 

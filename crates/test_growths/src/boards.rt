@@ -7,7 +7,7 @@ use crate::documents::Stopped;
 use crate::print;
 use crate::team::{A, B, Given, OPENING, Team};
 use board_live::{BoardError, Posted};
-use family_live::Family;
+use cell_contract::Family;
 use history_core::Band;
 use std::alloc::Global;
 use std::io;

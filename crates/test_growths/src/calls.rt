@@ -1,11 +1,11 @@
 use crate::documents::{Stopped, check, race, schedule};
 use crate::print;
+use composed_play::play_board;
 use four_slot_play::play_cell;
 use history_core::Items;
-use matrix_board_play::play_board;
 use matrix_play::{MatrixCore, play_matrix};
-use report_text::{Counts, Report, report_text};
-use schedule_text::ScheduleDocument;
+use print_report::{Counts, Report, report_text};
+use read_schedule::ScheduleDocument;
 use std::alloc::Global;
 use std::io;
 

@@ -1,7 +1,7 @@
 use crate::documents::Stopped;
 use crate::print;
+use cell_contract::{Calls, Lawful};
 use cell_four_slot::FourSlotCell;
-use cell_live::{Calls, Lawful};
 use cell_triple::TripleCell;
 use std::alloc::{AllocError, Global};
 use std::io;

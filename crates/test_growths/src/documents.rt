@@ -1,10 +1,10 @@
 ghost use Rattle.std.specs.Prelude.{IfOk};
-ghost use Rattle.schedule_text.specs.Players.{CanBePlayed};
+ghost use Rattle.read_schedule.specs.Players.{CanBePlayed};
 
-use document_text::DocError;
 use history_core::PlayError;
-use history_text::{CheckDocument, read_check};
-use schedule_text::{RaceDocument, ScheduleDocument, read_race, read_schedule};
+use read_document::DocError;
+use read_history::{CheckDocument, read_check};
+use read_schedule::{RaceDocument, ScheduleDocument, read_race, read_schedule};
 use std::alloc::{AllocError, Global};
 
 /// A write, and a read of its record.

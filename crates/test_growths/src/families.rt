@@ -2,8 +2,8 @@
 use crate::documents::Stopped;
 use crate::{boards, lanes, print};
 use board_live::Posted;
+use cell_contract::SharedFamily;
 use family_four_slot::FourSlotFamily;
-use family_live::SharedFamily;
 use family_triple::TripleFamily;
 use history_core::Band;
 use std::alloc::Global;

@@ -10,11 +10,12 @@ use crate::documents::Stopped;
 use crate::print;
 use crate::team::{A, OPENING};
 use board_live::{Board, Pass, Posted};
-use board_origins::{Origin, check_origin};
-use board_tasks::{Entry, Lane, OpenGate, finish_lanes, make_lanes, run_tasks};
-use family_live::{Family, SharedFamily};
+use board_tasks::{
+    Entry, Lane, OpenGate, Origin, check_origin, finish_lanes, make_lanes, run_tasks,
+};
+use cell_contract::{Family, SharedFamily};
 use history_core::{Band, Items, Wish};
-use stamps::Stamp;
+use matrix_core::Stamp;
 use std::alloc::{AllocError, Global};
 use std::io;
 use std::thread::Threads;

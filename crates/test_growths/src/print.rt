@@ -1,9 +1,9 @@
 use crate::documents::Stopped;
 use four_slot_core::CellReport;
 use history_core::{Band, History};
-use history_text::CheckDocument;
 use matrix_core::{BoardReport, MatrixReport, MatrixTerm};
-use schedule_text::{RaceDocument, ScheduleDocument};
+use read_history::CheckDocument;
+use read_schedule::{RaceDocument, ScheduleDocument};
 use std::io;
 
 pub fn stopped(rt: &impl Print, why: Stopped) -> io::Result<()> {

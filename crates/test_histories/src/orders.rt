@@ -2,7 +2,7 @@
 
 use history_check::check_order;
 use history_core::{Band, History, Items, Kind, MAX_LIMIT, Op, Term, Verdict};
-use history_witnesses::{Break, first_break, points};
+use history_explain::{Break, first_break, points};
 use std::alloc::{AllocError, Global};
 use std::test::Fail;
 

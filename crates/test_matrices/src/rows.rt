@@ -33,8 +33,7 @@ mod stepped;
 
 use history_check::check_order;
 use history_core::{Band, History, Items, Kind, MAX_LIMIT, Op, PlayError, Verdict, Wish};
-use matrix_core::MatrixTerm;
-use stamps::Stamp;
+use matrix_core::{MatrixTerm, Stamp};
 use std::alloc::{AllocError, Global};
 
 pub(crate) const OPENING: Band = Band {

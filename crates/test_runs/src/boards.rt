@@ -1,7 +1,7 @@
+use composed_play::play_board;
 use history_check::check_order;
 use history_core::Verdict;
-use matrix_board_play::play_board;
-use schedule_text::{ScheduleDocument, read_schedule};
+use read_schedule::{ScheduleDocument, read_schedule};
 use std::test::Fail;
 
 /// The checker finds the orders of played boards lawful.

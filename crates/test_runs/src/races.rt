@@ -1,12 +1,12 @@
 use board_live::{Posted, RecordLaw};
 use board_tasks::{CountingGate, Entry, Gate, TimedGate};
+use cell_contract::Family;
 use family_four_slot::FourSlotFamily;
-use family_live::Family;
-use fsr_race_answers::race;
-use fsr_runs::Fault;
+use fsr_answers::race;
 use history_core::Band;
-use report_text::report_text;
-use schedule_text::{RaceDocument, read_race};
+use print_report::report_text;
+use program_runs::Fault;
+use read_schedule::{RaceDocument, read_race};
 use std::alloc::Global;
 use std::sync::atomic::{AtomicBool, Ordering};
 use std::test::Fail;

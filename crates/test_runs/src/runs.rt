@@ -1,13 +1,15 @@
 ghost use Rattle.std.specs.Prelude.{◌≤◌, ◌+◌};
-ghost use Rattle.fsr_runs.specs.Run.{Fails};
-ghost use Rattle.fsr_streams.specs.Stream.{HasRoom};
+ghost use Rattle.program_runs.specs.Run.{Fails};
+ghost use Rattle.program_streams.specs.Stream.{HasRoom};
 
 use crate::fakes::Full::{Fails, Stalls};
 use crate::fakes::{Full, Kept, Pieces};
 use board_live::Posted;
 use family_four_slot::FourSlotFamily;
-use fsr_streams::{Over, Sink, Source};
+use fsr_words::{asked_of, tell_refusal};
 use history_core::Band;
+use program_runs::FSR;
+use program_streams::{Over, Sink, Source};
 use std::alloc::{AllocError, Global};
 use std::process::Abort;
 use std::test::Fail;
@@ -29,9 +31,12 @@ fn run<'a, R: Threads + Sync, I: Source, O: Sink, E: Sink>(
         (O.failed out.new) result }
     ensures faults { E.failed faults.new ≤ E.failed faults.old + 1 }
 {
-    fsr_answers::run::<FourSlotFamily<Posted<Band>>, R, &'a str, I, O, E>(
-        rt, alloc, words, input, out, faults,
-    )
+    match asked_of(alloc, words) {
+        Ok(asked) => fsr_answers::run::<FourSlotFamily<Posted<Band>>, R, I, O, E>(
+            rt, alloc, asked.want, input, out, faults,
+        ),
+        Err(refusal) => tell_refusal(alloc, &FSR, refusal, out, faults),
+    }
 }
 
 /// More bytes than any run here takes or prints.
@@ -137,7 +142,7 @@ fn a_full_standard_error_changes_no_status(rt: HostRuntime) -> Result<(), Fail> 
     let long = padded(rt.alloc(), 1_100_000)?;
     for (word, most, fails_at, faults_room, full, status, taken, fault) in [
         ("checks", 4096, 0, 0, Fails, 2, 0, ""),
-        ("help", 4096, 0, 4, Fails, 2, 0, "Read"),
+        ("--check", 4096, 0, 0, Fails, 2, 0, ""),
         ("check", 3000, AMPLE, 5, Stalls, 3, 1_048_577, "fsr: "),
     ] {
         sees(

@@ -2,8 +2,8 @@
 -- II, Distributed Computing 1, 1986).
 use Rattle.std.specs.Prelude.{◌≡◌, Bool, List, [], ◌∷◌, ◌++◌, map, Result}
 use Rattle.history_core.specs.declared.history.Kind.TheVariants.{Read}
-use Rattle.stamps.specs.declared.stamp.Stamp.{Stamp}
-use Rattle.family_live.specs.declared.family.Family.{Ghosts as FamilyWords}
+use Rattle.matrix_core.specs.declared.stamp.Stamp.{Stamp}
+use Rattle.cell_contract.specs.declared.family.Family.{Ghosts as FamilyWords}
 use Rattle.board_live.specs.declared.board.Board.{Board}
 use Rattle.board_live.specs.declared.board.Pass.{Pass}
 use Rattle.board_live.specs.declared.board.TagsEnded.{TagsEnded}

@@ -1,9 +1,9 @@
 -- What a running cell promises of all its calls, in one place (atomic by intervals is L. Lamport's, On Interprocess Communication, Parts I
 -- and II, Distributed Computing 1, 1986; receipts are this project's own).
 use Rattle.std.specs.Prelude.{◌≡◌, ◌+◌, ◌≤◌, [], ◌∷◌, ◌++◌}
-use Rattle.cell_live.specs.declared.cell.Calls.{Ghosts as CellWords}
-use Rattle.cell_live.specs.Intervals.{AreAtomic, AreFirst, AreHeeded, HaveEnded, IsNextAnswer, IsNextCall, known_as}
-use Rattle.cell_live.specs.Running.{IsAnswer, last_or, Settled}
+use Rattle.cell_contract.specs.declared.cell.Calls.{Ghosts as CellWords}
+use Rattle.cell_contract.specs.Intervals.{AreAtomic, AreFirst, AreHeeded, HaveEnded, IsNextAnswer, IsNextCall, known_as}
+use Rattle.cell_contract.specs.Running.{IsAnswer, last_or, Settled}
 
 module _ {C T P G R : Type 0} (words : CellWords C T P G R) (fits : T → Type 0) (rises : T → T → Type 0) where
   -- *The theorem of a cell*, of a write, a receipt of it and a read, with passes that had made any calls before, and of the cell's end

@@ -4,8 +4,8 @@ ghost use Rattle.board_live.specs.Ends.{AllPasses};
 ghost use Rattle.theorems.specs.Boards.{BoardTheorem};
 
 use board_live::{Board, Pass, Posted, RecordLaw, TagsEnded};
-use family_live::Family;
-use stamps::Stamp;
+use cell_contract::Family;
+use matrix_core::Stamp;
 
 /// The last process reads and writes the item, whatever was done with the passes before; then all calls so far are shown, and the board
 /// ends. Gives what was read, the write's answer, and the greatest record at each of the two looks.

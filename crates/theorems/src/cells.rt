@@ -1,8 +1,8 @@
 //! What a running cell promises.
-ghost use Rattle.cell_live.specs.Running.{last_or};
+ghost use Rattle.cell_contract.specs.Running.{last_or};
 ghost use Rattle.theorems.specs.Cells.{CellTheorem};
 
-use cell_live::{Calls, Lawful};
+use cell_contract::{Calls, Lawful};
 
 /// Writes the item, tells and learns of it, reads, and ends the cell, whatever was done with its passes before. Gives the answer.
 pub fn cell_theorem<T: Lawful, C: Calls<T>>(cell: C, put: C::Put, get: C::Get, item: T) -> T

@@ -1,10 +1,10 @@
 -- A call, access by access. Only private functions cite this, which is this project's own; what a call promises stands in Passes.
 use Rattle.std.specs.Prelude.{◌≡◌, ◌⊎◌, Bool, IsTrue, ℕ, ◌-◌, ◌*◌, ◌<◌, ◌≤◌, List, [], ◌++◌, length, slice_get, Some}
 use Rattle.std.specs.Prelude.{true, false, if◌then◌else◌}
-use Rattle.cell_live.specs.declared.times.Times.{Times}
-use Rattle.cell_live.specs.Running.{last_or}
-use Rattle.family_live.specs.declared.family.Family.{Ghosts as FamilyWords}
-use Rattle.family_live.specs.Accesses.{IsWriteAccess, KeepsEach}
+use Rattle.cell_contract.specs.declared.times.Times.{Times}
+use Rattle.cell_contract.specs.Running.{last_or}
+use Rattle.cell_contract.specs.declared.family.Family.{Ghosts as FamilyWords}
+use Rattle.cell_contract.specs.Accesses.{IsWriteAccess, KeepsEach}
 use Rattle.matrix_core.specs.Lines.{other}
 use Rattle.board_history.specs.Accesses.{IsInterval}
 use Rattle.board_live.specs.declared.record.Posted.{Posted}

@@ -8,7 +8,7 @@ ghost use Rattle.board_tasks.specs.Tasks.{IsEntry, Permitted, Ran, entry};
 use super::{Entry, Lane, Reply};
 use crate::gate::Gate;
 use board_live::{Board, Pass, Posted, RecordLaw};
-use family_live::Family;
+use cell_contract::Family;
 use history_core::Wish;
 use std::alloc::{AllocError, Global};
 

@@ -8,8 +8,8 @@ use super::Place;
 use super::seats::open_places;
 use crate::sits::{Free, Sits, Sitting};
 use board_live::{BoardError, Posted};
-use family_live::Family;
-use stamps::Stamp;
+use cell_contract::Family;
+use matrix_core::Stamp;
 use std::alloc::Global;
 
 impl<V: Free + Drop, F: Family<Posted<V>>> Sits for Place<V, F> {

@@ -8,7 +8,7 @@ ghost use Rattle.c_boards.specs.Opens.{Pairs, OpensPlaces};
 use super::Place;
 use crate::sits::Free;
 use board_live::{Board, BoardError, Pass, Posted, RecordLaw};
-use family_live::Family;
+use cell_contract::Family;
 use std::alloc::{AllocError, Global};
 use std::sync::Arc;
 

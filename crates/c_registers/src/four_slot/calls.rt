@@ -5,8 +5,8 @@ ghost use Rattle.c_registers.specs.FourSlotCalls.{IsMade, HasWritten, HasRead};
 use super::{FourSlotReader, FourSlotWriter};
 use crate::numbered::{Numbered, Numbering};
 use crate::roles::{Opens, Reading, Writing};
+use cell_contract::Calls;
 use cell_four_slot::FourSlotCell;
-use cell_live::Calls;
 use std::alloc::{AllocError, Global};
 use std::sync::Arc;
 

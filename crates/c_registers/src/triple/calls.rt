@@ -6,7 +6,7 @@ use super::{TripleEnds, TripleFiller, TripleReader, TripleWriter};
 use crate::numbered::{Numbered, Numbering};
 use crate::roles::{Opens, Reading, Writing};
 use crate::room::Room;
-use cell_live::Calls;
+use cell_contract::Calls;
 use cell_triple::TripleCell;
 use std::alloc::{AllocError, Global};
 use std::sync::Arc;

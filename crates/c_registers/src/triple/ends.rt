@@ -11,7 +11,7 @@ ghost use Rattle.c_registers.specs.contracts.triple.TripleReader as reader;
 
 use super::{TripleEnds, TripleReader};
 use crate::numbered::Numbered;
-use cell_live::Calls;
+use cell_contract::Calls;
 
 impl<W: Copy> TripleEnds<W> {
     #[inline]

@@ -2,7 +2,7 @@
 ghost use Rattle.std.specs.Prelude.{◌≡◌, ◌+◌, ◌<◌, ◌≤◌, ◌^◌, [], ◌∷◌, ◌++◌, true, false};
 ghost use Rattle.std.specs.Arc.{arc_value};
 ghost use Rattle.std.specs.Borrow.{sem, Lends};
-ghost use Rattle.cell_live.specs.Running.{last_or};
+ghost use Rattle.cell_contract.specs.Running.{last_or};
 ghost use Rattle.cell_triple.specs.Words.{is_put_of, opening_of, written_by};
 ghost use Rattle.cell_triple.specs.Lent.{placed_by};
 ghost use Rattle.c_registers.specs.Numbers.{numbered};

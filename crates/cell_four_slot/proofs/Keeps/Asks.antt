@@ -12,15 +12,15 @@ use Rattle.four_slot_core.specs.declared.state.ReaderStage.TheVariants as reader
 use Rattle.four_slot_core.specs.declared.event.ReadEvent.TheVariants.{R1}
 use Rattle.four_slot_core.specs.Events.{slot_with, bit_number, opening_state, after_read}
 use Rattle.four_slot_core.specs.Invariant.{latest_slot, IsSound, IsKept}
-use Rattle.cell_live.specs.Acts.{Proper}
+use Rattle.cell_contract.specs.Acts.{Proper}
 use Rattle.cell_four_slot.specs.declared.notes.WriterNotes.{WriterNotes}
 use Rattle.cell_four_slot.specs.declared.notes.ReaderNotes.{ReaderNotes}
 use Rattle.cell_four_slot.specs.Steps.{FourSlotSight, asked_by, asks, slot_of_choice, said_with, word_said, asks_counting, says_counting}
 use Rattle.cell_four_slot.specs.Steps.{clock_of}
-use Rattle.cell_live.specs.declared.sight.Sight.TheVariants.{Writer, Reader}
+use Rattle.cell_contract.specs.declared.sight.Sight.TheVariants.{Writer, Reader}
 use Rattle.cell_four_slot.specs.Rule.{number_in, named_slot, InTable, Sees, FourSlotRule}
-use Rattle.cell_live.specs.Sights.{reader_or}
-use Rattle.cell_live.proofs.ListLaws.{seats_stay}
+use Rattle.cell_contract.specs.Sights.{reader_or}
+use Rattle.cell_contract.proofs.ListLaws.{seats_stay}
 use Rattle.cell_four_slot.proofs.Clear.{word_latest, word_reading, table_asks, table_says}
 use Rattle.cell_four_slot.proofs.Fresh.{numbered_read, settled_asks, settled_says, finished_shown}
 use Rattle.cell_four_slot.proofs.Slots.{bit_low}

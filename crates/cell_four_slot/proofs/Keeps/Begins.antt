@@ -11,19 +11,19 @@ use Rattle.four_slot_core.specs.declared.state.Stage.TheVariants as writer
 use Rattle.four_slot_core.specs.declared.event.WriteEvent.TheVariants.{W1, W2, W3}
 use Rattle.four_slot_core.specs.Events.{side, record_in, slot_with, bit_number, slot_number, opening_state}
 use Rattle.four_slot_core.specs.Invariant.{latest_slot}
-use Rattle.cell_live.specs.Running.{last_or, snap}
-use Rattle.cell_live.specs.Acts.{Proper}
+use Rattle.cell_contract.specs.Running.{last_or, snap}
+use Rattle.cell_contract.specs.Acts.{Proper}
 use Rattle.cell_four_slot.specs.declared.notes.WriterNotes.{WriterNotes}
 use Rattle.cell_four_slot.specs.declared.notes.ReaderNotes.{ReaderNotes}
 use Rattle.cell_four_slot.specs.Steps.{FourSlotSight, begun_with, begins, clock_of}
-use Rattle.cell_live.specs.declared.sight.Sight.TheVariants.{Writer}
+use Rattle.cell_contract.specs.declared.sight.Sight.TheVariants.{Writer}
 use Rattle.cell_four_slot.specs.Rule.{number_in, named_slot, StandsBy, InTable, IsNumbered, IsSettled, Sees, FourSlotRule}
-use Rattle.cell_live.specs.Sights.{writer_or}
-use Rattle.cell_live.proofs.ListLaws.{rising_snoc, seats_stay}
+use Rattle.cell_contract.specs.Sights.{writer_or}
+use Rattle.cell_contract.proofs.ListLaws.{rising_snoc, seats_stay}
 use Rattle.cell_four_slot.proofs.Clear.{free_slot, begun, word_reading, free_at_home, table_begins}
 use Rattle.cell_four_slot.proofs.Fresh.{numbered_begins, stands_longer, shown_same, settled_begins, free_unnamed}
 use Rattle.cell_four_slot.proofs.Slots.{number_else}
-use Rattle.cell_live.proofs.Timing.{first_begun, heeded_begun}
+use Rattle.cell_contract.proofs.Timing.{first_begun, heeded_begun}
 use Rattle.cell_four_slot.proofs.Timing.{timed_begins}
 use Rattle.cell_four_slot.proofs.Events.{leads_begins, sound_begins, wrote}
 use Rattle.cell_four_slot.proofs.Keeps.Sees.{sight_put, next_time, next_on, put_on}

@@ -4,14 +4,14 @@ use Rattle.atomic_table.specs.Table.{State, Me, Final, Seen}
 use Rattle.four_slot_core.specs.declared.state.Stage.{Stage}
 use Rattle.four_slot_core.specs.declared.state.ReaderStage.{ReaderStage}
 use Rattle.four_slot_core.specs.Invariant.{latest_slot}
-use Rattle.cell_live.specs.Running.{Settled}
-use Rattle.cell_live.specs.Intervals.{AreFirst}
+use Rattle.cell_contract.specs.Running.{Settled}
+use Rattle.cell_contract.specs.Intervals.{AreFirst}
 use Rattle.cell_four_slot.specs.declared.notes.WriterNotes.{WriterNotes}
 use Rattle.cell_four_slot.specs.declared.notes.ReaderNotes.{ReaderNotes}
 use Rattle.cell_four_slot.specs.Steps.{FourSlotSight}
-use Rattle.cell_live.specs.declared.sight.Sight.TheVariants.{Both}
+use Rattle.cell_contract.specs.declared.sight.Sight.TheVariants.{Both}
 use Rattle.cell_four_slot.specs.Rule.{number_in, named_slot, IsTimed, Sees, FourSlotRule}
-use Rattle.cell_live.proofs.ListLaws.{settled_more}
+use Rattle.cell_contract.proofs.ListLaws.{settled_more}
 
 module _ {T : Type 0} where
   take_rest : (n : ℕ) (ws : List T) → (more : List T) × (ws ≡ take n ws ++ more)

@@ -13,17 +13,17 @@ use Rattle.four_slot_core.specs.declared.state.Stage.TheVariants as writer
 use Rattle.four_slot_core.specs.declared.state.ReaderStage.TheVariants as reader
 use Rattle.four_slot_core.specs.Invariant.{latest_slot, IsStored}
 use Rattle.four_slot_core.specs.Freshness.{IsBegun}
-use Rattle.cell_live.specs.Running.{snap}
-use Rattle.cell_live.specs.Intervals.{known_as, IsHeeded}
-use Rattle.cell_live.specs.declared.times.Dated.{Dated}
+use Rattle.cell_contract.specs.Running.{snap}
+use Rattle.cell_contract.specs.Intervals.{known_as, IsHeeded}
+use Rattle.cell_contract.specs.declared.times.Dated.{Dated}
 use Rattle.cell_four_slot.specs.declared.notes.WriterNotes.{WriterNotes}
 use Rattle.cell_four_slot.specs.declared.notes.ReaderNotes.{ReaderNotes}
 use Rattle.cell_four_slot.specs.Steps.{FourSlotSight, receipt_for, told_by, heard_by, hears_of, whole_of}
-use Rattle.cell_live.specs.declared.sight.Sight.TheVariants.{Spent, Told, Writer, Reader, Both}
+use Rattle.cell_contract.specs.declared.sight.Sight.TheVariants.{Spent, Told, Writer, Reader, Both}
 use Rattle.cell_four_slot.specs.Rule.{number_in, named_slot, finished_number, StandsBy, Sees, FourSlotRule}
-use Rattle.cell_live.specs.Sights.{writer_part, reader_part}
-use Rattle.cell_live.proofs.ListLaws.{all_snoc, seats_stay}
-use Rattle.cell_live.proofs.Timing.{heeded_all}
+use Rattle.cell_contract.specs.Sights.{writer_part, reader_part}
+use Rattle.cell_contract.proofs.ListLaws.{all_snoc, seats_stay}
+use Rattle.cell_contract.proofs.Timing.{heeded_all}
 use Rattle.cell_four_slot.proofs.Timing.{timed_hears}
 use Rattle.cell_four_slot.proofs.Keeps.Sees.{sight_put, sight_get}
 

@@ -4,13 +4,13 @@ use Rattle.std.proofs.Common.{◌≡◌, ◌≢◌, ℕ, ◌+◌, ◌<◌, Optio
 use mathlib.Core.Option.{Option as Opt}
 use Rattle.atomic_table.specs.Table.{State, Act, keeps, gives, carried_after, homes_after, Valid}
 use Rattle.four_slot_core.specs.declared.state.Slot.{Slot}
-use Rattle.cell_live.specs.Intervals.{known_as, IsHeeded}
-use Rattle.cell_live.specs.Acts.{Proper}
-use Rattle.cell_live.specs.declared.times.Known.{Known}
+use Rattle.cell_contract.specs.Intervals.{known_as, IsHeeded}
+use Rattle.cell_contract.specs.Acts.{Proper}
+use Rattle.cell_contract.specs.declared.times.Known.{Known}
 use Rattle.cell_four_slot.specs.declared.notes.WriterNotes.{WriterNotes}
 use Rattle.cell_four_slot.specs.declared.notes.ReaderNotes.{ReaderNotes}
 use Rattle.cell_four_slot.specs.Steps.{FourSlotSight, slot_of_choice}
-use Rattle.cell_live.specs.declared.sight.Sight.TheVariants.{Spent, Told, Writer, Reader, Both}
+use Rattle.cell_contract.specs.declared.sight.Sight.TheVariants.{Spent, Told, Writer, Reader, Both}
 use Rattle.cell_four_slot.specs.Rule.{StandsBy, Sees, FourSlotRule}
 
 module _ {T : Type 0} where

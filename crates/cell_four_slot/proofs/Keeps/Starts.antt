@@ -10,7 +10,7 @@ use Rattle.four_slot_core.proofs.events.Keeping.{opening_is_sound}
 use Rattle.four_slot_core.specs.Interleaving.Leads.{Stays}
 use Rattle.cell_four_slot.specs.Steps.{FourSlotSight, first_writer, first_reader, first_sight}
 use Rattle.cell_four_slot.specs.Rule.{number_in, named_slot, Sees, FourSlotRule}
-use Rattle.cell_live.proofs.Timing.{first_all}
+use Rattle.cell_contract.proofs.Timing.{first_all}
 use Rattle.cell_four_slot.proofs.Timing.{timed_starts}
 use Rattle.cell_four_slot.proofs.Keeps.Seats.{reseated_at}
 

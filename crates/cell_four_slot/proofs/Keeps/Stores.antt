@@ -12,18 +12,18 @@ use Rattle.four_slot_core.specs.declared.state.Stage.TheVariants as writer
 use Rattle.four_slot_core.specs.declared.event.WriteEvent.TheVariants.{W4}
 use Rattle.four_slot_core.specs.Events.{with_side, bit_number, slot_number, opening_state, after_write}
 use Rattle.four_slot_core.specs.Invariant.{latest_slot, IsSound, IsUnderWay}
-use Rattle.cell_live.specs.Acts.{HasOne, Proper}
+use Rattle.cell_contract.specs.Acts.{HasOne, Proper}
 use Rattle.cell_four_slot.specs.declared.notes.WriterNotes.{WriterNotes}
 use Rattle.cell_four_slot.specs.declared.notes.ReaderNotes.{ReaderNotes}
 use Rattle.cell_four_slot.specs.Steps.{FourSlotSight, stored_by, stores, finishes_counting, finishes, finished_with, stores_on, clock_of}
-use Rattle.cell_live.specs.declared.sight.Sight.TheVariants.{Writer}
+use Rattle.cell_contract.specs.declared.sight.Sight.TheVariants.{Writer}
 use Rattle.cell_four_slot.specs.Rule.{number_in, named_slot, InTable, IsNumbered, Sees, FourSlotRule}
-use Rattle.cell_live.specs.Sights.{writer_or}
-use Rattle.cell_live.proofs.ListLaws.{seats_stay}
+use Rattle.cell_contract.specs.Sights.{writer_or}
+use Rattle.cell_contract.proofs.ListLaws.{seats_stay}
 use Rattle.cell_four_slot.proofs.Clear.{word_latest, table_stores, table_finishes}
 use Rattle.cell_four_slot.proofs.Fresh.{numbered_stores, numbered_finishes, stands_more, latest_grows, shown_grows, settled_stores}
 use Rattle.cell_four_slot.proofs.Fresh.{settled_finishes, number_grows}
-use Rattle.cell_live.proofs.Timing.{first_passed, first_ended, heeded_passed, heeded_ended}
+use Rattle.cell_contract.proofs.Timing.{first_passed, first_ended, heeded_passed, heeded_ended}
 use Rattle.cell_four_slot.proofs.Timing.{timed_stores, timed_finishes}
 use Rattle.cell_four_slot.proofs.Events.{leads_stores, leads_finishes, sound_stores, sound_finishes, wrote, has_finished}
 use Rattle.cell_four_slot.proofs.Keeps.Sees.{sight_put, next_time, next_on, put_on}

@@ -11,21 +11,21 @@ use Rattle.four_slot_core.specs.declared.event.ReadEvent.TheVariants.{R3, R4, R5
 use Rattle.four_slot_core.specs.Events.{side, record_in, slot_with, bit_number, slot_number, opening_state}
 use Rattle.four_slot_core.specs.Invariant.{latest_slot}
 use Rattle.four_slot_core.specs.Freshness.{IsBegun}
-use Rattle.cell_live.specs.Running.{IsAnswer, snap}
-use Rattle.cell_live.specs.Intervals.{AreHeeded, IsNextAnswer}
-use Rattle.cell_live.specs.Acts.{Proper}
-use Rattle.cell_live.specs.declared.times.Known.{Known}
+use Rattle.cell_contract.specs.Running.{IsAnswer, snap}
+use Rattle.cell_contract.specs.Intervals.{AreHeeded, IsNextAnswer}
+use Rattle.cell_contract.specs.Acts.{Proper}
+use Rattle.cell_contract.specs.declared.times.Known.{Known}
 use Rattle.cell_four_slot.specs.declared.notes.WriterNotes.{WriterNotes}
 use Rattle.cell_four_slot.specs.declared.notes.ReaderNotes.{ReaderNotes}
 use Rattle.cell_four_slot.specs.Steps.{FourSlotSight, got_by, takes as takes_slot, clock_of, HasAnswered}
-use Rattle.cell_live.specs.declared.sight.Sight.TheVariants.{Reader}
+use Rattle.cell_contract.specs.declared.sight.Sight.TheVariants.{Reader}
 use Rattle.cell_four_slot.specs.Rule.{number_in, named_slot, InTable, IsTimed, Sees, FourSlotRule}
-use Rattle.cell_live.specs.Sights.{reader_or}
-use Rattle.cell_live.proofs.ListLaws.{seats_stay}
+use Rattle.cell_contract.specs.Sights.{reader_or}
+use Rattle.cell_contract.proofs.ListLaws.{seats_stay}
 use Rattle.cell_four_slot.proofs.Clear.{read_on, word_bit, named_at_home, table_reads}
 use Rattle.cell_four_slot.proofs.Fresh.{numbered_read, settled_reads, answers_at, number_below}
 use Rattle.cell_four_slot.proofs.Slots.{number_bound}
-use Rattle.cell_live.proofs.Timing.{as_slice, first_all}
+use Rattle.cell_contract.proofs.Timing.{as_slice, first_all}
 use Rattle.cell_four_slot.proofs.Timing.{timed_takes, timed_atomic}
 use Rattle.cell_four_slot.proofs.Events.{leads_reads, sound_reads, has_read}
 use Rattle.cell_four_slot.proofs.Keeps.Sees.{sight_get, next_time, next_on, get_on}

@@ -1,7 +1,7 @@
 -- Clear and fresh look at the five events and the slot of each access alone, so accesses that agree there are clear and fresh alike.
 use Rattle.std.proofs.Common.{◌≡◌, ℕ, Option, IsSome, sym, subst, ◌∙◌, arith, inl, inr}
 use Rattle.four_slot_core.specs.Accesses.{Accesses, Agree, Fills, IsClear, IsFreshRead, IsSameSlot, IsSource}
-use Rattle.register_law.specs.Registers.{IsBefore}
+use Rattle.history_core.specs.Registers.{IsBefore}
 
 pub turned : {a b : Accesses} → Agree a b → Agree b a
 turned h = record { at = λ k e l. sym (h.at k e l); slot = λ k. sym (h.slot k) }

@@ -10,8 +10,8 @@ use Rattle.four_slot_core.specs.declared.state.Stage.TheVariants.{W1, W2, W3, W4
 use Rattle.four_slot_core.specs.declared.state.ReaderStage.{ReaderStage}
 use Rattle.four_slot_core.specs.declared.state.ReaderStage.TheVariants.{R1, R2, R3, R4, R5}
 use Rattle.four_slot_core.specs.Accesses.{IsClear}
-use Rattle.register_law.specs.Registers.{IsBefore}
-use Rattle.register_law.proofs.Times.{of_before, to_before}
+use Rattle.history_core.specs.Registers.{IsBefore}
+use Rattle.history_core.proofs.Times.{of_before, to_before}
 use Rattle.four_slot_core.specs.Events.{after_read, after_write, bit_number, slot_number}
 use Rattle.four_slot_core.specs.Invariant.{IsSound, IsUnderWay, HasIndex, HasSlot}
 use Rattle.four_slot_core.specs.Traces.{Trace, shown_by_write, shown_by_read, then_writer, then_reader, writes_of, reads_of}

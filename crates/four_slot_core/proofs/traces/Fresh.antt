@@ -9,8 +9,8 @@ use Rattle.four_slot_core.specs.declared.state.Stage.{Stage}
 use Rattle.four_slot_core.specs.declared.state.Stage.TheVariants.{W1, W2, W3, W4, W5}
 use Rattle.four_slot_core.specs.declared.state.ReaderStage.{ReaderStage}
 use Rattle.four_slot_core.specs.declared.state.ReaderStage.TheVariants.{R1, R2, R3, R4, R5}
-use Rattle.register_law.specs.Registers.{IsBefore}
-use Rattle.register_law.proofs.Times.{of_before, to_before}
+use Rattle.history_core.specs.Registers.{IsBefore}
+use Rattle.history_core.proofs.Times.{of_before, to_before}
 use Rattle.four_slot_core.specs.Events.{after_read, after_write, answer, next_write, record_in, slot_number}
 use Rattle.four_slot_core.specs.Freshness.{named, IsFreshAt, IsFresh, prev_after, floor_after}
 use Rattle.four_slot_core.specs.Invariant.{IsSound, IsSoundAt, IsStored, IsUnderWay, IsUnmet, IsReading, last_after}

@@ -11,8 +11,8 @@ use Rattle.four_slot_core.specs.declared.state.Stage.TheVariants.{W1, W2, W3, W4
 use Rattle.four_slot_core.specs.declared.state.ReaderStage.{ReaderStage}
 use Rattle.four_slot_core.specs.declared.state.ReaderStage.TheVariants.{R1, R2, R3, R4, R5}
 use Rattle.four_slot_core.specs.Accesses.{Fills, IsSource}
-use Rattle.register_law.specs.Registers.{IsBefore}
-use Rattle.register_law.proofs.Times.{of_before, to_before}
+use Rattle.history_core.specs.Registers.{IsBefore}
+use Rattle.history_core.proofs.Times.{of_before, to_before}
 use Rattle.four_slot_core.specs.Events.{after_read, after_write, answer, opening_state, record_in, with_record, slot_number}
 use Rattle.four_slot_core.specs.Freshness.{IsFreshAt, prev_after}
 use Rattle.four_slot_core.specs.Invariant.{IsReading, IsUnderWay, HasIndex}

@@ -1,8 +1,8 @@
 -- Records and operations that got numbers. Only private functions cite this, which is this project's own.
 use Rattle.std.specs.Prelude.{◌≡◌, ℕ, List, slice_get, Option, Some}
 use Rattle.history_core.specs.declared.history.Op.{Op}
-use Rattle.lines_tables.specs.Numberings.{IsNumbering}
-use Rattle.lines_tables.specs.declared.numbering.Numbering.{Numbering}
+use Rattle.read_line.specs.Numberings.{IsNumbering}
+use Rattle.read_line.specs.declared.numbering.Numbering.{Numbering}
 use Rattle.lines_log.specs.Logs.{IsItem, IsNumberedOp}
 
 -- the records that were met stay where they stand

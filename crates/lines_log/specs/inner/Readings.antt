@@ -1,17 +1,17 @@
 -- How far a log is read. Only private functions cite this, which is this project's own.
 use Rattle.std.specs.Prelude.{◌≡◌, ℕ, List, [], ◌∷◌, ◌++◌, ◌⊎◌, length, Bool, true, false, slice_get, None, Some, Ok}
-use Rattle.lines_tables.specs.Numberings.{IsNumbering}
-use Rattle.lines_tables.specs.Reads.{WereRead, KnowsReads}
-use Rattle.document_text.specs.Splits.{lines_of}
-use Rattle.lines_tables.specs.Tasks.{KnowsTasks}
+use Rattle.read_line.specs.Numberings.{IsNumbering}
+use Rattle.read_line.specs.Reads.{WereRead, KnowsReads}
+use Rattle.read_document.specs.Splits.{lines_of}
+use Rattle.read_line.specs.Tasks.{KnowsTasks}
 use Rattle.lines_log.specs.Logs.{AreAll, AreLines, judged_line, unfinished_in}
 use Rattle.history_core.specs.declared.history.Op.{Op}
 use Rattle.history_core.specs.declared.reason.SearchError.{SearchError}
 use Rattle.history_thinning.specs.Answers.{IsThinnedFault}
 use Rattle.history_thinning.specs.Thinnings.{IsThinnedLog}
 use Rattle.history_thinning.specs.inner.Kept.{IsThinning}
-use Rattle.fsr_runs.specs.declared.fault.Fault.{Fault}
-use Rattle.fsr_runs.specs.declared.fault.Fault.TheVariants.{NoMemory}
+use Rattle.program_runs.specs.declared.fault.Fault.{Fault}
+use Rattle.program_runs.specs.declared.fault.Fault.TheVariants.{NoMemory}
 use Rattle.lines_log.specs.Faults.{told_of}
 use Rattle.lines_log.specs.declared.lines_log.LinesLog.{LinesLog}
 use Rattle.lines_log.specs.declared.reader.Reader.{Reader}

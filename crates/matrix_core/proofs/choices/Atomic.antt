@@ -8,10 +8,10 @@ use Rattle.history_core.specs.declared.history.Kind.{Kind}
 use Rattle.history_core.specs.declared.history.Kind.TheVariants.{Write, Read, Refused}
 use Rattle.history_core.specs.Schedules.{access_at, Span, steps_of}
 use Rattle.history_core.proofs.Played.{later_operation}
-use Rattle.register_law.specs.Registers.{Intervals, IsBefore, IsReadOf}
-use Rattle.register_law.proofs.Times.{of_before, to_before}
-use Rattle.stamps.specs.declared.stamp.Stamp.{Stamp}
-use Rattle.stamps.specs.Choices.{AllChoose, Choice, ChoosesByKind, IsFrom, IsIn}
+use Rattle.history_core.specs.Registers.{Intervals, IsBefore, IsReadOf}
+use Rattle.history_core.proofs.Times.{of_before, to_before}
+use Rattle.matrix_core.specs.declared.stamp.Stamp.{Stamp}
+use Rattle.matrix_core.specs.Choices.{AllChoose, Choice, ChoosesByKind, IsFrom, IsIn}
 use Rattle.matrix_core.proofs.choices.ByAccesses.{done_event, in_done}
 
 -- an access of one position

@@ -20,12 +20,12 @@ use Rattle.history_core.proofs.Positions.{position_below, position_exists, posit
 use Rattle.history_core.proofs.Positions.{positions_length, positions_rise, steps_mine, steps_other}
 use Rattle.four_slot_core.specs.Traces.{source_record}
 use Rattle.four_slot_core.proofs.Pushed.{get_cases}
-use Rattle.register_law.proofs.Times.{of_before, to_before}
-use Rattle.register_law.specs.Registers.{IsReadOf}
-use Rattle.stamps.specs.declared.stamp.Stamp.{Stamp}
-use Rattle.stamps.specs.declared.stamp.Stamped.{Stamped}
+use Rattle.history_core.proofs.Times.{of_before, to_before}
+use Rattle.history_core.specs.Registers.{IsReadOf}
+use Rattle.matrix_core.specs.declared.stamp.Stamp.{Stamp}
+use Rattle.matrix_core.specs.declared.stamp.Stamped.{Stamped}
 use Rattle.matrix_core.specs.Lines.{first_record, other}
-use Rattle.stamps.specs.Choices.{Choice, HasChoices, IsChoiceOf, IsEarlier, IsIn}
+use Rattle.matrix_core.specs.Choices.{Choice, HasChoices, IsChoiceOf, IsEarlier, IsIn}
 use Rattle.matrix_core.specs.Gathering.{AllGather, choices_of, Gathers, IsCellAnswer, numbered, record_of}
 use Rattle.matrix_core.specs.ByAccesses.{choice_at, chooses_at, ChoosesBy, column, IsChosenBy, IsCut, row}
 use Rattle.matrix_core.proofs.lines.Others.{other_differs, other_inside, other_reached}

@@ -7,14 +7,14 @@ use Rattle.std.specs.Option.{option_map}
 use Rattle.std.proofs.lemmas.Bool.{cases_eq}
 use Rattle.std.proofs.lemmas.Bool.Decides.{nat_tests}
 use Rattle.std.proofs.lemmas.Option.{none-some, same_Some, slice_get_within}
-use Rattle.stamps.specs.declared.stamp.Stamped.{Stamped}
+use Rattle.matrix_core.specs.declared.stamp.Stamped.{Stamped}
 use Rattle.matrix_core.specs.Lines.{first_record, other}
-use Rattle.stamps.specs.Choices.{AllChoose, Choice, Chooses, IsAtMost, IsFrom, IsIn}
-use Rattle.stamps.specs.Stamps.{greater, greatest}
+use Rattle.matrix_core.specs.Choices.{AllChoose, Choice, Chooses, IsAtMost, IsFrom, IsIn}
+use Rattle.matrix_core.specs.Stamps.{greater, greatest}
 use Rattle.matrix_core.specs.Gathering.{AllGather, choices_of, Gathers, IsCellAnswer, numbered, record_of}
 use Rattle.matrix_core.proofs.lines.Others.{other_reached}
-use Rattle.stamps.proofs.choices.Rise.{chosen_at_least}
-use Rattle.stamps.proofs.choices.Stamps.{at_most_refl, at_most_trans, greater_first, greater_is, greater_second}
+use Rattle.matrix_core.proofs.choices.Rise.{chosen_at_least}
+use Rattle.matrix_core.proofs.choices.Stamps.{at_most_refl, at_most_trans, greater_first, greater_is, greater_second}
 use Rattle.matrix_core.proofs.lists.Elements.{get_exists}
 use Rattle.four_slot_core.proofs.Pushed.{get_cases, get_before, get_last}
 

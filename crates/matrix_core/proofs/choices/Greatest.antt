@@ -7,17 +7,17 @@ use Rattle.std.proofs.lemmas.Option.{none-some, same_Some}
 use Rattle.history_core.specs.declared.history.Op.{Op}
 use Rattle.history_core.specs.Schedules.{Span, steps_of}
 use Rattle.four_slot_core.specs.Traces.{source_record}
-use Rattle.stamps.specs.declared.stamp.Stamp.{Stamp}
-use Rattle.stamps.specs.declared.stamp.Stamped.{Stamped}
+use Rattle.matrix_core.specs.declared.stamp.Stamp.{Stamp}
+use Rattle.matrix_core.specs.declared.stamp.Stamped.{Stamped}
 use Rattle.matrix_core.specs.declared.progress.Progress.{Progress}
 use Rattle.matrix_core.specs.Gathering.{record_of}
-use Rattle.stamps.specs.Choices.{Choice, HasChoices, IsAtMost, IsEarlier, IsFrom, IsGreatestChoice, IsIn}
+use Rattle.matrix_core.specs.Choices.{Choice, HasChoices, IsAtMost, IsEarlier, IsFrom, IsGreatestChoice, IsIn}
 use Rattle.matrix_core.specs.Lines.{first_record}
 use Rattle.matrix_core.specs.inner.Operations.{greatest_own}
-use Rattle.stamps.specs.Stamps.{greater}
+use Rattle.matrix_core.specs.Stamps.{greater}
 use Rattle.matrix_core.proofs.choices.Gathered.{in_mine, mine_in, mine_rise}
 use Rattle.matrix_core.proofs.choices.ByAccesses.{HasRecords}
-use Rattle.stamps.proofs.choices.Stamps.{at_most_refl, at_most_trans, greater_first, greater_is, greater_second}
+use Rattle.matrix_core.proofs.choices.Stamps.{at_most_refl, at_most_trans, greater_first, greater_is, greater_second}
 use Rattle.matrix_core.proofs.choices.Made.{IsMade}
 use Rattle.matrix_core.proofs.lists.Elements.{get_exists}
 

@@ -4,7 +4,7 @@ use Rattle.std.specs.Prelude.{nat_lt, nat_eq, if◌then◌else◌}
 use Rattle.std.proofs.lemmas.Bool.Decides.{nat_tests}
 use Rattle.history_core.specs.declared.wish.Wish.{Wish}
 use Rattle.history_core.specs.declared.wish.Wish.TheVariants.{Write, Read}
-use Rattle.stamps.specs.declared.stamp.Stamped.{Stamped}
+use Rattle.matrix_core.specs.declared.stamp.Stamped.{Stamped}
 use Rattle.matrix_core.specs.declared.progress.Progress.{Progress}
 use Rattle.matrix_core.specs.Lines.{after_read, after_write, choice, chosen, begun, gathered}
 use Rattle.matrix_core.proofs.lists.Elements.{same, not_same}

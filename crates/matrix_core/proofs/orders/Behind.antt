@@ -2,7 +2,7 @@
 use Rattle.std.proofs.Common.{◌≡◌, ℕ, ◌+◌, List, ◌++◌, length, map, drop, sym, ◌∙◌}
 use Rattle.std.specs.Prelude.{Option}
 use Rattle.history_core.specs.declared.history.Op.{Op}
-use Rattle.stamps.specs.declared.stamp.Stamp.{Stamp}
+use Rattle.matrix_core.specs.declared.stamp.Stamp.{Stamp}
 use Rattle.matrix_core.specs.Listings.{IsInOrder}
 use Rattle.matrix_core.proofs.lists.Elements.{rest_is}
 

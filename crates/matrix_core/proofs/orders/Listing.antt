@@ -17,9 +17,9 @@ use Rattle.std.proofs.lemmas.Option.{slice_get_within, slice_get-get_or, slice_g
 use Rattle.history_core.specs.declared.history.Op.{Op}
 use Rattle.history_core.specs.Orders.{times_of, is_write}
 use Rattle.history_core.proofs.Places.{get_pushed_cases}
-use Rattle.stamps.specs.declared.stamp.Stamp.{Stamp}
+use Rattle.matrix_core.specs.declared.stamp.Stamp.{Stamp}
 use Rattle.matrix_core.specs.declared.order.Listed.{Listed}
-use Rattle.stamps.specs.Stamps.{IsBelow}
+use Rattle.matrix_core.specs.Stamps.{IsBelow}
 use Rattle.matrix_core.specs.Listings.{is_listed, IsInOrder}
 use Rattle.matrix_core.proofs.lists.Elements.{same_or_not}
 use Rattle.matrix_core.proofs.lists.Elements.{same, not_same}

@@ -10,10 +10,10 @@ use Rattle.history_core.specs.declared.history.Op.{Op}
 use Rattle.history_core.specs.Numbers.{StandsAt}
 use Rattle.history_core.specs.Orders.{is_write, times_of}
 use Rattle.history_core.proofs.Listing.{times_cases, times_cons}
-use Rattle.stamps.specs.declared.stamp.Stamp.{Stamp}
-use Rattle.stamps.specs.Choices.{BeginInTurn}
+use Rattle.matrix_core.specs.declared.stamp.Stamp.{Stamp}
+use Rattle.matrix_core.specs.Choices.{BeginInTurn}
 use Rattle.matrix_core.specs.Listings.{IsInOrder, is_listed, MayPrecede}
-use Rattle.stamps.specs.Stamps.{IsBelow}
+use Rattle.matrix_core.specs.Stamps.{IsBelow}
 use Rattle.matrix_core.proofs.lists.Elements.{get_exists}
 
 -- a place that stands is counted, and one that stands twice is counted twice

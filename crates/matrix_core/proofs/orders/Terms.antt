@@ -20,14 +20,14 @@ use Rattle.history_core.proofs.Latest.{HasItemByNumber, latest_is_opening, lates
 use Rattle.history_core.proofs.Listed.{some_and_from}
 use Rattle.history_core.proofs.Listing.{listing_from, StandsOnce}
 use Rattle.history_core.proofs.Numbered.{keeps_by_number}
-use Rattle.stamps.specs.declared.stamp.Stamp.{Stamp}
-use Rattle.stamps.specs.Choices.{AllChoose, BeginInTurn, Choice, HasChoices, IsAtMost, IsChoiceOf, IsEarlier, IsGreatestChoice, IsIn}
-use Rattle.stamps.specs.Stamps.{first_stamp, IsBelow}
-use Rattle.stamps.proofs.choices.Stamps.{rank}
+use Rattle.matrix_core.specs.declared.stamp.Stamp.{Stamp}
+use Rattle.matrix_core.specs.Choices.{AllChoose, BeginInTurn, Choice, HasChoices, IsAtMost, IsChoiceOf, IsEarlier, IsGreatestChoice, IsIn}
+use Rattle.matrix_core.specs.Stamps.{first_stamp, IsBelow}
+use Rattle.matrix_core.proofs.choices.Stamps.{rank}
 use Rattle.matrix_core.specs.Listings.{IsInOrder}
-use Rattle.stamps.proofs.choices.Rise.{all_fit, from_has, have_writes, one_write_each, stamps_rise, tags_rise}
+use Rattle.matrix_core.proofs.choices.Rise.{all_fit, from_has, have_writes, one_write_each, stamps_rise, tags_rise}
 use Rattle.matrix_core.proofs.orders.Places.{ComesFirst, IsListed, IsTermOrder, term_order}
-use Rattle.stamps.proofs.choices.Stamps.{below_at_most, below_itself, Fits, rank_at_most, rank_below, rank_same}
+use Rattle.matrix_core.proofs.choices.Stamps.{below_at_most, below_itself, Fits, rank_at_most, rank_below, rank_same}
 
 rank_of : Option (Option Stamp) → ℕ
 rank_of None = 0

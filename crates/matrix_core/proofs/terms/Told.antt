@@ -15,8 +15,8 @@ use Rattle.history_core.proofs.Played.{after, later_operation, begins, finishes,
 use Rattle.history_core.proofs.Played.{operation_once, replaced, same_operation_number}
 use Rattle.history_core.proofs.Positions.{position_below, position_exists, position_made, position_once, position_stays, steps_mine}
 use Rattle.history_core.proofs.Positions.{steps_other}
-use Rattle.stamps.specs.declared.stamp.Stamp.{Stamp}
-use Rattle.stamps.specs.declared.stamp.Stamped.{Stamped}
+use Rattle.matrix_core.specs.declared.stamp.Stamp.{Stamp}
+use Rattle.matrix_core.specs.declared.stamp.Stamped.{Stamped}
 use Rattle.matrix_core.proofs.choices.ByAccesses.{step_event, steps_up}
 
 module _ {R : Type 0} (at : ℕ) (span : Span R) (ch : ℕ) (high : ch + 1 < span.accesses) (chosen : ℕ → ℕ → Stamped R)

@@ -12,14 +12,14 @@ use Rattle.history_core.specs.declared.wish.Wish.TheVariants.{Write, Read}
 use Rattle.history_core.specs.Schedules.{access_at, Follows, IsOperation, IsPlayed, planned, positions, Span}
 use Rattle.history_core.proofs.Played.{same_operation_number}
 use Rattle.history_core.proofs.Positions.{position_once}
-use Rattle.register_law.specs.Registers.{Intervals, IsBefore, IsReadOf}
-use Rattle.register_law.proofs.Times.{of_before}
-use Rattle.stamps.specs.Stamps.{greatest}
+use Rattle.history_core.specs.Registers.{Intervals, IsBefore, IsReadOf}
+use Rattle.history_core.proofs.Times.{of_before}
+use Rattle.matrix_core.specs.Stamps.{greatest}
 use Rattle.four_slot_core.specs.Traces.{source_record}
-use Rattle.stamps.specs.declared.stamp.Stamp.{Stamp}
-use Rattle.stamps.specs.declared.stamp.Stamped.{Stamped}
+use Rattle.matrix_core.specs.declared.stamp.Stamp.{Stamp}
+use Rattle.matrix_core.specs.declared.stamp.Stamped.{Stamped}
 use Rattle.matrix_core.specs.ByAccesses.{choice_at, chooses_at, ChoosesBy, column, IsChosenBy, IsCut, row}
-use Rattle.stamps.specs.Choices.{Choice, ChoosesByKind}
+use Rattle.matrix_core.specs.Choices.{Choice, ChoosesByKind}
 use Rattle.matrix_core.specs.Lines.{first_record, other}
 use Rattle.matrix_play.specs.MatrixRuns.{IsMatrixRun}
 use Rattle.matrix_core.proofs.lines.Others.{other_differs, other_inside, other_reached}

@@ -15,14 +15,14 @@ use Rattle.history_core.proofs.Folds.{fold_keeps_all}
 use Rattle.history_core.proofs.Played.{nothing_played}
 use Rattle.history_core.proofs.Positions.{missing_position, position_below}
 use Rattle.four_slot_core.specs.Traces.{source_record}
-use Rattle.stamps.specs.declared.stamp.Stamped.{Stamped}
+use Rattle.matrix_core.specs.declared.stamp.Stamped.{Stamped}
 use Rattle.matrix_core.specs.declared.progress.Progress.{Progress}
 use Rattle.matrix_core.specs.declared.progress.Outcome.{Outcome}
 use Rattle.matrix_core.specs.declared.progress.Outcome.TheVariants.{Seen}
 use Rattle.matrix_core.proofs.terms.Kinds.{outcome_or}
 use Rattle.matrix_core.specs.Lines.{own_or}
 use Rattle.matrix_core.specs.ByAccesses.{choice_at, chooses_at, ChoosesBy}
-use Rattle.stamps.specs.Choices.{Choice, ChoosesByKind}
+use Rattle.matrix_core.specs.Choices.{Choice, ChoosesByKind}
 use Rattle.matrix_core.specs.Lines.{choice, first_record, opening_line}
 use Rattle.matrix_play.specs.MatrixEvents.{size}
 use Rattle.matrix_core.proofs.terms.Kinds.{kind_of}

@@ -4,7 +4,7 @@ use Rattle.std.specs.Prelude.{slice_get, Some, nat_lt, nat_eq, if◌then◌else�
 use Rattle.std.proofs.lemmas.Bool.Decides.{nat_tests}
 use Rattle.std.proofs.lemmas.List.{length-set, length-replicate}
 use Rattle.history_core.specs.declared.wish.Wish.{Wish}
-use Rattle.stamps.specs.declared.stamp.Stamped.{Stamped}
+use Rattle.matrix_core.specs.declared.stamp.Stamped.{Stamped}
 use Rattle.matrix_core.specs.declared.progress.Progress.{Progress}
 use Rattle.matrix_core.specs.Lines.{cell_place, other, after_read, after_write, opening_line, first_record}
 use Rattle.matrix_core.proofs.lists.Elements.{get_set, get_replicate}

@@ -16,7 +16,7 @@ use Rattle.history_core.proofs.Overruns.{planned_next}
 use Rattle.history_core.proofs.Places.{get_last}
 use Rattle.history_core.proofs.Played.{after, IsUnderWay, replaced_by_set, same_operation_number}
 use Rattle.history_core.proofs.Positions.{steps_mine}
-use Rattle.stamps.specs.declared.stamp.Stamped.{Stamped}
+use Rattle.matrix_core.specs.declared.stamp.Stamped.{Stamped}
 use Rattle.matrix_core.specs.declared.progress.Progress.{Progress}
 use Rattle.matrix_core.specs.declared.progress.Outcome.{Outcome}
 use Rattle.matrix_core.specs.declared.progress.Outcome.TheVariants.{Written, Seen, Ended}

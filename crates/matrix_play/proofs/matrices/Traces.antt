@@ -11,10 +11,10 @@ use Rattle.history_core.specs.declared.wish.Wish.{Wish}
 use Rattle.history_core.specs.Schedules.{access_at, planned, Span, steps_of}
 use Rattle.four_slot_core.specs.Traces.{source_record}
 use Rattle.four_slot_core.proofs.Pushed.{get_cases}
-use Rattle.register_law.proofs.Times.{of_before, to_before}
-use Rattle.stamps.specs.Stamps.{greater, greatest}
-use Rattle.register_law.specs.Registers.{IsReadOf}
-use Rattle.stamps.specs.declared.stamp.Stamped.{Stamped}
+use Rattle.history_core.proofs.Times.{of_before, to_before}
+use Rattle.matrix_core.specs.Stamps.{greater, greatest}
+use Rattle.history_core.specs.Registers.{IsReadOf}
+use Rattle.matrix_core.specs.declared.stamp.Stamped.{Stamped}
 use Rattle.matrix_core.specs.declared.progress.Progress.{Progress}
 use Rattle.matrix_core.specs.declared.progress.Outcome.{Outcome}
 use Rattle.matrix_core.specs.ByAccesses.{column, row, intervals_at}

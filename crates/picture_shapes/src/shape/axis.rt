@@ -3,7 +3,7 @@
 ghost use Rattle.std.specs.Prelude.{◌≡◌, ◌+◌, ◌≤◌, ◌++◌, length};
 ghost use Rattle.picture_shapes.specs.Shapes.{term_name, term_text, term_words, tick_text, tick_words};
 
-use report_lines::Line;
+use print_report::Line;
 
 #[tactic(auto, unfolding(crate::specs::Shapes::tick_text), using(std::proofs::Common::append_assoc))]
 pub fn put_tick(line: &mut Line, x: u64, high: u64, moment: u64)

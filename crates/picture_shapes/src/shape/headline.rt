@@ -3,7 +3,7 @@
 ghost use Rattle.std.specs.Prelude.{◌≡◌, ◌+◌, ◌≤◌, ◌++◌, codes, decimal, length};
 ghost use Rattle.picture_shapes.specs.Shapes.{unlawful_head, words_end};
 
-use report_lines::Line;
+use print_report::Line;
 
 #[tactic(auto, using(std::proofs::Common::append_assoc))]
 pub fn put_words(line: &mut Line, before: &[u8], number: u64, after: &[u8])

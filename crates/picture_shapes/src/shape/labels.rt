@@ -1,13 +1,12 @@
 //! The words of an operation: its kind, its stamp and its record.
 
 ghost use Rattle.std.specs.Prelude.{◌≡◌, ◌+◌, ◌≤◌, ◌++◌, length};
-ghost use Rattle.report_lines.specs.Lines.{kind_text};
+ghost use Rattle.print_report.specs.Lines.{kind_text};
 ghost use Rattle.picture_shapes.specs.Shapes.{item_words, kind_words, stamp_words, words_head};
 
 use history_core::{Band, Kind};
-use report_lines::{Line, put_item};
-use report_text::put_stamp;
-use stamps::Stamp;
+use matrix_core::Stamp;
+use print_report::{Line, put_item, put_stamp};
 
 #[tactic(auto, unfolding(crate::specs::Shapes::words_head), using(std::proofs::Common::append_assoc))]
 pub fn put_words_head(line: &mut Line, x: u64, y: u64)

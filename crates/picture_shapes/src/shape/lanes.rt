@@ -5,7 +5,7 @@ ghost use Rattle.history_core.specs.Others.{other};
 ghost use Rattle.picture_shapes.specs.Shapes.{actor_name, cell_name, lane_head, lane_name, lane_words, row_text, row_y, side_name};
 
 use crate::places::y_of;
-use report_lines::Line;
+use print_report::Line;
 
 /// What the lanes of a picture are.
 #[derive(Clone, Copy, Debug, PartialEq, Eq)]

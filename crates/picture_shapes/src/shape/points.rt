@@ -5,7 +5,7 @@ ghost use Rattle.picture_shapes.specs.Shapes.{circle_text, join_head, join_text,
 ghost use Rattle.picture_shapes.specs.Shapes.{spot_text};
 
 use crate::shape::{Join, Spot};
-use report_lines::Line;
+use print_report::Line;
 
 #[tactic(auto, unfolding(crate::specs::Shapes::point_text), using(std::proofs::Common::append_assoc))]
 pub fn put_point(line: &mut Line, number: usize, at: Spot)

@@ -1,7 +1,7 @@
 //! One script through the register, five events for each call, and through the running cell.
 use super::Count;
+use cell_contract::Calls;
 use cell_four_slot::FourSlotCell;
-use cell_live::Calls;
 use four_slot_core::{Bits, CellCore, ReadStage};
 use std::alloc::{AllocError, Global};
 use std::test::Fail;

@@ -2,9 +2,9 @@
 use super::{A, B, C, OPENING};
 use board_live::{BoardError, Posted, TagsEnded};
 use board_teams::Team;
-use family_live::Family;
+use cell_contract::Family;
 use history_core::Band;
-use stamps::Stamp;
+use matrix_core::Stamp;
 use std::alloc::Global;
 
 fn stamp(tag: u64, writer: usize) -> Stamp {

@@ -1,12 +1,11 @@
 //! A record that was written outside any lane: the logs have no write of it.
 use super::{B, OPENING};
 use board_live::Posted;
-use board_origins::{Origin, check_origin};
-use board_tasks::{Entry, Lane, OpenGate, Reply, make_lanes, run_tasks};
+use board_tasks::{Entry, Lane, OpenGate, Origin, Reply, check_origin, make_lanes, run_tasks};
 use board_teams::{Step, Team, scripts};
-use family_live::{Family, SharedFamily};
+use cell_contract::{Family, SharedFamily};
 use history_core::Band;
-use stamps::Stamp;
+use matrix_core::Stamp;
 use std::alloc::{AllocError, Global};
 use std::thread::Threads;
 

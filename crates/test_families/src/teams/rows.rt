@@ -6,9 +6,9 @@ ghost use Rattle.board_live.specs.Ends.{AllPasses};
 use super::{A, B, C, OPENING, UNLAWFUL};
 use board_live::{BoardError, Posted};
 use board_teams::{Given, Step, Team};
-use family_live::Family;
+use cell_contract::Family;
 use history_core::Band;
-use stamps::Stamp;
+use matrix_core::Stamp;
 use std::alloc::Global;
 
 /// Boards, each of which opens with the last record of the one before.

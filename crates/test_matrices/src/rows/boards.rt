@@ -1,10 +1,9 @@
 //! Worked rows of composed boards.
 
 use super::{A, B, C, OPENING, Planned, Told, can_play, has, terms_of};
+use composed_play::play_board;
 use history_core::{Band, Items, Kind, Op, PlayError, Wish};
-use matrix_board_play::play_board;
-use matrix_core::{BoardReport, BoardSchedule, MatrixTerm};
-use stamps::Stamp;
+use matrix_core::{BoardReport, BoardSchedule, MatrixTerm, Stamp};
 use std::alloc::{AllocError, Global};
 use std::test::Fail;
 

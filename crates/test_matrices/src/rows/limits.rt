@@ -4,8 +4,7 @@ use super::boards::{self, board};
 use super::matrices::{self, schedule};
 use super::{A, B, steps_of};
 use history_core::{Band, Items, Kind, MAX_LIMIT, Op, Wish};
-use matrix_core::{BoardSchedule, MatrixSchedule, MatrixTerm};
-use stamps::Stamp;
+use matrix_core::{BoardSchedule, MatrixSchedule, MatrixTerm, Stamp};
 use std::alloc::{AllocError, Global};
 use std::test::Fail;
 

@@ -2,9 +2,8 @@
 
 use super::{A, B, C, OPENING, Planned, Told, can_play, has, terms_of};
 use history_core::{Band, Items, Kind, Op, PlayError, Term, Wish};
-use matrix_core::{MatrixReport, MatrixSchedule, MatrixTerm};
+use matrix_core::{MatrixReport, MatrixSchedule, MatrixTerm, Stamp};
 use matrix_play::play_matrix;
-use stamps::Stamp;
 use std::alloc::{AllocError, Global};
 use std::test::Fail;
 

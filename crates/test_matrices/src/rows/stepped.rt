@@ -2,9 +2,8 @@
 
 use super::{A, B, OPENING};
 use history_core::{MAX_LIMIT, Wish};
-use matrix_core::Outcome;
+use matrix_core::{Outcome, Stamp, Stamped};
 use matrix_play::{MatrixCore, MatrixStage};
-use stamps::{Stamp, Stamped};
 use std::test::Fail;
 
 /// Two writes whose accesses alternate, and a read of the later one, stepped by hand.

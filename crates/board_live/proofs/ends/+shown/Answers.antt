@@ -1,6 +1,6 @@
 -- The seats stay the same list in their order, however many are taken out.
 use Rattle.std.proofs.Common.{arith, ◌≡◌, ◌+◌, ◌∷◌, [], length, length-append, ap, ◌∙◌, sym, subst}
-use Rattle.family_live.specs.Ends.{Each, EachTwo, IsAtomicCell}
+use Rattle.cell_contract.specs.Ends.{Each, EachTwo, IsAtomicCell}
 use Rattle.board_live.specs.inner.Room.{in_order}
 use Rattle.board_live.proofs.Mapping.{order_none, order_more}
 use Rattle.board_live.proofs.ends.+shown.Goals as goal

@@ -2,13 +2,13 @@
 -- may be the answer.
 use Rattle.std.proofs.Common.{rules, arith, ◌≡◌, ◌+◌, ◌∷◌, ◌++◌, [], sym, ap, ◌∙◌, subst, refl, ◌≤◌, le_trans, le_of_lt}
 use Rattle.four_slot_core.specs.Events.{slot_with, bit_number, slot_number}
-use Rattle.cell_live.specs.Running.{IsAnswer, last_or, snap}
-use Rattle.cell_live.specs.Intervals.{AreHeeded, IsNextCall, IsNextAnswer}
-use Rattle.cell_live.proofs.ListLaws.{last_snoc}
-use Rattle.cell_live.specs.Sights.{reader_or}
+use Rattle.cell_contract.specs.Running.{IsAnswer, last_or, snap}
+use Rattle.cell_contract.specs.Intervals.{AreHeeded, IsNextCall, IsNextAnswer}
+use Rattle.cell_contract.proofs.ListLaws.{last_snoc}
+use Rattle.cell_contract.specs.Sights.{reader_or}
 use Rattle.cell_four_slot.specs.Steps.{first_reader, asked_by, said_with, got_by, slot_of_choice, word_said}
 use Rattle.cell_four_slot.specs.declared.notes.ReaderNotes.{ReaderNotes}
-use Rattle.cell_live.specs.declared.sight.Sight.TheVariants.{Reader}
+use Rattle.cell_contract.specs.declared.sight.Sight.TheVariants.{Reader}
 use Rattle.four_slot_core.specs.declared.event.ReadEvent.TheVariants.{R1, R2, R3, R4, R5}
 use Rattle.cell_four_slot.proofs.Events.{read_joined, at_most_one}
 use Rattle.cell_four_slot.proofs.calls.choose.Goals as goal

@@ -1,12 +1,12 @@
 -- The load tells the notes whether the word had the mark: without it the answer is at hand, with it the swap brings it.
 use Rattle.std.proofs.Common.{rules, arith, ◌≡◌, ◌%◌, ◌∷◌, ◌++◌, [], sym, ap, ◌∙◌, subst, refl, le_refl}
-use Rattle.cell_live.specs.Running.{IsAnswer, last_or}
-use Rattle.cell_live.specs.Sights.{reader_or}
+use Rattle.cell_contract.specs.Running.{IsAnswer, last_or}
+use Rattle.cell_contract.specs.Sights.{reader_or}
 use Rattle.cell_triple.specs.Steps.{first_reader, asked_by}
-use Rattle.cell_live.specs.Intervals.{AreHeeded, IsNextCall, IsNextAnswer}
-use Rattle.cell_live.proofs.ListLaws.{last_snoc}
+use Rattle.cell_contract.specs.Intervals.{AreHeeded, IsNextCall, IsNextAnswer}
+use Rattle.cell_contract.proofs.ListLaws.{last_snoc}
 use Rattle.cell_triple.specs.declared.notes.ReaderNotes.{ReaderNotes}
-use Rattle.cell_live.specs.declared.sight.Sight.TheVariants.{Reader}
+use Rattle.cell_contract.specs.declared.sight.Sight.TheVariants.{Reader}
 use Rattle.cell_triple.proofs.calls.refresh.Goals as goal
 
 pub look-found-requires-clause-idle : goal.look-found-requires-clause-idle

@@ -1,7 +1,7 @@
 -- The last pass goes from the passes that are left to a task.
 use Rattle.std.proofs.Common.{subst, sym, ◌++◌, ◌∷◌, [], All}
 use Rattle.std.proofs.lemmas.List.{append-nil}
-use Rattle.cell_live.proofs.ListLaws.{all_snoc}
+use Rattle.cell_contract.proofs.ListLaws.{all_snoc}
 use Rattle.board_live.specs.Passes.{IsPass}
 use Rattle.cells_bench.specs.Items.{no_law}
 use Rattle.cells_bench.proofs.Fronts.{all_at, all_front}

@@ -2,7 +2,7 @@
 use Rattle.std.proofs.Common.{◌≡◌, ℕ, [], ◌∷◌, ◌++◌, append-nil, length, refl, sym, ◌∙◌, subst}
 use mathlib.Core.Option.{some}
 use lib.ListN.{get_elem?}
-use Rattle.family_live.specs.Ends.{Each}
+use Rattle.cell_contract.specs.Ends.{Each}
 use Rattle.family_table.specs.declared.processes.ProcessSeat.{ProcessSeat}
 use Rattle.family_table.specs.declared.notes.View.TheVariants.{Has}
 use Rattle.family_table.specs.Seated.{known_by}

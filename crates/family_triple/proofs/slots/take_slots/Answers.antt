@@ -1,6 +1,6 @@
 -- Each turn takes the slot of one cell, which goes behind those taken before.
 use Rattle.std.proofs.Common.{◌≡◌, ◌+◌, ◌-◌, ◌*◌, ◌<◌, ℕ, ◌∙◌, ap, refl, sym, subst, arith}
-use Rattle.cell_live.specs.declared.sight.Sight.TheVariants.{Spent}
+use Rattle.cell_contract.specs.declared.sight.Sight.TheVariants.{Spent}
 use Rattle.cell_triple.specs.Steps.{first_writer, first_reader}
 use Rattle.family_table.specs.Family.{of_cell}
 use Rattle.family_table.specs.Places.{place}

@@ -9,8 +9,8 @@ use Rattle.four_slot_core.specs.declared.schedule.Turn.{Turn}
 use Rattle.four_slot_core.specs.declared.schedule.Turn.TheVariants.{Writer, Reader}
 use Rattle.four_slot_play.specs.declared.player.run.Numbered.{Numbered}
 use Rattle.four_slot_core.specs.Accesses.{IsFreshRead}
-use Rattle.register_law.specs.Registers.{IsBefore}
-use Rattle.register_law.proofs.Times.{of_before, to_before}
+use Rattle.history_core.specs.Registers.{IsBefore}
+use Rattle.history_core.proofs.Times.{of_before, to_before}
 use Rattle.four_slot_core.specs.Traces.{Trace, trace_start, writes_of, reads_of}
 use Rattle.four_slot_core.specs.Play.{actor}
 use Rattle.four_slot_play.specs.inner.Runs.{numbered, opening_record, numbered_trace}

@@ -1,8 +1,8 @@
 -- The subcommand has a file and two flags.
-use Rattle.std.proofs.Common.{rules, ap, ap₂, codes, false, ◌≡◌, ◌∙◌}
+use Rattle.std.proofs.Common.{rules, ap, ap₂, codes, ◌≡◌, ◌∙◌}
 use Rattle.std.proofs.lemmas.Result.{IfOk-weaker}
 use Rattle.clap.specs.Words.{App, app_of, new_app, new_rule, rule_of, with_rule, with_subcommand}
-use Rattle.fsr_words.specs.Command.{flag, over_a_log}
+use Rattle.fsr_words.specs.Command.{flag}
 use Rattle.fsr_words.proofs.command.with_order.Goals as goal
 
 pub returns : goal.returns

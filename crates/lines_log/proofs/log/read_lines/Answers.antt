@@ -1,6 +1,6 @@
 -- The header and the body were read.
 use Rattle.std.proofs.Common.{◌∙◌, string_bytes}
-use Rattle.lines_text.specs.Lines.{head_seen}
+use Rattle.read_line.specs.Lines.{head_seen}
 use Rattle.lines_log.proofs.BodyLemmas.{assembled}
 use Rattle.lines_log.proofs.FaultLemmas.{header_fault, later_fault}
 use Rattle.lines_log.proofs.log.read_lines.Goals as goal

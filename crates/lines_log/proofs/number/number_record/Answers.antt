@@ -2,8 +2,8 @@
 use Rattle.std.proofs.Common.{◌≡◌, ◌∙◌, inl, inr, ℕ, List, Option, Some, slice_get, subst, sym, ap}
 use Rattle.std.specs.Prelude.{option_map, string_bytes}
 use Rattle.history_core.proofs.Places.{get_stays}
-use Rattle.lines_tables.specs.Numberings.{GaveNumber, MeetsRecord}
-use Rattle.lines_tables.specs.declared.numbering.Numbering.{Numbering}
+use Rattle.read_line.specs.Numberings.{GaveNumber, MeetsRecord}
+use Rattle.read_line.specs.declared.numbering.Numbering.{Numbering}
 use Rattle.lines_log.specs.inner.Numbers.{Grow, IsRecordNow}
 use Rattle.lines_log.proofs.number.number_record.Goals as goal
 

@@ -1,7 +1,7 @@
 -- A run that is given words besides its name is asked for nothing that it does.
 use Rattle.std.proofs.Common.{◌≡◌, Bool, false, ℕ, refl, subst, sym}
-use Rattle.fsr_runs.proofs.RunLemmas.{ends_unasked}
-use Rattle.fsr_runs.specs.Run.{never, Runs}
+use Rattle.program_runs.proofs.RunLemmas.{ends_unasked}
+use Rattle.program_runs.specs.Run.{never, Runs}
 use Rattle.picture_answers.specs.Run.{IsPictureOutcome}
 use Rattle.picture_answers.proofs.program.run.Goals as goal
 

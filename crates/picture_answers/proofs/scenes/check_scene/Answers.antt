@@ -1,14 +1,14 @@
 -- What `first_break` says of the slice it says of the order that it shows.
 use Rattle.std.proofs.Common.{◌≡◌, [], List, ℕ, IfSome, Option, subst}
 use Rattle.std.proofs.lemmas.Result.{IfOk-weaker}
-use Rattle.history_witnesses.specs.Breaks.{IsFirstBreak, verdict_of}
+use Rattle.history_explain.specs.Breaks.{IsFirstBreak, verdict_of}
 use Rattle.history_core.specs.Orders.{IsVerdict}
 use Rattle.history_core.specs.declared.band.Band.{Band}
-use Rattle.history_witnesses.specs.declared.breaks.Break.{Break}
+use Rattle.history_explain.specs.declared.breaks.Break.{Break}
 use Rattle.history_core.specs.declared.history.History.{History}
-use Rattle.picture_text.specs.declared.scene.Finding.{Finding}
+use Rattle.print_picture.specs.declared.scene.Finding.{Finding}
 use Rattle.picture_shapes.specs.declared.shape.lanes.Lanes.TheVariants.{Actors}
-use Rattle.picture_text.specs.declared.scene.Scene.{Scene}
+use Rattle.print_picture.specs.declared.scene.Scene.{Scene}
 use Rattle.picture_answers.specs.Scenes.{AreSame, finding_of, IsSceneOf, ShowsCheck}
 use Rattle.picture_answers.proofs.scenes.check_scene.Goals as goal
 

@@ -1,8 +1,8 @@
 -- The last count is the one just written, which is that of the turn.
 use Rattle.std.proofs.Common.{◌+◌, ◌≡◌, List, ◌∙◌, ap, arith}
 use Rattle.test_cells.specs.declared.counts.Count.{Count}
-use Rattle.cell_live.specs.Running.{last_or}
-use Rattle.cell_live.proofs.ListLaws.{last_snoc}
+use Rattle.cell_contract.specs.Running.{last_or}
+use Rattle.cell_contract.proofs.ListLaws.{last_snoc}
 use Rattle.test_cells.proofs.counts.write_up_to.Goals as goal
 
 pub loop-i-preserved : goal.loop-i-preserved

@@ -1,6 +1,6 @@
 -- The last count written is at most the next one, so the next one rises from it.
 use Rattle.std.proofs.Common.{◌≤◌, ◌+◌}
-use Rattle.cell_live.specs.Running.{last_or}
+use Rattle.cell_contract.specs.Running.{last_or}
 use Rattle.test_cells.proofs.counts.write_up_to.Given as goal
 
 abbrev pub invariant-loop-i : goal.invariant-loop-i

@@ -1,8 +1,8 @@
 -- The last record is the one just written, so its number is that of the turn.
 use Rattle.std.proofs.Common.{List, ◌∙◌, ap}
 use Rattle.test_cells.specs.declared.torn.Three.{Three}
-use Rattle.cell_live.specs.Running.{last_or}
-use Rattle.cell_live.proofs.ListLaws.{last_snoc}
+use Rattle.cell_contract.specs.Running.{last_or}
+use Rattle.cell_contract.proofs.ListLaws.{last_snoc}
 use Rattle.test_cells.proofs.torn.write_on.Goals as goal
 
 pub loop-i-preserved : goal.loop-i-preserved

@@ -1,6 +1,6 @@
 -- Each part is a clause of a call.
 use Rattle.std.proofs.Common.{◌+◌, ◌≤◌, ◌∷◌, [], ◌++◌, ◌∙◌, sym, ap, subst}
-use Rattle.cell_live.specs.Intervals.{IsNextCall, known_as}
+use Rattle.cell_contract.specs.Intervals.{IsNextCall, known_as}
 use Rattle.theorems.proofs.cells.cell_theorem.Goals as goal
 
 pub returns : goal.returns

@@ -1,7 +1,7 @@
 -- Nothing was read or written; what was told is in no history.
 use Rattle.std.proofs.Common.{refl, sym, ◌∙◌, ap, subst, ◌≡◌, rules}
-use Rattle.cell_live.specs.declared.times.Known.{Known}
-use Rattle.family_live.specs.Accesses.{IsHeardRead, KeepsOthers}
+use Rattle.cell_contract.specs.declared.times.Known.{Known}
+use Rattle.cell_contract.specs.Accesses.{IsHeardRead, KeepsOthers}
 use Rattle.board_live.specs.declared.record.Posted.{Posted}
 use Rattle.board_live.proofs.Same.{after_learn}
 use Rattle.board_live.proofs.board.Board.learn.Goals as goal

@@ -1,6 +1,6 @@
 -- Nothing was read or written, and what a process wrote last to each other one is its own record.
 use Rattle.std.proofs.Common.{refl, ◌∙◌, ap, ◌<◌, arith, rules}
-use Rattle.cell_live.specs.Running.{last_or}
+use Rattle.cell_contract.specs.Running.{last_or}
 use Rattle.board_live.proofs.Same.{after_tell}
 use Rattle.board_live.proofs.board.Board.tell.Goals as goal
 

@@ -2,8 +2,8 @@
 use Rattle.std.proofs.Common.{◌≡◌, ◌+◌, ◌-◌, sym, ◌∙◌, ap, subst, inl, inr, arith, rules}
 use Rattle.std.specs.Prelude.{◌<◌, ◌≤◌, IsTrue, MatchOption}
 use Rattle.history_core.specs.declared.history.Kind.TheVariants.{Write, Refused}
-use Rattle.stamps.specs.Stamps.{IsBelow}
-use Rattle.stamps.proofs.choices.Stamps.{at_most_below}
+use Rattle.matrix_core.specs.Stamps.{IsBelow}
+use Rattle.matrix_core.proofs.choices.Stamps.{at_most_below}
 use Rattle.board_live.specs.declared.record.Posted.{Posted}
 use Rattle.board_live.specs.Records.{or_item}
 use Rattle.board_live.proofs.Accessing.{row_told}

@@ -4,7 +4,7 @@ use Rattle.four_slot_core.specs.declared.state.Stage.TheVariants as writer
 use Rattle.four_slot_core.specs.declared.state.ReaderStage.TheVariants as reader
 use Rattle.cell_four_slot.specs.Rule.{IsTimed}
 use Rattle.cell_four_slot.proofs.Timing.{timed_ends}
-use Rattle.cell_live.specs.Sights.{writer_or, reader_or}
+use Rattle.cell_contract.specs.Sights.{writer_or, reader_or}
 use Rattle.cell_four_slot.specs.Steps.{first_writer, first_reader, asked_by, said_with, whole_of}
 use Rattle.cell_four_slot.specs.declared.notes.WriterNotes.{WriterNotes}
 use Rattle.cell_four_slot.specs.declared.notes.ReaderNotes.{ReaderNotes}

@@ -1,13 +1,13 @@
 -- The pass is between two reads, and the receipt names a record.
 use Rattle.std.proofs.Common.{◌≡◌, ap, sym, ◌∙◌, subst, refl}
 use native.Mathlib.Nat.{le-max_left, le-max_right}
-use Rattle.cell_live.specs.Running.{snap}
-use Rattle.cell_live.specs.Intervals.{IsHeard}
-use Rattle.cell_live.specs.declared.times.Dated.{Dated}
-use Rattle.cell_live.specs.declared.sight.Sight.TheVariants.{Reader}
-use Rattle.cell_live.specs.Sights.{reader_or, receipt_or}
+use Rattle.cell_contract.specs.Running.{snap}
+use Rattle.cell_contract.specs.Intervals.{IsHeard}
+use Rattle.cell_contract.specs.declared.times.Dated.{Dated}
+use Rattle.cell_contract.specs.declared.sight.Sight.TheVariants.{Reader}
+use Rattle.cell_contract.specs.Sights.{reader_or, receipt_or}
 use Rattle.cell_four_slot.specs.Steps.{first_reader, heard_by, hears_of}
-use Rattle.cell_live.specs.Intervals.{dated}
+use Rattle.cell_contract.specs.Intervals.{dated}
 use Rattle.cell_four_slot.specs.declared.notes.ReaderNotes.{ReaderNotes}
 use Rattle.cell_four_slot.proofs.calls.FourSlotCellCalls.learn.Goals as goal
 

@@ -1,11 +1,11 @@
 -- Between two writes the last finished record is the last one written, and the seat parted off names it.
 use Rattle.std.proofs.Common.{◌≡◌, ap, sym, ◌∙◌, []}
-use Rattle.cell_live.specs.Running.{last_or, snap}
-use Rattle.cell_live.specs.Sights.{receipt_or, writer_or}
+use Rattle.cell_contract.specs.Running.{last_or, snap}
+use Rattle.cell_contract.specs.Sights.{receipt_or, writer_or}
 use Rattle.cell_four_slot.specs.Steps.{receipt_for, told_by, first_writer}
-use Rattle.cell_live.specs.Intervals.{dated}
+use Rattle.cell_contract.specs.Intervals.{dated}
 use Rattle.cell_four_slot.specs.declared.notes.WriterNotes.{WriterNotes}
-use Rattle.cell_live.specs.declared.sight.Sight.TheVariants.{Told}
+use Rattle.cell_contract.specs.declared.sight.Sight.TheVariants.{Told}
 use Rattle.cell_four_slot.proofs.calls.FourSlotCellCalls.tell.Goals as goal
 
 pub tell-seat-requires-clause-idle : goal.tell-seat-requires-clause-idle

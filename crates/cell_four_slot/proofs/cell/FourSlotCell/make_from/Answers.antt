@@ -1,12 +1,12 @@
 -- The first seat has made no event, so the two seats that it is split into stand at the opening state.
 use Rattle.std.proofs.Common.{rules, ◌≡◌, [], sym, ap, ◌∙◌}
 use Rattle.four_slot_core.specs.Events.{bit_number}
-use Rattle.cell_live.specs.Running.{last_or}
-use Rattle.cell_live.specs.Sights.{writer_or, reader_or}
+use Rattle.cell_contract.specs.Running.{last_or}
+use Rattle.cell_contract.specs.Sights.{writer_or, reader_or}
 use Rattle.cell_four_slot.specs.Steps.{first_writer, first_reader, slot_of_choice, word_said, bit_words}
 use Rattle.cell_four_slot.specs.declared.notes.WriterNotes.{WriterNotes}
 use Rattle.cell_four_slot.specs.declared.notes.ReaderNotes.{ReaderNotes}
-use Rattle.cell_live.specs.declared.sight.Sight.TheVariants.{Writer, Reader}
+use Rattle.cell_contract.specs.declared.sight.Sight.TheVariants.{Writer, Reader}
 use Rattle.cell_four_slot.proofs.cell.FourSlotCell.make_from.Goals as goal
 
 pub part-get-requires-clause-whole : goal.part-get-requires-clause-whole

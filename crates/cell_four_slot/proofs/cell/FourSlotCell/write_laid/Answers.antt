@@ -1,15 +1,15 @@
 -- Each step tells the notes what it did: after the fifth event the record is the last one written, and both bits are remembered.
 use Rattle.std.proofs.Common.{rules, arith, ◌≡◌, ◌+◌, ◌∷◌, [], not, Bool, sym, ap, ◌∙◌, subst, refl, ◌≤◌, le_trans, le_of_lt}
 use Rattle.four_slot_core.specs.Events.{side, bit_number, slot_number}
-use Rattle.cell_live.specs.Running.{last_or, held_slots, snap}
-use Rattle.cell_live.specs.Intervals.{IsNextCall}
-use Rattle.cell_live.specs.Sights.{writer_or}
+use Rattle.cell_contract.specs.Running.{last_or, held_slots, snap}
+use Rattle.cell_contract.specs.Intervals.{IsNextCall}
+use Rattle.cell_contract.specs.Sights.{writer_or}
 use Rattle.cell_four_slot.specs.Steps.{first_writer, begun_with, stored_by, finished_with, bit_words}
 use Rattle.cell_four_slot.specs.declared.notes.WriterNotes.{WriterNotes}
-use Rattle.cell_live.specs.declared.sight.Sight.TheVariants.{Writer}
+use Rattle.cell_contract.specs.declared.sight.Sight.TheVariants.{Writer}
 use Rattle.four_slot_core.specs.declared.event.WriteEvent.TheVariants.{W1, W2, W3, W4, W5}
 use Rattle.four_slot_core.specs.declared.state.Stage.TheVariants as stage
-use Rattle.cell_live.proofs.ListLaws.{last_snoc}
+use Rattle.cell_contract.proofs.ListLaws.{last_snoc}
 use Rattle.cell_four_slot.proofs.Events.{write_joined, at_most_one}
 use Rattle.cell_four_slot.proofs.cell.FourSlotCell.write_laid.Goals as goal
 

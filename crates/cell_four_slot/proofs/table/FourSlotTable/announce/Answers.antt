@@ -1,6 +1,6 @@
 -- Where `reading` has another pair, the load made R1 alone, and the store makes R2.
 use Rattle.std.proofs.Common.{◌≡◌, ap, sym, ◌∙◌, refl, le_of_lt}
-use Rattle.cell_live.specs.Sights.{reader_or}
+use Rattle.cell_contract.specs.Sights.{reader_or}
 use Rattle.cell_four_slot.specs.Steps.{asked_by, word_said}
 use Rattle.cell_four_slot.specs.declared.notes.ReaderNotes.{ReaderNotes}
 use Rattle.cell_four_slot.proofs.table.FourSlotTable.announce.Goals as goal

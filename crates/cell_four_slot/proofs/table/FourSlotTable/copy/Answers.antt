@@ -1,6 +1,6 @@
 -- The seat holds the one slot alone, so what it reads there is all that it holds.
 use Rattle.std.proofs.Common.{◌∷◌, ap, ◌∙◌}
-use Rattle.cell_live.proofs.ListLaws.{may_exchange, none_behind}
+use Rattle.cell_contract.proofs.ListLaws.{may_exchange, none_behind}
 use Rattle.cell_four_slot.proofs.table.FourSlotTable.copy.Goals as goal
 
 pub slot_mut-requires : goal.slot_mut-requires

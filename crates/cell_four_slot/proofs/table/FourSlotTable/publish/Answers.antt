@@ -1,7 +1,7 @@
 -- Where `latest` has the pair, the first store made W4 and W5; where it has the other, W4 alone, and the second store makes W5.
 use Rattle.std.proofs.Common.{◌≡◌, ap, sym, ◌∙◌, refl, le_of_lt, le_refl}
 use Rattle.four_slot_core.specs.Events.{bit_number}
-use Rattle.cell_live.specs.Sights.{writer_or}
+use Rattle.cell_contract.specs.Sights.{writer_or}
 use Rattle.cell_four_slot.specs.Steps.{stored_by}
 use Rattle.cell_four_slot.specs.declared.notes.WriterNotes.{WriterNotes}
 use Rattle.cell_four_slot.proofs.table.FourSlotTable.publish.Goals as goal

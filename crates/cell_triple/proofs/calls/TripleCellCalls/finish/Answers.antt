@@ -1,7 +1,7 @@
 -- The writer's notes are joined into the reader's seat, where both lists meet.
 use Rattle.std.proofs.Common.{ap, sym, ◌∙◌, []}
 use Rattle.cell_triple.proofs.Timing.{timed_atomic}
-use Rattle.cell_live.specs.Sights.{writer_or, reader_or}
+use Rattle.cell_contract.specs.Sights.{writer_or, reader_or}
 use Rattle.cell_triple.specs.Steps.{whole_of, first_writer, first_reader}
 use Rattle.cell_triple.specs.declared.notes.WriterNotes.{WriterNotes}
 use Rattle.cell_triple.specs.declared.notes.ReaderNotes.{ReaderNotes}

@@ -1,7 +1,7 @@
 -- The record that the closure saw is the one in the slot that the pass holds, which is an answer.
 use Rattle.std.proofs.Common.{List, ℕ, sym, ap, ◌∙◌, subst, get_or}
 use Rattle.std.specs.Fn.{FnOnceTakesAt, FnOnceReturnsAt}
-use Rattle.cell_live.specs.Sights.{reader_or}
+use Rattle.cell_contract.specs.Sights.{reader_or}
 use Rattle.cell_triple.specs.Steps.{first_reader}
 use Rattle.cell_triple.specs.declared.notes.ReaderNotes.{ReaderNotes}
 use Rattle.cell_triple.proofs.calls.TripleCellCalls.read_with.Goals as goal

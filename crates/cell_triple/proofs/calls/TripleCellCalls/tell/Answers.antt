@@ -1,11 +1,11 @@
 -- The seat that is parted off names the last record of the writer's list.
 use Rattle.std.proofs.Common.{◌≡◌, ap, sym, ◌∙◌, []}
-use Rattle.cell_live.specs.Running.{last_or, snap}
-use Rattle.cell_live.specs.Intervals.{dated}
-use Rattle.cell_live.specs.Sights.{receipt_or, writer_or}
+use Rattle.cell_contract.specs.Running.{last_or, snap}
+use Rattle.cell_contract.specs.Intervals.{dated}
+use Rattle.cell_contract.specs.Sights.{receipt_or, writer_or}
 use Rattle.cell_triple.specs.Steps.{receipt_for, told_by, first_writer}
 use Rattle.cell_triple.specs.declared.notes.WriterNotes.{WriterNotes}
-use Rattle.cell_live.specs.declared.sight.Sight.TheVariants.{Told}
+use Rattle.cell_contract.specs.declared.sight.Sight.TheVariants.{Told}
 use Rattle.cell_triple.proofs.calls.TripleCellCalls.tell.Goals as goal
 
 pub tell-seat-requires-clause-writer : goal.tell-seat-requires-clause-writer

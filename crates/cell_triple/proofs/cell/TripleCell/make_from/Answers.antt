@@ -1,11 +1,11 @@
 -- The two seats that the first one is split into stand at the opening, and each takes its slot by a load.
 use Rattle.std.proofs.Common.{rules, arith, refl, ap, ◌≡◌, ◌∙◌, sym, [], ◌∷◌}
-use Rattle.cell_live.specs.Sights.{writer_or, reader_or}
+use Rattle.cell_contract.specs.Sights.{writer_or, reader_or}
 use Rattle.cell_triple.specs.Steps.{first_writer, first_reader}
-use Rattle.cell_live.specs.Running.{held_slots}
+use Rattle.cell_contract.specs.Running.{held_slots}
 use Rattle.cell_triple.specs.declared.notes.WriterNotes.{WriterNotes}
 use Rattle.cell_triple.specs.declared.notes.ReaderNotes.{ReaderNotes}
-use Rattle.cell_live.specs.declared.sight.Sight.TheVariants.{Writer, Reader}
+use Rattle.cell_contract.specs.declared.sight.Sight.TheVariants.{Writer, Reader}
 use Rattle.cell_triple.proofs.cell.TripleCell.make_from.Goals as goal
 
 pub part-get-requires-clause-whole : goal.part-get-requires-clause-whole

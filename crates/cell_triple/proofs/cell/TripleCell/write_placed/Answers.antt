@@ -1,13 +1,13 @@
 -- The swap puts the writer's slot in the middle and takes the old middle, which nobody holds; the list grows by the slot's record.
 use Rattle.std.proofs.Common.{rules, ◌∷◌, [], sym, ap, ◌∙◌, subst, refl, le_refl}
-use Rattle.cell_live.specs.Intervals.{IsNextCall}
-use Rattle.cell_live.specs.Running.{last_or, held_slots}
-use Rattle.cell_live.specs.Sights.{writer_or}
+use Rattle.cell_contract.specs.Intervals.{IsNextCall}
+use Rattle.cell_contract.specs.Running.{last_or, held_slots}
+use Rattle.cell_contract.specs.Sights.{writer_or}
 use Rattle.cell_triple.specs.Steps.{first_writer}
 use Rattle.cell_triple.specs.Lent.{placed_by}
 use Rattle.cell_triple.proofs.Placed.{lies}
 use Rattle.cell_triple.specs.declared.notes.WriterNotes.{WriterNotes}
-use Rattle.cell_live.specs.declared.sight.Sight.TheVariants.{Writer}
+use Rattle.cell_contract.specs.declared.sight.Sight.TheVariants.{Writer}
 use Rattle.cell_triple.proofs.cell.TripleCell.write_placed.Goals as goal
 
 pub publish-found-requires-clause-filled : goal.publish-found-requires-clause-filled

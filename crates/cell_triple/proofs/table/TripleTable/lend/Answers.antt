@@ -1,6 +1,6 @@
 -- The seat holds the one slot alone, so what the closure sees there is all that it holds.
 use Rattle.std.proofs.Common.{◌∷◌, ap, ◌∙◌, refl}
-use Rattle.cell_live.proofs.ListLaws.{may_exchange, none_behind}
+use Rattle.cell_contract.proofs.ListLaws.{may_exchange, none_behind}
 use Rattle.cell_triple.proofs.table.TripleTable.lend.Goals as goal
 
 pub slot_mut-requires : goal.slot_mut-requires

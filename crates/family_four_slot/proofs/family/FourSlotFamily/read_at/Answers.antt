@@ -1,10 +1,10 @@
 -- The three steps take the slot that has the answer: one answer more, and each other cell as before.
 use Rattle.std.proofs.Common.{length, set, ◌≡◌, ◌+◌, ◌<◌, ℕ, Bool, List, ◌∷◌, ◌++◌, sym, ap, ◌∙◌, subst, refl}
 use Rattle.four_slot_core.specs.Events.{bit_number, slot_number, slot_with}
-use Rattle.cell_live.specs.Running.{held_slots}
+use Rattle.cell_contract.specs.Running.{held_slots}
 use Rattle.cell_four_slot.specs.Steps.{asked_by, said_with, got_by, FourSlotSight}
 use Rattle.cell_four_slot.specs.declared.notes.ReaderNotes.{ReaderNotes}
-use Rattle.cell_live.specs.declared.sight.Sight.TheVariants.{Spent, Reader}
+use Rattle.cell_contract.specs.declared.sight.Sight.TheVariants.{Spent, Reader}
 use Rattle.cell_four_slot.proofs.Slots.{slot_low}
 use Rattle.family_table.specs.declared.notes.Process.{Process}
 use Rattle.family_table.specs.Family.{knows}

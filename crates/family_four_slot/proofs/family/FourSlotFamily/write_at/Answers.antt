@@ -2,10 +2,10 @@
 use Rattle.std.proofs.Common.{◌≡◌, ◌<◌, ℕ, Bool, not, List, [], ◌∷◌, set, sym, ap, ◌∙◌, subst, refl}
 use Rattle.four_slot_core.specs.Events.{side, bit_number, slot_number}
 use Rattle.four_slot_core.specs.declared.state.Stage.TheVariants as stage
-use Rattle.cell_live.specs.Running.{last_or, held_slots}
+use Rattle.cell_contract.specs.Running.{last_or, held_slots}
 use Rattle.cell_four_slot.specs.Steps.{begun_with, FourSlotSight}
 use Rattle.cell_four_slot.specs.declared.notes.WriterNotes.{WriterNotes}
-use Rattle.cell_live.specs.declared.sight.Sight.TheVariants.{Spent, Writer}
+use Rattle.cell_contract.specs.declared.sight.Sight.TheVariants.{Spent, Writer}
 use Rattle.cell_four_slot.proofs.Slots.{slot_low}
 use Rattle.family_table.specs.declared.notes.Process.{Process}
 use Rattle.family_table.specs.Family.{knows}

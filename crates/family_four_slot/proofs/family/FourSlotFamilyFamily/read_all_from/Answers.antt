@@ -1,7 +1,7 @@
 -- Each turn reads one more of the others.
 use Rattle.std.proofs.Common.{◌≡◌, ◌+◌, ◌-◌, subst, arith}
-use Rattle.family_live.specs.Rows.OneByOne.{no_call}
-use Rattle.family_live.proofs.Rows.{one_after, one_before}
+use Rattle.cell_contract.specs.Rows.OneByOne.{no_call}
+use Rattle.cell_contract.proofs.Rows.{one_after, one_before}
 use Rattle.family_four_slot.specs.Seated.{processes_of}
 use Rattle.family_four_slot.proofs.Columns.{Column, Read, column_cell, column_seat}
 use Rattle.family_four_slot.proofs.Rows.{row_room}

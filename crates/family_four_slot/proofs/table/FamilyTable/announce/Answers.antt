@@ -1,6 +1,6 @@
 -- Where `reading` has the pair the load made R1 and R2; where it has another, R1 alone, and the store makes R2.
 use Rattle.std.proofs.Common.{◌≡◌, ◌<◌, ℕ, length, sym, ap, ◌∙◌, subst, refl}
-use Rattle.cell_live.specs.declared.sight.Sight.TheVariants.{Spent}
+use Rattle.cell_contract.specs.declared.sight.Sight.TheVariants.{Spent}
 use Rattle.cell_four_slot.specs.Steps.{FourSlotSight, asked_by, word_said}
 use Rattle.cell_four_slot.specs.declared.notes.ReaderNotes.{ReaderNotes}
 use Rattle.family_table.specs.declared.notes.Process.{Process}

@@ -1,7 +1,7 @@
 -- Where `latest` has the pair the first store made W4 and W5; where it has the other, W4 alone, and the second store makes W5.
 use Rattle.std.proofs.Common.{◌≡◌, ◌<◌, ℕ, List, length, sym, ap, ◌∙◌, subst, refl}
 use Rattle.four_slot_core.specs.Events.{bit_number}
-use Rattle.cell_live.specs.declared.sight.Sight.TheVariants.{Spent, Writer}
+use Rattle.cell_contract.specs.declared.sight.Sight.TheVariants.{Spent, Writer}
 use Rattle.cell_four_slot.specs.Steps.{FourSlotSight, stored_by, finished_with}
 use Rattle.cell_four_slot.specs.declared.notes.WriterNotes.{WriterNotes}
 use Rattle.family_table.specs.declared.notes.Process.{Process}

@@ -1,8 +1,8 @@
 -- Both receipts know what the one did.
 use Rattle.std.proofs.Common.{refl, ap}
-use Rattle.cell_live.specs.Intervals.{dated}
-use Rattle.cell_live.specs.Sights.{receipt_or}
-use Rattle.cell_live.specs.declared.sight.Sight.TheVariants.{Spent}
+use Rattle.cell_contract.specs.Intervals.{dated}
+use Rattle.cell_contract.specs.Sights.{receipt_or}
+use Rattle.cell_contract.specs.declared.sight.Sight.TheVariants.{Spent}
 use Rattle.family_table.specs.Family.{of_cell}
 use Rattle.family_table.specs.Places.{place}
 use Rattle.family_table.specs.Views.{receipt_in}

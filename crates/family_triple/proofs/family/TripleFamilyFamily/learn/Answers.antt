@@ -1,9 +1,9 @@
 -- The view of a seat after a receipt is that of its process, which has learnt it.
 use Rattle.std.proofs.Common.{◌≡◌, ◌≢◌, ◌<◌, ℕ, [], ◌∷◌, sym, ap, ◌∙◌, subst, refl}
 use Rattle.cell_triple.specs.Steps.{TripleSight, hears_of}
-use Rattle.cell_live.specs.Running.{snap}
-use Rattle.cell_live.specs.declared.sight.Sight.TheVariants.{Spent, Told as Tells}
-use Rattle.family_live.specs.Accesses.{IsHeardRead, KeepsEach, KeepsOthers}
+use Rattle.cell_contract.specs.Running.{snap}
+use Rattle.cell_contract.specs.declared.sight.Sight.TheVariants.{Spent, Told as Tells}
+use Rattle.cell_contract.specs.Accesses.{IsHeardRead, KeepsEach, KeepsOthers}
 use Rattle.family_table.specs.declared.notes.Process.{Process}
 use Rattle.family_table.specs.declared.notes.Receipt.{Receipt}
 use Rattle.family_table.specs.declared.notes.View.TheVariants.{Has}

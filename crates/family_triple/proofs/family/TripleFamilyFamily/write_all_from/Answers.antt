@@ -1,8 +1,8 @@
 -- Each turn writes to one more of the others.
 use Rattle.std.proofs.Common.{◌≡◌, ◌+◌, ◌-◌, subst, arith}
-use Rattle.family_live.specs.Rows.{IsWriteTo}
-use Rattle.family_live.specs.Rows.OneByOne.{no_call}
-use Rattle.family_live.proofs.Rows.{one_after, one_before}
+use Rattle.cell_contract.specs.Rows.{IsWriteTo}
+use Rattle.cell_contract.specs.Rows.OneByOne.{no_call}
+use Rattle.cell_contract.proofs.Rows.{one_after, one_before}
 use Rattle.family_table.specs.Seated.{number_of, clock_of, times_of}
 use Rattle.family_triple.specs.Seated.{processes_of, writes_of, reads_of, IsSeat}
 use Rattle.family_triple.proofs.Rows.{Row, row_after, row_before, row_room, row_seat}

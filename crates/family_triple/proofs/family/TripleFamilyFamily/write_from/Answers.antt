@@ -1,6 +1,6 @@
 -- The swap of the filled slot is the whole write: one write more, and each other cell as before.
 use Rattle.std.proofs.Common.{◌≡◌, ◌+◌, ◌*◌, ◌-◌, ◌%◌, ◌<◌, ℕ, List, [], ◌∷◌, ◌++◌, set, length, sym, ap, ◌∙◌, subst, refl, arith}
-use Rattle.cell_live.specs.Running.{last_or, held_slots}
+use Rattle.cell_contract.specs.Running.{last_or, held_slots}
 use Rattle.cell_triple.specs.declared.notes.WriterNotes.{WriterNotes}
 use Rattle.family_table.specs.declared.notes.View.TheVariants.{Has}
 use Rattle.family_triple.specs.Places.{among, slot_at}

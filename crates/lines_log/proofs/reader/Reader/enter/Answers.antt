@@ -1,9 +1,9 @@
 -- The operation has its number and its turn and is kept, or overlaps another of its task, or is a write of a record that has one.
 use Rattle.std.proofs.Common.{◌<◌, arith, refl, inl, inr, sym, ◌∙◌, ap, length, subst}
 use Rattle.std.proofs.lemmas.Option.{slice_get_within}
-use Rattle.lines_tables.specs.Tasks.{IsTurnError, Overlap}
-use Rattle.lines_text.specs.Lines.{op_seen}
-use Rattle.lines_tables.specs.Places.{line_at}
+use Rattle.read_line.specs.Tasks.{IsTurnError, Overlap}
+use Rattle.read_line.specs.Lines.{op_seen}
+use Rattle.read_line.specs.Places.{line_at}
 use Rattle.lines_log.proofs.ReadLemmas.{entered, overlapped, repeated}
 use Rattle.lines_log.proofs.reader.Reader.enter.Goals as goal
 

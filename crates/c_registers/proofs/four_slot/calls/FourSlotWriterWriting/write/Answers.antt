@@ -1,9 +1,9 @@
 -- The last number is the one just written.
 use Rattle.std.proofs.Common.{◌≡◌, List, ◌∙◌, ap, subst}
 use Rattle.std.specs.Arc.{arc_value}
-use Rattle.cell_live.specs.Running.{last_or}
+use Rattle.cell_contract.specs.Running.{last_or}
 use Rattle.cell_four_slot.specs.Words.{opening_of, is_put_of, written_by}
-use Rattle.cell_live.proofs.ListLaws.{last_snoc}
+use Rattle.cell_contract.proofs.ListLaws.{last_snoc}
 use Rattle.cell_four_slot.specs.declared.cell.FourSlotCell.{FourSlotCell}
 use Rattle.c_registers.specs.Numbers.{numbered}
 use Rattle.c_registers.specs.declared.numbered.Numbered.{Numbered}

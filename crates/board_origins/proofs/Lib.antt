@@ -1,4 +1,0 @@
-pub mod FoundWrites
-pub mod SoundLogs
-pub mod SoundOrders
-pub mod SoundRuns

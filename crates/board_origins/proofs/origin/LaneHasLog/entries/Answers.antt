@@ -1,5 +1,0 @@
--- The log of a lane is what `log` gives.
-use Rattle.board_origins.proofs.origin.LaneHasLog.entries.Goals as goal
-
-pub returns : goal.returns
-returns g c = c.log.ensures

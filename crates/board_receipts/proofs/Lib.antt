@@ -1,4 +1,0 @@
-mod Lists
-mod Orders
-mod Later
-mod Written

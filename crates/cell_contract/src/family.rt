@@ -1,0 +1,164 @@
+//! What a family promises.
+ghost use Rattle.std.specs.Prelude.{◌≡◌, ◌≢◌, ℕ, ◌-◌, ◌<◌, ◌≤◌, List, [], ◌∷◌, ◌++◌, length, vec_len, vec_capacity, IfOk};
+ghost use Rattle.history_core.specs.Schedules.{positions};
+ghost use Rattle.cell_contract.specs.Running.{last_or};
+ghost use Rattle.cell_contract.specs.Intervals.{known_as};
+ghost use Rattle.cell_contract.specs.declared.times.Known.{Known};
+ghost use Rattle.cell_contract.specs.Accesses.{WriteAccesses, ReadAccesses, IsUnused, IsAccess, IsWriteAccess, IsHeardRead, KeepsEach};
+ghost use Rattle.cell_contract.specs.Accesses.{KeepsOthers};
+ghost use Rattle.cell_contract.specs.Ends.{Each, EachTwo, IsSchedule, IsAtomicCell};
+ghost use Rattle.cell_contract.specs.Rows.{OneByOne, IsReadFrom, IsWriteTo};
+
+use crate::{Kept, Lawful};
+use std::alloc::{AllocError, Global};
+
+/// What sees records, one after the other.
+pub trait Sees<T> {
+    // What it becomes by a record that it sees.
+    ghost sees: { Self → T → Self → Type 0 };
+
+    /// Sees one record more, where it lies.
+    fn see(&mut self, item: &T)
+        ensures { sees self.old item.now self.new };
+}
+
+/// The calls of a family: registers of one writer and one reader each, from each of 2 to 16 processes to each other one.
+///
+/// Lists, numbers and times are known to contracts alone. The running program has none of them.
+pub trait Family<T: Lawful>: Sized + Drop {
+    /// The right to write and to read as one of the processes.
+    type Seat: Drop;
+
+    /// A receipt of a process for what it has written.
+    type Told: Drop;
+
+    // The record that each register opened with, and how many processes there are.
+    ghost opening: { Self → T };
+
+    ghost processes: { Self → ℕ };
+
+    // The steps of the schedule that an access makes. They are those of the registers' mechanism: one load or store of memory may make
+    // several of them.
+    ghost width: { ℕ };
+
+    ghost some_steps: { 0 < width };
+
+    ghost few_steps: { width ≤ 3 };
+
+    // Whether the seat or the receipt is of this family.
+    ghost is_seat: { Self → Self.Seat → Type 0 };
+
+    ghost is_told: { Self → Self.Told → Type 0 };
+
+    // The process, the last time of which it knows, and the times of its steps.
+    ghost who: { Self.Seat → ℕ };
+
+    ghost clock: { Self.Seat → ℕ };
+
+    ghost times: { Self.Seat → List ℕ };
+
+    // What it wrote to a process, and what it read from one.
+    ghost writes: { Self.Seat → ℕ → WriteAccesses T };
+
+    ghost reads: { Self.Seat → ℕ → ReadAccesses T };
+
+    // Whose receipt it is, its time, the record that it names to a process, and all that was written to that one up to then.
+    ghost sender: { Self.Told → ℕ };
+
+    ghost time_of: { Self.Told → ℕ };
+
+    ghost named: { Self.Told → ℕ → T };
+
+    ghost writes_of: { Self.Told → ℕ → Known T };
+
+    /// A family of `n` processes whose registers all hold `first`, with the seat of each process.
+    fn make(alloc: Global, n: usize, first: T) -> Result<(Self, Vec<Self::Seat>), AllocError>
+        requires lawful { T.fits first }
+        requires processes { (2 ≤ n) × (n ≤ 16) }
+        ensures opens { IfOk result (λ r. (opening r.0 ≡ first) × (processes r.0 ≡ n)) }
+        ensures seats { IfOk result (λ r. (vec_len r.1 ≡ n) × Each (λ i s. is_seat r.0 s × (who s ≡ i)) r.1.items) }
+        ensures unused { IfOk result (λ r. Each (λ i s. IsUnused (clock s) (times s) (writes s) (reads s)) r.1.items) };
+
+    /// Shows the record to one other process.
+    fn write_from(&self, seat: &mut Self::Seat, to: usize, item: &T)
+        requires own { is_seat self.now seat.old }
+        requires other { (to < processes self.now) × (to ≢ who seat.old) }
+        requires lawful { T.fits item.now × T.rises (last_or (opening self.now) (writes seat.old to).items) item.now }
+        ensures own { is_seat self.now seat.new × (who seat.new ≡ who seat.old) }
+        ensures access { IsAccess width (clock seat.old) (clock seat.new) (times seat.old) (times seat.new)
+            (writes seat.old to).times (writes seat.new to).times }
+        ensures written { IsWriteAccess (writes seat.old to) (writes seat.new to) item.now }
+        ensures others { KeepsOthers to (writes seat.old) (writes seat.new) × KeepsEach (reads seat.old) (reads seat.new) };
+
+    /// Shows the record to each other process, rising: the same as so many calls of `write_from`, in fewer instructions.
+    fn write_all_from(&self, seat: &mut Self::Seat, item: &T)
+        requires own { is_seat self.now seat.old }
+        requires lawful { T.fits item.now }
+        requires rises { (j : ℕ) → j < processes self.now → j ≢ who seat.old →
+            T.rises (last_or (opening self.now) (writes seat.old j).items) item.now }
+        ensures { OneByOne (IsWriteTo (is_seat self.now) who clock times writes reads width item.now) (who seat.old) seat.old
+            (processes self.now - 1) seat.new };
+
+    /// Shows one whole record of another process where it lies, so that nothing is copied. It is a record that was written, and by its law
+    /// it may stand after each that this process saw or was told of that one.
+    fn read_from<L: Sees<T>>(&self, seat: &mut Self::Seat, from: usize, seen: &mut L)
+        requires own { is_seat self.now seat.old }
+        requires other { (from < processes self.now) × (from ≢ who seat.old) }
+        ensures { IsReadFrom (is_seat self.now) who clock times writes reads width (opening self.now) T.fits T.rises L.sees from
+            (seat.old, seen.old) (seat.new, seen.new) };
+
+    /// Shows one record of each other process, rising: the same as so many calls of `read_from`, in fewer instructions.
+    fn read_all_from<L: Sees<T>>(&self, seat: &mut Self::Seat, seen: &mut L)
+        requires own { is_seat self.now seat.old }
+        ensures { OneByOne (IsReadFrom (is_seat self.now) who clock times writes reads width (opening self.now) T.fits T.rises L.sees)
+            (who seat.old)
+            (seat.old, seen.old) (processes self.now - 1) (seat.new, seen.new) };
+
+    /// Gives a receipt for all that the process has written, which carries these writes.
+    fn tell(&self, seat: &mut Self::Seat) -> Self::Told
+        requires own { is_seat self.now seat.old }
+        ensures own { is_seat self.now seat.new × (who seat.new ≡ who seat.old) }
+        ensures told { is_told self.now result × (sender result ≡ who seat.old) × (time_of result ≡ clock seat.old) }
+        ensures named { (j : ℕ) → j < processes self.now → j ≢ who seat.old →
+            named result j ≡ last_or (opening self.now) (writes seat.old j).items }
+        ensures tells { (j : ℕ) → j < processes self.now → j ≢ who seat.old →
+            writes_of result j ≡ known_as (writes seat.old j).items (writes seat.old j).times }
+        ensures same { (clock seat.new ≡ clock seat.old) × (times seat.new ≡ times seat.old) }
+        ensures calls { KeepsEach (writes seat.old) (writes seat.new) × KeepsEach (reads seat.old) (reads seat.new) };
+
+    /// Gives a second receipt that tells the same, for one learner more.
+    fn duplicate(&self, told: &mut Self::Told) -> Self::Told
+        requires own { is_told self.now told.old }
+        ensures same { told.new ≡ told.old }
+        ensures told { is_told self.now result × (sender result ≡ sender told.old) × (time_of result ≡ time_of told.old) }
+        ensures tells { KeepsEach (named told.old) (named result) × KeepsEach (writes_of told.old) (writes_of result) };
+
+    /// Takes a receipt in: what this process calls from now on begins later than all that its sender had done, and what it knows of the
+    /// sender's register begins with what that one had really written to it.
+    fn learn(&self, seat: &mut Self::Seat, told: Self::Told)
+        requires own { is_seat self.now seat.old × is_told self.now told }
+        ensures own { is_seat self.now seat.new × (who seat.new ≡ who seat.old) }
+        ensures later { (clock seat.old ≤ clock seat.new) × (time_of told ≤ clock seat.new) × (times seat.new ≡ times seat.old) }
+        ensures heard { sender told ≢ who seat.old →
+            IsHeardRead (reads seat.old (sender told)) (reads seat.new (sender told))
+            (named told (who seat.old)) (writes_of told (who seat.old)) }
+        ensures others { KeepsEach (writes seat.old) (writes seat.new) × KeepsOthers (sender told) (reads seat.old) (reads seat.new) };
+
+    /// Shows what was done so far with all seats: it is one schedule, and the calls of each register are atomic by their intervals in its
+    /// time. Nothing changes.
+    fn so_far(&self, seats: &mut Vec<Self::Seat>)
+        requires { (vec_len seats.old ≡ processes self.now) × Each (λ i s. is_seat self.now s × (who s ≡ i)) seats.old.items }
+        ensures same { (seats.new.items ≡ seats.old.items) × (vec_capacity seats.new ≡ vec_capacity seats.old) }
+        ensures scheduled { (steps : List ℕ) × IsSchedule (processes self.now) steps
+            × Each (λ i s. times s ≡ positions 1 i steps) seats.old.items }
+        ensures atomic { EachTwo (λ i j s t. IsAtomicCell (opening self.now) (writes s j) (reads t i)) seats.old.items };
+
+    /// Ends the family: all that was done is one schedule, and the calls of each register are atomic by their intervals in its time.
+    fn finish(self, seats: Vec<Self::Seat>)
+        requires { (vec_len seats ≡ processes self) × Each (λ i s. is_seat self s × (who s ≡ i)) seats.items }
+        ensures scheduled { (steps : List ℕ) × IsSchedule (processes self) steps × Each (λ i s. times s ≡ positions 1 i steps) seats.items }
+        ensures atomic { EachTwo (λ i j s t. IsAtomicCell (opening self) (writes s j) (reads t i)) seats.items };
+}
+
+/// A family that threads can share.
+pub trait SharedFamily<T: Kept>: Family<T> + Send + Sync {}

@@ -1,5 +1,0 @@
-pub mod Acts
-pub mod Histories
-pub mod Intervals
-pub mod Running
-pub mod Sights

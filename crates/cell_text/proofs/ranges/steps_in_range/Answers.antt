@@ -1,6 +1,0 @@
--- Looked for at once, so that another value is refused at once.
-use Rattle.std.proofs.Common.{rules}
-use Rattle.cell_text.proofs.ranges.steps_in_range.Goals as goal
-
-pub returns : goal.returns
-returns c = search rules

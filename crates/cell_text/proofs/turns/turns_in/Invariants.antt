@@ -1,9 +1,0 @@
--- Each letter passed named a side, so the sides read, put before what the rest gives, are what all letters give.
-use Rattle.std.proofs.Common.{◌≡◌, drop}
-use Rattle.history_text.specs.Shapes.{all_of}
-use Rattle.cell_text.specs.Shapes.{turn_named}
-use Rattle.history_text.proofs.ListLemmas.{with_front}
-use Rattle.cell_text.proofs.turns.turns_in.Given as goal
-
-abbrev pub invariant-loop-letter : goal.invariant-loop-letter
-invariant-loop-letter l = with_front l.turns.items (all_of turn_named (drop l.letter-index l.letters)) ≡ all_of turn_named l.letters

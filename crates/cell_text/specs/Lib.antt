@@ -1,3 +1,0 @@
-pub mod Cell
-pub mod Ranges
-pub mod Shapes

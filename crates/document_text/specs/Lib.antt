@@ -1,6 +1,0 @@
-pub mod Document
-pub mod Kinds
-pub mod Ranges
-pub mod Refusals
-pub mod Splits
-pub mod Values

@@ -1,0 +1,26 @@
+//! `fsr_order`: `fsr order` alone, which is built without what the other commands need. It takes `--order` or `--small`.
+#![tactic(auto)]
+
+use fsr_order_answers::{run, show_of};
+use program_runs::{FSR, words_of};
+use program_streams::{Exit, Over, tell};
+use std::process::ExitCode;
+
+fn main(rt: HostRuntime) -> ExitCode {
+    let mut faults = Over::new(rt.stderr());
+    let words = match words_of(&rt, FSR.no_memory, &mut faults) {
+        Ok(words) => words,
+        Err(status) => return ExitCode::from(status),
+    };
+    let Some(show) = show_of(words.as_slice()) else {
+        tell(
+            &mut faults,
+            "fsr_order: takes --order or --small, and the document on standard input\n",
+        );
+        return ExitCode::from(Exit::NoCommand.status());
+    };
+    let mut input = Over::new(rt.stdin());
+    let mut out = Over::new(rt.stdout());
+    let status = run(rt.alloc(), show, &mut input, &mut out, &mut faults);
+    ExitCode::from(status)
+}

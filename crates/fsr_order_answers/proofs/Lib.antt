@@ -1,0 +1,8 @@
+mod CountLemmas
+pub mod FrontLemmas
+mod InputLemmas
+mod LimitLemmas
+pub mod StatusLemmas
+pub mod SmallStatusLemmas
+pub mod LogLemmas
+pub mod OrderLemmas

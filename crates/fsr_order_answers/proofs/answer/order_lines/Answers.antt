@@ -1,0 +1,37 @@
+-- What was found of the operations that are kept is true of the log.
+use Rattle.std.proofs.Common.{Ok}
+use Rattle.std.specs.Prelude.{unwrap_or}
+use Rattle.fsr_order_answers.specs.LinesAnswers.{Found}
+use Rattle.fsr_order_answers.proofs.StatusLemmas.{low_lines}
+use Rattle.fsr_order_answers.proofs.answer.order_lines.Goals as goal
+
+pub returns-in-Ok-answer_log-clause-gives : goal.returns-in-Ok-answer_log-clause-gives
+returns-in-Ok-answer_log-clause-gives c =
+    let log = c.in-Ok.ensures.log in
+    let told = c.in-Ok-answer_log.ensures (unwrap_or log.1.head.limit 1) log.0 log.1.thinned in record {
+      log = log.0;
+      read = c.in-Ok.log;
+      found = told.0;
+      is = log.1;
+      answered = told.2;
+      named = told.3;
+      most = told.1;
+      counted = told.4;
+      told = told.5;
+    }
+
+pub returns-in-Ok-answer_log-clause-low : goal.returns-in-Ok-answer_log-clause-low
+returns-in-Ok-answer_log-clause-low c =
+    let log = c.in-Ok.ensures.log in
+    let told = c.in-Ok-answer_log.ensures (unwrap_or log.1.head.limit 1) log.0 log.1.thinned in
+    let found : Found c.args.order c.args.bytes.now c.in-Ok-answer_log.answer = record {
+      log = log.0;
+      read = c.in-Ok.log;
+      found = told.0;
+      is = log.1;
+      answered = told.2;
+      named = told.3;
+      most = told.1;
+      counted = told.4;
+      told = told.5;
+    } in low_lines c.args.order c.args.bytes.now (Ok c.in-Ok-answer_log.answer) found

@@ -1,0 +1,23 @@
+-- The answer to a log, in lines or as a document of kind `log` (this project's own).
+use Rattle.std.specs.Prelude.{ℕ, List, Bool, true, false, Result}
+use Rattle.program_runs.specs.declared.fault.Answer.{Answer}
+use Rattle.program_runs.specs.declared.fault.Fault.{Fault}
+use Rattle.program_runs.specs.declared.show.Show.{Show}
+use Rattle.read_document.specs.Kinds.{are_lines}
+use Rattle.fsr_order_answers.specs.LinesAnswers.{IsLinesAnswer}
+use Rattle.fsr_order_answers.specs.SmallAnswers.{IsSmallAnswer}
+use Rattle.fsr_order_answers.specs.Logs.{IsLogAnswer}
+
+-- the answer to a log in lines: a small log if that is asked for, else the verdict, with the writes in order if those are
+abbrev pub IsAnswerIfSmall : Bool → Bool → List ℕ → Result Answer Fault → Type 0
+IsAnswerIfSmall true order bytes reply = IsSmallAnswer bytes reply
+IsAnswerIfSmall false order bytes reply = IsLinesAnswer order bytes reply
+
+-- the answer by the kind: whether the document is a log in lines
+abbrev pub IsAnswerBy : Show → Bool → List ℕ → Result Answer Fault → Type 0
+IsAnswerBy show true bytes reply = IsAnswerIfSmall show.small show.order bytes reply
+IsAnswerBy show false bytes reply = IsLogAnswer bytes reply
+
+-- the answer of the command `order` to the bytes of a document
+abbrev pub IsOrderAnswer : Show → List ℕ → Result Answer Fault → Type 0
+IsOrderAnswer show bytes reply = IsAnswerBy show (are_lines bytes) bytes reply

@@ -1,0 +1,24 @@
+//! What `fsr` answers to a log, in lines or as a document of kind `log`: a lawful order of it, or the reason why there is none; and the
+//! small log that shows the reason.
+#![tactic(auto)]
+
+mod answer;
+mod input;
+pub mod laws;
+mod limit;
+mod log_answer;
+mod order;
+mod program;
+mod search;
+mod small;
+mod small_answer;
+mod text;
+mod words;
+
+pub use answer::{order_lines, search_log, status_of};
+pub use input::take_log;
+pub use log_answer::order_document;
+pub use order::order;
+pub use program::run;
+pub use small_answer::order_small;
+pub use words::show_of;

@@ -1,0 +1,62 @@
+//! All that is printed of a log in lines.
+ghost use Rattle.std.specs.Prelude.{◌≡◌, ◌++◌, IfOk, OnOk};
+ghost use Rattle.std.specs.Fmt.{decimal};
+ghost use Rattle.fsr_order_answers.specs.Text.{count_text, counts_text, end_text, lines_text};
+
+use history_core::LogAnswer;
+use itoa::Buffer;
+use lines_log::LinesLog;
+use print_reasons::verdict_text;
+use std::alloc::{AllocError, Global};
+
+/// The verdict, with the writes in order if that is asked for, and the counts.
+pub(crate) fn lines_text(
+    alloc: Global,
+    order: bool,
+    bytes: &[u8],
+    log: &LinesLog,
+    most: u64,
+    found: &LogAnswer,
+) -> Result<Vec<u8>, AllocError>
+    ensures { IfOk result (λ text. text.items ≡ lines_text order bytes.now log.now most found.now) }
+{
+    let mut text = verdict_text(alloc, order, bytes, &log.thinned, most, found)?;
+    push_counts(&mut text, log)?;
+    Ok(text)
+}
+
+fn push_counts(text: &mut Vec<u8>, log: &LinesLog) -> Result<(), AllocError>
+    ensures { OnOk result (text.new.items ≡ text.old.items ++ counts_text log.now) }
+{
+    push_count(text, log.ops, " operations, ")?;
+    push_count(text, log.unfinished, " unfinished, ")?;
+    push_count(text, log.records, " records, ")?;
+    push_count(text, log.read, " of them read")?;
+    push_end(text, log.ended)
+}
+
+/// That the end isn't there, if so.
+fn push_end(text: &mut Vec<u8>, ended: bool) -> Result<(), AllocError>
+    ensures { OnOk result (text.new.items ≡ text.old.items ++ end_text ended) }
+{
+    if ended {
+        text.extend_from_slice(b"\n")
+    } else {
+        text.extend_from_slice(b"; no last line `done`\n")
+    }
+}
+
+fn push_count(text: &mut Vec<u8>, number: usize, words: &str) -> Result<(), AllocError>
+    ensures { OnOk result (text.new.items ≡ text.old.items ++ count_text number words.now) }
+{
+    push_number(text, number)?;
+    text.extend_from_slice(words.as_bytes())
+}
+
+fn push_number(text: &mut Vec<u8>, number: usize) -> Result<(), AllocError>
+    ensures { OnOk result (text.new.items ≡ text.old.items ++ decimal number) }
+{
+    let mut buffer = Buffer::new();
+    let digits = buffer.format(number);
+    text.extend_from_slice(digits.as_bytes())
+}

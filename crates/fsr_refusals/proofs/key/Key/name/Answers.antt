@@ -1,6 +1,0 @@
--- Looked for at once, so that another value is refused at once.
-use Rattle.std.proofs.Common.{rules}
-use Rattle.fsr_refusals.proofs.key.Key.name.Goals as goal
-
-pub returns-in-Limit : goal.returns-in-Limit
-returns-in-Limit c = search rules

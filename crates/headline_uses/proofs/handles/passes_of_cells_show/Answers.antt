@@ -1,6 +1,0 @@
--- Each is a part of the name.
-use Rattle.headline_uses.proofs.Handed.{of_cells}
-use Rattle.headline_uses.proofs.handles.passes_of_cells_show.Goals as goal
-
-pub returns : goal.returns
-returns g c = of_cells

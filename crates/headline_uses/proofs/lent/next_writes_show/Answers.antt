@@ -1,6 +1,0 @@
--- It is told by the case.
-use Rattle.headline_uses.proofs.Placed.{next}
-use Rattle.headline_uses.proofs.lent.next_writes_show.Goals as goal
-
-pub returns : goal.returns
-returns g c = next

@@ -1,6 +1,0 @@
--- It is told by the case.
-use Rattle.headline_uses.proofs.Placed.{publishes}
-use Rattle.headline_uses.proofs.lent.publishes_show.Goals as goal
-
-pub returns : goal.returns
-returns g c = publishes

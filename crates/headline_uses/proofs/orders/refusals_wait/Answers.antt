@@ -1,6 +1,0 @@
--- No write stands before it.
-use Rattle.headline_uses.proofs.Ordered.{waits}
-use Rattle.headline_uses.proofs.orders.refusals_wait.Goals as goal
-
-pub returns : goal.returns
-returns g c = waits

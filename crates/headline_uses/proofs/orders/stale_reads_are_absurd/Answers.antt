@@ -1,6 +1,0 @@
--- The write stands before the read, and nothing else changes what is there.
-use Rattle.headline_uses.proofs.Ordered.{stale}
-use Rattle.headline_uses.proofs.orders.stale_reads_are_absurd.Goals as goal
-
-pub returns : goal.returns
-returns g c = stale

@@ -1,6 +1,0 @@
--- Each is the verdict.
-use Rattle.headline_uses.proofs.Listings.{verdicts}
-use Rattle.headline_uses.proofs.orders.verdicts_show.Goals as goal
-
-pub returns : goal.returns
-returns g c = verdicts

@@ -1,9 +1,0 @@
--- Each is a part of it.
-use Rattle.headline_uses.proofs.Reasoned.{answered, faults}
-use Rattle.headline_uses.proofs.reasons.faults_show.Goals as goal
-
-pub returns-clause-answered : goal.returns-clause-answered
-returns-clause-answered g c = answered
-
-pub returns-clause-faults : goal.returns-clause-faults
-returns-clause-faults g c = faults

@@ -1,0 +1,9 @@
+-- Looked for at once, so that another value is refused at once.
+use Rattle.std.proofs.Common.{rules}
+use Rattle.history_explain.proofs.breaks.precedence.later.Goals as goal
+
+pub returns-then-a-b : goal.returns-then-a-b
+returns-then-a-b c = search rules
+
+pub returns-else-a-b : goal.returns-else-a-b
+returns-else-a-b c = search rules

@@ -1,9 +1,0 @@
--- Looked for at once, so that another value is refused at once.
-use Rattle.std.proofs.Common.{rules}
-use Rattle.history_text.proofs.operation.actor_of.Goals as goal
-
-pub returns-in_err-get : goal.returns-in_err-get
-returns-in_err-get c = search rules
-
-pub returns : goal.returns
-returns c = search rules

@@ -1,9 +1,0 @@
--- Looked for at once, so that another value is refused at once.
-use Rattle.std.proofs.Common.{rules}
-use Rattle.history_text.proofs.operation.optional_band.Goals as goal
-
-pub returns-in-Some-band_in : goal.returns-in-Some-band_in
-returns-in-Some-band_in c = search rules
-
-pub returns-in-None : goal.returns-in-None
-returns-in-None c = search rules

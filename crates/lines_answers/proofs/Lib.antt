@@ -1,5 +1,0 @@
-mod CountLemmas
-pub mod FrontLemmas
-mod InputLemmas
-mod LimitLemmas
-pub mod StatusLemmas

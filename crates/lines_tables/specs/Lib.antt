@@ -1,5 +1,0 @@
-pub mod Lasts
-pub mod Numberings
-pub mod Reads
-pub mod Places
-pub mod Tasks

@@ -1,7 +1,0 @@
--- The moments so far are on the axis.
-use Rattle.std.proofs.Common.{◌≡◌, ◌++◌}
-use Rattle.picture_text.specs.Picture.{ticks_text}
-use Rattle.picture_text.proofs.frame.push_ticks.Given as goal
-
-abbrev pub invariant-loop-n : goal.invariant-loop-n
-invariant-loop-n l = l.text.items ≡ l.initial.text.items ++ ticks_text l.scale l.high l.n

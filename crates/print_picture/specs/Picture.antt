@@ -1,0 +1,274 @@
+-- The text of a picture (this project's own): lanes, axis and terms, then the operations, the slot accesses, the marks of what breaks
+-- the order or of why there is none, and the order's joins and points.
+use Rattle.std.specs.Prelude.{ℕ, ◌+◌, ◌-◌, ◌*◌, ◌/◌, ◌^◌, ◌++◌, min, List, [], ◌∷◌, codes, Bool, true, false, Option, None, Some, slice_get}
+use Rattle.std.specs.Prelude.{zero, suc, nat_le, if◌then◌else◌}
+use Rattle.std.specs.Fmt.{decimal}
+use Rattle.std.specs.List.{flat_map}
+use Rattle.std.specs.Option.{unwrap_or}
+use Rattle.history_core.specs.Orders.{is_write, listed_at}
+use Rattle.history_core.specs.declared.band.Band.{Band}
+use Rattle.history_core.specs.declared.reason.Reason.{Reason}
+use Rattle.history_core.specs.declared.reason.Reason.TheVariants as reason
+use Rattle.history_explain.specs.declared.breaks.Break.{Break}
+use Rattle.history_explain.specs.declared.breaks.Break.TheVariants.{NoPlace, Times, Precedence, NoItem, Reading, Limit}
+use Rattle.history_core.specs.declared.history.Op.{Op}
+use Rattle.history_core.specs.declared.history.Term.{Term}
+use Rattle.matrix_core.specs.declared.stamp.Stamp.{Stamp}
+use Rattle.print_report.specs.Lines.{entry_at}
+use Rattle.matrix_core.specs.declared.schedule.MatrixTerm.{MatrixTerm}
+use Rattle.picture_shapes.specs.Looks.{looks}
+use Rattle.picture_shapes.specs.Scales.{actors_of, far_of, scale_of, unit_in, x_of, y_of}
+use Rattle.picture_shapes.specs.Shapes.{bar_of, bar_text, class_of, end_of, join_text, lane_text, lawful_words, op_shapes, place_text}
+use Rattle.picture_shapes.specs.Shapes.{row_y, point_text, term_text, tick_text, unlawful_head, words_end}
+use Rattle.picture_shapes.specs.declared.scale.Scale.{Scale}
+use Rattle.picture_shapes.specs.declared.shape.lanes.Lanes.{Lanes}
+use Rattle.picture_shapes.specs.declared.shape.lanes.Lanes.TheVariants.{Actors, Cell, Board}
+use Rattle.picture_shapes.specs.declared.shape.Bar.{Bar}
+use Rattle.picture_shapes.specs.declared.shape.Class.TheVariants as class
+use Rattle.picture_shapes.specs.declared.shape.Join.TheVariants.{Answers, Breaks, Precedes}
+use Rattle.picture_shapes.specs.declared.shape.Spot.{Spot}
+use Rattle.picture_shapes.specs.Visits.{widest}
+use Rattle.picture_shapes.specs.declared.visit.Visit.{Visit}
+use Rattle.print_picture.specs.declared.scene.Finding.{Finding}
+use Rattle.print_picture.specs.declared.scene.Finding.TheVariants.{Lawful, Broken, NoOrder}
+use Rattle.print_picture.specs.declared.scene.Scene.{Scene}
+
+-- ---- the frame
+
+unfoldable pub size_text : ℕ → ℕ → List ℕ
+size_text far high = codes "<svg xmlns=\"http://www.w3.org/2000/svg\" width=\"" ++ decimal far ++ codes "\" height=\"" ++ decimal high
+
+abbrev pub head_text : ℕ → ℕ → List ℕ
+head_text far high = size_text far high ++ looks
+
+abbrev pub lanes_text : Lanes → ℕ → ℕ → List ℕ
+lanes_text lanes far zero = []
+lanes_text lanes far (suc n) = lanes_text lanes far n ++ lane_text lanes far n
+
+-- every fifth column has its moment on the axis
+abbrev pub tick_moment : Scale → ℕ → ℕ
+tick_moment s n = min (2 ^ 64 - 1) (s.least + min (2 ^ 64 - 1) (unit_in s * (5 * n)))
+
+abbrev pub tick_at : Scale → ℕ → ℕ → List ℕ
+tick_at s high n = tick_text (x_of s (tick_moment s n)) high (tick_moment s n)
+
+abbrev pub ticks_text : Scale → ℕ → ℕ → List ℕ
+ticks_text s high zero = []
+ticks_text s high (suc n) = ticks_text s high n ++ tick_at s high n
+
+abbrev pub ticks_of : Scale → ℕ
+ticks_of s = min 20000 ((s.most - s.least) / unit_in s / 5) + 1
+
+abbrev pub begin_x : Scale → Option (Op Band) → ℕ
+begin_x s None = far_of s
+begin_x s (Some op) = x_of s op.starts
+
+abbrev pub terms_text : Scale → ℕ → List (Op Band) → ℕ → List Term → List ℕ
+terms_text s high ops number [] = []
+terms_text s high ops number (term ∷ terms) =
+    term_text (begin_x s (slice_get ops term.first)) high number term.limit ++ terms_text s high ops (number + 1) terms
+
+-- ---- operations and slot accesses
+
+abbrev pub ops_text : Scale → List (Option Stamp) → ℕ → List (Op Band) → List ℕ
+ops_text s stamps place [] = []
+ops_text s stamps place (op ∷ ops) = op_shapes s (entry_at stamps place) op ++ ops_text s stamps (place + 1) ops
+
+-- in the lane of its slot, or in the row of its slot in the lane of its cell
+abbrev pub slot_bar : Scale → Visit → Bar
+slot_bar s v = bar_of (class_of v.kind) s (min (2 ^ 64 - 1) (v.lane + v.slot)) v.starts v.ends
+
+abbrev pub row_bar : Scale → Visit → Bar
+row_bar s v = record (bar_of (class_of v.kind) s v.lane v.starts v.ends) { y = row_y v.lane v.slot; high = 10 }
+
+abbrev pub visit_bar : Lanes → Scale → Visit → Bar
+visit_bar Actors s v = slot_bar s v
+visit_bar Cell s v = slot_bar s v
+visit_bar (Board n) s v = row_bar s v
+
+abbrev pub visit_text : Lanes → Scale → Visit → List ℕ
+visit_text lanes s v = bar_text (visit_bar lanes s v)
+
+-- ---- the order
+
+-- where entry n of the order, this operation, has its point
+abbrev pub spot_of : Scale → List ℕ → ℕ → Op Band → Spot
+spot_of s points n op = record { x = x_of s (unwrap_or (slice_get points n) op.starts); y = y_of op.who + 44 }
+
+abbrev pub point_at : Scale → List ℕ → ℕ → Option (Op Band) → List ℕ
+point_at s points n None = []
+point_at s points n (Some op) = point_text n (spot_of s points n op)
+
+abbrev pub points_text : Scale → List (Op Band) → List ℕ → ℕ → List ℕ → List ℕ
+points_text s ops points n [] = []
+points_text s ops points n (p ∷ order) = point_at s points n (slice_get ops p) ++ points_text s ops points (n + 1) order
+
+-- each read and refused write is joined to the last write before it
+abbrev pub join_at : Scale → List ℕ → ℕ → Option Spot → Option (Op Band) → List ℕ
+join_at s points n write None = []
+join_at s points n None (Some op) = []
+join_at s points n (Some write) (Some op) = if is_write op.kind then [] else join_text Answers write (spot_of s points n op)
+
+abbrev pub write_after : Scale → List ℕ → ℕ → Option Spot → Option (Op Band) → Option Spot
+write_after s points n write None = write
+write_after s points n write (Some op) = if is_write op.kind then Some (spot_of s points n op) else write
+
+abbrev pub joins_text : Scale → List (Op Band) → List ℕ → ℕ → Option Spot → List ℕ → List ℕ
+joins_text s ops points n write [] = []
+joins_text s ops points n write (p ∷ order) =
+    join_at s points n write (slice_get ops p) ++ joins_text s ops points (n + 1) (write_after s points n write (slice_get ops p)) order
+
+-- ---- what breaks the order
+
+unfoldable pub break_words : Break → List ℕ
+break_words (NoPlace entry) =
+    unlawful_head ++ codes "listing: entry " ++ decimal entry ++ codes " of the order is no operation" ++ words_end
+break_words (Times place times) =
+    unlawful_head ++ codes "listing: operation " ++ decimal place ++ codes " stands " ++ decimal times ++ codes " times" ++ words_end
+break_words (Precedence earlier entry) =
+    unlawful_head ++ codes "precedence: entry " ++ decimal entry ++ codes " stands after entry " ++ decimal earlier
+    ++ codes ", and ended before it began" ++ words_end
+break_words (NoItem entry) = unlawful_head ++ codes "reading: entry " ++ decimal entry ++ codes " has no record" ++ words_end
+break_words (Reading entry None) =
+    unlawful_head ++ codes "reading: entry " ++ decimal entry ++ codes " has another record than the opening" ++ words_end
+break_words (Reading entry (Some write)) =
+    unlawful_head ++ codes "reading: entry " ++ decimal entry ++ codes " has another record than entry " ++ decimal write
+    ++ codes ", the last write before it" ++ words_end
+break_words (Limit entry writes) =
+    unlawful_head ++ codes "limit: entry " ++ decimal entry ++ codes " was refused after " ++ decimal writes
+    ++ codes " writes of its term" ++ words_end
+
+abbrev pub mark_text : Scale → Option (Op Band) → List ℕ
+mark_text s None = []
+mark_text s (Some op) = bar_text (bar_of class.Broken s op.who op.starts op.ends)
+
+abbrev pub broken_join : Scale → List ℕ → ℕ → ℕ → Option (Op Band) → Option (Op Band) → List ℕ
+broken_join s points m n None b = []
+broken_join s points m n (Some a) None = []
+broken_join s points m n (Some a) (Some b) = join_text Breaks (spot_of s points m a) (spot_of s points n b)
+
+-- the marks of two entries, with a join between them
+abbrev pub pair_text : Scale → List (Op Band) → List ℕ → List ℕ → ℕ → ℕ → List ℕ
+pair_text s ops order points m n =
+    mark_text s (listed_at ops order m) ++ mark_text s (listed_at ops order n)
+    ++ broken_join s points m n (listed_at ops order m) (listed_at ops order n)
+
+unfoldable pub break_text : Scale → List (Op Band) → List ℕ → List ℕ → Break → List ℕ
+break_text s ops order points (NoPlace entry) = []
+break_text s ops order points (Times place times) = mark_text s (slice_get ops place)
+break_text s ops order points (Precedence earlier entry) = pair_text s ops order points earlier entry
+break_text s ops order points (NoItem entry) = mark_text s (listed_at ops order entry)
+break_text s ops order points (Reading entry None) = mark_text s (listed_at ops order entry)
+break_text s ops order points (Reading entry (Some write)) = pair_text s ops order points write entry
+break_text s ops order points (Limit entry writes) = mark_text s (listed_at ops order entry)
+
+-- ---- why no order is lawful
+
+unfoldable pub precedes_words : ℕ → ℕ → List ℕ
+precedes_words m n = decimal m ++ codes " precedes " ++ decimal n
+
+unfoldable pub both_words : ℕ → ℕ → ℕ → ℕ → List ℕ
+both_words a b c d = precedes_words a b ++ codes " and " ++ precedes_words c d
+
+unfoldable pub crossed_words : ℕ → ℕ → ℕ → ℕ → List ℕ
+crossed_words a b c d =
+    unlawful_head ++ codes "crossed: operation " ++ both_words a b c d
+    ++ codes ": each of two records has to stand before the other" ++ words_end
+
+unfoldable pub reason_words : Reason → List ℕ
+reason_words (reason.Unwritten read) =
+    unlawful_head ++ codes "unwritten: operation " ++ decimal read ++ codes " has a record that is neither the opening nor written"
+    ++ words_end
+reason_words (reason.Early read write) =
+    unlawful_head ++ codes "early: operation " ++ decimal read ++ codes " precedes operation " ++ decimal write
+    ++ codes ", which writes its record" ++ words_end
+reason_words (reason.Stale before read) =
+    unlawful_head ++ codes "stale: operation " ++ decimal before ++ codes ", of another record, precedes operation " ++ decimal read
+    ++ codes ", which gave the opening" ++ words_end
+reason_words (reason.Crossed a b c d) = crossed_words a b c d
+reason_words (reason.Limit refused) =
+    unlawful_head ++ codes "limit: in each order operation " ++ decimal refused
+    ++ codes ", or a refused one before it, has too few writes before it" ++ words_end
+
+-- where an operation has its place written, begins, and ends
+abbrev pub place_spot : Scale → Op Band → Spot
+place_spot s op = record { x = x_of s op.starts + 6; y = y_of op.who + 48 }
+
+abbrev pub begin_spot : Scale → Op Band → Spot
+begin_spot s op = record { x = x_of s op.starts; y = y_of op.who + 44 }
+
+abbrev pub end_spot : Scale → Op Band → Spot
+end_spot s op = record { x = end_of s op.ends; y = y_of op.who + 44 }
+
+-- the mark of the operation at this place, and the place
+abbrev pub named_text : Scale → ℕ → Option (Op Band) → List ℕ
+named_text s place None = []
+named_text s place (Some op) =
+    bar_text (bar_of class.Broken s op.who op.starts op.ends) ++ place_text place (place_spot s op)
+
+abbrev pub arrow_text : Scale → Option (Op Band) → Option (Op Band) → List ℕ
+arrow_text s None b = []
+arrow_text s (Some a) None = []
+arrow_text s (Some a) (Some b) = join_text Precedes (end_spot s a) (begin_spot s b)
+
+-- an operation that precedes another: both with their places, and an arrow from the end of the one to the beginning of the other
+unfoldable pub precedence_text : Scale → List (Op Band) → ℕ → ℕ → List ℕ
+precedence_text s ops m n =
+    named_text s m (slice_get ops m) ++ named_text s n (slice_get ops n) ++ arrow_text s (slice_get ops m) (slice_get ops n)
+
+unfoldable pub reason_text : Scale → List (Op Band) → Reason → List ℕ
+reason_text s ops (reason.Unwritten read) = named_text s read (slice_get ops read)
+reason_text s ops (reason.Early read write) = precedence_text s ops read write
+reason_text s ops (reason.Stale before read) = precedence_text s ops before read
+reason_text s ops (reason.Crossed a b c d) = precedence_text s ops a b ++ precedence_text s ops c d
+reason_text s ops (reason.Limit refused) = named_text s refused (slice_get ops refused)
+
+-- ---- what is said of the history
+
+abbrev pub finding_words : Finding → List ℕ
+finding_words Lawful = lawful_words
+finding_words (Broken broken) = break_words broken
+finding_words (NoOrder why) = reason_words why
+
+abbrev pub finding_text : Scale → List (Op Band) → List ℕ → List ℕ → Finding → List ℕ
+finding_text s ops order points Lawful = []
+finding_text s ops order points (Broken broken) = break_text s ops order points broken
+finding_text s ops order points (NoOrder why) = reason_text s ops why
+
+-- ---- the whole
+
+-- the lanes of a board's picture: with its cells, where no term has more than 4 processes
+abbrev pub board_lanes : List (MatrixTerm Band) → Lanes
+board_lanes terms = if nat_le (widest terms) 4 then Board (widest terms) else Actors
+
+-- how many lanes there are; a board with cells has 4 processes at most
+abbrev pub lanes_of : Lanes → List (Op Band) → ℕ
+lanes_of Actors ops = actors_of ops
+lanes_of Cell ops = 6
+lanes_of (Board n) ops = min 4 n * min 4 n
+
+abbrev pub shown_terms : Lanes → List Term → List Term
+shown_terms Actors terms = terms
+shown_terms Cell terms = []
+shown_terms (Board n) terms = terms
+
+unfoldable pub frame_text : Lanes → Scale → ℕ → ℕ → List (Op Band) → List Term → List ℕ
+frame_text lanes s count high ops terms =
+    head_text (far_of s) high ++ lanes_text lanes (far_of s) count ++ ticks_text s high (ticks_of s) ++ terms_text s high ops 1 terms
+
+unfoldable pub order_shapes : Scale → List (Op Band) → List ℕ → List ℕ → List ℕ
+order_shapes s ops order points = joins_text s ops points 0 None order ++ points_text s ops points 0 order
+
+unfoldable pub end_text : Finding → List ℕ
+end_text finding = finding_words finding ++ codes "</svg>\n"
+
+abbrev pub high_of : ℕ → ℕ
+high_of lanes = y_of lanes + 24
+
+unfoldable pub picture_of : Scene → List ℕ
+picture_of c =
+    let s = scale_of c.history.ops in
+    let count = lanes_of c.lanes c.history.ops in
+    frame_text c.lanes s count (high_of count) c.history.ops (shown_terms c.lanes c.history.terms)
+    ++ ops_text s c.stamps 0 c.history.ops ++ flat_map (visit_text c.lanes s) c.visits
+    ++ finding_text s c.history.ops c.order c.points c.finding ++ order_shapes s c.history.ops c.order c.points ++ end_text c.finding

@@ -1,0 +1,67 @@
+//! The text of a picture.
+
+ghost use Rattle.std.specs.Prelude.{◌≡◌, [], IfOk};
+ghost use Rattle.print_picture.specs.Picture.{high_of, picture_of, shown_terms};
+
+use crate::finding::{push_end, push_finding};
+use crate::frame::push_frame;
+use crate::lanes::lanes_of;
+use crate::marks::{push_ops, push_order, push_visits};
+use crate::scene::Scene;
+use history_core::Term;
+use picture_shapes::{Lanes, Scale, y_of};
+use std::alloc::{AllocError, Global};
+
+/// The greatest number of operations for which room is made before they are drawn.
+const MOST_ROOM: usize = 10_000;
+
+/// The picture of a scene as SVG text, which a browser shows with no script and no font of its own.
+#[tactic(auto, unfolding(crate::specs::Picture::picture_of), using(std::proofs::Common::append_assoc))]
+pub fn picture_text(alloc: Global, scene: &Scene) -> Result<Vec<u8>, AllocError>
+    ensures { IfOk result (λ v. v.items ≡ picture_of scene.now) }
+{
+    let ops = scene.history.ops.as_slice();
+    let order = scene.order.as_slice();
+    let points = scene.points.as_slice();
+    let terms = shown_terms(scene.lanes, scene.history.terms.as_slice());
+    let scale = Scale::of(ops);
+    let count = lanes_of(scene.lanes, ops);
+    let mut text = with_room(alloc, ops.len())?;
+    push_frame(
+        &mut text,
+        scene.lanes,
+        &scale,
+        count,
+        high_of(count),
+        ops,
+        terms,
+    )?;
+    push_ops(&mut text, &scale, scene.stamps.as_slice(), ops)?;
+    push_visits(&mut text, scene.lanes, &scale, scene.visits.as_slice())?;
+    push_finding(&mut text, &scale, ops, order, points, scene.finding)?;
+    push_order(&mut text, &scale, ops, order, points)?;
+    push_end(&mut text, scene.finding)?;
+    Ok(text)
+}
+
+/// No text yet, with room for the shapes of most scenes of this size.
+fn with_room(alloc: Global, operations: usize) -> Result<Vec<u8>, AllocError>
+    ensures { IfOk result (λ v. v.items ≡ []) }
+{
+    Vec::with_capacity(alloc, 2048 + 400 * operations.min(MOST_ROOM))
+}
+
+fn shown_terms(lanes: Lanes, terms: &[Term]) -> &[Term]
+    ensures { result.now ≡ shown_terms lanes terms.now }
+{
+    match lanes {
+        Lanes::Cell => &[],
+        _ => terms,
+    }
+}
+
+fn high_of(lanes: usize) -> u64
+    ensures { result ≡ high_of lanes }
+{
+    y_of(lanes) + 24
+}

@@ -1,0 +1,206 @@
+//! Why no order is lawful: the operations of the reason with their places, an arrow from each that precedes another, and a line of text.
+
+ghost use Rattle.std.specs.Prelude.{◌≡◌, ◌+◌, ◌≤◌, ◌++◌, OnOk, length, slice_get};
+ghost use Rattle.print_picture.specs.Picture.{arrow_text, begin_spot, both_words, crossed_words, end_spot, named_text, place_spot};
+ghost use Rattle.print_picture.specs.Picture.{precedence_text};
+ghost use Rattle.print_picture.specs.Picture.{precedes_words, reason_text, reason_words};
+
+use crate::marks::op_at;
+use history_core::{Band, Op, Reason};
+use picture_shapes::{
+    Class, Join, Scale, Spot, bar_of, end_of, put_bar, put_first_words, put_join, put_last_words,
+    put_long_words, put_place, put_words, y_of,
+};
+use print_report::Line;
+use std::alloc::AllocError;
+
+#[tactic(auto, unfolding(crate::specs::Picture::reason_text), using(std::proofs::Common::append_assoc))]
+pub fn push_reason(
+    text: &mut Vec<u8>,
+    scale: &Scale,
+    ops: &[Op<Band>],
+    reason: Reason,
+) -> Result<(), AllocError>
+    ensures { OnOk result (text.new.items ≡ text.old.items ++ reason_text scale.now ops.now reason) }
+{
+    match reason {
+        Reason::Unwritten { read } => push_named(text, scale, read, op_at(ops, read)),
+        Reason::Early { read, write } => push_precedence(text, scale, ops, read, write),
+        Reason::Stale { before, read } => push_precedence(text, scale, ops, before, read),
+        Reason::Crossed { a, b, c, d } => {
+            push_precedence(text, scale, ops, a, b)?;
+            push_precedence(text, scale, ops, c, d)
+        }
+        Reason::Limit { refused } => push_named(text, scale, refused, op_at(ops, refused)),
+    }
+}
+
+/// An operation that precedes another.
+#[tactic(auto, unfolding(crate::specs::Picture::precedence_text), using(std::proofs::Common::append_assoc))]
+fn push_precedence(
+    text: &mut Vec<u8>,
+    scale: &Scale,
+    ops: &[Op<Band>],
+    m: usize,
+    n: usize,
+) -> Result<(), AllocError>
+    ensures { OnOk result (text.new.items ≡ text.old.items ++ precedence_text scale.now ops.now m n) }
+{
+    let a = op_at(ops, m);
+    let b = op_at(ops, n);
+    push_named(text, scale, m, a)?;
+    push_named(text, scale, n, b)?;
+    push_arrow(text, scale, a, b)
+}
+
+/// The mark of an operation, with its place.
+#[tactic(auto, using(std::proofs::Common::append_assoc))]
+fn push_named(
+    text: &mut Vec<u8>,
+    scale: &Scale,
+    place: usize,
+    op: Option<Op<Band>>,
+) -> Result<(), AllocError>
+    ensures { OnOk result (text.new.items ≡ text.old.items ++ named_text scale.now place op) }
+{
+    let Some(op) = op else {
+        return Ok(());
+    };
+    let mut line = Line::new();
+    put_bar(
+        &mut line,
+        &bar_of(Class::Broken, scale, op.who, op.starts, op.ends),
+    );
+    text.extend_from_slice(line.as_bytes())?;
+    line.clear();
+    put_place(&mut line, place, place_spot(scale, &op));
+    text.extend_from_slice(line.as_bytes())
+}
+
+fn push_arrow(
+    text: &mut Vec<u8>,
+    scale: &Scale,
+    a: Option<Op<Band>>,
+    b: Option<Op<Band>>,
+) -> Result<(), AllocError>
+    ensures { OnOk result (text.new.items ≡ text.old.items ++ arrow_text scale.now a b) }
+{
+    let Some(a) = a else {
+        return Ok(());
+    };
+    let Some(b) = b else {
+        return Ok(());
+    };
+    let mut line = Line::new();
+    put_join(
+        &mut line,
+        Join::Precedes,
+        end_spot(scale, &a),
+        begin_spot(scale, &b),
+    );
+    text.extend_from_slice(line.as_bytes())
+}
+
+/// Where an operation has its place written.
+fn place_spot(scale: &Scale, op: &Op<Band>) -> Spot
+    ensures { result ≡ place_spot scale.now op.now }
+{
+    Spot {
+        x: scale.x_of(op.starts) + 6,
+        y: y_of(op.who) + 48,
+    }
+}
+
+fn begin_spot(scale: &Scale, op: &Op<Band>) -> Spot
+    ensures { result ≡ begin_spot scale.now op.now }
+{
+    Spot {
+        x: scale.x_of(op.starts),
+        y: y_of(op.who) + 44,
+    }
+}
+
+fn end_spot(scale: &Scale, op: &Op<Band>) -> Spot
+    ensures { result ≡ end_spot scale.now op.now }
+{
+    Spot {
+        x: end_of(scale, op.ends),
+        y: y_of(op.who) + 44,
+    }
+}
+
+#[tactic(auto, unfolding(crate::specs::Picture::reason_words), using(std::proofs::Common::append_assoc))]
+pub fn put_reason_words(line: &mut Line, reason: Reason)
+    requires { length line.old ≡ 0 }
+    ensures { line.new ≡ reason_words reason ++ line.old }
+{
+    match reason {
+        Reason::Unwritten { read } => put_words(
+            line,
+            b"unwritten: operation ",
+            read as u64,
+            b" has a record that is neither the opening nor written",
+        ),
+        Reason::Early { read, write } => {
+            put_long_words(
+                line,
+                b"early: operation ",
+                read as u64,
+                b" precedes operation ",
+                write as u64,
+                b", which writes its record",
+            )
+        }
+        Reason::Stale { before, read } => {
+            put_long_words(
+                line,
+                b"stale: operation ",
+                before as u64,
+                b", of another record, precedes operation ",
+                read as u64,
+                b", which gave the opening",
+            )
+        }
+        Reason::Crossed { a, b, c, d } => put_crossed_words(line, a, b, c, d),
+        Reason::Limit { refused } => {
+            put_words(
+                line,
+                b"limit: in each order operation ",
+                refused as u64,
+                b", or a refused one before it, has too few writes before it",
+            )
+        }
+    }
+}
+
+#[tactic(auto, unfolding(crate::specs::Picture::crossed_words), using(std::proofs::Common::append_assoc))]
+fn put_crossed_words(line: &mut Line, a: usize, b: usize, c: usize, d: usize)
+    requires { length line.old ≡ 0 }
+    ensures { line.new ≡ crossed_words a b c d ++ line.old }
+{
+    put_last_words(line, b": each of two records has to stand before the other");
+    put_both(line, a, b, c, d);
+    put_first_words(line, b"crossed: operation ");
+}
+
+#[tactic(auto, unfolding(crate::specs::Picture::both_words), using(std::proofs::Common::append_assoc))]
+fn put_both(line: &mut Line, a: usize, b: usize, c: usize, d: usize)
+    requires { length line.old + 105 ≤ 256 }
+    ensures text { line.new ≡ both_words a b c d ++ line.old }
+    ensures len { length line.new ≤ length line.old + 105 }
+{
+    put_precedes(line, c, d);
+    line.put(b" and ");
+    put_precedes(line, a, b);
+}
+
+#[tactic(auto, unfolding(crate::specs::Picture::precedes_words), using(std::proofs::Common::append_assoc))]
+fn put_precedes(line: &mut Line, m: usize, n: usize)
+    requires { length line.old + 50 ≤ 256 }
+    ensures text { line.new ≡ precedes_words m n ++ line.old }
+    ensures len { length line.new ≤ length line.old + 50 }
+{
+    line.put_number(n as u64);
+    line.put(b" precedes ");
+    line.put_number(m as u64);
+}

@@ -1,0 +1,30 @@
+use history_core::{Band, History, Items, Reason};
+use history_explain::Break;
+use matrix_core::Stamp;
+use picture_shapes::{Lanes, Visit};
+
+/// What a picture says of its history.
+#[derive(Clone, Copy, Debug, PartialEq, Eq)]
+pub enum Finding {
+    /// The order is lawful.
+    Lawful,
+    /// The order isn't lawful, as this breaks it.
+    Broken(Break),
+    /// No order is lawful, for this reason.
+    NoOrder(Reason),
+}
+
+/// What a picture shows.
+#[derive(Drop)]
+pub struct Scene {
+    pub history: History<Band>,
+    /// An order of its operations, as places in it.
+    pub order: Items<usize>,
+    /// The point of each entry of the order; without them an operation's beginning stands in its point's place.
+    pub points: Items<u64>,
+    pub finding: Finding,
+    /// The stamps of the operations, where they have some.
+    pub stamps: Items<Option<Stamp>>,
+    pub lanes: Lanes,
+    pub visits: Items<Visit>,
+}

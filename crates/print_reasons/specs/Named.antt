@@ -1,0 +1,43 @@
+-- Which of the kept operations a reason names (this project's own).
+use Rattle.std.specs.Prelude.{ℕ, ◌&&◌, ◌||◌, List, [], ◌∷◌, Bool, false, nat_eq, slice_get, Option, Some, None}
+use Rattle.std.specs.List.{list_any}
+use Rattle.history_core.specs.declared.history.Op.{Op}
+use Rattle.history_core.specs.Orders.{is_write}
+use Rattle.history_core.specs.declared.reason.Reason.{Reason}
+use Rattle.history_core.specs.declared.reason.Reason.TheVariants.{Unwritten, Early, Stale, Crossed, Limit}
+use Rattle.print_reasons.specs.KeptAt.{kept_at}
+
+-- a reason by the kept operations
+abbrev pub in_kept : List ℕ → Reason → Reason
+in_kept places (Unwritten read) = Unwritten (kept_at places read)
+in_kept places (Early read write) = Early (kept_at places read) (kept_at places write)
+in_kept places (Stale before read) = Stale (kept_at places before) (kept_at places read)
+in_kept places (Crossed a b c d) = Crossed (kept_at places a) (kept_at places b) (kept_at places c) (kept_at places d)
+in_kept places (Limit refused) = Limit (kept_at places refused)
+
+-- the places that a reason names
+abbrev pub places_of : Reason → List ℕ
+places_of (Unwritten read) = read ∷ []
+places_of (Early read write) = read ∷ write ∷ []
+places_of (Stale before read) = before ∷ read ∷ []
+places_of (Crossed a b c d) = a ∷ b ∷ c ∷ d ∷ []
+places_of (Limit refused) = refused ∷ []
+
+abbrev pub is_item : ℕ → Option ℕ → Bool
+is_item x None = false
+is_item x (Some y) = nat_eq x y
+
+-- both have a record, and the same
+abbrev pub same_item : Option ℕ → Option (Op ℕ) → Bool
+same_item None other = false
+same_item (Some x) None = false
+same_item (Some x) (Some other) = is_item x other.item
+
+-- the write of the record of an operation at one of these places
+abbrev pub writes_one_of : List (Op ℕ) → List ℕ → Option (Op ℕ) → Bool
+writes_one_of ops places None = false
+writes_one_of ops places (Some o) = is_write o.kind && list_any (λ p. same_item o.item (slice_get ops p)) places
+
+-- an operation at one of these places, or the write of its record
+abbrev pub is_named : List (Op ℕ) → List ℕ → ℕ → Bool
+is_named ops places p = list_any (λ q. nat_eq q p) places || writes_one_of ops places (slice_get ops p)

@@ -1,0 +1,62 @@
+-- A reason in one sentence, with the times that show it (this project's own).
+use Rattle.std.specs.Prelude.{ℕ, ◌++◌, List, codes, slice_get, unwrap_or, Option}
+use Rattle.std.specs.Option.{option_and_then, option_map_or}
+use Rattle.std.specs.Fmt.{decimal}
+use Rattle.history_core.specs.declared.history.Op.{Op}
+use Rattle.history_core.specs.declared.reason.Reason.{Reason}
+use Rattle.history_core.specs.declared.reason.Reason.TheVariants.{Unwritten, Early, Stale, Crossed, Limit}
+use Rattle.history_core.specs.Kept.{limit_of}
+use Rattle.history_core.specs.declared.thinned.Thinned.{Thinned}
+use Rattle.read_line.specs.Places.{line_at}
+use Rattle.print_reasons.specs.KeptAt.{kept_at}
+
+-- the kept operation at this place of the log
+abbrev pub op_at : Thinned → ℕ → Option (Op ℕ)
+op_at thinned place = slice_get thinned.history.ops (kept_at thinned.places place)
+
+abbrev pub end_at : Thinned → ℕ → ℕ
+end_at thinned place = unwrap_or (option_and_then (λ (o : Op ℕ). o.ends) (op_at thinned place)) 0
+
+abbrev pub begin_at : Thinned → ℕ → ℕ
+begin_at thinned place = option_map_or (λ (o : Op ℕ). o.starts) (op_at thinned place) 0
+
+abbrev pub number_text : List ℕ → ℕ → List ℕ
+number_text words number = words ++ decimal number
+
+-- one operation had ended when the other began
+abbrev pub apart_text : Thinned → ℕ → ℕ → List ℕ
+apart_text thinned a b =
+    number_text (codes "line ") (line_at a) ++ number_text (codes " ended at ") (end_at thinned a)
+    ++ number_text (codes ", line ") (line_at b) ++ number_text (codes " began at ") (begin_at thinned b)
+
+abbrev pub unwritten_text : ℕ → List ℕ
+unwritten_text read = number_text (codes "Line ") (line_at read) ++ codes " gave a record that is neither the opening nor written.\n"
+
+abbrev pub early_text : Thinned → ℕ → ℕ → List ℕ
+early_text thinned read write =
+    number_text (codes "Line ") (line_at read) ++ codes " gave a record before the write of it began: " ++ apart_text thinned read write
+    ++ codes ".\n"
+
+abbrev pub stale_text : Thinned → ℕ → ℕ → List ℕ
+stale_text thinned before read =
+    number_text (codes "Line ") (line_at read) ++ codes " gave the opening behind an operation of another record: "
+    ++ apart_text thinned before read ++ codes ".\n"
+
+-- a and d are of one record, b and c of another
+abbrev pub crossed_text : Thinned → ℕ → ℕ → ℕ → ℕ → List ℕ
+crossed_text thinned a b c d =
+    codes "Each of two records has to stand before the other: " ++ apart_text thinned a b ++ codes "; " ++ apart_text thinned c d
+    ++ codes ".\n"
+
+-- so many writes can stand before the first refused write
+abbrev pub limit_text : Thinned → ℕ → ℕ → List ℕ
+limit_text thinned most refused =
+    number_text (codes "Of the writes at most ") most ++ number_text (codes " can stand before line ") (line_at refused)
+    ++ number_text (codes " or a refused write in front of it, and the limit is ") (limit_of thinned) ++ codes ".\n"
+
+abbrev pub sentence_text : Thinned → ℕ → Reason → List ℕ
+sentence_text thinned most (Unwritten read) = unwritten_text read
+sentence_text thinned most (Early read write) = early_text thinned read write
+sentence_text thinned most (Stale before read) = stale_text thinned before read
+sentence_text thinned most (Crossed a b c d) = crossed_text thinned a b c d
+sentence_text thinned most (Limit refused) = limit_text thinned most refused

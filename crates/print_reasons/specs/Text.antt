@@ -1,0 +1,74 @@
+-- The printed lines of a search for an order of a log in lines (this project's own).
+use Rattle.std.specs.Prelude.{ℕ, ◌+◌, ◌++◌, ◌&&◌, List, [], ◌∷◌, drop, codes, Bool, if◌then◌else◌, slice_get}
+use Rattle.std.specs.Fmt.{decimal}
+use Rattle.std.specs.List.{flat_map}
+use Rattle.history_core.specs.declared.history.Op.{Op}
+use Rattle.history_core.specs.declared.reason.Reason.{Reason}
+use Rattle.history_core.specs.declared.reason.Reason.TheVariants.{Unwritten, Early, Stale, Crossed, Limit}
+use Rattle.history_core.specs.declared.thinned.LogAnswer.{LogAnswer}
+use Rattle.history_core.specs.declared.thinned.LogAnswer.TheVariants.{Lawful, Unlawful as NoOrder}
+use Rattle.history_core.specs.declared.thinned.Thinned.{Thinned}
+use Rattle.print_search.specs.Text.{reason_text}
+use Rattle.read_document.specs.Splits.{lines_of}
+use Rattle.read_line.specs.Places.{line_at}
+use Rattle.print_reasons.specs.Named.{in_kept, is_item, is_named, places_of}
+use Rattle.print_reasons.specs.Sentences.{number_text, sentence_text}
+
+-- a reason by its lines
+abbrev pub in_lines : Reason → Reason
+in_lines (Unwritten read) = Unwritten (line_at read)
+in_lines (Early read write) = Early (line_at read) (line_at write)
+in_lines (Stale before read) = Stale (line_at before) (line_at read)
+in_lines (Crossed a b c d) = Crossed (line_at a) (line_at b) (line_at c) (line_at d)
+in_lines (Limit refused) = Limit (line_at refused)
+
+abbrev pub line_feed : ℕ
+line_feed = 10
+
+-- a line of the log behind its number
+abbrev pub line_text : ℕ → List ℕ → List ℕ
+line_text place line = codes "line " ++ decimal (line_at place) ++ codes ": " ++ line ++ line_feed ∷ []
+
+-- the next kept operation is the one at this place of the log
+abbrev pub is_next : List ℕ → ℕ → ℕ → Bool
+is_next places next p = is_item p (slice_get places next)
+
+abbrev pub is_named_next : List (Op ℕ) → List ℕ → List ℕ → ℕ → ℕ → Bool
+is_named_next ops places named next p = is_next places next p && is_named ops named next
+
+abbrev pub next_of : List ℕ → ℕ → ℕ → ℕ
+next_of places next p = if is_next places next p then next + 1 else next
+
+-- the lines of the named ones of the operations that are kept, which are at these places of the log, from the next of them on; the first
+-- of these lines is that of the operation at place p
+abbrev pub named_text : List (Op ℕ) → List ℕ → List ℕ → ℕ → ℕ → List (List ℕ) → List ℕ
+named_text ops places named next p [] = []
+named_text ops places named next p (line ∷ lines) =
+    (if is_named_next ops places named next p then line_text p line else [])
+    ++ named_text ops places named (next_of places next p) (p + 1) lines
+
+-- the lines behind the header
+abbrev pub body_of : List ℕ → List (List ℕ)
+body_of bytes = drop 1 (lines_of bytes)
+
+-- a reason, the operations that it names with the writes of their records, and a sentence
+abbrev pub unlawful_text : List ℕ → Thinned → ℕ → Reason → List ℕ
+unlawful_text bytes thinned most reason =
+    reason_text (in_lines reason)
+    ++ named_text thinned.history.ops thinned.places (places_of (in_kept thinned.places reason)) 0 0 (body_of bytes)
+    ++ sentence_text thinned most reason
+
+-- the lines of these writes, each behind a blank
+abbrev pub write_lines : List ℕ → List ℕ
+write_lines writes = flat_map (λ place. number_text (codes " ") (line_at place)) writes
+
+abbrev pub writes_text : List ℕ → List ℕ
+writes_text writes = codes "writes:" ++ write_lines writes ++ line_feed ∷ []
+
+-- the verdict, and the writes of a lawful order where they are asked for
+abbrev pub lawful_text : Bool → List ℕ → List ℕ
+lawful_text order writes = codes "lawful\n" ++ (if order then writes_text writes else [])
+
+abbrev pub verdict_text : Bool → List ℕ → Thinned → ℕ → LogAnswer → List ℕ
+verdict_text order bytes thinned most (Lawful writes) = lawful_text order writes
+verdict_text order bytes thinned most (NoOrder reason) = unlawful_text bytes thinned most reason

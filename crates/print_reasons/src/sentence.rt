@@ -1,0 +1,165 @@
+//! A reason in one sentence.
+ghost use Rattle.std.specs.Prelude.{◌≡◌, ◌++◌, OnOk, codes};
+ghost use Rattle.print_reasons.specs.Sentences.{apart_text, begin_at, crossed_text, early_text, end_at, limit_text, number_text, op_at};
+ghost use Rattle.print_reasons.specs.Sentences.{sentence_text, stale_text, unwritten_text};
+ghost use Rattle.read_line.specs.Places.{line_at};
+
+use crate::named::kept_at;
+use history_core::{Op, Reason, Thinned};
+use itoa::Buffer;
+use read_line::line_of;
+use std::alloc::AllocError;
+
+pub(crate) fn push_sentence(
+    text: &mut Vec<u8>,
+    thinned: &Thinned,
+    most: u64,
+    reason: Reason,
+) -> Result<(), AllocError>
+    ensures { OnOk result (text.new.items ≡ text.old.items ++ sentence_text thinned.now most reason) }
+{
+    match reason {
+        Reason::Unwritten { read } => push_unwritten(text, read),
+        Reason::Early { read, write } => push_early(text, thinned, read, write),
+        Reason::Stale { before, read } => push_stale(text, thinned, before, read),
+        Reason::Crossed { a, b, c, d } => push_crossed(text, thinned, a, b, c, d),
+        Reason::Limit { refused } => push_limit(text, thinned, most, refused),
+    }
+}
+
+fn push_unwritten(text: &mut Vec<u8>, read: usize) -> Result<(), AllocError>
+    ensures { OnOk result (text.new.items ≡ text.old.items ++ unwritten_text read) }
+{
+    push_line_of(text, "Line ", read)?;
+    push_words(
+        text,
+        " gave a record that is neither the opening nor written.\n",
+    )
+}
+
+fn push_early(
+    text: &mut Vec<u8>,
+    thinned: &Thinned,
+    read: usize,
+    write: usize,
+) -> Result<(), AllocError>
+    ensures { OnOk result (text.new.items ≡ text.old.items ++ early_text thinned.now read write) }
+{
+    push_line_of(text, "Line ", read)?;
+    push_words(text, " gave a record before the write of it began: ")?;
+    push_apart(text, thinned, read, write)?;
+    push_words(text, ".\n")
+}
+
+fn push_stale(
+    text: &mut Vec<u8>,
+    thinned: &Thinned,
+    before: usize,
+    read: usize,
+) -> Result<(), AllocError>
+    ensures { OnOk result (text.new.items ≡ text.old.items ++ stale_text thinned.now before read) }
+{
+    push_line_of(text, "Line ", read)?;
+    push_words(
+        text,
+        " gave the opening behind an operation of another record: ",
+    )?;
+    push_apart(text, thinned, before, read)?;
+    push_words(text, ".\n")
+}
+
+#[tactic(auto, unfolding(crate::specs::Sentences::crossed_text), using(std::proofs::Common::append_assoc))]
+fn push_crossed(
+    text: &mut Vec<u8>,
+    thinned: &Thinned,
+    a: usize,
+    b: usize,
+    c: usize,
+    d: usize,
+) -> Result<(), AllocError>
+    ensures { OnOk result (text.new.items ≡ text.old.items ++ crossed_text thinned.now a b c d) }
+{
+    text.extend_from_slice(b"Each of two records has to stand before the other: ")?;
+    push_apart(text, thinned, a, b)?;
+    text.extend_from_slice(b"; ")?;
+    push_apart(text, thinned, c, d)?;
+    text.extend_from_slice(b".\n")
+}
+
+fn push_limit(
+    text: &mut Vec<u8>,
+    thinned: &Thinned,
+    most: u64,
+    refused: usize,
+) -> Result<(), AllocError>
+    ensures { OnOk result (text.new.items ≡ text.old.items ++ limit_text thinned.now most refused) }
+{
+    push_u64(text, "Of the writes at most ", most)?;
+    push_line_of(text, " can stand before line ", refused)?;
+    push_u64(
+        text,
+        " or a refused write in front of it, and the limit is ",
+        thinned.limit(),
+    )?;
+    push_words(text, ".\n")
+}
+
+/// One operation had ended when the other began.
+#[tactic(auto, unfolding(crate::specs::Sentences::apart_text), using(std::proofs::Common::append_assoc))]
+fn push_apart(text: &mut Vec<u8>, thinned: &Thinned, a: usize, b: usize) -> Result<(), AllocError>
+    ensures { OnOk result (text.new.items ≡ text.old.items ++ apart_text thinned.now a b) }
+{
+    push_line_of(text, "line ", a)?;
+    push_u64(text, " ended at ", end_at(thinned, a))?;
+    push_line_of(text, ", line ", b)?;
+    push_u64(text, " began at ", begin_at(thinned, b))
+}
+
+/// Adds words.
+pub fn push_words(text: &mut Vec<u8>, words: &str) -> Result<(), AllocError>
+    ensures { OnOk result (text.new.items ≡ text.old.items ++ words.now) }
+{
+    text.extend_from_slice(words.as_bytes())
+}
+
+pub(crate) fn push_line_of(text: &mut Vec<u8>, words: &str, place: usize) -> Result<(), AllocError>
+    ensures { OnOk result (text.new.items ≡ text.old.items ++ number_text words.now (line_at place)) }
+{
+    let line = line_of(place)?;
+    push_u64(text, words, line as u64)
+}
+
+/// Adds words and a number behind them.
+#[tactic(auto, using(std::proofs::Common::append_assoc))]
+pub fn push_u64(text: &mut Vec<u8>, words: &str, number: u64) -> Result<(), AllocError>
+    ensures { OnOk result (text.new.items ≡ text.old.items ++ number_text words.now number) }
+{
+    let mut buffer = Buffer::new();
+    text.extend_from_slice(words.as_bytes())?;
+    text.extend_from_slice(buffer.format(number).as_bytes())
+}
+
+fn op_at(thinned: &Thinned, place: usize) -> Option<Op<usize>>
+    ensures { result ≡ op_at thinned.now place }
+{
+    let kept = kept_at(thinned.places.as_slice(), place);
+    thinned.history.ops.as_slice().get(kept).copied()
+}
+
+fn end_at(thinned: &Thinned, place: usize) -> u64
+    ensures { result ≡ end_at thinned.now place }
+{
+    match op_at(thinned, place) {
+        Some(op) => op.ends.unwrap_or(0),
+        None => 0,
+    }
+}
+
+fn begin_at(thinned: &Thinned, place: usize) -> u64
+    ensures { result ≡ begin_at thinned.now place }
+{
+    match op_at(thinned, place) {
+        Some(op) => op.starts,
+        None => 0,
+    }
+}

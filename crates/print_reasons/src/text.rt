@@ -1,0 +1,163 @@
+//! The printed lines.
+ghost use Rattle.std.specs.Prelude.{◌≡◌, ◌++◌, IfOk, OnOk};
+ghost use Rattle.print_reasons.specs.Sentences.{number_text};
+ghost use Rattle.print_reasons.specs.Text.{body_of, in_lines, lawful_text, line_text, named_text, unlawful_text, verdict_text, write_lines};
+ghost use Rattle.print_reasons.specs.Text.{writes_text};
+ghost use Rattle.read_document.specs.Splits.{lines_of};
+ghost use Rattle.read_line.specs.Places.{line_at};
+ghost use Rattle.print_search.specs.Text.{reason_text};
+
+use crate::named::{in_kept, is_named_next, next_of, places_of};
+use crate::sentence::{push_line_of, push_sentence};
+use history_core::{LogAnswer, Op, Reason, Search, Thinned};
+use itoa::Buffer;
+use print_search::search_text;
+use read_document::split_line;
+use read_line::line_of;
+use std::alloc::{AllocError, Global};
+
+/// The verdict, and of an unlawful log what shows it.
+pub fn verdict_text(
+    alloc: Global,
+    order: bool,
+    bytes: &[u8],
+    thinned: &Thinned,
+    most: u64,
+    found: &LogAnswer,
+) -> Result<Vec<u8>, AllocError>
+    ensures { IfOk result (λ text. text.items ≡ verdict_text order bytes.now thinned.now most found.now) }
+{
+    match found {
+        LogAnswer::Lawful { writes } => lawful_text(alloc, order, writes.as_slice()),
+        LogAnswer::Unlawful { reason } => unlawful_text(alloc, bytes, thinned, most, *reason),
+    }
+}
+
+fn lawful_text(alloc: Global, order: bool, writes: &[usize]) -> Result<Vec<u8>, AllocError>
+    ensures { IfOk result (λ text. text.items ≡ lawful_text order writes.now) }
+{
+    let mut text = Vec::from_slice(alloc, b"lawful\n")?;
+    if order {
+        push_writes(&mut text, writes)?;
+    }
+    Ok(text)
+}
+
+/// The lines of the writes, in the order that was found.
+#[tactic(auto, using(std::proofs::Common::append_assoc))]
+fn push_writes(text: &mut Vec<u8>, writes: &[usize]) -> Result<(), AllocError>
+    ensures { OnOk result (text.new.items ≡ text.old.items ++ writes_text writes.now) }
+{
+    text.extend_from_slice(b"writes:")?;
+    push_write_lines(text, writes)?;
+    text.extend_from_slice(b"\n")
+}
+
+fn push_write_lines(text: &mut Vec<u8>, writes: &[usize]) -> Result<(), AllocError>
+    ensures { OnOk result (text.new.items ≡ text.old.items ++ write_lines writes.now) }
+{
+    for place in writes {
+        push_line_of(text, " ", *place)?;
+    }
+    Ok(())
+}
+
+#[tactic(auto, using(std::proofs::Common::append_assoc))]
+fn unlawful_text(
+    alloc: Global,
+    bytes: &[u8],
+    thinned: &Thinned,
+    most: u64,
+    reason: Reason,
+) -> Result<Vec<u8>, AllocError>
+    ensures { IfOk result (λ text. text.items ≡ unlawful_text bytes.now thinned.now most reason) }
+{
+    let ops = thinned.history.ops.as_slice();
+    let places = thinned.places.as_slice();
+    let mut text = reason_text(alloc, reason)?;
+    let named = places_of(alloc, in_kept(places, reason))?;
+    push_named(&mut text, body_of(bytes), ops, places, named.as_slice())?;
+    push_sentence(&mut text, thinned, most, reason)?;
+    Ok(text)
+}
+
+fn reason_text(alloc: Global, reason: Reason) -> Result<Vec<u8>, AllocError>
+    ensures { IfOk result (λ text. text.items ≡ reason_text (in_lines reason)) }
+{
+    let reason = in_lines(reason)?;
+    search_text(alloc, &Search::Unlawful(reason))
+}
+
+fn in_lines(reason: Reason) -> Result<Reason, AllocError>
+    ensures { IfOk result (λ told. told ≡ in_lines reason) }
+{
+    Ok(match reason {
+        Reason::Unwritten { read } => Reason::Unwritten {
+            read: line_of(read)?,
+        },
+        Reason::Early { read, write } => Reason::Early {
+            read: line_of(read)?,
+            write: line_of(write)?,
+        },
+        Reason::Stale { before, read } => Reason::Stale {
+            before: line_of(before)?,
+            read: line_of(read)?,
+        },
+        Reason::Crossed { a, b, c, d } => Reason::Crossed {
+            a: line_of(a)?,
+            b: line_of(b)?,
+            c: line_of(c)?,
+            d: line_of(d)?,
+        },
+        Reason::Limit { refused } => Reason::Limit {
+            refused: line_of(refused)?,
+        },
+    })
+}
+
+/// The lines behind the header.
+fn body_of(bytes: &[u8]) -> &[u8]
+    ensures { lines_of result.now ≡ body_of bytes.now }
+{
+    match split_line(bytes) {
+        Some((_, body)) => body,
+        None => bytes,
+    }
+}
+
+/// The lines of the operations that are named, of those that are kept.
+fn push_named(
+    text: &mut Vec<u8>,
+    body: &[u8],
+    ops: &[Op<usize>],
+    places: &[usize],
+    named: &[usize],
+) -> Result<(), AllocError>
+    ensures { OnOk result (text.new.items
+        ≡ text.old.items ++ named_text ops.now places.now named.now 0 0 (lines_of body.now)) }
+{
+    let mut rest = body;
+    let mut place = 0;
+    let mut next = 0;
+    'lines: while let Some((line, behind)) = split_line(rest) {
+        if is_named_next(ops, places, named, next, place) {
+            push_line(text, place, line)?;
+        }
+        next = next_of(places, next, place);
+        rest = behind;
+        place += 1;
+    }
+    Ok(())
+}
+
+fn push_line(text: &mut Vec<u8>, place: usize, line: &[u8]) -> Result<(), AllocError>
+    ensures { OnOk result (text.new.items ≡ text.old.items ++ line_text place line.now) }
+{
+    let number = line_of(place)?;
+    let mut buffer = Buffer::new();
+    text.extend_from_slice(b"line ")?;
+    text.extend_from_slice(buffer.format(number).as_bytes())?;
+    text.extend_from_slice(b": ")?;
+    text.extend_from_slice(line)?;
+    text.extend_from_slice(b"\n")
+}

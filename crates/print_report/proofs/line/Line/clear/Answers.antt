@@ -1,0 +1,7 @@
+-- Nothing stands past the last byte.
+use Rattle.std.proofs.Common.{arith}
+use Rattle.std.proofs.lemmas.List.{drop_all}
+use Rattle.print_report.proofs.line.Line.clear.Goals as goal
+
+pub returns : goal.returns
+returns c = drop_all 256 c.self.inside.bytes (omega (arith, c.self.told))

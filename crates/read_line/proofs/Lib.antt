@@ -1,0 +1,4 @@
+pub mod RecordLemmas
+pub mod NumberLemmas
+pub mod TaskLemmas
+pub mod ReadsLemmas

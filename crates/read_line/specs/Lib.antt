@@ -1,0 +1,7 @@
+pub mod Lines
+pub mod Records
+pub mod Lasts
+pub mod Numberings
+pub mod Reads
+pub mod Places
+pub mod Tasks

@@ -1,0 +1,3 @@
+pub mod Accepted
+mod Reading
+pub mod CellReading

@@ -1,0 +1,35 @@
+//! Documents of kind `matrix`.
+ghost use Rattle.std.specs.Prelude.{IfOk};
+ghost use Rattle.serde_json.specs.View.{view};
+ghost use Rattle.read_schedule.specs.Matrix.{matrix_in};
+ghost use Rattle.read_schedule.specs.Players.{CanBePlayed};
+ghost use Rattle.read_document.specs.Refusals.{Gives};
+
+use crate::ScheduleDocument;
+use crate::plans::terms_fit;
+use crate::terms::{is_titled, terms_in, terms_there, writes_key};
+use history_core::Band;
+use matrix_core::MatrixSchedule;
+use read_document::{DocError, Key, must, required};
+use read_history::field;
+use serde_json::Value;
+use std::alloc::Global;
+
+#[tactic(auto, unfolding(crate::specs::Matrix::matrix_in))]
+pub fn matrix_in(alloc: Global, value: &Value) -> Result<ScheduleDocument, DocError>
+    ensures document { Gives (λ d. d) result (matrix_in (view value.now)) }
+    ensures playable { IfOk result CanBePlayed }
+{
+    let titled = is_titled(value);
+    required(value, &[Key::Opening])?;
+    terms_there(value, titled)?;
+    let opening: Band = field(alloc, value, Key::Opening)?;
+    let terms = terms_in(alloc, value, titled)?;
+    must(opening.fits(), DocError::Law(Key::Opening))?;
+    must(
+        terms_fit(terms.as_slice()),
+        DocError::Law(writes_key(titled)),
+    )?;
+    let schedule = MatrixSchedule { opening, terms };
+    Ok(ScheduleDocument::Matrix { schedule, titled })
+}

@@ -1,3 +1,0 @@
-pub mod Times
-mod Alone
-mod Falling

@@ -1,7 +1,0 @@
--- The number of a read that meets no write is fixed.
-use Rattle.register_law.proofs.Alone.{alone_is_last}
-use Rattle.register_law.proofs.laws.regular_is_safe.Goals as goal
-
-pub returns : goal.returns
-returns g c opening written writes answers numbers reads m last answer is alone at =
-    alone_is_last opening written writes answers numbers reads m last answer is alone at

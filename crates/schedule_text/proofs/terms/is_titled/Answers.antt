@@ -1,6 +1,0 @@
--- Looked for at once, so that another value is refused at once.
-use Rattle.std.proofs.Common.{rules}
-use Rattle.schedule_text.proofs.terms.is_titled.Goals as goal
-
-pub returns : goal.returns
-returns c = search rules

@@ -1,3 +1,0 @@
-mod LaneRounds
-mod Lists
-mod Origins

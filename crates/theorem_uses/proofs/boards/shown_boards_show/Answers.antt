@@ -1,0 +1,15 @@
+-- Each is a consequence of one clause of `so_far`.
+use Rattle.theorem_uses.proofs.Twice.{answers_the_opening, have_ended, one_greatest, reads_so_far}
+use Rattle.theorem_uses.proofs.boards.shown_boards_show.Goals as goal
+
+pub returns-clause-greatest : goal.returns-clause-greatest
+returns-clause-greatest g c = one_greatest
+
+pub returns-clause-registers : goal.returns-clause-registers
+returns-clause-registers g c = answers_the_opening g.F.Family
+
+pub returns-clause-orders : goal.returns-clause-orders
+returns-clause-orders g c = reads_so_far g.F.Family
+
+pub returns-clause-ended : goal.returns-clause-ended
+returns-clause-ended g c = have_ended g.F.Family
