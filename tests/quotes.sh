@@ -34,13 +34,21 @@ is_short README.md
 awk 'BEGIN { for (k = 0; k < 901; k++) print "word" }' >"$room/long.md"
 catches "a front page of 901 words" "it has 901 words" is_short "$room/long.md"
 
-# The controls: another word in a quotation, another number of files, a changed definition in the reading set of a headline with as many
+# The controls: another word in a quotation, another number of files, parts that no source has, a changed definition in the reading set of a headline with as many
 # lines, and links that lead nowhere.
 if command -v python3 >/dev/null 2>&1; then
     catches_in_tree "another word in a quotation" "docs/HEADLINES.md:.* isn't in crates/board_origins/src/origin.rt" docs/HEADLINES.md \
         '0,/pub fn check_origin</s//pub fn check_origins</' python3 tests/quotes.py docs/HEADLINES.md
     catches_in_tree "another number of files in a table" "tests/races/ has [0-9]* files" docs/TESTING.md \
         's/^\(| `tests\/races\/` | \)[0-9]*/\11/' python3 tests/quotes.py docs/TESTING.md
+    catches_in_tree "a clause that another crate's function of this name has" "no source has .quiet. of .write." docs/ONE-TIME.md \
+        's/(`quiet` of `read`)/(`quiet` of `read` and of `write`)/' python3 tests/quotes.py docs/ONE-TIME.md
+    catches_in_tree "a clause that no function has" "no source has .unsaid. of .laws::runs_of_two." docs/ONE-TIME.md \
+        's/clause `untold`/clause `unsaid`/' python3 tests/quotes.py docs/ONE-TIME.md
+    catches_in_tree "a field that no definition has" "no source has .ended. of .IsReadOf." docs/BOARD.md \
+        's/`begun` of `IsReadOf`/`ended` of `IsReadOf`/' python3 tests/quotes.py docs/BOARD.md
+    catches_in_tree "an item that no crate has" "no source has .run_task. of .board_tasks." docs/ONE-TIME.md \
+        's/`run_tasks` of `board_tasks`/`run_task` of `board_tasks`/' python3 tests/quotes.py docs/ONE-TIME.md
     first="1. The checker: a verdict is right, and no order is missed; 2"
     catches_in_tree "a changed definition with as many lines" "another reading set of $first" \
         crates/history_core/specs/Orders.antt 's/^MayStand None Write times = times ≤ 1/MayStand None Write times = times ≤ 2/' \
