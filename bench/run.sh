@@ -13,7 +13,7 @@ if ! command -v rustc >/dev/null 2>&1; then
 fi
 rustc -O -C target-cpu=x86-64-v2 -C panic=abort -o "$room/plain" "$top/bench/plain.rs" || exit 1
 if [ ! -x "$proved" ] || [ -n "$(find "$top"/crates/cell*/src "$top"/crates/family*/src "$top"/crates/board_live/src -newer "$proved" -print -quit)" ]; then
-    (. "$top/tests/build.sh" && build cells_bench) </dev/null >&2 || exit 1
+    (. "$top/build/build.sh" && build cells_bench) </dev/null >&2 || exit 1
 fi
 for round in $(seq "$rounds"); do
     for program in "$proved" "$room/plain"; do
