@@ -1,6 +1,7 @@
 """Proves and builds crates of the repository and those that they stand on, side by side where they don't stand on each other.
 
     build.py CRATE ..
+    build.py --over-gate CRATE      proves and builds a library for C alone, over what the gate has built of those below it
 
 A crate is proved by the toolchain's `rattle build`, over what the libraries below it state and without their proofs: so a verdict of
 `rt` proves it too, and it takes a fifth less than `rt lib`, which keeps all for the next check. What is built of a library stands in the
@@ -20,7 +21,7 @@ import subprocess
 import sys
 import time
 
-from listed import rattle_words, read_rows
+from listed import crates_below, rattle_words, read_rows
 
 TOP = os.path.dirname(os.path.dirname(os.path.realpath(__file__)))
 SOURCES = ("src", "specs", "proofs")
@@ -114,36 +115,30 @@ class Crate:
             os.utime(self.output, (began, began))
             os.replace(self.output, self.made)
 
-    def commands(self, kit, jobs):
-        """What proves and builds it, run in its folder."""
+    def commands(self, kit, jobs, part, output):
+        """What proves and builds it, run in its folder, over what lies in this part of the folders of those below it."""
         root = f"src/{'main' if self.is_program else 'lib'}.rt"
-        lower = {it.name: it.stated for it in below(self)}
+        lower = {it.name: f"{it.folder}/out/{part}" for it in self.below}
         words = rattle_words(kit.folder, self.name, root, self.words, lower)
         build = [f"{kit.folder}/bin/rattle", "build", *words, "--jobs", str(jobs)]
         linked = ["--toolchain", f"{kit.folder}/toolchain", "--backend", "rattle" if self.name in FIRST else "llvm"]
         if self.is_static:
-            return [[*build, "--crate-type", "staticlib", "--links", f"{self.name}=", *linked, "-o", self.output]]
+            return [[*build, "--crate-type", "staticlib", "--links", f"{self.name}=", *linked, "-o", output]]
         if not self.is_program:
-            return [[*build, "--statements", "-o", self.output]]
+            return [[*build, "--statements", "-o", output]]
         code, of_c = f"{self.stated}/{self.name}.o", [f"{kit.folder}/c/{it}" for it in ("libos_c.a", "liblibc_c.a")]
-        link = [f"{kit.folder}/bin/rattle-link", "--target", TARGET, *linked[:2], "-o", self.output, code, *of_c]
+        link = [f"{kit.folder}/bin/rattle-link", "--target", TARGET, *linked[:2], "-o", output, code, *of_c]
         return [[*build, *linked, "-o", code], link]
 
 
 def read_crates():
     """The crates of crates.txt by their names."""
-    crates = {name: Crate(row, name, words) for name, (row, words) in read_rows(TOP).items()}
+    rows = read_rows(TOP)
+    crates = {name: Crate(row, name, words) for name, (row, words) in rows.items()}
     for crate in crates.values():
         crate.uses = [crates[it] for it in crate.words if it in crates]
+        crate.below = [crates[it] for it in crates_below(rows, crate.name)]
     return crates
-
-
-def below(crate):
-    """The crates that a crate stands on, lowest first."""
-    found = []
-    for it in crate.uses:
-        found += [lower for lower in [*below(it), it] if lower not in found]
-    return found
 
 
 def number_in(path, pattern):
@@ -202,7 +197,7 @@ class Work:
         if os.path.exists(f"{crate.stated}/sum"):
             os.remove(f"{crate.stated}/sum")
         self.log = open(f"{crate.folder}/out/build.log", "wb")
-        self.commands = crate.commands(kit, jobs)
+        self.commands = crate.commands(kit, jobs, STATED, crate.output)
         self.start()
 
     def start(self):
@@ -273,7 +268,7 @@ class Builder:
             if jobs < 1:
                 break
             os.makedirs(crate.stated, exist_ok=True)
-            lower = [it.stated for it in below(crate)]
+            lower = [it.stated for it in crate.below]
             if self.finds_built(crate, lock([crate.stated, *lower])):
                 return self.start_ready() or waits
             held = lock(lower, crate.stated)
@@ -328,7 +323,7 @@ class Builder:
         """Builds all, and says whether all were built. What doesn't stand on a crate that was refused is built all the same."""
         while self.left or self.works:
             waits = self.start_ready()
-            self.left = [it for it in self.left if not self.refused.intersection(below(it))]
+            self.left = [it for it in self.left if not self.refused.intersection(it.below)]
             if self.works:
                 for key, _ in self.selector.select(PAUSE if waits else None):
                     self.go_on(key.data)
@@ -346,8 +341,19 @@ class Builder:
             work.close(False)
 
 
+def build_over_gate(crate):
+    """Proves and builds a library for C in place of this script. (`rt lib` would prove those below it anew: the gate keeps their statements,
+    without the stamp by which `rt lib` knows what it built itself.)"""
+    command = crate.commands(Kit(), 1, "rlib", crate.made)[0]
+    os.makedirs(f"{crate.folder}/out", exist_ok=True)
+    os.chdir(crate.folder)
+    os.execv(command[0], command)
+
+
 def main(names):
     crates = read_crates()
+    if names[:1] == ["--over-gate"] and len(names) == 2 and names[1] in crates:
+        build_over_gate(crates[names[1]])
     unknown = [it for it in names if it not in crates]
     if unknown or not names:
         say(f"crates.txt has no crate {unknown[0]}" if unknown else "no crate was named")
@@ -358,7 +364,7 @@ def main(names):
     tops = [crates[it] for it in names]
     wanted = []
     for top in tops:
-        wanted += [it for it in [*below(top), top] if it not in wanted]
+        wanted += [it for it in [*top.below, top] if it not in wanted]
     say(f"proves and builds {' and '.join(names)} and what stands below: {' '.join(it.name for it in wanted)}")
     for it in (signal.SIGTERM, signal.SIGHUP, signal.SIGINT):
         if signal.getsignal(it) != signal.SIG_IGN:

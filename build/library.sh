@@ -1,35 +1,15 @@
 # What `install` and the tests of the static library share. They name the folder at the top in $top.
 
-library_crates='history_core register_law four_slot_core stamps matrix_core board_history cell_live cell_four_slot cell_triple family_live
-    family_table family_four_slot family_triple board_live c_registers c_boards c_handles c_exports'
+. "$top/build/build.sh"
 
-# Whether this is there and no source that the library is made of is newer.
-is_newest() {
-    [ -e "$1" ] || return 1
-    newer_than=$1
-    set -- "$top/crates.txt"
-    for name in $library_crates; do
-        set -- "$@" "$top/crates/$name/src" "$top/crates/$name/specs" "$top/crates/$name/proofs"
-    done
-    [ -z "$(find "$@" -newer "$newer_than" -print -quit 2>/dev/null)" ]
-}
-
-# Builds the library over the crates below it as the gate has just proved and built them. `rt lib` would prove them anew: the gate
-# keeps the statements of a crate, without the stamp by which `rt lib` knows what it built itself. As with the gate's programs,
-# nothing is built unless the crate's own code is proved over these statements.
+# Builds the library over the crates below it as the gate has just proved and built them. As with the gate's programs, nothing is built
+# unless the crate's own code is proved over these statements.
 build_over_gate() {
-    here=$(CDPATH= cd -- "$top/crates/c_exports" && pwd) && kit=$(dirname -- "$(rt doc)") || return 1
-    set --
-    for crate in ${library_crates% *}; do
-        made=${here%/*}/$crate/out/rlib
-        [ ! -e "$made/stamp" ] && is_newest "$made/$crate.rlib" || return 1
-        set -- "$@" --extern "$crate=$made/$crate.rlib" -L "dependency=$made"
+    for crate in $(crates_below c_exports | sed '$d'); do
+        made=$top/crates/$crate/out/rlib
+        [ ! -e "$made/stamp" ] && is_newer_than_sources "$made/$crate.rlib" "$crate" || return 1
     done
-    (
-        cd "$here" && mkdir -p out && "$kit/bin/rattle" build --crate-name c_exports --crate-type staticlib src/lib.rt "$@" --links c_exports= \
-            --extern "std=$kit/rlibs/std.rlib" -L "dependency=$kit/rlibs" --antt-project "$kit/rattle/logic/antt-project.json" \
-            --logic-built "$kit/logic_built" --toolchain "$kit/toolchain" --backend llvm --jobs 1 -o out/libc_exports.a
-    ) </dev/null >&2
+    python3 "$top/build/build.py" --over-gate c_exports </dev/null >&2
 }
 
 # The same as a verdict: it holds if the prover's last line says that all is proved, and has no word that something is left out or may wait.
@@ -72,7 +52,7 @@ join_objects() {
 make_library() {
     here=$(CDPATH= cd -- "$top/crates/c_exports" && pwd) || return 1
     kit=$(dirname -- "$(rt doc)") || return 1
-    is_newest "$here/out/libc_exports.a" || (. "$top/build/build.sh" && build c_exports) </dev/null >&2 || return 1
+    make_fresh c_exports </dev/null >&2 || return 1
     unpacked=$(mktemp -d) || return 1
     (
         version=$(version_of_header) && cd "$unpacked" || exit 1

@@ -1,4 +1,4 @@
-"""The rows of crates.txt, and what `rattle` is told of a crate."""
+"""The rows of crates.txt, its headings, what lies below a crate, and the words of `rattle` for one."""
 
 
 def read_rows(top):
@@ -12,9 +12,31 @@ def read_rows(top):
     return found
 
 
+def read_subjects(top):
+    """By each heading of crates.txt the names of the crates below it."""
+    found = {}
+    with open(f"{top}/crates.txt", encoding="utf-8") as file:
+        for row in file:
+            head, mark, title = row.partition("#")
+            if mark and not head.strip():
+                names = found.setdefault(title.strip(), [])
+            elif ":" in head and found:
+                names.append(head.partition(":")[0].split()[0])
+    return found
+
+
+def crates_below(rows, name):
+    """The crates of the repository that a crate stands on, each behind those that it stands on itself."""
+    found = {}
+    for it in rows[name][1]:
+        if it in rows and it not in found:
+            found |= dict.fromkeys([*crates_below(rows, it), it])
+    return list(found)
+
+
 def rattle_words(kit, name, root, words, lower):
-    """What `rattle` is told of a crate with this root and these words behind its colon, for the kit in this folder. By the name of each crate
-    below it stands the folder with what is built of that."""
+    """The words of `rattle` for a crate with this root and these words behind its colon, by the kit in this folder. `lower` has by the name
+    of each crate below it the folder with what is built of that."""
     found = ["--crate-name", name, root]
     for it in dict.fromkeys(["std", *words]):
         found += ["--extern", f"{it}={lower.get(it, f'{kit}/rlibs')}/{it}.rlib"]

@@ -28,9 +28,10 @@ import tempfile
 from pathlib import Path
 
 TOP = Path(__file__).resolve().parent.parent
-sys.path.insert(0, f"{TOP}/tests/docs")
+sys.path[:0] = [f"{TOP}/build", f"{TOP}/tests/docs"]
 
 import headlines  # noqa: E402
+from listed import crates_below, read_rows  # noqa: E402
 
 LESS = "use Rattle.std.specs.Prelude.{◌<◌}"
 USES = "headline_uses"
@@ -243,22 +244,6 @@ def edited(path, edits):
     return text if re.search(r"(?m)^use [^\n]*◌<◌", text) else re.sub(r"(?m)^use ", f"{LESS}\nuse ", text, count=1)
 
 
-def stands_on():
-    rows = {}
-    for row in (TOP / "crates.txt").read_text(encoding="utf-8").splitlines():
-        head, colon, words = row.partition("#")[0].partition(":")
-        if colon:
-            rows[head.split()[0]] = words.split()
-    return rows
-
-
-def below(rows, name):
-    found = {name}
-    for it in rows.get(name, ()):
-        found |= below(rows, it) if it in rows else set()
-    return found
-
-
 def without_functions(text):
     """A file of src/ with its types, its traits and those impls that have ghost members alone."""
     kept, above, lines, at = [], [], text.split("\n"), 0
@@ -327,12 +312,12 @@ class Bench:
     """Where edits are tried: a copy in which headline_uses is proved over the definitions that it stands on."""
 
     def __init__(self, place):
-        rows = stands_on()
+        rows = read_rows(TOP)
         self.place, self.kept = place, place / "kept"
-        self.crates = sorted(below(rows, USES) - {USES})
+        self.crates = sorted(crates_below(rows, USES))
         make_thin(place, self.crates)
         kit = Path(shutil.which("rattle")).resolve().parents[1]
-        lower = {word for crate in [USES, *self.crates] for word in rows[crate]} - set(rows)
+        lower = {word for crate in [USES, *self.crates] for word in rows[crate][1]} - set(rows)
         self.words = ["rattle", "check", "--crate-name", USES, "src/lib.rt", "-L", f"dependency={kit}/rlibs"]
         self.words += [word for it in self.crates for word in ("--lib", f"{it}={place}/crates/{it}/src/lib.rt")]
         self.words += [word for it in sorted({"std", *lower}) for word in ("--extern", f"{it}={kit}/rlibs/{it}.rlib")]
@@ -454,7 +439,7 @@ def main():
         print("\n".join(map(str, edits)))
         print(f"{len(edits)} edits")
         return 0
-    crates = below(stands_on(), USES)
+    crates = {USES, *crates_below(read_rows(TOP), USES)}
     tried = [it for it in edits if it.crate in crates]
     with tempfile.TemporaryDirectory(prefix="absurd-") as room:
         ends = try_all(tried, room, int(os.environ.get("RT_JOBS", "1")))

@@ -1,5 +1,5 @@
 # How build/build.py builds, tried on two small crates: what was changed is proved and built again with what stands above it and nothing else,
-# what isn't proved isn't built, and of two builds at once one waits.
+# what isn't proved isn't built, and of two builds at once one waits. The crates below each are the same for the shell and for Python.
 
 # Lays out a repository with these scripts and a program over a library, in a folder with a blank in its name.
 lay_out_crates() {
@@ -82,9 +82,35 @@ change_during_build() {
     wait $!
 }
 
+# Compares the crates below each crate of this folder's crates.txt, by build/build.sh and by build/listed.py.
+compare_below() {
+    top=. && . build/build.sh
+    crates=$(sed -n 's/^\([a-z0-9_]*\)[^#]*:.*/\1/p' crates.txt)
+    for crate in $crates; do
+        echo "$crate $(crates_below "$crate" | sed '$d' | sort | tr '\n' ' ')"
+    done >"$room/by_shell"
+    python3 - $crates >"$room/by_python" <<'BELOW'
+import sys
+
+sys.path.insert(0, "build")
+from listed import crates_below, read_rows
+
+for name in sys.argv[1:]:
+    print(name, *sorted(crates_below(read_rows("."), name)), "")
+BELOW
+    [ -s "$room/by_shell" ] && sed -i 's/ *$//' "$room/by_shell" "$room/by_python" && diff "$room/by_shell" "$room/by_python"
+}
+
 if ! command -v python3 >/dev/null 2>&1; then
     fail "build/build.py" "there is no python3"
 else
+    if (compare_below) >"$room/out" 2>&1; then
+        pass "the crates below each of $(wc -l <"$room/by_shell")"
+    else
+        fail "the crates below each" "$(head -n 4 "$room/out" | tr '\n' ' ')"
+    fi
+    catches_in_tree "a closure without a crate's last word" "^> history_check history_core" build/build.sh 's/i <= count; i++/i < count; i++/' \
+        compare_below
     lay_out_crates
     builds "a program and its library are proved and built" 0 "high low " 7
     builds "what is built isn't built again" 0 "" 7

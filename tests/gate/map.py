@@ -1,4 +1,4 @@
-"""The map of the crates by subject, made from crates.txt and from the lines at each crate's head.
+"""The map of the crates by subject, made from crates.txt, whose headings are the subjects, and from the lines at each crate's head.
 
     map.py           compares docs/dev/MAP.md with what is so, and says what differs: status 1
     map.py --write   writes it anew between its two marks
@@ -8,6 +8,7 @@ by their height, the number of crates on the longest way below them. The words a
 up to its colon or comma. If a page of docs/ tells its reader to copy crates, all that they stand on have to be among them.
 """
 
+import glob
 import os
 import re
 import sys
@@ -16,44 +17,14 @@ import textwrap
 TOP = os.path.dirname(os.path.dirname(os.path.dirname(os.path.realpath(__file__))))
 sys.path.insert(0, f"{TOP}/build")
 
-from listed import read_rows  # noqa: E402
+from listed import crates_below, read_rows, read_subjects  # noqa: E402
 
 MAP = f"{TOP}/docs/dev/MAP.md"
 MARKS = "<!-- made by tests/gate/map.py -->\n", "<!-- to here -->\n"
-SUBJECTS = {
-    "Histories and their orders": "history_core history_check register_law history_witnesses history_search history_thinning",
-    "The four-slot register, played": "four_slot_core four_slot_play",
-    "The matrix and the composed board, played": "stamps matrix_core matrix_play matrix_board_play",
-    "Running cells": "cell_live cell_four_slot cell_triple cell_uses",
-    "Families: running registers in one time": "family_live family_table family_four_slot family_triple",
-    "Running boards": "board_history board_live thread_probe board_tasks board_origins board_receipts board_control board_uses",
-    "The library for C": "c_registers c_boards c_handles c_exports",
-    "Documents and printed lines": "fsr_streams fsr_refusals fsr_runs document_text history_text log_text search_text lines_tables "
-    "lines_text lines_log lines_reasons cell_text schedule_text report_lines report_text",
-    "The program fsr": "log_search log_answers lines_answers lines_small fsr_words fsr_check_answers cell_answers fsr_play_answers "
-    "fsr_race_answers fsr_answers fsr_check fsr_log fsr_lines fsr_cell fsr_play fsr",
-    "Pictures": "picture_shapes picture_visits picture_text picture_answers picture",
-    "Tests and measurements": "test_histories test_four_slots test_matrices test_texts test_cells test_runs test_families "
-    "board_teams test_growths headline_uses theorems cells_bench",
-    "The soak": "soak_findings soak_rounds soak_boards soak",
-}
-
-
-def stands_on():
-    """By each crate's name, what its row of crates.txt names."""
-    return {name: words for name, (_, words) in read_rows(TOP).items()}
-
-
-def all_below(rows, name):
-    found = set()
-    for it in rows[name]:
-        if it in rows:
-            found |= {it, *all_below(rows, it)}
-    return found
 
 
 def height(rows, name):
-    return max((height(rows, it) + 1 for it in rows[name] if it in rows), default=0)
+    return max((height(rows, it) + 1 for it in rows[name][1] if it in rows), default=0)
 
 
 def arrows(below, name):
@@ -61,10 +32,10 @@ def arrows(below, name):
     return [it for it in below if it in below[name] and not any(it in below[other] for other in below[name])]
 
 
-def subjects_below(rows):
+def subjects_below(rows, subjects):
     """By each subject, the other subjects that its crates stand on."""
-    subject = {it: title for title, names in SUBJECTS.items() for it in names.split()}
-    return {title: {subject[it] for name in names.split() for it in all_below(rows, name)} - {title} for title, names in SUBJECTS.items()}
+    subject = {it: title for title, names in subjects.items() for it in names}
+    return {title: {subject[it] for name in names for it in crates_below(rows, name)} - {title} for title, names in subjects.items()}
 
 
 def described(name):
@@ -95,42 +66,39 @@ def graph_of(below):
     return ["```mermaid", "graph TD", *[f"    {numbers[it]}[{it}]{arrow(it)}" for it in below], "```"]
 
 
-def made(rows):
+def made(rows, subjects):
     """The map as it should be."""
-    lines = graph_of(subjects_below(rows))
-    for title, names in SUBJECTS.items():
+    lines = graph_of(subjects_below(rows, subjects))
+    for title, names in subjects.items():
         lines += ["", f"### {title}", ""]
-        for it in sorted(names.split(), key=lambda it: (height(rows, it), it)):
+        for it in sorted(names, key=lambda it: (height(rows, it), it)):
             words = f"- `{it}`: {short(described(it).removeprefix(f'`{it}`: '))}."
             lines += textwrap.wrap(words, 138, subsequent_indent="  ", break_on_hyphens=False)
     return "\n".join(lines) + "\n"
 
 
-def faults_of(rows):
-    """What stands in the way of a map: crates without words at their head or not in one subject, subjects that stand on one another."""
-    listed = " ".join(SUBJECTS.values()).split()
+def faults_of(rows, subjects):
+    """What stands in the way of a map: crates without words at their head or in no subject, subjects that stand on one another."""
+    listed = {it for names in subjects.values() for it in names}
     faults = [f"{it} has no words at its head" for it in rows if not described(it)]
-    faults += [f"tests/gate/map.py has {it} in {listed.count(it)} subjects" for it in rows if listed.count(it) != 1]
-    faults += [f"tests/gate/map.py has {it}, which is no crate" for it in listed if it not in rows]
+    faults += [f"crates.txt has no heading above {it}" for it in rows if it not in listed]
     if faults:
         return faults
-    below = subjects_below(rows)
+    below = subjects_below(rows, subjects)
     return [f"the crates of `{it}` and of `{low}` stand on one another" for it in below for low in below[it] if it in below[low]]
 
 
 def wrong_copies():
     """The crates that a page tells its reader to copy and that aren't there, and those that they stand on and that aren't copied."""
-    rows = stands_on()
-    for name in sorted(os.listdir(f"{TOP}/docs")):
-        if not name.endswith(".md"):
-            continue
-        with open(f"{TOP}/docs/{name}", encoding="utf-8") as file:
+    rows = read_rows(TOP)
+    for name in sorted(glob.glob("docs/**/*.md", root_dir=TOP, recursive=True)):
+        with open(f"{TOP}/{name}", encoding="utf-8") as file:
             text = file.read()
         for copied in re.findall(r"for crate in ([\w\s\\]+); do cp ", text):
             names = re.findall(r"\w+", copied)
-            yield from (f"docs/{name} copies {it}, which is no crate" for it in names if it not in rows)
-            below = {low for it in names if it in rows for low in all_below(rows, it)}
-            yield from (f"docs/{name} doesn't copy {it}, on which others stand" for it in sorted(below - set(names)))
+            yield from (f"{name} copies {it}, which is no crate" for it in names if it not in rows)
+            below = {low for it in names if it in rows for low in crates_below(rows, it)}
+            yield from (f"{name} doesn't copy {it}, on which others stand" for it in sorted(below - set(names)))
 
 
 def main(words):
@@ -141,9 +109,9 @@ def main(words):
     if not mark:
         print("docs/dev/MAP.md has lost its marks")
         return 1
-    rows = stands_on()
-    faults = faults_of(rows)
-    wanted = "" if faults else made(rows)
+    rows, subjects = read_rows(TOP), read_subjects(TOP)
+    faults = faults_of(rows, subjects)
+    wanted = "" if faults else made(rows, subjects)
     if words == ["--write"] and not faults:
         with open(MAP, "w", encoding="utf-8") as file:
             file.write(before + MARKS[0] + wanted + MARKS[1] + after)

@@ -9,9 +9,10 @@ for script in tests/gate/map.py tests/docs/numbers.py tests/gate/names.py; do
     fi
 done
 
-# The controls: a graph that isn't that of the crates, another number of wrong bodies, a second definition of a name.
+# The controls: a graph that isn't that of the crates, crates without a heading, another number of wrong bodies, a second definition of a name.
 if command -v python3 >/dev/null 2>&1; then
     catches_in_tree "another graph of the crates" "isn't the map of the crates" docs/dev/MAP.md 's/^graph TD/graph LR/' python3 tests/gate/map.py
+    catches_in_tree "crates without a heading" "crates.txt has no heading above history_core" crates.txt 1d python3 tests/gate/map.py
     catches_in_tree "another number of wrong bodies" "other numbers than there are" docs/dev/TESTING.md \
         's/^\([0-9]* crates, \)[0-9]* wrong bodies/\1400 wrong bodies/' python3 tests/docs/numbers.py
     catches_in_tree "a name of two things" "IsVerdict is defined by" crates/stamps/specs/Stamps.antt \

@@ -41,7 +41,7 @@ from pathlib import Path
 TOP = Path(__file__).resolve().parents[2]
 sys.path.insert(0, f"{TOP}/build")
 
-from listed import rattle_words, read_rows  # noqa: E402
+from listed import crates_below, rattle_words, read_rows  # noqa: E402
 
 SOURCES = ("src", "specs", "proofs")
 # What the prover says of a function, and of a place in a file.
@@ -127,15 +127,8 @@ def without_search(folder, function, texts):
 
 
 class Crate:
-    def __init__(self, name, words, crates):
-        self.name, self.words, self.folder = name, words, TOP / "crates" / name
-        self.uses = [crates[it] for it in words if it in crates]
-
-    def below(self):
-        found = dict.fromkeys(self.uses)
-        for it in self.uses:
-            found |= dict.fromkeys(it.below())
-        return list(found)
+    def __init__(self, name, words, below):
+        self.name, self.words, self.below, self.folder = name, words, below, TOP / "crates" / name
 
     def edits(self, place):
         """The files of its wrong bodies, of those in another place where one is named."""
@@ -146,17 +139,14 @@ class Crate:
 
     def command(self, kit):
         root = "src/main.rt" if (self.folder / "src/main.rt").is_file() else "src/lib.rt"
-        lower = {it.name: f"{it.folder}/out/rlib" for it in self.below()}
+        lower = {it: f"{TOP}/crates/{it}/out/rlib" for it in self.below}
         return [f"{kit}/bin/rattle", "check", *rattle_words(kit, self.name, root, self.words, lower)]
 
 
 def read_crates():
-    """The crates of crates.txt by their names. (A crate stands below those that it is used by.)"""
-    crates, rows = {}, read_rows(TOP)
-    while rows:
-        name = next(it for it, (_, words) in rows.items() if not rows.keys() & {*words})
-        crates[name] = Crate(name, rows.pop(name)[1], crates)
-    return crates
+    """The crates of crates.txt by their names."""
+    rows = read_rows(TOP)
+    return {name: Crate(name, words, crates_below(rows, name)) for name, (_, words) in rows.items()}
 
 
 def errors_in(said):

@@ -204,7 +204,7 @@ else
 fi
 
 # (where that fails, `install` proves the crates below the library once more)
-is_newest crates/c_exports/out/libc_exports.a || build_over_gate 2>"$room/built"
+is_fresh c_exports || build_over_gate 2>"$room/built"
 if ! ./install "$installed" >"$room/installing" 2>&1; then
     fail "install" "$(tail -n 1 "$room/installing")"
 else

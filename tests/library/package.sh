@@ -401,7 +401,7 @@ unpacked=$packages/nidzaru-$version-x86_64-linux
 examples=$unpacked/share/doc/nidzaru/examples/c
 made=$packages/one/out/packages
 number=$(echo "$version" | awk -F. '{ print $1 * 10000 + $2 * 100 + $3 }')
-if ! is_newest crates/c_exports/out/libc_exports.a || ! has_program fsr || ! has_program picture; then
+if ! is_fresh c_exports || ! has_program fsr || ! has_program picture; then
     fail "packages" "the library or a program wasn't built"
 else
     make_clean_root
