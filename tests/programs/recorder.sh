@@ -51,11 +51,47 @@ records() {
     fi
 }
 
-# Compiles and runs the recorder's own tests.
-passes() {
-    name=$1
+# How many logs of a program are lawful until one isn't, of at most so many.
+#   count_lawful MOST PROGRAM WORDS..
+count_lawful() {
+    most=$1 lawful=0
     shift
-    if ! "$@" -O2 $strict c/tests/recorder.c -o "$room/program" >"$room/said" 2>&1; then
+    while [ "$lawful" -lt "$most" ]; do
+        timeout 120 "$@" >"$room/log" 2>"$room/err" || { echo "it wasn't recorded" && return; }
+        python3 tests/programs/reference/lines.py <"$room/log" >"$room/said" 2>"$room/err"
+        case $? in
+        0) lawful=$((lawful + 1)) ;;
+        1) break ;;
+        *) lawful="no log: $(head -n 1 "$room/err")" && break ;;
+        esac
+    done
+    echo "$lawful"
+}
+
+# A register that only the recorder's fence orders. Without the fence 0.6 of its logs were lawful, with other work on four processors: of
+# twelve none is unlawful with a chance of 0.002, of a hundred never.
+#   needs_fence NAME FENCED WORDS UNFENCED WORDS
+logs=100
+needs_fence() {
+    name=$1 fenced=$2 fenced_words=$3 unfenced=$4 unfenced_words=$5
+    count=$(count_lawful 12 "$fenced" $fenced_words)
+    if [ "$count" != 12 ]; then
+        fail "$name" "with the fence: $count, and then $(head -n 1 "$room/said")"
+        return
+    fi
+    count=$(count_lawful "$logs" "$unfenced" $unfenced_words)
+    case $count in
+    "$logs") fail "$name" "without the fence $logs logs are lawful" ;;
+    *[!0-9]*) fail "$name" "without the fence: $count" ;;
+    *) pass "$name: lawful with the fence, unlawful without" ;;
+    esac
+}
+
+# Compiles and runs tests of the recorder; the name begins with the source.
+passes() {
+    name=$1 source=${1%%[ ,]*}
+    shift
+    if ! "$@" -O2 $strict "$source" -o "$room/program" >"$room/said" 2>&1; then
         fail "$name" "it wasn't built: $(head -n 3 "$room/said" | tr '\n' ' ')"
     elif "$room/program" >"$room/said" 2>&1 && [ "$(cat "$room/said")" = passed ]; then
         pass "$name"
@@ -68,6 +104,9 @@ test_in_c() {
     passes "c/tests/recorder.c ($c)" "$c" -std=c11
     passes "c/tests/recorder.c, without the fence ($c)" "$c" -std=c11 -DNIDZARU_LOG_FENCE=0
     passes "c/tests/recorder.c, by clock_gettime ($c)" "$c" -std=c11 -D_POSIX_C_SOURCE=199309L -DNIDZARU_LOG_TSC=0
+    for words in '' -DNIDZARU_LOG_FENCE=0 -DNIDZARU_LOG_TSC=0; do
+        passes "c/tests/stamped.c${words:+, $words} ($c)" "$c" -std=c11 -D_POSIX_C_SOURCE=200809L $words
+    done
     passes "c/tests/recorder.c in C++17 ($cpp)" "$cpp" -x c++ -std=c++17 -Wold-style-cast
     passes "c/tests/recorder.c in C++17, by clock_gettime ($cpp)" "$cpp" -x c++ -std=c++17 -Wold-style-cast -DNIDZARU_LOG_TSC=0
     if ! "$c" -std=c11 -D_GNU_SOURCE -O2 $strict c/tests/recorded.c $library -o "$room/recorded" >"$room/said" 2>&1; then
@@ -85,6 +124,16 @@ test_in_c() {
     for register in torn early last; do
         records "$register ($c)" refused "$room/recorded" "$register" "$operations"
     done
+    if "$c" -std=c11 -D_GNU_SOURCE -O2 -DNIDZARU_LOG_FENCE=0 $strict c/tests/recorded.c $library -o "$room/unfenced" >"$room/said" 2>&1; then
+        needs_fence "behind ($c)" "$room/recorded" "behind $operations" "$room/unfenced" "behind $operations"
+    else
+        fail "c/tests/recorded.c, without the fence ($c)" "it wasn't built: $(head -n 3 "$room/said" | tr '\n' ' ')"
+    fi
+}
+
+judges_by_stub() {
+    built=$room/stub built_word=built
+    judges "$@"
 }
 
 # What has to be seen in a log that was recorded of a right register.
@@ -99,6 +148,11 @@ test_planted() {
     "$room/recorded" torn "$operations" >"$room/log" 2>/dev/null
     catches "a wrong log that is judged lawful" "status 1" judges a '^lawful$' 0
     "$room/recorded" seqlock "$operations" >"$room/right" 2>/dev/null
+    cp "$room/right" "$room/log"
+    for said in 'lawful:1:status 1' 'lawful or so:0:status 0' ':0:status 0'; do
+        printf '#!/bin/sh\necho "%s"\nexit %s\n' "${said%%:*}" "$(echo "$said" | cut -d : -f 2)" >"$room/stub" && chmod +x "$room/stub"
+        catches "a built judge that says '${said%:*}'" "${said##*:}" judges_by_stub a '^lawful$' 0
+    done
     plants old '^unlawful (stale|crossed) [0-9]' 1
     plants lost '^unlawful unwritten [0-9]' 1
     plants misspelt 'line [0-9]+: missing end$' 3
@@ -122,6 +176,12 @@ test_in_rust() {
         fail "record_seqlock.rs" "it wasn't built: $(head -n 3 "$room/said" | tr '\n' ' ')"
         return
     fi
+    if rustc --edition 2021 -D warnings -O -L "$room/alone" --extern "nidzaru=$room/alone/libnidzaru.rlib" rust/behind.rs \
+        -o "$room/behind" >"$room/said" 2>&1; then
+        needs_fence "rust/behind.rs" "$room/behind" "$operations" "$room/behind" "$operations unfenced"
+    else
+        fail "rust/behind.rs" "it wasn't built: $(head -n 3 "$room/said" | tr '\n' ' ')"
+    fi
     records "record_seqlock.rs" lawful "$room/seqlock" "$operations"
     records "record_seqlock.rs, torn" refused "$room/seqlock" "$operations" torn
 }
@@ -135,6 +195,20 @@ test_crate() {
     fi
     records "a board in Rust" lawful "$room/target/release/examples/record_board" "$operations"
     records "a register in Rust" lawful "$room/target/release/examples/record_board" "$operations" register
+}
+
+# Takes over the sums of a script that ends with them.
+take_over() {
+    sed '$d' "$room/told"
+    sums=$(tail -n 1 "$room/told")
+    case $sums in
+    *[0-9]' passed, '*[0-9]' failed')
+        passed=$((passed + ${sums%% *}))
+        sums=${sums##* passed, }
+        failed=$((failed + ${sums%% *}))
+        ;;
+    *) fail "$1" "it didn't say how it ended: $sums" ;;
+    esac
 }
 
 # A script whose last line says what it compared.
@@ -158,6 +232,8 @@ else
         counts "fsr order${word:+ $word} against all orders" python3 tests/programs/reference/compare_small_lines.py --logs 1000 -- $built $word
     done
     counts "converters" python3 tests/programs/converters.py
+    python3 c/tests/planted_log.py >"$room/told" 2>&1
+    take_over c/tests/planted_log.py
     library=
     [ -z "$prefix" ] || library="-DLIBRARY $(PKG_CONFIG_PATH=$prefix/lib/pkgconfig pkg-config --libs nidzaru)"
     for pair in gcc,g++ clang,clang++; do
@@ -165,6 +241,12 @@ else
         ! command -v "$c" >/dev/null 2>&1 || ! command -v "$cpp" >/dev/null 2>&1 || test_in_c
     done
     [ ! -x "$room/recorded" ] || test_planted
+    [ ! -x "$room/unfenced" ] || catches "a fence that orders nothing" "with the fence: " \
+        needs_fence a "$room/recorded" "torn $operations" "$room/unfenced" "behind $operations"
+    logs=3
+    [ ! -x "$room/recorded" ] || catches "a register that needs no fence" "3 logs are lawful" \
+        needs_fence a "$room/recorded" "seqlock 30" "$room/recorded" "seqlock 30"
+    logs=100
     ! command -v rustc >/dev/null 2>&1 || test_in_rust
     [ -z "$prefix" ] || ! command -v cargo >/dev/null 2>&1 || test_crate
     [ "$judged" -gt 0 ] || fail "the recorder" "no log was judged"
