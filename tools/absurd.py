@@ -1,7 +1,7 @@
 """Puts an absurd premise before each conjunct of the headlines' definitions, and sees whether a proof breaks. By hand: each of its checks
-takes 15 to 30 processor seconds, and there are dozens.
+takes 15 to 30 processor seconds, and there are dozens. `./test` tries the first edit alone.
 
-    absurd.py [--headline N] [--definition NAME] [--max N] [--list]
+    absurd.py [--headline N] [--definition NAME] [--max N] [--list] [--planted] [PATH[:NAME,NAME..] ..]
 
 A definition could be hollowed out where nobody looks: `7 < 0 →` before a part of it makes that part say nothing. The definitions are those
 of the reading sets of docs/HEADLINES.md that are propositions: records, of which each field's type is taken, and abbreviations, of which
@@ -13,7 +13,9 @@ definition an error names, and else halves; alone any error refuses. An edit wit
 told as such. An edit of a crate on which headline_uses doesn't stand isn't tried. The edits that get through are printed at the end. Status
 1 if there is one, 2 if nothing could be tried.
 
---list prints the edits and tries none. RT_JOBS=N tries N batches side by side, else one.
+With words PATH the definitions of these files of `specs/` are tried, or those that are named, whether or not a headline needs them. --planted
+tries one more edit, which stands in a comment and so has to get through. --list prints the edits and tries none. RT_JOBS=N tries N batches
+side by side, else one.
 """
 
 import argparse
@@ -234,6 +236,22 @@ def all_edits(headline, definition):
                     yield from edits_of(path, name, numbers)
 
 
+def edits_of_files(words):
+    """The edits of the definitions of these files, each word PATH or PATH:NAME,NAME.."""
+    for word in words:
+        path, _, names = word.partition(":")
+        for name, numbers in sorted(headlines.definitions(path).items()):
+            if not names or name in names.split(","):
+                yield from edits_of(path, name, numbers)
+
+
+def planted(path):
+    """An edit of a file that changes nothing, as it stands in a comment."""
+    text = "\n".join(headlines.lines_of(path))
+    at = text.index("-- ") + len("-- ")
+    return Edit(path, "a comment", text, at, at)
+
+
 def edited(path, edits):
     """The text of a file with edits that stand in no other's stretch."""
     text = "\n".join(headlines.lines_of(path))
@@ -257,7 +275,7 @@ def without_functions(text):
             while lines[at - 1] not in ("}", "{}") and not (at == first + 1 and line.endswith("{}")):
                 at += 1
             item = "\n".join(lines[first:at])
-            if "\n    ghost " in item and not re.search(r"\bfn ", item):
+            if re.match(r"impl\S* Drop for ", item) or "\n    ghost " in item and not re.search(r"\bfn ", item):
                 kept += [*above, item]
             above = []
             continue
@@ -429,10 +447,13 @@ def main():
     parser.add_argument("--definition")
     parser.add_argument("--max", type=int)
     parser.add_argument("--list", action="store_true")
+    parser.add_argument("--planted", action="store_true")
+    parser.add_argument("files", nargs="*")
     asked = parser.parse_args()
-    edits = list(all_edits(asked.headline, asked.definition))[: asked.max]
+    edits = list(edits_of_files(asked.files) if asked.files else all_edits(asked.headline, asked.definition))[: asked.max]
     if not edits:
         parser.error("no such headline or definition")
+    edits += [planted(edits[0].path)] if asked.planted else []
     for number, it in enumerate(edits, 1):
         it.number = number
     if asked.list:
