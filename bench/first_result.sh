@@ -1,13 +1,13 @@
 #!/bin/sh
 # Measures what a newcomer waits for: in a fresh clone of what is committed, with nothing built, the time until a command of `fsr` gives its
-# first answer. Prints minutes and processor minutes of each kind of document beside those that docs/TESTING.md has. The machine should do
+# first answer. Prints minutes and processor minutes of each kind of document beside those that docs/dev/TESTING.md has. The machine should do
 # nothing else meanwhile.
 #   bench/first_result.sh [KIND ..]      check, log, lines and cell where none is named
 top=$(cd "$(dirname "$0")/.." && pwd) || exit 1
 room=$(mktemp -d) || exit 1
 trap 'rm -rf "$room"' EXIT
 trap 'exit 1' HUP INT TERM
-. "$top/tests/spent.sh"
+. "$top/build/spent.sh"
 [ $# -gt 0 ] || set -- check log lines cell
 echo "on $(nproc) processors, $(git -C "$top" log -1 --format=%h), $(rt version)"
 before=0

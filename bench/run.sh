@@ -12,9 +12,8 @@ if ! command -v rustc >/dev/null 2>&1; then
     exit 1
 fi
 rustc -O -C target-cpu=x86-64-v2 -C panic=abort -o "$room/plain" "$top/bench/plain.rs" || exit 1
-if [ ! -x "$proved" ] || [ -n "$(find "$top"/crates/cell*/src "$top"/crates/family*/src "$top"/crates/board_live/src -newer "$proved" -print -quit)" ]; then
-    (. "$top/tests/build.sh" && build cells_bench) </dev/null >&2 || exit 1
-fi
+. "$top/build/build.sh"
+make_fresh cells_bench </dev/null >&2 || exit 1
 for round in $(seq "$rounds"); do
     for program in "$proved" "$room/plain"; do
         "$program" run | grep -v '^#' >>"$room/lines"

@@ -16,7 +16,7 @@ import subprocess
 import sys
 
 TOP = os.path.dirname(os.path.dirname(os.path.realpath(__file__)))
-sys.path.insert(0, f"{TOP}/tests")
+sys.path.insert(0, f"{TOP}/build")
 
 from listed import read_rows  # noqa: E402
 

@@ -41,6 +41,14 @@ static void keep_pace(uint64_t turn) {
     for (int tries = 0; tries < 20000 && atomic_load(&writing) && atomic_load(&writes) < seen + 2; tries++) sched_yield();
 }
 
+/* A thread that writes waits for two fetches, not for ever, before each write of some registers. */
+static void await_fetches(void) {
+    unsigned long long seen = atomic_load(&fetches);
+    for (int tries = 1; tries < 20000 && atomic_load(&fetching) && atomic_load(&fetches) < seen + 2; tries++) {
+        if (tries % 1000 == 0) sched_yield();
+    }
+}
+
 /* A sequence lock over words that are stored one by one (H. Boehm, Can Seqlocks Get Along With Programming Language Memory
  * Models?, 2012). */
 static atomic_ullong sequence;
@@ -97,6 +105,21 @@ static void atomic_write(int me, const struct item *item) {
 static void atomic_read(int me, struct item *item) {
     (void)me;
     *item = item_of(atomic_load_explicit(&shared_words[0], memory_order_acquire));
+}
+
+/* The same behind stores to lines that readers have taken: these wait for the lines, and the word waits behind them, long after the call
+ * has returned. */
+enum { LINES = 24 };
+static struct { _Alignas(64) atomic_ullong word; } lines[LINES];
+
+static void behind_write(int me, const struct item *item) {
+    for (size_t k = 0; k < LINES; k++) atomic_store_explicit(&lines[k].word, item->words[0], memory_order_relaxed);
+    atomic_write(me, item);
+}
+
+static void behind_read(int me, struct item *item) {
+    atomic_read(me, item);
+    for (size_t k = 0; k < LINES; k++) (void)atomic_load_explicit(&lines[k].word, memory_order_relaxed);
 }
 
 /* Wrong: the place of the record is told before the record stands there. A place is used again after many writes. */
@@ -200,18 +223,19 @@ static const struct {
     const char *name;
     void (*write)(int me, const struct item *item);
     void (*read)(int me, struct item *item);
-    int tasks, writers;
+    int tasks, writers, waits;
 } registers[] = {
-    {"seqlock", seqlock_write, seqlock_read, 3, 1},
-    {"atomic", atomic_write, atomic_read, 3, 1},
-    {"torn", torn_write, torn_read, 3, 1},
-    {"early", early_write, early_read, 3, 1},
-    {"last", last_write, last_read, 3, 1},
+    {"seqlock", seqlock_write, seqlock_read, 3, 1, 0},
+    {"atomic", atomic_write, atomic_read, 3, 1, 0},
+    {"behind", behind_write, behind_read, 3, 1, 1},
+    {"torn", torn_write, torn_read, 3, 1, 0},
+    {"early", early_write, early_read, 3, 1, 0},
+    {"last", last_write, last_read, 3, 1, 0},
 #ifdef LIBRARY
-    {"cell", cell_write, cell_read, 2, 1},
-    {"triple", triple_write, triple_read, 2, 1},
-    {"board", board_write, board_read, 3, 3},
-    {"triple_board", triple_board_write, triple_board_read, 3, 3},
+    {"cell", cell_write, cell_read, 2, 1, 0},
+    {"triple", triple_write, triple_read, 2, 1, 0},
+    {"board", board_write, board_read, 3, 3, 0},
+    {"triple_board", triple_board_write, triple_board_read, 3, 3, 0},
 #endif
 };
 
@@ -221,6 +245,7 @@ static pthread_barrier_t start;
 
 static void write_once(int me, uint64_t number) {
     struct item item = item_of(number);
+    if (registers[chosen].waits) await_fetches();
     atomic_fetch_add(&writes, 1);
     nidzaru_log_begin_write(&logs[me], number, &item, sizeof item);
     registers[chosen].write(me, &item);

@@ -131,16 +131,19 @@ static void check_times(void) {
     close_both();
 }
 
-/* Each byte counts, and where it stands. The hash of one word was computed by hand (in Python's whole numbers). */
+/* Each byte counts, and where it stands. The hashes of words were computed by hand (in Python's whole numbers). */
 static void check_records(void) {
-    unsigned char bytes[19] = {0}, other[19];
-    uint64_t word = 5, hash = nidzaru_log_record_of(0, bytes, sizeof bytes).hash;
-    check(nidzaru_log_record_of(8, &word, 8).number == 8, "the number is the one that is told");
-    check(nidzaru_log_record_of(8, &word, 8).hash == 0x2c67c3ed3a1dbcd5u, "the hash of a word");
-    for (size_t at = 0; at < sizeof bytes; at++) {
-        memcpy(other, bytes, sizeof bytes);
+    enum { SIZE = 1100 };
+    static unsigned char bytes[SIZE], other[SIZE];
+    uint64_t words[] = {5, 6, 7}, hash = nidzaru_log_record_of(0, bytes, SIZE).hash;
+    check(nidzaru_log_record_of(8, words, 8).number == 8, "the number is the one that is told");
+    check(nidzaru_log_record_of(8, words, 8).hash == 0x2c67c3ed3a1dbcd5u, "the hash of a word");
+    check(nidzaru_log_record_of(8, words, 24).hash == 0xb422ed380a36caafu, "the hash of three words");
+    check(nidzaru_log_record_of(8, "abc", 3).hash == 0x425123e1db485aaau, "the hash of three bytes");
+    for (size_t at = 0; at < SIZE; at++) {
+        memcpy(other, bytes, SIZE);
         other[at] = 1;
-        check(nidzaru_log_record_of(0, other, sizeof other).hash != hash, "each byte is in the hash");
+        check(nidzaru_log_record_of(0, other, SIZE).hash != hash, "each byte is in the hash");
         check(nidzaru_log_record_of(0, bytes, at).hash != hash, "the size is in the hash");
     }
 }

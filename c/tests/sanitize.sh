@@ -8,8 +8,8 @@ top=.
 writes=${1:-2000}
 room=$(mktemp -d) || exit 1
 trap 'rm -rf "$room"' EXIT
-. tests/outcomes.sh
-. tests/library.sh
+. tests/gate/outcomes.sh
+. build/library.sh
 passed=0 failed=0
 library=${2:-$room/libnidzaru.a}
 [ -n "$2" ] || make_library "$library" || exit 1

@@ -56,6 +56,7 @@ mod clock {
     use std::arch::x86_64::{__rdtscp, _mm_lfence, _mm_mfence, _rdtsc};
 
     /// A moment; nothing that follows has been done by it.
+    #[inline]
     pub fn begin() -> u64 {
         // SAFETY: each x86-64 processor has both instructions.
         unsafe {
@@ -66,6 +67,7 @@ mod clock {
     }
 
     /// A moment by which all that went before has been done, and, with the fence, can be seen by all.
+    #[inline]
     pub fn end(fenced: bool) -> u64 {
         let mut processor = 0;
         std::sync::atomic::compiler_fence(std::sync::atomic::Ordering::SeqCst);
@@ -297,14 +299,8 @@ impl Log {
         (begin, given, end)
     }
 
-    /// A moment after the last end.
     fn begin(&self) -> u64 {
-        loop {
-            let now = clock::begin();
-            if now > self.last_end {
-                return now;
-            }
-        }
+        moment_after(self.last_end, clock::begin)
     }
 
     fn put(&mut self, operation: Operation) {
@@ -333,6 +329,17 @@ impl Log {
         }
         let refused = limit.is_none() && self.operations.iter().any(|it| it.kind == Kind::Refused);
         refused.then_some(MergeError::NoLimit)
+    }
+}
+
+/// A moment of the clock after the last end.
+#[inline]
+fn moment_after(last_end: u64, mut clock: impl FnMut() -> u64) -> u64 {
+    loop {
+        let now = clock();
+        if now > last_end {
+            return now;
+        }
     }
 }
 
@@ -459,16 +466,42 @@ mod tests {
             log.last_end = clock::end(fenced) + 100_000;
             assert!(log.begin() > log.last_end);
         }
+        let mut moments = [4, 5, 5, 6, 7].into_iter();
+        assert_eq!(moment_after(5, || moments.next().unwrap()), 6);
     }
 
-    /// The hash of one word was computed by hand, and is that of `nidzaru_log.h`.
+    /// A call's own moment lies between its stamps, and each end is kept for the next begin.
+    #[test]
+    fn stamps_stand_around_the_call() {
+        let mut log = Log::new(0, 3).unwrap();
+        let mut called = Vec::new();
+        log.read(|| called.push(clock::end(true)), |()| FIRST);
+        log.write(FIRST, || called.push(clock::end(true)));
+        let refused = log.try_write(SECOND, || Err::<(), _>(called.push(clock::end(true))), |()| FIRST);
+        assert_eq!(refused, Err(()));
+        for (it, moment) in log.operations.iter().zip(&called) {
+            assert!(it.begin < *moment && *moment < it.end);
+        }
+        assert_eq!((log.operations.len(), called.len(), log.last_end), (3, 3, log.operations[2].end));
+    }
+
+    #[test]
+    fn a_log_is_fenced_unless_it_is_said() {
+        assert!(Log::new(0, 1).unwrap().fenced);
+        assert!(!Log::new(0, 1).unwrap().unfenced().fenced);
+    }
+
+    /// The hashes were computed by hand, and are those of `nidzaru_log.h`.
     #[test]
     fn each_byte_is_in_the_hash() {
         assert_eq!(Record::of_words(&[5]), Record { number: 5, hash: 0x2c67_c3ed_3a1d_bcd5 });
+        assert_eq!(Record::of_words(&[5, 6, 7]), Record { number: 5, hash: 0xb422_ed38_0a36_caaf });
         assert_eq!(Record::of_bytes(8, &5u64.to_le_bytes()), Record { number: 8, hash: 0x2c67_c3ed_3a1d_bcd5 });
-        let zeros = Record::of_bytes(0, &[0; 19]).hash;
-        for at in 0..19 {
-            let mut other = [0; 19];
+        assert_eq!(Record::of_bytes(8, b"abc"), Record { number: 8, hash: 0x4251_23e1_db48_5aaa });
+        const SIZE: usize = 1100;
+        let zeros = Record::of_bytes(0, &[0; SIZE]).hash;
+        for at in 0..SIZE {
+            let mut other = [0; SIZE];
             other[at] = 1;
             assert_ne!(Record::of_bytes(0, &other).hash, zeros);
             assert_ne!(Record::of_bytes(0, &other[..at]).hash, zeros);
@@ -476,9 +509,36 @@ mod tests {
     }
 
     #[test]
+    fn each_word_is_in_the_hash() {
+        const SIZE: usize = 137;
+        let zeros = Record::of_words(&[0; SIZE]).hash;
+        for at in 0..SIZE {
+            let mut other = [0; SIZE];
+            other[at] = 1;
+            assert_ne!(Record::of_words(&other).hash, zeros);
+            assert_ne!(Record::of_words(&other[..at]).hash, zeros);
+        }
+    }
+
+    /// A stream that takes all and fails when it is flushed.
+    struct Late;
+
+    impl Write for Late {
+        fn write(&mut self, bytes: &[u8]) -> io::Result<usize> {
+            Ok(bytes.len())
+        }
+
+        fn flush(&mut self) -> io::Result<()> {
+            Err(io::Error::other("planned"))
+        }
+    }
+
+    #[test]
     fn a_stream_that_fails() {
         let mut short = [0u8; 10];
         let told = merge(&mut short.as_mut_slice(), &[], OPENING, None);
+        assert!(matches!(told, Err(MergeError::Stream(_))));
+        let told = merge(&mut Late, &[], OPENING, None);
         assert!(matches!(told, Err(MergeError::Stream(_))));
     }
 }

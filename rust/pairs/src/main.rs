@@ -5,7 +5,7 @@
 //! looked for before the read, is a race in each run.
 //! usage: pairs clean       nothing is to be reported
 //!        pairs unread      one pair without its call: a race, which is to be reported
-//! Link with the --wrap words of tests/rust.sh.
+//! Link with the --wrap words of tests/library/rust.sh.
 
 use nidzaru::{Place, Reader, Since, Stamp, Triple, Writer};
 use std::cell::UnsafeCell;

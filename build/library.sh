@@ -1,0 +1,81 @@
+# What `install` and the tests of the static library share. They name the folder at the top in $top.
+
+. "$top/build/build.sh"
+
+# Builds the library over the crates below it as the gate has just proved and built them. As with the gate's programs, nothing is built
+# unless the crate's own code is proved over these statements.
+build_over_gate() {
+    for crate in $(crates_below c_exports | sed '$d'); do
+        made=$top/crates/$crate/out/rlib
+        [ ! -e "$made/stamp" ] && is_newer_than_sources "$made/$crate.rlib" "$crate" || return 1
+    done
+    python3 "$top/build/build.py" --over-gate c_exports </dev/null >&2
+}
+
+# The same as a verdict: it holds if the prover's last line says that all is proved, and has no word that something is left out or may wait.
+# The three axioms are the C library's functions that give and take memory.
+prove_library() {
+    told=$(mktemp) || return 1
+    build_over_gate 2>"$told"
+    built=$?
+    cat "$told"
+    target='axioms=3 target=x86_64-unknown-linux-gnu cpu=x86-64-v2'
+    trusted='native=nat,char,string logic-built=trusted libraries-built=trusted statements=trusted'
+    grep -qx "logic=proved functions=[0-9]* $target sum=[0-9a-f]* $trusted" "$told"
+    is_whole=$?
+    rm -f "$told"
+    return $((built | is_whole))
+}
+
+# A name for each release whose calls the library has, nidzaru_since_2_1 and on up to $version: a header asks for its own, so that no
+# older library links with it.
+releases() {
+    echo "$version" | awk -F. '{
+        for (minor = 1; minor <= $2; minor++) printf ".globl nidzaru_since_%d_%d\nnidzaru_since_%d_%d:\n", $1, minor, $1, minor
+    }'
+}
+
+# Makes of the library's objects in this folder one whose only names for others are the library's own calls. They are hidden, so
+# that a shared object with the library inside exports none of them, and two such objects in a process don't mix their libraries.
+join_objects() {
+    # (in this order the bytes are the same everywhere)
+    export LC_ALL=C
+    releases >releases.s && {
+        cat releases.s && sed -n 's/^\.globl /.hidden /p' releases.s
+        nm -g --defined-only ./*.o | awk '$3 ~ /^nidzaru_/ { print ".hidden " $3 }'
+        echo '.section .note.GNU-stack,"",@progbits'
+    } >hidden.s && as hidden.s -o hidden.o && ld -r -o joined ./*.o && objcopy --wildcard --keep-global-symbol='nidzaru_*' joined nidzaru
+}
+
+# Proves and builds the library for C, where it isn't built, and puts it into the file that is named, an absolute path, with the
+# toolchain's one object that it needs: what takes memory from the C library.
+make_library() {
+    here=$(CDPATH= cd -- "$top/crates/c_exports" && pwd) || return 1
+    kit=$(dirname -- "$(rt doc)") || return 1
+    make_fresh c_exports </dev/null >&2 || return 1
+    unpacked=$(mktemp -d) || return 1
+    (
+        version=$(version_of_header) && cd "$unpacked" || exit 1
+        ar x "$here/out/libc_exports.a" && ar x "$kit/c/liblibc_c.a" && join_objects && mv nidzaru nidzaru.o && rm -f "$1" \
+            && ar rcsD "$1" nidzaru.o
+    )
+    made=$?
+    rm -rf "$unpacked"
+    return $made
+}
+
+# The version that stands in the header, which is that of all parts.
+version_of_header() {
+    awk '/^#define NIDZARU_VERSION_(MAJOR|MINOR|PATCH)/ { printf dot "%s", $3; dot = "." }' "$top/c/nidzaru.h"
+}
+
+# The pages that go with the library: what the header cites, what that page's readers need next, the examples and the licences.
+library_pages='CHANGELOG.md LICENSE-MIT LICENSE-APACHE docs/C.md docs/PACKAGE.md docs/LANGUAGES.md docs/BOARD-USE.md docs/ASSUMPTIONS.md
+    docs/ONE-TIME.md examples/c/tasks.c examples/c/tasks.cpp examples/c/board.c'
+
+# Lays out the library with its headers and pages, and the script that installs them, in a new folder, an absolute path.
+lay_out() {
+    mkdir -p "$1/lib" "$1/include" && make_library "$1/lib/libnidzaru.a" && cp "$top/packaging/install" "$1/" \
+        && cp "$top/c/nidzaru.h" "$top/c/nidzaru.hpp" "$top/c/nidzaru_log.h" "$1/include/" \
+        && python3 "$top/packaging/pages.py" "$1/share/doc/nidzaru" $library_pages
+}

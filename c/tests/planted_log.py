@@ -1,0 +1,231 @@
+"""Wrong recorders, which their tests must refuse: each is one edit of nidzaru_log.h or of the module `log` for Rust.
+
+    planted_log.py [WORD..]     with words those edits alone whose names have one of them
+
+An edit's old text stands once in its file; blanks match any others. The test that is named has to pass over the files as they are, and to
+fail by one of its checks over the edited ones; that it can't be built doesn't count. The last line is the sums.
+"""
+
+import os
+import re
+import subprocess
+import sys
+import tempfile
+
+TOP = os.path.dirname(os.path.dirname(os.path.dirname(os.path.realpath(__file__))))
+H, RUST = "c/nidzaru_log.h", "rust/nidzaru/src/log.rs"
+C11 = ["gcc", "-std=c11", "-D_POSIX_C_SOURCE=200809L", "-O0", "-w", "-pthread"]
+# Tests in C: the source and the words of the compiler.
+PROGRAMS = {
+    "recorder": ("recorder.c", []),
+    "stamped": ("stamped.c", []),
+    "unfenced": ("stamped.c", ["-DNIDZARU_LOG_FENCE=0"]),
+    "by the clock": ("stamped.c", ["-DNIDZARU_LOG_TSC=0"]),
+}
+# Calls whose instructions are looked at: what stands between a recorded call's stamps, and where these are.
+CALLS = """#[path = "log.rs"]
+pub mod log;
+use log::{Log, Record};
+extern "C" {
+    fn the_call() -> u64;
+}
+#[no_mangle]
+pub fn one_read(log: &mut Log) -> u64 {
+    log.read(|| unsafe { the_call() }, |n| Record::of_words(&[*n]))
+}
+#[no_mangle]
+pub fn one_write(log: &mut Log, record: Record) -> u64 {
+    log.write(record, || unsafe { the_call() })
+}
+#[no_mangle]
+pub fn one_try_write(log: &mut Log, record: Record) -> Result<u64, u64> {
+    log.try_write(record, || Err(unsafe { the_call() }), |n| Record::of_words(&[*n]))
+}
+"""
+NAMES = ("one_read", "one_write", "one_try_write")
+ORDER = ["rdtsc", "lfence", "the_call", "mfence", "rdtscp"]
+
+# The name of an edit, its file, the old text, the new one, and the test that refuses it.
+PLANTED = [
+    ("a begin that is its end's stamp", H, "next->begin = log->under_way.begin;", "next->begin = end;", "stamped"),
+    ("a begin that is kept from before", H, "log->under_way.begin = nidzaru_log_stamp_begin(log);",
+     "log->under_way.begin = log->last_end + 1;", "stamped"),
+    ("a begin before its record", H, "nidzaru_log_begin(log, NIDZARU_LOG_WRITE, nidzaru_log_record_of(number, data, size));",
+     "nidzaru_log_record none = {0, 0}; nidzaru_log_begin(log, NIDZARU_LOG_WRITE, none); "
+     "log->under_way.record = nidzaru_log_record_of(number, data, size);", "stamped"),
+    ("an end behind its record", H,
+     "uint64_t end = nidzaru_log_stamp_end(); nidzaru_log_end(log, NIDZARU_LOG_READ, NIDZARU_LOG_READ, end, nidzaru_log_record_of(number, data, size));",
+     "nidzaru_log_record it = nidzaru_log_record_of(number, data, size); "
+     "nidzaru_log_end(log, NIDZARU_LOG_READ, NIDZARU_LOG_READ, nidzaru_log_stamp_end(), it);", "stamped"),
+    ("no lfence", H, "_mm_lfence();", "", "stamped"),
+    ("no mfence", H, "_mm_mfence();", "", "stamped"),
+    ("a fence that is never left out", H, "#if NIDZARU_LOG_FENCE && defined(__x86_64__)", "#if defined(__x86_64__)", "unfenced"),
+    ("rdtsc at the end", H, "now = __rdtscp(&processor);", "now = __rdtsc(), processor = 0, (void)processor;", "stamped"),
+    ("nothing that holds the compiler before the begin", H, "uint64_t now; NIDZARU_LOG_ORDER(signal_fence); do {", "uint64_t now; do {", "stamped"),
+    ("nothing that holds the compiler behind the begin", H,
+     "NIDZARU_LOG_ORDER(thread_fence); #endif NIDZARU_LOG_ORDER(signal_fence); return now;",
+     "NIDZARU_LOG_ORDER(thread_fence);\n#endif\nreturn now;", "stamped"),
+    ("nothing that holds the compiler before the end", H, "NIDZARU_LOG_ORDER(signal_fence); #if NIDZARU_LOG_FENCE",
+     "\n#if NIDZARU_LOG_FENCE", "stamped"),
+    ("nothing that holds the compiler behind the end", H, "now = nidzaru_log_clock(); #endif NIDZARU_LOG_ORDER(signal_fence); return now;",
+     "now = nidzaru_log_clock();\n#endif\nreturn now;", "stamped"),
+    ("operations that touch", H, "while (now <= log->last_end);", "while (now < log->last_end);", "stamped"),
+    ("a last end that isn't kept", H, "log->last_end = end;", "", "stamped"),
+    ("a clock of microseconds", H, "NIDZARU_LOG_CAST(uint64_t, now.tv_nsec)", "NIDZARU_LOG_CAST(uint64_t, now.tv_nsec) / 1000u * 1000u", "by the clock"),
+    ("a clock without seconds", H, "NIDZARU_LOG_CAST(uint64_t, now.tv_sec) * 1000000000u +", "", "by the clock"),
+    ("a clock that is set", H, "clock_gettime(CLOCK_MONOTONIC, &now);", "clock_gettime(CLOCK_REALTIME, &now);", "by the clock"),
+    ("no fence by the clock", H, "_mm_mfence();", "if (NIDZARU_LOG_TSC) _mm_mfence();", "by the clock"),
+    ("a room that overflows", H, "if (room > SIZE_MAX / sizeof *log->operations) return NIDZARU_LOG_NO_MEMORY;", "", "stamped"),
+    ("pages that nobody touched", H, "memset(log->operations, 1, room * sizeof *log->operations);", "", "stamped"),
+    ("a close that frees nothing", H, "free(log->operations);", "", "stamped"),
+    ("a close that clears nothing", H, "free(log->operations); memset(log, 0, sizeof *log);", "free(log->operations);", "recorder"),
+    ("a hash of 128 bytes", H, "size - at < 8 ? size - at : 8); record.hash", "size - at < 8 ? size - at : 8); if (at >= 128) break; record.hash", "recorder"),
+    ("a hash of whole words", H, "at < size; at += 8", "at + 8 <= size; at += 8", "recorder"),
+    ("a hash without the size", H, "0x9e3779b97f4a7c15u ^ size", "0x9e3779b97f4a7c15u", "recorder"),
+    ("a hash that forgets where", H, "(record.hash ^ word) * 0xff51afd7ed558ccdu", "record.hash ^ word * 0xff51afd7ed558ccdu", "recorder"),
+    ("a hash without its upper half", H, "record.hash ^= record.hash >> 32;", "", "recorder"),
+    ("a loss that isn't counted", H, "log->lost++;", "", "recorder"),
+    ("a begin within another", H, "log->unpaired += log->under_way.kind != NIDZARU_LOG_NOTHING;", "", "recorder"),
+    ("an end of another", H, "log->unpaired += log->under_way.kind != began_as;", "", "recorder"),
+    ("no limit", H, "if (logs[at]->refused && !limit) return NIDZARU_LOG_NO_LIMIT;", "", "recorder"),
+    ("a full stream", H, "return fflush(to) || ferror(to) ? NIDZARU_LOG_STREAM : 0;", "return 0;", "recorder"),
+    ("an unfinished write that isn't written", H, "log->under_way.kind == NIDZARU_LOG_WRITE ? &log->under_way : NULL", "0 ? &log->under_way : NULL", "recorder"),
+    ("an unfinished read that is written", H, "log->under_way.kind == NIDZARU_LOG_WRITE ?", "log->under_way.kind != NIDZARU_LOG_NOTHING ?", "recorder"),
+    ("a merge by ends", H, "next->begin < nidzaru_log_next(first)->begin", "next->end < nidzaru_log_next(first)->end", "recorder"),
+    ("no lfence in Rust", RUST, "_mm_lfence();", "", "instructions"),
+    ("no mfence in Rust", RUST, "_mm_mfence();", "", "instructions"),
+    ("rdtsc at the end in Rust", RUST, "__rdtscp(&mut processor)", "{ let _ = &mut processor; _rdtsc() }", "instructions"),
+    ("a read that ends before its call", RUST, "let given = call(); let end = clock::end(self.fenced); self.put(Operation { kind: Kind::Read",
+     "let end = clock::end(self.fenced); let given = call(); self.put(Operation { kind: Kind::Read", "log.rs"),
+    ("a write that ends before its call", RUST, "let given = call(); let end = clock::end(self.fenced); self.under_way = None;",
+     "let end = clock::end(self.fenced); let given = call(); self.under_way = None;", "log.rs"),
+    ("a read that begins behind its call", RUST, "let begin = self.begin(); let given = call();", "let given = call(); let begin = self.begin();", "log.rs"),
+    ("an end that isn't kept in Rust", RUST, "self.last_end = operation.end;", "", "log.rs"),
+    ("operations that touch in Rust", RUST, "if now > last_end", "if now >= last_end", "log.rs"),
+    ("unfenced that does nothing", RUST, "Log { fenced: false, ..self }", "self", "log.rs"),
+    ("a log that is never fenced", RUST, "fenced: true, under_way: None", "fenced: false, under_way: None", "log.rs"),
+    ("a hash of 16 words in Rust", RUST, "words.iter().fold(Record::seed", "words.iter().take(16).fold(Record::seed", "log.rs"),
+    ("a hash of 16 words of bytes in Rust", RUST, "hash: words.fold(", "hash: words.take(16).fold(", "log.rs"),
+    ("words without their size", RUST, "Record::seed(8 * words.len())", "Record::seed(8)", "log.rs"),
+    ("bytes without their size", RUST, "Record::seed(bytes.len())", "Record::seed(8)", "log.rs"),
+    ("bytes in another order", RUST, "u64::from_le_bytes(word)", "u64::from_be_bytes(word)", "log.rs"),
+    ("no flush", RUST, "to.flush()?;", "", "log.rs"),
+    ("a loss that isn't counted in Rust", RUST, "self.lost += 1;", "", "log.rs"),
+    ("no limit in Rust", RUST, "limit.is_none() && self.operations", "false && self.operations", "log.rs"),
+]
+
+
+def call(command, **more):
+    try:
+        done = subprocess.run(command, capture_output=True, text=True, errors="replace", timeout=120, check=False, **more)
+    except subprocess.TimeoutExpired:
+        return 124, "it didn't end"
+    return done.returncode, done.stdout + done.stderr
+
+
+class Room:
+    """A folder with the recorder's files, in which one edit after the other is made."""
+
+    def __init__(self, folder):
+        self.folder = folder
+        self.restore()
+        with open(f"{folder}/calls.rs", "w", encoding="utf-8") as file:
+            file.write(CALLS)
+        with open(f"{folder}/lib.rs", "w", encoding="utf-8") as file:
+            file.write("pub mod log;\n")
+
+    def restore(self):
+        for path in (H, RUST):
+            self.edit(path, None, None)
+
+    def edit(self, path, old, new):
+        with open(f"{TOP}/{path}", encoding="utf-8") as file:
+            text = file.read()
+        if old is not None:
+            pattern = r"\s+".join(re.escape(word) for word in old.split())
+            found = len(re.findall(pattern, text))
+            if found != 1 or new == old:
+                raise ValueError(f"its old text stands {found} times in {path}")
+            text = re.sub(pattern, lambda _: new, text)
+        with open(f"{self.folder}/{os.path.basename(path)}", "w", encoding="utf-8") as file:
+            file.write(text)
+
+    # Each test gives: whether it was built, whether it passed, and what was said.
+    def program(self, name):
+        source, words = PROGRAMS[name]
+        out = f"{self.folder}/program"
+        status, said = call([*C11, *words, "-I", self.folder, f"{TOP}/c/tests/{source}", "-o", out])
+        if status:
+            return False, False, said
+        status, said = call([out])
+        return True, status == 0 and said == "passed\n", said
+
+    def unit_tests(self):
+        out = f"{self.folder}/tests"
+        status, said = call(["rustc", "--edition", "2021", "--test", "--crate-name", "nidzaru", f"{self.folder}/lib.rs", "-o", out])
+        if status:
+            return False, False, said
+        status, said = call([out])
+        return True, status == 0 and "test result: ok. 0 passed" not in said, said
+
+    def instructions(self):
+        out = f"{self.folder}/calls.s"
+        status, said = call(["rustc", "--edition", "2021", "-O", "-C", "codegen-units=1", "--crate-type", "lib", "--emit", "asm",
+                             f"{self.folder}/calls.rs", "-o", out])
+        if status:
+            return False, False, said
+        with open(out, encoding="utf-8") as file:
+            text = file.read()
+        found = {name: re.findall(r"\b(rdtscp?|[lm]fence|the_call)\b", text.split(f"\n{name}:\n")[1].split(".cfi_endproc")[0]) for name in NAMES}
+        wrong = [f"{name}: {' '.join(order)}" for name, order in found.items() if order != ORDER]
+        return True, not wrong, "FAILED: " + "; ".join(wrong)
+
+    def test(self, name):
+        if name == "log.rs":
+            return self.unit_tests()
+        return self.instructions() if name == "instructions" else self.program(name)
+
+
+def verdict(room, path, old, new, test):
+    """Nothing if the edit is refused, or why it isn't."""
+    try:
+        room.edit(path, old, new)
+    except ValueError as why:
+        return str(why)
+    built, passed, said = room.test(test)
+    room.restore()
+    if not built:
+        return f"{test} isn't built: {said[:400]}"
+    return f"{test} passes" if passed else None
+
+
+def has(test):
+    """Whether this machine can run the test."""
+    needs = "rustc" if test in ("log.rs", "instructions") else "gcc"
+    return any(os.access(f"{folder}/{needs}", os.X_OK) for folder in os.environ["PATH"].split(os.pathsep))
+
+
+def main(words):
+    edits = [it for it in PLANTED if has(it[4]) and (not words or any(word in it[0] for word in words))]
+    failed = []
+    with tempfile.TemporaryDirectory() as folder:
+        room = Room(folder)
+        for test in sorted({it[4] for it in edits}):
+            built, passed, said = room.test(test)
+            if not (built and passed):
+                failed.append(f"{test}: FAILED over the files as they are: {said[:400]}")
+        if has("recorder") and verdict(room, H, "/* Before a read. */", "", "recorder") != "recorder passes":
+            failed.append("planted: a comment that is dropped: FAILED: it counts as refused")
+        for name, *edit in edits:
+            why = verdict(room, *edit)
+            if why:
+                failed.append(f"planted: {name}: FAILED: {why}")
+    tests = len({it[4] for it in edits}) + has("recorder")
+    for it in failed:
+        print(f"test: {it}")
+    print(f"{tests + len(edits) - len(failed)} passed, {len(failed)} failed")
+    return 1 if failed or not edits else 0
+
+
+if __name__ == "__main__":
+    sys.exit(main(sys.argv[1:]))

@@ -1,0 +1,209 @@
+/* Where the recorder takes its stamps, and what it asks of the system: each instruction and call that counts is one of this file in place
+ * of the real one, and is noted. C11, on any processor; the last line is `passed`. */
+#include <stdatomic.h>
+#include <stdint.h>
+#include <stdio.h>
+#include <stdlib.h>
+#include <string.h>
+#include <time.h>
+#ifdef __x86_64__
+#include <x86intrin.h>
+#endif
+
+/* What was done, a letter each: `b` rdtsc, `e` rdtscp, `c` the clock, `l` lfence, `m` mfence, `f` a fence of threads, `s` one of signals,
+ * `h` a copy of data, `!` the recorded call. */
+static char done[64];
+static void note(char what) {
+    size_t length = strlen(done);
+    if (length + 1 < sizeof done) done[length] = what, done[length + 1] = 0;
+}
+
+/* The clock of this file goes on by 7 at each look, but stands still for so many looks. */
+static uint64_t ticks = 1000000000000u;
+static unsigned still;
+static uint64_t look(char what) {
+    note(what);
+    if (still) return still--, ticks;
+    return ticks += 7;
+}
+
+static int look_at_clock(clockid_t which, struct timespec *to) {
+    uint64_t it = look(which == CLOCK_MONOTONIC ? 'c' : '?');
+    to->tv_sec = (time_t)(it / 1000000000u);
+    to->tv_nsec = (long)(it % 1000000000u);
+    return 0;
+}
+
+/* Blocks that were asked for and given back. */
+static size_t asked, given, returned;
+static unsigned char *block;
+static void *take_block(size_t size) {
+    given++;
+    asked = size;
+    block = malloc(size);
+    if (block) memset(block, 0xa5, size);
+    return block;
+}
+
+static void return_block(void *it) {
+    returned += it != NULL;
+    free(it);
+}
+
+static void *copy(void *to, const void *from, size_t size) {
+    note('h');
+    return memcpy(to, from, size);
+}
+
+#undef __rdtsc
+#undef __rdtscp
+#undef _mm_lfence
+#undef _mm_mfence
+#undef atomic_signal_fence
+#undef atomic_thread_fence
+#define __rdtsc() look('b')
+#define __rdtscp(processor) (*(processor) = 0, look('e'))
+#define _mm_lfence() note('l')
+#define _mm_mfence() note('m')
+#define atomic_signal_fence(order) note((order) == memory_order_seq_cst ? 's' : '?')
+#define atomic_thread_fence(order) note((order) == memory_order_seq_cst ? 'f' : '?')
+#define clock_gettime look_at_clock
+#define malloc take_block
+#define free return_block
+#define memcpy copy
+#include "nidzaru_log.h"
+#undef memcpy
+#undef free
+#undef malloc
+
+#define TICK (NIDZARU_LOG_TSC ? 'b' : 'c')
+#ifdef __x86_64__
+#define BEGIN (NIDZARU_LOG_TSC ? "sbls" : "scls")
+#define END (NIDZARU_LOG_TSC ? NIDZARU_LOG_FENCE ? "smes" : "ses" : NIDZARU_LOG_FENCE ? "smcs" : "scs")
+#else
+#define BEGIN "scfs"
+#define END (NIDZARU_LOG_FENCE ? "sfcs" : "scs")
+#endif
+
+static int failed;
+static void check(int holds, const char *what) {
+    if (!holds) {
+        failed = 1;
+        printf("FAILED: %s (%s)\n", what, done);
+    }
+}
+
+/* What was done is this: of several texts one behind the other. */
+static void check_done(const char *what, const char *first, const char *second, const char *third, const char *last) {
+    char wanted[64];
+    snprintf(wanted, sizeof wanted, "%s%s%s%s", first, second, third, last);
+    check(!strcmp(done, wanted), what);
+    done[0] = 0;
+}
+
+static nidzaru_log log_of_one;
+static nidzaru_log *logs[] = {&log_of_one};
+static const uint64_t item[] = {1, 7};
+
+/* A merge gives these lines behind the header. */
+static void check_lines(const char *what, const char *wanted) {
+    char text[2048] = "";
+    FILE *to = tmpfile();
+    check(to && nidzaru_log_merge(to, logs, 1, nidzaru_log_record_of(0, "", 0), 9) == 0, "a merge");
+    rewind(to);
+    text[fread(text, 1, sizeof text - 1, to)] = 0;
+    fclose(to);
+    check(strchr(text, '\n') && !strncmp(strchr(text, '\n') + 1, wanted, strlen(wanted)), what);
+    done[0] = 0;
+}
+
+static void open_log(size_t room) {
+    ticks = 1000000000000u;
+    check(nidzaru_log_open(&log_of_one, 3, room) == 0, "a log is opened");
+    done[0] = 0;
+}
+
+/* A write's record is made before its begin, a read's after its end, so that neither is timed. */
+static void check_write(void) {
+    open_log(4);
+    nidzaru_log_begin_write(&log_of_one, 1, item, sizeof item);
+    note('!');
+    nidzaru_log_end_write(&log_of_one);
+    check_done("a write's stamps", "hh", BEGIN, "!", END);
+    nidzaru_log_begin_write(&log_of_one, 2, item, sizeof item);
+    note('!');
+    nidzaru_log_end_refused(&log_of_one, 1, item, 8);
+    check(!strncmp(done, "hh", 2) && !strcmp(done + strlen(done) - 1, "h"), "a refused write's records");
+    done[strlen(done) - 1] = 0;
+    check_done("a refused write's stamps", "hh", BEGIN, "!", END);
+    check_lines("the times of writes", "{\"who\":3,\"kind\":\"write\",\"begin\":0,\"end\":7,\"record\":[1,");
+    nidzaru_log_close(&log_of_one);
+}
+
+static void check_read(void) {
+    open_log(4);
+    nidzaru_log_begin_read(&log_of_one);
+    note('!');
+    nidzaru_log_end_read(&log_of_one, 1, item, 8);
+    check_done("a read's stamps", BEGIN, "!", END, "h");
+    check_lines("the times of a read", "{\"who\":3,\"kind\":\"read\",\"begin\":0,\"end\":7,\"record\":[1,");
+    nidzaru_log_close(&log_of_one);
+}
+
+/* The clock stands still for three looks behind an end: the begin looks as often again. */
+static void check_standing(void) {
+    char looks[] = {'s', TICK, TICK, TICK, TICK, 0};
+    open_log(4);
+    nidzaru_log_begin_read(&log_of_one);
+    nidzaru_log_end_read(&log_of_one, 1, item, 8);
+    still = 3;
+    done[0] = 0;
+    nidzaru_log_begin_read(&log_of_one);
+    nidzaru_log_end_read(&log_of_one, 1, item, 8);
+    check_done("a clock that stands still", looks, BEGIN + 2, END, "h");
+    nidzaru_log_begin_write(&log_of_one, 2, item, 8);
+    check_lines("the times of two reads and a write", "{\"who\":3,\"kind\":\"read\",\"begin\":0,\"end\":7,");
+    nidzaru_log_end_write(&log_of_one);
+    nidzaru_log_close(&log_of_one);
+}
+
+/* By the clock moments are nanoseconds, also where the second changes. */
+static void check_seconds(void) {
+    uint64_t begin;
+    open_log(4);
+    ticks = 1999999999990u;
+    begin = nidzaru_log_stamp_begin(&log_of_one);
+    check(begin == 1999999999997u && nidzaru_log_stamp_end() == 2000000000004u, "moments on both sides of a second");
+    nidzaru_log_close(&log_of_one);
+}
+
+static void check_memory(void) {
+    enum { ROOM = 3000, PAGE = 4096 };
+    size_t before = given - returned, untouched = 0;
+    open_log(ROOM);
+    check(asked >= ROOM * sizeof(nidzaru_log_operation), "memory for all operations");
+    for (size_t page = 0; page < asked / PAGE; page++) {
+        size_t same = 0;
+        while (same < PAGE && block[page * PAGE + same] == 0xa5) same++;
+        untouched += same == PAGE;
+    }
+    check(untouched == 0, "every page is touched before the threads begin");
+    nidzaru_log_close(&log_of_one);
+    check(given - returned == before, "what was asked for is given back");
+    given = returned = 0;
+    check(nidzaru_log_open(&log_of_one, 0, SIZE_MAX / sizeof(nidzaru_log_operation) + 2) == NIDZARU_LOG_NO_MEMORY && given == 0,
+          "room that no size can say");
+    check(nidzaru_log_open(&log_of_one, 0, 0) == 0, "a log without room is opened");
+    nidzaru_log_close(&log_of_one);
+    check(given == returned, "a log without room is closed");
+}
+
+int main(void) {
+    check_write();
+    check_read();
+    check_standing();
+    check_seconds();
+    check_memory();
+    puts(failed ? "failed" : "passed");
+    return failed;
+}

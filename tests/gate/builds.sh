@@ -1,0 +1,142 @@
+# How build/build.py builds, tried on two small crates: what was changed is proved and built again with what stands above it and nothing else,
+# what isn't proved isn't built, and of two builds at once one waits. The crates below each are the same for the shell and for Python.
+
+# Lays out a repository with these scripts and a program over a library, in a folder with a blank in its name.
+lay_out_crates() {
+    tree_of_two="$room/two crates"
+    rm -rf "$tree_of_two"
+    mkdir -p "$tree_of_two/build" "$tree_of_two/crates/low/src" "$tree_of_two/crates/high/src"
+    cp build/build.py build/listed.py "$tree_of_two/build/"
+    printf 'low:\nhigh: low\n' >"$tree_of_two/crates.txt"
+    cat >"$tree_of_two/crates/low/src/lib.rt" <<'LOW'
+//! A number.
+#![tactic(auto)]
+
+ghost use Rattle.std.specs.Prelude.{◌≡◌};
+
+/// The number.
+pub fn seven() -> u8
+    ensures { result ≡ 7 }
+{
+    7
+}
+LOW
+    cat >"$tree_of_two/crates/high/src/main.rt" <<'HIGH'
+//! Ends with the number as its status.
+#![tactic(auto)]
+
+use low::seven;
+use std::process::ExitCode;
+
+fn main() -> ExitCode {
+    ExitCode::from(seven())
+}
+HIGH
+}
+
+# Builds what is named, and sees how that ends, which crates it begins, and with what status the program ends, none where it isn't built.
+#   builds TITLE STATUS BEGUN ENDS [CRATE]
+builds() {
+    python3 "$tree_of_two/build/build.py" "${5:-high}" >"$room/out" 2>&1
+    status=$?
+    begun=$(sed -n 's/^build: \(.*\) begins$/\1/p' "$room/out" | sort | tr '\n' ' ')
+    "$tree_of_two/crates/high/out/high" 2>/dev/null
+    ends=$?
+    if [ "$status $begun $ends" = "$2 $3 $4" ]; then
+        pass "$1"
+    else
+        fail "$1" "status $status, begun: $begun, the program ends with $ends: $(tail -n 3 "$room/out" | tr '\n' ' ')"
+    fi
+}
+
+# Changes a file of one of the two crates by a command of sed.
+change() {
+    sed -i "$2" "$tree_of_two/crates/$1"
+}
+
+builds_again() {
+    change low/src/lib.rt "1s/.*/\/\/! A number, $1./"
+    builds "a changed library is built again, with what stands on it" 0 "high low " 7
+}
+
+# Of two builds at once each ends well, and each crate is built once.
+build_at_once() {
+    change low/src/lib.rt '1s/.*/\/\/! Another number./'
+    python3 "$tree_of_two/build/build.py" high >"$room/first" 2>&1 &
+    first=$!
+    python3 "$tree_of_two/build/build.py" high >"$room/second" 2>&1
+    second=$?
+    wait "$first" && [ "$second" = 0 ] && [ "$(cat "$room/first" "$room/second" | grep -c ' begins$')" = 2 ]
+}
+
+# Builds, and changes the library while it is being proved.
+change_during_build() {
+    change low/src/lib.rt '1s/.*/\/\/! A number, at first./'
+    python3 "$tree_of_two/build/build.py" high >"$room/out" 2>&1 &
+    for waited in $(seq 100); do
+        grep -q '^build: low begins$' "$room/out" && break
+        sleep 0.2
+    done
+    sleep 1
+    change low/src/lib.rt '1s/.*/\/\/! A number, in the end./'
+    wait $!
+}
+
+# Compares the crates below each crate of this folder's crates.txt, by build/build.sh and by build/listed.py.
+compare_below() {
+    top=. && . build/build.sh
+    crates=$(sed -n 's/^\([a-z0-9_]*\)[^#]*:.*/\1/p' crates.txt)
+    for crate in $crates; do
+        echo "$crate $(crates_below "$crate" | sed '$d' | sort | tr '\n' ' ')"
+    done >"$room/by_shell"
+    python3 - $crates >"$room/by_python" <<'BELOW'
+import sys
+
+sys.path.insert(0, "build")
+from listed import crates_below, read_rows
+
+for name in sys.argv[1:]:
+    print(name, *sorted(crates_below(read_rows("."), name)), "")
+BELOW
+    [ -s "$room/by_shell" ] && sed -i 's/ *$//' "$room/by_shell" "$room/by_python" && diff "$room/by_shell" "$room/by_python"
+}
+
+if ! command -v python3 >/dev/null 2>&1; then
+    fail "build/build.py" "there is no python3"
+else
+    if (compare_below) >"$room/out" 2>&1; then
+        pass "the crates below each of $(wc -l <"$room/by_shell")"
+    else
+        fail "the crates below each" "$(head -n 4 "$room/out" | tr '\n' ' ')"
+    fi
+    catches_in_tree "a closure without a crate's last word" "^> history_check history_core" build/build.sh 's/i <= count; i++/i < count; i++/' \
+        compare_below
+    lay_out_crates
+    builds "a program and its library are proved and built" 0 "high low " 7
+    builds "what is built isn't built again" 0 "" 7
+    touch "$tree_of_two/crates/low/src/lib.rt"
+    builds "nor if a file has a new time alone" 0 "" 7
+    builds_again once
+    change low/src/lib.rt 's/^    7$/    8/'
+    builds "what isn't proved isn't built, nor what stands on it" 1 "low " 7
+    if grep -q '^fn low::seven: no proof' "$tree_of_two/crates/low/out/build.log"; then
+        pass "its log says which function isn't proved"
+    else
+        fail "its log says which function isn't proved" "$(tail -n 3 "$tree_of_two/crates/low/out/build.log" | tr '\n' ' ')"
+    fi
+    builds "a crate that isn't in crates.txt" 2 "" 7 higher
+    change low/src/lib.rt 's/^    8$/    7/'
+    change_during_build
+    builds "what was changed during a build is built again" 0 "high low " 7
+    printf '#!/bin/sh\nexit 3\n' >"$tree_of_two/crates/high/out/high"
+    builds "a program in whose place another one stands is built again" 0 "high " 7
+    if build_at_once; then
+        pass "of two builds at once one waits"
+    else
+        fail "of two builds at once one waits" "$(tail -n 4 "$room/first" "$room/second" | tr '\n' ' ')"
+    fi
+    # (a build that knows a crate by its row alone)
+    sed -i 's/in self.files(\*SOURCES):/in ():/' "$tree_of_two/build/build.py"
+    python3 "$tree_of_two/build/build.py" high >"$room/out" 2>&1
+    catches "a build that doesn't see a change" "begun: , the program" builds_again twice
+fi

@@ -1,0 +1,158 @@
+"""How many checks each script of `./test` makes, compared with what docs/dev/TESTING.md says.
+
+    checks.py [--only] COUNTED     compares them, with --only those of the scripts that ran; of the scripts themselves it sees that each is
+                                   run, and that no function of the shell has a second definition in another one
+    checks.py --write LOG          writes into the table the numbers that the text of a run of `./test` tells
+
+COUNTED has lines `SCRIPT NUMBER`. The gate's number is that of the crates but the library's, which its build proves, and that of
+tests/gate/wrong_bodies.py that of the wrong bodies, as tests/docs/numbers.py counts them. The table's numbers stand for a machine with
+the tools that are named above it. On one that has others the scripts that use these aren't compared; a script without any check fails
+everywhere. --top FOLDER takes another tree.
+"""
+
+import argparse
+import os
+import re
+import shutil
+import subprocess
+import sys
+from pathlib import Path
+
+MARKS = "<!-- counted by tests/gate/checks.py -->\n", "<!-- to here -->\n"
+# What scripts do without where it isn't there.
+TOOLS = {
+    "tests/programs/soak.sh": ("gcc",),
+    "tests/library/c.sh": ("gcc", "g++", "clang", "clang++", "cmake", "valgrind", "cargo"),
+    "tests/library/c_controls.sh": ("gcc", "cargo"),
+    "tests/programs/recorder.sh": ("gcc", "g++", "clang", "clang++", "rustc", "cargo"),
+    "tests/library/package.sh": ("musl-gcc", "cmake", "cargo", "lintian", "unshare"),
+}
+# The scripts that have no checks, and those that are run by hand alone.
+HELPERS = {"tests/gate/outcomes.sh", "build/spent.sh", "build/build.sh", "build/library.sh", "tests/programs/refused.sh"}
+# Those that another script reads.
+PARTS = {"tests/library/rust.sh"}
+BY_HAND = {"tests/library/roots.sh"}
+TOLD = re.compile(r"(?m)^test: (\S+(?: ci)?): (\d+) checks$")
+ROW = re.compile(r"(?m)^\| (\d+) \| `([^`]+)` \|$")
+SUMS = re.compile(r"(?m)^(\d+) crates, (\d+) wrong bodies ")
+HAD = re.compile(r"(?m)^Counted with (.*?), without (.*?):$")
+FUNCTION = re.compile(r"(?m)^(\w+)\(\) *\{")
+SOURCED = re.compile(r"(?m)^\s*\. \"?(?:\$top/)?((?:tests|build)/[\w/]+\.sh)")
+RUN = re.compile(r"(?m)^\s*run(?:_apart)? (\S+\.sh)(?!\S)")
+
+
+def split(top):
+    """The page before, between and after the marks."""
+    before, first, rest = (top / "docs/dev/TESTING.md").read_text(encoding="utf-8").partition(MARKS[0])
+    table, second, after = rest.partition(MARKS[1])
+    if not first or not second:
+        sys.exit("docs/dev/TESTING.md has lost its marks")
+    return before, table, after
+
+
+def stated(top):
+    """By its script each number that the page states, and the tools that were there and that weren't."""
+    before, table, after = split(top)
+    sums, had = SUMS.search(before + after), HAD.search(table)
+    if not sums or not had:
+        sys.exit("docs/dev/TESTING.md doesn't state how many crates and wrong bodies there are, or with which tools was counted")
+    numbers = {name: int(count) for count, name in ROW.findall(table)}
+    return {"rt ci": int(sums[1]) - 1, "c_exports": 1, "tests/gate/wrong_bodies.py": int(sums[2]), **numbers}, {*had[1].split(", ")}, {*had[2].split(", ")}
+
+
+def is_here(tool):
+    """Whether there is such a program, and of `unshare` whether it may make a namespace of mounts."""
+    if not shutil.which(tool):
+        return False
+    as_root = [] if os.getuid() == 0 else ["--map-root-user"]
+    return tool != "unshare" or subprocess.run(["unshare", "--mount", *as_root, "true"], stderr=subprocess.DEVNULL, check=False).returncode == 0
+
+
+def tools_here():
+    every = sorted({it for tools in TOOLS.values() for it in tools})
+    here = [it for it in every if is_here(it)]
+    return here, [it for it in every if it not in here]
+
+
+def wrong_numbers(top, counted, only):
+    """What is wrong with the numbers of a run."""
+    numbers, had, lacked = stated(top)
+    here, _ = tools_here()
+    for name in counted if only else {**numbers, **counted}:
+        tools = TOOLS.get(name, ())
+        is_alike = all((it in had) == (it in here) and it in had | lacked for it in tools)
+        if name not in counted:
+            yield f"{name} wasn't run"
+        elif counted[name] == 0:
+            yield f"{name} made no check"
+        elif name not in numbers:
+            yield f"{name} isn't in the table of docs/dev/TESTING.md"
+        elif is_alike and counted[name] != numbers[name]:
+            yield f"{name} made {counted[name]} checks, and docs/dev/TESTING.md says {numbers[name]}"
+
+
+def run_by_test(top):
+    """The scripts that `./test` runs in its shell or by themselves."""
+    text = (top / "test").read_text(encoding="utf-8")
+    calls = text.split("\nrun_all() {", 1)[1].split("\n}\n", 1)[0]
+    return RUN.findall(calls)
+
+
+def unrun(top):
+    """The scripts of tests/ that nothing runs."""
+    run = run_by_test(top)
+    for path in sorted((top / "tests").rglob("*.sh")):
+        script = str(path.relative_to(top))
+        if script not in HELPERS | BY_HAND | PARTS and script not in run:
+            yield f"./test doesn't run {script}"
+
+
+def defined_twice(top):
+    """The shell's functions that two files define which `./test` reads in one shell."""
+    waiting, read, places = ["test", *HELPERS], set(), {}
+    waiting += [it for it in run_by_test(top) if f"run_apart {it}" not in (top / "test").read_text(encoding="utf-8")]
+    while waiting:
+        path = waiting.pop()
+        if path not in read:
+            read.add(path)
+            text = (top / path).read_text(encoding="utf-8")
+            waiting += SOURCED.findall(text)
+            for name in FUNCTION.findall(text):
+                places.setdefault(name, []).append(path)
+    if len(read) < 15:
+        yield f"only {len(read)} scripts were read"
+    for name, paths in sorted(places.items()):
+        if len(paths) > 1:
+            yield f"{name}() is defined in {' and '.join(sorted(paths))}"
+
+
+def write(top, counted):
+    before, table, after = split(top)
+    here, lacked = tools_here()
+    numbers = {name: int(count) for count, name in ROW.findall(table)} | counted
+    names = [it for it in run_by_test(top) if it in numbers]
+    rows = [f"| {numbers[it]} | `{it}` |" for it in names]
+    told = f"Counted with {', '.join(here) or 'none'}, without {', '.join(lacked) or 'none'}:"
+    lines = [told, "", "| Checks | Script |", "|---|---|", *rows, ""]
+    (top / "docs/dev/TESTING.md").write_text(before + MARKS[0] + "\n".join(lines) + MARKS[1] + after, encoding="utf-8")
+
+
+def main():
+    parser = argparse.ArgumentParser()
+    parser.add_argument("--top", type=Path, default=Path(__file__).resolve().parents[2])
+    parser.add_argument("--only", action="store_true")
+    parser.add_argument("--write", action="store_true")
+    parser.add_argument("counted", type=Path)
+    asked = parser.parse_args()
+    text = asked.counted.read_text(encoding="utf-8", errors="replace")
+    if asked.write:
+        write(asked.top, {name: int(count) for name, count in TOLD.findall(text)})
+        return 0
+    counted = {name: int(count) for name, _, count in (line.rpartition(" ") for line in text.splitlines())}
+    faults = [*wrong_numbers(asked.top, counted, asked.only), *unrun(asked.top), *defined_twice(asked.top)]
+    print("\n".join(faults) or f"{sum(counted.values())} checks of {len(counted)} scripts, as docs/dev/TESTING.md has them")
+    return 1 if faults or not counted else 0
+
+
+if __name__ == "__main__":
+    sys.exit(main())

@@ -1,0 +1,37 @@
+# Each document of examples/ (NAME.json, or NAME.jsonl of a log in lines), tests/programs/schedules/ and tests/programs/races/ against the text that it
+# prints, NAME.txt (of a refused one the line on standard error), and the status that is wanted, NAME.status (none: 0). The smaller programs
+# print the same.
+
+for document in examples/*.json examples/*.jsonl tests/programs/schedules/*.json tests/programs/races/*.json; do
+    command=$(command_for "$document")
+    sees "$document" fsr "$document" "${document%.json*}.txt" "$command"
+    case $command in
+    check) sees "$document, by fsr_check" fsr_check "$document" "${document%.json*}.txt" ;;
+    order)
+        program=$(log_program_for "$document")
+        sees "$document, by $program" "$program" "$document" "${document%.json*}.txt"
+        ;;
+    play)
+        sees "$document, by fsr_play" fsr_play "$document" "${document%.json*}.txt"
+        ! is_cell "$document" || sees "$document, by fsr_cell" fsr_cell "$document" "${document%.json*}.txt"
+        ;;
+    esac
+done
+
+# The smaller programs refuse documents that aren't theirs by the kind.
+echo "fsr: document: kind" >"$room/kind.txt"
+for program in fsr_log:examples/lines.jsonl fsr_lines:examples/crossed.json fsr_lines:examples/lawful.json fsr_cell:examples/matrix.json; do
+    cp "${program#*:}" "$room/kind.json" && echo 3 >"$room/kind.status"
+    sees "${program#*:}, refused by ${program%:*}" "${program%:*}" "$room/kind.json" "$room/kind.txt"
+done
+
+# The controls: the first document beside another's text, with a status that it hasn't, and with more on the other stream.
+catches "another document's text" "something else than examples/found_order.txt" \
+    sees a fsr examples/lawful.json examples/found_order.txt check
+cp examples/lawful.json "$room/other.json" && echo 1 >"$room/other.status"
+catches "another status" "status 0 and not 1" sees a fsr "$room/other.json" examples/lawful.txt check
+make_stub fsr <<'STUB'
+cat >/dev/null; cat examples/lawful.txt; echo more >&2
+STUB
+catches "a line more on standard error" "it printed more" over_stubs sees a fsr examples/lawful.json examples/lawful.txt check
+catches "a program that isn't there" "wasn't built" over_stubs sees a picture examples/lawful.json examples/lawful.txt

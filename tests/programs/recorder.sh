@@ -1,0 +1,255 @@
+#!/bin/sh
+# The recorder for C, C++ and Rust, and what makes JSON Lines of other programs' histories. Registers are recorded and the logs judged:
+# right ones have to be lawful, wrong ones have to be refused. The judge is `fsr order`, where it is built and reads lines, and always the
+# plain one of tests/reference. With the PREFIX of an installed library its registers and boards are recorded too. The last line is
+# the sums. usage: tests/programs/recorder.sh [PREFIX [OPERATIONS]]
+cd "$(dirname -- "$(readlink -f -- "$0")")/../.." || exit 1
+prefix=$1 operations=${2:-9000}
+room=$(mktemp -d) || exit 1
+trap 'rm -rf "$room"' EXIT
+trap 'exit 1' HUP INT TERM
+. tests/gate/outcomes.sh
+passed=0 failed=0 judged=0
+strict='-Wall -Wextra -Wpedantic -Wconversion -Wshadow -Werror -pthread -I c'
+
+# The built program that reads lines, as words of a command.
+built=
+for program in crates/fsr_lines/out/fsr_lines 'crates/fsr/out/fsr order'; do
+    if [ -x "${program%% *}" ] && printf '{"kind":"lines","opening":0}\n' | $program >"$room/tried" 2>/dev/null \
+        && grep -qx lawful "$room/tried"; then
+        built=$program
+    fi
+done
+
+# Judges a log: the first line says what is wanted, by each judge, and its status fits.
+judges() {
+    title=$1 wanted=$2 wanted_status=$3
+    for judge in 'python3 tests/programs/reference/lines.py' $built_word; do
+        [ "$judge" != built ] || judge=$built
+        $judge <"$room/log" >"$room/said" 2>"$room/err"
+        status=$?
+        if [ "$status" != "$wanted_status" ] || ! cat "$room/said" "$room/err" | head -n 1 | grep -qE "$wanted"; then
+            fail "$title" "status $status: $(cat "$room/said" "$room/err" | head -c 300 | tr '\n' ' ') ($judge)"
+            return
+        fi
+    done
+    judged=$((judged + 1))
+    pass "$title"
+}
+built_word=${built:+built}
+
+# Records a register by a program with these words, and judges the log.
+records() {
+    name=$1 wants=$2
+    shift 2
+    if ! timeout 120 "$@" >"$room/log" 2>"$room/err"; then
+        fail "$name" "it wasn't recorded: $(head -n 1 "$room/err")"
+    elif [ "$wants" = lawful ]; then
+        judges "$name is lawful" '^lawful$' 0
+    else
+        judges "$name is refused" '^unlawful (unwritten|early|stale|crossed) [0-9]' 1
+    fi
+}
+
+# How many logs of a program are lawful until one isn't, of at most so many.
+#   count_lawful MOST PROGRAM WORDS..
+count_lawful() {
+    most=$1 lawful=0
+    shift
+    while [ "$lawful" -lt "$most" ]; do
+        timeout 120 "$@" >"$room/log" 2>"$room/err" || { echo "it wasn't recorded" && return; }
+        python3 tests/programs/reference/lines.py <"$room/log" >"$room/said" 2>"$room/err"
+        case $? in
+        0) lawful=$((lawful + 1)) ;;
+        1) break ;;
+        *) lawful="no log: $(head -n 1 "$room/err")" && break ;;
+        esac
+    done
+    echo "$lawful"
+}
+
+# A register that only the recorder's fence orders. Without the fence 0.6 of its logs were lawful, with other work on four processors: of
+# twelve none is unlawful with a chance of 0.002, of a hundred never.
+#   needs_fence NAME FENCED WORDS UNFENCED WORDS
+logs=100
+needs_fence() {
+    name=$1 fenced=$2 fenced_words=$3 unfenced=$4 unfenced_words=$5
+    count=$(count_lawful 12 "$fenced" $fenced_words)
+    if [ "$count" != 12 ]; then
+        fail "$name" "with the fence: $count, and then $(head -n 1 "$room/said")"
+        return
+    fi
+    count=$(count_lawful "$logs" "$unfenced" $unfenced_words)
+    case $count in
+    "$logs") fail "$name" "without the fence $logs logs are lawful" ;;
+    *[!0-9]*) fail "$name" "without the fence: $count" ;;
+    *) pass "$name: lawful with the fence, unlawful without" ;;
+    esac
+}
+
+# Compiles and runs tests of the recorder; the name begins with the source.
+passes() {
+    name=$1 source=${1%%[ ,]*}
+    shift
+    if ! "$@" -O2 $strict "$source" -o "$room/program" >"$room/said" 2>&1; then
+        fail "$name" "it wasn't built: $(head -n 3 "$room/said" | tr '\n' ' ')"
+    elif "$room/program" >"$room/said" 2>&1 && [ "$(cat "$room/said")" = passed ]; then
+        pass "$name"
+    else
+        fail "$name" "$(head -n 3 "$room/said" | tr '\n' ' ')"
+    fi
+}
+
+test_in_c() {
+    passes "c/tests/recorder.c ($c)" "$c" -std=c11
+    passes "c/tests/recorder.c, without the fence ($c)" "$c" -std=c11 -DNIDZARU_LOG_FENCE=0
+    passes "c/tests/recorder.c, by clock_gettime ($c)" "$c" -std=c11 -D_POSIX_C_SOURCE=199309L -DNIDZARU_LOG_TSC=0
+    for words in '' -DNIDZARU_LOG_FENCE=0 -DNIDZARU_LOG_TSC=0; do
+        passes "c/tests/stamped.c${words:+, $words} ($c)" "$c" -std=c11 -D_POSIX_C_SOURCE=200809L $words
+    done
+    passes "c/tests/recorder.c in C++17 ($cpp)" "$cpp" -x c++ -std=c++17 -Wold-style-cast
+    passes "c/tests/recorder.c in C++17, by clock_gettime ($cpp)" "$cpp" -x c++ -std=c++17 -Wold-style-cast -DNIDZARU_LOG_TSC=0
+    if ! "$c" -std=c11 -D_GNU_SOURCE -O2 $strict c/tests/recorded.c $library -o "$room/recorded" >"$room/said" 2>&1; then
+        fail "c/tests/recorded.c ($c)" "it wasn't built: $(head -n 3 "$room/said" | tr '\n' ' ')"
+        return
+    fi
+    if "$c" -std=c11 -D_POSIX_C_SOURCE=200809L -O2 $strict examples/c/recorder.c -o "$room/example" >"$room/said" 2>&1; then
+        records "examples/c/recorder.c, mended ($c)" lawful "$room/example" "$operations" mended
+    else
+        fail "examples/c/recorder.c ($c)" "it wasn't built: $(head -n 3 "$room/said" | tr '\n' ' ')"
+    fi
+    for register in seqlock atomic ${library:+cell triple board triple_board}; do
+        records "$register ($c)" lawful "$room/recorded" "$register" "$operations"
+    done
+    for register in torn early last; do
+        records "$register ($c)" refused "$room/recorded" "$register" "$operations"
+    done
+    if "$c" -std=c11 -D_GNU_SOURCE -O2 -DNIDZARU_LOG_FENCE=0 $strict c/tests/recorded.c $library -o "$room/unfenced" >"$room/said" 2>&1; then
+        needs_fence "behind ($c)" "$room/recorded" "behind $operations" "$room/unfenced" "behind $operations"
+    else
+        fail "c/tests/recorded.c, without the fence ($c)" "it wasn't built: $(head -n 3 "$room/said" | tr '\n' ' ')"
+    fi
+}
+
+judges_by_stub() {
+    built=$room/stub built_word=built
+    judges "$@"
+}
+
+# What has to be seen in a log that was recorded of a right register.
+plants() {
+    python3 tests/programs/reference/plant_lines.py "$1" <"$room/right" >"$room/log"
+    judges "a planted fault: $1" "$2" "$3"
+}
+
+test_planted() {
+    "$room/recorded" seqlock "$operations" >"$room/log" 2>/dev/null
+    catches "a right log that is judged unlawful" "status 0" judges a '^unlawful' 1
+    "$room/recorded" torn "$operations" >"$room/log" 2>/dev/null
+    catches "a wrong log that is judged lawful" "status 1" judges a '^lawful$' 0
+    "$room/recorded" seqlock "$operations" >"$room/right" 2>/dev/null
+    cp "$room/right" "$room/log"
+    for said in 'lawful:1:status 1' 'lawful or so:0:status 0' ':0:status 0'; do
+        printf '#!/bin/sh\necho "%s"\nexit %s\n' "${said%%:*}" "$(echo "$said" | cut -d : -f 2)" >"$room/stub" && chmod +x "$room/stub"
+        catches "a built judge that says '${said%:*}'" "${said##*:}" judges_by_stub a '^lawful$' 0
+    done
+    plants old '^unlawful (stale|crossed) [0-9]' 1
+    plants lost '^unlawful unwritten [0-9]' 1
+    plants misspelt 'line [0-9]+: missing end$' 3
+    plants short 'line [0-9]+: law of ops$' 3
+}
+
+# The module for Rust alone, as a crate of its own; the whole crate is tested where the library is.
+test_in_rust() {
+    mkdir -p "$room/alone" && cp rust/nidzaru/src/log.rs "$room/alone/" && echo 'pub mod log;' >"$room/alone/lib.rs"
+    if ! rustc --edition 2021 -D warnings -O --test --crate-name nidzaru "$room/alone/lib.rs" -o "$room/tests" >"$room/said" 2>&1; then
+        fail "rust/nidzaru/src/log.rs" "it wasn't built: $(head -n 3 "$room/said" | tr '\n' ' ')"
+        return
+    elif "$room/tests" >"$room/said" 2>&1 && grep -q '^test result: ok. [1-9]' "$room/said"; then
+        pass "rust/nidzaru/src/log.rs: $(awk '/^test result: ok/ { print $4 }' "$room/said") tests"
+    else
+        fail "rust/nidzaru/src/log.rs" "$(grep -m 3 'panicked\|FAILED' "$room/said" | tr '\n' ' ')"
+    fi
+    if ! rustc --edition 2021 -D warnings -O --crate-type rlib --crate-name nidzaru "$room/alone/lib.rs" --out-dir "$room/alone" \
+        >"$room/said" 2>&1 || ! rustc --edition 2021 -D warnings -O -L "$room/alone" --extern "nidzaru=$room/alone/libnidzaru.rlib" \
+            rust/nidzaru/examples/record_seqlock.rs -o "$room/seqlock" >"$room/said" 2>&1; then
+        fail "record_seqlock.rs" "it wasn't built: $(head -n 3 "$room/said" | tr '\n' ' ')"
+        return
+    fi
+    if rustc --edition 2021 -D warnings -O -L "$room/alone" --extern "nidzaru=$room/alone/libnidzaru.rlib" rust/behind.rs \
+        -o "$room/behind" >"$room/said" 2>&1; then
+        needs_fence "rust/behind.rs" "$room/behind" "$operations" "$room/behind" "$operations unfenced"
+    else
+        fail "rust/behind.rs" "it wasn't built: $(head -n 3 "$room/said" | tr '\n' ' ')"
+    fi
+    records "record_seqlock.rs" lawful "$room/seqlock" "$operations"
+    records "record_seqlock.rs, torn" refused "$room/seqlock" "$operations" torn
+}
+
+test_crate() {
+    cp -r rust/nidzaru "$room/crate"
+    if ! PKG_CONFIG_PATH=$prefix/lib/pkgconfig CARGO_TARGET_DIR=$room/target cargo build --release --offline --quiet \
+        --example record_board --manifest-path "$room/crate/Cargo.toml" >"$room/said" 2>&1; then
+        fail "record_board.rs" "it wasn't built: $(grep -m 3 error "$room/said" | tr '\n' ' ')"
+        return
+    fi
+    records "a board in Rust" lawful "$room/target/release/examples/record_board" "$operations"
+    records "a register in Rust" lawful "$room/target/release/examples/record_board" "$operations" register
+}
+
+# Takes over the sums of a script that ends with them.
+take_over() {
+    sed '$d' "$room/told"
+    sums=$(tail -n 1 "$room/told")
+    case $sums in
+    *[0-9]' passed, '*[0-9]' failed')
+        passed=$((passed + ${sums%% *}))
+        sums=${sums##* passed, }
+        failed=$((failed + ${sums%% *}))
+        ;;
+    *) fail "$1" "it didn't say how it ended: $sums" ;;
+    esac
+}
+
+# A script whose last line says what it compared.
+counts() {
+    name=$1
+    shift
+    if "$@" >"$room/said" 2>&1; then
+        pass "$name: $(tail -n 1 "$room/said")"
+    else
+        fail "$name" "$(head -c 400 "$room/said" | tr '\n' ' ')"
+    fi
+}
+
+if ! command -v python3 >/dev/null 2>&1; then
+    fail "the recorder" "there is no python3"
+else
+    counts "the plain judge of lines against all orders" python3 tests/programs/reference/compare_lines.py --logs 2500
+    small=--small
+    case $built in */fsr_lines) small= ;; esac
+    for word in ${built:+'' --order $small}; do
+        counts "fsr order${word:+ $word} against all orders" python3 tests/programs/reference/compare_small_lines.py --logs 1000 -- $built $word
+    done
+    counts "converters" python3 tests/programs/converters.py
+    python3 c/tests/planted_log.py >"$room/told" 2>&1
+    take_over c/tests/planted_log.py
+    library=
+    [ -z "$prefix" ] || library="-DLIBRARY $(PKG_CONFIG_PATH=$prefix/lib/pkgconfig pkg-config --libs nidzaru)"
+    for pair in gcc,g++ clang,clang++; do
+        c=${pair%,*} cpp=${pair#*,}
+        ! command -v "$c" >/dev/null 2>&1 || ! command -v "$cpp" >/dev/null 2>&1 || test_in_c
+    done
+    [ ! -x "$room/recorded" ] || test_planted
+    [ ! -x "$room/unfenced" ] || catches "a fence that orders nothing" "with the fence: " \
+        needs_fence a "$room/recorded" "torn $operations" "$room/unfenced" "behind $operations"
+    logs=3
+    [ ! -x "$room/recorded" ] || catches "a register that needs no fence" "3 logs are lawful" \
+        needs_fence a "$room/recorded" "seqlock 30" "$room/recorded" "seqlock 30"
+    logs=100
+    ! command -v rustc >/dev/null 2>&1 || test_in_rust
+    [ -z "$prefix" ] || ! command -v cargo >/dev/null 2>&1 || test_crate
+    [ "$judged" -gt 0 ] || fail "the recorder" "no log was judged"
+fi
+echo "$passed passed, $failed failed"
+[ "$failed" = 0 ] && [ "$passed" -gt 0 ]

@@ -1,0 +1,317 @@
+# Words that are no command: those that are not UTF-8 have a line of their own, and a standard error that takes nothing leaves
+# the status at 2. What clap tells of a command. Files that are named, and what `order` is told to print. The runs of `picture` outside its
+# text, which are told as those of `fsr`.
+
+# Runs `fsr` with these words. Standard error goes to the file named first.
+refuses_words() {
+    to=$1 title=$2
+    shift 2
+    if ! has_program fsr; then
+        fail "$title" "fsr wasn't built"
+        return 1
+    fi
+    "$built/fsr/out/fsr" "$@" <examples/lawful.json >"$room/out" 2>"$to"
+    status=$?
+    if [ "$status" != 2 ] || [ -s "$room/out" ]; then
+        fail "$title" "it ended with status $status and not 2, or something stands on standard output"
+        return 1
+    fi
+}
+
+title="words that are not UTF-8"
+if refuses_words "$room/err" "$title" "$(printf 'check\377')"; then
+    if [ "$(cat "$room/err")" = "fsr: words are not UTF-8" ]; then
+        pass "$title"
+    else
+        fail "$title" "$(head -c 200 "$room/err")"
+    fi
+fi
+if [ -c /dev/full ]; then
+    title="words that are not UTF-8, with a full standard error"
+    refuses_words /dev/full "$title" "$(printf '\377')" && pass "$title"
+    title="words that are no command, with a full standard error"
+    refuses_words /dev/full "$title" checks && pass "$title"
+fi
+
+# Sees that `fsr` refuses these words and reads nothing, and how what it tells begins. Its input is a folder, of which each read fails.
+#   refuses_unread BEGINS WORDS..
+refuses_unread() {
+    begins=$1
+    shift
+    title="fsr${1+ $*}, with nothing read"
+    if ! has_program fsr; then
+        fail "$title" "fsr wasn't built"
+        return
+    fi
+    "$built/fsr/out/fsr" "$@" <examples >"$room/out" 2>"$room/err"
+    status=$?
+    case $status:$(cat "$room/out"):$(cat "$room/err") in
+    "2::$begins"*) pass "$title" ;;
+    *) fail "$title" "it ended with status $status: $(head -c 200 "$room/out" "$room/err")" ;;
+    esac
+}
+
+refuses_unread error:
+refuses_unread error: ''
+refuses_unread error: checks
+refuses_unread error: --version
+refuses_unread error: check -x
+refuses_unread error: check examples/lawful.json examples/lawful.json
+refuses_unread error: check --order
+refuses_unread error: order --ordr
+refuses_unread error: order --order --order
+refuses_unread 'Reads a document' help
+refuses_unread 'Reads a document' -h
+refuses_unread 'Reads a document' --help
+refuses_unread 'Checks that' check --help
+
+# Sees that `fsr` tells this first line of a command, and how it is used.
+#   helps COMMAND LINE WORDS
+helps() {
+    title="fsr $1 --help"
+    if ! has_program fsr; then
+        fail "$title" "fsr wasn't built"
+        return
+    fi
+    "$built/fsr/out/fsr" "$1" --help </dev/null >"$room/out" 2>"$room/err"
+    status=$?
+    if [ "$status" != 2 ] || [ -s "$room/out" ]; then
+        fail "$title" "it ended with status $status and not 2, or something stands on standard output"
+    elif [ "$(head -n 1 "$room/err")" != "$2" ] || ! grep -qxF "Usage: fsr $1 $3" "$room/err"; then
+        fail "$title" "$(head -c 200 "$room/err")"
+    else
+        pass "$title"
+    fi
+}
+
+helps check "Checks that an order of a history is atomic" "[FILE]"
+helps order "Finds a lawful order of a log, or tells why there is none" "[OPTIONS] [FILE]"
+helps play "Plays a schedule and reports its history" "[FILE]"
+helps race "Runs tasks over a board and checks their logs" "[FILE]"
+
+title="the formats in fsr --help"
+if has_program fsr && "$built/fsr/out/fsr" --help 2>&1 </dev/null | grep -q '^  order .*`lines`.*`log`'; then
+    pass "$title"
+else
+    fail "$title" "it doesn't name what order reads"
+fi
+
+# Sees that `fsr` ends with this status and has what stands in $room/wanted on this stream and nothing on the other. Its input is a folder,
+# of which each read fails.
+#   ends_fsr STATUS STREAM WORDS..
+ends_fsr() {
+    wanted_status=$1 stream=$2 other=err
+    shift 2
+    [ "$stream" = out ] || other=out
+    title="fsr $(echo "$*" | sed "s|$room/||g")"
+    if ! has_program fsr; then
+        fail "$title" "fsr wasn't built"
+        return
+    fi
+    "$built/fsr/out/fsr" "$@" <examples >"$room/out" 2>"$room/err"
+    status=$?
+    if [ "$status" = "$wanted_status" ] && cmp -s "$room/$stream" "$room/wanted" && [ ! -s "$room/$other" ]; then
+        pass "$title"
+    else
+        fail "$title" "it ended with status $status and not $wanted_status: $(head -c 300 "$room/out" "$room/err")"
+    fi
+}
+
+# Of a file that is named the answer is what it is of the same bytes on standard input.
+#   reads_file COMMAND FILE
+reads_file() {
+    cp "${2%.json*}.txt" "$room/wanted"
+    wanted_status=0
+    [ ! -f "${2%.json*}.status" ] || wanted_status=$(cat "${2%.json*}.status")
+    if [ "$wanted_status" -ge 2 ]; then ends_fsr "$wanted_status" err "$1" "$2"; else ends_fsr "$wanted_status" out "$1" "$2"; fi
+}
+
+reads_file check examples/lawful.json
+reads_file check examples/unlawful.json
+reads_file order examples/crossed.json
+reads_file order examples/lines.jsonl
+reads_file order examples/lines_early.jsonl
+reads_file order examples/lines_touching.jsonl
+reads_file play examples/cell.json
+reads_file race examples/race.json
+echo "fsr: can't open $room/nowhere" >"$room/wanted"
+ends_fsr 5 err order "$room/nowhere"
+ends_fsr 5 err check "$room/nowhere"
+echo "fsr: read failed" >"$room/wanted"
+ends_fsr 5 err order examples
+
+# Line 3 ended before line 2 began, so its record stands first.
+cat >"$room/turned.jsonl" <<'LOG'
+{"kind":"lines","opening":0}
+{"who":0,"kind":"write","begin":10,"end":20,"record":2}
+{"who":1,"kind":"write","begin":0,"end":5,"record":1}
+{"who":2,"kind":"read","begin":6,"end":7,"record":1}
+LOG
+printf 'lawful\nwrites: 3 2\n3 operations, 0 unfinished, 3 records, 1 of them read; no last line `done`\n' >"$room/wanted"
+ends_fsr 0 out order --order "$room/turned.jsonl"
+: >"$room/wanted"
+ends_fsr 0 out order --small "$room/turned.jsonl"
+ends_fsr 0 out order --order --small "$room/turned.jsonl"
+# The read of the opening is behind the write of line 2. That of line 4 has no part in it.
+cat >"$room/stale.jsonl" <<'LOG'
+{"kind":"lines","opening":0}
+{"who":40,"kind":"write","begin":0,"end":4,"record":7}
+{"who":7,"kind":"read","begin":6,"end":8,"record":[0]}
+{"who":7,"kind":"write","begin":20,"end":21,"record":9}
+LOG
+cat >"$room/wanted" <<'DOCUMENT'
+{"kind":"log","opening":[0,0,0],"limit":1,"ops":[
+ {"who":0,"kind":"write","begin":0,"end":4,"record":[1,1,1]},
+ {"who":1,"kind":"read","begin":6,"end":8,"record":[0,0,0]}]}
+DOCUMENT
+ends_fsr 1 out order --small "$room/stale.jsonl"
+cp "$room/out" "$room/small.json"
+echo 'unlawful stale 0 1' >"$room/wanted"
+ends_fsr 1 out order "$room/small.json"
+title="a picture of a small log"
+if ! has_program picture; then
+    fail "$title" "picture wasn't built"
+else
+    "$built/picture/out/picture" <"$room/small.json" >"$room/out" 2>"$room/err"
+    status=$?
+    if [ "$status" = 1 ] && grep -q 'unlawful stale: operation 0' "$room/out"; then
+        pass "$title"
+    else
+        fail "$title" "it ended with status $status: $(head -c 200 "$room/err")"
+    fi
+fi
+# The write of line 4 begins when the refused one has ended, so that of line 2 alone can stand before it.
+cat >"$room/limit.jsonl" <<'LOG'
+{"kind":"lines","opening":0,"limit":3}
+{"who":0,"kind":"write","begin":0,"end":1,"record":1}
+{"who":1,"kind":"refused","begin":2,"end":3,"record":1}
+{"who":0,"kind":"write","begin":5,"end":6,"record":2}
+LOG
+cat >"$room/wanted" <<'REASON'
+unlawful limit 3
+line 2: {"who":0,"kind":"write","begin":0,"end":1,"record":1}
+line 3: {"who":1,"kind":"refused","begin":2,"end":3,"record":1}
+Of the writes at most 1 can stand before line 3 or a refused write in front of it, and the limit is 3.
+3 operations, 0 unfinished, 3 records, 0 of them read; no last line `done`
+REASON
+ends_fsr 1 out order "$room/limit.jsonl"
+
+# The end is there, and blank lines behind it. Of a log whose header was lost it is told.
+sed '1s/.*/{"kind":"lines","opening":0}/' "$room/turned.jsonl" >"$room/blank.jsonl"
+printf '{"kind":"done","ops":3}\n\n \n' >>"$room/blank.jsonl"
+printf 'lawful\n3 operations, 0 unfinished, 3 records, 1 of them read\n' >"$room/wanted"
+ends_fsr 0 out order "$room/blank.jsonl"
+sed 1d "$room/turned.jsonl" >"$room/headless.jsonl"
+echo 'fsr: line 1: no header of kind `lines`, and no document: not JSON' >"$room/wanted"
+ends_fsr 3 err order "$room/headless.jsonl"
+head -c 1048577 /dev/zero | tr '\0' ' ' >>"$room/headless.jsonl"
+echo 'fsr: line 1: no header of kind `lines`, and no document: longer than 1048576 bytes' >"$room/wanted"
+ends_fsr 3 err order "$room/headless.jsonl"
+
+# Sees how `picture` ends with these words: the status, and the line on standard error.
+#   ends_picture TITLE INPUT OUTPUT STATUS LINE WORDS..
+ends_picture() {
+    title=$1 input=$2 output=$3 wanted_status=$4 line=$5
+    shift 5
+    if ! has_program picture; then
+        fail "$title" "picture wasn't built"
+        return
+    fi
+    : >"$room/out"
+    "$built/picture/out/picture" "$@" <"$input" >"$output" 2>"$room/err"
+    status=$?
+    if [ "$status" = "$wanted_status" ] && [ "$(cat "$room/err")" = "$line" ] && [ ! -s "$room/out" ]; then
+        pass "$title"
+    else
+        fail "$title" "it ended with status $status and not $wanted_status: $(head -c 200 "$room/out" "$room/err")"
+    fi
+}
+
+no_words="picture: takes no words: ./picture < DOCUMENT > FILE.svg"
+ends_picture "picture with a word" examples/lawful.json "$room/out" 2 "$no_words" examples/lawful.json
+ends_picture "picture with --help" examples/lawful.json "$room/out" 2 "$no_words" --help
+ends_picture "picture with a word that isn't UTF-8" examples/lawful.json "$room/out" 2 "$no_words" "$(printf '\377')"
+ends_picture "picture < a folder" examples "$room/out" 5 "picture: read failed"
+printf '{"kind":"check\377"}' >"$room/not_utf8"
+ends_picture "picture < a byte that isn't UTF-8" "$room/not_utf8" "$room/out" 3 "picture: document: not JSON"
+if [ -c /dev/full ]; then
+    ends_picture "picture into a full output" examples/lawful.json /dev/full 5 "picture: write failed"
+fi
+
+# Where a program can't be built the script ends with a status of its own, and says so on standard error alone.
+mkdir -p "$room/bare/docs/dev" "$room/bare/crates" && cp -r fsr picture soak crates.txt build "$room/bare/" \
+    && cp docs/dev/TESTING.md "$room/bare/docs/dev/"
+for program in fsr picture soak; do
+    title="./$program where it can't be built"
+    PATH=/usr/bin:/bin "$room/bare/$program" 1 >"$room/out" 2>"$room/err" </dev/null
+    status=$?
+    if [ "$status" = 70 ] && [ ! -s "$room/out" ] && grep -q "can't be built" "$room/err"; then
+        pass "$title"
+    else
+        fail "$title" "it ended with status $status: $(head -c 200 "$room/out" "$room/err")"
+    fi
+done
+
+title="./fsr --help where it isn't built"
+PATH=/usr/bin:/bin "$room/bare/fsr" --help >"$room/out" 2>"$room/err" </dev/null
+status=$?
+if [ "$status" = 2 ] && [ ! -s "$room/out" ] && head -n 1 "$room/err" | grep -qF './fsr check|order|play|race [FILE]'; then
+    pass "$title"
+else
+    fail "$title" "it ended with status $status: $(head -c 200 "$room/out" "$room/err")"
+fi
+
+# As long as the whole program isn't built, smaller ones answer: what one refuses by its kind the next one gets, whole, from a file or from
+# standard input.
+make_small() {
+    mkdir -p "$room/bare/crates/$1/out" && printf '#!/bin/sh\ncat >"$READ"\n%s\n' "$2" >"$room/bare/crates/$1/out/$1" && chmod +x "$room/bare/crates/$1/out/$1"
+}
+make_small fsr_check 'echo "fsr: document: not JSON" >&2; exit 3'
+make_small fsr_lines 'echo "lines $*"'
+make_small fsr_log 'echo "fsr: document: kind" >&2; exit 3'
+make_small fsr_cell 'echo "fsr: document: kind" >&2; exit 3'
+make_small fsr_play 'echo "play $*"; exit 1'
+echo '{"kind":"matrix","cell":"cell"}' >"$room/cell.json"
+
+# Sees what the smaller programs make of a document: the status, and what is told on either stream.
+#   answers_small STATUS TOLD DOCUMENT WORDS..
+answers_small() {
+    wanted_status=$1 wanted=$2 document=$3
+    shift 3
+    title="./fsr $1 by smaller programs: $wanted"
+    READ=$room/read PATH=/usr/bin:/bin "$room/bare/fsr" "$@" <"$document" >"$room/out" 2>"$room/err"
+    status=$?
+    if [ "$status" = "$wanted_status" ] && [ "$(cat "$room/out" "$room/err")" = "$wanted" ] && cmp -s "$room/read" "$document"; then
+        pass "$title"
+    else
+        fail "$title" "it ended with status $status: $(head -c 200 "$room/out" "$room/err")"
+    fi
+}
+
+answers_small 0 "lines --order" "$room/stale.jsonl" order --order "$room/stale.jsonl"
+answers_small 0 "lines " examples/lawful.json order
+answers_small 1 "play " "$room/cell.json" play
+answers_small 3 "fsr: document: not JSON" examples/lawful.json check
+
+title="./fsr order --small by the whole program alone"
+READ=$room/read PATH=/usr/bin:/bin "$room/bare/fsr" order --small "$room/stale.jsonl" >"$room/out" 2>"$room/err" </dev/null
+status=$?
+if [ "$status" = 70 ] && [ ! -s "$room/out" ] && grep -q "can't be built" "$room/err"; then
+    pass "$title"
+else
+    fail "$title" "it ended with status $status: $(head -c 200 "$room/out" "$room/err")"
+fi
+
+# The controls: words that are a command, another beginning, another first line, a status that isn't that of the program, and output
+# beside the line.
+catches "words that are a command" "status 0 and not 2" refuses_words "$room/err" a check
+catches "another beginning" "it ended with status 2" refuses_unread 'Writes a document' help
+printf 'lawful\nwrites: 2 3\n3 operations, 0 unfinished, 3 records, 1 of them read; no last line `done`\n' >"$room/wanted"
+catches "another order of the writes" "status 0 and not 0" ends_fsr 0 out order --order "$room/turned.jsonl"
+catches "another first line" "Checks that an order" helps check "Checks that no order of a history is atomic" "[FILE]"
+catches "a document that no program takes" "status 3" answers_small 0 "fsr: document: not JSON" examples/lawful.json check
+catches "a picture that is drawn" "status 0 and not 2" ends_picture a examples/lawful.json "$room/drawn" 2 "$no_words"
+make_stub picture <<'STUB'
+echo more; echo 'picture: read failed' >&2; exit 5
+STUB
+catches "output beside the line" "status 5 and not 5" over_stubs ends_picture a examples "$room/out" 5 "picture: read failed"
