@@ -1,24 +1,23 @@
 #!/bin/sh
 # Measures what a newcomer waits for: in a fresh clone of what is committed, with nothing built, the time until a command of `fsr` gives its
-# first answer. Prints minutes and processor minutes of each kind of document beside those that docs/dev/TESTING.md has. The machine should do
+# first answer. Prints minutes and processor minutes of each command beside those that docs/dev/TESTING.md has. The machine should do
 # nothing else meanwhile.
-#   bench/first_result.sh [KIND ..]      check, log, lines and cell where none is named
+#   bench/first_result.sh [COMMAND ..]      check, order and play where none is named
 top=$(cd "$(dirname "$0")/.." && pwd) || exit 1
 room=$(mktemp -d) || exit 1
 trap 'rm -rf "$room"' EXIT
 trap 'exit 1' HUP INT TERM
 . "$top/build/spent.sh"
-[ $# -gt 0 ] || set -- check log lines cell
+[ $# -gt 0 ] || set -- check order play
 echo "on $(nproc) processors, $(git -C "$top" log -1 --format=%h), $(rt version)"
 before=0
-for kind in "$@"; do
-    case $kind in
-    check) command=check document=lawful.json ;;
-    log) command=order document=crossed.json ;;
-    lines) command=order document=lines.jsonl ;;
-    cell) command=play document=stalled_reader.json ;;
+for command in "$@"; do
+    case $command in
+    check) document=lawful.json ;;
+    order) document=lines.jsonl ;;
+    play) document=stalled_reader.json ;;
     *)
-        echo "first_result: no kind $kind" >&2
+        echo "first_result: no command $command" >&2
         exit 2
         ;;
     esac
@@ -30,6 +29,6 @@ for kind in "$@"; do
     took=$(($(date +%s) - began))
     [ "$status" -le 1 ] && cmp -s "$room/answer" "$top/examples/${document%.json*}.txt" || exit 1
     count_spent "$room/times"
-    tell_cost "./fsr $command, kind $kind" "$took" "$(echo "$used $before" | awk '{ print $1 - $2 }')" "fsr_$kind"
+    tell_cost "./fsr $command" "$took" "$(echo "$used $before" | awk '{ print $1 - $2 }')" "fsr_$command"
     before=$used
 done

@@ -37,7 +37,7 @@ FIRST_JOB, NEXT_JOB = 2_000_000_000, 700_000_000
 # Processor seconds that code over these libraries of the kit takes beyond what its text says.
 BEYOND = {"clap": 75}
 # The programs that answer first. Rattle's own code generator makes them, in half of the time that LLVM takes.
-FIRST = ("fsr_check", "fsr_log", "fsr_lines", "fsr_cell", "fsr_play")
+FIRST = ("fsr_check", "fsr_order", "fsr_play")
 # Seconds after which a folder that another build works in is asked for again.
 PAUSE = 1
 

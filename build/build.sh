@@ -3,6 +3,9 @@
 
 . "$top/build/spent.sh"
 
+# (what is told of a build goes nowhere if standard error is closed)
+(: >&2) || exec 2>/dev/null
+
 # Prints a crate and the crates of the repository that it stands on, lowest first; nothing where crates.txt has no such crate. (As
 # `crates_below` of listed.py, without Python.)
 crates_below() {

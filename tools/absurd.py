@@ -6,11 +6,11 @@ takes 15 to 30 processor seconds, and there are dozens. `./test` tries the first
 A definition could be hollowed out where nobody looks: `7 < 0 →` before a part of it makes that part say nothing. The definitions are those
 of the reading sets of docs/HEADLINES.md that are propositions: records, of which each field's type is taken, and abbreviations, of which
 each equation is. A conjunct is what stands between two × behind the last arrow, also in a λ. What is data isn't one, nor is `Unit`. Of a
-proposition with constructors each premise of these is one. The edits are made in a copy of headline_uses and of what it stands on, which
+proposition with constructors each premise of these is one. The edits are made in a copy of theorem_uses and of what it stands on, which
 leaves out all functions but its laws, so that a check takes seconds. Each edit has a number of its own in its premise. All are tried at
 once, and those are refused whose premise an error names; the others are tried again. Where none is named, those are tried alone whose
 definition an error names, and else halves; alone any error refuses. An edit with which its own file isn't well typed says nothing and is
-told as such. An edit of a crate on which headline_uses doesn't stand isn't tried. The edits that get through are printed at the end. Status
+told as such. An edit of a crate on which theorem_uses doesn't stand isn't tried. The edits that get through are printed at the end. Status
 1 if there is one, 2 if nothing could be tried.
 
 With words PATH the definitions of these files of `specs/` are tried, or those that are named, whether or not a headline needs them. --planted
@@ -36,7 +36,7 @@ import headlines  # noqa: E402
 from listed import crates_below, read_rows  # noqa: E402
 
 LESS = "use Rattle.std.specs.Prelude.{◌<◌}"
-USES = "headline_uses"
+USES = "theorem_uses"
 PROVED = r"(?m)^only=(\d+) proved=\1$"
 # Where an item of src/ begins that has code, and the names of a use that are types or constants.
 CODE = re.compile(r"(?:pub(?:\([\w:]+\))? )?(?:const )?(?:unsafe )?(?:extern \"C\" )?fn |impl\b")
@@ -290,7 +290,7 @@ def used_types(found):
 
 
 def lemmas(crates):
-    """The files of lemmas of these crates that the proofs of headline_uses cite, and those that they cite."""
+    """The files of lemmas of these crates that the proofs of theorem_uses cite, and those that they cite."""
     found, waiting = set(), sorted((TOP / "crates" / USES / "proofs").rglob("*.antt"))
     while waiting:
         for crate, at in re.findall(r"(?m)^\s*(?:pub )?use Rattle\.(\w+)\.proofs\.([\w.]+)", waiting.pop().read_text(encoding="utf-8")):
@@ -304,7 +304,7 @@ def lemmas(crates):
 
 
 def make_thin(place, crates):
-    """A copy of headline_uses, and of what it stands on without functions: it needs their definitions, types and a few lemmas alone."""
+    """A copy of theorem_uses, and of what it stands on without functions: it needs their definitions, types and a few lemmas alone."""
     shutil.copytree(TOP / "crates" / USES, place / "crates" / USES, ignore=shutil.ignore_patterns("out", "must-fail"))
     for path in (place / "crates" / USES / "src").glob("*.rt"):
         # (callers call functions, and laws have no code)
@@ -327,7 +327,7 @@ def make_thin(place, crates):
 
 
 class Bench:
-    """Where edits are tried: a copy in which headline_uses is proved over the definitions that it stands on."""
+    """Where edits are tried: a copy in which theorem_uses is proved over the definitions that it stands on."""
 
     def __init__(self, place):
         rows = read_rows(TOP)

@@ -18,7 +18,7 @@ else
         pass "planted: a file that wants the opposite"
     fi
     python3 tests/gate/wrong_bodies.py --proved --edits tests/gate/right_bodies </dev/null >"$room/right" 2>&1
-    for name in fsr_refusals/a_field_by_another_name fsr_refusals/a_goal_by_another_name history_check/a_lemma_by_another_name \
+    for name in read_document/a_field_by_another_name read_document/a_goal_by_another_name history_check/a_lemma_by_another_name \
         history_check/a_comment_without_search stamps/spoils_another_function stamps/the_same_test_turned_round; do
         if grep -qx "must-fail $name: NOT REFUSED" "$room/right"; then
             pass "$name spoils nothing that it names, and isn't taken for refused"

@@ -15,6 +15,6 @@ if command -v python3 >/dev/null 2>&1; then
     catches_in_tree "crates without a heading" "crates.txt has no heading above history_core" crates.txt 1d python3 tests/gate/map.py
     catches_in_tree "another number of wrong bodies" "other numbers than there are" docs/dev/TESTING.md \
         's/^\([0-9]* crates, \)[0-9]* wrong bodies/\1400 wrong bodies/' python3 tests/docs/numbers.py
-    catches_in_tree "a name of two things" "IsVerdict is defined by" crates/stamps/specs/Stamps.antt \
+    catches_in_tree "a name of two things" "IsVerdict is defined by" crates/matrix_core/specs/Stamps.antt \
         's/^abbrev pub IsBelow /abbrev pub IsVerdict /' python3 tests/gate/names.py
 fi

@@ -123,11 +123,6 @@ sees() {
     fi
 }
 
-# The program that answers such documents of the command `order` alone.
-log_program_for() {
-    if head -n 1 "$1" | grep -q '"kind":"lines"'; then echo fsr_lines; else echo fsr_log; fi
-}
-
 # The command that takes a document: of examples/ by the table there. The races of tests/programs/races/ have one outcome, whoever runs first.
 command_for() {
     case $1 in
@@ -135,9 +130,4 @@ command_for() {
     tests/programs/races/*) echo race ;;
     *) echo play ;;
     esac
-}
-
-# Whether a document is of kind `cell`, which `fsr_cell` plays too.
-is_cell() {
-    grep -q '"kind": *"cell"' "$1"
 }

@@ -129,7 +129,7 @@ is_listed crates/family_triple/src/table.rt kinds
 # Elsewhere only what a rule and its kinds of step are made of is taken from `atomic_table`, and what a closed table leaves.
 tables='crates/cell_four_slot/src/table.rt crates/cell_triple/src/table.rt crates/family_table/src/table.rt'
 tables="$tables crates/family_four_slot/src/table.rt crates/family_triple/src/table.rt"
-tabled='cell_live cell_four_slot cell_triple family_table family_four_slot family_triple'
+tabled='cell_contract cell_four_slot cell_triple family_table family_four_slot family_triple'
 
 # Prints what touches a table in the tree of this folder, beside the files of $tables: they are left out by their whole paths. Of all that
 # is `unsafe` one line touches none: that a `Spare`, which has no bytes, may cross threads.
@@ -197,7 +197,7 @@ if [ -n "$(touches_in "$planted")" ]; then
 else
     pass "the copy as it is: nothing touches a table"
 fi
-touches_at crates/cell_live/src/table.rt
+touches_at crates/cell_contract/src/table.rt
 touches_at crates/family_four_slot/src/more/table.rt
 touches_at crates/cell_triple/src/tests/more.rt
 touches_at crates/cell_four_slot/src/tests.rt

@@ -5,24 +5,7 @@
 for document in examples/*.json examples/*.jsonl tests/programs/schedules/*.json tests/programs/races/*.json; do
     command=$(command_for "$document")
     sees "$document" fsr "$document" "${document%.json*}.txt" "$command"
-    case $command in
-    check) sees "$document, by fsr_check" fsr_check "$document" "${document%.json*}.txt" ;;
-    order)
-        program=$(log_program_for "$document")
-        sees "$document, by $program" "$program" "$document" "${document%.json*}.txt"
-        ;;
-    play)
-        sees "$document, by fsr_play" fsr_play "$document" "${document%.json*}.txt"
-        ! is_cell "$document" || sees "$document, by fsr_cell" fsr_cell "$document" "${document%.json*}.txt"
-        ;;
-    esac
-done
-
-# The smaller programs refuse documents that aren't theirs by the kind.
-echo "fsr: document: kind" >"$room/kind.txt"
-for program in fsr_log:examples/lines.jsonl fsr_lines:examples/crossed.json fsr_lines:examples/lawful.json fsr_cell:examples/matrix.json; do
-    cp "${program#*:}" "$room/kind.json" && echo 3 >"$room/kind.status"
-    sees "${program#*:}, refused by ${program%:*}" "${program%:*}" "$room/kind.json" "$room/kind.txt"
+    [ "$command" = race ] || sees "$document, by fsr_$command" "fsr_$command" "$document" "${document%.json*}.txt"
 done
 
 # The controls: the first document beside another's text, with a status that it hasn't, and with more on the other stream.

@@ -14,7 +14,7 @@ strict='-Wall -Wextra -Wpedantic -Wconversion -Wshadow -Werror -pthread -I c'
 
 # The built program that reads lines, as words of a command.
 built=
-for program in crates/fsr_lines/out/fsr_lines 'crates/fsr/out/fsr order'; do
+for program in crates/fsr_order/out/fsr_order 'crates/fsr/out/fsr order'; do
     if [ -x "${program%% *}" ] && printf '{"kind":"lines","opening":0}\n' | $program >"$room/tried" 2>/dev/null \
         && grep -qx lawful "$room/tried"; then
         built=$program
@@ -226,9 +226,7 @@ if ! command -v python3 >/dev/null 2>&1; then
     fail "the recorder" "there is no python3"
 else
     counts "the plain judge of lines against all orders" python3 tests/programs/reference/compare_lines.py --logs 2500
-    small=--small
-    case $built in */fsr_lines) small= ;; esac
-    for word in ${built:+'' --order $small}; do
+    for word in ${built:+'' --order --small}; do
         counts "fsr order${word:+ $word} against all orders" python3 tests/programs/reference/compare_small_lines.py --logs 1000 -- $built $word
     done
     counts "converters" python3 tests/programs/converters.py

@@ -1,6 +1,6 @@
 # What `fsr` tells of documents at the bounds of each refusal, of orders and of logs. Each line of tests/programs/refusals/COMMAND.txt is what is
-# told, with `\n` for a line's end within it, a bar and the document; documents that are too long for a line are made here. Histories go
-# through the program that has their command alone, too, and schedules of kind `cell` through the one that has these alone.
+# told, with `\n` for a line's end within it, a bar and the document; documents that are too long for a line are made here. All but races go
+# through the program that has their command alone, too.
 
 # Runs a program with these words on the document in $room/document. Sees that it ends with the wanted status, tells what stands in
 # $room/wanted on the one stream and nothing on the other, and leaves of the document what is beyond the longest and one byte more.
@@ -28,12 +28,7 @@ tells() {
     unlawful*) wanted_status=1 ;;
     esac
     printf '%b\n' "$line" >"$room/wanted"
-    ends fsr "$1" || return 1
-    case $1 in
-    check) ends fsr_check ;;
-    order) ends "$(log_program_for "$room/document")" ;;
-    play) ! is_cell "$room/document" || ends fsr_cell ;;
-    esac
+    ends fsr "$1" && { [ "$1" = race ] || ends "fsr_$1"; }
 }
 
 # The same, counted as a test with this title.

@@ -54,16 +54,46 @@ refuses_unread() {
 refuses_unread error:
 refuses_unread error: ''
 refuses_unread error: checks
-refuses_unread error: --version
+refuses_unread error: --versio
 refuses_unread error: check -x
 refuses_unread error: check examples/lawful.json examples/lawful.json
 refuses_unread error: check --order
 refuses_unread error: order --ordr
 refuses_unread error: order --order --order
-refuses_unread 'Reads a document' help
-refuses_unread 'Reads a document' -h
-refuses_unread 'Reads a document' --help
-refuses_unread 'Checks that' check --help
+
+# What is asked for stands on standard output, with status 0, and nothing is read.
+#   gives_unread BEGINS WORDS..
+gives_unread() {
+    begins=$1
+    shift
+    title="fsr $*, given with nothing read"
+    if ! has_program fsr; then
+        fail "$title" "fsr wasn't built"
+        return
+    fi
+    "$built/fsr/out/fsr" "$@" <examples >"$room/out" 2>"$room/err"
+    status=$?
+    case $status:$(cat "$room/err"):$(cat "$room/out") in
+    "0::$begins"*) pass "$title" ;;
+    *) fail "$title" "it ended with status $status: $(head -c 200 "$room/out" "$room/err")" ;;
+    esac
+}
+
+gives_unread 'Reads a document' help
+gives_unread 'Reads a document' -h
+gives_unread 'Reads a document' --help
+gives_unread 'Checks that' check --help
+gives_unread "fsr $(awk '/^#define NIDZARU_VERSION_(MAJOR|MINOR|PATCH)/ { printf dot "%s", $3; dot = "." }' c/nidzaru.h)" --version
+if [ -c /dev/full ]; then
+    title="fsr --help into a full output"
+    "$built/fsr/out/fsr" --help </dev/null >/dev/full 2>"$room/err"
+    status=$?
+    if [ "$status" = 5 ] && [ "$(cat "$room/err")" = "fsr: write failed" ]; then
+        pass "$title"
+    else
+        fail "$title" "it ended with status $status: $(head -c 200 "$room/err")"
+    fi
+fi
 
 # Sees that `fsr` tells this first line of a command, and how it is used.
 #   helps COMMAND LINE WORDS
@@ -75,10 +105,10 @@ helps() {
     fi
     "$built/fsr/out/fsr" "$1" --help </dev/null >"$room/out" 2>"$room/err"
     status=$?
-    if [ "$status" != 2 ] || [ -s "$room/out" ]; then
-        fail "$title" "it ended with status $status and not 2, or something stands on standard output"
-    elif [ "$(head -n 1 "$room/err")" != "$2" ] || ! grep -qxF "Usage: fsr $1 $3" "$room/err"; then
-        fail "$title" "$(head -c 200 "$room/err")"
+    if [ "$status" != 0 ] || [ -s "$room/err" ]; then
+        fail "$title" "it ended with status $status and not 0, or something stands on standard error"
+    elif [ "$(head -n 1 "$room/out")" != "$2" ] || ! grep -qxF "Usage: fsr $1 $3" "$room/out"; then
+        fail "$title" "$(head -c 200 "$room/out")"
     else
         pass "$title"
     fi
@@ -90,7 +120,7 @@ helps play "Plays a schedule and reports its history" "[FILE]"
 helps race "Runs tasks over a board and checks their logs" "[FILE]"
 
 title="the formats in fsr --help"
-if has_program fsr && "$built/fsr/out/fsr" --help 2>&1 </dev/null | grep -q '^  order .*`lines`.*`log`'; then
+if has_program fsr && "$built/fsr/out/fsr" --help </dev/null | grep -q '^  order .*`lines`.*`log`'; then
     pass "$title"
 else
     fail "$title" "it doesn't name what order reads"
@@ -252,34 +282,44 @@ for program in fsr picture soak; do
     fi
 done
 
-title="./fsr --help where it isn't built"
-PATH=/usr/bin:/bin "$room/bare/fsr" --help >"$room/out" 2>"$room/err" </dev/null
-status=$?
-if [ "$status" = 2 ] && [ ! -s "$room/out" ] && head -n 1 "$room/err" | grep -qF './fsr check|order|play|race [FILE]'; then
-    pass "$title"
-else
-    fail "$title" "it ended with status $status: $(head -c 200 "$room/out" "$room/err")"
-fi
+# Sees what `./fsr` gives of these words where it isn't built: the status, and how standard output and standard error begin.
+#   gives_unbuilt STATUS OUT ERR WORDS..
+gives_unbuilt() {
+    wanted_status=$1 wanted_out=$2 wanted_err=$3
+    shift 3
+    title="./fsr${1+ $*} where it isn't built"
+    PATH=/usr/bin:/bin "$room/bare/fsr" "$@" >"$room/out" 2>"$room/err" </dev/null
+    status=$?
+    case $status:$(head -n 1 "$room/out"):$(head -n 1 "$room/err") in
+    "$wanted_status:$wanted_out"*:"$wanted_err"*) pass "$title" ;;
+    *) fail "$title" "it ended with status $status: $(head -c 200 "$room/out" "$room/err")" ;;
+    esac
+}
 
-# As long as the whole program isn't built, smaller ones answer: what one refuses by its kind the next one gets, whole, from a file or from
-# standard input.
+mkdir -p "$room/bare/c" && cp c/nidzaru.h "$room/bare/c/"
+gives_unbuilt 0 'Usage: ./fsr check|order|play|race [FILE]' '' --help
+gives_unbuilt 2 '' 'Usage: ./fsr check|order|play|race [FILE]'
+gives_unbuilt 0 "fsr $(awk '/^#define NIDZARU_VERSION_(MAJOR|MINOR|PATCH)/ { printf dot "%s", $3; dot = "." }' c/nidzaru.h)" '' --version
+title="./fsr with a closed standard error, where it can't be built"
+PATH=/usr/bin:/bin "$room/bare/fsr" race >"$room/out" 2>&- </dev/null
+status=$?
+if [ "$status" = 70 ] && [ ! -s "$room/out" ]; then pass "$title"; else fail "$title" "it ended with status $status"; fi
+
+# As long as the whole program isn't built, that of the command answers, from a file or from standard input.
 make_small() {
     mkdir -p "$room/bare/crates/$1/out" && printf '#!/bin/sh\ncat >"$READ"\n%s\n' "$2" >"$room/bare/crates/$1/out/$1" && chmod +x "$room/bare/crates/$1/out/$1"
 }
 make_small fsr_check 'echo "fsr: document: not JSON" >&2; exit 3'
-make_small fsr_lines 'echo "lines $*"'
-make_small fsr_log 'echo "fsr: document: kind" >&2; exit 3'
-make_small fsr_cell 'echo "fsr: document: kind" >&2; exit 3'
+make_small fsr_order 'echo "order $*"'
 make_small fsr_play 'echo "play $*"; exit 1'
-echo '{"kind":"matrix","cell":"cell"}' >"$room/cell.json"
 
 # Sees what the smaller programs make of a document: the status, and what is told on either stream.
 #   answers_small STATUS TOLD DOCUMENT WORDS..
 answers_small() {
     wanted_status=$1 wanted=$2 document=$3
     shift 3
-    title="./fsr $1 by smaller programs: $wanted"
-    READ=$room/read PATH=/usr/bin:/bin "$room/bare/fsr" "$@" <"$document" >"$room/out" 2>"$room/err"
+    title="./fsr $(echo "$*" | sed "s|$room/||g") by a smaller program: $wanted"
+    READ=$room/read TMPDIR=$room/nowhere PATH=/usr/bin:/bin "$room/bare/fsr" "$@" <"$document" >"$room/out" 2>"$room/err"
     status=$?
     if [ "$status" = "$wanted_status" ] && [ "$(cat "$room/out" "$room/err")" = "$wanted" ] && cmp -s "$room/read" "$document"; then
         pass "$title"
@@ -288,27 +328,26 @@ answers_small() {
     fi
 }
 
-answers_small 0 "lines --order" "$room/stale.jsonl" order --order "$room/stale.jsonl"
-answers_small 0 "lines " examples/lawful.json order
-answers_small 1 "play " "$room/cell.json" play
+answers_small 0 "order --order" "$room/stale.jsonl" order --order "$room/stale.jsonl"
+answers_small 0 "order --small" "$room/stale.jsonl" order "$room/stale.jsonl" --small
+answers_small 0 "order " examples/lawful.json order
+answers_small 1 "play " examples/cell.json play
 answers_small 3 "fsr: document: not JSON" examples/lawful.json check
 
-title="./fsr order --small by the whole program alone"
-READ=$room/read PATH=/usr/bin:/bin "$room/bare/fsr" order --small "$room/stale.jsonl" >"$room/out" 2>"$room/err" </dev/null
-status=$?
-if [ "$status" = 70 ] && [ ! -s "$room/out" ] && grep -q "can't be built" "$room/err"; then
-    pass "$title"
-else
-    fail "$title" "it ended with status $status: $(head -c 200 "$room/out" "$room/err")"
-fi
+# Words that no smaller program knows are for the whole one.
+for words in 'order --order --small' 'order -x' 'check --order' "check $room/nowhere"; do
+    gives_unbuilt 70 '' 'build: ' $words
+done
 
 # The controls: words that are a command, another beginning, another first line, a status that isn't that of the program, and output
 # beside the line.
 catches "words that are a command" "status 0 and not 2" refuses_words "$room/err" a check
-catches "another beginning" "it ended with status 2" refuses_unread 'Writes a document' help
+catches "another beginning" "it ended with status 0" gives_unread 'Writes a document' help
+catches "help that is refused" "it ended with status 0" refuses_unread 'Reads a document' help
 printf 'lawful\nwrites: 2 3\n3 operations, 0 unfinished, 3 records, 1 of them read; no last line `done`\n' >"$room/wanted"
 catches "another order of the writes" "status 0 and not 0" ends_fsr 0 out order --order "$room/turned.jsonl"
 catches "another first line" "Checks that an order" helps check "Checks that no order of a history is atomic" "[FILE]"
+catches "a version of another program" "it ended with status 0" gives_unbuilt 0 'picture ' '' --version
 catches "a document that no program takes" "status 3" answers_small 0 "fsr: document: not JSON" examples/lawful.json check
 catches "a picture that is drawn" "status 0 and not 2" ends_picture a examples/lawful.json "$room/drawn" 2 "$no_words"
 make_stub picture <<'STUB'

@@ -1,5 +1,5 @@
 //! The triple buffer: one word and three slots of one table, that two threads share without waiting. It meets the contract of
-//! `cell_live`.
+//! `cell_contract`.
 //!
 //! The rule that its word and slots keep between any two steps stands in `specs/Rule.antt`, and `laws` says what it means.
 #![tactic(auto)]
