@@ -15,7 +15,7 @@ else
 fi
 if ! command -v python3 >/dev/null 2>&1; then
     fail "links" "there is no python3"
-elif python3 tests/docs/links.py README.md CHANGELOG.md docs/*.md docs/dev/*.md examples/README.md bench/README.md >"$room/out" 2>&1; then
+elif python3 tests/docs/links.py README.md CHANGELOG.md CONTRIBUTING.md SECURITY.md docs/*.md docs/dev/*.md examples/README.md bench/README.md >"$room/out" 2>&1; then
     pass "links: $(cat "$room/out")"
 else
     fail "links" "$(cat "$room/out")"
