@@ -47,8 +47,20 @@ join_objects() {
     } >hidden.s && as hidden.s -o hidden.o && ld -r -o joined ./*.o && objcopy --wildcard --keep-global-symbol='nidzaru_*' joined nidzaru
 }
 
-# Proves and builds the library for C, where it isn't built, and puts it into the file that is named, an absolute path, with the
-# toolchain's one object that it needs: what takes memory from the C library.
+# Compiles what takes the library's memory, by the kit's clang, so that the bytes are the same everywhere.
+compile_heap() {
+    "$kit/toolchain/bin/clang" -std=c11 -O2 -fPIC -ffreestanding -Wall -Wextra -Werror -c "$top/c/heap.c" -o heap.o
+}
+
+# Sees that the library asks for nothing but this of the C library, and names what else it asks for.
+asks_for_little() {
+    more=$(nm -u "$1" | awk '$2 !~ /^(malloc|free|memcpy|memmove|memset)$/ { print $2 }' | tr '\n' ' ')
+    [ -z "$more" ] || echo "library: it asks for more than memory: $more" >&2
+    [ -z "$more" ]
+}
+
+# Proves and builds the library for C, where it isn't built, and puts it into the file that is named, an absolute path, with what takes its
+# memory.
 make_library() {
     here=$(CDPATH= cd -- "$top/crates/c_exports" && pwd) || return 1
     kit=$(dirname -- "$(rt doc)") || return 1
@@ -56,8 +68,8 @@ make_library() {
     unpacked=$(mktemp -d) || return 1
     (
         version=$(version_of_header) && cd "$unpacked" || exit 1
-        ar x "$here/out/libc_exports.a" && ar x "$kit/c/liblibc_c.a" && join_objects && mv nidzaru nidzaru.o && rm -f "$1" \
-            && ar rcsD "$1" nidzaru.o
+        ar x "$here/out/libc_exports.a" && compile_heap && join_objects && asks_for_little nidzaru && mv nidzaru nidzaru.o \
+            && rm -f "$1" && ar rcsD "$1" nidzaru.o
     )
     made=$?
     rm -rf "$unpacked"

@@ -201,6 +201,12 @@ NIDZARU_ASSERT(sizeof(void *) == 8, "the library is built for pointers of 8 byte
 /* The library's version, as NIDZARU_VERSION is counted. */
 uint32_t nidzaru_version(void);
 
+/* Where the library's memory comes from. It has both, over `malloc` and `free`; a program may define its own two, and then the library asks
+ * for no other memory. A block has at least so many bytes, is aligned to 16 and is no other live block; null says that there is no
+ * memory. `make` takes blocks and the last end gives them back, each from its own thread; no other call asks. */
+void *nidzaru_allocate(size_t bytes);
+void nidzaru_release(void *block);
+
 /* A library has such a name for each release from 2.1 on whose calls it has. What makes a register or a board asks for this header's,
  * so an older library doesn't link with it. */
 #define NIDZARU_SINCE_(major, minor) nidzaru_since_##major##_##minor

@@ -31,13 +31,14 @@ KIT_LICENCES = {
     "thiserror": "MIT OR Apache-2.0",
 }
 # What is linked beside crates: names, licences, and what it is.
+OWN_HEAP = ("heap.o", OWN_LICENCE, "c/heap.c of the repository, by the kit's clang")
 HEAP = ("heap.pic.o", "NOASSERTION", "an object of the kit's c/liblibc_c.a, built from a heap.c that the kit doesn't have")
 START = [
     ("libos_c.a", "NOASSERTION", "objects of the kit's c/libos_c.a, built from C files that the kit doesn't have"),
     ("crt1, crti, crtn, libc_nonshared", "LGPL-2.1-or-later", "glibc's start files, by their names; glibc lets programs link them freely"),
     ("crtbegin, crtend, libgcc", "GPL-3.0-or-later WITH GCC-exception-3.1", "GCC's start files and its library, by their names"),
 ]
-OBJECTS = {"library": [HEAP], "programs": [HEAP, *START]}
+OBJECTS = {"library": [OWN_HEAP], "programs": [HEAP, *START]}
 
 
 def kit_folder():

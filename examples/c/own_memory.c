@@ -1,35 +1,24 @@
-/* A program that may not allocate once it has started: its own `malloc` gives parts of a static block, and the library takes all its memory
- * there, in `make` alone. A plain C program does without: glibc's `malloc` is taken if a program has none.
+/* A program that may not allocate once it has started: it gives the library its memory from a static block, by the two functions that
+ * nidzaru.h names. `make` alone takes some. The program's own `malloc` isn't asked.
  *
  * cc -std=c11 -O2 own_memory.c $(pkg-config --cflags --libs nidzaru) -o own_memory && ./own_memory */
 #include <nidzaru.h>
-#include <stdatomic.h>
 #include <stdio.h>
-#include <stdlib.h>
-#include <string.h>
 
-static _Alignas(16) unsigned char block[64 * 1024];
-static _Atomic size_t taken;
+static _Alignas(16) unsigned char block[4096];
+static size_t taken;
 
-/* A part of the block, with its size in the 16 bytes before it; no memory where the block is full. Nothing is given back. */
-void *malloc(size_t size) {
-    const size_t whole = size > sizeof block ? sizeof block : (size + 31) / 16 * 16;
-    const size_t at = atomic_fetch_add(&taken, whole);
-    if (at > sizeof block || whole > sizeof block - at) return 0;
-    memcpy(block + at, &size, sizeof size);
-    return block + at + 16;
+/* The next part of the block; no memory where the block is full. (A program that makes registers in several threads needs a lock here.) */
+void *nidzaru_allocate(size_t bytes) {
+    if (bytes > sizeof block - taken) return 0;
+    void *const part = block + taken;
+    const size_t whole = (bytes + 15) / 16 * 16;
+    taken += whole < sizeof block - taken ? whole : sizeof block - taken;
+    return part;
 }
 
-void free(void *part) { (void)part; }
-
-void *calloc(size_t count, size_t size) { return size && count > sizeof block / size ? 0 : malloc(count * size); }
-
-void *realloc(void *part, size_t size) {
-    size_t before = 0;
-    void *more = malloc(size);
-    if (part) memcpy(&before, (unsigned char *)part - 16, sizeof before);
-    return more && before ? memcpy(more, part, before < size ? before : size) : more;
-}
+/* Nothing is given back. */
+void nidzaru_release(void *part) { (void)part; }
 
 struct sample { uint64_t low, reading, high; };
 NIDZARU_REGISTER(samples, struct sample);

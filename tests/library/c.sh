@@ -126,6 +126,8 @@ test_in_c() {
     run_here "examples/c/board.c ($c)" "$c" -std=c11 $strict -O2 examples/c/board.c $flags -o "$room/program"
     wants='.* bytes of the block were taken, all by make'
     run_here "examples/c/own_memory.c ($c)" "$c" -std=c11 $strict -O2 examples/c/own_memory.c $flags -o "$room/program"
+    wants='all memory was the program.s'
+    run_here "c/tests/memory.c ($c)" "$c" -std=c11 $strict -O2 c/tests/memory.c $flags -o "$room/program"
     wants='a torn record'
     run_control "c/tests/test.c over a plain buffer ($c)" \
         "$c" -std=c11 -D_GNU_SOURCE $strict -O2 -I c c/tests/test.c c/tests/control.c -o "$room/program"

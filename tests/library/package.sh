@@ -159,7 +159,7 @@ is_one_library() {
 }
 
 is_listed_with_licence() {
-    for part in nidzaru-c_exports nidzaru-c_registers kit-std kit-atomic_table kit-heap.pic.o; do
+    for part in nidzaru-c_exports nidzaru-c_registers kit-std kit-atomic_table heap.o; do
         grep -A 6 -x "PackageName: $part" "$made/nidzaru-$version.spdx" | grep -q '^PackageLicenseConcluded: .' \
             || { echo "$part" && return 1; }
     done
