@@ -89,7 +89,25 @@ test_cet() {
     fi
 }
 
+# What takes the library's memory by itself, and with each of some faults in it.
+test_heap() {
+    wants='each block is one of its own'
+    run_here "c/heap.c ($c)" "$c" -std=c11 $strict -O2 c/heap.c c/tests/heap.c -o "$room/program"
+    for fault in 's/kept < bytes ? kept : bytes/bytes/' 's/kept < bytes ? kept : bytes/kept/' '/^        nidzaru_release(block);/d' \
+        's/block ? block : &nowhere/block/' 's/block != 0,/1,/' 's/    if (more) {/nidzaru_release(block); &/' \
+        '/rattle_alloc/s/bytes ? bytes : alignment/bytes/' '/more = /s/bytes ? bytes : alignment/bytes/'; do
+        sed "$fault" c/heap.c >"$room/heap.c"
+        if cmp -s c/heap.c "$room/heap.c"; then
+            fail "c/heap.c, planted: $fault" "it changes nothing"
+        else
+            wants='heap: '
+            run_control "c/heap.c, planted: $fault ($c)" "$c" -std=c11 -w -O2 "$room/heap.c" c/tests/heap.c -o "$room/program"
+        fi
+    done
+}
+
 test_in_c() {
+    test_heap
     wants=passed
     run_here "c/tests/test.c ($c)" "$c" -std=c11 -D_GNU_SOURCE $strict -O2 c/tests/test.c $flags -o "$room/program"
     run_here "c/tests/edges.c ($c)" "$c" -std=c11 $strict -O1 c/tests/edges.c $wrapped $flags -o "$room/program"
