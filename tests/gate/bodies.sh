@@ -19,7 +19,8 @@ else
     fi
     python3 tests/gate/wrong_bodies.py --proved --edits tests/gate/right_bodies </dev/null >"$room/right" 2>&1
     for name in read_document/a_field_by_another_name read_document/a_goal_by_another_name history_check/a_lemma_by_another_name \
-        history_check/a_comment_without_search stamps/spoils_another_function stamps/the_same_test_turned_round; do
+        history_check/a_comment_without_search matrix_core/spoils_another_function \
+        matrix_core/the_same_test_turned_round; do
         if grep -qx "must-fail $name: NOT REFUSED" "$room/right"; then
             pass "$name spoils nothing that it names, and isn't taken for refused"
         else

@@ -90,7 +90,8 @@ else
     fi
     catches_number "a script that wasn't run" "tests/gate/sources.sh wasn't run" '/^tests\/gate\/sources.sh /d'
     catches_number "a script without a check" "tests/programs/races.sh made no check" 's/^\(tests\/programs\/races.sh\) .*/\1 0/'
-    catches_number "a check too few" "tests/docs/release.sh made 3 checks, and docs/dev/TESTING.md says 4" 's/^\(tests\/docs\/release.sh\) 4$/\1 3/'
+    catches_number "a check too few" "tests/docs/release.sh made 3 checks, and docs/dev/TESTING.md says [0-9]*" \
+        's/^\(tests\/docs\/release.sh\) .*/\1 3/'
     catches_number "wrong bodies that weren't tried" "tests/gate/wrong_bodies.py made 7 checks, and docs/dev/TESTING.md says [0-9]*" \
         's/^\(tests\/gate\/wrong_bodies.py\) .*/\1 7/'
     catches_number "a library that nothing proved" "c_exports wasn't run" '/^c_exports /d'
