@@ -1,5 +1,5 @@
 //! How many writes can stand before the first refused write.
-ghost use Rattle.std.specs.Prelude.{◌≡◌, ◌<◌, ◌-◌, ℕ, List, false, IfOk};
+ghost use Rattle.std.specs.Prelude.{◌≡◌, ◌<◌, ◌≤◌, ◌+◌, ◌-◌, ◌*◌, ◌⊎◌, ℕ, List, false, IfOk};
 ghost use Rattle.history_core.specs.declared.history.Op.{Op};
 ghost use Rattle.history_thinning.specs.Answers.{IsThinnedAnswer};
 ghost use Rattle.history_thinning.specs.Thinnings.{IsThinnedLog};
@@ -55,11 +55,13 @@ fn most(alloc: Global, thinned: &Thinned, limit: u64) -> Result<u64, AllocError>
     Ok(low)
 }
 
-/// A limit between two. The first ones are small, as few writes stand before a refused write that comes too early.
+/// A limit between two. The first ones are small, as few writes stand before a refused write that comes too early. With each one the span
+/// is halved, or its lower end rises by half of itself, so that there are few.
 fn middle(low: u64, high: u64) -> u64
     requires { 1 < high - low }
     ensures above { low < result }
     ensures below { result < high }
+    ensures few { (high - low ≤ 2 * (result - low) + 1) ⊎ (low < 2 * (result - low)) }
 {
     low + (high - low).min(low + 2) / 2
 }
