@@ -30,8 +30,8 @@ is_newer_than_sources() {
     [ -z "$(cd "$top" && find crates.txt "$@" -newer "$newer_than" -print -quit 2>/dev/null)" ]
 }
 
-# Whether a program, or the library for C, is there and no source that it is made of is newer. (build.py goes by the sums of the sources, and
-# gives what it finds built a new time.)
+# Whether a program, or the library for C, is there and no source that it is made of is newer. (build.py goes by the sums of the sources,
+# and gives what it finds built a new time.)
 is_fresh() {
     case $1 in
     c_exports) is_newer_than_sources "$top/crates/$1/out/lib$1.a" "$1" ;;
@@ -49,7 +49,8 @@ build() {
     python3 "$top/build/build.py" "$1"
 }
 
-# Sees that a program or the library for C is fresh. Of two calls at once one builds, and the other waits until it has ended, however it ends.
+# Sees that a program or the library for C is fresh. Of two calls at once one builds, and the other waits until it has ended, however it
+# ends.
 make_fresh() {
     is_fresh "$1" && return
     mkdir -p "$top/crates/$1/out" || return 1

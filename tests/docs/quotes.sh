@@ -34,8 +34,8 @@ is_short README.md
 awk 'BEGIN { for (k = 0; k < 901; k++) print "word" }' >"$room/long.md"
 catches "a front page of 901 words" "it has 901 words" is_short "$room/long.md"
 
-# The controls: another word in a quotation, another number of files, parts that no source has, a changed definition in the reading set of a headline with as many
-# lines, and links that lead nowhere.
+# The controls: another word in a quotation, another number of files, parts that no source has, a changed definition in the reading set of
+# a headline with as many lines, and links that lead nowhere.
 if command -v python3 >/dev/null 2>&1; then
     catches_in_tree "another word in a quotation" "docs/HEADLINES.md:.* isn't in crates/board_tasks/src/origin.rt" docs/HEADLINES.md \
         '0,/pub fn check_origin</s//pub fn check_origins</' python3 tests/docs/quotes.py docs/HEADLINES.md

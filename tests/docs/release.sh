@@ -1,5 +1,5 @@
-# There is one version: that of the header, which the page of changes begins with and the crate for Rust and `fsr` have. (Of the built library and the
-# header the tests of C see it.)
+# There is one version: that of the header, which the page of changes begins with and the crate for Rust and `fsr` have. (Of the built
+# library and the header the tests of C see it.)
 
 # Prints the version of a tree, or which versions it has.
 version_of_tree() {

@@ -1,5 +1,5 @@
-# Absurd premises before conjuncts of definitions. The first is refused, so tools/absurd.py can try those of all headlines; one in a comment,
-# which says nothing, isn't taken for refused.
+# Absurd premises before conjuncts of definitions. The first is refused, so tools/absurd.py can try those of all headlines; one in a
+# comment, which says nothing, isn't taken for refused.
 if ! command -v python3 >/dev/null 2>&1; then
     fail "absurd premises" "there is no python3"
 else

@@ -1,5 +1,6 @@
-# How build/build.py builds, tried on two small crates: what was changed is proved and built again with what stands above it and nothing else,
-# what isn't proved isn't built, and of two builds at once one waits. The crates below each are the same for the shell and for Python.
+# How build/build.py builds, tried on two small crates: what was changed is proved and built again with what stands above it and nothing
+# else, what isn't proved isn't built, and of two builds at once one waits. The crates below each are the same for the shell and for
+# Python.
 
 # Lays out a repository with these scripts and a program over a library, in a folder with a blank in its name.
 lay_out_crates() {

@@ -1,6 +1,7 @@
-# The controls of tests/gate/checks.py, which compares how many checks each script makes with docs/dev/TESTING.md and looks at how they are run: a
-# script that wasn't run, one without a check or with another number, a line `run NAME` that is gone, a script that nobody runs, and two
-# functions of one name. Before them those of how `./test` counts: its own checks, what another script says of its sums, and the library.
+# The controls of tests/gate/checks.py, which compares how many checks each script makes with docs/dev/TESTING.md and looks at how they are
+# run: a script that wasn't run, one without a check or with another number, a line `run NAME` that is gone, a script that nobody runs, and
+# two functions of one name. Before them those of how `./test` counts: its own checks, what another script says of its sums, and the
+# library.
 
 # A run with just the numbers that docs/dev/TESTING.md states.
 stated_numbers() {

@@ -9,7 +9,8 @@ for script in tests/gate/map.py tests/docs/numbers.py tests/gate/names.py; do
     fi
 done
 
-# The controls: a graph that isn't that of the crates, crates without a heading, another number of wrong bodies, a second definition of a name.
+# The controls: a graph that isn't that of the crates, crates without a heading, another number of wrong bodies, a second definition of a
+# name.
 if command -v python3 >/dev/null 2>&1; then
     catches_in_tree "another graph of the crates" "isn't the map of the crates" docs/dev/MAP.md 's/^graph TD/graph LR/' python3 tests/gate/map.py
     catches_in_tree "crates without a heading" "crates.txt has no heading above history_core" crates.txt 1d python3 tests/gate/map.py

@@ -123,7 +123,8 @@ sees() {
     fi
 }
 
-# The command that takes a document: of examples/ by the table there. The races of tests/programs/races/ have one outcome, whoever runs first.
+# The command that takes a document: of examples/ by the table there. The races of tests/programs/races/ have one outcome, whoever runs
+# first.
 command_for() {
     case $1 in
     examples/*) awk -F'|' -v name="\`${1#examples/}\`" '{ gsub(/ /, "", $2) } $2 == name { gsub(/ /, "", $3); print $3 }' examples/README.md ;;

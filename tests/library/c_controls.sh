@@ -1,5 +1,5 @@
-# The controls of tests/library/c.sh and tests/library/rust.sh, by their own functions over the library that they installed: a program that says something
-# else or isn't built, a right library where a plain buffer is due, and a test in Rust that fails.
+# The controls of tests/library/c.sh and tests/library/rust.sh, by their own functions over the library that they installed: a program that
+# says something else or isn't built, a right library where a plain buffer is due, and a test in Rust that fails.
 
 # A control of a function of tests/library/c.sh, which wants this of a program.
 #   catches_program TITLE SAID FUNCTION WANTED COMMAND..

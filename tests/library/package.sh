@@ -1,7 +1,7 @@
 # The packages: `./package` runs on two copies of this tree that differ in all that the bytes may not depend on, and then what a user does
-# with them, with a PATH that has compilers and nothing of the toolchain, an empty home, and, where a namespace of mounts is permitted, empty
-# folders in place of the toolchain's and of this tree. (tests/library/roots.sh has fresh Debian roots: here headers and libraries of this machine
-# are at hand.) It takes the library and the programs that are built by then, and builds none.
+# with them, with a PATH that has compilers and nothing of the toolchain, an empty home, and, where a namespace of mounts is permitted,
+# empty folders in place of the toolchain's and of this tree. (tests/library/roots.sh has fresh Debian roots: here headers and libraries of
+# this machine are at hand.) It takes the library and the programs that are built by then, and builds none.
 . build/library.sh
 kept_passed=$passed kept_failed=$failed
 packages=$room/packages

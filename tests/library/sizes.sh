@@ -1,6 +1,6 @@
 # The largest documents: a register's schedule of 5,000 writes and 5,000 reads, a board's of one term with 10,000 operations, and logs of as
-# many, played, searched and drawn. They and what is printed of them are made by `tests/library/sizes.py`. No contract says that memory is there, so
-# a call that answers want of memory where there is ample is seen here alone.
+# many, played, searched and drawn. They and what is printed of them are made by `tests/library/sizes.py`. No contract says that memory is
+# there, so a call that answers want of memory where there is ample is seen here alone.
 
 # Sees that `picture` ends with this status on a document, and draws what the text tells.
 #   draws TITLE DOCUMENT TEXT STATUS

@@ -1,7 +1,7 @@
 #!/bin/sh
-# `fsr` against a plain reference that was written from docs/ alone (tests/programs/reference), on random and hostile documents. As a part of `./test`
-# it takes 2,000 documents of every kind and 8,000 logs, as many as have 5,000 among them that are searched; by hand a seed and a number, of
-# documents and of logs each. usage: tests/programs/documents.sh [SEED [NUMBER]]
+# `fsr` against a plain reference that was written from docs/ alone (tests/programs/reference), on random and hostile documents. As a part
+# of `./test` it takes 2,000 documents of every kind and 8,000 logs, as many as have 5,000 among them that are searched; by hand a seed and
+# a number, of documents and of logs each. usage: tests/programs/documents.sh [SEED [NUMBER]]
 
 # Whether the reference finds no difference over so many documents of these kinds.
 #   compare_documents PROGRAM SEED NUMBER KINDS

@@ -1,6 +1,6 @@
-# Each document of examples/ (NAME.json, or NAME.jsonl of a log in lines), tests/programs/schedules/ and tests/programs/races/ against the text that it
-# prints, NAME.txt (of a refused one the line on standard error), and the status that is wanted, NAME.status (none: 0). The smaller programs
-# print the same.
+# Each document of examples/ (NAME.json, or NAME.jsonl of a log in lines), tests/programs/schedules/ and tests/programs/races/ against the
+# text that it prints, NAME.txt (of a refused one the line on standard error), and the status that is wanted, NAME.status (none: 0). The
+# smaller programs print the same.
 
 for document in examples/*.json examples/*.jsonl tests/programs/schedules/*.json tests/programs/races/*.json; do
     command=$(command_for "$document")

@@ -1,5 +1,5 @@
-# `fsr race` on documents that are refused, and on some as large as they may be, whose tasks wear out the tags. What the tasks are answered differs from run to
-# run, so their counts are compared with their scripts, and the origin has to be sound.
+# `fsr race` on documents that are refused, and on some as large as they may be, whose tasks wear out the tags. What the tasks are answered
+# differs from run to run, so their counts are compared with their scripts, and the origin has to be sound.
 
 # Prints a document of so many tasks, each of which writes and reads by turns, so many calls in all, under this limit.
 race_document() {

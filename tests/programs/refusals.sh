@@ -1,6 +1,6 @@
-# What `fsr` tells of documents at the bounds of each refusal, of orders and of logs. Each line of tests/programs/refusals/COMMAND.txt is what is
-# told, with `\n` for a line's end within it, a bar and the document; documents that are too long for a line are made here. All but races go
-# through the program that has their command alone, too.
+# What `fsr` tells of documents at the bounds of each refusal, of orders and of logs. Each line of tests/programs/refusals/COMMAND.txt is
+# what is told, with `\n` for a line's end within it, a bar and the document; documents that are too long for a line are made here. All but
+# races go through the program that has their command alone, too.
 
 # Runs a program with these words on the document in $room/document. Sees that it ends with the wanted status, tells what stands in
 # $room/wanted on the one stream and nothing on the other, and leaves of the document what is beyond the longest and one byte more.

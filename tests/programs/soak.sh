@@ -14,8 +14,8 @@ is_soak_text() {
         END { exit wrong || NR != lines }' "$1"
 }
 
-# Runs the soak with these words, in front of it those of $before, and looks at what it tells and that it takes so many seconds. All that may
-# stand on standard error is the line of $beside.
+# Runs the soak with these words, in front of it those of $before, and looks at what it tells and that it takes so many seconds. All that
+# may stand on standard error is the line of $beside.
 #   soak_of WORDS STATUS LINES END [SECONDS]
 before='' beside='^$'
 soak_of() {
