@@ -5,8 +5,8 @@ ghost use Rattle.board_tasks.specs.declared.origin.Origin.TheVariants.{Sound};
 ghost use Rattle.board_tasks.specs.Origins.{AllKeep, in_order, IsOrigin};
 ghost use Rattle.board_tasks.specs.Told.{AreOfRun};
 
+use crate::{Entry, Lane};
 use board_live::{Posted, RecordLaw};
-use board_tasks::{Entry, Lane};
 use cell_contract::Family;
 
 mod known;

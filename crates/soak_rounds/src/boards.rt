@@ -6,13 +6,13 @@ ghost use Rattle.soak_rounds.specs.Findings.{counted};
 ghost use Rattle.soak_rounds.specs.Records.{IsWholeRecord, no_law};
 ghost use Rattle.soak_rounds.specs.Scripts.{is_seen, is_written, IsRound, IsTally, reads_of, Scripted, writes_of};
 
+use crate::record::{Record, Shared, Words};
 use crate::{Finding, Tally};
 use board_live::{Board, Posted};
 use board_tasks::{Entry, Lane, OpenGate, Origin, Reply, check_origin, make_lanes, run_tasks};
 use cell_contract::{Family, SharedFamily};
 use history_core::{Items, MAX_LIMIT, Wish};
 use matrix_core::Stamp;
-use soak_rounds::record::{Record, Shared, Words};
 use std::alloc::{AllocError, Global};
 use std::thread::Threads;
 

@@ -7,8 +7,8 @@ ghost use Rattle.matrix_core.specs.Stamps.{is_below};
 
 use super::HasLog;
 use super::rule::Rule;
+use crate::{Entry, Reply};
 use board_live::Posted;
-use board_tasks::{Entry, Reply};
 use history_core::Wish;
 use matrix_core::Stamp;
 

@@ -3,7 +3,7 @@ ghost use Rattle.std.specs.Prelude.{◌≡◌, Bool, ℕ, IfNone, IfSome, length
 ghost use Rattle.board_tasks.specs.Origins.{AllKeep, in_order, IsFirstBrokenOrigin, IsFirstIn, KeptBefore};
 
 use super::HasLog;
-use board_tasks::{Entry, Reply};
+use crate::{Entry, Reply};
 use history_core::Wish;
 use matrix_core::Stamp;
 
