@@ -73,6 +73,7 @@ where
     F::Told: Send,
 {
     ghost is_reply = { λ self bytes reply. IsFsrAnswer ⟦<F as Family<Posted<Band>>>⟧ self.want bytes reply };
+
     ghost is_unbounded = { λ self. is_unbounded self.want };
 
     fn take<I: Source, E: Sink>(

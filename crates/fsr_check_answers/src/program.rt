@@ -13,6 +13,7 @@ struct Check;
 
 impl Command for Check {
     ghost is_reply = { λ _ bytes reply. IsCheckAnswer bytes reply };
+
     ghost is_unbounded = { λ _. never };
 
     fn take<I: Source, E: Sink>(

@@ -15,6 +15,7 @@ struct Order(Show);
 
 impl Command for Order {
     ghost is_reply = { λ self bytes reply. IsOrderAnswer self.0 bytes reply };
+
     ghost is_unbounded = { λ _. are_lines };
 
     fn take<I: Source, E: Sink>(

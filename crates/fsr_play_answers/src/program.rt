@@ -13,6 +13,7 @@ struct Play;
 
 impl Command for Play {
     ghost is_reply = { λ _ bytes reply. IsPlayAnswer bytes reply };
+
     ghost is_unbounded = { λ _. never };
 
     fn take<I: Source, E: Sink>(

@@ -26,6 +26,7 @@ struct Draw;
 
 impl Command for Draw {
     ghost is_reply = { λ _ bytes reply. IsPictureAnswer bytes reply };
+
     ghost is_unbounded = { λ _. never };
 
     fn take<I: Source, E: Sink>(
