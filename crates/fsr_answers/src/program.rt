@@ -61,6 +61,7 @@ fn take_input<I: Source, E: Sink>(
 }
 
 /// A command of `fsr`, whose races are run in threads over boards of this family.
+#[derive(Drop)]
 struct Asked<'a, F, R> {
     rt: &'a R,
     want: Want,

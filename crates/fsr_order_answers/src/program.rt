@@ -5,12 +5,13 @@ ghost use Rattle.fsr_order_answers.specs.Order.{IsOrderAnswer};
 ghost use Rattle.program_streams.specs.Stream.{HasRoom};
 
 use crate::input::take_log;
-use crate::order::order;
+use crate::logs::order;
 use program_runs::{Answer, Command, FSR, Fault, Program, Show, run_command};
 use program_streams::{Sink, Source};
 use std::alloc::Global;
 
 /// The command `order`, which prints this.
+#[derive(Clone, Copy)]
 struct Order(Show);
 
 impl Command for Order {
