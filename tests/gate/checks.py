@@ -3,6 +3,7 @@
     checks.py [--only] COUNTED     compares them, with --only those of the scripts that ran; of the scripts themselves it sees that each is
                                    run, and that no function of the shell has a second definition in another one
     checks.py --write LOG          writes into the table the numbers that the text of a run of `./test` tells
+    checks.py --commit HASH LOG    sees that a text is that of a run of all of `./test` on this commit, with no failure
 
 COUNTED has lines `SCRIPT NUMBER`. The gate's number is that of the crates but the library's, which its build proves, and that of
 tests/gate/wrong_bodies.py that of the wrong bodies, as tests/docs/numbers.py counts them. The table's numbers stand for a machine with
@@ -11,6 +12,7 @@ everywhere. --top FOLDER takes another tree.
 """
 
 import argparse
+import hashlib
 import os
 import re
 import shutil
@@ -33,6 +35,7 @@ HELPERS = {"tests/gate/outcomes.sh", "build/spent.sh", "build/build.sh", "build/
 PARTS = {"tests/library/rust.sh"}
 BY_HAND = {"tests/library/roots.sh"}
 TOLD = re.compile(r"(?m)^test: (\S+(?: ci)?): (\d+) checks$")
+WHOLE = re.compile(r"(?m)^test: all of \./test ran on commit (\S+); its counts have the sum sha256 ([0-9a-f]{64})$")
 ROW = re.compile(r"(?m)^\| (\d+) \| `([^`]+)` \|$")
 SUMS = re.compile(r"(?m)^(\d+) crates, (\d+) wrong bodies ")
 HAD = re.compile(r"(?m)^Counted with (.*?), without (.*?):$")
@@ -126,6 +129,21 @@ def defined_twice(top):
             yield f"{name}() is defined in {' and '.join(sorted(paths))}"
 
 
+def wrong_log(top, text, commit):
+    """What speaks against a text being that of all of `./test` on this commit. A run of a part of it has no line of the whole."""
+    told = TOLD.findall(text)
+    digest = hashlib.sha256("".join(f"{name} {count}\n" for name, count in told).encode()).hexdigest()
+    whole, last = WHOLE.findall(text), text.splitlines()[-1:]
+    if [it for it, _ in whole] != [commit]:
+        yield f"it is no log of all of `./test` on commit {commit}"
+    elif whole[0][1] != digest:
+        yield "its counts aren't those with which it ended"
+    # (the comparison of the counts is a check too, which no script has made)
+    if last != [f"{sum(int(count) for _, count in told) + 1} passed, 0 failed"]:
+        yield f"it doesn't end with a gate that passed: {''.join(last)}"
+    yield from wrong_numbers(top, {name: int(count) for name, count in told}, False)
+
+
 def write(top, counted):
     before, table, after = split(top)
     here, lacked = tools_here()
@@ -142,12 +160,17 @@ def main():
     parser.add_argument("--top", type=Path, default=Path(__file__).resolve().parents[2])
     parser.add_argument("--only", action="store_true")
     parser.add_argument("--write", action="store_true")
+    parser.add_argument("--commit")
     parser.add_argument("counted", type=Path)
     asked = parser.parse_args()
     text = asked.counted.read_text(encoding="utf-8", errors="replace")
     if asked.write:
         write(asked.top, {name: int(count) for name, count in TOLD.findall(text)})
         return 0
+    if asked.commit:
+        faults = list(wrong_log(asked.top, text, asked.commit))
+        print("\n".join(faults) or text.splitlines()[-1])
+        return 1 if faults else 0
     counted = {name: int(count) for name, _, count in (line.rpartition(" ") for line in text.splitlines())}
     faults = [*wrong_numbers(asked.top, counted, asked.only), *unrun(asked.top), *defined_twice(asked.top)]
     print("\n".join(faults) or f"{sum(counted.values())} checks of {len(counted)} scripts, as docs/dev/TESTING.md has them")

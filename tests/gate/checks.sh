@@ -3,12 +3,6 @@
 # two functions of one name. Before them those of how `./test` counts: its own checks, what another script says of its sums, and the
 # library.
 
-# A run with just the numbers that docs/dev/TESTING.md states.
-stated_numbers() {
-    awk '/^[0-9]+ crates, [0-9]+ wrong bodies / { print "rt ci " $1 - 1 "\nc_exports 1\ntests/gate/wrong_bodies.py " $3 }' docs/dev/TESTING.md
-    sed -n 's/^| \([0-9]*\) | `\([^`]*\)` |$/\2 \1/p' docs/dev/TESTING.md
-}
-
 compares_numbers() {
     python3 tests/gate/checks.py --top "$PWD" "$room/numbers"
 }

@@ -123,6 +123,12 @@ sees() {
     fi
 }
 
+# A run with just the numbers that docs/dev/TESTING.md states.
+stated_numbers() {
+    awk '/^[0-9]+ crates, [0-9]+ wrong bodies / { print "rt ci " $1 - 1 "\nc_exports 1\ntests/gate/wrong_bodies.py " $3 }' docs/dev/TESTING.md
+    sed -n 's/^| \([0-9]*\) | `\([^`]*\)` |$/\2 \1/p' docs/dev/TESTING.md
+}
+
 # The command that takes a document: of examples/ by the table there. The races of tests/programs/races/ have one outcome, whoever runs
 # first.
 command_for() {

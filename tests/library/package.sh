@@ -3,7 +3,6 @@
 # empty folders in place of the toolchain's and of this tree. (tests/library/roots.sh has fresh Debian roots: here headers and libraries of
 # this machine are at hand.) It takes the library and the programs that are built by then, and builds none.
 . build/library.sh
-kept_passed=$passed kept_failed=$failed
 packages=$room/packages
 clean=$room/clean
 mkdir "$packages" "$clean" "$clean/bin" "$clean/home"
@@ -30,6 +29,12 @@ is_refused() {
     else
         fail "$title" "another reason: $(tail -n 3 "$room/said" | tr '\n' ' ')"
     fi
+}
+
+# The same of a command that is to do nothing: what it says is one line.
+is_only_refused() {
+    is_refused "$@"
+    [ "$(wc -l <"$room/said")" = 1 ] || fail "$1, with nothing done" "$(tail -n 3 "$room/said" | tr '\n' ' ')"
 }
 
 # Runs a command as a user does who has no toolchain.
@@ -69,7 +74,7 @@ no_root() {
 
 fill_clean_path() {
     for tool in sh cc gcc g++ c++ "$(uname -m)-linux-gnu-gcc" musl-gcc as ld ar make cmake pkg-config mkdir cp mv chmod cat rm rmdir \
-        dirname sed awk find sort grep cut mktemp tar gzip true uname; do
+        dirname readlink sed awk find sort grep cut mktemp tar gzip true uname; do
         ! at=$(command -v "$tool") || ln -s "$at" "$clean/bin/$tool"
     done
     ! sysroot=$(rustc --print sysroot 2>/dev/null) || ln -s "$sysroot/bin/cargo" "$sysroot/bin/rustc" "$clean/bin/" || return 1
@@ -91,16 +96,19 @@ put_built() {
 }
 
 clone_tree() {
-    git clone -q "$packages/one" "$packages/$1" && put_built "$packages/$1"
+    (umask 077 && git clone -q "$packages/one" "$packages/$1") && put_built "$packages/$1"
 }
 
-# A clone's files have other times, and its packages are made with another umask, time zone, language and home.
+# A clone's files have other times and modes, and its packages are made with another umask, time zone, language and home, in a folder whose
+# files go to another group, if this user may choose it. Nothing is left there.
 package_again() {
     clone_tree "$1" && package_clone "$1"
 }
 
 package_clone() {
-    (umask 077 && TZ=Asia/Tokyo LC_ALL=C.UTF-8 HOME=$clean/home GATE_LOG=$packages/log "$packages/$1/package")
+    mkdir -p "$packages/tmp" && { chgrp 1 "$packages/tmp" && chmod g+s "$packages/tmp" || true; } 2>/dev/null
+    (umask 077 && TMPDIR=$packages/tmp TZ=Asia/Tokyo LC_ALL=C.UTF-8 HOME=$clean/home GATE_LOG=$packages/log "$packages/$1/package") \
+        && rmdir "$packages/tmp"
 }
 
 compare_packages() {
@@ -118,6 +126,14 @@ with_change() {
     "$packages/one/package"
     said=$?
     git -C "$packages/one" checkout -q README.md
+    return $said
+}
+
+with_new_file() {
+    echo "more" >"$packages/one/more.txt"
+    "$packages/one/package"
+    said=$?
+    rm "$packages/one/more.txt"
     return $said
 }
 
@@ -141,7 +157,7 @@ are_in_order() {
 }
 
 unpack() {
-    in_clean tar -C "$packages" -xzf "$made/nidzaru-$version-x86_64-linux.tar.gz" && [ -x "$unpacked/install" ]
+    in_clean tar -C "$packages" -xzf "$tar" && [ -x "$unpacked/install" ] && in_clean tar -C "$packages" -xzf "$programs"
 }
 
 are_linked() {
@@ -150,7 +166,7 @@ are_linked() {
 
 # Whether the three packages have one library, of which the list tells.
 is_one_library() {
-    dpkg-deb -x "$made/libnidzaru-dev_${version}_amd64.deb" "$packages/debian" && tar -C "$packages" -xzf "$made/nidzaru-$version.crate" \
+    dpkg-deb -x "$deb" "$packages/debian" && tar -C "$packages" -xzf "$made/nidzaru-$version.crate" \
         || return 1
     sum=$(sha256sum <"$unpacked/lib/libnidzaru.a")
     [ "$(sha256sum <"$packages/debian/usr/lib/x86_64-linux-gnu/libnidzaru.a")" = "$sum" ] \
@@ -158,11 +174,152 @@ is_one_library() {
         && grep -q "SHA256: ${sum%% *}$" "$made/nidzaru-$version.spdx"
 }
 
+# The licence of a part in a list, and `none` where it isn't listed.
+#   licence_of PART LIST
+licence_of() {
+    awk -v part="PackageName: $1" '/^PackageName: / { inside = $0 == part } inside && sub(/^PackageLicenseConcluded: /, "") { print; found = 1 }
+        END { if (!found) print "none" }' "$2"
+}
+
+# Whether a list has each of the library's crates under our licence, and of the kit's parts that name no licence that none is known.
 is_listed_with_licence() {
-    for part in nidzaru-c_exports nidzaru-c_registers kit-std kit-atomic_table heap.o; do
-        grep -A 6 -x "PackageName: $part" "$made/nidzaru-$version.spdx" | grep -q '^PackageLicenseConcluded: .' \
-            || { echo "$part" && return 1; }
+    for part in heap.o $(printf 'nidzaru-%s ' $(crates_below c_exports)); do
+        [ "$(licence_of "$part" "$1")" = 'MIT OR Apache-2.0' ] || { echo "$part: $(licence_of "$part" "$1")" && return 1; }
     done
+    for part in libnidzaru.a kit-std kit-atomic_table; do
+        [ "$(licence_of "$part" "$1")" = NOASSERTION ] || { echo "$part: $(licence_of "$part" "$1")" && return 1; }
+    done
+}
+
+# The files of a tar by their paths in its one folder, and of the Debian package in the root, without the endings of those that are packed.
+list_tar() {
+    tar -tzf "$1" | sed -n 's|^[^/]*/||; /[^/]$/p'
+}
+
+list_debian() {
+    dpkg-deb --fsys-tarfile "$deb" | tar -t | sed -n 's|^\./||; s|\.gz$||; /[^/]$/p'
+}
+
+# Whether a list of files is this one.
+#   lists LISTED PATH..
+lists() {
+    listed=$1
+    shift
+    printf '%s\n' "$@" | LC_ALL=C sort >"$room/wanted" && LC_ALL=C sort "$listed" | diff - "$room/wanted"
+}
+
+headers='include/nidzaru.h include/nidzaru.hpp include/nidzaru_log.h'
+
+# Whether a list of files is that of the library's tar.
+lists_tar() {
+    lists "$1" $headers lib/libnidzaru.a lib/pkgconfig/nidzaru.pc lib/cmake/nidzaru/nidzaruConfig.cmake \
+        lib/cmake/nidzaru/nidzaruConfigVersion.cmake share/nidzaru/files $(printf 'share/doc/nidzaru/%s ' $library_pages) \
+        BUILD-INFO README.md install "nidzaru-$version.spdx"
+}
+
+lists_debian() {
+    libdir=usr/lib/x86_64-linux-gnu pages=usr/share/doc/libnidzaru-dev
+    lists "$1" $(printf 'usr/%s ' $headers) $libdir/libnidzaru.a $libdir/pkgconfig/nidzaru.pc \
+        $libdir/cmake/nidzaru/nidzaruConfig.cmake $libdir/cmake/nidzaru/nidzaruConfigVersion.cmake \
+        $(printf "$pages/%s\n" $library_pages | grep -v LICENSE-) $pages/BUILD-INFO "$pages/nidzaru-$version.spdx" \
+        $pages/copyright $pages/changelog usr/share/lintian/overrides/libnidzaru-dev
+}
+
+lists_crate() {
+    lists "$1" $(cd rust/nidzaru && find src examples -type f) Cargo.toml build.rs lib/libnidzaru.a BUILD-INFO LICENSE-MIT LICENSE-APACHE \
+        "nidzaru-$version.spdx"
+}
+
+lists_programs() {
+    lists "$1" $(find examples -maxdepth 1 -type f) bin/fsr bin/picture docs/FORMATS.md docs/CHECKING.md docs/PICTURES.md BUILD-INFO LICENSE-MIT \
+        LICENSE-APACHE "nidzaru-programs-$version.spdx"
+}
+
+# Whether each package has its files, and no other ones.
+have_their_files() {
+    list_tar "$tar" >"$packages/listed" && lists_tar "$packages/listed" || return 1
+    list_debian >"$packages/listed_debian" && lists_debian "$packages/listed_debian" || return 1
+    list_tar "$made/nidzaru-$version.crate" >"$packages/listed_crate" && lists_crate "$packages/listed_crate" || return 1
+    list_tar "$programs" >"$packages/listed_programs" && lists_programs "$packages/listed_programs"
+}
+
+# Whether all can read what a tar has, all can run what are programs, and nobody is named as its owner.
+has_plain_modes() {
+    ! tar --numeric-owner -tvzf "$1" | grep -v -e '^drwxr-xr-x 0/0 .*/$' -e '^-rwxr-xr-x 0/0 .*/\(install\|bin/[a-z]*\)$' \
+        -e '^-rw-r--r-- 0/0 .*[^/]$' && ! tar -tvzf "$1" | grep -e '^-rw-.*/\(install\|bin/[a-z]*\)$'
+}
+
+have_plain_modes() {
+    for package in "$tar" "$programs" "$made/nidzaru-$version.crate"; do
+        has_plain_modes "$package" || return 1
+    done
+    ! dpkg-deb -c "$deb" | grep -v -e '^drwxr-xr-x root/root ' -e '^-rw-r--r-- root/root '
+}
+
+# Whether BUILD-INFO names commit, kit, tools, what is proved and what is trusted.
+tells_build() {
+    kit_folder=$(dirname -- "$(rt doc)") && hash=$(git -C "$packages/one" rev-parse HEAD) || return 1
+    for line in "version    $version, x86-64 Linux" "kit        $(rt version)" 'Proved of the exports' 'Trusted' 'Given on'; do
+        grep -qxF -e "$line" "$1" || { echo "no line '$line'" && return 1; }
+    done
+    for line in "commit     $hash, [0-9-]*T[0-9:]*Z" ' *the library.s .comment: rattle logic=[0-9a-f]\{64\}' \
+        'compilers  .*clang version [0-9].*; GNU ld .*' 'gate       [1-9].*'; do
+        grep -qx -e "$line" "$1" || { echo "no line '$line'" && return 1; }
+    done
+    for word in $(awk '{ print $NF }' "$kit_folder/WHAT"); do
+        grep -qwF -e "$word" "$1" || { echo "no $word of the kit" && return 1; }
+    done
+    sed -n '/^Trusted$/,/^$/p' "$1" | tr -s '\n ' ' ' | grep -q 'kit (compiler, prover, LLVM).*heap.c.*C library.*specs/' || { echo "trusted" && return 1; }
+}
+
+# Whether each package has it.
+has_build_info() {
+    for folder in "$unpacked" "$packages/nidzaru-$version" "$packages/debian/usr/share/doc/libnidzaru-dev" "$unpacked_programs"; do
+        cmp "$made/BUILD-INFO" "$folder/BUILD-INFO" || return 1
+    done
+}
+
+tells_less() {
+    sed "$1" "$made/BUILD-INFO" >"$packages/info" && tells_build "$packages/info"
+}
+
+# Whether the Debian package is packed by gzip, and its version and size, in KiB by files, are those of what it has.
+is_debian() {
+    [ "$(ar t "$1" | tr '\n' ' ')" = 'debian-binary control.tar.gz data.tar.gz ' ] || { echo "it has $(ar t "$1" | tr '\n' ' ')" && return 1; }
+    [ "$(dpkg-deb -f "$1" Version)" = "$version" ] || { echo "version $(dpkg-deb -f "$1" Version)" && return 1; }
+    kilobytes=$(dpkg-deb --fsys-tarfile "$1" | tar -tv | awk '/^-/ { sum += int(($3 + 1023) / 1024) } END { print sum }')
+    [ "$(dpkg-deb -f "$1" Installed-Size)" = "$kilobytes" ] || { echo "size $(dpkg-deb -f "$1" Installed-Size), not $kilobytes" && return 1; }
+}
+
+# Packs the Debian package anew with another line in its control file, or by another program.
+#   is_debian_with SED WORD
+is_debian_with() {
+    rm -rf "$packages/anew" && dpkg-deb -R "$deb" "$packages/anew" && sed -i "$1" "$packages/anew/DEBIAN/control" \
+        && dpkg-deb --root-owner-group "$2" --build "$packages/anew" "$packages/anew.deb" && is_debian "$packages/anew.deb"
+}
+
+# What the packaged crate's build script says to cargo on such a system, with such sanitizers.
+#   link_on SYSTEM [SANITIZERS]
+link_on() {
+    env CARGO_MANIFEST_DIR=/crate CARGO_CFG_TARGET_ARCH="${1%-*}" CARGO_CFG_TARGET_OS="${1#*-}" ${2:+"CARGO_CFG_SANITIZE=$2"} "$packages/build_rs"
+}
+
+# Whether that links the crate's own archive on x86-64 Linux alone, and tells the crate of ThreadSanitizer.
+links_its_library() {
+    in_clean rustc --edition 2021 -o "$packages/build_rs" "$1" || return 1
+    said='cargo:rerun-if-changed=lib/libnidzaru.a\ncargo:rustc-link-search=native=/crate/lib\ncargo:rustc-link-lib=static=nidzaru\n'
+    [ "$(link_on x86_64-linux)" = "$(printf "$said")" ] || { echo "on Linux $(link_on x86_64-linux)" && return 1; }
+    [ "$(link_on x86_64-linux address,thread)" = "$(printf "cargo:rustc-cfg=nidzaru_watched\n$said")" ] || { echo "not watched" && return 1; }
+    for system in aarch64-linux x86_64-windows; do
+        ! link_on "$system" >"$room/linked" 2>&1 && grep -qx 'the library of nidzaru is for x86-64 Linux' "$room/linked" \
+            || { echo "it links on $system" && return 1; }
+    done
+}
+
+# The same with a text in place of another one.
+links_with() {
+    sed "$1" "$packages/nidzaru-$version/build.rs" >"$packages/build.rs" && ! cmp -s "$packages/build.rs" "$packages/nidzaru-$version/build.rs" \
+        && links_its_library "$packages/build.rs"
 }
 
 # A C program over the library that pkg-config finds in this folder, run where nothing of the toolchain is.
@@ -178,12 +335,28 @@ in_musl() {
         -o "$room/program" && in_clean "$room/program" | grep -qx 'no record was torn'
 }
 
-# A project that asks CMake for this version, with the packages of a prefix. No compiler is looked for.
+# A project that asks CMake for this version, twice, with the packages of a prefix and these words. No compiler is looked for.
+#   configure VERSION PREFIX WORDS..
 configure() {
     rm -rf "$packages/asks" && mkdir "$packages/asks" || return 1
-    printf 'cmake_minimum_required(VERSION 3.19)\nproject(asks NONE)\nfind_package(nidzaru %s REQUIRED)\n' "$1" \
-        >"$packages/asks/CMakeLists.txt"
-    in_clean cmake -S "$packages/asks" -B "$packages/asks/built" "-DCMAKE_PREFIX_PATH=$2"
+    cat >"$packages/asks/CMakeLists.txt" <<CMAKE
+cmake_minimum_required(VERSION 3.19)
+project(asks NONE)
+find_package(nidzaru $1 REQUIRED)
+find_package(nidzaru $1 REQUIRED)
+get_target_property(library nidzaru::nidzaru IMPORTED_LOCATION)
+if(NOT EXISTS "\${library}")
+  message(FATAL_ERROR "there is no \${library}")
+endif()
+CMAKE
+    prefix_path=$2
+    shift 2
+    in_clean cmake -S "$packages/asks" -B "$packages/asks/built" "-DCMAKE_PREFIX_PATH=$prefix_path" "$@"
+}
+
+# Finds the CMake package by a link to its folder.
+configure_by_link() {
+    ln -s "$1/lib/cmake/nidzaru" "$clean/linked" && configure '' "$clean/nowhere" "-Dnidzaru_DIR=$clean/linked"
 }
 
 in_cpp() {
@@ -274,6 +447,72 @@ is_gone() {
     [ "$(cd "$1" && find . -type f)" = ./include/another.h ] && [ ! -e "$1/share" ] && [ ! -e "$1/lib" ]
 }
 
+# Whether everybody can read what is unpacked and installed under a narrow umask, and no temporary folder stays.
+is_open() {
+    mkdir "$clean/tmp" "$clean/narrow" && cp -R "$unpacked" "$clean/narrow/it" && chmod -R go= "$clean/narrow/it" || return 1
+    (umask 077 && in_clean TMPDIR="$clean/tmp" "$clean/narrow/it/install" "$clean/open") && rmdir "$clean/tmp" || return 1
+    closed=$(find "$clean/open" -type d ! -perm 755 -o -type f ! -perm 644)
+    [ -z "$closed" ] || { echo "closed: $closed" && return 1; }
+}
+
+# Whether a prefix goes with its last file, also where a folder in it has gone before, and the folder around it stays.
+leaves_no_folder() {
+    install_to "$clean/around/prefix" lib && rm -r "$clean/around/prefix/lib/cmake/nidzaru" "$clean/around/prefix/share/doc/nidzaru" \
+        && mkdir "$clean/tmp" && in_clean TMPDIR="$clean/tmp" "$unpacked/install" --uninstall "$clean/around/prefix" || return 1
+    rmdir "$clean/tmp" && [ -d "$clean/around" ] && [ -z "$(find "$clean/around" -mindepth 1)" ]
+}
+
+# Sees that nothing is taken away by a list with this path, and says why.
+#   uninstall_by PATH
+uninstall_by() {
+    install_to "$clean/listed" lib >/dev/null && echo "kept" >"$clean/kept" && echo "$1" >>"$clean/listed/share/nidzaru/files" || return 1
+    count=$(find "$clean/listed" "$clean/kept" -type f | wc -l)
+    in_clean "$unpacked/install" --uninstall "$clean/listed"
+    said=$?
+    [ "$(find "$clean/listed" "$clean/kept" -type f | wc -l)" = "$count" ] || echo "something is gone"
+    rm -rf "$clean/listed"
+    return $said
+}
+
+# Installs where the folder of the headers is a link to another one outside of the prefix, or uninstalls there.
+#   over_link install|uninstall
+over_link() {
+    rm -rf "$clean/listed" "$clean/elsewhere" && install_to "$clean/listed" lib >/dev/null && mv "$clean/listed/include" "$clean/elsewhere" \
+        && ln -s ../elsewhere "$clean/listed/include" || return 1
+    rm "$clean/elsewhere/nidzaru_log.h"
+    if [ "$1" = install ]; then install_to "$clean/listed" lib; else in_clean "$unpacked/install" --uninstall "$clean/listed"; fi
+    said=$?
+    [ "$(ls "$clean/elsewhere" | tr '\n' ' ')" = 'nidzaru.h nidzaru.hpp ' ] || echo "it has reached outside"
+    return $said
+}
+
+# Installs onto the unpacked folder, or takes away what is there, by its path or a link to it.
+onto_itself() {
+    ln -sfn "$unpacked" "$clean/same"
+    in_clean "$unpacked/install" $2 "$1"
+    said=$?
+    [ -f "$unpacked/lib/libnidzaru.a" ] || echo "the library is gone"
+    return $said
+}
+
+# Sees that a prefix can be written, as a user who may not write everywhere, and that nothing is made there.
+sees_prefix() {
+    as_user=
+    [ "$(id -u)" != 0 ] || as_user='setpriv --bounding-set=-dac_override,-dac_read_search'
+    $as_user sh packaging/install --check "$1"
+    said=$?
+    [ ! -e "$1" ] || echo "it has made $1"
+    return $said
+}
+
+# Calls the repository's script where there is no toolchain.
+install_without_kit() {
+    env PATH="$clean/bin" ./install "$clean/unmade"
+    said=$?
+    [ ! -e "$clean/unmade" ] || echo "it has made $clean/unmade"
+    return $said
+}
+
 # Whether an installation in which this file can't be written fails and says so, and what it has put there can be taken away.
 fails_at() {
     rm -rf "$clean/stuck" && mkdir -p "$clean/stuck/$1" || return 1
@@ -297,26 +536,59 @@ over_debian() {
 }
 
 is_clean_for_lintian() {
-    lintian --allow-root --no-tag-display-limit -I --fail-on info,warning,error "$made/libnidzaru-dev_${version}_amd64.deb"
+    lintian --allow-root --no-tag-display-limit -I --fail-on info,warning,error "$deb"
 }
 
 use_programs() {
-    tar -C "$packages" -xzf "$made/nidzaru-programs-$version-x86_64-linux.tar.gz" && cd "$packages/nidzaru-programs-$version-x86_64-linux" \
-        && in_clean bin/fsr check <examples/lawful.json | cmp - examples/lawful.txt \
+    cd "$unpacked_programs" && in_clean bin/fsr check <examples/lawful.json | cmp - examples/lawful.txt \
         && in_clean bin/picture <examples/lawful.json | grep -q '</svg>'
 }
 
+# What all of `./test` would say on a commit, as far as ./package looks at it, with each script's checks as they are stated, or as a
+# command of sed changes them.
+#   gate_log COMMIT [SED]
+gate_log() {
+    stated_numbers | sed "${2:-}" >"$packages/counts"
+    sed 's/\(.*\) \([0-9]*\)$/test: \1: \2 checks/' "$packages/counts"
+    echo "test: all of ./test ran on commit $1; its counts have the sum sha256 $(sha256sum <"$packages/counts" | cut -d ' ' -f 1)"
+    awk '{ sum += $NF } END { print sum + 1 " passed, 0 failed" }' "$packages/counts"
+}
+
+# Sees that ./package refuses a log, and why.
+#   refuses_log TITLE SAID
+refuses_log() {
+    is_refused "./package with the log of $1" "$packages/refused: .*$2" env GATE_LOG="$packages/refused" "$packages/one/package"
+}
+
+refuse_logs() {
+    hash=$(git -C "$packages/one" rev-parse HEAD)
+    gate_log "$hash" >"$packages/log"
+    gate_log "$(printf '%s' "$hash" | tr 0-9a-f 1-9a-f0)" >"$packages/refused"
+    refuses_log "another commit" "no log of all of .* on commit $hash"
+    gate_log "${hash%?}" >"$packages/refused"
+    refuses_log "the beginning of a commit" "no log of all of"
+    gate_log "$hash,with-changes" >"$packages/refused"
+    refuses_log "a commit with changes" "no log of all of"
+    sed 's/ 0 failed/ 1 failed/' "$packages/log" >"$packages/refused"
+    refuses_log "a gate that failed" "doesn't end with a gate"
+    sed '$s/.*/0 passed, 0 failed/' "$packages/log" >"$packages/refused"
+    refuses_log "a gate of 0 passed" "doesn't end with a gate"
+    printf 'test: this is commit %s\ntest: tests/docs/release.sh: 4 checks\n5 passed, 0 failed\n' "$hash" >"$packages/refused"
+    refuses_log "a script" "no log of all of"
+    gate_log "$hash" '/release/!d' >"$packages/refused"
+    refuses_log "one script as if it were all" "rt ci wasn't run"
+    sed '/^test: tests.docs.release.sh: /d' "$packages/log" >"$packages/refused"
+    refuses_log "a gate without a script's line" "its counts aren't those"
+}
+
 check_packages() {
-    printf 'test: this is commit %s\n12 passed, 0 failed\n' "$(git -C "$packages/one" rev-parse HEAD)" >"$packages/log"
-    sed 's/commit ./commit x/' "$packages/log" >"$packages/foreign"
-    sed 's/0 failed/1 failed/' "$packages/log" >"$packages/bad"
+    refuse_logs
     is_refused "./package over a changed tree" "aren't committed: .*README.md" with_change
-    is_refused "./package with another commit's log" 'is no log of' env GATE_LOG="$packages/foreign" "$packages/one/package"
-    is_refused "./package with the log of a gate that failed" "doesn't end with a gate" env GATE_LOG="$packages/bad" "$packages/one/package"
+    is_refused "./package with a new file" "aren't committed: .*more.txt" with_new_file
     is_refused "./package over a library of another logic" "proved by logic ''" with_another_logic
     check "./package" env GATE_LOG="$packages/log" "$packages/one/package"
     sum=$(sha256sum <"$packages/log")
-    check "BUILD-INFO has the gate's last line" grep -q "^gate  *12 passed, 0 failed; .*${sum%% *}\$" "$made/BUILD-INFO"
+    check "BUILD-INFO has the gate's last line" grep -qxF "gate       $(tail -n 1 "$packages/log"); its log has the sum sha256 ${sum%% *}" "$made/BUILD-INFO"
     check "./package in a clone, of another time and with other settings" package_again two
     check "the same bytes from both" compare_packages two
     check "a fault planted in ./package" plant_time
@@ -326,7 +598,24 @@ check_packages() {
     check "the packages' tar" unpack
     check "the links of the tar's pages" are_linked
     check "one library in tar, Debian package and crate" is_one_library
-    check "what the library contains, with a licence or none" is_listed_with_licence
+    check "what the library contains, with a licence or none" is_listed_with_licence "$made/nidzaru-$version.spdx"
+    sed 's/^\(PackageLicense[A-Za-z]*:\) NOASSERTION/\1 MIT OR Apache-2.0/' "$made/nidzaru-$version.spdx" >"$packages/spdx"
+    is_refused "every licence ours" 'libnidzaru.a: MIT' is_listed_with_licence "$packages/spdx"
+    check "the files of each package" have_their_files
+    sed -i '/nidzaru_log.h/d' "$packages/listed" "$packages/listed_debian"
+    is_refused "a tar without the recorder" 'nidzaru_log.h' lists_tar "$packages/listed"
+    is_refused "a Debian package without the recorder" 'nidzaru_log.h' lists_debian "$packages/listed_debian"
+    check "modes and owners in each package" have_plain_modes
+    tar -C "$packages" --owner=7 -czf "$packages/owned.tar.gz" log
+    is_refused "a tar with its packer's owner" ' 7/' has_plain_modes "$packages/owned.tar.gz"
+    check "BUILD-INFO tells commit, kit, tools and what is trusted" tells_build "$made/BUILD-INFO"
+    is_refused "BUILD-INFO without the kit" "no line 'kit  " tells_less '/^kit /d'
+    is_refused "BUILD-INFO without what is trusted" "no line 'Trusted'" tells_less '/^Trusted/,/^$/d'
+    check "BUILD-INFO in each package" has_build_info
+    check "the Debian package's parts, version and size" is_debian "$deb"
+    is_refused "a Debian package of another version" 'version 2.0.0' is_debian_with 's/^Version: .*/Version: 2.0.0/' -Zgzip
+    is_refused "a Debian package with its size in bytes" 'size [0-9]*000, not' is_debian_with 's/^Installed-Size: .*/&000/' -Zgzip
+    is_refused "a Debian package by xz" 'it has .*data.tar.xz' is_debian_with '' -Zxz
 }
 
 check_installed() {
@@ -347,6 +636,8 @@ check_installed() {
             "$before.0...$before.9" "$version.1" "$major.0 EXACT"; do
             is_refused "CMake: '$range' doesn't take $version" 'requested \(exact \)*version' configure "$range" "$clean/prefix"
         done
+        is_refused "CMake: a program of 32 bits" 'compatible with requested' configure $major.0 "$clean/prefix" -DCMAKE_SIZEOF_VOID_P=4
+        check "CMake: the package by a link" configure_by_link "$clean/prefix"
     fi
     check "the prefix, moved" sh -c 'mv "$1" "$2"' - "$clean/prefix" "$clean/moved"
     check "C over a moved prefix" in_c tasks.c "$clean/moved/lib"
@@ -361,20 +652,44 @@ check_installed() {
     check "install with DESTDIR" in_clean DESTDIR="$clean/staged" "$unpacked/install" /opt/nidzaru
     check "uninstall with DESTDIR" is_gone "$clean/staged/opt/nidzaru" /opt/nidzaru "DESTDIR=$clean/staged"
     is_refused "uninstall where nothing is" 'there is no' in_clean "$unpacked/install" --uninstall "$clean/wide"
+    check "install under umask 077" is_open
+    check "uninstall leaves no empty folder" leaves_no_folder
+    for path in ../kept include/../../kept "$clean/kept"; do
+        is_only_refused "uninstall by a list with ${path##"$clean"}" 'names a file outside of the prefix' uninstall_by "$path"
+    done
+    for task in install uninstall; do
+        is_only_refused "$task over a link out of the prefix" 'include leads out of the prefix' over_link "$task"
+    done
+    for folder in "$unpacked" "$clean/same" "$clean/same/"; do
+        is_only_refused "install onto itself, ${folder##*/packages/}" 'is where the library lies' onto_itself "$folder" ''
+        is_only_refused "uninstall of itself, ${folder##*/packages/}" 'is where the library lies' onto_itself "$folder" --uninstall
+    done
+    check "--check of a new folder" sees_prefix "$clean/new/prefix"
+    mkdir "$clean/read_only" && chmod 555 "$clean/read_only"
+    for folder in "$packages/log/prefix" "$clean/read_only/prefix"; do
+        is_only_refused "--check of ${folder#"$packages/"}" "can't be written" sees_prefix "$folder"
+    done
+    is_only_refused "./install without the toolchain" "isn't on the PATH" install_without_kit
     for file in include/nidzaru.h include/nidzaru.hpp lib/libnidzaru.a lib/pkgconfig/nidzaru.pc lib/cmake/nidzaru/nidzaruConfig.cmake \
         lib/cmake/nidzaru/nidzaruConfigVersion.cmake share/doc/nidzaru/LICENSE-MIT share/nidzaru/files; do
         check "install where $file can't be written" fails_at "$file"
     done
-    for words in LIBDIR=/lib64 LIBDIR=../lib LIBDIR=lib//; do
+    for words in LIBDIR=/lib64 LIBDIR=../lib LIBDIR=lib// LIBDIR=-x LIBDIR=lib/-x 'LIBDIR=lib x' "LIBDIR=lib${tab}x"; do
         check "./install with $words" is_misuse "$words" ./install "$clean/misused"
     done
     check "./install with DESTDIR and a path from here on" is_misuse DESTDIR="$clean/misused" ./install here
     check "./install without a word" is_misuse ./install
+    check "./install with two words" is_misuse ./install "$clean/misused" "$clean/misused"
+    check "nothing is made by misuse" [ ! -e "$clean/misused" ]
 }
 
 check_rust() {
     in_clean sh -c 'command -v cargo' >/dev/null || return
     check "Rust over the packaged crate, with no library installed" in_rust_of_package "nidzaru-$version"
+    check "the packaged crate links its own library on x86-64 Linux" links_its_library "$packages/nidzaru-$version/build.rs"
+    is_refused "the packaged crate for any system" 'it links on aarch64' links_with 's/"x86_64".into()/variable("CARGO_CFG_TARGET_ARCH")/'
+    is_refused "the packaged crate never watched" 'not watched' links_with 's/"thread"/"memory"/'
+    is_refused "the packaged crate with a shared object" 'on Linux' links_with 's/static=nidzaru/dylib=nidzaru/'
     write_over
     check "Rust over the installed library" tells_version "$number"
     is_refused "a wrong version of it" 'it runs with' tells_version 1
@@ -388,18 +703,16 @@ check_rust() {
     check "Rust over a later library" tells_version "$((number + 1))"
 }
 
-if ! commit=$(git rev-parse HEAD 2>/dev/null); then
-    echo "test: this is no commit"
-elif [ -n "$(git status --porcelain)" ]; then
-    echo "test: this is commit $commit, with changes"
-else
-    echo "test: this is commit $commit"
-fi
+tab=$(printf '\t')
 version=$(version_of_header)
 major=${version%%.*} before=$((${version%%.*} - 1)) next=$((${version%%.*} + 1))
 unpacked=$packages/nidzaru-$version-x86_64-linux
 examples=$unpacked/share/doc/nidzaru/examples/c
 made=$packages/one/out/packages
+tar=$made/nidzaru-$version-x86_64-linux.tar.gz
+programs=$made/nidzaru-programs-$version-x86_64-linux.tar.gz
+deb=$made/libnidzaru-dev_${version}_amd64.deb
+unpacked_programs=$packages/nidzaru-programs-$version-x86_64-linux
 number=$(echo "$version" | awk -F. '{ print $1 * 10000 + $2 * 100 + $3 }')
 if ! is_fresh c_exports || ! has_program fsr || ! has_program picture; then
     fail "packages" "the library or a program wasn't built"
@@ -410,7 +723,7 @@ else
         check "a root with nothing of the toolchain and of this tree" is_root_clean
         is_refused "planted: a root with all of it" "has files" no_root
     else
-        echo "test: packages: no namespace of mounts is permitted, so files of the toolchain and of this tree can be read"
+        echo "test: no namespace of mounts is permitted, so files of the toolchain and of this tree can be read"
     fi
     check "a copy of the tree" copy_tree
     check_packages
@@ -420,4 +733,3 @@ else
     check_rust
     check "the packaged programs" use_programs
 fi
-echo "test: packages: $((passed + failed - kept_passed - kept_failed)) checks"

@@ -9,16 +9,49 @@ compare_documents() {
     python3 tests/programs/reference/compare.py "$1" --seed "$2" --documents "$3" --kinds "$4" >"$room/out" 2>&1
 }
 
-# The same, counted as a test with this title.
+# Whether the last line says that there were so many documents, and some of each of these kinds.
+#   has_compared NUMBER KIND..
+has_compared() {
+    line=$(tail -n 1 "$room/out") number=$1
+    shift
+    case $line in
+    "$number documents of seed "*": the same bytes and status") ;;
+    *) return 1 ;;
+    esac
+    for kind in "$@"; do
+        echo "$line" | grep -q " [1-9][0-9]* $kind[,:]" || return 1
+    done
+}
+
+# The same, counted as a test with this title. Words behind the kinds are the kinds that there have to be.
+#   compares TITLE SEED NUMBER KINDS KIND..
 compares() {
-    if compare_documents "$built/fsr/out/fsr" "$2" "$3" "$4"; then
-        pass "$1: $(tail -n 1 "$room/out")"
+    title=$1 seed=$2 number=$3 kinds=$4
+    shift 4
+    if ! compare_documents "$built/fsr/out/fsr" "$seed" "$number" "$kinds"; then
+        fail "$title" "$(cat "$room/out")"
+    elif ! has_compared "$number" "$@"; then
+        fail "$title" "not $number documents of $*: $(tail -n 1 "$room/out")"
     else
-        fail "$1" "$(cat "$room/out")"
+        pass "$title: $(tail -n 1 "$room/out")"
     fi
 }
 
-every_kind=check,log,cell,matrix,board,race,race
+compares_all() {
+    compares "random documents" "$1" "$2" check,log,cell,matrix,board,race,race check log cell matrix board race
+    compares "random logs" "$1" "$3" log log
+}
+
+# Compares where the comparison says this instead.
+#   compares_saying LINE NUMBER KIND..
+compares_saying() {
+    instead=$1 number=$2
+    shift 2
+    compare_documents() {
+        echo "$instead" >"$room/out"
+    }
+    compares a 1 "$number" all "$@"
+}
 
 # Sees that the reference finds a difference to a program that is the built one but for what this script makes of its first line.
 #   differs TITLE KINDS SCRIPT
@@ -44,13 +77,16 @@ STUB
 }
 
 test_documents() {
-    compares "random documents" "$1" "$2" "$every_kind"
-    compares "random logs" "$1" "$3" log
+    compares_all "$1" "$2" "$3"
     differs "another verdict" check 's/^unlawful reading/unlawful precedence/'
     differs "another order of a cell" cell 's/^order: 0 1/order: 1 0/'
     differs "another order of a log" log 's/^order: \([0-9]*\) \([0-9]*\)/order: \2 \1/'
     differs "a line less of a board" board '$d'
     differs "an unsound race" race 's/^origin: sound/origin: task 0, entry 0/'
+    catches "no document" "0 documents of seed 1" compares a 1 0 check
+    same=': the same bytes and status'
+    catches "fewer documents than are asked for" "not 30 documents" compares_saying "20 documents of seed 1, 20 cell$same" 30 cell
+    catches "documents of one kind alone" "not 20 documents of check cell" compares_saying "20 documents of seed 1, 20 cell$same" 20 check cell
 }
 
 case ${0##*/} in
@@ -69,8 +105,7 @@ documents.sh)
         exit 2
     fi
     has_program fsr || { echo "documents: fsr wasn't built" >&2; exit 70; }
-    compares "random documents" "$seed" "$number" "$every_kind"
-    compares "random logs" "$seed" "$number" log
+    compares_all "$seed" "$number" "$number"
     echo "$passed passed, $failed failed"
     [ "$failed" = 0 ]
     exit

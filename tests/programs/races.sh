@@ -167,3 +167,7 @@ STUB
 catches "a race whose origin is unsound" "status 0, and it printed" over_stubs document_of '[1,1,3]' 1 '[[],[]]'
 catches "a race that is run in turn" "it ended with status 0" over_stubs starts_no_thread fsr 10000 "$room/two.json" race
 catches "a race whose threads start" "it ended with status 0" starts_no_thread fsr 4000000 "$room/two.json" race
+for ending in "exit 5" "echo more; exit 6" "echo more >&2; exit 6"; do
+    printf 'cat >/dev/null; echo "fsr: a thread can'"'"'t start" >&2; %s\n' "$ending" | make_stub fsr
+    catches "no thread, and then $ending" "it ended with status ${ending##* }" over_stubs starts_no_thread fsr 10000 "$room/two.json" race
+done

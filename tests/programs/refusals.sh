@@ -59,6 +59,8 @@ table_of() {
     done <"$table"
     if [ "$rows" = 0 ]; then
         fail "$table" "it has no document"
+    elif [ "$rows" != "$(grep -vc '^#' "$table")" ]; then
+        fail "$table" "$rows of its documents were tried"
     elif [ "$missed" = 0 ]; then
         pass "$table: $rows documents"
     fi
@@ -160,16 +162,25 @@ padded() {
 
 # Each part of the first document that ends before its last byte; the line feed after that doesn't count.
 sees_parts() {
-    title="the first document cut before each of its bytes" missed=0
-    for length in $(seq 0 $(($(wc -c <examples/lawful.json) - 2))); do
+    title="the first document cut before each of its bytes" told=0 bytes=$(($(wc -c <examples/lawful.json) - 1))
+    for length in $(seq 0 $((bytes - 1))); do
         head -c "$length" examples/lawful.json >"$room/document"
-        tells check 'document: not JSON' || missed=$((missed + 1))
+        tells check 'document: not JSON' && told=$((told + 1))
     done
-    if [ "$missed" = 0 ]; then
+    if [ "$told" = "$bytes" ] && [ "$told" -gt 100 ]; then
         pass "$title"
     else
-        fail "$title" "$missed parts were told as something else"
+        fail "$title" "$told of $bytes parts were told so"
     fi
+}
+
+# Sees that another answer of a command's smaller program is noticed.
+#   catches_smaller COMMAND TOLD FUNCTION WORDS..
+catches_smaller() {
+    make_stub "fsr_$1" <<'STUB'
+cat >/dev/null; echo otherwise
+STUB
+    catches "another answer of fsr_$1" '^otherwise' over_stubs sees_long "$@"
 }
 
 if ! has_program fsr; then
@@ -217,13 +228,17 @@ else
     sees_long play 'document: range of terms' long_terms 9999 100000
     sees_long play 'document: range of terms' long_terms 10000 99999
 
-    # The controls: another fault, another rule, a lawful order told as unlawful, a table with one wrong row or none, a program that
-    # leaves the last byte unread, and one that refuses a part of a document for another reason.
+    # The controls: another fault, another rule, a lawful order told as unlawful, a table with a wrong row behind a right one, or none, a
+    # program that leaves the last byte unread, one that says more on the other stream, one that refuses a part of a document for another
+    # reason, and a smaller program of each command that answers otherwise.
     catches "another fault" "not 'document: kind' but status 3" sees_long check 'document: kind' plain_check 10001 0 0
     catches "another rule" "not 'unlawful precedence' but status 1" sees_long check 'unlawful precedence' plain_check 0 10000 0
     catches "a lawful order told as unlawful" "not 'unlawful listing' but status 0" sees_long check 'unlawful listing' cat examples/lawful.json
-    printf '# a row\nunlawful listing | %s\n' "$(tr -d '\n' <examples/lawful.json)" >"$room/table"
+    printf '# two rows\nlawful | %s\nunlawful listing | %s\n' "$(tr -d '\n' <examples/lawful.json)" "$(tr -d '\n' <examples/lawful.json)" \
+        >"$room/table"
     catches "a table with a wrong row" "not 'unlawful listing' but status 0" table_of check "$room/table"
+    sed -n 2p "$room/table" | sed 'p; s/^lawful/unlawful listing/' | head -c -1 >"$room/unended"
+    catches "a table whose last row isn't read" "1 of its documents were tried" table_of check "$room/unended"
     sed -n 1p "$room/table" >"$room/empty"
     catches "a table without a row" "it has no document" table_of check "$room/empty"
     mkdir -p "$room/stubs/fsr_check/out" && cp "$built/fsr_check/out/fsr_check" "$room/stubs/fsr_check/out/"
@@ -234,5 +249,13 @@ STUB
     make_stub fsr <<'STUB'
 cat >/dev/null; echo 'fsr: document: kind' >&2; exit 3
 STUB
-    catches "parts of a document that are told as something else" "parts were told" over_stubs sees_parts
+    catches "parts of a document that are told as something else" "^test: .*: 0 of [0-9]* parts" over_stubs sees_parts
+    make_stub fsr <<'STUB'
+cat >/dev/null; echo lawful; echo more >&2
+STUB
+    catches "a word on the other stream" "not 'lawful' but status 0" over_stubs sees_long check lawful cat examples/lawful.json
+    cp "$built/fsr/out/fsr" "$room/stubs/fsr/out/fsr"
+    catches_smaller check lawful cat examples/lawful.json
+    catches_smaller order 'document: kind' cat examples/lawful.json
+    catches_smaller play 'schedule: no operation left at step 0' long_cell 0 0 1
 fi

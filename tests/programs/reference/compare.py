@@ -2,7 +2,8 @@
 
     compare.py PROGRAM [--documents N] [--seed S] [--kinds check,log,cell,matrix,board,race]
 
-The last line is how many documents gave the same bytes and status, by kind of ending. The first difference ends the run with
+The last lines are how many documents gave the same bytes and status, by kind of ending, and how many there were, by their kind. None at all
+is status 1. The first difference ends the run with
 status 1, with the document kept in the file that is named. Where it depends on the run which writes of a race are refused, the
 writes of each task and its refused ones are compared together. Which order of a log is told is free, and which reason of a rule: the
 places have to be such an order or reason, and `check` has to call the order lawful.
@@ -83,9 +84,9 @@ def keep(text):
 
 def main():
     given = words()
-    source, counts = random.Random(given.seed), collections.Counter()
+    source, counts, kinds = random.Random(given.seed), collections.Counter(), collections.Counter()
     for number in range(given.documents):
-        command, text = make_documents.make_document(source, given.kinds.split(","))
+        kind, command, text = make_documents.make_document(source, given.kinds.split(","))
         wanted = answers.answer(command, text)
         found = ended(given.program, command, text)
         if not agree(given.program, command, text, found, wanted):
@@ -94,8 +95,10 @@ def main():
             print("the reference:", *wanted, sep="\n")
             return 1
         counts[ending_of(command, wanted)] += 1
-    tell_endings(counts, f"{given.documents} documents of seed {given.seed}")
-    return 0
+        kinds[kind] += 1
+    by_kind = "".join(f", {count} {kind}" for kind, count in sorted(kinds.items()))
+    tell_endings(counts, f"{kinds.total()} documents of seed {given.seed}{by_kind}")
+    return 0 if kinds else 1
 
 
 if __name__ == "__main__":

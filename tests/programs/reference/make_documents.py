@@ -191,7 +191,7 @@ def hostile_text(random, text):
 
 
 def make_document(random, kinds):
-    """A command and the bytes of a document."""
+    """The kind of a document, a command and its bytes."""
     kind = random.choice(kinds)
     made = KINDS[kind](random)
     command = COMMANDS[kind]
@@ -205,4 +205,4 @@ def make_document(random, kinds):
     text = json.dumps(made, separators=random.choice([(",", ":"), (", ", ": ")]), ensure_ascii=False).encode()
     if 0.25 <= hostile < 0.35:
         text = hostile_text(random, text)
-    return command, text
+    return kind, command, text
