@@ -1,4 +1,4 @@
--- A small log without a lawful order, made of a larger one: of the kept operations those that the reason names, with the writes of their
+-- A small log, made of a larger one that has no lawful order: of the kept operations those that the reason names, with the writes of their
 -- records. It is printed as a document of kind `log`, in which the record with the number n is [n,n,n] (this project's own).
 use Rattle.std.specs.Prelude.{ℕ, ◌++◌, ◌==◌, zero, suc, List, [], ◌∷◌, codes, length, if◌then◌else◌, slice_get, unwrap_or, Option, None}
 use Rattle.std.specs.Prelude.{Some}
