@@ -19,6 +19,7 @@ side by side, else one.
 """
 
 import argparse
+import collections
 import concurrent.futures
 import os
 import queue
@@ -307,8 +308,8 @@ def make_thin(place, crates):
     """A copy of theorem_uses, and of what it stands on without functions: it needs their definitions, types and a few lemmas alone."""
     shutil.copytree(TOP / "crates" / USES, place / "crates" / USES, ignore=shutil.ignore_patterns("out", "must-fail"))
     for path in (place / "crates" / USES / "src").glob("*.rt"):
-        # (callers call functions, and laws have no code)
-        if "\n{\n" in (text := path.read_text(encoding="utf-8")):
+        # (callers call functions, which the root passes on, and laws have no code)
+        if "\n{\n" in (text := path.read_text(encoding="utf-8")) or path.stem == "lib":
             path.write_text(without_functions(text), encoding="utf-8")
             shutil.rmtree(place / "crates" / USES / "proofs" / path.stem, ignore_errors=True)
     needed = lemmas(crates)
@@ -318,12 +319,20 @@ def make_thin(place, crates):
         for path in own.glob("src/**/*.rt"):
             (to / path.relative_to(own)).parent.mkdir(parents=True, exist_ok=True)
             (to / path.relative_to(own)).write_text(without_functions(path.read_text(encoding="utf-8")), encoding="utf-8")
-        mine = {path.stem for path in needed if own in path.parents}
-        if mine:
-            (to / "proofs").mkdir()
-            for name in mine:
-                shutil.copy2(own / "proofs" / f"{name}.antt", to / "proofs")
-            (to / "proofs/Lib.antt").write_text("".join(f"pub mod {name}\n" for name in sorted(mine)), encoding="utf-8")
+        copy_lemmas(own / "proofs", to / "proofs", [path for path in needed if own in path.parents])
+
+
+def copy_lemmas(own, to, paths):
+    """Copies these files of a crate's proofs, each as a module of the one whose folder it is in."""
+    modules = collections.defaultdict(set)
+    for path in paths:
+        place = path.relative_to(own)
+        (to / place).parent.mkdir(parents=True, exist_ok=True)
+        shutil.copy2(path, to / place)
+        for it in [place, *place.parents][:-1]:
+            modules[to / it.parent.with_suffix(".antt") if it.parent.name else to / "Lib.antt"].add(it.stem)
+    for file, names in modules.items():
+        file.write_text("".join(f"pub mod {name}\n" for name in sorted(names)), encoding="utf-8")
 
 
 class Bench:

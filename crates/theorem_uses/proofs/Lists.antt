@@ -10,7 +10,7 @@ use Rattle.board_live.specs.declared.board.Pass.{Pass}
 use Rattle.board_live.specs.declared.record.Posted.{Posted}
 use Rattle.board_live.specs.Ends.{AllPasses, did_by, HaveAtomicOrder}
 use Rattle.board_live.specs.Passes.{HasMade, IsPass}
-use Rattle.theorem_uses.proofs.Orders.{heeds, the_item}
+use Rattle.theorem_uses.proofs.Following.{heeds, the_item}
 
 module _ {V F S T : Type 0} (words : FamilyWords F (Posted V) S T) (board : Board V F S T) where
   pub two_passes : (obeys : V → Bool) (w r : Pass V F S T) → board.processes ≡ 2 → IsPass words obeys board w → w.process ≡ 0 →

@@ -16,7 +16,7 @@ use Rattle.board_live.specs.declared.receipts.Receipt.{Receipt}
 use Rattle.board_live.specs.declared.record.Posted.{Posted}
 use Rattle.board_live.specs.Passes.{IsCall, IsKnown}
 use Rattle.board_live.specs.Receipts.{HasLearnt, HasTold}
-use Rattle.theorem_uses.proofs.Orders.{not_first}
+use Rattle.theorem_uses.proofs.Following.{not_first}
 
 last_of : {A : Type 0} (P : A → Type 0) (xs : List A) (x : A) → All P (xs ++ x ∷ []) → P x
 last_of P [] x h = All-head P x [] h
