@@ -1,12 +1,12 @@
-"""The headlines of docs/HEADLINES.md, each with the definitions that one has to read to know what it says.
+"""The headlines of docs/HEADLINES.md and the sections of docs/THEOREMS.md, each with the definitions that one has to read to know what it
+says.
 
-    headlines.py               compares the reading sets of the page with what is so, and says what differs: status 1
+    headlines.py               compares the reading sets of the pages with what is so, and says what differs: status 1
     headlines.py --write       writes them anew
     headlines.py --names N     prints by file the definitions of the reading set of headline N
     headlines.py --names PAGE  prints those of the quotations of each section of another page
 
-A section of the page has quotations, blocks that begin with ```LANGUAGE PATH, and numbers behind the mark `<!-- reading set -->`. The
-reading set of the quotations are the definitions of the repository's `specs/` that they name, those that these name, and so on, and the
+A section has quotations, blocks that begin with ```LANGUAGE PATH, and numbers behind the mark `<!-- reading set -->`. The reading set of the quotations are the definitions of the repository's `specs/` that they name, those that these name, and so on, and the
 types of `src/` among them. Their lines, with their comments, and files are counted; what the kit defines isn't. The digest are eight hex
 digits of the SHA-256 of these definitions, without comments, each with where its file takes their names from. So a definition that changes
 is seen if its lines stay as many.
@@ -20,7 +20,7 @@ import sys
 from pathlib import Path
 
 TOP = os.path.dirname(os.path.dirname(os.path.dirname(os.path.realpath(__file__))))
-PAGE = f"{TOP}/docs/HEADLINES.md"
+PAGES = f"{TOP}/docs/HEADLINES.md", f"{TOP}/docs/THEOREMS.md"
 MARK = "<!-- reading set -->\n"
 QUOTE = re.compile(r"^```\w+ (\S+)\n(.*?)^```", re.S | re.M)
 USE = re.compile(r"^\s*(?:pub )?(?:ghost )?use Rattle\.(\w+)\.specs\.([\w.]+?)(?:\.\{(.*?)\}| as (\w+))", re.S | re.M)
@@ -215,33 +215,43 @@ def quotes_of(text):
     return [(it[1], it[2].split("\n")) for it in QUOTE.finditer(text)]
 
 
+def anew(section):
+    """A section of a page with the numbers of its quotations as they are, at its mark or at its end."""
+    before, _, after = section.partition(MARK)
+    quotes = quotes_of(before)
+    rest = after.split("\n\n", 1)[1] if "\n\n" in after else ""
+    return before.rstrip("\n") + "\n\n" + size_of(quotes) + "\n" + rest if quotes else section
+
+
+def compare(page, is_written):
+    """Compares the numbers of a page, or writes them: what differs, if anything, and how many sections have such."""
+    text = Path(page).read_text(encoding="utf-8")
+    sections = re.split(r"(?m)^(?=## )", text)
+    wanted = [anew(it) for it in sections]
+    if is_written:
+        Path(page).write_text("".join(wanted).rstrip("\n") + "\n", encoding="utf-8")
+    others = [old.split("\n")[0].removeprefix("## ") for old, new in zip(sections, wanted) if old.rstrip("\n") != new.rstrip("\n")]
+    return "; ".join(others), sum(MARK in it for it in wanted)
+
+
 def main(words):
-    with open(PAGE, encoding="utf-8") as file:
-        text = file.read()
-    first, *sections = re.split(r"(?m)^(?=## )", text)
     if words[:1] == ["--names"]:
-        which = words[1] if words[1:] else PAGE
-        page, number = (text, f"## {which}. ") if which.isdigit() else (Path(which).read_text(encoding="utf-8"), "## ")
-        for section in re.split(r"(?m)^(?=## )", page)[1:]:
-            if section.startswith(number):
+        which = words[1] if words[1:] else PAGES[0]
+        page, number = (PAGES[0], f"## {which}. ") if which.isdigit() else (which, "## ")
+        for section in re.split(r"(?m)^(?=## )", Path(page).read_text(encoding="utf-8"))[1:]:
+            if section.startswith(number) and quotes_of(section):
                 tell_names(section)
         return 0
-    wanted, others = [first], []
-    for section in sections:
-        before, mark, after = section.partition(MARK)
-        rest = after.split("\n\n", 1)[1] if "\n\n" in after else ""
-        wanted.append(before + (size_of(quotes_of(before)) + "\n" + rest if mark else ""))
-        if wanted[-1].rstrip("\n") != section.rstrip("\n"):
-            others.append(section.split("\n")[0].removeprefix("## "))
-    wanted = "".join(wanted).rstrip("\n") + "\n"
+    found = {page: compare(page, words == ["--write"]) for page in PAGES}
     if words == ["--write"]:
-        with open(PAGE, "w", encoding="utf-8") as file:
-            file.write(wanted)
         return 0
-    count = wanted.count(MARK)
-    print(f"the reading sets of {count} headlines are as docs/HEADLINES.md has them" if wanted == text else
-          f"docs/HEADLINES.md has another reading set of {'; '.join(others)}: read it, and run python3 tests/docs/headlines.py --write")
-    return 0 if wanted == text and count else 1
+    counts = [count for _, count in found.values()]
+    for page, (others, _) in found.items():
+        if others:
+            print(f"{os.path.relpath(page, TOP)} has another reading set of {others}: read it, and run python3 tests/docs/headlines.py --write")
+    if not any(others for others, _ in found.values()):
+        print(f"the reading sets of {counts[0]} headlines and {counts[1]} sections of theorems are as the pages have them")
+    return 0 if all(counts) and not any(others for others, _ in found.values()) else 1
 
 
 if __name__ == "__main__":

@@ -11,7 +11,7 @@ if ! command -v python3 >/dev/null 2>&1; then
 elif python3 tests/docs/headlines.py >"$room/out" 2>&1; then
     pass "the headlines: $(cat "$room/out")"
 else
-    fail "the headlines" "$(tail -n 1 "$room/out")"
+    fail "the headlines" "$(cat "$room/out")"
 fi
 if ! command -v python3 >/dev/null 2>&1; then
     fail "links" "there is no python3"
@@ -53,6 +53,10 @@ if command -v python3 >/dev/null 2>&1; then
     catches_in_tree "a changed definition with as many lines" "another reading set of $first" \
         crates/history_core/specs/Orders.antt 's/^MayStand None Write times = times ≤ 1/MayStand None Write times = times ≤ 2/' \
         python3 tests/docs/headlines.py
+    catches_in_tree "a changed definition of a theorem that no headline is" "docs/THEOREMS.md has another reading set of 4. Running boards" \
+        crates/board_live/specs/Receipts.antt 's/^    pub time : family.time_of receipt.told ≤ /&1 + /' python3 tests/docs/headlines.py
+    catches_in_tree "a section of theorems without its numbers" "docs/THEOREMS.md has another reading set of 6. Through C" docs/THEOREMS.md \
+        '/^## 6/,$ { /reading set/d }' python3 tests/docs/headlines.py
     catches_in_tree "a name taken from elsewhere" "another reading set of $first" crates/history_core/specs/Orders.antt \
         's/^use Rattle.std.specs.List.{count_by/use Rattle.std.specs.Lists.{count_by/' python3 tests/docs/headlines.py
     catches_in_tree "a link to no file" "there is no CHANGES.md" README.md '0,/](CHANGELOG.md/s//](CHANGES.md/' \

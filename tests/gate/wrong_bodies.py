@@ -53,7 +53,7 @@ OTHER = re.compile(r"(?:fn|logic|statements|library|crate|rattle) |(?:note|help|
 # How an error begins, without what it quotes, that tells of a name that is gone.
 GONE = "has no field|has no module|has no `x`|is not in scope|was not admitted|not found|is no module|there is no module"
 GONE_NAME = re.compile(rf"^(?:`x`: )?.{{,60}}?(?:{GONE})")
-DEPENDS = re.compile(r"declarations? that depends? on `([^`]+)`, which was rejected")
+DEPENDS = re.compile(r"declarations? that depends? on `([^`]+)`, which was (?:rejected|not admitted)")
 QUOTED = re.compile(r"`[^`]*`")
 DECLARED = re.compile(r"`([^`]+)`:")
 IN_VAIN = re.compile(r"note: src/\S+: it is not proved that ")
@@ -177,13 +177,20 @@ def declared_by(told):
 
 
 def roots_of(told, errors, passed=()):
-    """The errors that an error leads to: itself, or those of the declaration that it tells to have been rejected."""
+    """The errors that an error leads to: itself, or those of the declaration that it tells to have been rejected or not admitted."""
     depends = DEPENDS.search(told)
     if not depends:
         return [told]
     name = depends[1].rpartition(".")[2]
     own = [it for _, it in errors if it not in (told, *passed) and declared_by(it) == name]
     return [root for it in own for root in roots_of(it, errors, (*passed, told))]
+
+
+def is_proof_of(folder, where):
+    """Whether a file is of the proof of the function of this folder; that of functions that call each other lies in one, +A+B."""
+    at, _, name = where.rpartition("/")[0].rpartition("/")
+    group, _, own = folder.rpartition("/")
+    return at == group and (name == own or name.startswith("+") and own in name.split("+"))
 
 
 def refusal(crate, said, functions, by_goals=True):
@@ -194,7 +201,7 @@ def refusal(crate, said, functions, by_goals=True):
         verdict = verdicts.get(f"{crate}::{function}", "")
         goals = OPEN_GOALS.search(verdict)
         folder = f"proofs/{function.replace('::', '/')}"
-        errors = [root for where, it in told if where.rpartition("/")[0] == folder for root in roots_of(it, told) if not is_gone_name(root)]
+        errors = [root for where, it in told if is_proof_of(folder, where) for root in roots_of(it, told) if not is_gone_name(root)]
         if by_goals and verdict.startswith("no proof") and goals:
             reasons.append(f"{function} has no proof of {goals[1]}")
         elif verdict.startswith("not proved" if by_goals else ("no proof", "not proved")) and errors:
