@@ -224,7 +224,7 @@ def edits_of(path, name, numbers):
 
 def all_edits(headline, definition):
     """The edits of the definitions of a headline, or of all, each definition once."""
-    text, seen = Path(headlines.PAGE).read_text(encoding="utf-8"), set()
+    text, seen = Path(headlines.PAGES[0]).read_text(encoding="utf-8"), set()
     for number, section in enumerate(re.split(r"(?m)^(?=## )", text)[1:], 1):
         before, mark, _ = section.partition(headlines.MARK)
         if not mark or headline not in (None, number):
