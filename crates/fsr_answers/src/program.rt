@@ -13,10 +13,9 @@ use fsr_order_answers::{order, take_log};
 use fsr_play_answers::play;
 use fsr_words::Want;
 use history_core::Band;
-use program_runs::{Answer, Command, FSR, Fault, Program, run_command, take_document};
+use program_runs::{Answer, FSR, Fault, Program, give_answer, take_document};
 use program_streams::{Sink, Source};
 use std::alloc::Global;
-use std::marker::PhantomData;
 use std::thread::Threads;
 
 /// The answer of a command to the bytes of a document. A race is run over a board of this family.
@@ -60,40 +59,9 @@ fn take_input<I: Source, E: Sink>(
     }
 }
 
-/// A command of `fsr`, whose races are run in threads over boards of this family.
-#[derive(Drop)]
-struct Asked<'a, F, R> {
-    rt: &'a R,
-    want: Want,
-    family: PhantomData<F>,
-}
-
-impl<F: SharedFamily<Posted<Band>>, R: Threads + Sync> Command for Asked<'_, F, R>
-where
-    F::Seat: Send,
-    F::Told: Send,
-{
-    ghost is_reply = { λ self bytes reply. IsFsrAnswer ⟦<F as Family<Posted<Band>>>⟧ self.want bytes reply };
-
-    ghost is_unbounded = { λ self. is_unbounded self.want };
-
-    fn take<I: Source, E: Sink>(
-        &self,
-        alloc: Global,
-        program: &Program,
-        input: &mut I,
-        faults: &mut E,
-    ) -> Result<Vec<u8>, u8> {
-        take_input(alloc, program, self.want, input, faults)
-    }
-
-    fn reply(&self, alloc: Global, bytes: &[u8]) -> Result<Answer, Fault> {
-        answer::<F, R>(self.rt, alloc, self.want, bytes)
-    }
-}
-
 /// Runs a command over the streams of `fsr`, and gives the status that the run ends with. The text goes to `out`, and what is to be told
-/// besides goes to `faults`, whose failures change no status.
+/// besides goes to `faults`, whose failures change no status. (It is no `Command`: what `answer` sends to a thread rests on a bound that is
+/// known of this thread alone.)
 pub fn run<F: SharedFamily<Posted<Band>>, R: Threads + Sync, I: Source, O: Sink, E: Sink>(
     rt: &R,
     alloc: Global,
@@ -114,10 +82,11 @@ where
         (O.failed out.new) result }
     ensures faults { E.failed faults.new ≤ E.failed faults.old + 1 }
 {
-    let asked = Asked::<F, R> {
-        rt,
-        want,
-        family: PhantomData,
-    };
-    run_command(alloc, &FSR, &asked, input, out, faults)
+    match take_input(alloc, &FSR, want, input, faults) {
+        Ok(bytes) => {
+            let reply = answer::<F, R>(rt, alloc, want, bytes.as_slice());
+            give_answer(alloc, &FSR, reply, out, faults)
+        }
+        Err(status) => status,
+    }
 }

@@ -1,5 +1,5 @@
 -- The answer to the schedule of a cell: the text of the report of its run, or the fault (this project's own).
-use Rattle.std.specs.Prelude.{◌≡◌, ℕ, List, [], ◌∷◌, Result, Ok, Err}
+use Rattle.std.specs.Prelude.{◌≡◌, [], ◌∷◌, Result, Ok, Err}
 use Rattle.four_slot_core.specs.Play.{cell_span}
 use Rattle.four_slot_core.specs.declared.schedule.CellReport.{CellReport}
 use Rattle.four_slot_core.specs.declared.schedule.CellSchedule.{CellSchedule}
