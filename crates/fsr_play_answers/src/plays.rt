@@ -7,7 +7,7 @@ ghost use Rattle.read_schedule.specs.Document.{schedule_of};
 ghost use Rattle.read_schedule.specs.Players.{CanBePlayed};
 ghost use Rattle.fsr_play_answers.specs.Play.{AnswersBoard, AnswersMatrix, IsPlayAnswer, printed};
 
-use crate::cell;
+use crate::cell_answer::cell;
 use composed_play::play_board;
 use history_core::Band;
 use matrix_core::{BoardSchedule, MatrixSchedule};
