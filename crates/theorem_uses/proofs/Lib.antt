@@ -20,6 +20,11 @@ mod Logged
 mod Handed
 mod Placed
 mod Lists
-mod Orders
+mod Following
 mod Later
 mod Written
+mod Taken
+mod Opened
+mod Learning
+mod Noting
+mod Dealing

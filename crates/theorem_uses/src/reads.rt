@@ -1,0 +1,24 @@
+//! What a read, a look, a hold and a loan through C say of the reader's and the writer's side, by their status.
+ghost use Rattle.theorem_uses.specs.Reads.{BacksShow, FilledSidesShow, FourSlotReadsShow, HoldStatusesShow, LacksShow, LentSidesShow};
+ghost use Rattle.theorem_uses.specs.Reads.{LookStatusesShow, ReadStatusesShow, TripleReadsShow};
+
+/// A read that was made answers one record more, which the register had.
+pub fn reads_show<W>()
+    ensures four_slot { FourSlotReadsShow W }
+    ensures triple { TripleReadsShow W }
+{}
+
+/// Whatever a handle can have, a read with status 0 was made, and with any other status nothing was.
+pub fn read_statuses_show<D, W>()
+    ensures reads { ReadStatusesShow D W }
+    ensures looks { LookStatusesShow D W }
+    ensures holds { HoldStatusesShow D W }
+{}
+
+/// What a handle has once a record is back that was lent, or words are in its slot; and why none was lent.
+pub fn lent_sides_show<D, W>()
+    ensures backs { BacksShow D W }
+    ensures lacks { LacksShow D W }
+    ensures stays { LentSidesShow D W }
+    ensures filled { FilledSidesShow D W }
+{}
