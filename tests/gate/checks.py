@@ -94,11 +94,13 @@ def wrong_numbers(top, counted, only):
             yield f"{name} made {counted[name]} checks, and docs/dev/TESTING.md says {numbers[name]}"
 
 
+def body_of_run_all(top):
+    return (top / "test").read_text(encoding="utf-8").split("\nrun_all() {\n", 1)[1].split("\n}\n", 1)[0]
+
+
 def run_by_test(top):
     """The scripts that `./test` runs in its shell or by themselves."""
-    text = (top / "test").read_text(encoding="utf-8")
-    calls = text.split("\nrun_all() {", 1)[1].split("\n}\n", 1)[0]
-    return RUN.findall(calls)
+    return RUN.findall(body_of_run_all(top))
 
 
 def unrun(top):
@@ -108,6 +110,15 @@ def unrun(top):
         script = str(path.relative_to(top))
         if script not in HELPERS | BY_HAND | PARTS and script not in run:
             yield f"./test doesn't run {script}"
+
+
+def uncalled(top):
+    """What `./test` leaves out of what it begins and ends with."""
+    calls = [line.strip() for line in body_of_run_all(top).splitlines()]
+    if calls[:4] != ["try_gate", "begin_library", 'try_wrong_bodies --beside "$library"', "await_library"]:
+        yield "./test doesn't begin with the gate, the library and the wrong bodies of all crates"
+    if calls[-1] != "compare_checks":
+        yield "./test doesn't end with the comparison of the numbers"
 
 
 def defined_twice(top):
@@ -172,7 +183,7 @@ def main():
         print("\n".join(faults) or text.splitlines()[-1])
         return 1 if faults else 0
     counted = {name: int(count) for name, _, count in (line.rpartition(" ") for line in text.splitlines())}
-    faults = [*wrong_numbers(asked.top, counted, asked.only), *unrun(asked.top), *defined_twice(asked.top)]
+    faults = [*wrong_numbers(asked.top, counted, asked.only), *unrun(asked.top), *uncalled(asked.top), *defined_twice(asked.top)]
     print("\n".join(faults) or f"{sum(counted.values())} checks of {len(counted)} scripts, as docs/dev/TESTING.md has them")
     return 1 if faults or not counted else 0
 

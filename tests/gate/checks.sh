@@ -1,10 +1,19 @@
 # The controls of tests/gate/checks.py, which compares how many checks each script makes with docs/dev/TESTING.md and looks at how they are
 # run: a script that wasn't run, one without a check or with another number, a line `run NAME` that is gone, a script that nobody runs, and
-# two functions of one name. Before them those of how `./test` counts: its own checks, what another script says of its sums, and the
-# library.
+# two functions of one name. Before them those of how `./test` counts: its own checks, what another script says of its sums, the gate
+# and the library.
 
 compares_numbers() {
     python3 tests/gate/checks.py --top "$PWD" "$room/numbers"
+}
+
+# Compares a run's numbers with those of another tree.
+compares_in() {
+    if python3 tests/gate/checks.py --top "$1" "$room/numbers" >"$room/out" 2>&1; then
+        pass "the numbers of a tree with other tools"
+    else
+        fail "the numbers of a tree" "$(cat "$room/out")"
+    fi
 }
 
 # Sees that a run is refused whose numbers were changed by a command of sed, and why.
@@ -20,18 +29,66 @@ catches_number() {
     fi
 }
 
-# The counts, and the control of a control: one that is seen, one that isn't and one that is refused for another reason. (What doesn't count
-# can't be told by `fail`.)
+# The counts, and the control of a control: one that is seen, one that isn't, one that passes and says the same, one that fails twice and one
+# that is refused for another reason. (What doesn't count can't be told by `fail`.)
 told=$(
     passed=0 failed=0
-    { pass a && fail a said && catches a said fail a said && catches a said pass a && catches a other fail a said; } >/dev/null
+    fail_twice() {
+        fail a said
+        fail a said
+    }
+    {
+        pass a && fail a said && catches a said fail a said && catches a said pass a
+        catches a ok pass a
+        catches a said fail_twice
+        catches a other fail a said
+    } >/dev/null
     echo "$passed $failed"
 )
-if [ "$told" = '2 3' ]; then
+if [ "$told" = '2 5' ]; then
     pass "planted: passes, failures and controls are counted"
 else
     echo "test: planted: passes, failures and controls are counted: FAILED: $told"
     failed=$((failed + 1))
+fi
+
+# A control over a copy of the tree: the command sees the change, and what sees none, changes nothing or says another reason is a failure.
+told=$(
+    passed=0 failed=0
+    {
+        catches_in_tree a said HANDLES '$a more' sh -c 'grep -qx more HANDLES && echo said; exit 1'
+        catches_in_tree a said HANDLES 's/no such text//' sh -c 'echo said; exit 1'
+        catches_in_tree a said HANDLES '$a more' echo said
+        catches_in_tree a other HANDLES '$a more' sh -c 'echo said; exit 1'
+    } >/dev/null
+    echo "$passed $failed"
+)
+if [ "$told" = '1 3' ] && cmp -s HANDLES "$room/tree/HANDLES"; then
+    pass "planted: controls over a copy of the tree are counted"
+else
+    fail "planted: controls over a copy of the tree are counted" "$told"
+fi
+
+# The gate's sums and those of the wrong bodies are theirs, and noted.
+told=$(
+    passed=1 failed=1 counted=$room/sums_of_gate
+    run_gate() {
+        echo '5 passed, 3 failed'
+    }
+    python3() {
+        echo "$*" >"$room/words"
+        echo '7 passed, 4 failed'
+    }
+    {
+        try_gate
+        try_wrong_bodies a b
+    } >/dev/null
+    echo "$passed $failed $(tr '\n' ' ' <"$counted")$(cat "$room/words")"
+)
+if [ "$told" = '13 8 rt ci 10 tests/gate/wrong_bodies.py 11 tests/gate/wrong_bodies.py --proved a b' ]; then
+    pass "planted: the failures of the gate and of the wrong bodies are counted"
+else
+    fail "planted: the failures of the gate and of the wrong bodies are counted" "$told"
 fi
 
 # Another script's sums are taken over, its failures too, and a script without sums is a failure; with each its checks are noted.
@@ -96,6 +153,31 @@ else
     catches "a run with other numbers of checks" "tests/gate/sources.sh wasn't run" compare_checks
     counted=$run_counted
     stated_numbers >"$room/numbers"
+    # (a table that was counted with the tools that are here, and one that wasn't)
+    make_tree
+    stated_numbers | sed 's/\(.*\) \([0-9]*\)$/test: \1: \2 checks/' >"$room/told"
+    python3 tests/gate/checks.py --top "$tree" --write "$room/told"
+    stated_numbers | sed 's/^\(tests\/library\/[a-z]*.sh\) .*/\1 7/' >"$room/numbers"
+    for script in c package; do
+        catches "another number of a script with tools, $script.sh" "tests/library/$script.sh made 7 checks" compares_in "$tree"
+    done
+    stated_numbers | sed 's/^\(tests\/library\/c.sh\) .*/\1 7/' >"$room/numbers"
+    sed -i 's/^Counted with .*:$/Counted with none, without none:/' "$tree/docs/dev/TESTING.md"
+    compares_in "$tree"
+    cp docs/dev/TESTING.md "$tree/docs/dev/TESTING.md"
+    stated_numbers >"$room/numbers"
+    catches_in_tree "numbers that ./test doesn't compare" "./test doesn't end with the comparison" test \
+        '/^run_all() {$/,/^}$/{/^    compare_checks$/d}' python3 tests/gate/checks.py --top . "$room/numbers"
+    catches_in_tree "a gate that isn't counted" "./test doesn't begin with" test 's/^    try_gate$/    passed=82/' \
+        python3 tests/gate/checks.py --top . "$room/numbers"
+    catches_in_tree "the wrong bodies of one crate alone" "./test doesn't begin with" test 's/^    try_wrong_bodies --beside .*/& stamps/' \
+        python3 tests/gate/checks.py --top . "$room/numbers"
+    if (cd "$tree" && ./test tests/docs/release.sh) >"$room/out" 2>&1; then
+        pass "./test ends with 0"
+    else
+        fail "./test ends with 0" "$(tail -n 3 "$room/out" | tr '\n' ' ')"
+    fi
+    catches_in_tree "./test with a failure" "planted: FAILED: it" tests/docs/release.sh '$a fail planted it' ./test tests/docs/release.sh
     for script in tests/programs/words.sh tests/programs/growth.sh; do
         catches_in_tree "$script isn't run any more" "./test doesn't run $script" test "\\|^    run $script\$|d" \
             python3 tests/gate/checks.py --top . "$room/numbers"
