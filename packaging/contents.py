@@ -30,15 +30,15 @@ KIT_LICENCES = {
     "serde_json": "MIT OR Apache-2.0",
     "thiserror": "MIT OR Apache-2.0",
 }
-# What is linked beside crates: names, licences, and what it is.
-OWN_HEAP = ("heap.o", OWN_LICENCE, "c/heap.c of the repository, by the kit's clang")
+# What is linked beside crates: of the repository, and of others by names, licences and what it is.
+OWN_OBJECTS = {"library": [("heap.o", "c/heap.c, by the kit's clang")], "programs": []}
 HEAP = ("heap.pic.o", "NOASSERTION", "an object of the kit's c/liblibc_c.a, built from a heap.c that the kit doesn't have")
 START = [
     ("libos_c.a", "NOASSERTION", "objects of the kit's c/libos_c.a, built from C files that the kit doesn't have"),
     ("crt1, crti, crtn, libc_nonshared", "LGPL-2.1-or-later", "glibc's start files, by their names; glibc lets programs link them freely"),
     ("crtbegin, crtend, libgcc", "GPL-3.0-or-later WITH GCC-exception-3.1", "GCC's start files and its library, by their names"),
 ]
-OBJECTS = {"library": [OWN_HEAP], "programs": [HEAP, *START]}
+OBJECTS = {"library": [], "programs": [HEAP, *START]}
 
 
 def kit_folder():
@@ -91,7 +91,8 @@ def main(kind, path, version, commit, seconds):
     unknown = [name for name, licence, _ in kit_parts if licence == "NOASSERTION"]
     known = f"Its own code is under {OWN_LICENCE}. No licence is known of: {', '.join(unknown)}."
     top_key, top_text = package(whole, version, "NOASSERTION", known, digest)
-    parts = [package(f"nidzaru-{it}", version, OWN_LICENCE, f"crates/{it} of the repository, at commit {commit}") for it in own]
+    own_parts = [(it, f"crates/{it}") for it in own] + OWN_OBJECTS[kind]
+    parts = [package(f"nidzaru-{it}", version, OWN_LICENCE, f"{what}, of the repository at commit {commit}") for it, what in own_parts]
     parts += [package(f"kit-{name}", kit_version, licence, what) for name, licence, what in kit_parts]
     created = datetime.datetime.fromtimestamp(int(seconds), datetime.timezone.utc).strftime("%Y-%m-%dT%H:%M:%SZ")
     print(

@@ -36,6 +36,7 @@ PARTS = {"tests/library/rust.sh"}
 BY_HAND = {"tests/library/roots.sh"}
 TOLD = re.compile(r"(?m)^test: (\S+(?: ci)?): (\d+) checks$")
 WHOLE = re.compile(r"(?m)^test: all of \./test ran on commit (\S+); its counts have the sum sha256 ([0-9a-f]{64})$")
+TRIED = re.compile(r"(?m)^test: (wrong bodies: \d+ of (\d+) were tried, and \d+ stand by their sums)")
 ROW = re.compile(r"(?m)^\| (\d+) \| `([^`]+)` \|$")
 SUMS = re.compile(r"(?m)^(\d+) crates, (\d+) wrong bodies ")
 HAD = re.compile(r"(?m)^Counted with (.*?), without (.*?):$")
@@ -112,10 +113,14 @@ def unrun(top):
             yield f"./test doesn't run {script}"
 
 
+# How `./test` tries the wrong bodies.
+BODIES = 'try_wrong_bodies --proved $every_body --write out/tried.txt --beside "$library"'
+
+
 def uncalled(top):
     """What `./test` leaves out of what it begins and ends with."""
     calls = [line.strip() for line in body_of_run_all(top).splitlines()]
-    if calls[:4] != ["try_gate", "begin_library", 'try_wrong_bodies --beside "$library"', "await_library"]:
+    if calls[:4] != ["try_gate", "begin_library", BODIES, "await_library"]:
         yield "./test doesn't begin with the gate, the library and the wrong bodies of all crates"
     if calls[-1] != "compare_checks":
         yield "./test doesn't end with the comparison of the numbers"
@@ -143,16 +148,19 @@ def defined_twice(top):
 def wrong_log(top, text, commit):
     """What speaks against a text being that of all of `./test` on this commit. A run of a part of it has no line of the whole."""
     told = TOLD.findall(text)
+    counted = {name: int(count) for name, count in told}
     digest = hashlib.sha256("".join(f"{name} {count}\n" for name, count in told).encode()).hexdigest()
     whole, last = WHOLE.findall(text), text.splitlines()[-1:]
     if [it for it, _ in whole] != [commit]:
         yield f"it is no log of all of `./test` on commit {commit}"
     elif whole[0][1] != digest:
         yield "its counts aren't those with which it ended"
+    if [int(total) for _, total in TRIED.findall(text)] != [counted.get("tests/gate/wrong_bodies.py")]:
+        yield "it doesn't say how many wrong bodies were tried"
     # (the comparison of the counts is a check too, which no script has made)
-    if last != [f"{sum(int(count) for _, count in told) + 1} passed, 0 failed"]:
+    if last != [f"{sum(counted.values()) + 1} passed, 0 failed"]:
         yield f"it doesn't end with a gate that passed: {''.join(last)}"
-    yield from wrong_numbers(top, {name: int(count) for name, count in told}, False)
+    yield from wrong_numbers(top, counted, False)
 
 
 def write(top, counted):
@@ -180,7 +188,7 @@ def main():
         return 0
     if asked.commit:
         faults = list(wrong_log(asked.top, text, asked.commit))
-        print("\n".join(faults) or text.splitlines()[-1])
+        print("\n".join(faults) or f"{text.splitlines()[-1]}; {TRIED.search(text)[1]}")
         return 1 if faults else 0
     counted = {name: int(count) for name, _, count in (line.rpartition(" ") for line in text.splitlines())}
     faults = [*wrong_numbers(asked.top, counted, asked.only), *unrun(asked.top), *uncalled(asked.top), *defined_twice(asked.top)]

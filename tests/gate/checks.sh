@@ -81,11 +81,11 @@ told=$(
     }
     {
         try_gate
-        try_wrong_bodies a b
+        try_wrong_bodies --a b
     } >/dev/null
     echo "$passed $failed $(tr '\n' ' ' <"$counted")$(cat "$room/words")"
 )
-if [ "$told" = '13 8 rt ci 10 tests/gate/wrong_bodies.py 11 tests/gate/wrong_bodies.py --proved a b' ]; then
+if [ "$told" = '13 8 rt ci 10 tests/gate/wrong_bodies.py 11 tests/gate/wrong_bodies.py --a b' ]; then
     pass "planted: the failures of the gate and of the wrong bodies are counted"
 else
     fail "planted: the failures of the gate and of the wrong bodies are counted" "$told"
@@ -170,7 +170,7 @@ else
         '/^run_all() {$/,/^}$/{/^    compare_checks$/d}' python3 tests/gate/checks.py --top . "$room/numbers"
     catches_in_tree "a gate that isn't counted" "./test doesn't begin with" test 's/^    try_gate$/    passed=82/' \
         python3 tests/gate/checks.py --top . "$room/numbers"
-    catches_in_tree "the wrong bodies of one crate alone" "./test doesn't begin with" test 's/^    try_wrong_bodies --beside .*/& stamps/' \
+    catches_in_tree "the wrong bodies of one crate alone" "./test doesn't begin with" test 's/^    try_wrong_bodies --proved .*/& stamps/' \
         python3 tests/gate/checks.py --top . "$room/numbers"
     if (cd "$tree" && ./test tests/docs/release.sh) >"$room/out" 2>&1; then
         pass "./test ends with 0"

@@ -1,6 +1,6 @@
 """Tries the wrong bodies of the crates: the prover has to refuse each of them, at the function that it spoils.
 
-    tests/gate/wrong_bodies.py [--proved] [--beside PROCESS] [--edits FOLDER] [CRATE ..]
+    tests/gate/wrong_bodies.py [--proved] [--beside PROCESS] [--all] [--write FILE] [--edits FOLDER] [CRATE ..]
     tests/gate/wrong_bodies.py --said FILE ..
 
 A wrong body is an edit crates/NAME/must-fail/*.edit, as `rt must-fail` takes it. A line `function: PATH` in it names each function that
@@ -19,12 +19,17 @@ A goal without an answer is searched for in several ways, and where it fails tha
 held to its own goal, and has the same error with them. There a goal that is open doesn't count. Where no answer is refused the edit is
 tried as any other. The checks begin with what `rt check` has kept of the crate.
 
+Without names of crates, --all and --edits not all are tried: those of a crate that stands by its sum in tests/gate/tried.txt (tried.py says
+when) come by turns, a tenth in each of ten commits. The turn is the number of commits, or what --turn says. Those that stand by their sums
+count as passed, and a line says how many were tried. With --write a file gets the sums of the crates that stand by them and of those all
+of whose wrong bodies were tried and refused, over libraries that are built of what lies there.
+
 With --said the judge is tried on what the prover said of some edits once: a file's first lines are `crate:`, `function:` and `refused:
 yes` or `no`, as it has to judge, and behind an empty line stands what was said.
 
 The libraries below a crate have to be built. With --edits the wrong bodies of a crate are those in FOLDER/NAME. RT_JOBS=N allots N
 processors in place of all that there are; while the process that --beside names runs, one of them is its own, since more checks than
-processors take a fifth more processor time each. The last line is the sums.
+processors take a fifth more processor time each. The last line is the sums; where there is no wrong body at all, that is a failure.
 """
 
 import argparse
@@ -41,6 +46,7 @@ from pathlib import Path
 TOP = Path(__file__).resolve().parents[2]
 sys.path.insert(0, f"{TOP}/build")
 
+import tried  # noqa: E402
 from listed import crates_below, rattle_words, read_rows  # noqa: E402
 
 SOURCES = ("src", "specs", "proofs")
@@ -348,30 +354,76 @@ def judge_said(paths):
     return 1 if counts[1] or not counts[0] else 0
 
 
-def main():
+def words():
     parser = argparse.ArgumentParser()
     parser.add_argument("--proved", action="store_true")
     parser.add_argument("--beside", type=int, metavar="PROCESS")
+    parser.add_argument("--all", action="store_true")
+    parser.add_argument("--write", type=Path, metavar="FILE")
+    parser.add_argument("--turn", type=int)
     parser.add_argument("--said", action="store_true")
     parser.add_argument("--edits", type=Path)
     parser.add_argument("names", nargs="*", metavar="CRATE")
     asked = parser.parse_args()
-    if asked.said:
-        return judge_said(asked.names)
-    crates = read_crates()
-    unknown = [it for it in asked.names if it not in crates]
+    if asked.write and asked.edits:
+        parser.error("--write goes with the crates' own wrong bodies")
+    rows = read_rows(TOP)
+    unknown = [] if asked.said else [it for it in asked.names if it not in rows]
     if unknown:
         parser.error(f"crates.txt has no crate {unknown[0]}")
-    paths = {it: it.edits(asked.edits) for it in crates.values() if not asked.names or it.name in asked.names}
+    return asked
+
+
+def choose(paths, stands, asked):
+    """By its crate the wrong bodies that are to be tried, where crates of these names stand by their sums."""
+    turn = tried.turn_of(TOP) if asked.turn is None else asked.turn
+    if asked.all or asked.names or asked.edits or turn is None:
+        return paths
+    return {it: [path for path in own if it.name not in stands or tried.is_due(it.name, path.stem, turn)] for it, own in paths.items()}
+
+
+def judge_all(paths, kit, asked):
+    """By its crate how many of these wrong bodies are refused and how many aren't."""
     chosen = sorted((it for it in paths if paths[it]), key=lambda it: -it.size() * len(paths[it]))
-    kit = Path(subprocess.run(["rt", "doc"], stdout=subprocess.PIPE, check=True, text=True).stdout.strip()).parent
     lanes = int(os.environ.get("RT_JOBS") or len(os.sched_getaffinity(0)))
     with ThreadPoolExecutor(lanes) as pool:
         if asked.beside and lanes > 1:
             pool.submit(await_end, asked.beside)
-        counts = list(pool.map(lambda it: judge(it, paths[it], kit, asked.proved), chosen))
-    passed, failed = (sum(it[place] for it in counts) for place in (0, 1))
-    print(f"{passed} passed, {failed} failed")
+        return dict(zip(chosen, pool.map(lambda it: judge(it, paths[it], kit, asked.proved), chosen)))
+
+
+def names_with_sums(counts, paths, stands):
+    """The crates that may stand by their sums from now on: that were tried whole and refused all, or stood before and did so in their turn."""
+    names = set(stands)
+    for crate, (passed, failed) in counts.items():
+        names.discard(crate.name)
+        if not tried.are_built(TOP, crate.below):
+            print(f"must-fail {crate.name}: its libraries are older than their sources, so it gets no sum")
+        elif not failed and (crate.name in stands or passed == len(paths[crate])):
+            names.add(crate.name)
+    return names
+
+
+def main():
+    asked = words()
+    if asked.said:
+        return judge_said(asked.names)
+    crates, rows = read_crates(), read_rows(TOP)
+    paths = {it: it.edits(asked.edits) for it in crates.values() if not asked.names or it.name in asked.names}
+    kit = Path(subprocess.run(["rt", "doc"], stdout=subprocess.PIPE, check=True, text=True).stdout.strip()).parent
+    below = {name: it.below for name, it in crates.items()}
+    sums, known = tried.sums_of(TOP, kit, rows, below), tried.read(TOP)
+    stands = {name for name, it in sums.items() if known.get(name) == it}
+    chosen = choose(paths, stands, asked)
+    counts = judge_all(chosen, kit, asked)
+    if asked.write:
+        names, after = names_with_sums(counts, paths, stands), tried.sums_of(TOP, kit, rows, below)
+        tried.write(asked.write, {name: sums[name] for name in names if after[name] == sums[name]})
+    passed, failed = (sum(it[place] for it in counts.values()) for place in (0, 1))
+    total, number = (sum(map(len, it.values())) for it in (paths, chosen))
+    print(f"test: wrong bodies: {number} of {total} were tried, and {total - number} stand by their sums in tests/gate/tried.txt")
+    failed += not total
+    print(f"{passed + total - number} passed, {failed} failed")
     return 1 if failed else 0
 
 

@@ -183,7 +183,7 @@ licence_of() {
 
 # Whether a list has each of the library's crates under our licence, and of the kit's parts that name no licence that none is known.
 is_listed_with_licence() {
-    for part in heap.o $(printf 'nidzaru-%s ' $(crates_below c_exports)); do
+    for part in nidzaru-heap.o $(printf 'nidzaru-%s ' $(crates_below c_exports)); do
         [ "$(licence_of "$part" "$1")" = 'MIT OR Apache-2.0' ] || { echo "$part: $(licence_of "$part" "$1")" && return 1; }
     done
     for part in libnidzaru.a kit-std kit-atomic_table; do
@@ -549,6 +549,7 @@ use_programs() {
 #   gate_log COMMIT [SED]
 gate_log() {
     stated_numbers | sed "${2:-}" >"$packages/counts"
+    awk '$1 ~ /wrong_bodies/ { print "test: wrong bodies: 7 of " $2 " were tried, and " $2 - 7 " stand by their sums in a file" }' "$packages/counts"
     sed 's/\(.*\) \([0-9]*\)$/test: \1: \2 checks/' "$packages/counts"
     echo "test: all of ./test ran on commit $1; its counts have the sum sha256 $(sha256sum <"$packages/counts" | cut -d ' ' -f 1)"
     awk '{ sum += $NF } END { print sum + 1 " passed, 0 failed" }' "$packages/counts"
@@ -557,7 +558,7 @@ gate_log() {
 # Sees that ./package refuses a log, and why.
 #   refuses_log TITLE SAID
 refuses_log() {
-    is_refused "./package with the log of $1" "$packages/refused: .*$2" env GATE_LOG="$packages/refused" "$packages/one/package"
+    is_refused "./package with the log of $1" "$2" env GATE_LOG="$packages/refused" "$packages/one/package"
 }
 
 refuse_logs() {
@@ -579,6 +580,8 @@ refuse_logs() {
     refuses_log "one script as if it were all" "rt ci wasn't run"
     sed '/^test: tests.docs.release.sh: /d' "$packages/log" >"$packages/refused"
     refuses_log "a gate without a script's line" "its counts aren't those"
+    sed 's/bodies: 7 of [0-9]*/bodies: 7 of 82/' "$packages/log" >"$packages/refused"
+    refuses_log "a gate with another number of wrong bodies" "how many wrong bodies were tried"
 }
 
 check_packages() {
@@ -588,7 +591,7 @@ check_packages() {
     is_refused "./package over a library of another logic" "proved by logic ''" with_another_logic
     check "./package" env GATE_LOG="$packages/log" "$packages/one/package"
     sum=$(sha256sum <"$packages/log")
-    check "BUILD-INFO has the gate's last line" grep -qxF "gate       $(tail -n 1 "$packages/log"); its log has the sum sha256 ${sum%% *}" "$made/BUILD-INFO"
+    check "BUILD-INFO has the gate's last line" grep -qx "gate       $(tail -n 1 "$packages/log"); wrong bodies: 7 of [0-9]* were tried, and [0-9]* stand by their sums; its log has the sum sha256 ${sum%% *}" "$made/BUILD-INFO"
     check "./package in a clone, of another time and with other settings" package_again two
     check "the same bytes from both" compare_packages two
     check "a fault planted in ./package" plant_time

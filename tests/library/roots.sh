@@ -7,6 +7,8 @@ top=$(readlink -f -- "$(dirname -- "$(readlink -f -- "$0")")/../..")
 roots=$1
 passed=0 failed=0
 . "$top/tests/gate/outcomes.sh"
+room=$(mktemp -d) || exit 1
+trap 'rm -rf "$room"' EXIT
 
 # Makes a root of this release with these packages, and puts the user's home with nothing but our packages into it.
 make_root() {
@@ -45,6 +47,8 @@ add_executable(mine tasks.cpp)
 target_link_libraries(mine nidzaru::nidzaru Threads::Threads)'
 
 make_root gcc bookworm gcc,libc6-dev
+catches "a step that says something else" "another word" step a "$whole" "echo another word"
+catches "a step that fails on the way" "FAILED: \$" step a "$whole" "false; echo '$whole'"
 step "no library before" none "tar xf nidzaru-2*-linux.tar.gz; cd nidzaru-2*-linux
     cc -O2 $doc/tasks.c -lnidzaru -pthread -o ../mine || echo none"
 step "C from the tar, installed" "$whole" "tar xf nidzaru-2*-linux.tar.gz; cd nidzaru-2*-linux; ./install /usr/local
