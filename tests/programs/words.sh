@@ -334,6 +334,23 @@ answers_small 0 "order " examples/lawful.json order
 answers_small 1 "play " examples/cell.json play
 answers_small 3 "fsr: document: not JSON" examples/lawful.json check
 
+# Where standard error is closed the answer is the same.
+answers_closed() {
+    title="./fsr play by a smaller program with a closed standard error"
+    READ=$room/read PATH=/usr/bin:/bin "$room/bare/fsr" play <examples/cell.json >"$room/out" 2>&-
+    status=$?
+    if [ "$status" = 1 ] && [ "$(cat "$room/out")" = "play " ]; then
+        pass "$title"
+    else
+        fail "$title" "it ended with status $status: $(head -c 200 "$room/out")"
+    fi
+}
+
+answers_closed
+sed -i.kept '/^(: >&2) || exec/d' "$room/bare/build/build.sh"
+catches "a closed standard error that isn't heeded" "it ended with status 70" answers_closed
+mv "$room/bare/build/build.sh.kept" "$room/bare/build/build.sh"
+
 # Words that no smaller program knows are for the whole one.
 for words in 'order --order --small' 'order -x' 'check --order' "check $room/nowhere"; do
     gives_unbuilt 70 '' 'build: ' $words
