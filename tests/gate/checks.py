@@ -32,7 +32,7 @@ TOOLS = {
 # The scripts that have no checks, and those that are run by hand alone.
 HELPERS = {"tests/gate/outcomes.sh", "build/spent.sh", "build/build.sh", "build/library.sh", "tests/programs/refused.sh"}
 # Those that another script reads.
-PARTS = {"tests/library/rust.sh"}
+PARTS = {"tests/library/rust.sh", "tests/library/packed.sh", "tests/library/installed.sh"}
 BY_HAND = {"tests/library/roots.sh"}
 TOLD = re.compile(r"(?m)^test: (\S+(?: ci)?): (\d+) checks$")
 WHOLE = re.compile(r"(?m)^test: all of \./test ran on commit (\S+); its counts have the sum sha256 ([0-9a-f]{64})$")
