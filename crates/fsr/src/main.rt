@@ -7,26 +7,15 @@ use fsr_answers::run;
 use fsr_words::{Want, asked_of, tell_refusal, tell_unopened};
 use history_core::Band;
 use program_runs::{FSR, Fault, tell_fault, words_of};
-use program_streams::{Over, Source, can_start};
+use program_streams::{Over, can_start};
 use std::fs;
 use std::process::ExitCode;
 
 /// A race of 16 tasks needs as many threads besides the caller's.
 const MOST_THREADS: usize = 15;
 
-/// Runs a command over this input.
-fn run_over<I: Source>(rt: &HostRuntime, want: Want, mut input: I) -> u8 {
-    let mut out = Over::new(rt.stdout());
-    let mut faults = Over::new(rt.stderr());
-    run::<FourSlotFamily<Posted<Band>>, _, _, _, _>(
-        rt,
-        rt.alloc(),
-        want,
-        &mut input,
-        &mut out,
-        &mut faults,
-    )
-}
+/// What the board of a race stands on.
+type Boards = FourSlotFamily<Posted<Band>>;
 
 fn main(rt: HostRuntime) -> ExitCode {
     let mut faults = Over::new(rt.stderr());
@@ -47,11 +36,19 @@ fn main(rt: HostRuntime) -> ExitCode {
         let status = tell_fault(rt.alloc(), &FSR, &mut faults, &Fault::NoThread);
         return ExitCode::from(status);
     }
+    let mut out = Over::new(rt.stdout());
+    let (alloc, want) = (rt.alloc(), asked.want);
     let status = match asked.file {
-        None => run_over(&rt, asked.want, Over::new(rt.stdin())),
+        None => {
+            let mut input = Over::new(rt.stdin());
+            run::<Boards, _, _, _, _>(&rt, alloc, want, &mut input, &mut out, &mut faults)
+        }
         Some(name) => match fs::open(&rt, name) {
-            Ok(file) => run_over(&rt, asked.want, Over::new(file)),
-            Err(_) => tell_unopened(rt.alloc(), &FSR, name, &mut faults),
+            Ok(file) => {
+                let mut input = Over::new(file);
+                run::<Boards, _, _, _, _>(&rt, alloc, want, &mut input, &mut out, &mut faults)
+            }
+            Err(_) => tell_unopened(alloc, &FSR, name, &mut faults),
         },
     };
     ExitCode::from(status)
