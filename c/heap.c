@@ -22,17 +22,31 @@ __attribute__((weak)) void *nidzaru_allocate(size bytes) { return malloc(bytes);
 
 __attribute__((weak)) void nidzaru_release(void *block) { free(block); }
 
+/* The library gets whole lines of the cache, so that no line has parts of two blocks: a thread's own lines then stay with its processor, and
+ * words that change together lie in one. What a block is a part of, which is aligned to 16, stands right before it. */
+enum { LINE = 64 };
+
+static void *lines(size bytes) {
+    char *const whole = nidzaru_allocate((bytes + LINE - 1) / LINE * LINE + LINE);
+    if (!whole) return 0;
+    char *const block = whole + LINE - (size)whole % LINE;
+    ((void **)block)[-1] = whole;
+    return block;
+}
+
+static void release(void *block) { nidzaru_release(((void **)block)[-1]); }
+
 /* A value without bytes gets a block too, so that each has one of its own. */
-struct tried rattle_alloc(size bytes, size alignment) { return tried(nidzaru_allocate(bytes ? bytes : alignment)); }
+struct tried rattle_alloc(size bytes, size alignment) { return tried(lines(bytes ? bytes : alignment)); }
 
 /* Makes a block one of so many bytes, which may lie elsewhere, with its first `kept` bytes. If there is no memory it stays as it is. */
 struct tried rattle_realloc(void *block, size kept, size bytes, size alignment) {
-    void *more = nidzaru_allocate(bytes ? bytes : alignment);
+    void *more = lines(bytes ? bytes : alignment);
     if (more) {
         memcpy(more, block, kept < bytes ? kept : bytes);
-        nidzaru_release(block);
+        release(block);
     }
     return tried(more);
 }
 
-void rattle_dealloc(void *block) { nidzaru_release(block); }
+void rattle_dealloc(void *block) { release(block); }

@@ -510,7 +510,7 @@ NIDZARU_INLINE int nidzaru_sized_end_reader(int triple, size_t size, nidzaru_han
 #undef NIDZARU_PICK
 
 NIDZARU_INLINE int nidzaru_is_copied(const nidzaru_handle *handle) {
-    return handle->side.live && handle->home != handle;
+    return handle->home != handle && handle->side.live;
 }
 
 /* Takes what one handle has to another one of its type, and leaves it empty. */

@@ -60,8 +60,8 @@ static void only_these(const char *name, size_t size, int triple, nidzaru_side *
 enum { PLACES = 3 };
 
 /* The most bytes that `make` of three places asks for: records of the library with their stamps, of six cells and three passes, and
- * what is the same for every size. */
-static size_t most_bytes(size_t size) { return 100 * (16 + NIDZARU_BOARD_SIZE(size)) + 10000; }
+ * what is the same for every size; of each request two lines more. */
+static size_t most_bytes(size_t size) { return 100 * (16 + NIDZARU_BOARD_SIZE(size)) + 10000 + 2 * 64 * (size_t)asked; }
 
 #define EDGE(name, type, board, triple)                                                                               \
     board(name, type);                                                                                                \
@@ -93,7 +93,7 @@ static size_t most_bytes(size_t size) { return 100 * (16 + NIDZARU_BOARD_SIZE(si
         nidzaru_stamp s = {0, 0};                                                                                     \
         long had = blocks, took;                                                                                      \
         name##_set(&item, 3);                                                                                         \
-        bytes = 0;                                                                                                    \
+        bytes = 0, asked = 0;                                                                                         \
         check(!name##_make(&item.x, p, PLACES) && name##_is(&item, 3), #name, "make");                                \
         check(bytes <= most_bytes(sizeof(type)), #name, "make takes more than its own records need");                 \
         took = asked;                                                                                                 \

@@ -71,8 +71,11 @@ NIDZARU_ASSERT(NIDZARU_WATCHED || (NIDZARU_PASSES(24, 8) && NIDZARU_PASSES(4096,
 NIDZARU_ASSERT(!NIDZARU_PASSES(24, 4) && !NIDZARU_PASSES(8, 1) && !NIDZARU_PASSES(16, 8) && !NIDZARU_PASSES(4088, 8), "records that are copied");
 
 /* The most bytes that `make` asks for: records of the library with their numbers, in slots and in the passes, and what is the same
- * for every size. A four-slot register's words lie in a table of 32, so that the two sides' words share no cache line. */
-static size_t most_bytes(size_t size, int triple) { return 13 * (8 + NIDZARU_SIZE(size)) + 300 + (triple ? 0 : 28 * 8); }
+ * for every size. A four-slot register's words lie in a table of 32, so that the two sides' words share no cache line. Of each request
+ * there may be two lines more, so that its block has its lines alone. */
+static size_t most_bytes(size_t size, int triple) {
+    return 13 * (8 + NIDZARU_SIZE(size)) + 300 + (triple ? 0 : 28 * 8) + 2 * 64 * (size_t)asked;
+}
 
 #define EDGE(name, type, register_of, triple)                                                                                 \
     register_of(name, type);                                                                                                  \
@@ -108,7 +111,7 @@ static size_t most_bytes(size_t size, int triple) { return 13 * (8 + NIDZARU_SIZ
         check(name##_make(0, &w, &r) == NIDZARU_NULL && name##_make(&item.x, 0, &r) == NIDZARU_NULL                           \
                   && name##_make(&item.x, &w, 0) == NIDZARU_NULL, #name, "make with a null pointer");                         \
         check(!w.handle.side.live && !r.handle.side.live && blocks == had, #name, "what a refused make leaves");              \
-        bytes = 0;                                                                                                            \
+        bytes = 0, asked = 0;                                                                                                 \
         check(!name##_make(&item.x, &w, &r) && name##_is(&item, 3), #name, "make");                                           \
         check(bytes <= most_bytes(sizeof(type), triple), #name, "make takes more than its own records need");                         \
         took = asked;                                                                                                         \

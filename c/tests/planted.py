@@ -226,8 +226,8 @@ HEADER = [
     ("a loan at no address", "if (!writer || !at) return", "if (!writer) return", "loaned"),
     ("a publish of no handle", "if (!writer) return NIDZARU_NULL; if (nidzaru_is_copied(&writer->handle)) return NIDZARU_COPIED; "
      "return nidzaru_sized_publish", "if (nidzaru_is_copied(&writer->handle)) return NIDZARU_COPIED; return nidzaru_sized_publish", "loaned"),
-    ("no handle is a copy", "handle->side.live && handle->home != handle", "handle->side.live && !handle->home", "calls"),
-    ("an empty handle is a copy", "return handle->side.live && handle->home != handle", "return handle->home != handle", "calls"),
+    ("no handle is a copy", "handle->home != handle && handle->side.live", "!handle->home && handle->side.live", "calls"),
+    ("an empty handle is a copy", "return handle->home != handle && handle->side.live", "return handle->home != handle", "calls"),
     ("a copied writer", WRITE + COPIED.format("writer"), WRITE, "edges"),
     ("a copied place writes", B_WRITE + B_NULL + COPIED.format("place"), B_WRITE + B_NULL, "calls"),
     ("a copied place reads", B_READ + B_NULL + COPIED.format("place"), B_READ + B_NULL, "calls"),

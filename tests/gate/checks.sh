@@ -134,6 +134,28 @@ fi
 if ! command -v python3 >/dev/null 2>&1; then
     fail "tests/gate/checks.py" "there is no python3"
 else
+    # (what ./test tells of a commit is what ./package takes for all of it, and not if the tree has changed meanwhile)
+    told=$(
+        counted=$room/all_counts
+        commit_here() {
+            echo abc
+        }
+        stated_numbers >"$counted"
+        for began_with in abc another; do
+            {
+                sed 's/\(.*\) \([0-9]*\)$/test: \1: \2 checks/' "$counted"
+                echo "test: wrong bodies: 7 of $(sed -n 's/.*wrong_bodies.py //p' "$counted") were tried, and 5 stand by their sums in a file"
+                tell_whole "$began_with"
+                awk '{ sum += $NF } END { print sum + 1 " passed, 0 failed" }' "$counted"
+            } >"$room/all_log"
+            python3 tests/gate/checks.py --commit abc "$room/all_log" >"$room/out" 2>&1 && printf 'taken ' || printf 'refused '
+        done
+    )
+    if [ "$told" = 'taken refused ' ]; then
+        pass "the log of all of ./test is taken for that"
+    else
+        fail "the log of all of ./test is taken for that" "$told: $(cat "$room/out")"
+    fi
     stated_numbers >"$room/numbers"
     if compares_numbers >"$room/out" 2>&1; then
         pass "the numbers as they are stated: $(cat "$room/out")"

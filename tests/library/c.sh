@@ -93,9 +93,10 @@ test_cet() {
 test_heap() {
     wants='each block is one of its own'
     run_here "c/heap.c ($c)" "$c" -std=c11 $strict -O2 c/heap.c c/tests/heap.c -o "$room/program"
-    for fault in 's/kept < bytes ? kept : bytes/bytes/' 's/kept < bytes ? kept : bytes/kept/' '/^        nidzaru_release(block);/d' \
-        's/block ? block : &nowhere/block/' 's/block != 0,/1,/' 's/    if (more) {/nidzaru_release(block); &/' \
-        '/rattle_alloc/s/bytes ? bytes : alignment/bytes/' '/more = /s/bytes ? bytes : alignment/bytes/'; do
+    for fault in 's/kept < bytes ? kept : bytes/bytes/' 's/kept < bytes ? kept : bytes/kept/' '/^        release(block);/d' \
+        's/block ? block : &nowhere/block/' 's/block != 0,/1,/' 's/    if (more) {/release(block); &/' \
+        '/rattle_alloc/s/bytes ? bytes : alignment/bytes/' '/more = /s/bytes ? bytes : alignment/bytes/' \
+        's/LINE - (size)whole % LINE/16/' 's/ \* LINE + LINE/ * LINE/' 's/(bytes + LINE - 1) \/ LINE \* LINE/bytes/' 's/= whole;/= block;/'; do
         sed "$fault" c/heap.c >"$room/heap.c"
         if cmp -s c/heap.c "$room/heap.c"; then
             fail "c/heap.c, planted: $fault" "it changes nothing"
@@ -137,6 +138,12 @@ test_in_c() {
             run_control "c/tests/board_soak.c $family, planted: $wants ($c)" "$c" -std=c11 -D_GNU_SOURCE $strict -O2 -DBYTES=24 $family \
                 -D"$(echo $wants | tr a-z A-Z)" c/tests/board_soak.c $flags -o "$room/program"
         done
+    done
+    wants=passed
+    run_here "c/tests/apart.c ($c)" "$c" -std=c11 $strict -O2 c/tests/apart.c $wrapped $flags -o "$room/program"
+    for wants in 'both sides store' 'in part alone'; do
+        run_control "c/tests/apart.c, planted: $wants ($c)" \
+            "$c" -std=c11 $strict -O2 -DLINE=1024 c/tests/apart.c $wrapped $flags -o "$room/program"
     done
     wants='no record was torn'
     run_here "examples/c/small.c ($c)" "$c" -std=c11 $strict -O2 examples/c/small.c $flags -o "$room/program"

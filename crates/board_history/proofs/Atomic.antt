@@ -1,12 +1,13 @@
--- The calls of a board's run choose by the law of choices: put in order by the times at which they choose, what each saw is from the
+-- The calls of a board's run so far choose by the law of choices: put in order by the times at which they choose, what each saw is from the
 -- past, and isn't too old.
 use Rattle.std.proofs.Common.{◌≡◌, ℕ, zero, suc, ◌+◌, ◌-◌, ◌*◌, ◌<◌, ◌≤◌, List, [], ◌∷◌, length, map, slice_get}
 use Rattle.std.proofs.Common.{Option, Some, refl, sym, ◌∙◌, ap, subst, arith, ◌⊎◌, inl, inr, add-mul}
-use Rattle.std.specs.Prelude.{IsSomeAnd}
+use Rattle.std.proofs.Common.{Bool, None, true, false}
+use Rattle.std.specs.Prelude.{if◌then◌else◌, is_some, IsSomeAnd, ◌&&◌, ◌||◌}
 use Rattle.std.proofs.lemmas.Bool.{cases_eq, cases_lt, cases_order}
-use Rattle.std.proofs.lemmas.Option.{same_Some, slice_get_within}
+use Rattle.std.proofs.lemmas.Option.{none-some, same_Some, slice_get_within}
 use Rattle.history_core.specs.declared.history.Op.{Op}
-use Rattle.history_core.specs.Orders.{IsAtomicOrder, Precedes, RefusesLawfully}
+use Rattle.history_core.specs.Orders.{IsAtomicOrder, is_write, RefusesLawfully}
 use Rattle.history_core.proofs.Played.{later_operation}
 use Rattle.history_core.specs.Registers.{intervals, IsReadOf}
 use Rattle.history_core.proofs.Times.{of_before, to_before}
@@ -15,20 +16,42 @@ use Rattle.matrix_core.specs.declared.stamp.Stamped.{Stamped}
 use Rattle.matrix_core.specs.Choices.{AllChoose, Choice, Chooses, ChoosesByKind, HasChoices, IsAtMost, IsChoiceOf, IsEarlier, IsFrom, IsIn}
 use Rattle.matrix_core.proofs.choices.Stamps.{at_most_trans}
 use Rattle.matrix_core.specs.Lines.{first_record, other}
-use Rattle.matrix_core.specs.Listings.{IsInOrder}
+use Rattle.matrix_core.specs.Listings.{IsInOrder, is_listed}
 use Rattle.matrix_core.proofs.lines.Others.{other_differs, other_inside, other_reached}
 use Rattle.matrix_core.proofs.lists.Elements.{get_exists}
 use Rattle.matrix_core.proofs.orders.Terms.{term_atomic, term_lawful}
-use Rattle.board_history.specs.BoardRuns.{AreReads, AreWrites, Called, Did, IsBoardRun, IsRegister, own_before, records, Sees, told}
-use Rattle.board_history.specs.Histories.{IsCall, IsHistory}
+use Rattle.board_history.specs.BoardRuns.{Called, Did, IsRegister, own_before, records, Sees, told}
+use Rattle.board_history.specs.RunsSoFar.{AreFirstOf, AreReadsSoFar, AreWritesSoFar, end_of, IsBoardRunSoFar}
+use Rattle.board_history.specs.HistoriesSoFar.{IsCallSoFar, IsHistorySoFar, IsUnchosenCall, StandIfChosen}
 use Rattle.board_history.proofs.Rising.{first_least, greatest_each, greatest_first, greatest_is, own_next, own_rises, own_zero}
 use Rattle.board_history.proofs.Sorts.{sort, sort_in, Strict, strict_sort}
 use Rattle.board_history.proofs.Timed.{at, at_least, at_rises, at_tells, begin_once, begins, chooses_at, ends, lasts, line, times_at_most}
 use Rattle.board_history.proofs.Timed.{times_once, times_rise}
 use Rattle.board_history.proofs.Told.{held, IsTold, one_if, told_by, told_next, told_rises}
 
-ends_at : {R : Type 0} (a b : Op R) (end : ℕ) → a.ends ≡ Some end → Precedes a b → end < b.starts
-ends_at a b end e h = subst (λ (o : Option ℕ). IsSomeAnd o (λ z. z < b.starts)) e h
+end_there : (o : Option ℕ) (x : ℕ) → IsSomeAnd o (λ z. z < x) → (end : ℕ) × (o ≡ Some end) × (end < x)
+end_there None x h = absurd h
+end_there (Some z) x h = (z, refl, h)
+
+-- what stands first stands there behind one more
+first_longer : {A : Type 0} (a : A) (xs ys : List A) → AreFirstOf xs ys → AreFirstOf (a ∷ xs) (a ∷ ys)
+first_longer a xs ys f zero b e = e
+first_longer a xs ys f (suc x) b e = f x b e
+
+-- what is there, is there at each place before it
+there_before : {A : Type 0} (xs : List A) (a b : ℕ) (x : A) → slice_get xs b ≡ Some x → a ≤ b → (y : A) × (slice_get xs a ≡ Some y)
+there_before xs a b x e le = get_exists xs a (let l = slice_get_within xs b x e in omega arith)
+
+and_true : (b : Bool) → (b && true) ≡ b
+and_true true = refl
+and_true false = refl
+
+and_false : (b : Bool) → (b && false) ≡ false
+and_false true = refl
+and_false false = refl
+
+no_stamp : {A : Type 0} (x y : Option A) (a : A) → x ≡ y → x ≡ Some a → y ≡ None → ⊥
+no_stamp x y a e s z = absurd (none-some a (sym z ∙ sym e ∙ s))
 
 in_map : {X Y : Type 0} (f : X → Y) (xs : List X) (y : Y) → IsIn y (map f xs) → (x : X) × IsIn x xs × (y ≡ f x)
 in_map f [] y m = absurd m
@@ -41,7 +64,7 @@ map_in f (y ∷ ys) x (inl e) = inl (ap f e)
 map_in f (y ∷ ys) x (inr m) = inr (map_in f ys x m)
 
 module _ {V : Type 0} (width n limit : ℕ) (opening : V) (steps : List ℕ) (did : ℕ → Did V)
-    (run : IsBoardRun width n limit (first_record opening) steps did) where
+    (run : IsBoardRunSoFar width n limit (first_record opening) steps did) where
   abbrev first : Stamped V
   first = first_record opening
 
@@ -61,7 +84,8 @@ module _ {V : Type 0} (width n limit : ℕ) (opening : V) (steps : List ℕ) (di
         ⊎ ((q : ℕ) × (d : Called V)
         × ((t : ℕ) → slice_get (did i).times (at width n limit opening steps did run i k + ((n - 1) * width - 1)) ≡ Some t →
         IsSource (other i e) q d answer t))
-    above : (m : ℕ) (d : Called V) → slice_get (did (other i e)).calls m ≡ Some d → d.end < c.begin → IsAtMost d.chosen.stamp answer.stamp
+    above : (m end : ℕ) (d : Called V) → slice_get (did (other i e)).calls m ≡ Some d →
+        end_of width n (did (other i e)) m d ≡ Some end → end < c.begin → IsAtMost d.chosen.stamp answer.stamp
 
   module _ (i k e : ℕ) (c : Called V) (li : i < n) (le : e + 1 < n) (made : slice_get (did i).calls k ≡ Some c) (answer : Stamped V)
       (there : slice_get ((did i).reads (other i e)).items k ≡ Some answer) where
@@ -75,17 +99,21 @@ module _ {V : Type 0} (width n limit : ℕ) (opening : V) (steps : List ℕ) (di
     back : (w : ℕ) × (w + 1 < n) × (other j w ≡ i)
     back = other_reached n j i lj li (λ z. other_differs i e (sym z))
 
-    wrote : AreWrites width n (did j) (n - 1 + back.0) ((did j).writes i).begins ((did j).writes i).ends
-    wrote = subst (λ z. AreWrites width n (did j) (n - 1 + back.0) ((did j).writes z).begins ((did j).writes z).ends) back.2
+    wrote : AreWritesSoFar width n (did j) (n - 1 + back.0) ((did j).writes i).begins ((did j).writes i).ends
+    wrote = subst (λ z. AreWritesSoFar width n (did j) (n - 1 + back.0) ((did j).writes z).begins ((did j).writes z).ends) back.2
         ((run.each j lj).writes back.0 back.1)
 
-    written : ((did j).writes i).items ≡ records (did j).calls
-    written = subst (λ z. ((did j).writes z).items ≡ records (did j).calls) back.2 ((run.each j lj).written back.0 back.1)
+    written : AreFirstOf ((did j).writes i).items (records (did j).calls)
+    written = subst (λ z. AreFirstOf ((did j).writes z).items (records (did j).calls)) back.2 ((run.each j lj).written back.0 back.1)
+
+    -- the last step of its column is there
+    chose : (t : ℕ) × (slice_get (did i).times (at width n limit opening steps did run i k + ((n - 1) * width - 1)) ≡ Some t)
+    chose = chooses_at width n limit opening steps did run i k c li made
 
     register : IsRegister first ((did j).writes i) ((did i).reads j)
     register = run.registers j i lj li (other_differs i e)
 
-    read : AreReads width n (did i) e ((did i).reads j).begins ((did i).reads j).ends
+    read : AreReadsSoFar width n (did i) e ((did i).reads j).begins ((did i).reads j).ends
     read = (run.each i li).reads e le
 
     lk : k < length (did i).calls
@@ -110,7 +138,8 @@ module _ {V : Type 0} (width n limit : ℕ) (opening : V) (steps : List ℕ) (di
     of = register.read_of k numbered.0 numbered.1
 
     source : slice_get (first ∷ records (did j).calls) numbered.0 ≡ Some answer
-    source = ap (λ ys. slice_get (first ∷ ys) numbered.0) (sym written) ∙ register.source k numbered.0 answer numbered.1 there
+    source = first_longer first ((did j).writes i).items (records (did j).calls) written numbered.0 answer
+        (register.source k numbered.0 answer numbered.1 there)
 
     heard : IsHeard i k e c answer
     heard = record {
@@ -144,17 +173,19 @@ module _ {V : Type 0} (width n limit : ℕ) (opening : V) (steps : List ℕ) (di
                     let inside = read_inside in
                     let l : at width n limit opening steps did run i k + (e * width + (width - 1))
                     ≤ at width n limit opening steps did run i k + ((n - 1) * width - 1) = omega arith in
-                    let r = get_exists ((did i).reads j).ends k (let a = read.all.1 in let b = lk in omega arith) in
-                    let until : b.0 < r.0 = b.2 r.0 r.1 in
+                    let r = there_before (did i).times (at width n limit opening steps did run i k + (e * width + (width - 1)))
+                    (at width n limit opening steps did run i k + ((n - 1) * width - 1)) t et l in
+                    let until : b.0 < r.0 = b.2 r.0 (read.ended k lk ∙ r.1) in
                     let last : r.0 ≤ t = times_at_most width n limit opening steps did run i
                     (at width n limit opening steps did run i k + (e * width + (width - 1)))
-                    (at width n limit opening steps did run i k + ((n - 1) * width - 1)) r.0 t li (sym (read.ended k lk) ∙ r.1) et l in
+                    (at width n limit opening steps did run i k + ((n - 1) * width - 1)) r.0 t li r.1 et l in
                     omega arith;
               },
             )
 
-        above : (m : ℕ) (d : Called V) → slice_get (did j).calls m ≡ Some d → d.end < c.begin → IsAtMost d.chosen.stamp answer.stamp
-        above m d at_d before =
+        above : (m end : ℕ) (d : Called V) → slice_get (did j).calls m ≡ Some d → end_of width n (did j) m d ≡ Some end → end < c.begin →
+            IsAtMost d.chosen.stamp answer.stamp
+        above m end d at_d at_end before =
             let lm : m < length (did j).calls = slice_get_within (did j).calls m d at_d in
             let has : own_at j (suc m) ≡ d.chosen = own_next first (did j).calls m d at_d in
             let is : slice_get (first ∷ records (did j).calls) (told (did j).calls (suc m)) ≡ Some (own_at j (suc m)) =
@@ -173,34 +204,35 @@ module _ {V : Type 0} (width n limit : ℕ) (opening : V) (steps : List ℕ) (di
                 let lw : w.number < length (did j).calls = slice_get_within (did j).calls w.number w.call w.there in
                 let next : told (did j).calls (suc w.number) ≡ told (did j).calls w.number + 1 =
                 told_next (did j).calls w.number w.call w.there ∙ ap (λ b. told (did j).calls w.number + one_if b) w.tells in
-                let upto : told (did j).calls (suc w.number) ≤ told (did j).calls (length (did j).calls) =
-                told_rises (did j).calls (suc w.number) (length (did j).calls) (omega arith) in
-                let u : told (did j).calls w.number ≡ x = w.count in
-                let v = get_exists ((did j).writes i).ends x (let a = wrote.all.1 in omega arith) in
-                let ended : slice_get (did j).times
-                (at width n limit opening steps did run j w.number + ((n - 1 + back.0) * width + (width - 1))) ≡ Some v.0 =
-                sym (wrote.ended w.number w.call w.there w.tells) ∙ ap (slice_get ((did j).writes i).ends) w.count ∙ v.1 in
-                let b = get_exists ((did i).reads j).begins k (let a = read.all.0 in let b = lk in omega arith) in
-                let begun : slice_get (did i).times (at width n limit opening steps did run i k + e * width) ≡ Some b.0 =
-                sym (read.begun k lk) ∙ b.1 in
                 let some : 0 < width = run.size.2 in
                 let after = write_after in
                 let inside = write_inside in
-                let fin : slice_get (did j).times (at width n limit opening steps did run j (suc m) - 1) ≡ Some d.end =
-                ends width n limit opening steps did run j m d lj at_d in
+                let fin : slice_get (did j).times (at width n limit opening steps did run j (suc m) - 1) ≡ Some end =
+                ends width n limit opening steps did run j m d at_d ∙ at_end in
                 let full : at width n limit opening steps did run j (suc w.number)
                 ≡ at width n limit opening steps did run j w.number + ((n - 1) * width + (n - 1) * width) =
                 at_tells width n limit opening steps did run j w.number w.call w.there w.tells in
                 let up : at width n limit opening steps did run j (suc w.number) ≤ at width n limit opening steps did run j (suc m) =
                 at_rises width n limit opening steps did run j (suc w.number) (suc m) (omega arith) in
-                let one : v.0 ≤ d.end = times_at_most width n limit opening steps did run j
+                let before_end : at width n limit opening steps did run j w.number + ((n - 1 + back.0) * width + (width - 1))
+                ≤ at width n limit opening steps did run j (suc m) - 1 = omega arith in
+                let v = there_before (did j).times
                 (at width n limit opening steps did run j w.number + ((n - 1 + back.0) * width + (width - 1)))
-                (at width n limit opening steps did run j (suc m) - 1) v.0 d.end lj ended fin (omega arith) in
+                (at width n limit opening steps did run j (suc m) - 1) end fin before_end in
+                let ended : slice_get ((did j).writes i).ends x ≡ Some v.0 =
+                sym (ap (slice_get ((did j).writes i).ends) w.count) ∙ wrote.ended w.number w.call w.there w.tells ∙ v.1 in
+                let column : at width n limit opening steps did run i k + e * width
+                ≤ at width n limit opening steps did run i k + ((n - 1) * width - 1) = let r = read_inside in omega arith in
+                let b = there_before (did i).times (at width n limit opening steps did run i k + e * width)
+                (at width n limit opening steps did run i k + ((n - 1) * width - 1)) chose.0 chose.1 column in
+                let one : v.0 ≤ end = times_at_most width n limit opening steps did run j
+                (at width n limit opening steps did run j w.number + ((n - 1 + back.0) * width + (width - 1)))
+                (at width n limit opening steps did run j (suc m) - 1) v.0 end lj v.1 fin before_end in
                 let two : c.begin ≤ b.0 = times_at_most width n limit opening steps did run i (at width n limit opening steps did run i k)
                 (at width n limit opening steps did run i k + e * width) c.begin b.0 li
-                (begins width n limit opening steps did run i k c li made) begun (omega arith) in
-                of.late x (to_before (slice_get ((did j).writes i).ends x) (slice_get ((did i).reads j).begins k) v.0 v.1
-                (λ z h. let same : b.0 ≡ z = same_Some b.0 z (sym b.1 ∙ h) in omega arith))
+                (begins width n limit opening steps did run i k c li made) b.1 (omega arith) in
+                of.late x (to_before (slice_get ((did j).writes i).ends x) (slice_get ((did i).reads j).begins k) v.0 ended
+                (λ z h. let same : b.0 ≡ z = same_Some b.0 z (sym (read.begun k lk ∙ b.1) ∙ h) in omega arith))
 
             -- what was told later has no smaller stamp
             by_answer : (x y : ℕ) → y ≡ numbered.0 → x < y → (w : IsTold (did j).calls x (own_at j (suc m))) →
@@ -235,7 +267,7 @@ module _ {V : Type 0} (width n limit : ℕ) (opening : V) (steps : List ℕ) (di
                 let w = told_by (did j).calls x (own_at j (suc m)) is in
                 by_answer x numbered.0 refl (late x count w) w
 
-  module _ (ops : List (Op V)) (stamps : List (Option Stamp)) (h : IsHistory n did ops stamps) where
+  module _ (ops : List (Op V)) (stamps : List (Option Stamp)) (h : IsHistorySoFar width n did ops stamps) where
     -- an operation as a call, with the time at which it chose
     record Made : Type 0 where
       place : ℕ
@@ -244,22 +276,22 @@ module _ {V : Type 0} (width n limit : ℕ) (opening : V) (steps : List ℕ) (di
       there : slice_get ops place ≡ Some op
       reported : slice_get stamps place ≡ Some stamp
       number : ℕ
-      is : IsCall n did op stamp number
+      is : IsCallSoFar width n did op stamp number
       time : ℕ
       chose : slice_get (did op.who).times (at width n limit opening steps did run op.who number + ((n - 1) * width - 1)) ≡ Some time
 
     abbrev made_by : (p k : ℕ) (op : Op V) (stamp : Option Stamp) → slice_get ops p ≡ Some op →
-        slice_get stamps p ≡ Some stamp → IsCall n did op stamp k → Made
+        slice_get stamps p ≡ Some stamp → IsCallSoFar width n did op stamp k → Made
     made_by p k op stamp e s is =
         let t = chooses_at width n limit opening steps did run op.who k is.call is.who is.made in
         record { place = p; op = op; stamp = stamp; there = e; reported = s; number = k; is = is; time = t.0; chose = t.1 }
 
-    made_at : (p : ℕ) → p < length ops → (m : Made) × (m.place ≡ p)
-    made_at p l =
-        let o = get_exists ops p l in
-        let s = get_exists stamps p (let long = h.long in omega arith) in
-        let c = h.each p o.0 s.0 o.1 s.1 in
-        (made_by p c.0 o.0 s.0 o.1 s.1 c.1, refl)
+    -- of an operation: the call that has chosen, or one that hasn't
+    abbrev Which : Op V → Option Stamp → Type 0
+    Which op stamp = ((k : ℕ) × IsCallSoFar width n did op stamp k) ⊎ IsUnchosenCall width n did op stamp
+
+    stamp_at : (p : ℕ) → p < length ops → (s : Option Stamp) × (slice_get stamps p ≡ Some s)
+    stamp_at p l = get_exists stamps p (let long = h.long in omega arith)
 
     below : (m : ℕ) → suc m ≤ length ops → m < length ops
     below m l = omega arith
@@ -267,15 +299,48 @@ module _ {V : Type 0} (width n limit : ℕ) (opening : V) (steps : List ℕ) (di
     upto : (m : ℕ) → suc m ≤ length ops → m ≤ length ops
     upto m l = omega arith
 
+    abbrev and : (p : ℕ) (op : Op V) (stamp : Option Stamp) → slice_get ops p ≡ Some op → slice_get stamps p ≡ Some stamp →
+        Which op stamp → List Made → List Made
+    and p op stamp e s (inl c) rest = made_by p c.0 op stamp e s c.1 ∷ rest
+    and p op stamp e s (inr u) rest = rest
+
+    abbrev at_first : (p : ℕ) → p < length ops → List Made → List Made
+    at_first p l rest = and p (get_exists ops p l).0 (stamp_at p l).0 (get_exists ops p l).1 (stamp_at p l).1
+        (h.each p (get_exists ops p l).0 (stamp_at p l).0 (get_exists ops p l).1 (stamp_at p l).1) rest
+
     abbrev all_made : (m : ℕ) → m ≤ length ops → List Made
     all_made zero l = []
-    all_made (suc m) l = (made_at m (below m l)).0 ∷ all_made m (upto m l)
+    all_made (suc m) l = at_first m (below m l) (all_made m (upto m l))
 
-    in_all : (m : ℕ) (l : m ≤ length ops) (p : ℕ) → p < m → (x : Made) × IsIn x (all_made m l) × (x.place ≡ p)
-    in_all zero l p lp = absurd (omega arith)
-    in_all (suc m) l p lp = elim (cases_eq p m) [
-      | inl e ↦ ((made_at m (below m l)).0, inl refl, (made_at m (below m l)).1 ∙ sym e)
-      | inr ne ↦ let w = in_all m (upto m l) p (omega arith) in (w.0, inr w.1, w.2)
+    -- a call that has chosen isn't one that hasn't
+    chosen_there : (p : ℕ) (op : Op V) (stamp : Option Stamp) (e : slice_get ops p ≡ Some op) (s : slice_get stamps p ≡ Some stamp)
+        (w : Which op stamp) (rest : List Made) (y : Made) → y.place ≡ p → (x : Made) × IsIn x (and p op stamp e s w rest) × (x.place ≡ p)
+    chosen_there p op stamp e s (inl c) rest y q = (made_by p c.0 op stamp e s c.1, inl refl, refl)
+    chosen_there p op stamp e s (inr u) rest y q =
+        let same : stamp ≡ y.stamp = same_Some stamp y.stamp (sym s ∙ ap (slice_get stamps) (sym q) ∙ y.reported) in
+        absurd (no_stamp y.stamp stamp y.is.call.chosen.stamp (sym same) y.is.stamp u.stamp)
+
+    further : (p : ℕ) (op : Op V) (stamp : Option Stamp) (e : slice_get ops p ≡ Some op) (s : slice_get stamps p ≡ Some stamp)
+        (w : Which op stamp) (rest : List Made) (x : Made) → IsIn x rest → IsIn x (and p op stamp e s w rest)
+    further p op stamp e s (inl c) rest x m = inr m
+    further p op stamp e s (inr u) rest x m = m
+
+    in_all : (m : ℕ) (l : m ≤ length ops) (y : Made) → y.place < m → (x : Made) × IsIn x (all_made m l) × (x.place ≡ y.place)
+    in_all zero l y lp = absurd (omega arith)
+    in_all (suc m) l y lp = elim (cases_eq y.place m) [
+      | inl e ↦
+          let b : m < length ops = below m l in
+          let w = chosen_there m (get_exists ops m b).0 (stamp_at m b).0 (get_exists ops m b).1 (stamp_at m b).1
+          (h.each m (get_exists ops m b).0 (stamp_at m b).0 (get_exists ops m b).1 (stamp_at m b).1) (all_made m (upto m l)) y e in
+          (w.0, w.1, w.2 ∙ sym e)
+      | inr ne ↦
+          let b : m < length ops = below m l in
+          let w = in_all m (upto m l) y (omega arith) in (
+            w.0,
+            further m (get_exists ops m b).0 (stamp_at m b).0 (get_exists ops m b).1 (stamp_at m b).1
+                (h.each m (get_exists ops m b).0 (stamp_at m b).0 (get_exists ops m b).1 (stamp_at m b).1) (all_made m (upto m l)) w.0 w.1,
+            w.2,
+          )
     ]
 
     -- the newest first
@@ -307,19 +372,19 @@ module _ {V : Type 0} (width n limit : ℕ) (opening : V) (steps : List ℕ) (di
     unfolding sorted
     strict = strict_sort Same Later which (λ a. refl) later_trans made
 
-    -- each operation stands there, by its time
-    has : (p : ℕ) → p < length ops → (x : Made) × IsIn x sorted × ((y : Made) → y.place ≡ p → x.time ≡ y.time)
+    -- each call that has chosen stands there, by its time
+    has : (y : Made) → (x : Made) × IsIn x sorted × (x.time ≡ y.time)
     unfolding sorted made
-    has p l =
-        let w = in_all (length ops) whole p l in
+    has y =
+        let w = in_all (length ops) whole y (slice_get_within ops y.place y.op y.there) in
         let s = sort_in Same Later which (λ a. refl) later_trans w.0 made w.1 in
-        (s.0, s.1, λ y e. s.2 ∙ time_at w.0 y (w.2 ∙ sym e))
+        (s.0, s.1, s.2 ∙ time_at w.0 y w.2)
       where
         time_at : (a b : Made) → a.place ≡ b.place → a.time ≡ b.time
         time_at a b e =
             let o : a.op ≡ b.op = same_Some a.op b.op (sym a.there ∙ ap (slice_get ops) e ∙ b.there) in
-            let x : IsCall n did a.op a.stamp a.number = a.is in
-            let y : IsCall n did b.op b.stamp b.number = b.is in
+            let x : IsCallSoFar width n did a.op a.stamp a.number = a.is in
+            let y : IsCallSoFar width n did b.op b.stamp b.number = b.is in
             let q = begin_once width n limit opening steps did run a.op.who b.op.who
             a.number b.number x.call y.call x.who y.who x.made y.made
             (sym x.begins ∙ ap (λ z. z.starts) o ∙ y.begins) in
@@ -331,8 +396,8 @@ module _ {V : Type 0} (width n limit : ℕ) (opening : V) (steps : List ℕ) (di
     -- of one time is one operation
     one_time : (a b : Made) → a.time ≡ b.time → a.place ≡ b.place
     one_time a b e =
-        let x : IsCall n did a.op a.stamp a.number = a.is in
-        let y : IsCall n did b.op b.stamp b.number = b.is in
+        let x : IsCallSoFar width n did a.op a.stamp a.number = a.is in
+        let y : IsCallSoFar width n did b.op b.stamp b.number = b.is in
         let o = times_once width n limit opening steps did run a.op.who b.op.who
         (at width n limit opening steps did run a.op.who a.number + ((n - 1) * width - 1))
         (at width n limit opening steps did run b.op.who b.number + ((n - 1) * width - 1)) a.time x.who y.who a.chose
@@ -377,7 +442,7 @@ module _ {V : Type 0} (width n limit : ℕ) (opening : V) (steps : List ℕ) (di
 
     full_sorted : IsFull sorted
     full_sorted x y m le =
-        let w = has y.place (slice_get_within ops y.place y.op y.there) in (w.0, w.1, w.2 y refl)
+        has y
 
     -- a call that has chosen before stands in the past
     in_past : (x : Made) (xs : List Made) → IsFull (x ∷ xs) → (j q t : ℕ) (d : Called V) → j < n → slice_get (did j).calls q ≡ Some d →
@@ -393,7 +458,7 @@ module _ {V : Type 0} (width n limit : ℕ) (opening : V) (steps : List ℕ) (di
         let tz : z.0.time ≡ y.time = z.2 in
         let same : z.0.place ≡ y.place = one_time z.0 y tz in
         let o : z.0.op ≡ y.op = same_Some z.0.op y.op (sym z.0.there ∙ ap (slice_get ops) same ∙ y.there) in
-        let a : IsCall n did z.0.op z.0.stamp z.0.number = z.0.is in
+        let a : IsCallSoFar width n did z.0.op z.0.stamp z.0.number = z.0.is in
         let b = begin_once width n limit opening steps did run z.0.op.who j z.0.number q a.call d a.who lj a.made e
         (sym a.begins ∙ ap (λ u. u.starts) o ∙ w.6.begins
         ∙ ap (λ (u : Called V). u.begin) (same_Some w.6.call d (sym w.6.made ∙ ap (λ i. slice_get (did i).calls q) who ∙ e))) in (
@@ -493,8 +558,9 @@ module _ {V : Type 0} (width n limit : ℕ) (opening : V) (steps : List ℕ) (di
       own_past y l who = above_own y.number y.is.call (subst (λ z. slice_get (did z).calls y.number ≡ Some y.is.call) who y.is.made)
           (smaller y l who)
 
-      earlier_past : (y : Made) → y.time < x.time → y.is.call.end < c.begin → IsAtMost y.is.call.chosen.stamp c.seen.stamp
-      earlier_past y l before = elim (cases_eq y.op.who i) [
+      earlier_past : (y : Made) (end : ℕ) → y.time < x.time → end_of width n (did y.op.who) y.number y.is.call ≡ Some end → end < c.begin →
+          IsAtMost y.is.call.chosen.stamp c.seen.stamp
+      earlier_past y end l at_end before = elim (cases_eq y.op.who i) [
         | inl who ↦ own_past y l who
         | inr ne ↦
             let o = other_reached n i y.op.who li y.is.who ne in
@@ -502,21 +568,24 @@ module _ {V : Type 0} (width n limit : ℕ) (opening : V) (steps : List ℕ) (di
             let a = get_exists sees.answers o.0 (let z = sees.each in omega arith) in
             let v : IsHeard i k o.0 c a.0 = answer_of o.0 a.0 a.1 in
             at_most_trans y.is.call.chosen.stamp a.0.stamp c.seen.stamp
-            (v.above y.number y.is.call (subst (λ z. slice_get (did z).calls y.number ≡ Some y.is.call) (sym o.2) y.is.made) before)
+            (v.above y.number end y.is.call (subst (λ z. slice_get (did z).calls y.number ≡ Some y.is.call) (sym o.2) y.is.made)
+            (subst (λ z. end_of width n (did z) y.number y.is.call ≡ Some end) (sym o.2) at_end) before)
             (subst (λ z. IsAtMost a.0.stamp z.stamp) (sym sees.greatest) (greatest_each (own_at i k) sees.answers o.0 a.0 a.1))
       ]
 
       -- what precedence of two choices says of their calls
-      ended_before : (a b : Made) → IsEarlier ops (choice a) (choice b) → a.is.call.end < b.is.call.begin
+      ended_before : (a b : Made) → IsEarlier ops (choice a) (choice b) →
+          (end : ℕ) × (end_of width n (did a.op.who) a.number a.is.call ≡ Some end) × (end < b.is.call.begin)
       ended_before a b w =
           let p : w.0 ≡ a.op = same_Some w.0 a.op (sym w.2 ∙ a.there) in
           let q : w.1 ≡ b.op = same_Some w.1 b.op (sym w.3 ∙ b.there) in
-          let l : a.is.call.end < w.1.starts = ends_at w.0 w.1 a.is.call.end (ap (λ z. z.ends) p ∙ a.is.ends) w.4 in
+          let l = end_there w.0.ends w.1.starts w.4 in
           let s : w.1.starts ≡ b.is.call.begin = ap (λ z. z.starts) q ∙ b.is.begins in
-          omega arith
+          (l.0, sym a.is.ends ∙ ap (λ z. z.ends) (sym p) ∙ l.1, let m : l.0 < w.1.starts = l.2 in omega arith)
 
       -- a call chooses while it lasts
-      chooses_in : (a : Made) → (a.is.call.begin ≤ a.time) × (a.time ≤ a.is.call.end)
+      chooses_in : (a : Made) → (a.is.call.begin ≤ a.time)
+          × ((end : ℕ) → end_of width n (did a.op.who) a.number a.is.call ≡ Some end → a.time ≤ end)
       chooses_in a =
           let p : 0 < (n - 1) * width = line width n limit opening steps did run in
           let up : at width n limit opening steps did run a.op.who a.number + (n - 1) * width
@@ -525,10 +594,10 @@ module _ {V : Type 0} (width n limit : ℕ) (opening : V) (steps : List ℕ) (di
             times_at_most width n limit opening steps did run a.op.who (at width n limit opening steps did run a.op.who a.number)
                 (at width n limit opening steps did run a.op.who a.number + ((n - 1) * width - 1)) a.is.call.begin a.time a.is.who
                 (begins width n limit opening steps did run a.op.who a.number a.is.call a.is.who a.is.made) a.chose (omega arith),
-            times_at_most width n limit opening steps did run a.op.who
+            λ end f. times_at_most width n limit opening steps did run a.op.who
                 (at width n limit opening steps did run a.op.who a.number + ((n - 1) * width - 1))
-                (at width n limit opening steps did run a.op.who (suc a.number) - 1) a.time a.is.call.end a.is.who a.chose
-                (ends width n limit opening steps did run a.op.who a.number a.is.call a.is.who a.is.made) (omega arith),
+                (at width n limit opening steps did run a.op.who (suc a.number) - 1) a.time end a.is.who a.chose
+                (ends width n limit opening steps did run a.op.who a.number a.is.call a.is.made ∙ f) (omega arith),
           )
 
       chooses : Chooses (IsEarlier ops) opening limit (map choice xs) (choice x)
@@ -548,22 +617,24 @@ module _ {V : Type 0} (width n limit : ℕ) (opening : V) (steps : List ℕ) (di
             let e : d ≡ choice y.0 = y.2 in
             let l : y.0.time < x.time = s.0 y.0 y.1 in
             subst (λ z. IsAtMost z.stamp c.seen.stamp) (sym e)
-            (earlier_past y.0 l (ended_before y.0 x (subst (λ z. IsEarlier ops z (choice x)) e w)));
+            (let b = ended_before y.0 x (subst (λ z. IsEarlier ops z (choice x)) e w) in earlier_past y.0 b.0 l b.1 b.2);
         chosen = subst (λ z. ChoosesByKind limit (record (choice x) { kind = z }) z c.seen.stamp c.seen.item) (sym x.is.kind)
             ((run.each i li).chooses k x.place c x.is.made);
         not_later = λ d m w.
             let y = in_map choice xs d m in
             let e : d ≡ choice y.0 = y.2 in
             let l : y.0.time < x.time = s.0 y.0 y.1 in
-            let b : c.end < y.0.is.call.begin = ended_before x y.0 (subst (λ z. IsEarlier ops (choice x) z) e w) in
+            let b = ended_before x y.0 (subst (λ z. IsEarlier ops (choice x) z) e w) in
+            let less : b.0 < y.0.is.call.begin = b.2 in
             let p = chooses_in x in
             let q = chooses_in y.0 in
-            let p1 : x.time ≤ c.end = p.1 in
+            let p1 : x.time ≤ b.0 = p.1 b.0 b.1 in
             let q0 : y.0.is.call.begin ≤ y.0.time = q.0 in
             omega arith;
         interval = λ w.
-            let b : c.end < c.begin = ended_before x x w in
-            let l : c.begin ≤ c.end = lasts width n limit opening steps did run i k c li x.is.made in
+            let b = ended_before x x w in
+            let less : b.0 < c.begin = b.2 in
+            let l : c.begin ≤ b.0 = lasts width n limit opening steps did run i k b.0 c li x.is.made b.1 in
             omega arith;
         writer = let l : i < n = li in let m : n ≤ 16 = run.size.1 in omega arith;
       }
@@ -586,11 +657,18 @@ module _ {V : Type 0} (width n limit : ℕ) (opening : V) (steps : List ℕ) (di
       ended = λ end e. m.is.item;
     }
 
-    at_place : (p : ℕ) → p < length ops → (c : Choice V) × IsIn c choices × (c.place ≡ p)
-    at_place p l =
-        let w = has p l in
-        let y = made_at p l in
-        (choice w.0, map_in choice sorted w.0 w.1, one_time w.0 y.0 (w.2 y.0 y.1) ∙ y.1)
+    of_made : (y : Made) → (c : Choice V) × IsIn c choices × (c.place ≡ y.place)
+    of_made y = let w = has y in (choice w.0, map_in choice sorted w.0 w.1, one_time w.0 y w.2)
+
+    by_stamp : (p : ℕ) (s : Stamp) (op : Op V) → slice_get ops p ≡ Some op → slice_get stamps p ≡ Some (Some s) → Which op (Some s) →
+        (c : Choice V) × IsIn c choices × (c.place ≡ p)
+    by_stamp p s op e r (inl c) = of_made (made_by p c.0 op (Some s) e r c.1)
+    by_stamp p s op e r (inr u) = absurd (no_stamp (Some s) (Some s) s refl refl u.stamp)
+
+    by_end : (p end : ℕ) (op : Op V) (stamp : Option Stamp) → slice_get ops p ≡ Some op → slice_get stamps p ≡ Some stamp →
+        op.ends ≡ Some end → Which op stamp → (c : Choice V) × IsIn c choices × (c.place ≡ p)
+    by_end p end op stamp e r f (inl c) = of_made (made_by p c.0 op stamp e r c.1)
+    by_end p end op stamp e r f (inr u) = absurd (no_stamp op.ends op.ends end refl f u.ends)
 
     one_choice : (a b : Made) → a.place ≡ b.place → choice a ≡ choice b
     one_choice a b e =
@@ -608,8 +686,12 @@ module _ {V : Type 0} (width n limit : ℕ) (opening : V) (steps : List ℕ) (di
       record {
         law = choose_all sorted strict full_sorted;
         each = λ c m. let w = in_map choice sorted c m in subst (IsChoiceOf ops stamps) (sym w.2) (is_choice w.0);
-        reported = λ p s e. at_place p (let l = slice_get_within stamps p (Some s) e in let long = h.long in omega arith);
-        finished = λ p end o e f. at_place p (slice_get_within ops p o e);
+        reported = λ p s e.
+            let o = get_exists ops p (let l = slice_get_within stamps p (Some s) e in let long = h.long in omega arith) in
+            by_stamp p s o.0 o.1 e (h.each p o.0 (Some s) o.1 e);
+        finished = λ p end o e f.
+            let s = stamp_at p (slice_get_within ops p o e) in
+            by_end p end o s.0 e s.1 f (h.each p o s.0 e s.1);
         once = λ c d mc md e.
             let v = in_map choice sorted c mc in
             let w = in_map choice sorted d md in
@@ -623,3 +705,19 @@ module _ {V : Type 0} (width n limit : ℕ) (opening : V) (steps : List ℕ) (di
     pub history_lawful : (order : List ℕ) → IsInOrder ops stamps order →
         RefusesLawfully (record { first = 0; limit = limit } ∷ []) ops order
     history_lawful order is = let x = choices_there in term_lawful opening limit ops stamps x.0 order x.1 is h.long h.rising
+
+module _ {V : Type 0} (width n : ℕ) (did : ℕ → Did V) (ops : List (Op V)) (stamps : List (Option Stamp))
+    (h : IsHistorySoFar width n did ops stamps) where
+  -- an operation that is cut off stands in the order exactly if it is a write that has chosen
+  pub history_stands : (order : List ℕ) → IsInOrder ops stamps order → StandIfChosen ops stamps order
+  history_stands order is p op stamp e s = is.listed p op stamp e s ∙ ap (λ b. if b then 1 else 0) (stands op stamp (h.each p op stamp e s))
+    where
+      stands : (op : Op V) (stamp : Option Stamp) → ((k : ℕ) × IsCallSoFar width n did op stamp k) ⊎ IsUnchosenCall width n did op stamp →
+          is_listed op stamp ≡ (is_some op.ends || (is_write op.kind && is_some stamp))
+      stands op stamp (inl c) =
+          ap (is_listed op) c.1.stamp ∙ ap (λ b. is_some op.ends || b) (sym (and_true (is_write op.kind)))
+          ∙ ap (λ s. is_some op.ends || (is_write op.kind && is_some s)) (sym c.1.stamp)
+      stands op stamp (inr u) =
+          ap (is_listed op) u.stamp ∙ sym (and_false (is_write op.kind))
+          ∙ ap (λ z. z || (is_write op.kind && false)) (ap is_some (sym u.ends))
+          ∙ ap (λ s. is_some op.ends || (is_write op.kind && is_some s)) (sym u.stamp)

@@ -16,8 +16,8 @@ use Rattle.matrix_core.proofs.lists.Elements.{get_exists}
 use Rattle.matrix_core.proofs.orders.Terms.{term_last}
 use Rattle.board_history.specs.BoardRuns.{Called, Did, IsBoardRun, own_before}
 use Rattle.board_history.specs.Histories.{IsCall, IsGreatestOwn, IsHistory, own_after}
-use Rattle.board_history.proofs.Atomic.{choices_there}
-use Rattle.board_history.proofs.Rising.{own_next, own_rises, own_zero}
+use Rattle.board_history.proofs.Rising.{own_next, own_zero}
+use Rattle.board_history.proofs.Whole.{choices_there, own_rises}
 
 module _ {V : Type 0} (width n limit : ℕ) (opening : V) (steps : List ℕ) (did : ℕ → Did V)
     (run : IsBoardRun width n limit (first_record opening) steps did) where

@@ -14,8 +14,7 @@ use Rattle.matrix_core.proofs.choices.Rise.{have_writes, HasWrite, one_write_eac
 use Rattle.matrix_core.specs.Lines.{first_record}
 use Rattle.board_history.specs.BoardRuns.{Called, Did, IsBoardRun}
 use Rattle.board_history.specs.Histories.{ChoseFrom, IsCall, IsHistory}
-use Rattle.board_history.proofs.Atomic.{choices_there}
-use Rattle.board_history.proofs.There.{all_there}
+use Rattle.board_history.proofs.Whole.{all_there, choices_there}
 
 module _ {V : Type 0} where
   -- the choice of a call

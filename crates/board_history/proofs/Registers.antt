@@ -27,12 +27,10 @@ use Rattle.matrix_core.proofs.orders.Places.{times_twice}
 use Rattle.board_history.specs.BoardRuns.{Called, Did, IsBoardRun, own_before}
 use Rattle.board_history.specs.Histories.{IsCall, IsGreatestOwn, IsHistory, own_after}
 use Rattle.board_history.specs.OneRegister.{AreOfOne, IsOneOrder, Named, Takes}
-use Rattle.board_history.proofs.Atomic.{history_atomic, history_lawful}
 use Rattle.board_history.proofs.Last.{chosen_below}
 use Rattle.board_history.proofs.Rising.{first_least, own_next, own_zero}
 use Rattle.board_history.proofs.Later.{calls_agree, calls_rise, calls_written}
-use Rattle.board_history.proofs.There.{all_there}
-use Rattle.board_history.proofs.Timed.{begin_once, in_turn as turns, lasts}
+use Rattle.board_history.proofs.Whole.{all_there, begin_once, history_atomic, history_lawful, in_turn as turns, lasts}
 
 both_ways : (a b : Stamp) → IsAtMost a b → IsAtMost b a → a ≡ b
 both_ways a b (inl e) h = e

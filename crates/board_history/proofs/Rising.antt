@@ -1,4 +1,5 @@
--- A process's records rise: what a call chooses isn't below what it saw, which is the greatest of its own record and of its answers.
+-- A process's records rise, also if its last call is cut off: what a call chooses isn't below what it saw, which is the greatest of its own
+-- record and of its answers.
 use Rattle.std.proofs.Common.{◌≡◌, ℕ, zero, suc, ◌+◌, ◌<◌, ◌≤◌, List, [], ◌∷◌, length, slice_get}
 use Rattle.std.proofs.Common.{Some, refl, sym, ◌∙◌, ap, subst, arith, inl, inr}
 use Rattle.std.proofs.lemmas.Bool.{cases_order}
@@ -12,7 +13,8 @@ use Rattle.matrix_core.proofs.choices.Stamps.{at_most_trans, greater_first, grea
 use Rattle.matrix_core.specs.Stamps.{first_stamp, greater, greatest, IsBelow}
 use Rattle.matrix_core.specs.Lines.{first_record}
 use Rattle.matrix_core.proofs.lists.Elements.{get_exists}
-use Rattle.board_history.specs.BoardRuns.{Called, Did, IsBoardRun, own_before}
+use Rattle.board_history.specs.BoardRuns.{Called, Did, own_before}
+use Rattle.board_history.specs.RunsSoFar.{IsBoardRunSoFar}
 
 -- the first stamp is at most any
 pub first_least : (s : Stamp) → IsAtMost first_stamp s
@@ -67,7 +69,7 @@ own_next first (d ∷ calls) zero c e = own_zero d.chosen calls ∙ ap (λ z. z.
 own_next first (d ∷ calls) (suc k) c e = own_next d.chosen calls k c e
 
 module _ {V : Type 0} (width n limit : ℕ) (opening : V) (steps : List ℕ) (did : ℕ → Did V)
-    (run : IsBoardRun width n limit (first_record opening) steps did) where
+    (run : IsBoardRunSoFar width n limit (first_record opening) steps did) where
   -- a process's records rise
   pub own_rises : (i j more : ℕ) → i < n → j + more ≤ length (did i).calls →
       IsAtMost (own_before (first_record opening) (did i).calls j).stamp (own_before (first_record opening) (did i).calls (j + more)).stamp

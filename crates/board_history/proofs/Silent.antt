@@ -6,7 +6,7 @@ use Rattle.matrix_core.specs.declared.stamp.Stamped.{Stamped}
 use Rattle.matrix_core.specs.Choices.{ChoosesByKind}
 use Rattle.history_core.specs.declared.history.Kind.TheVariants.{Write, Read}
 use Rattle.history_core.specs.Schedules.{positions}
-use Rattle.history_core.specs.Registers.{IsBefore, IsReadOf}
+use Rattle.history_core.specs.Registers.{IsReadOf}
 use Rattle.board_history.specs.BoardRuns.{AreReads, AreWrites, Called, IsBoardRun, IsProcess, IsRegister, own_before, Sees}
 use Rattle.board_history.specs.BoardRuns.{steps_before, steps_of_call, told}
 use Rattle.board_history.proofs.Growing.{not_both}

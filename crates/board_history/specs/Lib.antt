@@ -1,5 +1,9 @@
 pub mod Accesses
 pub mod BoardRuns
+pub mod CutOff
+pub mod CutOffInstances
 pub mod Histories
+pub mod HistoriesSoFar
 pub mod Instances
 pub mod OneRegister
+pub mod RunsSoFar

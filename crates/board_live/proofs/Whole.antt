@@ -14,9 +14,8 @@ use Rattle.matrix_core.specs.Lines.{first_record}
 use Rattle.matrix_core.proofs.lists.Elements.{get_exists}
 use Rattle.board_history.specs.BoardRuns.{IsBoardRun, IsProcess, IsRegister, own_before}
 use Rattle.board_history.specs.Histories.{IsGreatestOwn, own_after}
-use Rattle.board_history.proofs.Atomic.{history_atomic, history_lawful}
 use Rattle.board_history.proofs.Last.{history_last}
-use Rattle.board_history.proofs.There.{all_there}
+use Rattle.board_history.proofs.Whole.{all_there, history_atomic, history_lawful}
 use Rattle.board_live.specs.declared.board.Board.{Board}
 use Rattle.board_live.specs.declared.board.Pass.{Pass}
 use Rattle.board_live.specs.declared.record.Posted.{Posted}

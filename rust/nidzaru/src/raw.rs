@@ -203,14 +203,16 @@ pub const fn calls_for(size: usize, triple: bool) -> &'static Calls {
     }
 }
 
-/// A writing side that is live until it goes.
+/// A writing side that is live until it goes. Each call stores into it, so it has a cache line of its own.
+#[repr(align(64))]
 pub struct WritingSide {
     side: Side,
     order: Order,
     end: End,
 }
 
-/// A reading side that is live until it goes.
+/// A reading side that is live until it goes, with a cache line of its own.
+#[repr(align(64))]
 pub struct ReadingSide {
     side: Side,
     order: Order,
@@ -543,7 +545,8 @@ pub const fn board_calls_for(size: usize, triple: bool) -> &'static BoardCalls {
     }
 }
 
-/// A place that is live until it goes.
+/// A place that is live until it goes, with a cache line of its own.
+#[repr(align(64))]
 pub struct BoardPlace {
     side: Side,
     order: Order,

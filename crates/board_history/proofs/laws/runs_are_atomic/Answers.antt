@@ -1,7 +1,6 @@
--- A history of a run is one by accesses; the history is its calls sorted by beginning.
-use Rattle.board_history.proofs.Atomic.{history_atomic, history_lawful}
+-- A run is one so far, and its history is one so far.
 use Rattle.board_history.proofs.Last.{history_last}
-use Rattle.board_history.proofs.There.{all_there}
+use Rattle.board_history.proofs.Whole.{all_there, history_atomic, history_lawful}
 use Rattle.board_history.proofs.laws.runs_are_atomic.Goals as goal
 
 pub returns-clause-atomic : goal.returns-clause-atomic

@@ -1,0 +1,6 @@
+-- Calls that are cut off.
+pub mod Calls
+pub mod Few
+pub mod Instances
+pub mod Parts
+pub mod Places
