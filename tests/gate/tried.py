@@ -50,8 +50,12 @@ def are_built(top, names):
     return True
 
 
+def place(top):
+    return top / "tests/gate/tried.txt"
+
+
 def read(top):
-    file = top / "tests/gate/tried.txt"
+    file = place(top)
     return dict(LINE.findall(file.read_text(encoding="utf-8"))) if file.is_file() else {}
 
 

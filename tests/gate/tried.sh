@@ -14,6 +14,7 @@ lay_out_tried() {
     cat >"$kit_stub/bin/rattle" <<'STUB'
 #!/bin/sh
 count=0
+[ ! -e "${0%/*}/blind" ] || exit 0
 while [ $# -gt 0 ]; do
     if [ "$1" = --only ]; then
         count=$((count + 1))
@@ -123,6 +124,15 @@ try_after_sums() {
     tries "all by a word" 0 20 20 --proved --all
 }
 
+# A crate that fails in its turn, here since the prover refuses nothing, has no sum any more.
+try_failing() {
+    : >"$kit_stub/bin/blind"
+    tries "wrong bodies that aren't refused in their turn" 1 "$due_low" "$due_high" --proved --turn 4
+    rm "$kit_stub/bin/blind"
+    has_sums "so no sum stays"
+    cp "$room/sums_tried" "$sums_there"
+}
+
 # The turn is the number of commits.
 try_by_commits() {
     for commit in 1 2 3 4; do
@@ -142,6 +152,7 @@ else
     tries "all, of functions that are proved first" 0 20 20 --all --write "$sums_there"
     has_sums "sums are written" high low
     try_after_sums
+    try_failing
     try_by_commits
 
     # The controls: sums that aren't compared, and sums that leave out the crates below.

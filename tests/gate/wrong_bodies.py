@@ -22,7 +22,8 @@ tried as any other. The checks begin with what `rt check` has kept of the crate.
 Without names of crates, --all and --edits not all are tried: those of a crate that stands by its sum in tests/gate/tried.txt (tried.py says
 when) come by turns, a tenth in each of ten commits. The turn is the number of commits, or what --turn says. Those that stand by their sums
 count as passed, and a line says how many were tried. With --write a file gets the sums of the crates that stand by them and of those all
-of whose wrong bodies were tried and refused, over libraries that are built of what lies there.
+of whose wrong bodies were tried and refused, over libraries that are built of what lies there. A crate that fails in its turn loses its
+line in tests/gate/tried.txt.
 
 With --said the judge is tried on what the prover said of some edits once: a file's first lines are `crate:`, `function:` and `refused:
 yes` or `no`, as it has to judge, and behind an empty line stands what was said.
@@ -416,6 +417,9 @@ def main():
     stands = {name for name, it in sums.items() if known.get(name) == it}
     chosen = choose(paths, stands, asked)
     counts = judge_all(chosen, kit, asked)
+    failing = {it.name for it, (_, failed) in counts.items() if failed}
+    if not asked.edits and failing & known.keys():
+        tried.write(tried.place(TOP), {name: it for name, it in known.items() if name not in failing})
     if asked.write:
         names, after = names_with_sums(counts, paths, stands), tried.sums_of(TOP, kit, rows, below)
         tried.write(asked.write, {name: sums[name] for name in names if after[name] == sums[name]})
