@@ -1,6 +1,13 @@
-"""The converters of tools/convert/ on the histories of tests/programs/histories/: each log that has to come out, with its verdict, and each line that is
-refused. The logs were written by hand, and are NAME.KEY.jsonl (`only` where there is no key). Prints how many there were."""
+"""The converters of tools/convert/, on the histories of tests/programs/histories/ and on the short ones of conversions.py: each log that has
+to come out, with its verdict, and each line that is refused. The logs were written by hand; of a file they are NAME.KEY.jsonl (`only` where
+there is no key). Prints how many there were.
 
+    converters.py [--tools FOLDER] [--planted log|verdict|refusal|history] [NAME..]
+
+With names those histories alone. With a planted fault one thing that is wanted is changed, and the status has to be 1.
+"""
+
+import argparse
 import os
 import subprocess
 import sys
@@ -9,6 +16,7 @@ import tempfile
 TOP = os.path.dirname(os.path.dirname(os.path.dirname(os.path.realpath(__file__))))
 HERE = f"{TOP}/tests/programs/histories"
 sys.path.insert(0, f"{TOP}/tests/programs/reference")
+import conversions  # noqa: E402
 import lines  # noqa: E402
 
 LOGS = {
@@ -31,55 +39,107 @@ REFUSED = {
 }
 
 
-def convert(name, *words):
-    tool = f"{TOP}/tools/convert/{name.split('_')[0]}.py"
-    return subprocess.run([sys.executable, tool, *words, f"{HERE}/{name}"], capture_output=True, text=True, check=False)
-
-
 def text_of(path):
     with open(path, encoding="utf-8") as file:
         return file.read()
 
 
-def faults_of_logs(name, verdicts):
-    with tempfile.TemporaryDirectory() as room:
-        done = convert(name, "--to", room)
-        if done.returncode or done.stdout or done.stderr:
-            return [f"{name}: status {done.returncode}: {done.stderr}"]
-        made = {file: text_of(f"{room}/{file}") for file in os.listdir(room)}
-    faults, stem = [], name.split(".")[0]
-    if "only" in verdicts:
-        made = {"only.jsonl": text for text in made.values()}
-        if convert(name).stdout != made["only.jsonl"]:
+class Converter:
+    """The converters of a folder; `planted` is what is wanted in another way than it comes out."""
+
+    def __init__(self, folder, planted):
+        self.folder, self.planted = folder, planted
+
+    def convert(self, name, *words, text=None):
+        command = [sys.executable, f"{self.folder}/{name.split('_')[0]}.py", *words]
+        text = open(f"{HERE}/{name}", "rb").read() if text is None else text
+        done = subprocess.run(command, input=text, capture_output=True, check=False)
+        return done.returncode, done.stdout.decode(), done.stderr.decode()
+
+    def planted_in(self, what, text):
+        return f"{text} " if self.planted == what else text
+
+    def faults_of_logs(self, name, wanted, text=None, words=()):
+        """What is wrong about the logs of a history; `wanted` has by key the log and its verdict."""
+        with tempfile.TemporaryDirectory() as room:
+            status, out, err = self.convert(name, "--to", f"{room}/logs", *words, text=text)
+            if status or out or err:
+                return [f"{name}: status {status}: {err}"]
+            made = {file: text_of(f"{room}/logs/{file}") for file in os.listdir(f"{room}/logs")}
+        faults, status, out, err = [], *self.convert(name, *words, text=text)
+        if len(made) == 1 and (status, [out], err) != (0, list(made.values()), ""):
             faults.append(f"{name}: standard output has another log")
-    elif len(made) > 1 and "--to FOLDER" not in convert(name).stderr:
-        faults.append(f"{name}: several keys go to standard output")
-    if set(made) != {f"{key}.jsonl" for key in verdicts}:
-        return faults + [f"{name}: its logs are {sorted(made)}"]
-    for key, verdict in verdicts.items():
-        if made[f"{key}.jsonl"] != text_of(f"{HERE}/{stem}.{key}.jsonl"):
-            faults.append(f"{name}: {key} is\n{made[f'{key}.jsonl']}")
-        told = lines.answer(lines.read_log(made[f"{key}.jsonl"].splitlines()))[1].split("\n")[0]
-        if told != verdict:
-            faults.append(f"{name}: {key} is {told}")
-    return faults
+        if len(made) > 1 and (status, out, "--to FOLDER" in err) != (3, "", True):
+            faults.append(f"{name}: several keys go to standard output")
+        if "only" in wanted:
+            made = {"only.jsonl": text for text in made.values()}
+        if set(made) != {f"{key}.jsonl" for key in wanted}:
+            return faults + [f"{name}: its logs are {sorted(made)}"]
+        for key, (log, verdict) in wanted.items():
+            if made[f"{key}.jsonl"] != self.planted_in("log", log):
+                faults.append(f"{name}: {key} is\n{made[f'{key}.jsonl']}")
+            told = lines.answer(lines.read_log(made[f"{key}.jsonl"].splitlines()))[1].split("\n")[0]
+            if told != self.planted_in("verdict", verdict):
+                faults.append(f"{name}: {key} is {told}")
+        return faults
+
+    def faults_of_refused(self, name, why, text=None, words=()):
+        status, out, err = self.convert(name, *words, text=text)
+        wanted = [f"{name.split('_')[0]}: {line}" for line in self.planted_in("refusal", why).split("\n")]
+        told = err.split("\n")
+        if status == 3 and not out and told[-1] == "" and len(told) in (2, 3) and [it[: len(line)] for it, line in zip(told, wanted)] == wanted:
+            return []
+        return [f"{name}: status {status}: {err}{out}"]
+
+    def faults_of_file(self, name):
+        if name in REFUSED:
+            return self.faults_of_refused(name, REFUSED[name])
+        stem = name.split(".")[0]
+        return self.faults_of_logs(name, {key: (text_of(f"{HERE}/{stem}.{key}.jsonl"), verdict) for key, verdict in LOGS[name].items()})
+
+    def faults_of_short(self, name):
+        text, wanted, words = conversions.ALL[name]
+        text = text if isinstance(text, bytes) else text.encode()
+        if isinstance(wanted, str):
+            return self.faults_of_refused(name, wanted, text, words)
+        return self.faults_of_logs(name, wanted, text, words)
+
+    def faults_of_streams(self):
+        """A file that isn't there, a folder that can't be, a stream that takes nothing."""
+        faults, history = [], f"{HERE}/jepsen_register.edn"
+        for words, why in (([f"{HERE}/none"], "none: No such file"), (["--to", f"{HERE}/jepsen_cas.edn", history], "jepsen_cas.edn: File exists")):
+            status, out, err = self.convert("jepsen_streams", *words, text=b"")
+            if (status, out, err.count("\n")) != (5, "", 1) or why not in err:
+                faults.append(f"{words}: status {status}: {err}")
+        if os.path.exists("/dev/full"):
+            with open("/dev/full", "w", encoding="utf-8") as full:
+                done = subprocess.run([sys.executable, f"{self.folder}/jepsen.py", history], stdout=full, stderr=subprocess.PIPE, check=False)
+            if (done.returncode, done.stderr) != (5, b"jepsen: a stream: No space left on device\n"):
+                faults.append(f"/dev/full: status {done.returncode}: {done.stderr.decode()}")
+        return faults
 
 
-def fault_of_refused(name, why):
-    done = convert(name)
-    if done.returncode == 3 and done.stderr.startswith(f"{name.split('_')[0]}: {why}") and not done.stdout:
-        return []
-    return [f"{name}: status {done.returncode}: {done.stderr}{done.stdout}"]
+def histories(planted):
+    """The files that are there, of which each is wanted in one way."""
+    found = {it for it in os.listdir(HERE) if it.count(".") == 1}
+    return found - {min(found)} if planted == "history" else found
 
 
 def main():
-    faults = [it for name, verdicts in LOGS.items() for it in faults_of_logs(name, verdicts)]
-    faults += [it for name, why in REFUSED.items() for it in fault_of_refused(name, why)]
-    inputs = {it for it in os.listdir(HERE) if it.count(".") == 1}
-    if inputs != {*LOGS, *REFUSED}:
-        faults.append(f"not compared: {sorted(inputs ^ {*LOGS, *REFUSED})}")
-    print("\n".join(faults or [f"{sum(map(len, LOGS.values()))} logs and {len(REFUSED)} refusals are as they were written by hand"]))
-    return 1 if faults else 0
+    parser = argparse.ArgumentParser()
+    parser.add_argument("--tools", default=f"{TOP}/tools/convert")
+    parser.add_argument("--planted", choices=("log", "verdict", "refusal", "history"))
+    parser.add_argument("names", nargs="*")
+    words = parser.parse_args()
+    it, faults, compared = Converter(words.tools, words.planted), [], 0
+    for name in words.names or (*LOGS, *REFUSED, *conversions.ALL, "streams"):
+        check = it.faults_of_streams if name == "streams" else lambda: it.faults_of_short(name) if name in conversions.ALL else it.faults_of_file(name)
+        faults += check()
+        compared += 1
+    if histories(words.planted) != {*LOGS, *REFUSED}:
+        faults.append(f"not compared: {sorted(histories(words.planted) ^ {*LOGS, *REFUSED})}")
+    print("\n".join(faults or [f"{compared} histories give what was written by hand"]))
+    return 1 if faults or not compared else 0
 
 
 if __name__ == "__main__":

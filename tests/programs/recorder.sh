@@ -230,8 +230,14 @@ else
         counts "fsr order${word:+ $word} against all orders" python3 tests/programs/reference/compare_small_lines.py --logs 1000 -- $built $word
     done
     counts "converters" python3 tests/programs/converters.py
-    python3 c/tests/planted_log.py >"$room/told" 2>&1
-    take_over c/tests/planted_log.py
+    for planted in log,jepsen_keys.edn verdict,jepsen_keys.edn refusal,jepsen_cas.edn history,jepsen_cas.edn; do
+        catches "a ${planted%,*} that isn't wanted" "${planted#*,}\|not compared" \
+            counts converters python3 tests/programs/converters.py --planted "${planted%,*}" "${planted#*,}"
+    done
+    for script in tests/programs/planted_converters.py c/tests/planted_log.py; do
+        python3 $script >"$room/told" 2>&1
+        take_over $script
+    done
     library=
     [ -z "$prefix" ] || library="-DLIBRARY $(PKG_CONFIG_PATH=$prefix/lib/pkgconfig pkg-config --libs nidzaru)"
     for pair in gcc,g++ clang,clang++; do

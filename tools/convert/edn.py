@@ -1,9 +1,11 @@
 """Reads EDN (github.com/edn-format/edn), as far as Jepsen's histories have it.
 
-Maps are dicts, vectors and lists are lists, sets are frozensets, whole numbers and floats are Python's, `nil` is None. Keywords and symbols
-are `Name`s, texts `Text`s, so that `:a`, `a` and `"a"` differ. A tag is dropped, and its value stays.
+Maps are `Map`s, vectors and lists are lists, sets are `Set`s, whole numbers and floats are Python's, `nil` is None. Keywords, symbols,
+letters and exact decimals are `Name`s, texts `Text`s, so that `:a`, `a`, `\\a` and `"a"` differ. A tag is dropped, and its value stays.
 """
 
+import json
+import math
 import re
 
 TOKEN = re.compile(r"""
@@ -32,6 +34,29 @@ class Text(str):
     """A text, without its quotation marks."""
 
 
+class Set(frozenset):
+    """A set, of the texts of its values."""
+
+
+class Map(dict):
+    """A map, whose keys are texts and names; of other values these are their texts."""
+
+
+def text_of(value):
+    """A text of a value; equal values have equal texts, in whatever order their maps and sets stand, and different ones different texts."""
+    if isinstance(value, Set):
+        return "#{" + " ".join(sorted(value)) + "}"
+    if isinstance(value, dict):
+        return "{" + ", ".join(sorted(f"{text_of(key)} {text_of(it)}" for key, it in value.items())) + "}"
+    if isinstance(value, list):
+        return "[" + " ".join(map(text_of, value)) + "]"
+    if value is None:
+        return "nil"
+    if isinstance(value, Name):
+        return str(value)
+    return json.dumps(value, ensure_ascii=False)
+
+
 class Reader:
     def __init__(self, text):
         self.text, self.at, self.line = text, 0, 1
@@ -56,11 +81,14 @@ class Reader:
         if kind == "tag":
             return self.value(self.wanted(line))
         if kind == "text":
-            return Text(re.sub(r"\\(.)", lambda it: {"n": "\n", "t": "\t", "r": "\r"}.get(it[1], it[1]), text[1:-1], flags=re.S))
+            return Text(re.sub(r"\\(u[0-9a-fA-F]{4}|.)", letter_of, text[1:-1], flags=re.S))
         if kind == "word":
-            return word_of(text)
+            try:
+                return word_of(text)
+            except ValueError:
+                raise NoEdn(line, "a number that is too large") from None
         if kind == "letter":
-            return Text(text[1:])
+            return Name(text)
         raise NoEdn(line, f"{text} where a value belongs")
 
     def wanted(self, line):
@@ -82,14 +110,20 @@ class Reader:
             else:
                 items.append(self.value(token))
         if opened != "{":
-            return frozenset(map(repr, items)) if opened == "#{" else items
+            return Set(map(text_of, items)) if opened == "#{" else items
         if len(items) % 2:
             raise NoEdn(line, "a key without a value")
-        return dict(zip(map(key_of, items[::2]), items[1::2]))
+        return Map(zip(map(key_of, items[::2]), items[1::2]))
+
+
+def letter_of(found):
+    """What an escaped letter of a text stands for."""
+    it = found[1]
+    return chr(int(it[1:], 16)) if len(it) == 5 else {"n": "\n", "t": "\t", "r": "\r"}.get(it, it)
 
 
 def key_of(it):
-    return it if isinstance(it, (str, int, float)) else repr(it)
+    return it if isinstance(it, str) else Name(text_of(it))
 
 
 def word_of(text):
@@ -97,25 +131,30 @@ def word_of(text):
         return WORDS[text]
     if re.fullmatch(r"[-+]?\d+N?", text):
         return int(text.rstrip("N"))
-    if re.fullmatch(r"[-+]?\d+(\.\d*)?([eE][-+]?\d+)?M?", text):
-        return float(text.rstrip("M"))
+    if re.fullmatch(r"[-+]?\d+(\.\d*)?([eE][-+]?\d+)?", text):
+        if not math.isfinite(float(text)):
+            raise ValueError
+        return float(text)
     return Name(text)
 
 
 def values_of(text):
     """The values of a text, each with its line. Where all stand in one vector, these of the vector."""
     reader = Reader(text)
-    token = reader.next()
-    inside = token is not None and token[:2] == ("open", "[")
-    if inside:
+    try:
         token = reader.next()
-    while token is not None:
-        if inside and token[:2] == ("close", "]"):
-            return
-        if token[0] == "discard":
-            reader.value(reader.wanted(token[2]))
-        else:
-            yield token[2], reader.value(token)
-        token = reader.next()
+        inside = token is not None and token[:2] == ("open", "[")
+        if inside:
+            token = reader.next()
+        while token is not None:
+            if inside and token[:2] == ("close", "]"):
+                return
+            if token[0] == "discard":
+                reader.value(reader.wanted(token[2]))
+            else:
+                yield token[2], reader.value(token)
+            token = reader.next()
+    except RecursionError:
+        raise NoEdn(reader.line, "nested too deep") from None
     if inside:
         raise NoEdn(reader.line, "an end where ] belongs")

@@ -1,144 +1,300 @@
 """What the converters share: from calls and returns to logs in JSON Lines, one for each key."""
 
 import argparse
+import collections
+import itertools
 import json
 import os
 import re
 import sys
 
+import edn
+
 GREATEST = 2**64 - 1
 
 
 class Refused(Exception):
-    """The history can't be said in JSON Lines; `line` is the line of the history, or of a file that was read whole its first."""
+    """The history can't be said in JSON Lines; `line` is the line of the history, or of a file that was read whole its first. `more` says
+    how many operations can't be said."""
 
-    def __init__(self, line, why):
+    def __init__(self, line, why, more=None):
         super().__init__(why)
-        self.line = line
+        self.line, self.more = line, more
+
+
+class Untakeable(Refused):
+    """One operation can't be said; `kind` is the word under which it is counted."""
+
+    def __init__(self, line, why, kind):
+        super().__init__(line, why)
+        self.kind = kind
+
+
+def is_whole(it):
+    return isinstance(it, int) and not isinstance(it, bool) and 0 <= it <= GREATEST
 
 
 def record_of(value):
-    """The record of a value: a whole number is itself, nothing is `nil`, and anything else a text. Different values have different ones."""
-    if value is None:
-        return "nil"
-    if isinstance(value, int) and not isinstance(value, bool) and 0 <= value <= GREATEST:
+    """The record of a value: a whole number is itself, several of them an array, and anything else a text. Different values have
+    different ones."""
+    if is_whole(value):
         return value
-    if isinstance(value, str):
-        return str(value) if type(value).__name__ == "Name" else json.dumps(str(value), ensure_ascii=False)
-    return json.dumps(value, ensure_ascii=False)
+    if isinstance(value, list) and 2 <= len(value) <= 64 and all(map(is_whole, value)):
+        return value
+    return edn.text_of(value)
+
+
+def name_of(value):
+    """A record as a word, by which records are compared."""
+    return json.dumps(record_of(value))
+
+
+def has_hole(value):
+    """Whether a part of a value is `nil`."""
+    return isinstance(value, list) and any(it is None or has_hole(it) for it in value)
+
+
+def fits(value, known):
+    """Whether a value, where it isn't `nil`, is the known one."""
+    if isinstance(value, list) and isinstance(known, list):
+        return len(value) == len(known) and all(map(fits, value, known))
+    return value is None or name_of(value) == name_of(known)
 
 
 class Call:
     """An operation of a register, which its key names."""
 
     def __init__(self, line, who, kind, key, begin, value):
-        self.line, self.who, self.kind, self.key, self.begin, self.value = line, who, kind, record_of(key), begin, value
+        self.line, self.who, self.kind, self.key, self.begin, self.value = line, who, kind, record_key(key), begin, value
         self.end, self.fate = None, "open"
+
+    def is_vague(self):
+        """Whether this is a write that never ended, of whose value a part is `nil`."""
+        return self.kind == "write" and self.fate == "open" and has_hole(self.value)
 
     def row(self):
         return {"who": self.who, "kind": self.kind, "begin": self.begin, "end": self.end, "record": record_of(self.value)}
 
 
+def record_key(key):
+    """The key as a word; a key that is missing is nothing."""
+    return None if key is None else edn.text_of(key)
+
+
 class History:
-    """Calls that begin and end. `opening` is what each register held at first."""
+    """Calls that begin and end. `opening` is what each register held at first; `unsaid` are the names of calls that were left out."""
 
     def __init__(self, opening=None):
         self.opening, self.calls, self.under_way = opening, [], {}
+        self.count, self.untakeable, self.unsaid = 0, [], set()
+
+    def leave_out(self, why):
+        """An operation that can't be said is counted, and its end is too late to matter."""
+        self.count += 1
+        self.untakeable.append(why)
 
     def begin(self, line, who, kind, key, at, value, name=None):
         """A call begins; `name` says which one returns, if a process may have several."""
         name = who if name is None else name
+        if not is_whole(who):
+            raise Refused(line, f"a process has a number from 0 on, of at most 64 bits, and not {edn.text_of(who)}")
+        if not is_whole(at):
+            raise Refused(line, f"a time is a number from 0 on, of at most 64 bits, and not {edn.text_of(at)}")
         if name in self.under_way:
             raise Refused(line, f"{name} begins again before line {self.under_way[name].line} has ended")
+        self.count += 1
         self.under_way[name] = Call(line, who, kind, key, at, value)
         self.calls.append(self.under_way[name])
 
-    def returned(self, line, name):
+    def returned(self, line, name, kind):
         if name not in self.under_way:
-            raise Refused(line, f"{name} ends what it hadn't begun")
-        return self.under_way.pop(name)
-
-    def end(self, line, name, kind, at, value):
-        """A call took effect; a read gave this value."""
-        call = self.returned(line, name)
+            raise Refused(line, f"{edn.text_of(name)} ends what it hadn't begun")
+        call = self.under_way.pop(name)
         if call.kind != kind:
             raise Refused(line, f"a {kind} ends the {call.kind} of line {call.line}")
+        return call
+
+    def end(self, line, name, kind, at, value, **key):
+        """A call took effect; a read gave this value, a write wrote it. A write without one wrote what it began with."""
+        call = self.returned(line, name, kind)
+        if key and record_key(key["key"]) != call.key:
+            raise Refused(line, f"this {kind} ends for another key than that of line {call.line}")
+        if not is_whole(at) or at < call.begin:
+            raise Refused(line, "this operation ends before it begins, or at no time")
+        if kind == "write" and value is not None and not fits(call.value, value):
+            raise Refused(line, f"this write ends with another value than that of line {call.line}")
         call.end, call.fate = at, "done"
-        if kind == "read":
+        if kind == "read" or value is not None:
             call.value = value
 
-    def fail(self, line, name):
+    def fail(self, line, name, kind):
         """A call took no effect, and stands in no log."""
-        self.returned(line, name).fate = "failed"
+        self.returned(line, name, kind).fate = "failed"
 
-    def leave(self, line, name):
+    def leave(self, line, name, kind):
         """Nobody knows whether a call took effect."""
-        self.returned(line, name).fate = "open"
+        self.returned(line, name, kind).fate = "open"
 
     def logs(self):
         """By key the operations by beginning: no call that failed, and no read that never returned."""
-        found = {}
+        found, self.numbers = {}, numbers_beside({call.who for call in self.calls})
         for call in sorted(self.calls, key=lambda it: it.begin):
             if call.fate == "done" or (call.fate == "open" and call.kind == "write"):
                 found.setdefault(call.key, []).append(call)
+        found = {key: self.with_known_values(calls) for key, calls in found.items()}
         for calls in found.values():
-            refuse_repeats(record_of(self.opening), calls)
+            self.test_repeats(calls)
+            self.set_apart(calls)
+        if self.untakeable:
+            raise self.refusal()
         return found
 
+    def with_known_values(self, calls):
+        """The calls of a key without unfinished writes of which a part isn't known. One of these that a read shows gets its value. (If a
+        write ended with a `nil`, that is a value like others.)"""
+        if any(it.kind == "write" and it.fate == "done" and has_hole(it.value) for it in calls):
+            return calls
+        open_writes = [it for it in calls if it.is_vague()]
+        written = {name_of(it.value) for it in calls if it.kind == "write" and not it.is_vague()} | {name_of(self.opening)}
+        shown = {}
+        for it in calls:
+            if it.kind == "read" and name_of(it.value) not in written:
+                shown.setdefault(name_of(it.value), it)
+        for read in shown.values() if open_writes else ():
+            self.find_write(read, open_writes, shown.values())
+        return [it for it in calls if not it.is_vague()]
 
-def refuse_repeats(opening, calls):
-    written = {}
-    for call in calls:
-        if call.kind == "write":
-            record = json.dumps(record_of(call.value))
-            if record == json.dumps(opening):
-                raise Refused(call.line, "writes what the register held at first")
-            if record in written:
-                raise Refused(call.line, f"writes {record} as line {written[record]} does, and nobody knows which a read gave")
-            written[record] = call.line
+    def find_write(self, read, open_writes, reads):
+        """The unfinished write that a read shows: if several could be it, the one that began first, as that excludes the least. If it could
+        be the write of another read as well, nobody knows."""
+        fitting = [it for it in open_writes if it.is_vague() and fits(it.value, read.value)]
+        rivals = [it for it in reads if it is not read and any(fits(write.value, it.value) for write in fitting)]
+        if len(fitting) > 1 and rivals:
+            why = f"nobody knows which of lines {', '.join(str(it.line) for it in fitting)} wrote what this read gave"
+            self.untakeable.append(Untakeable(read.line, why, "read of an unfinished write"))
+        elif fitting:
+            min(fitting, key=lambda it: it.begin).value = read.value
+
+    def test_repeats(self, calls):
+        written = {}
+        for call in (it for it in calls if it.kind == "write"):
+            record = name_of(call.value)
+            if record == name_of(self.opening):
+                self.untakeable.append(Untakeable(call.line, "writes what the register held at first", "write of the opening"))
+            elif record in written:
+                why = f"writes {record} as line {written[record]} does, and nobody knows which a read gave"
+                self.untakeable.append(Untakeable(call.line, why, "write of a value that was written before"))
+            written.setdefault(record, call.line)
+
+    def set_apart(self, calls):
+        """Of one process operations follow each other. One that never ended, and isn't its last, gets a number of its own."""
+        last = {}
+        for call in calls:
+            before = last.get(call.who)
+            if before and before.end is None:
+                before.who = next(self.numbers)
+            elif before and call.begin <= before.end:
+                raise Refused(call.line, f"{call.who} begins before it has ended line {before.line}")
+            last[call.who] = call
+
+    def refusal(self):
+        """The first operation that can't be said, with how many there are of each kind."""
+        first = min(self.untakeable, key=lambda it: it.line)
+        kinds = collections.Counter(it.kind for it in self.untakeable)
+        counts = ", ".join(f"{count} of kind `{kind}`" for kind, count in kinds.most_common())
+        return Refused(first.line, str(first), f"of {self.count} operations {len(self.untakeable)} can't be said: {counts}")
+
+
+def numbers_beside(taken):
+    return (number for number in itertools.count() if number not in taken)
 
 
 def text_of(opening, calls):
     rows = [{"kind": "lines", "opening": record_of(opening)}, *[call.row() for call in calls], {"kind": "done", "ops": len(calls)}]
-    return "".join(json.dumps(row, separators=(",", ":"), ensure_ascii=False) + "\n" for row in rows)
+    text = "".join(json.dumps(row, separators=(",", ":"), ensure_ascii=False) + "\n" for row in rows)
+    try:
+        text.encode()
+    except UnicodeEncodeError as why:
+        line = next((it.line for it in calls if not is_unicode(record_of(it.value))), 1)
+        raise Refused(line, "a text with half a letter") from why
+    return text
+
+
+def is_unicode(record):
+    return not re.search("[\ud800-\udfff]", record) if isinstance(record, str) else True
 
 
 def file_name(key):
+    """The file of a key: each byte that isn't a letter, a figure, `-`, `.` or `_` is one of these."""
     return re.sub(r"[^\w.-]", "_", str(key).strip('"')) + ".jsonl"
 
 
 def write_logs(history, folder):
     """Each key's log into a file of the folder, or the only one to standard output."""
     logs = history.logs()
+    if not logs:
+        raise Refused(1, "there is no operation that ended" if history.calls else "there is no operation of a register")
     if folder is None:
         if len(logs) > 1:
             raise Refused(1, f"there are {len(logs)} keys: --to FOLDER writes a log for each")
-        sys.stdout.write(text_of(history.opening, next(iter(logs.values()), [])))
+        sys.stdout.write(text_of(history.opening, *logs.values()))
         return
-    os.makedirs(folder, exist_ok=True)
     names = {}
     for key, calls in logs.items():
         name = file_name(key)
         if names.setdefault(name, key) != key:
             raise Refused(calls[0].line, f"the keys {names[name]} and {key} would both be {name}")
+    texts = {file_name(key): text_of(history.opening, calls) for key, calls in logs.items()}
+    os.makedirs(folder, exist_ok=True)
+    for name, text in texts.items():
         with open(os.path.join(folder, name), "w", encoding="utf-8") as file:
-            file.write(text_of(history.opening, calls))
+            file.write(text)
+
+
+def text_of_file(path):
+    """The text of a file, or of standard input."""
+    if path:
+        with open(path, "rb") as file:
+            read = file.read()
+    else:
+        read = sys.stdin.buffer.read()
+    try:
+        return read.decode()
+    except UnicodeDecodeError as why:
+        raise Refused(1 + read[: why.start].count(b"\n"), "this isn't UTF-8") from None
+
+
+def opening_of(word):
+    """The opening that was asked for."""
+    try:
+        (_, value), = edn.values_of(f"[{word}\n]")
+    except (edn.NoEdn, ValueError):
+        raise argparse.ArgumentTypeError(f"{word} isn't one value") from None
+    return value
 
 
 def run(name, page, read):
-    """Runs a converter: reads a history from the file or standard input, and writes its logs. Status 3: it can't be said."""
+    """Runs a converter: reads a history from the file or standard input, and writes its logs. Status 3: it can't be said; 5: a file can't
+    be read or written."""
     parser = argparse.ArgumentParser(description=page, formatter_class=argparse.RawDescriptionHelpFormatter)
     parser.add_argument("--to", metavar="FOLDER")
+    parser.add_argument("--opening", metavar="VALUE", type=opening_of)
     parser.add_argument("history", nargs="?")
     words = parser.parse_args()
     try:
-        if words.history:
-            with open(words.history, encoding="utf-8") as file:
-                text = file.read()
-        else:
-            text = sys.stdin.read()
-        write_logs(read(text), words.to)
+        history = read(text_of_file(words.history))
+        if words.opening is not None:
+            history.opening = words.opening
+        sys.stdout.reconfigure(encoding="utf-8")
+        write_logs(history, words.to)
+        sys.stdout.flush()
     except Refused as why:
         print(f"{name}: line {why.line}: {why}", file=sys.stderr)
+        if why.more:
+            print(f"{name}: {why.more}", file=sys.stderr)
         return 3
+    except OSError as why:
+        print(f"{name}: {why.filename or 'a stream'}: {why.strerror}", file=sys.stderr)
+        sys.stdout = None
+        return 5
     return 0

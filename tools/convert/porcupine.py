@@ -1,7 +1,7 @@
 #!/usr/bin/env python3
 """Histories in the forms of Porcupine (github.com/anishathalye/porcupine) to JSON Lines for `fsr order`.
 
-    porcupine.py [--to FOLDER] [HISTORY]
+    porcupine.py [--to FOLDER] [--opening VALUE] [HISTORY]
 
 Three forms are known by their first line:
 
@@ -11,10 +11,12 @@ Three forms are known by their first line:
   `{"ClientId":0,"Kind":"call","Value":I,"Id":0}`, the latter also with Go's numbers (0 or false is a call, 1 or true a return). An input I
   is `{"Op":"put","Key":"x","Value":"1"}` or `{"Op":"get","Key":"x"}` (`read` and `write` as well, `Key` may be missing), an output O the
   value or `{"Value":"1"}`. Keys hold null at first, unless an object `{"Opening":V}` stands first.
+- the operations of etcd's robustness tests are such, with its own inputs and outputs: a `range` of one key, or a `txn` of one put without
+  conditions. A record is `[revision, value]`. A put that failed is unfinished, and has the revision of the read that shows it.
 
 Each key has a log of its own, FOLDER/KEY.jsonl; without --to the only one goes to standard output. Times are `Call` and `Return`, or the
 events' places. A write without a return stands there without an end, a read without one is left out. `cas`, `append` and a value that is
-written twice can't be said: the line is told, with status 3.
+written twice can't be said: the first such line is told, and how many there are of each kind, with status 3. The opening is a word of EDN.
 """
 
 import json
@@ -26,25 +28,35 @@ import lines
 
 KINDS = {"get": "read", "read": "read", "put": "write", "write": "write"}
 JEPSEN = re.compile(r"INFO\s+jepsen\.util\s+-\s+(\d+)\s+:(\w+)\s+:(\w+)\s+(.*)")
+CALL, RETURN = ("call", 0, False), ("return", 1, True)
 
 
-def kind_of(line, name):
+class Untaken(Exception):
+    """An input that can't be said; its text is the name under which it is counted."""
+
+
+def kind_of(name):
     name = str(name).lstrip(":").lower()
     if name not in KINDS:
-        raise lines.Refused(line, f"{name} is neither a read nor a write")
+        raise Untaken(name)
     return KINDS[name]
 
 
-def add_event(history, line, place, who, moment, kind, key, value):
-    """An event of a log: an invocation, or how it ended."""
+def untakeable(line, name):
+    return lines.Untakeable(line, f"{name} is neither a read nor a write", str(name))
+
+
+def add_event(history, event, kind, value, **key):
+    """An event of a log: an invocation, or how it ended. The event is its line, its place, the process and the type."""
+    line, place, who, moment = event
     if moment == "invoke":
-        history.begin(line, who, kind, key, place, value)
+        history.begin(line, who, kind, key.get("key"), place, value)
     elif moment == "ok":
-        history.end(line, who, kind, place, value)
+        history.end(line, who, kind, place, value, **key)
     elif moment == "fail":
-        history.fail(line, who)
+        history.fail(line, who, kind)
     elif moment == "info":
-        history.leave(line, who)
+        history.leave(line, who, kind)
     else:
         raise lines.Refused(line, f":{moment} is no type")
 
@@ -55,11 +67,19 @@ def read_keys(rows):
     for place, (line, row) in enumerate(rows):
         try:
             _, event = next(edn.values_of(row))
-            who, moment, kind = event[":process"], str(event[":type"]).lstrip(":"), kind_of(line, event[":f"])
-            add_event(history, line, place, who, moment, kind, event[":key"], event.get(":value"))
+            who, moment, name, key = event[":process"], str(event[":type"]).lstrip(":"), event[":f"], event[":key"]
         except (edn.NoEdn, KeyError, TypeError, StopIteration):
             raise lines.Refused(line, "this is no event") from None
+        try:
+            add_event(history, (line, place, who, moment), kind_of(name), event.get(":value"), key=key)
+        except Untaken as what:
+            leave_out(history, line, moment, what)
     return history
+
+
+def leave_out(history, line, moment, what):
+    if moment == "invoke":
+        history.leave_out(untakeable(line, what))
 
 
 def read_jepsen(rows):
@@ -71,41 +91,91 @@ def read_jepsen(rows):
                 continue
             raise lines.Refused(line, "this is no event")
         who, moment, name, value = found.groups()
-        kind = kind_of(line, name)
         # a read that timed out took no effect; nobody knows whether such a write did
-        if value.strip() == ":timed-out" and kind == "write":
+        if value.strip() == ":timed-out" and name == "write":
             moment = "info"
-        add_event(history, line, place, int(who), moment, kind, None, edn.word_of(value.strip()))
+        try:
+            add_event(history, (line, place, int(who), moment), kind_of(name), edn.word_of(value.strip()))
+        except Untaken as what:
+            leave_out(history, line, moment, what)
+        except ValueError:
+            raise lines.Refused(line, "a number that is too large") from None
     return history
+
+
+def names_in_lower(it):
+    return {key.lower(): value for key, value in it.items()} if isinstance(it, dict) else {}
 
 
 def input_of(line, it):
     """The kind, the key and the value of an input."""
     if not isinstance(it, dict):
         raise lines.Refused(line, "an input is an object with an Op")
-    it = {key.lower(): value for key, value in it.items()}
-    return kind_of(line, it.get("op")), it.get("key"), it.get("value")
+    it = names_in_lower(it)
+    return kind_of(it.get("op")), it.get("key"), it.get("value")
 
 
 def output_of(it):
-    return {key.lower(): value for key, value in it.items()}.get("value") if isinstance(it, dict) else it
+    return names_in_lower(it).get("value") if isinstance(it, dict) else it
+
+
+def etcd_value(it):
+    """A value of etcd's tests; of a long one they keep a hash alone."""
+    return it["Value"]["Value"] or it["Value"].get("Hash")
+
+
+def etcd_input(it):
+    """The kind, the key and the value of a request to etcd; the revision of a put isn't known yet."""
+    kind = it["Type"]
+    if kind == "range":
+        options = it["Range"]["RangeOptions"]
+        if options.get("End") or it["Range"].get("Revision"):
+            raise Untaken("range of several keys or of an old revision")
+        return "read", options["Start"], None
+    if kind != "txn":
+        raise Untaken(kind)
+    txn = it["Txn"]
+    done = txn.get("OperationsOnSuccess") or []
+    kinds = [one.get("Type") for one in done]
+    if txn.get("Conditions") or txn.get("OperationsOnFailure") or kinds != ["put-operation"] or done[0]["Put"].get("LeaseID"):
+        raise Untaken("txn of other than one put")
+    return "write", done[0]["Put"]["Key"], [None, etcd_value(done[0]["Put"])]
+
+
+def etcd_output(kind, it, value):
+    """What a request to etcd gave or wrote, `[revision, value]`, or nothing if nobody knows whether it took effect."""
+    if not isinstance(it, dict) or it.get("Error") or not it.get("Revision"):
+        return None
+    if kind == "write":
+        return [[it["Revision"], value[1]]]
+    found = it["Range"].get("KVs") or []
+    return [[found[0]["ModRevision"], etcd_value(found[0])] if found else None]
+
+
+def number_of(text):
+    if not float("-inf") < float(text) < float("inf"):
+        raise ValueError
+    return float(text)
+
+
+def refuse(_):
+    raise ValueError
+
+
+def json_of(line, text):
+    try:
+        return json.loads(text, parse_float=number_of, parse_constant=refuse)
+    except ValueError:
+        raise lines.Refused(line, "no JSON, or a number that is too large") from None
+    except RecursionError:
+        raise lines.Refused(line, "nested too deep") from None
 
 
 def json_rows(text):
     """The objects of a text: those of an array, all of line 1, or one a line."""
     if text.lstrip().startswith("["):
-        try:
-            return [(1, it) for it in json.loads(text)]
-        except ValueError:
-            raise lines.Refused(1, "no JSON") from None
-    found = []
-    for line, row in enumerate(text.splitlines(), 1):
-        if row.strip():
-            try:
-                found.append((line, json.loads(row)))
-            except ValueError:
-                raise lines.Refused(line, "no JSON") from None
-    return found
+        return [(1, it) for it in json_of(1, text)]
+    return [(line, json_of(line, row)) for line, row in enumerate(text.split("\n"), 1) if row.strip()]
 
 
 def read_json(text):
@@ -113,38 +183,60 @@ def read_json(text):
     for place, (line, row) in enumerate(rows):
         if not isinstance(row, dict):
             raise lines.Refused(line, "this is no object")
-        if place == 0 and set(row) == {"Opening"}:
-            history.opening = row["Opening"]
-        elif "Call" in row:
-            add_operation(history, line, place, row)
-        elif "Kind" in row and "Id" in row:
-            add_json_event(history, line, place, row)
-        else:
-            raise lines.Refused(line, "this is neither an operation nor an event")
+        try:
+            add_row(history, line, place, row)
+        except Untaken as what:
+            history.leave_out(untakeable(line, what))
+        except (KeyError, TypeError, AttributeError):
+            raise lines.Refused(line, "a part of this operation is missing") from None
     return history
 
 
+def add_row(history, line, place, row):
+    if place == 0 and set(row) == {"Opening"}:
+        history.opening = row["Opening"]
+    elif "Call" in row:
+        add_operation(history, line, place, row)
+    elif "Kind" in row and "Id" in row:
+        add_json_event(history, line, place, row)
+    else:
+        raise lines.Refused(line, "this is neither an operation nor an event")
+
+
 def add_operation(history, line, place, row):
-    kind, key, value = input_of(line, row.get("Input"))
-    if not isinstance(row.get("ClientId"), int) or not isinstance(row["Call"], int):
-        raise lines.Refused(line, "an operation has a ClientId and a Call")
-    history.begin(line, row["ClientId"], kind, key, row["Call"], value, place)
-    if row.get("Return") is not None:
-        history.end(line, place, kind, row["Return"], output_of(row.get("Output")))
+    asked, gave = row.get("Input"), row.get("Output")
+    is_etcd = isinstance(asked, dict) and "Type" in asked
+    kind, key, value = etcd_input(asked) if is_etcd else input_of(line, asked)
+    history.begin(line, row.get("ClientId"), kind, key, row["Call"], value, place)
+    known = etcd_output(kind, gave, value) if is_etcd else [output_of(gave) if kind == "read" else None]
+    if row.get("Return") is None or known is None:
+        history.leave(line, place, kind)
+    else:
+        history.end(line, place, kind, row["Return"], known[0])
 
 
 def add_json_event(history, line, place, row):
-    if row["Kind"] in (0, False, "call"):
-        kind, key, value = input_of(line, row.get("Value"))
-        history.begin(line, row.get("ClientId"), kind, key, place, value, row["Id"])
-    elif row["Id"] in history.under_way:
-        history.end(line, row["Id"], history.under_way[row["Id"]].kind, place, output_of(row.get("Value")))
-    else:
-        raise lines.Refused(line, f"{row['Id']} ends what it hadn't begun")
+    name = row["Id"]
+    if not isinstance(name, (int, str)):
+        raise lines.Refused(line, "an Id is a number or a text")
+    if row["Kind"] in CALL:
+        try:
+            kind, key, value = input_of(line, row.get("Value"))
+        except Untaken:
+            history.unsaid.add(name)
+            raise
+        history.begin(line, row.get("ClientId"), kind, key, place, value, name)
+    elif row["Kind"] not in RETURN:
+        raise lines.Refused(line, f"{edn.text_of(row['Kind'])} is neither a call nor a return")
+    elif name in history.under_way:
+        kind = history.under_way[name].kind
+        history.end(line, name, kind, place, output_of(row.get("Value")) if kind == "read" else None)
+    elif name not in history.unsaid:
+        raise lines.Refused(line, f"{edn.text_of(name)} ends what it hadn't begun")
 
 
 def read_history(text):
-    rows = [(line, row) for line, row in enumerate(text.splitlines(), 1) if row.strip()]
+    rows = [(line, row) for line, row in enumerate(text.split("\n"), 1) if row.strip()]
     first = rows[0][1].lstrip() if rows else ""
     if first.startswith("INFO"):
         return read_jepsen(rows)

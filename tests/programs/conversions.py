@@ -1,0 +1,323 @@
+"""Short histories for the converters, and by hand what has to come of each: a refusal's line, or by key a log with its verdict.
+
+`ALL` has by name the history, what is wanted and the converter's words. The name begins with the converter's.
+"""
+
+
+def log(verdict, *rows, opening='"nil"'):
+    """A log and its verdict; a row is `who kind begin end record`, as in JSON."""
+    made = [f'{{"kind":"lines","opening":{opening}}}']
+    for row in rows:
+        who, kind, begin, end, record = row.split(" ", 4)
+        made.append(f'{{"who":{who},"kind":"{kind}","begin":{begin},"end":{end},"record":{record}}}')
+    return "\n".join([*made, f'{{"kind":"done","ops":{len(rows)}}}', ""]), verdict
+
+
+def jepsen(*events):
+    """Events of Jepsen as `process type f value`."""
+    made = []
+    for event in events:
+        who, kind, name, value = event.split(" ", 3)
+        made.append(f"{{:type :{kind}, :f :{name}, :value {value}, :process {who}}}")
+    return "\n".join(made) + "\n"
+
+
+def keys(*events):
+    """Events of Porcupine's keys and values as `process type f key value`."""
+    made = []
+    for event in events:
+        who, kind, name, key, value = event.split(" ", 4)
+        made.append(f'{{:process {who}, :type :{kind}, :f :{name}, :key "{key}", :value {value}}}')
+    return "\n".join(made) + "\n"
+
+
+def operation(who, op, call, back, output="null"):
+    """An operation of Porcupine as JSON, `back` its return; `op` is `put 3` or `get`, maybe with a key before it."""
+    name, *value = op.split(" ")
+    value = f',"Value":{value[0]}' if value else ""
+    back = "" if back is None else f',"Return":{back}'
+    return f'{{"ClientId":{who},"Input":{{"Op":"{name}"{value}}},"Call":{call},"Output":{output}{back}}}\n'
+
+
+def put(who, value, call, back, output, more=""):
+    """A put of etcd's robustness tests."""
+    made = f'{{"Type":"put-operation","Put":{{"Key":"k","Value":{{"Value":"{value}","Hash":0}},"LeaseID":0}}}}'
+    made = f'{{"Type":"txn","Txn":{{"Conditions":null,"OperationsOnSuccess":[{made}{more}],"OperationsOnFailure":null}}}}'
+    return f'{{"ClientId":{who},"Input":{made},"Call":{call},"Output":{output},"Return":{back}}}\n'
+
+
+def get(who, call, back, values, end="", revision=0):
+    """A range of etcd's robustness tests; `values` are those of KVs."""
+    made = f'{{"Type":"range","Range":{{"RangeOptions":{{"Start":"k","End":"{end}","Limit":0}},"Revision":{revision}}}}}'
+    return f'{{"ClientId":{who},"Input":{made},"Call":{call},"Output":{{"Range":{{"KVs":{values},"Count":1}},"Revision":9}},"Return":{back}}}\n'
+
+
+def shown(value, revision):
+    return f'[{{"Key":"k","Value":{{"Value":"{value}","Hash":0}},"ModRevision":{revision}}}]'
+
+
+JEPSEN = {
+    "fail": (
+        jepsen("0 invoke write 3", "0 fail write 3", "1 invoke read nil", "1 ok read 3", "2 invoke write 4", "2 fail write 4"),
+        {"only": log("unlawful unwritten 2", "1 read 2 3 3")},
+    ),
+    "info": (
+        jepsen("0 invoke write 3", "0 info write 3", "1 invoke read nil", "1 ok read 3"),
+        {"only": log("lawful", "0 write 0 null 3", "1 read 2 3 3")},
+    ),
+    "goes_on": (
+        jepsen("0 invoke write 3", "0 info write 3", "0 invoke write 4", "0 ok write 4", "1 invoke read nil", "1 ok read 3"),
+        {"only": log("lawful", "2 write 0 null 3", "0 write 2 3 4", "1 read 4 5 3")},
+    ),
+    "nemesis": (
+        jepsen(":nemesis info start nil", "0 invoke write 3", ":nemesis invoke stop nil", "0 ok write 3"),
+        {"only": log("lawful", "0 write 1 3 3")},
+    ),
+    "keyword": (jepsen(":p0 invoke write 1"), "line 1: a process has a number from 0 on, of at most 64 bits, and not :p0"),
+    "text": (jepsen('"a" invoke write 1'), 'line 1: a process has a number from 0 on, of at most 64 bits, and not "a"'),
+    "below": (jepsen("0 invoke write 1", "-1 invoke write 2"), "line 2: a process has a number from 0 on, of at most 64 bits, and not -1"),
+    "beyond": (
+        jepsen("18446744073709551615 invoke write 18446744073709551615", "18446744073709551616 invoke write 2"),
+        "line 2: a process has a number from 0 on, of at most 64 bits, and not 18446744073709551616",
+    ),
+    "greatest": (
+        jepsen("18446744073709551615 invoke write 18446744073709551615", "0 invoke write 18446744073709551616", "1 invoke write -1"),
+        {
+            "only": log(
+                "lawful",
+                "18446744073709551615 write 0 null 18446744073709551615",
+                '0 write 1 null "18446744073709551616"',
+                '1 write 2 null "-1"',
+            )
+        },
+    ),
+    "true": (jepsen("true invoke write 1"), "line 1: a process has a number from 0 on, of at most 64 bits, and not true"),
+    "other_key": (
+        jepsen("0 invoke write [0 1]", "0 ok write [5 1]"),
+        "line 2: this write ends for another key than that of line 1",
+    ),
+    "other_key_read": (
+        jepsen("0 invoke read [0 nil]", "0 ok read [5 1]"),
+        "line 2: this read ends for another key than that of line 1",
+    ),
+    "no_key": (jepsen("0 invoke write [0 1]", "0 ok write 1"), "line 2: this value has no key"),
+    "fail_without_key": (
+        jepsen("0 invoke write [0 1]", "0 fail write :timeout", "1 invoke write [0 2]", "1 info write nil"),
+        {"0": log("lawful", "1 write 2 null 2")},
+    ),
+    "same_names": (
+        jepsen("0 invoke write [:a 1]", "0 ok write [:a 1]", '0 invoke write ["_a" 1]'),
+        "line 3: the keys :a and \"_a\" would both be _a.jsonl",
+        ("--to", "/dev/null/none"),
+    ),
+    "maps": (
+        jepsen("0 invoke write {:a 1 :b #{2 1}}", "0 ok write {:a 1 :b #{1 2}}", "1 invoke read nil", "1 ok read {:b #{2 1} :a 1}"),
+        {"only": log("lawful", '0 write 0 1 "{:a 1, :b #{1 2}}"', '1 read 2 3 "{:a 1, :b #{1 2}}"')},
+    ),
+    "sets": (
+        jepsen("0 invoke write #{7 5 3 1 2 4 6}", "0 ok write #{1 2 3 4 5 6 7}", "0 invoke write #{2}", "0 ok write #{2}"),
+        {"only": log("lawful", '0 write 0 1 "#{1 2 3 4 5 6 7}"', '0 write 2 3 "#{2}"')},
+    ),
+    "kinds_of_values": (
+        jepsen("0 invoke write :a", "1 invoke write a", '2 invoke write "a"', "3 invoke write \\a", "4 invoke write 1", "5 invoke write 1.0",
+               "6 invoke write 1M", "7 invoke write true", '8 invoke write "\\u0061\\n"', "9 invoke write [1]"),
+        {
+            "only": log(
+                "lawful", '0 write 0 null ":a"', '1 write 1 null "a"', '2 write 2 null "\\"a\\""', '3 write 3 null "\\\\a"', "4 write 4 null 1",
+                '5 write 5 null "1.0"', '6 write 6 null "1M"', '7 write 7 null "true"', '8 write 8 null "\\"a\\\\n\\""', '9 write 9 null "[1]"',
+            )
+        },
+    ),
+    "endless": (jepsen("0 invoke write 1", "1 invoke write 1e999"), "line 2: a number that is too large"),
+    "long_number": (jepsen("0 invoke write " + "7" * 5000), "line 1: a number that is too large"),
+    "deep": (jepsen("0 invoke write 1") + "[" * 3000, "line 2: nested too deep"),
+    "bytes": (b"; a\n; \xff\n", "line 2: this isn't UTF-8"),
+    "half": ('{:type :invoke, :f :write, :value "\\ud800", :process 0}', "line 1: a text with half a letter"),
+    "other_kind": (jepsen("0 invoke write 3", "0 ok read 3"), "line 2: a read ends the write of line 1"),
+    "other_kind_fails": (jepsen("0 invoke write 3", "0 fail read nil"), "line 2: a read ends the write of line 1"),
+    "other_kind_unknown": (jepsen("0 invoke read nil", "0 info write nil"), "line 2: a write ends the read of line 1"),
+    "no_begin": (jepsen("0 ok write 3"), "line 1: 0 ends what it hadn't begun"),
+    "no_begin_fails": (jepsen("0 fail write 3"), "line 1: 0 ends what it hadn't begun"),
+    "no_begin_unknown": (jepsen("0 info write 3"), "line 1: 0 ends what it hadn't begun"),
+    "ends_twice": (jepsen("0 invoke write 3", "0 ok write 3", "0 ok write 3"), "line 3: 0 ends what it hadn't begun"),
+    "unknown_type": (jepsen("0 invoke write 3", "0 okay write 3"), "line 2: :okay is no type"),
+    "no_operation": ("{:type :invoke, :f :write, :value 1, :process 0}\n:why\n", "line 2: this is no operation of a history"),
+    "no_process": ("{:type :invoke, :f :write, :value 1}\n", "line 1: this is no operation of a history"),
+    "no_type": ("{:f :write, :value 1, :process 0}\n", "line 1: this is no operation of a history"),
+    "no_function": ("{:type :invoke, :value 1, :process 0}\n", "line 1: nil is neither :read nor :write"),
+    "counted": (
+        jepsen("0 invoke cas [1 2]", "0 ok cas [1 2]", "0 invoke write 3", "0 ok write 3", "0 invoke write 3", "0 ok write 3",
+               "0 invoke cas [1 2]", "0 fail cas [1 2]", "0 invoke txn nil", "0 ok txn nil", "1 invoke read nil"),
+        "line 1: :cas is neither :read nor :write\n"
+        "of 6 operations 4 can't be said: 2 of kind `:cas`, 1 of kind `:txn`, 1 of kind `write of a value that was written before`",
+    ),
+    "other_value": (jepsen("0 invoke write 3", "0 ok write 4"), "line 2: this write ends with another value than that of line 1"),
+    "other_part": (jepsen("0 invoke write [0 [nil 3]]", "0 ok write [0 [1 4]]"), "line 2: this write ends with another value than that of line 1"),
+    "shorter": (jepsen("0 invoke write [0 [nil 3]]", "0 ok write [0 [1]]"), "line 2: this write ends with another value than that of line 1"),
+    "versions": (
+        jepsen("1 invoke write [0 [nil 3]]", "1 ok write [0 [1 3]]", "2 invoke read [0 [nil nil]]", "2 ok read [0 [1 3]]",
+               "1 invoke write [0 [nil 3]]", "1 ok write [0 [2 3]]", "2 invoke read [0 [nil nil]]", "2 ok read [0 [1 3]]"),
+        {
+            "0": log("unlawful crossed 2 4 4 5", "1 write 0 1 [1,3]", "2 read 2 3 [1,3]", "1 write 4 5 [2,3]", "2 read 6 7 [1,3]", opening="[0,0]")
+        },
+        ("--opening", "[0 0]"),
+    ),
+    "version_of_an_unfinished_write": (
+        jepsen("1 invoke write [0 [nil 3]]", "1 info write [0 [nil 3]]", "2 invoke write [0 [nil 3]]", "2 info write [0 [nil 3]]",
+               "3 invoke write [0 [nil 4]]", "3 ok write [0 [1 4]]", "4 invoke read [0 nil]", "4 ok read [0 [2 3]]"),
+        {"0": log("lawful", "1 write 0 null [2,3]", "3 write 4 5 [1,4]", "4 read 6 7 [2,3]")},
+    ),
+    "two_versions_of_unfinished_writes": (
+        jepsen("1 invoke write [0 [nil 3]]", "2 invoke write [0 [nil 3]]", "4 invoke read [0 nil]", "4 ok read [0 [2 3]]",
+               "4 invoke read [0 nil]", "4 ok read [0 [1 3]]"),
+        "line 3: nobody knows which of lines 1, 2 wrote what this read gave\n"
+        "of 4 operations 2 can't be said: 2 of kind `read of an unfinished write`",
+    ),
+    "version_that_nobody_wrote": (
+        jepsen("1 invoke write [0 [nil 3]]", "4 invoke read [0 nil]", "4 ok read [0 [2 5]]"),
+        {"0": log("unlawful unwritten 2", "4 read 1 2 [2,5]")},
+    ),
+    "nil_that_is_a_value": (
+        jepsen("0 invoke write [0 [nil 3]]", "0 ok write [0 [nil 3]]", "1 invoke write [0 [nil 4]]", "2 invoke read [0 nil]", "2 ok read [0 [9 4]]"),
+        {"0": log("unlawful unwritten 4", '0 write 0 1 "[nil 3]"', '1 write 2 null "[nil 4]"', "2 read 3 4 [9,4]")},
+    ),
+    "value_that_the_write_gave": (
+        jepsen("0 invoke write nil", "0 ok write 7", "1 invoke read nil", "1 ok read 7"),
+        {"only": log("lawful", "0 write 0 1 7", "1 read 2 3 7")},
+    ),
+    "no_value_at_the_end": (
+        jepsen("0 invoke write 7", "0 ok write nil", "1 invoke read nil", "1 ok read 7"),
+        {"only": log("lawful", "0 write 0 1 7", "1 read 2 3 7")},
+    ),
+    "opening": (
+        jepsen("1 invoke read nil", "1 ok read 0"),
+        {"only": log("lawful", "1 read 0 1 0", opening="0")},
+        ("--opening", "0"),
+    ),
+    "empty": (jepsen(":nemesis info start nil"), "line 1: there is no operation of a register"),
+    "nothing_that_stays": (jepsen("0 invoke read nil"), "line 1: there is no operation that ended"),
+    "discarded": ("#_{:a 1} " + jepsen("0 invoke write #tag 3") + "#_ 7", {"only": log("lawful", "0 write 0 null 3")}),
+    "one_vector": ("[" + jepsen("0 invoke write 3", "0 ok write 3") + "]", {"only": log("lawful", "0 write 0 1 3")}),
+    "cut_off": ("[" + jepsen("0 invoke write 3", "0 ok write 3"), "line 3: an end where ] belongs"),
+    "wrongly_closed": ("{:a [1}", "line 1: } closes ["),
+    "half_a_map": ("{:a}", "line 1: a key without a value"),
+}
+EVENT = '{{"ClientId":{},"Kind":{},"Value":{},"Id":{}}}\n'.format
+PORCUPINE = {
+    "fail": (
+        keys('0 invoke put x "1"', '0 fail put x "1"', "1 invoke get x nil", '1 ok get x "1"'),
+        {"x": log("unlawful unwritten 2", '1 read 2 3 "\\"1\\""', opening='"\\"\\""')},
+    ),
+    "info": (
+        keys('0 invoke put x "1"', '0 info put x "1"', "1 invoke get x nil", '1 ok get x "1"'),
+        {"x": log("lawful", '0 write 0 null "\\"1\\""', '1 read 2 3 "\\"1\\""', opening='"\\"\\""')},
+    ),
+    "other_key": (keys('0 invoke put x "1"', '0 ok put y "1"'), "line 2: this write ends for another key than that of line 1"),
+    "other_value": (keys('0 invoke put x "1"', '0 ok put x "2"'), "line 2: this write ends with another value than that of line 1"),
+    "unknown_type": (keys('0 invoke put x "1"', '0 done put x "1"'), "line 2: :done is no type"),
+    "no_key": ('{:process 0, :type :invoke, :f :put, :value "1"}\n', "line 1: this is no event"),
+    "no_event": ('{:process 0, :type :invoke, :f :put, :key "x", :value "1"}\nwhy\n', "line 2: this is no event"),
+    "counted_keys": (
+        keys("0 invoke append x 1", "0 ok append x 1", '0 invoke put x "1"', "1 invoke append x 1"),
+        "line 1: append is neither a read nor a write\nof 3 operations 2 can't be said: 2 of kind `append`",
+    ),
+    "timed_out": (
+        "INFO  jepsen.util - 0\t:invoke\t:write\t3\nINFO  jepsen.util - 0\t:fail\t:write\t:timed-out\n"
+        "INFO  jepsen.util - 1\t:invoke\t:read\tnil\nINFO  jepsen.util - 1\t:ok\t:read\t3\n",
+        {"only": log("lawful", "0 write 0 null 3", "1 read 2 3 3")},
+    ),
+    "failed": (
+        "INFO  jepsen.util - 0\t:invoke\t:write\t3\nINFO  jepsen.util - 0\t:fail\t:write\t3\n"
+        "INFO  jepsen.util - 1\t:invoke\t:read\tnil\nINFO  jepsen.util - 1\t:ok\t:read\t3\n",
+        {"only": log("unlawful unwritten 2", "1 read 2 3 3")},
+    ),
+    "nemesis": (
+        "INFO  jepsen.util - :nemesis\t:info\t:start\tnil\nINFO  jepsen.util - 0\t:invoke\t:write\t3\n",
+        {"only": log("lawful", "0 write 1 null 3")},
+    ),
+    "no_line": ("INFO  jepsen.util - 0\t:invoke\t:write\t3\nWARN  why\n", "line 2: this is no event"),
+    "endless_line": ("INFO  jepsen.util - 0\t:invoke\t:write\t1e999\n", "line 1: a number that is too large"),
+    "returns_at_nothing": (
+        operation(0, "put 3", 0, 0) + operation(1, "get", 5, 6, "3"),
+        {"only": log("lawful", "0 write 0 0 3", "1 read 5 6 3")},
+    ),
+    "never_returns": (
+        operation(0, "put 3", 0, None) + operation(1, "get", 5, None) + operation(2, "write 4", 6, "null") + operation(3, "read", 7, 8, "4"),
+        {"only": log("lawful", "0 write 0 null 3", "2 write 6 null 4", "3 read 7 8 4")},
+    ),
+    "goes_on": (
+        operation(0, "put 3", 0, None) + operation(0, "put 4", 5, 6) + operation(0, "get", 7, 8, "3"),
+        {"only": log("lawful", "1 write 0 null 3", "0 write 5 6 4", "0 read 7 8 3")},
+    ),
+    "unsorted": (
+        operation(0, "get", 7, 8, "3") + operation(0, "put 3", 0, 5),
+        {"only": log("lawful", "0 write 0 5 3", "0 read 7 8 3")},
+    ),
+    "two_at_once": (operation(0, "put 3", 0, 5) + operation(0, "get", 5, 8, "3"), "line 2: 0 begins before it has ended line 1"),
+    "backwards": (operation(0, "put 3", 5, 4), "line 1: this operation ends before it begins, or at no time"),
+    "time_of_a_word": (operation(0, "put 3", '"5"', 4), 'line 1: a time is a number from 0 on, of at most 64 bits, and not "5"'),
+    "time_below": (operation(0, "put 3", -5, 4), "line 1: a time is a number from 0 on, of at most 64 bits, and not -5"),
+    "time_beyond": (operation(0, "put 3", 5, 2**64), "line 1: this operation ends before it begins, or at no time"),
+    "client_below": (operation(-1, "put 3", 0, 5), "line 1: a process has a number from 0 on, of at most 64 bits, and not -1"),
+    "client_beyond": (operation(2**64, "put 3", 0, 5), f"line 1: a process has a number from 0 on, of at most 64 bits, and not {2**64}"),
+    "client_of_a_word": (operation('"a"', "put 3", 0, 5), 'line 1: a process has a number from 0 on, of at most 64 bits, and not "a"'),
+    "no_operation": (operation(0, "put 3", 0, 5) + '{"why":1}\n', "line 2: this is neither an operation nor an event"),
+    "no_object": (operation(0, "put 3", 0, 5) + "7\n", "line 2: this is no object"),
+    "no_input": ('{"ClientId":0,"Call":1,"Return":2}\n', "line 1: an input is an object with an Op"),
+    "no_json": (operation(0, "put 3", 0, 5) + "{\n", "line 2: no JSON"),
+    "endless": (operation(0, "put 1e999", 0, 5), "line 1: no JSON, or a number that is too large"),
+    "infinite": (operation(0, "put Infinity", 0, 5), "line 1: no JSON, or a number that is too large"),
+    "deep": ('{"a":' + "[" * 100000 + "\n", "line 1: nested too deep"),
+    "half": (operation(0, 'put "\\ud800"', 0, 5), "line 1: a text with half a letter"),
+    "maps": (
+        operation(0, 'put {"a":1,"b":[2,null]}', 0, 5) + operation(1, "get", 6, 7, '{"Value":{"b":[2,null],"a":1}}'),
+        {"only": log("lawful", '0 write 0 5 "{\\"a\\" 1, \\"b\\" [2 nil]}"', '1 read 6 7 "{\\"a\\" 1, \\"b\\" [2 nil]}"')},
+    ),
+    "counted": (
+        operation(0, "cas 3", 0, 5) + operation(0, "put 3", 6, 7) + operation(0, "put 3", 8, 9) + operation(0, "append 3", 10, 11),
+        "line 1: cas is neither a read nor a write\n"
+        "of 4 operations 3 can't be said: 1 of kind `cas`, 1 of kind `append`, 1 of kind `write of a value that was written before`",
+    ),
+    "events": (
+        EVENT(0, '"call"', '{"op":"write","value":1}', '"a"') + EVENT(1, "false", '{"op":"read"}', 2) + EVENT(0, '"return"', "null", '"a"')
+        + EVENT(1, "true", "1", 2),
+        {"only": log("lawful", "0 write 0 2 1", "1 read 1 3 1")},
+    ),
+    "event_without_a_call": (EVENT(0, '"return"', "null", 1), "line 1: 1 ends what it hadn't begun"),
+    "event_of_another_kind": (EVENT(0, '"cull"', "null", 1), 'line 1: "cull" is neither a call nor a return'),
+    "event_with_a_list": (EVENT(0, '"call"', '{"op":"write","value":1}', "[1]"), "line 1: an Id is a number or a text"),
+    "event_twice": (
+        EVENT(0, 0, '{"op":"write","value":1}', 1) + EVENT(1, 0, '{"op":"write","value":2}', 1),
+        "line 2: 1 begins again before line 1 has ended",
+    ),
+    "events_at_once": (
+        EVENT(0, 0, '{"op":"write","value":1}', 1) + EVENT(0, 0, '{"op":"write","value":2}', 2) + EVENT(0, 1, "null", 1) + EVENT(0, 1, "null", 2),
+        "line 2: 0 begins before it has ended line 1",
+    ),
+    "counted_events": (
+        EVENT(0, 0, '{"op":"cas","value":1}', 1) + EVENT(0, 1, "1", 1),
+        "line 1: cas is neither a read nor a write\nof 1 operations 1 can't be said: 1 of kind `cas`",
+    ),
+    "etcd": (
+        put(0, "a", 10, 20, '{"Txn":{"Failure":false},"Revision":2}') + get(1, 30, 40, shown("a", 2)) + put(0, "a", 50, 60, '{"Revision":3}')
+        + get(1, 70, 80, shown("a", 2)) + get(2, 1, 2, "null"),
+        {
+            "k": log("unlawful crossed 3 5 5 6", '2 read 1 2 "nil"', '0 write 10 20 "[2 \\"a\\"]"', '1 read 30 40 "[2 \\"a\\"]"',
+                     '0 write 50 60 "[3 \\"a\\"]"', '1 read 70 80 "[2 \\"a\\"]"')
+        },
+    ),
+    "etcd_failed": (
+        put(0, "a", 10, 20, '{"Error":"timeout"}') + put(0, "b", 30, 40, '{"Revision":3}') + put(0, "c", 50, 60, "null") + get(1, 70, 80, shown("a", 2)),
+        {"k": log("lawful", '2 write 10 null "[2 \\"a\\"]"', '0 write 30 40 "[3 \\"b\\"]"', '1 read 70 80 "[2 \\"a\\"]"')},
+    ),
+    "etcd_counted": (
+        put(0, "a", 10, 20, '{"Revision":2}', ',{"Type":"range-operation"}') + get(1, 30, 40, "null", end="l") + get(1, 50, 60, "null", revision=1)
+        + '{"ClientId":0,"Input":{"Type":"compact"},"Call":70,"Output":{},"Return":80}\n',
+        "line 1: txn of other than one put is neither a read nor a write\nof 4 operations 4 can't be said: "
+        "2 of kind `range of several keys or of an old revision`, 1 of kind `txn of other than one put`, 1 of kind `compact`",
+    ),
+    "etcd_without_a_part": (
+        '{"ClientId":0,"Input":{"Type":"range"},"Call":70,"Output":{},"Return":80}\n', "line 1: a part of this operation is missing"),
+    "opening": (operation(0, "get", 1, 2, "5"), {"only": log("lawful", "0 read 1 2 5", opening="5")}, ("--opening", "5")),
+}
+ALL = {f"{tool}_{name}": (*it, ())[:3] for tool, table in (("jepsen", JEPSEN), ("porcupine", PORCUPINE)) for name, it in table.items()}

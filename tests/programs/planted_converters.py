@@ -1,0 +1,135 @@
+"""Wrong converters, which their test must refuse: each is one edit of a file of tools/convert/.
+
+    planted_converters.py [WORD..]     with words those edits alone whose names have one of them
+
+An edit's old text stands once in its file; blanks match any others. The histories that are named have to pass over the files as they are,
+and one of them has to fail over the edited ones. The last line is the sums.
+"""
+
+import os
+import re
+import shutil
+import subprocess
+import sys
+import tempfile
+
+TOP = os.path.dirname(os.path.dirname(os.path.dirname(os.path.realpath(__file__))))
+TOOLS = f"{TOP}/tools/convert"
+
+# The name of an edit, its file, the old text, the new one, and the histories of which one refuses it.
+PLANTED = [
+    ("a failure as unknown", "lines.py", '.fate = "failed"', '.fate = "open"', "jepsen_fail porcupine_fail porcupine_failed"),
+    ("a failure as unknown (jepsen)", "jepsen.py", "history.fail(line, who, kind)", "history.leave(line, who, kind)", "jepsen_fail"),
+    ("a failure as unknown (porcupine)", "porcupine.py", "history.fail(line, who, kind)", "history.leave(line, who, kind)", "porcupine_fail"),
+    ("a failure as done", "lines.py", '.fate = "failed"', '.fate = "done"', "jepsen_fail"),
+    ("what is unknown as failed", "lines.py", 'self.returned(line, name, kind).fate = "open"', 'self.returned(line, name, kind).fate = "failed"', "jepsen_info"),
+    ("a write that timed out as failed", "porcupine.py", 'if value.strip() == ":timed-out" and name == "write":', "if False:", "porcupine_timed_out"),
+    ("a return at 0 as none", "porcupine.py", 'if row.get("Return") is None or', 'if not row.get("Return") or', "porcupine_returns_at_nothing"),
+    ("no return as an end", "porcupine.py", 'if row.get("Return") is None or known is None:', "if known is None:", "porcupine_never_returns"),
+    ("two operations of one client at once", "lines.py", "elif before and call.begin <= before.end:", "elif False:", "porcupine_two_at_once"),
+    ("operations that touch", "lines.py", "call.begin <= before.end", "call.begin < before.end", "porcupine_two_at_once"),
+    ("an end before its begin", "lines.py", "if not is_whole(at) or at < call.begin:", "if not is_whole(at):", "porcupine_backwards"),
+    ("an end at no time", "lines.py", "if not is_whole(at) or at < call.begin:", "if at < call.begin:", "porcupine_time_beyond"),
+    ("a begin at no time", "lines.py", "if not is_whole(at): raise Refused(line, f\"a time", "if False: raise Refused(line, f\"a time", "porcupine_time_below"),
+    ("events without their key", "porcupine.py", 'event[":f"], event[":key"]', 'event[":f"], event.get(":key")', "porcupine_no_key"),
+    ("lines that are skipped", "porcupine.py", 'if row.startswith("INFO") and ":nemesis" in row:', "if True:", "porcupine_no_line"),
+    ("an unknown type (jepsen)", "jepsen.py", 'if event[":type"] not in TYPES:', "if False:", "jepsen_unknown_type"),
+    ("an unknown type (porcupine)", "porcupine.py", 'raise lines.Refused(line, f":{moment} is no type")', "pass", "porcupine_unknown_type"),
+    ("an end of another kind", "lines.py", "if call.kind != kind:", "if False:", "jepsen_other_kind jepsen_other_kind_fails"),
+    ("an end without a begin", "lines.py", "if name not in self.under_way:", "if False:", "jepsen_no_begin"),
+    ("an event's end without a begin", "porcupine.py", "elif name not in history.unsaid:", "elif False:", "porcupine_event_without_a_call"),
+    ("a begin within another", "lines.py", "if name in self.under_way:", "if False:", "jepsen_twice.edn"),
+    ("a process below 0", "lines.py", "and 0 <= it <=", "and it <=", "jepsen_below"),
+    ("a process beyond 64 bits", "lines.py", "0 <= it <= GREATEST", "0 <= it", "jepsen_beyond"),
+    ("2^64", "lines.py", "GREATEST = 2**64 - 1", "GREATEST = 2**64", "jepsen_greatest"),
+    ("2^63", "lines.py", "GREATEST = 2**64 - 1", "GREATEST = 2**63", "jepsen_greatest"),
+    ("true as 1", "lines.py", "and not isinstance(it, bool) and", "and", "jepsen_true"),
+    ("any process that isn't one", "lines.py", 'if not is_whole(who): raise', 'if False: raise', "jepsen_keyword jepsen_text"),
+    ("a process that is left out", "jepsen.py", 'if event[":process"] != ":nemesis":', 'if isinstance(event[":process"], int):', "jepsen_keyword jepsen_text"),
+    ("the nemesis as a client", "jepsen.py", 'if event[":process"] != ":nemesis":', "if True:", "jepsen_register.edn jepsen_nemesis"),
+    ("no operation", "jepsen.py", 'raise lines.Refused(line, "this is no operation of a history")', "continue", "jepsen_no_operation"),
+    ("another key", "lines.py", 'if key and record_key(key["key"]) != call.key:', "if False:", "jepsen_other_key"),
+    ("a value without a key", "jepsen.py", 'raise lines.Refused(line, "this value has no key")', "value = [None, value]", "jepsen_no_key"),
+    ("a failure without a key", "jepsen.py", 'if keyed and event[":type"] in (":invoke", ":ok"):', "if keyed:", "jepsen_fail_without_key"),
+    ("keys beside none", "jepsen.py", "if len(keyed) > 1:", "if False:", "jepsen_mixed.edn"),
+    ("two keys in one file", "lines.py", "if names.setdefault(name, key) != key:", "if False:", "jepsen_same_names"),
+    ("all keys in one log", "lines.py", "if len(logs) > 1:", "if False:", "jepsen_keys.edn"),
+    ("another value of an end", "lines.py", 'if kind == "write" and value is not None and not fits(call.value, value):', "if False:", "jepsen_other_value"),
+    ("the value of the invocation", "lines.py", 'if kind == "read" or value is not None:', 'if kind == "read":', "jepsen_versions"),
+    ("a part that differs", "lines.py", "return value is None or name_of(value) == name_of(known)", "return True", "jepsen_other_part"),
+    ("a shorter value", "lines.py", "len(value) == len(known) and", "", "jepsen_shorter"),
+    ("an unfinished version", "lines.py", ".value = read.value", ".fate", "jepsen_version_of_an_unfinished_write"),
+    ("the later of two writes", "lines.py", "min(fitting, key=lambda it: it.begin)", "max(fitting, key=lambda it: it.begin)", "jepsen_version_of_an_unfinished_write"),
+    ("one of two writes", "lines.py", "if len(fitting) > 1 and rivals:", "if False:", "jepsen_two_versions_of_unfinished_writes"),
+    ("a nil that is a value", "lines.py", 'if any(it.kind == "write" and it.fate == "done" and has_hole(it.value) for it in calls):', "if False:", "jepsen_nil_that_is_a_value"),
+    ("maps by the order of keys", "edn.py", '"{" + ", ".join(sorted(f"{text_of(key)} {text_of(it)}" for key, it in value.items())) + "}"',
+     '"{" + ", ".join(f"{text_of(key)} {text_of(it)}" for key, it in value.items()) + "}"', "jepsen_maps porcupine_maps"),
+    ("sets by their order", "edn.py", '" ".join(sorted(value))', '" ".join(value)', "jepsen_sets"),
+    ("an infinite number", "edn.py", "if not math.isfinite(float(text)):", "if False:", "jepsen_endless"),
+    ("an infinite number in JSON", "porcupine.py", 'if not float("-inf") < float(text) < float("inf"):', "if False:", "porcupine_endless"),
+    ("Infinity", "porcupine.py", "parse_constant=refuse", "parse_constant=float", "porcupine_infinite"),
+    ("texts as names", "edn.py", "if isinstance(value, Name): return str(value)", "if isinstance(value, str): return str(value)", "jepsen_kinds_of_values"),
+    ("letters as texts", "edn.py", "return Name(text) raise NoEdn", "return Text(text[1:])\n        raise NoEdn", "jepsen_kinds_of_values"),
+    ("an array of one number", "lines.py", "2 <= len(value) <= 64", "1 <= len(value) <= 64", "jepsen_kinds_of_values"),
+    ("a value that is written twice", "lines.py", "elif record in written:", "elif False:", "jepsen_repeated.edn"),
+    ("a write of the opening", "lines.py", "if record == name_of(self.opening):", "if False:", "jepsen_opening.edn"),
+    ("what isn't said", "lines.py", "if self.untakeable: raise self.refusal()", "", "jepsen_cas.edn jepsen_counted"),
+    ("the last that isn't said", "lines.py", "first = min(self.untakeable", "first = max(self.untakeable", "jepsen_counted"),
+    ("ends that are counted", "jepsen.py", 'elif event[":type"] == ":invoke": name', "else: name", "jepsen_counted"),
+    ("ends that are counted (porcupine)", "porcupine.py", 'if moment == "invoke": history.leave_out', "if True: history.leave_out", "porcupine_counted_keys"),
+    ("times that aren't sorted", "lines.py", "for call in sorted(self.calls, key=lambda it: it.begin):", "for call in self.calls:", "porcupine_unsorted"),
+    ("a client that goes on", "lines.py", "before.who = next(self.numbers)", "pass", "jepsen_goes_on porcupine_goes_on"),
+    ("reads that never ended", "lines.py", 'call.fate == "open" and call.kind == "write"', 'call.fate == "open"', "jepsen_register.edn"),
+    ("a status of 0", "lines.py", "return 3", "return 0", "jepsen_cas.edn"),
+    ("a status of 3 for a stream", "lines.py", "return 5", "return 3", "streams"),
+    ("bytes that aren't UTF-8", "lines.py", "read.decode()", 'read.decode(errors="replace")', "jepsen_bytes"),
+    ("half a letter", "lines.py", "text.encode()", "", "jepsen_half"),
+    ("an opening that isn't heard", "lines.py", "history.opening = words.opening", "pass", "jepsen_opening"),
+    ("a put that failed", "porcupine.py", 'or it.get("Error") or not it.get("Revision"):', "or False:", "porcupine_etcd_failed"),
+    ("a put without its revision", "porcupine.py", 'return [[it["Revision"], value[1]]]', "return [[None, value[1]]]", "porcupine_etcd"),
+    ("a range of several keys", "porcupine.py", 'if options.get("End") or it["Range"].get("Revision"):', "if False:", "porcupine_etcd_counted"),
+    ("a txn of two", "porcupine.py", 'kinds != ["put-operation"]', 'kinds[0] != "put-operation"', "porcupine_etcd_counted"),
+]
+
+
+def passes(folder, names):
+    done = subprocess.run([sys.executable, f"{TOP}/tests/programs/converters.py", "--tools", folder, *names], capture_output=True, text=True, check=False)
+    return done.returncode == 0, done.stdout + done.stderr
+
+
+def why_not_refused(folder, name, old, new, names):
+    """Nothing if the edit is refused."""
+    with open(f"{TOOLS}/{name}", encoding="utf-8") as file:
+        text = file.read()
+    pattern = r"\s+".join(re.escape(word) for word in old.split())
+    found = len(re.findall(pattern, text))
+    if found != 1:
+        return f"its old text stands {found} times in {name}"
+    with open(f"{folder}/{name}", "w", encoding="utf-8") as file:
+        file.write(re.sub(pattern, lambda _: new, text))
+    well, _ = passes(folder, names.split())
+    shutil.copy(f"{TOOLS}/{name}", folder)
+    return f"{names} pass" if well else None
+
+
+def main(words):
+    edits = [it for it in PLANTED if not words or any(word in it[0] for word in words)]
+    with tempfile.TemporaryDirectory() as room:
+        folder = f"{room}/tools"
+        shutil.copytree(TOOLS, folder)
+        well, said = passes(folder, sorted({name for it in edits for name in it[4].split()}))
+        failed = [] if well else [f"the converters: FAILED as they are: {said}"]
+        if why_not_refused(folder, "lines.py", '"""A record as a word, by which records are compared."""', "", "jepsen_fail") is None:
+            failed.append("planted: a comment that is dropped: FAILED: it counts as refused")
+        for name, *edit in edits:
+            why = why_not_refused(folder, *edit)
+            if why:
+                failed.append(f"planted: {name}: FAILED: {why}")
+    for it in failed:
+        print(f"test: {it}")
+    print(f"{len(edits) + 2 - len(failed)} passed, {len(failed)} failed")
+    return 1 if failed or not edits else 0
+
+
+if __name__ == "__main__":
+    sys.exit(main(sys.argv[1:]))
