@@ -14,9 +14,15 @@
  *   fetch(&item);
  *   nidzaru_log_end_read(&log, item.number, &item, sizeof item);
  *
- * and when the threads are joined, or stand still for good:
+ * If one thread ends before another begins, a log shows nothing. So before the threads begin they are paced: each waits, before it begins
+ * an operation, while it is so many ahead of the slowest. It looks by loads alone, which order nothing between the threads' calls:
  *
  *   nidzaru_log *logs[] = {&first, &second};
+ *   nidzaru_log_pace(logs, 2, 200);
+ *
+ * A thread whose log is full holds up nobody; one that stops before says nidzaru_log_leave(&log). When the threads are joined, or stand
+ * still for good:
+ *
  *   nidzaru_log_merge(stdout, logs, 2, nidzaru_log_record_of(opening.number, &opening, sizeof opening), 0)
  *
  * A record is [number, hash]. The number stands in the data; no two writes have the same, and none has the opening's. The hash is of
@@ -42,6 +48,7 @@
 #define NIDZARU_LOG_H
 
 #include <inttypes.h>
+#include <sched.h>
 #include <stddef.h>
 #include <stdint.h>
 #include <stdio.h>
@@ -100,13 +107,19 @@ typedef struct {
 } nidzaru_log_operation;
 
 /* What one thread did. Its members are the recorder's own. */
-typedef struct {
+typedef struct nidzaru_log {
     nidzaru_log_operation *operations;
     size_t count, room, merged;
     uint64_t who, lost, unpaired, refused, last_end;
     nidzaru_log_operation under_way; /* `end` isn't known yet; NIDZARU_LOG_NOTHING where none is */
-    char apart[64];                  /* logs that lie side by side share no cache line that their threads store to */
+    uint64_t turn;                   /* how many operations ended, or NIDZARU_LOG_LEFT; other threads load it */
+    uint64_t reach, ahead;           /* the turn before which nobody has to be looked for, and how many it may be ahead */
+    struct nidzaru_log *const *beside;
+    size_t beside_count;
+    char apart[64]; /* logs that lie side by side share no cache line that their threads store to */
 } nidzaru_log;
+
+#define NIDZARU_LOG_LEFT UINT64_MAX
 
 /* A log of the thread `who` with room for so many operations. Threads have different numbers. */
 NIDZARU_LOG_CHECKED int nidzaru_log_open(nidzaru_log *log, uint64_t who, size_t room) {
@@ -192,7 +205,39 @@ NIDZARU_LOG_INLINE uint64_t nidzaru_log_stamp_end(void) {
     return now;
 }
 
+/* Paces the threads of these logs, none of which has begun: none begins an operation while another one that hasn't left is behind it by so
+ * many. With 0 nobody waits. */
+NIDZARU_LOG_INLINE void nidzaru_log_pace(nidzaru_log *const *logs, size_t count, uint64_t ahead) {
+    for (size_t at = 0; at < count; at++) {
+        logs[at]->beside = logs;
+        logs[at]->beside_count = count;
+        logs[at]->ahead = logs[at]->reach = ahead;
+    }
+}
+
+NIDZARU_LOG_INLINE void nidzaru_log_set_turn(nidzaru_log *log, uint64_t turn) { __atomic_store_n(&log->turn, turn, __ATOMIC_RELAXED); }
+
+/* The thread records no more, and nobody waits for it. */
+NIDZARU_LOG_INLINE void nidzaru_log_leave(nidzaru_log *log) { nidzaru_log_set_turn(log, NIDZARU_LOG_LEFT); }
+
+/* The least turn of all logs. */
+NIDZARU_LOG_INLINE uint64_t nidzaru_log_slowest(const nidzaru_log *log) {
+    uint64_t slowest = NIDZARU_LOG_LEFT;
+    for (size_t at = 0; at < log->beside_count; at++) {
+        uint64_t turn = __atomic_load_n(&log->beside[at]->turn, __ATOMIC_RELAXED);
+        if (turn < slowest) slowest = turn;
+    }
+    return slowest;
+}
+
+/* Waits for the slowest, and then until it is behind by half as many, so that both run at once for a while. */
+NIDZARU_LOG_INLINE void nidzaru_log_keep_pace(nidzaru_log *log) {
+    if (!log->ahead || log->turn < log->reach || log->turn == NIDZARU_LOG_LEFT) return;
+    while ((log->reach = nidzaru_log_slowest(log) + log->ahead) <= log->turn + log->ahead / 2) sched_yield();
+}
+
 NIDZARU_LOG_INLINE void nidzaru_log_begin(nidzaru_log *log, uint64_t kind, nidzaru_log_record record) {
+    nidzaru_log_keep_pace(log);
     log->unpaired += log->under_way.kind != NIDZARU_LOG_NOTHING;
     log->under_way.record = record;
     log->under_way.begin = nidzaru_log_stamp_begin(log);
@@ -213,6 +258,7 @@ NIDZARU_LOG_INLINE void nidzaru_log_end(nidzaru_log *log, uint64_t began_as, uin
         next->record = record;
     }
     log->under_way.kind = NIDZARU_LOG_NOTHING;
+    nidzaru_log_set_turn(log, log->count == log->room ? NIDZARU_LOG_LEFT : log->turn + 1);
 }
 
 /* Before a write of these data. */

@@ -1,5 +1,6 @@
 /* Where the recorder takes its stamps, and what it asks of the system: each instruction and call that counts is one of this file in place
  * of the real one, and is noted. C11, on any processor; the last line is `passed`. */
+#include <sched.h>
 #include <stdatomic.h>
 #include <stdint.h>
 #include <stdio.h>
@@ -11,7 +12,7 @@
 #endif
 
 /* What was done, a letter each: `b` rdtsc, `e` rdtscp, `c` the clock, `l` lfence, `m` mfence, `f` a fence of threads, `s` one of signals,
- * `h` a copy of data, `!` the recorded call. */
+ * `h` a copy of data, `y` a turn that is given to others, `!` the recorded call. */
 static char done[64];
 static void note(char what) {
     size_t length = strlen(done);
@@ -55,6 +56,17 @@ static void *copy(void *to, const void *from, size_t size) {
     return memcpy(to, from, size);
 }
 
+/* Whoever waits lets the other log's thread end an operation. One that waits for ever is told. */
+static void let_other_go(void);
+static void yield(void) {
+    note('y');
+    if (strlen(done) + 1 == sizeof done) {
+        puts("FAILED: a thread waits for ever");
+        exit(1);
+    }
+    let_other_go();
+}
+
 #undef __rdtsc
 #undef __rdtscp
 #undef _mm_lfence
@@ -67,6 +79,7 @@ static void *copy(void *to, const void *from, size_t size) {
 #define _mm_mfence() note('m')
 #define atomic_signal_fence(order) note((order) == memory_order_seq_cst ? 's' : '?')
 #define atomic_thread_fence(order) note((order) == memory_order_seq_cst ? 'f' : '?')
+#define sched_yield() yield()
 #define clock_gettime look_at_clock
 #define malloc take_block
 #define free return_block
@@ -198,12 +211,69 @@ static void check_memory(void) {
     check(given == returned, "a log without room is closed");
 }
 
+static nidzaru_log other;
+static nidzaru_log *both[] = {&log_of_one, &other};
+
+static void let_other_go(void) { nidzaru_log_set_turn(&other, other.turn + 1); }
+
+/* How often the thread waits before each of some reads, a figure each. */
+static void check_waits(const char *what, const char *wanted) {
+    char waits[16] = "";
+    for (size_t at = 0; at < strlen(wanted); at++) {
+        size_t before, after;
+        done[0] = 0;
+        nidzaru_log_begin_read(&log_of_one);
+        before = strspn(done, "y");
+        after = strlen(done);
+        nidzaru_log_end_read(&log_of_one, 1, item, 8);
+        check(!strchr(done + before, 'y') && strlen(done) > after, "a thread waits before its begin alone");
+        waits[at] = (char)('0' + before);
+    }
+    check(!strcmp(waits, wanted), what);
+    if (strcmp(waits, wanted)) printf("%s in place of %s\n", waits, wanted);
+}
+
+static void open_both(size_t room, size_t others, uint64_t ahead) {
+    open_log(room);
+    check(nidzaru_log_open(&other, 4, others) == 0, "another log is opened");
+    nidzaru_log_pace(both, 2, ahead);
+}
+
+static void close_both(void) {
+    nidzaru_log_close(&log_of_one);
+    nidzaru_log_close(&other);
+}
+
+/* Four ahead: the fifth read waits until the other thread is one behind, the eighth and the eleventh alike. */
+static void check_pace(void) {
+    open_both(20, 20, 4);
+    check_waits("a pace of four", "00003003003");
+    nidzaru_log_leave(&other);
+    check_waits("nobody waits for a thread that left", "00000000");
+    close_both();
+    open_both(20, 20, 1);
+    check_waits("a pace of one", "01111");
+    close_both();
+    open_both(20, 20, 0);
+    check_waits("no pace", "0000000000");
+    close_both();
+    open_both(3, 20, 1);
+    check_waits("a thread whose log is full doesn't wait", "01100000");
+    close_both();
+    open_both(20, 1, 2);
+    nidzaru_log_begin_write(&other, 1, item, 8);
+    nidzaru_log_end_write(&other);
+    check_waits("nobody waits for a thread whose log is full", "00000000");
+    close_both();
+}
+
 int main(void) {
     check_write();
     check_read();
     check_standing();
     check_seconds();
     check_memory();
+    check_pace();
     puts(failed ? "failed" : "passed");
     return failed;
 }

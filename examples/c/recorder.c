@@ -76,6 +76,7 @@ int main(int count, char **arguments) {
         all[k] = &logs[k];
         if (nidzaru_log_open(all[k], (uint64_t)k, operations / THREADS)) return 1;
     }
+    nidzaru_log_pace(all, THREADS, 200);
     for (int k = 0; k < THREADS; k++) pthread_create(&threads[k], 0, k ? read_all : write_all, all[k]);
     for (int k = 0; k < THREADS; k++) pthread_join(threads[k], 0);
     return nidzaru_log_merge(stdout, all, THREADS, nidzaru_log_record_of(opening.number, &opening, sizeof opening), 0);

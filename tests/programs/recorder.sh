@@ -68,6 +68,18 @@ count_lawful() {
     echo "$lawful"
 }
 
+# A wrong register that keeps pace: one of so many logs is unlawful. (Of six of 100,000 operations each was, with other work.)
+#   is_condemned NAME MOST PROGRAM WORDS..
+is_condemned() {
+    name=$1
+    shift
+    count=$(count_lawful "$@")
+    case $count in
+    "$1" | *[!0-9]*) fail "$name" "of $1 logs none is unlawful: $count" ;;
+    *) pass "$name is refused" ;;
+    esac
+}
+
 # A register that only the recorder's fence orders. Without the fence 0.6 of its logs were lawful, with other work on four processors: of
 # twelve none is unlawful with a chance of 0.002, of a hundred never.
 #   needs_fence NAME FENCED WORDS UNFENCED WORDS
@@ -115,6 +127,7 @@ test_in_c() {
     fi
     if "$c" -std=c11 -D_POSIX_C_SOURCE=200809L -O2 $strict examples/c/recorder.c -o "$room/example" >"$room/said" 2>&1; then
         records "examples/c/recorder.c, mended ($c)" lawful "$room/example" "$operations" mended
+        is_condemned "examples/c/recorder.c ($c)" 5 "$room/example" $((operations * 8))
     else
         fail "examples/c/recorder.c ($c)" "it wasn't built: $(head -n 3 "$room/said" | tr '\n' ' ')"
     fi
@@ -245,6 +258,8 @@ else
         ! command -v "$c" >/dev/null 2>&1 || ! command -v "$cpp" >/dev/null 2>&1 || test_in_c
     done
     [ ! -x "$room/recorded" ] || test_planted
+    [ ! -x "$room/example" ] || catches "a right register that is to be condemned" "of 2 logs none is unlawful: 2" \
+        is_condemned a 2 "$room/example" 300 mended
     [ ! -x "$room/unfenced" ] || catches "a fence that orders nothing" "with the fence: " \
         needs_fence a "$room/recorded" "torn $operations" "$room/unfenced" "behind $operations"
     logs=3

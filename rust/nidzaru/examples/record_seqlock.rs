@@ -5,7 +5,7 @@
 //!
 //! The wrong one lingers now and then in the middle of a write, until others have read, so that a short log shows it.
 
-use nidzaru::log::{merge, Log, Record};
+use nidzaru::log::{merge, pace, Log, Record};
 use std::env;
 use std::error::Error;
 use std::io::{self, BufWriter};
@@ -108,6 +108,7 @@ fn main() -> Result<(), Box<dyn Error>> {
     let torn = words.get(1).is_some_and(|word| word == "torn");
     let shared = SeqLock { torn, reading: 2.into(), writing: 1.into(), ..SeqLock::default() };
     let mut logs = [Log::new(0, room)?, Log::new(1, room)?, Log::new(2, room)?];
+    pace(&mut logs, 200);
     thread::scope(|scope| {
         let [first, second, third] = &mut logs;
         scope.spawn(|| write_all(&shared, first));

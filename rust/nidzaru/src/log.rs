@@ -4,11 +4,13 @@
 //! to write, or what it gave; [`merge`] writes the logs of all threads when they are joined.
 //!
 //! ```
-//! use nidzaru::log::{merge, Log, Record};
+//! use nidzaru::log::{merge, pace, Log, Record};
 //! use std::sync::atomic::{AtomicU64, Ordering::{Acquire, Release}};
 //!
 //! let shared = AtomicU64::new(0);
-//! let (mut writes, mut reads) = (Log::new(0, 1000)?, Log::new(1, 1000)?);
+//! let mut logs = [Log::new(0, 1000)?, Log::new(1, 1000)?];
+//! pace(&mut logs, 200);
+//! let [writes, reads] = &mut logs;
 //! std::thread::scope(|scope| {
 //!     scope.spawn(|| {
 //!         for n in 1..=1000 {
@@ -22,9 +24,14 @@
 //!     });
 //! });
 //! let mut lines = Vec::new();
-//! assert_eq!(merge(&mut lines, &[writes, reads], Record::of_words(&[0]), None)?, 2000);
+//! assert_eq!(merge(&mut lines, &logs, Record::of_words(&[0]), None)?, 2000);
 //! # Ok::<(), Box<dyn std::error::Error>>(())
 //! ```
+//!
+//! # Pace
+//!
+//! If one thread ends before another begins, a log shows nothing. So [`pace`] the logs before the threads begin: each thread waits, before it
+//! begins an operation, while it is so many ahead of the slowest. It looks by relaxed loads alone, which order nothing between the calls.
 //!
 //! # Records
 //!
@@ -48,6 +55,9 @@
 use std::fmt;
 use std::io::{self, Write};
 use std::num::NonZeroU64;
+use std::sync::atomic::{AtomicU64, Ordering::Relaxed};
+use std::sync::Arc;
+use std::thread;
 
 /// The stamps.
 #[cfg(target_arch = "x86_64")]
@@ -236,6 +246,73 @@ pub struct Log {
     fenced: bool,
     /// A write that has begun, and when.
     under_way: Option<(u64, Record)>,
+    pace: Option<Pace>,
+}
+
+/// How many operations of a thread ended, or [`LEFT`]. Threads share no cache line that they store to.
+#[derive(Debug, Default)]
+#[repr(align(128))]
+struct Turn(AtomicU64);
+
+const LEFT: u64 = u64::MAX;
+
+/// The turns of all threads, and which is this one's.
+#[derive(Clone, Debug)]
+struct Pace {
+    turns: Arc<[Turn]>,
+    me: usize,
+    ahead: u64,
+    /// The turn before which nobody has to be looked for.
+    reach: u64,
+}
+
+impl Pace {
+    fn turn(&self) -> &AtomicU64 {
+        &self.turns[self.me].0
+    }
+
+    fn slowest(&self) -> u64 {
+        self.turns.iter().map(|turn| turn.0.load(Relaxed)).min().unwrap_or(LEFT)
+    }
+
+    /// Waits for the slowest, and then until it is behind by half as many, so that both run at once for a while.
+    #[inline]
+    fn keep(&mut self, mut wait: impl FnMut()) {
+        let turn = self.turn().load(Relaxed);
+        if turn < self.reach || turn == LEFT {
+            return;
+        }
+        loop {
+            self.reach = self.slowest() + self.ahead;
+            if self.reach > turn + self.ahead / 2 {
+                return;
+            }
+            wait();
+        }
+    }
+}
+
+/// A thread that a call's panic ends holds up nobody.
+struct LeavesByPanic<'a>(Option<&'a Pace>);
+
+impl Drop for LeavesByPanic<'_> {
+    #[inline]
+    fn drop(&mut self) {
+        if let Some(pace) = self.0 {
+            if thread::panicking() {
+                pace.turn().store(LEFT, Relaxed);
+            }
+        }
+    }
+}
+
+/// Paces the threads of these logs, none of which has begun: none begins an operation while another one is behind it by so many. A thread whose
+/// log is full, or whose call panics, holds up nobody; one that stops before [leaves](Log::leave). With 0 nobody waits.
+pub fn pace(logs: &mut [Log], ahead: u64) {
+    let turns: Arc<[Turn]> = logs.iter().map(|_| Turn::default()).collect();
+    for (me, log) in logs.iter_mut().enumerate() {
+        log.pace = (ahead > 0).then(|| Pace { turns: Arc::clone(&turns), me, ahead, reach: ahead });
+    }
 }
 
 impl Log {
@@ -246,12 +323,19 @@ impl Log {
         // (every page is there before the threads begin)
         operations.resize(room, Operation { kind: Kind::Read, begin: 1, end: 1, record: Record::default() });
         operations.clear();
-        Ok(Log { who, operations, room, lost: 0, last_end: 0, fenced: true, under_way: None })
+        Ok(Log { who, operations, room, lost: 0, last_end: 0, fenced: true, under_way: None, pace: None })
     }
 
     /// The same without the fence before the stamp of an end.
     pub fn unfenced(self) -> Log {
         Log { fenced: false, ..self }
+    }
+
+    /// The thread records no more, and no paced one waits for it.
+    pub fn leave(&self) {
+        if let Some(pace) = &self.pace {
+            pace.turn().store(LEFT, Relaxed);
+        }
     }
 
     /// Whether the next operation has no room.
@@ -284,8 +368,10 @@ impl Log {
     #[inline]
     pub fn read<T>(&mut self, call: impl FnOnce() -> T, record: impl FnOnce(&T) -> Record) -> T {
         let begin = self.begin();
+        let leaves = LeavesByPanic(self.pace.as_ref());
         let given = call();
         let end = clock::end(self.fenced);
+        drop(leaves);
         self.put(Operation { kind: Kind::Read, begin, end, record: record(&given) });
         given
     }
@@ -293,13 +379,18 @@ impl Log {
     fn run_write<T>(&mut self, record: Record, call: impl FnOnce() -> T) -> (u64, T, u64) {
         let begin = self.begin();
         self.under_way = Some((begin, record));
+        let leaves = LeavesByPanic(self.pace.as_ref());
         let given = call();
         let end = clock::end(self.fenced);
+        drop(leaves);
         self.under_way = None;
         (begin, given, end)
     }
 
-    fn begin(&self) -> u64 {
+    fn begin(&mut self) -> u64 {
+        if let Some(pace) = &mut self.pace {
+            pace.keep(thread::yield_now);
+        }
         moment_after(self.last_end, clock::begin)
     }
 
@@ -309,6 +400,10 @@ impl Log {
             self.lost += 1;
         } else {
             self.operations.push(operation);
+        }
+        if let Some(pace) = &self.pace {
+            let turn = if self.is_full() { LEFT } else { pace.turn().load(Relaxed) + 1 };
+            pace.turn().store(turn, Relaxed);
         }
     }
 
@@ -483,6 +578,71 @@ mod tests {
             assert!(it.begin < *moment && *moment < it.end);
         }
         assert_eq!((log.operations.len(), called.len(), log.last_end), (3, 3, log.operations[2].end));
+    }
+
+    /// How often the first thread waits before each of some reads; whenever it does, the second ends an operation.
+    fn waits<const N: usize>(log: &mut Log) -> [u32; N] {
+        std::array::from_fn(|_| {
+            let mut waited = 0;
+            if let Some(pace) = &mut log.pace {
+                let turns = Arc::clone(&pace.turns);
+                pace.keep(|| {
+                    assert!(waited < 100, "a thread waits for ever");
+                    waited += 1;
+                    turns[1].0.fetch_add(1, Relaxed);
+                });
+            }
+            log.read(|| (), |()| FIRST);
+            waited
+        })
+    }
+
+    fn paced(room: usize, other: usize, ahead: u64) -> [Log; 2] {
+        let mut logs = [Log::new(0, room).unwrap(), Log::new(1, other).unwrap()];
+        pace(&mut logs, ahead);
+        logs
+    }
+
+    /// Four ahead: the fifth read waits until the other thread is one behind, the eighth and the eleventh alike.
+    #[test]
+    fn threads_keep_pace() {
+        let [mut one, two] = paced(20, 20, 4);
+        assert_eq!(waits(&mut one), [0, 0, 0, 0, 3, 0, 0, 3, 0, 0, 3]);
+        two.leave();
+        assert_eq!(waits(&mut one), [0; 8]);
+        assert_eq!(waits(&mut paced(20, 20, 1)[0]), [0, 1, 1, 1, 1]);
+        assert_eq!(waits(&mut paced(20, 20, 0)[0]), [0; 10]);
+        assert_eq!(waits(&mut paced(3, 20, 2)[0]), [0, 0, 2, 0, 0, 0, 0, 0]);
+        let [mut one, mut two] = paced(20, 1, 2);
+        two.write(FIRST, || ());
+        assert_eq!(waits(&mut one), [0; 8]);
+        let [mut one, mut two] = paced(20, 20, 2);
+        let writes = std::panic::AssertUnwindSafe(|| two.write(FIRST, || panic!("planned")));
+        assert!(std::panic::catch_unwind(writes).is_err());
+        assert_eq!(waits(&mut one), [0; 8]);
+        let [mut one, mut two] = paced(20, 20, 2);
+        let reads = std::panic::AssertUnwindSafe(|| two.read(|| panic!("planned"), |_: &()| FIRST));
+        assert!(std::panic::catch_unwind(reads).is_err());
+        assert_eq!(waits(&mut one), [0; 8]);
+    }
+
+    #[test]
+    fn paced_threads_are_together() {
+        let mut logs = [Log::new(0, 500).unwrap(), Log::new(1, 500).unwrap(), Log::new(2, 500).unwrap()];
+        pace(&mut logs, 5);
+        let turns = Arc::clone(&logs[0].pace.as_ref().unwrap().turns);
+        thread::scope(|scope| {
+            for (me, log) in logs.iter_mut().enumerate() {
+                let turns = &turns;
+                scope.spawn(move || {
+                    while !log.is_full() {
+                        let slowest = log.read(|| turns.iter().map(|turn| turn.0.load(Relaxed)).min().unwrap(), |_| FIRST);
+                        let turn = turns[me].0.load(Relaxed);
+                        assert!(turn == LEFT || turn <= slowest + 5);
+                    }
+                });
+            }
+        });
     }
 
     #[test]
