@@ -8,7 +8,8 @@
  *
  *   nidzaru_log_begin_write(&log, item.number, &item, sizeof item);
  *   publish(&item);
- *   nidzaru_log_end_write(&log);                             or, if it was refused, nidzaru_log_end_refused(&log, ..) with what it saw
+ *   nidzaru_log_end_write(&log);                             or, if it was refused, nidzaru_log_end_refused(&log, ..) with what it saw,
+ *                                                            or nidzaru_log_end_no_effect(&log), if it did nothing: it is left out
  *
  *   nidzaru_log_begin_read(&log);
  *   fetch(&item);
@@ -28,6 +29,11 @@
  * A record is [number, hash]. The number stands in the data; no two writes have the same, and none has the opening's. The hash is of
  * all bytes, so data of two writes that were mixed show as a record that nobody wrote (unless two hashes are equal by chance). Bytes
  * between the members of a struct count as well: set them to zero, or pass data that has none.
+ *
+ * Several processes write their lines alone, with the clock's own times, and one of them a header; threads of all have different numbers.
+ * `cat` joins them: `nidzaru_log_header(stdout, opening, 0)`, `nidzaru_log_lines(stdout, logs, 2)`. The counter and CLOCK_MONOTONIC are the
+ * same for all processes of a machine. Several machines take NIDZARU_LOG_TSC 0 and a NIDZARU_LOG_CLOCK that they have in common, such as
+ * CLOCK_REALTIME, and tools/convert/join.py makes intervals longer by what their clocks differ.
  *
  * A write stands in the log from its begin on: one that never returns is written without an end. A read that never returns is
  * left out. A log that has no room left counts what it lost, and then nothing is merged, since a write that is missing would
@@ -65,6 +71,10 @@
 #else
 #define NIDZARU_LOG_TSC 0
 #endif
+#endif
+
+#ifndef NIDZARU_LOG_CLOCK
+#define NIDZARU_LOG_CLOCK CLOCK_MONOTONIC
 #endif
 
 #ifdef __x86_64__
@@ -159,7 +169,7 @@ NIDZARU_LOG_INLINE nidzaru_log_record nidzaru_log_record_of(uint64_t number, con
 NIDZARU_LOG_INLINE uint64_t nidzaru_log_clock(void) {
     struct timespec now = {0, 0};
 #ifdef CLOCK_MONOTONIC
-    clock_gettime(CLOCK_MONOTONIC, &now);
+    clock_gettime(NIDZARU_LOG_CLOCK, &now);
 #endif
     return NIDZARU_LOG_CAST(uint64_t, now.tv_sec) * 1000000000u + NIDZARU_LOG_CAST(uint64_t, now.tv_nsec);
 }
@@ -279,6 +289,13 @@ NIDZARU_LOG_INLINE void nidzaru_log_end_refused(nidzaru_log *log, uint64_t numbe
     log->refused++;
 }
 
+/* After a write that did nothing, such as a push onto a full queue or a compare-and-set that failed. It is left out of the log. */
+NIDZARU_LOG_INLINE void nidzaru_log_end_no_effect(nidzaru_log *log) {
+    log->unpaired += log->under_way.kind != NIDZARU_LOG_WRITE;
+    log->under_way.kind = NIDZARU_LOG_NOTHING;
+    nidzaru_log_set_turn(log, log->turn == NIDZARU_LOG_LEFT ? NIDZARU_LOG_LEFT : log->turn + 1);
+}
+
 /* Before a read. */
 NIDZARU_LOG_INLINE void nidzaru_log_begin_read(nidzaru_log *log) {
     nidzaru_log_record none = {0, 0};
@@ -329,24 +346,44 @@ NIDZARU_LOG_INLINE int nidzaru_log_fault(nidzaru_log *const *logs, size_t count,
     return 0;
 }
 
-/* Writes all logs as JSON Lines by beginning, the first of which is moment 0, and behind them their number. `limit` is the number of
- * writes before the first that may be refused, or 0 where none ever is. Nothing is written where a log lost an operation. */
-NIDZARU_LOG_CHECKED int nidzaru_log_merge(FILE *to, nidzaru_log *const *logs, size_t count, nidzaru_log_record opening, uint64_t limit) {
-    uint64_t operations = 0, zero;
-    int fault = nidzaru_log_fault(logs, count, limit);
-    if (fault) return fault;
-    for (size_t at = 0; at < count; at++) logs[at]->merged = 0;
+/* Writes the header of a log. `limit` is the number of writes before the first that may be refused, or 0 where none ever is. */
+NIDZARU_LOG_INLINE void nidzaru_log_header(FILE *to, nidzaru_log_record opening, uint64_t limit) {
     fprintf(to, "{\"kind\":\"lines\",\"opening\":[%" PRIu64 ",%" PRIu64 "]", opening.number, opening.hash);
     if (limit) fprintf(to, ",\"limit\":%" PRIu64, limit);
     fputs("}\n", to);
-    nidzaru_log *first = nidzaru_log_first(logs, count);
-    zero = first ? nidzaru_log_next(first)->begin : 0;
-    for (; first; first = nidzaru_log_first(logs, count)) {
+}
+
+/* Writes the operations of all logs by beginning, with times from this one on, and answers how many there are. */
+NIDZARU_LOG_INLINE uint64_t nidzaru_log_put_all(FILE *to, nidzaru_log *const *logs, size_t count, uint64_t zero) {
+    uint64_t operations = 0;
+    for (nidzaru_log *first = nidzaru_log_first(logs, count); first; first = nidzaru_log_first(logs, count)) {
         nidzaru_log_put(to, first, zero);
         first->merged++;
         operations++;
     }
-    fprintf(to, "{\"kind\":\"done\",\"ops\":%" PRIu64 "}\n", operations);
+    return operations;
+}
+
+/* Writes the lines of all logs alone, by beginning and with the clock's own times, so that those of several processes can be joined. A limit
+ * is the header's. Nothing is written where a log lost an operation. */
+NIDZARU_LOG_CHECKED int nidzaru_log_lines(FILE *to, nidzaru_log *const *logs, size_t count) {
+    int fault = nidzaru_log_fault(logs, count, 1);
+    if (fault) return fault;
+    for (size_t at = 0; at < count; at++) logs[at]->merged = 0;
+    nidzaru_log_put_all(to, logs, count, 0);
+    return fflush(to) || ferror(to) ? NIDZARU_LOG_STREAM : 0;
+}
+
+/* Writes all logs as JSON Lines by beginning, the first of which is moment 0, and behind them their number. The limit is the header's.
+ * Nothing is written where a log lost an operation. */
+NIDZARU_LOG_CHECKED int nidzaru_log_merge(FILE *to, nidzaru_log *const *logs, size_t count, nidzaru_log_record opening, uint64_t limit) {
+    const nidzaru_log *first;
+    int fault = nidzaru_log_fault(logs, count, limit);
+    if (fault) return fault;
+    for (size_t at = 0; at < count; at++) logs[at]->merged = 0;
+    nidzaru_log_header(to, opening, limit);
+    first = nidzaru_log_first(logs, count);
+    fprintf(to, "{\"kind\":\"done\",\"ops\":%" PRIu64 "}\n", nidzaru_log_put_all(to, logs, count, first ? nidzaru_log_next(first)->begin : 0));
     return fflush(to) || ferror(to) ? NIDZARU_LOG_STREAM : 0;
 }
 

@@ -24,19 +24,22 @@ static void close_both(void) {
     check(!one.operations && !two.operations, "a closed log has no memory");
 }
 
-/* What the merge writes stands in `text`; answers its status. */
-static int merge(uint64_t limit) {
+/* What is written stands in `text`; answers the status. */
+static int put(int lines, uint64_t limit) {
     FILE *to = tmpfile();
     size_t size;
     int status;
+    nidzaru_log_record held = nidzaru_log_record_of(opening[0], opening, sizeof opening);
     check(to != NULL, "a file for the text");
-    status = nidzaru_log_merge(to, logs, 2, nidzaru_log_record_of(opening[0], opening, sizeof opening), limit);
+    status = lines ? nidzaru_log_lines(to, logs, 2) : nidzaru_log_merge(to, logs, 2, held, limit);
     rewind(to);
     size = fread(text, 1, sizeof text - 1, to);
     text[size] = 0;
     fclose(to);
     return status;
 }
+
+static int merge(uint64_t limit) { return put(0, limit); }
 
 static void write_one(nidzaru_log *log, const uint64_t *item) {
     nidzaru_log_begin_write(log, item[0], item, 2 * sizeof *item);
@@ -82,9 +85,35 @@ static void check_text(void) {
               "the lines by beginning: an unfinished write is there, an unfinished read isn't");
         check(!strncmp(text, "{\"kind\":\"lines\",\"opening\":[0,", 29) && strstr(text, "],\"limit\":4}\n"), "the header");
     }
+    check(put(1, 0) == 0 && !strcmp(text,
+                                    "{\"who\":5,\"kind\":\"read\",\"begin\":100,\"end\":103,\"record\":[0,9]}\n"
+                                    "{\"who\":3,\"kind\":\"write\",\"begin\":102,\"end\":109,\"record\":[1,9]}\n"
+                                    "{\"who\":5,\"kind\":\"refused\",\"begin\":105,\"end\":106,\"record\":[1,9]}\n"
+                                    "{\"who\":3,\"kind\":\"write\",\"begin\":120,\"end\":null,\"record\":[2,9]}\n"),
+          "the lines alone, with the clock's own times");
     close_both();
     open_both(0);
+    check(put(1, 0) == 0 && !text[0], "no lines");
     check(merge(0) == 0 && !strcmp(strchr(text, '\n'), "\n{\"kind\":\"done\",\"ops\":0}\n"), "logs without operations");
+    close_both();
+}
+
+/* A write that did nothing takes no room, and is in no log. */
+static void check_no_effect(void) {
+    open_both(1);
+    for (int again = 0; again < 3; again++) {
+        nidzaru_log_begin_write(&one, second[0], second, sizeof second);
+        nidzaru_log_end_no_effect(&one);
+    }
+    check(!nidzaru_log_is_full(&one) && one.turn == 3, "a write without an effect takes no room, and a turn");
+    write_one(&one, first);
+    check(merge(0) == 0 && strstr(text, "\"record\":[1,") && !strstr(text, "\"record\":[2,") && strstr(text, "\"ops\":1}"),
+          "a write without an effect is left out");
+    close_both();
+    open_both(4);
+    nidzaru_log_begin_read(&one);
+    nidzaru_log_end_no_effect(&one);
+    check(merge(0) == NIDZARU_LOG_UNPAIRED && put(1, 0) == NIDZARU_LOG_UNPAIRED && !text[0], "a read that ends without an effect");
     close_both();
 }
 
@@ -95,6 +124,7 @@ static void check_full(void) {
     check(nidzaru_log_is_full(&one) && merge(0) == 0, "a log that is full has lost nothing");
     read_one(&one, first);
     check(merge(0) == NIDZARU_LOG_FULL && !text[0], "a log that lost an operation isn't merged");
+    check(put(1, 0) == NIDZARU_LOG_FULL && !text[0], "nor written as lines");
     close_both();
     check(nidzaru_log_open(&one, 0, SIZE_MAX / 2) == NIDZARU_LOG_NO_MEMORY, "room that there isn't");
 }
@@ -154,11 +184,16 @@ static void check_stream(void) {
     open_both(1);
     check(nidzaru_log_merge(full, logs, 2, nidzaru_log_record_of(0, opening, sizeof opening), 0) == NIDZARU_LOG_STREAM, "a full disk");
     fclose(full);
+    write_one(&one, first);
+    full = fopen("/dev/full", "w");
+    check(full && nidzaru_log_lines(full, logs, 2) == NIDZARU_LOG_STREAM, "lines onto a full disk");
+    if (full) fclose(full);
     close_both();
 }
 
 int main(void) {
     check_text();
+    check_no_effect();
     check_full();
     check_pairs();
     check_times();

@@ -132,7 +132,7 @@ JEPSEN = {
     "long_number": (jepsen("0 invoke write " + "7" * 5000), "line 1: a number that is too large"),
     "deep": (jepsen("0 invoke write 1") + "[" * 3000, "line 2: nested too deep"),
     "bytes": (b"; a\n; \xff\n", "line 2: this isn't UTF-8"),
-    "half": ('{:type :invoke, :f :write, :value "\\ud800", :process 0}', "line 1: a text with half a letter"),
+    "half": (jepsen("1 invoke write 3", '0 invoke write "\\ud800"'), "line 2: a text with half a letter"),
     "other_kind": (jepsen("0 invoke write 3", "0 ok read 3"), "line 2: a read ends the write of line 1"),
     "other_kind_fails": (jepsen("0 invoke write 3", "0 fail read nil"), "line 2: a read ends the write of line 1"),
     "other_kind_unknown": (jepsen("0 invoke read nil", "0 info write nil"), "line 2: a write ends the read of line 1"),
@@ -153,6 +153,15 @@ JEPSEN = {
     ),
     "other_value": (jepsen("0 invoke write 3", "0 ok write 4"), "line 2: this write ends with another value than that of line 1"),
     "other_part": (jepsen("0 invoke write [0 [nil 3]]", "0 ok write [0 [1 4]]"), "line 2: this write ends with another value than that of line 1"),
+    "no_list": (jepsen("0 invoke write 3", "0 ok write [3 4 5]"), "line 2: this write ends with another value than that of line 1"),
+    "long_lists": (
+        jepsen(f"0 invoke write {[7] * 64}".replace(",", ""), f"1 invoke write {[7] * 65}".replace(",", "")),
+        {"log": log("lawful", f"0 write 0 null {[7] * 64}".replace(", ", ","), f'1 write 1 null "{[7] * 65}"'.replace(",", ""))},
+    ),
+    "one_unfinished_version": (
+        jepsen("1 invoke write [0 [nil 3]]", "4 invoke read [0 nil]", "4 ok read [0 [2 3]]", "4 invoke read [0 nil]", "4 ok read [0 [1 3]]"),
+        {"0": log("unlawful unwritten 4", "1 write 0 null [2,3]", "4 read 1 2 [2,3]", "4 read 3 4 [1,3]")},
+    ),
     "shorter": (jepsen("0 invoke write [0 [nil 3]]", "0 ok write [0 [1]]"), "line 2: this write ends with another value than that of line 1"),
     "versions": (
         jepsen("1 invoke write [0 [nil 3]]", "1 ok write [0 [1 3]]", "2 invoke read [0 [nil nil]]", "2 ok read [0 [1 3]]",
@@ -268,7 +277,7 @@ PORCUPINE = {
     "endless": (operation(0, "put 1e999", 0, 5), "line 1: no JSON, or a number that is too large"),
     "infinite": (operation(0, "put Infinity", 0, 5), "line 1: no JSON, or a number that is too large"),
     "deep": ('{"a":' + "[" * 100000 + "\n", "line 1: nested too deep"),
-    "half": (operation(0, 'put "\\ud800"', 0, 5), "line 1: a text with half a letter"),
+    "half": (operation(1, "put 3", 0, 5) + operation(0, 'put "\\ud800"', 0, 5), "line 2: a text with half a letter"),
     "maps": (
         operation(0, 'put {"a":1,"b":[2,null]}', 0, 5) + operation(1, "get", 6, 7, '{"Value":{"b":[2,null],"a":1}}'),
         {"only": log("lawful", '0 write 0 5 "{\\"a\\" 1, \\"b\\" [2 nil]}"', '1 read 6 7 "{\\"a\\" 1, \\"b\\" [2 nil]}"')},

@@ -85,6 +85,17 @@ PLANTED = [
     ("bytes that aren't UTF-8", "lines.py", "read.decode()", 'read.decode(errors="replace")', "jepsen_bytes"),
     ("half a letter", "lines.py", "text.encode()", "", "jepsen_half"),
     ("an opening that isn't heard", "lines.py", "history.opening = words.opening", "pass", "jepsen_opening"),
+    ("a begin that isn't widened", "join.py", 'row["begin"] = max(0, row["begin"] - skew)', "pass", "joined"),
+    ("an end that isn't widened", "join.py", 'min(lines.GREATEST, row["end"] + skew)', 'row["end"]', "joined"),
+    ("a time below 0", "join.py", 'max(0, row["begin"] - skew)', 'row["begin"] - skew', "joined"),
+    ("a time beyond 64 bits", "join.py", 'min(lines.GREATEST, row["end"] + skew)', 'row["end"] + skew', "joined"),
+    ("a first file that is widened", "join.py", "if not is_exact:", "if True:", "joined"),
+    ("tasks that overlap themselves", "join.py", 'row["who"] = next(numbers)', "pass", "joined"),
+    ("tasks that touch themselves", "join.py", 'row["begin"] <= before["end"]', 'row["begin"] < before["end"]', "joined"),
+    ("tasks of two files", "join.py", "if owners.setdefault(who, it.path) != it.path:", "if False:", "joined"),
+    ("headers that differ", "join.py", "if len(openings) != 1 or", "if not openings or", "joined"),
+    ("a file that was cut off", "join.py", 'if row.get("ops") != len(self.rows):', "if False:", "joined"),
+    ("lines as they come", "join.py", 'key=lambda row: row["begin"]', 'key=lambda row: row["who"]', "joined"),
     ("a put that failed", "porcupine.py", 'or it.get("Error") or not it.get("Revision"):', "or False:", "porcupine_etcd_failed"),
     ("a put without its revision", "porcupine.py", 'return [[it["Revision"], value[1]]]', "return [[None, value[1]]]", "porcupine_etcd"),
     ("a range of several keys", "porcupine.py", 'if options.get("End") or it["Range"].get("Revision"):', "if False:", "porcupine_etcd_counted"),
@@ -92,9 +103,18 @@ PLANTED = [
 ]
 
 
-def passes(folder, names):
-    done = subprocess.run([sys.executable, f"{TOP}/tests/programs/converters.py", "--tools", folder, *names], capture_output=True, text=True, check=False)
+def run(*words):
+    done = subprocess.run([sys.executable, *words], capture_output=True, text=True, check=False)
     return done.returncode == 0, done.stdout + done.stderr
+
+
+def passes(folder, names):
+    """Whether these histories pass, and, if it is among them, what is joined."""
+    histories = [name for name in names if name != "joined"]
+    well, said = run(f"{TOP}/tests/programs/converters.py", "--tools", folder, *histories) if histories else (True, "")
+    if well and "joined" in names:
+        return run(f"{TOP}/tests/programs/joined.py", "--tool", f"{folder}/join.py", "--logs", "3")
+    return well, said
 
 
 def why_not_refused(folder, name, old, new, names):

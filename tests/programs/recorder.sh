@@ -38,11 +38,11 @@ judges() {
 }
 built_word=${built:+built}
 
-# Records a register by a program with these words, and judges the log.
+# Records a register by a command, and judges the log.
 records() {
     name=$1 wants=$2
     shift 2
-    if ! timeout 120 "$@" >"$room/log" 2>"$room/err"; then
+    if ! "$@" >"$room/log" 2>"$room/err"; then
         fail "$name" "it wasn't recorded: $(head -n 1 "$room/err")"
     elif [ "$wants" = lawful ]; then
         judges "$name is lawful" '^lawful$' 0
@@ -126,27 +126,45 @@ test_in_c() {
         return
     fi
     if "$c" -std=c11 -D_POSIX_C_SOURCE=200809L -O2 $strict examples/c/recorder.c -o "$room/example" >"$room/said" 2>&1; then
-        records "examples/c/recorder.c, mended ($c)" lawful "$room/example" "$operations" mended
+        records "examples/c/recorder.c, mended ($c)" lawful timeout 120 "$room/example" "$operations" mended
         is_condemned "examples/c/recorder.c ($c)" 5 "$room/example" $((operations * 8))
     else
         fail "examples/c/recorder.c ($c)" "it wasn't built: $(head -n 3 "$room/said" | tr '\n' ' ')"
     fi
     for register in seqlock atomic ${library:+cell triple board triple_board}; do
-        records "$register ($c)" lawful "$room/recorded" "$register" "$operations"
+        records "$register ($c)" lawful timeout 120 "$room/recorded" "$register" "$operations"
     done
     for register in torn early last; do
-        records "$register ($c)" refused "$room/recorded" "$register" "$operations"
+        records "$register ($c)" refused timeout 120 "$room/recorded" "$register" "$operations"
     done
     if "$c" -std=c11 -D_GNU_SOURCE -O2 -DNIDZARU_LOG_FENCE=0 $strict c/tests/recorded.c $library -o "$room/unfenced" >"$room/said" 2>&1; then
         needs_fence "behind ($c)" "$room/recorded" "behind $operations" "$room/unfenced" "behind $operations"
     else
         fail "c/tests/recorded.c, without the fence ($c)" "it wasn't built: $(head -n 3 "$room/said" | tr '\n' ' ')"
     fi
+    test_processes
 }
 
 judges_by_stub() {
     built=$room/stub built_word=built
     judges "$@"
+}
+
+# Records two processes, and prints the log. The lines of the right ones stay.
+both_lines() {
+    folder=$room/${2:-own}
+    mkdir -p "$folder" && timeout 120 "$room/processes" "$folder" "$@" && cat "$folder/writes.jsonl" "$folder/reads.jsonl"
+}
+
+# Two processes, whose lines are joined by `cat` and by the tool.
+test_processes() {
+    if ! "$c" -std=c11 -O2 $strict c/tests/processes.c -o "$room/processes" >"$room/said" 2>&1; then
+        fail "c/tests/processes.c ($c)" "it wasn't built: $(head -n 3 "$room/said" | tr '\n' ' ')"
+        return
+    fi
+    records "two processes ($c)" lawful both_lines "$operations"
+    records "two processes, one late ($c)" refused both_lines "$operations" late
+    records "two processes, by join.py ($c)" lawful python3 tools/convert/join.py "$room/own/writes.jsonl" "$room/own/reads.jsonl"
 }
 
 # What has to be seen in a log that was recorded of a right register.
@@ -195,8 +213,8 @@ test_in_rust() {
     else
         fail "rust/behind.rs" "it wasn't built: $(head -n 3 "$room/said" | tr '\n' ' ')"
     fi
-    records "record_seqlock.rs" lawful "$room/seqlock" "$operations"
-    records "record_seqlock.rs, torn" refused "$room/seqlock" "$operations" torn
+    records "record_seqlock.rs" lawful timeout 120 "$room/seqlock" "$operations"
+    records "record_seqlock.rs, torn" refused timeout 120 "$room/seqlock" "$operations" torn
 }
 
 test_crate() {
@@ -206,8 +224,8 @@ test_crate() {
         fail "record_board.rs" "it wasn't built: $(grep -m 3 error "$room/said" | tr '\n' ' ')"
         return
     fi
-    records "a board in Rust" lawful "$room/target/release/examples/record_board" "$operations"
-    records "a register in Rust" lawful "$room/target/release/examples/record_board" "$operations" register
+    records "a board in Rust" lawful timeout 120 "$room/target/release/examples/record_board" "$operations"
+    records "a register in Rust" lawful timeout 120 "$room/target/release/examples/record_board" "$operations" register
 }
 
 # Takes over the sums of a script that ends with them.
@@ -243,6 +261,7 @@ else
         counts "fsr order${word:+ $word} against all orders" python3 tests/programs/reference/compare_small_lines.py --logs 1000 -- $built $word
     done
     counts "converters" python3 tests/programs/converters.py
+    counts "join.py" python3 tests/programs/joined.py
     for planted in log,jepsen_keys.edn verdict,jepsen_keys.edn refusal,jepsen_cas.edn history,jepsen_cas.edn; do
         catches "a ${planted%,*} that isn't wanted" "${planted#*,}\|not compared" \
             counts converters python3 tests/programs/converters.py --planted "${planted%,*}" "${planted#*,}"

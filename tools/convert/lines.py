@@ -225,8 +225,8 @@ def is_unicode(record):
 
 
 def file_name(key):
-    """The file of a key: each byte that isn't a letter, a figure, `-`, `.` or `_` is one of these."""
-    return re.sub(r"[^\w.-]", "_", str(key).strip('"')) + ".jsonl"
+    """The file of a key, in which what isn't a letter, a figure, `-`, `.` or `_` is `_`; without keys it is `log.jsonl`."""
+    return ("log" if key is None else re.sub(r"[^\w.-]", "_", key.strip('"'))) + ".jsonl"
 
 
 def write_logs(history, folder):

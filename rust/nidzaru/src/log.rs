@@ -23,8 +23,8 @@
 //!         }
 //!     });
 //! });
-//! let mut lines = Vec::new();
-//! assert_eq!(merge(&mut lines, &logs, Record::of_words(&[0]), None)?, 2000);
+//! let mut text = Vec::new();
+//! assert_eq!(merge(&mut text, &logs, Record::of_words(&[0]), None)?, 2000);
 //! # Ok::<(), Box<dyn std::error::Error>>(())
 //! ```
 //!
@@ -363,6 +363,18 @@ impl Log {
         given
     }
 
+    /// Records a call that writes, or does nothing, such as a push onto a full queue or a compare-and-set that failed: then it is left out.
+    #[inline]
+    pub fn write_if<T>(&mut self, record: Record, call: impl FnOnce() -> T, took_effect: impl FnOnce(&T) -> bool) -> T {
+        let (begin, given, end) = self.run_write(record, call);
+        if took_effect(&given) {
+            self.put(Operation { kind: Kind::Write, begin, end, record });
+        } else {
+            self.take_turn();
+        }
+        given
+    }
+
     /// Records a call that reads; `record` is that of what it gave, and is computed after the stamp of the end. A call that panics is left
     /// out.
     #[inline]
@@ -401,9 +413,13 @@ impl Log {
         } else {
             self.operations.push(operation);
         }
+        self.take_turn();
+    }
+
+    fn take_turn(&self) {
         if let Some(pace) = &self.pace {
-            let turn = if self.is_full() { LEFT } else { pace.turn().load(Relaxed) + 1 };
-            pace.turn().store(turn, Relaxed);
+            let turn = pace.turn().load(Relaxed);
+            pace.turn().store(if turn == LEFT || self.is_full() { LEFT } else { turn + 1 }, Relaxed);
         }
     }
 
@@ -438,20 +454,45 @@ fn moment_after(last_end: u64, mut clock: impl FnMut() -> u64) -> u64 {
     }
 }
 
+/// Writes the header of a log. `limit` is the number of writes before the first that may be refused.
+pub fn header(to: &mut impl Write, opening: Record, limit: Option<NonZeroU64>) -> io::Result<()> {
+    write!(to, "{{\"kind\":\"lines\",\"opening\":[{},{}]", opening.number, opening.hash)?;
+    match limit {
+        Some(limit) => writeln!(to, ",\"limit\":{limit}}}"),
+        None => writeln!(to, "}}"),
+    }
+}
+
+/// Writes the lines of all logs alone, by beginning and with the clock's own times, and answers how many there are. So `cat` joins a header and
+/// the lines of several processes of a machine, whose threads all have different numbers. (Elsewhere than on x86-64 each process has a clock
+/// of its own.)
+pub fn lines(to: &mut impl Write, logs: &[Log]) -> Result<u64, MergeError> {
+    if let Some(error) = logs.iter().find_map(|log| log.fault(Some(NonZeroU64::MIN))) {
+        return Err(error);
+    }
+    let count = put_all(to, logs, 0)?;
+    to.flush()?;
+    Ok(count)
+}
+
 /// Writes all logs as JSON Lines by beginning, the first of which is moment 0, and behind them their number, which is the answer.
-/// `limit` is the number of writes before the first that may be refused.
+/// `limit` is that of the [`header`].
 pub fn merge(to: &mut impl Write, logs: &[Log], opening: Record, limit: Option<NonZeroU64>) -> Result<u64, MergeError> {
     if let Some(error) = logs.iter().find_map(|log| log.fault(limit)) {
         return Err(error);
     }
-    write!(to, "{{\"kind\":\"lines\",\"opening\":[{},{}]", opening.number, opening.hash)?;
-    match limit {
-        Some(limit) => writeln!(to, ",\"limit\":{limit}}}")?,
-        None => writeln!(to, "}}")?,
-    }
-    let (mut places, mut count, mut zero) = (vec![0; logs.len()], 0, None);
+    header(to, opening, limit)?;
+    let first = first_of(logs, &vec![0; logs.len()]);
+    let count = put_all(to, logs, first.map_or(0, |(_, line)| line.begin))?;
+    writeln!(to, "{{\"kind\":\"done\",\"ops\":{count}}}")?;
+    to.flush()?;
+    Ok(count)
+}
+
+/// Writes the operations of all logs by beginning, with times from this one on, and answers how many there are.
+fn put_all(to: &mut impl Write, logs: &[Log], zero: u64) -> io::Result<u64> {
+    let (mut places, mut count) = (vec![0; logs.len()], 0);
     while let Some((at, line)) = first_of(logs, &places) {
-        let zero = *zero.get_or_insert(line.begin);
         let (who, begin, record) = (logs[at].who, line.begin - zero, line.record);
         write!(to, "{{\"who\":{who},\"kind\":\"{}\",\"begin\":{begin},\"end\":", line.kind)?;
         match line.end {
@@ -462,8 +503,6 @@ pub fn merge(to: &mut impl Write, logs: &[Log], opening: Record, limit: Option<N
         places[at] += 1;
         count += 1;
     }
-    writeln!(to, "{{\"kind\":\"done\",\"ops\":{count}}}")?;
-    to.flush()?;
     Ok(count)
 }
 
@@ -482,12 +521,12 @@ mod tests {
     const SECOND: Record = Record { number: 2, hash: 9 };
 
     fn text(logs: &[Log], limit: Option<NonZeroU64>) -> Result<String, MergeError> {
-        let mut lines = Vec::new();
-        merge(&mut lines, logs, OPENING, limit).map_err(|error| {
-            assert!(lines.is_empty(), "something was written");
+        let mut written = Vec::new();
+        merge(&mut written, logs, OPENING, limit).map_err(|error| {
+            assert!(written.is_empty(), "something was written");
             error
         })?;
-        Ok(String::from_utf8(lines).unwrap())
+        Ok(String::from_utf8(written).unwrap())
     }
 
     /// Sets the times of an operation, so that the text is known.
@@ -514,11 +553,33 @@ mod tests {
             {\"who\":3,\"kind\":\"write\",\"begin\":20,\"end\":null,\"record\":[2,9]}\n\
             {\"kind\":\"done\",\"ops\":4}\n";
         assert_eq!(text(&logs, NonZeroU64::new(4)).unwrap(), wanted);
+        let mut alone = Vec::new();
+        assert_eq!(lines(&mut alone, &logs).unwrap(), 4);
+        let wanted = "{\"who\":5,\"kind\":\"read\",\"begin\":100,\"end\":103,\"record\":[0,9]}\n\
+            {\"who\":3,\"kind\":\"write\",\"begin\":102,\"end\":109,\"record\":[1,9]}\n\
+            {\"who\":5,\"kind\":\"refused\",\"begin\":105,\"end\":106,\"record\":[1,9]}\n\
+            {\"who\":3,\"kind\":\"write\",\"begin\":120,\"end\":null,\"record\":[2,9]}\n";
+        assert_eq!(String::from_utf8(alone).unwrap(), wanted);
     }
 
     #[test]
     fn no_logs() {
         assert_eq!(text(&[], None).unwrap(), "{\"kind\":\"lines\",\"opening\":[0,9]}\n{\"kind\":\"done\",\"ops\":0}\n");
+    }
+
+    #[test]
+    fn a_write_without_an_effect_is_left_out() {
+        let [mut log, _] = paced(1, 20, 20);
+        for _ in 0..3 {
+            assert_eq!(log.write_if(SECOND, || Err::<(), _>("full"), Result::is_ok), Err("full"));
+        }
+        assert!(!log.is_full() && log.under_way.is_none());
+        assert_eq!(log.pace.as_ref().unwrap().turn().load(Relaxed), 3);
+        assert_eq!(log.write_if(FIRST, || Ok::<_, ()>(7), Result::is_ok), Ok(7));
+        assert_eq!(log.pace.as_ref().unwrap().turn().load(Relaxed), LEFT);
+        log.write_if(SECOND, || false, |it| *it);
+        assert_eq!(log.pace.as_ref().unwrap().turn().load(Relaxed), LEFT);
+        assert!(text(&[log], None).unwrap().ends_with(",\"record\":[1,9]}\n{\"kind\":\"done\",\"ops\":1}\n"));
     }
 
     #[test]
@@ -529,7 +590,10 @@ mod tests {
         assert!(log.is_full());
         log.read(|| FIRST, |it| *it);
         log.read(|| FIRST, |it| *it);
-        let error = text(&[Log::new(6, 0).unwrap(), log], None).unwrap_err();
+        let logs = [Log::new(6, 0).unwrap(), log];
+        let mut nothing = Vec::new();
+        assert!(matches!(lines(&mut nothing, &logs), Err(MergeError::Full { who: 7, lost: 2 })) && nothing.is_empty());
+        let error = text(&logs, None).unwrap_err();
         assert_eq!(error.to_string(), "the log of thread 7 had no room for 2 operations");
         assert_eq!(Log::new(0, usize::MAX).unwrap_err(), NoRoom);
     }
@@ -698,7 +762,8 @@ mod tests {
         let mut short = [0u8; 10];
         let told = merge(&mut short.as_mut_slice(), &[], OPENING, None);
         assert!(matches!(told, Err(MergeError::Stream(_))));
-        let told = merge(&mut Late, &[], OPENING, None);
-        assert!(matches!(told, Err(MergeError::Stream(_))));
+        for told in [merge(&mut Late, &[], OPENING, None), lines(&mut Late, &[])] {
+            assert!(matches!(told, Err(MergeError::Stream(_))));
+        }
     }
 }

@@ -1,0 +1,155 @@
+"""What tools/convert/join.py makes of several files: texts and refusals by hand, and random logs of right registers by two clocks.
+
+    joined.py [--logs NUMBER] [--tool FILE]
+
+With --skew the log has to be lawful whatever the clocks' difference is, each file first; without, some log has to be unlawful. A read that
+is older than the difference has to be refused all the same. The last line says what was compared.
+"""
+
+import argparse
+import json
+import os
+import random
+import subprocess
+import sys
+import tempfile
+
+TOP = os.path.dirname(os.path.dirname(os.path.dirname(os.path.realpath(__file__))))
+sys.path.insert(0, f"{TOP}/tests/programs/reference")
+import lines  # noqa: E402
+
+HEAD = '{"kind":"lines","opening":0}\n'
+SKEW = 40
+
+
+def row(who, kind, begin, end, record):
+    return json.dumps({"who": who, "kind": kind, "begin": begin, "end": end, "record": record}, separators=(",", ":")) + "\n"
+
+
+def done(ops):
+    return f'{{"kind":"done","ops":{ops}}}\n'
+
+
+WRITES = row(0, "write", 100, 110, 1) + row(0, "write", 200, 210, 2)
+READS = row(1, "read", 150, 160, 1) + row(1, "read", 190, 195, 1) + row(1, "read", 600, 610, 2)
+# The words, the files' texts, and what has to come: a text, or what stands behind `join: FILE` on standard error.
+BY_HAND = [
+    ([], [HEAD + WRITES + done(2), READS], HEAD + row(0, "write", 100, 110, 1) + row(1, "read", 150, 160, 1) + row(1, "read", 190, 195, 1)
+     + row(0, "write", 200, 210, 2) + row(1, "read", 600, 610, 2) + done(5)),
+    (["--opening", "[0,7]", "--limit", "3"], [WRITES, "\n"], '{"kind":"lines","opening":[0,7],"limit":3}\n' + WRITES + done(2)),
+    ([], ['{"kind":"lines","opening":"a","limit":5}\n', WRITES], '{"kind":"lines","opening":"a","limit":5}\n' + WRITES + done(2)),
+    # the reads at 150 and 190 overlap by now: the second gets a task of its own; the writes stay
+    (["--skew", "40"], [HEAD + WRITES, READS], HEAD + row(0, "write", 100, 110, 1) + row(1, "read", 110, 200, 1) + row(2, "read", 150, 235, 1)
+     + row(0, "write", 200, 210, 2) + row(1, "read", 560, 650, 2) + done(5)),
+    # the second touches the first by now
+    (["--skew", "40"], [HEAD, row(1, "read", 150, 160, 0) + row(1, "read", 240, 250, 0)],
+     HEAD + row(1, "read", 110, 200, 0) + row(0, "read", 200, 290, 0) + done(2)),
+    # the other file first: its times stay
+    (["--skew", "40"], [READS, HEAD + WRITES], HEAD + row(0, "write", 60, 150, 1) + row(1, "read", 150, 160, 1) + row(0, "write", 160, 250, 2)
+     + row(1, "read", 190, 195, 1) + row(1, "read", 600, 610, 2) + done(5)),
+    (["--skew", "40"], [HEAD, row(0, "write", 20, 2**64 - 30, 1) + row(1, "write", 50, None, 2)],
+     HEAD + row(0, "write", 0, 2**64 - 1, 1) + row(1, "write", 10, None, 2) + done(2)),
+    ([], [WRITES, READS], ": no file has a header: --opening says what the register held"),
+    ([], [HEAD + WRITES, '{"kind":"lines","opening":1}\n' + READS], ": the headers differ"),
+    ([], [HEAD + WRITES, row(0, "read", 600, 610, 2)], ": its task 0 is in "),
+    ([], [HEAD + WRITES + done(1)], ":4: there are 2 operations"),
+    ([], [HEAD + WRITES + HEAD], ":4: a header behind the first line"),
+    ([], [HEAD + "{\n"], ":2: not JSON"),
+    ([], [HEAD + "7\n"], ":2: this is no object"),
+    ([], [HEAD + '{"who":0}\n'], ":2: this is no operation"),
+]
+
+
+class Room:
+    def __init__(self, folder, tool):
+        self.folder, self.tool = folder, tool
+
+    def join(self, words, texts):
+        paths = [f"{self.folder}/{at}" for at in range(len(texts))]
+        for path, text in zip(paths, texts):
+            with open(path, "w", encoding="utf-8") as file:
+                file.write(text)
+        run = subprocess.run([sys.executable, self.tool, *words, *paths], capture_output=True, text=True, check=False)
+        return run.returncode, run.stdout, run.stderr
+
+    def verdict(self, words, texts):
+        status, out, err = self.join(words, texts)
+        if status:
+            return err
+        try:
+            return lines.answer(lines.read_log(out.splitlines()))[1].split("\n")[0]
+        except lines.Refused as why:
+            return str(why)
+
+
+def faults_by_hand(room):
+    faults = []
+    for words, texts, wanted in BY_HAND:
+        status, out, err = room.join(words, texts)
+        if wanted.startswith("{"):
+            if (status, out, err) != (0, wanted, ""):
+                faults.append(f"{words} of {texts}: status {status}: {out}{err}")
+        elif status != 3 or out or wanted not in err or not err.startswith(f"join: {room.folder}/"):
+            faults.append(f"{words} of {texts}: status {status}: {out}{err}")
+    return faults
+
+
+def recorded(random_numbers, count=24):
+    """What four tasks of two machines did on a right register: by file, operations in true times."""
+    clock, held, files, free = 100, 0, ([], []), [0, 0, 0, 0]
+    for number in range(1, count + 1):
+        who = random_numbers.randrange(4)
+        effect = clock = clock + random_numbers.randint(1, 9)
+        begin = max(free[who] + 1, effect - random_numbers.randint(0, 6))
+        effect = clock = max(effect, begin)
+        end = free[who] = effect + random_numbers.randint(0, 6)
+        if random_numbers.random() < 0.5:
+            held = number
+            files[who % 2].append((who, "write", begin, end, number))
+        else:
+            files[who % 2].append((who, "read", begin, end, held))
+    return files
+
+
+def texts_of(files, difference):
+    """The files by clocks that differ by so much."""
+    first = "".join(row(*it) for it in sorted(files[0], key=lambda it: it[2]))
+    second = "".join(row(who, kind, begin + difference, end + difference, record) for who, kind, begin, end, record in sorted(files[1], key=lambda it: it[2]))
+    return [HEAD + first, second]
+
+
+def faults_of_random(room, number):
+    faults, unlawful = [], 0
+    for seed in range(number):
+        random_numbers = random.Random(seed)
+        texts = texts_of(recorded(random_numbers), random_numbers.choice((-SKEW, SKEW, random_numbers.randint(-SKEW, SKEW))))
+        unlawful += room.verdict([], texts).startswith("unlawful")
+        for order in (texts, texts[::-1]):
+            said = room.verdict(["--skew", str(SKEW)], order)
+            if said != "lawful":
+                faults.append(f"seed {seed}: {said}")
+    if not unlawful:
+        faults.append("each log is lawful without --skew as well")
+    old = [HEAD + WRITES, row(1, "read", 260, 270, 1)]
+    if not room.verdict(["--skew", "49"], old).startswith("unlawful crossed") or room.verdict(["--skew", "50"], old) != "lawful":
+        faults.append("a read that is 50 too old")
+    own = [row(1, "read", 200, 205, 2) + row(1, "read", 210, 215, 1), HEAD + WRITES]
+    if not room.verdict(["--skew", "40"], own).startswith("unlawful") or room.verdict(["--skew", "40"], own[::-1]) != "lawful":
+        faults.append("an order of its own that the first file keeps")
+    return faults
+
+
+def main():
+    parser = argparse.ArgumentParser()
+    parser.add_argument("--logs", type=int, default=25)
+    parser.add_argument("--tool", default=f"{TOP}/tools/convert/join.py")
+    words = parser.parse_args()
+    with tempfile.TemporaryDirectory() as folder:
+        room = Room(folder, words.tool)
+        faults = faults_by_hand(room) + faults_of_random(room, words.logs)
+    print("\n".join(faults or [f"{len(BY_HAND)} joins as by hand, and {words.logs} random logs by two clocks"]))
+    return 1 if faults else 0
+
+
+if __name__ == "__main__":
+    sys.exit(main())

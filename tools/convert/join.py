@@ -1,0 +1,128 @@
+#!/usr/bin/env python3
+"""Logs in JSON Lines of several processes or machines to one for `fsr order`, on standard output.
+
+    join.py [--opening RECORD] [--limit NUMBER] [--skew NS] FILE..
+
+Each file has the operations of tasks of its own, by one clock; a header and a last line may be there. The header that is written has the
+opening and the limit of a file's header, or those of the words, where the record is JSON. Operations stand by beginning.
+
+--skew NS: the clocks of two files differ by at most NS. The times of the first file stay, and intervals of all others are NS longer at both
+ends. An operation that then overlaps the one before it of its task gets a task of its own, since no interval can say both that it comes
+later and that another clock isn't that exact. So a task's own order is kept in the first file alone: join once for each file, that one
+first. A register is wrong if any of these logs is unlawful.
+
+Status 3: the files can't be joined; 5: one can't be read or written.
+"""
+
+import argparse
+import json
+import sys
+
+import lines
+
+
+class Operations:
+    """What a file has: its header, if there is one, and its operations."""
+
+    def __init__(self, path):
+        self.path, self.header, self.rows = path, None, []
+        for number, text in enumerate(lines.text_of_file(path).split("\n"), 1):
+            if text.strip():
+                self.add(number, self.row_of(number, text))
+
+    def row_of(self, number, text):
+        try:
+            row = json.loads(text)
+        except (ValueError, RecursionError):
+            raise lines.Refused(f"{self.path}:{number}", "not JSON") from None
+        if not isinstance(row, dict):
+            raise lines.Refused(f"{self.path}:{number}", "this is no object")
+        return row
+
+    def add(self, number, row):
+        where = f"{self.path}:{number}"
+        if row.get("kind") == "lines":
+            if number > 1:
+                raise lines.Refused(where, "a header behind the first line")
+            self.header = row
+        elif row.get("kind") == "done":
+            if row.get("ops") != len(self.rows):
+                raise lines.Refused(where, f"there are {len(self.rows)} operations")
+        elif lines.is_whole(row.get("who")) and lines.is_whole(row.get("begin")) and (row.get("end") is None or lines.is_whole(row["end"])):
+            self.rows.append(row)
+        else:
+            raise lines.Refused(where, "this is no operation")
+
+
+def widen(files, skew):
+    """Makes the intervals of these files longer; `numbers` are those of tasks that nobody has."""
+    numbers = lines.numbers_beside({row["who"] for it in files for row in it.rows})
+    for row, is_exact in [(row, at == 0) for at, it in enumerate(files) for row in it.rows]:
+        if not is_exact:
+            row["begin"] = max(0, row["begin"] - skew)
+            row["end"] = None if row["end"] is None else min(lines.GREATEST, row["end"] + skew)
+    for it in files[1:]:
+        last = {}
+        for row in it.rows:
+            who, before = row["who"], last.get(row["who"])
+            if before and (before["end"] is None or row["begin"] <= before["end"]):
+                row["who"] = next(numbers)
+            else:
+                last[who] = row
+
+
+def header_of(files, words):
+    headers = [it.header for it in files if it.header]
+    openings = {json.dumps(it.get("opening")) for it in headers}
+    limits = {it.get("limit") for it in headers}
+    if words.opening is not None:
+        openings = {json.dumps(words.opening)}
+    if words.limit is not None:
+        limits = {words.limit}
+    if len(openings) != 1 or len(limits) > 1:
+        raise lines.Refused(files[0].path, "the headers differ" if openings else "no file has a header: --opening says what the register held")
+    limit = next(iter(limits), None)
+    return {"kind": "lines", "opening": json.loads(*openings), **({} if limit is None else {"limit": limit})}
+
+
+def test_tasks(files):
+    owners = {}
+    for it in files:
+        for who in {row["who"] for row in it.rows}:
+            if owners.setdefault(who, it.path) != it.path:
+                raise lines.Refused(it.path, f"its task {who} is in {owners[who]} too")
+
+
+def joined(words):
+    files = [Operations(path) for path in words.files]
+    test_tasks(files)
+    header = header_of(files, words)
+    if words.skew is not None:
+        widen(files, words.skew)
+    rows = sorted((row for it in files for row in it.rows), key=lambda row: row["begin"])
+    return [header, *rows, {"kind": "done", "ops": len(rows)}]
+
+
+def main():
+    parser = argparse.ArgumentParser(description=__doc__, formatter_class=argparse.RawDescriptionHelpFormatter)
+    parser.add_argument("--opening", type=json.loads, metavar="RECORD")
+    parser.add_argument("--limit", type=int, metavar="NUMBER")
+    parser.add_argument("--skew", type=int, metavar="NS")
+    parser.add_argument("files", nargs="+", metavar="FILE")
+    words = parser.parse_args()
+    try:
+        for row in joined(words):
+            sys.stdout.write(json.dumps(row, separators=(",", ":")) + "\n")
+        sys.stdout.flush()
+    except lines.Refused as why:
+        print(f"join: {why.line}: {why}", file=sys.stderr)
+        return 3
+    except OSError as why:
+        print(f"join: {why.filename or 'a stream'}: {why.strerror}", file=sys.stderr)
+        sys.stdout = None
+        return 5
+    return 0
+
+
+if __name__ == "__main__":
+    sys.exit(main())
