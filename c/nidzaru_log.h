@@ -35,6 +35,9 @@
  * same for all processes of a machine. Several machines take NIDZARU_LOG_TSC 0 and a NIDZARU_LOG_CLOCK that they have in common, such as
  * CLOCK_REALTIME, and tools/convert/join.py makes intervals longer by what their clocks differ.
  *
+ * A log in a file, nidzaru_log_open_file(&log, who, room, path), keeps what its thread did if the program is killed. Another program opens
+ * it by nidzaru_log_open_left(&log, path) and merges it, or tools/convert/join.py reads it. (A machine that stops may lose it.)
+ *
  * A write stands in the log from its begin on: one that never returns is written without an end. A read that never returns is
  * left out. A log that has no room left counts what it lost, and then nothing is merged, since a write that is missing would
  * condemn whoever read it. `nidzaru_log_is_full` tells a thread when to stop.
@@ -77,6 +80,16 @@
 #define NIDZARU_LOG_CLOCK CLOCK_MONOTONIC
 #endif
 
+/* Logs in files need POSIX: with -std=c11 compile with -D_POSIX_C_SOURCE=200112L. */
+#if defined(_POSIX_C_SOURCE) && _POSIX_C_SOURCE >= 200112L
+#define NIDZARU_LOG_FILES 1
+#include <fcntl.h>
+#include <sys/mman.h>
+#include <unistd.h>
+#else
+#define NIDZARU_LOG_FILES 0
+#endif
+
 #ifdef __x86_64__
 #include <x86intrin.h>
 #endif
@@ -102,7 +115,8 @@ enum {
     NIDZARU_LOG_FULL = 2,      /* a log had no room for one of its operations */
     NIDZARU_LOG_UNPAIRED = 3,  /* an operation began within another of its thread, or ended and hadn't begun */
     NIDZARU_LOG_NO_LIMIT = 4,  /* a write was refused, and no limit was told */
-    NIDZARU_LOG_STREAM = 5     /* the stream took not all of it */
+    NIDZARU_LOG_STREAM = 5,    /* the stream took not all of it */
+    NIDZARU_LOG_NO_FILE = 6    /* a log's file can't be made, or isn't one */
 };
 
 enum { NIDZARU_LOG_NOTHING, NIDZARU_LOG_WRITE, NIDZARU_LOG_READ, NIDZARU_LOG_REFUSED };
@@ -116,40 +130,126 @@ typedef struct {
     nidzaru_log_record record;
 } nidzaru_log_operation;
 
-/* What one thread did. Its members are the recorder's own. */
-typedef struct nidzaru_log {
-    nidzaru_log_operation *operations;
-    size_t count, room, merged;
-    uint64_t who, lost, unpaired, refused, last_end;
-    nidzaru_log_operation under_way; /* `end` isn't known yet; NIDZARU_LOG_NOTHING where none is */
+/* What one thread did: this, and behind it its operations. In whatever moment a thread is killed, what it had ended is there, and so is the
+ * write that had begun: that one is under way if its place is the count. */
+typedef struct {
+    char magic[8];
+    uint64_t who, room, count, lost, unpaired, refused;
     uint64_t turn;                   /* how many operations ended, or NIDZARU_LOG_LEFT; other threads load it */
-    uint64_t reach, ahead;           /* the turn before which nobody has to be looked for, and how many it may be ahead */
+    nidzaru_log_operation under_way; /* `end` isn't known yet; NIDZARU_LOG_NOTHING where none is */
+    uint64_t place, apart[2];
+} nidzaru_log_state;
+
+/* The log of one thread. Its members are the recorder's own. */
+typedef struct nidzaru_log {
+    nidzaru_log_state *state;
+    nidzaru_log_operation *operations;
+    size_t merged, mapped; /* `mapped` is the size of a file in memory, or 0 */
+    uint64_t last_end;
+    uint64_t reach, ahead; /* the turn before which nobody has to be looked for, and how many it may be ahead */
     struct nidzaru_log *const *beside;
     size_t beside_count;
     char apart[64]; /* logs that lie side by side share no cache line that their threads store to */
 } nidzaru_log;
 
+#define NIDZARU_LOG_MAGIC "nidzaru\1"
 #define NIDZARU_LOG_LEFT UINT64_MAX
+
+/* The size of a state and so many operations, or 0 if no size can say it. */
+NIDZARU_LOG_INLINE size_t nidzaru_log_size(uint64_t room) {
+    size_t size = sizeof(nidzaru_log_operation);
+    return room > (SIZE_MAX - sizeof(nidzaru_log_state)) / size ? 0 : sizeof(nidzaru_log_state) + NIDZARU_LOG_CAST(size_t, room) * size;
+}
+
+NIDZARU_LOG_INLINE void nidzaru_log_take_block(nidzaru_log *log, void *block) {
+    log->state = NIDZARU_LOG_CAST(nidzaru_log_state *, block);
+    log->operations = NIDZARU_LOG_CAST(nidzaru_log_operation *, NIDZARU_LOG_CAST(void *, log->state + 1));
+}
+
+/* A new log in a block of this size. Every page is touched before the threads begin. */
+NIDZARU_LOG_INLINE void nidzaru_log_begin_block(nidzaru_log *log, void *block, size_t size, uint64_t who, uint64_t room) {
+    memset(block, 1, size);
+    nidzaru_log_take_block(log, block);
+    memset(log->state, 0, sizeof *log->state);
+    log->state->who = who;
+    log->state->room = room;
+    memcpy(log->state->magic, NIDZARU_LOG_MAGIC, sizeof log->state->magic);
+}
 
 /* A log of the thread `who` with room for so many operations. Threads have different numbers. */
 NIDZARU_LOG_CHECKED int nidzaru_log_open(nidzaru_log *log, uint64_t who, size_t room) {
+    size_t size = nidzaru_log_size(room);
+    void *block = size ? malloc(size) : NULL;
     memset(log, 0, sizeof *log);
-    if (room > SIZE_MAX / sizeof *log->operations) return NIDZARU_LOG_NO_MEMORY;
-    log->operations = NIDZARU_LOG_CAST(nidzaru_log_operation *, malloc(room ? room * sizeof *log->operations : 1));
-    if (!log->operations) return NIDZARU_LOG_NO_MEMORY;
-    memset(log->operations, 1, room * sizeof *log->operations); /* every page is there before the threads begin */
-    log->room = room;
-    log->who = who;
+    if (!block) return NIDZARU_LOG_NO_MEMORY;
+    nidzaru_log_begin_block(log, block, size, who, room);
     return 0;
 }
 
+#if NIDZARU_LOG_FILES
+/* Maps a file, and closes it. Answers the block, or nothing. */
+NIDZARU_LOG_INLINE void *nidzaru_log_map(int file, size_t size, int flags) {
+    void *block = file < 0 || !size ? MAP_FAILED : mmap(NULL, size, PROT_READ | PROT_WRITE, flags, file, 0);
+    if (file >= 0) close(file);
+    return block == MAP_FAILED ? NULL : block;
+}
+
+/* The same in a file, which keeps what the thread did if the program is killed. The file is made anew. */
+NIDZARU_LOG_CHECKED int nidzaru_log_open_file(nidzaru_log *log, uint64_t who, size_t room, const char *path) {
+    size_t size = nidzaru_log_size(room);
+    int file = size ? open(path, O_RDWR | O_CREAT | O_TRUNC, 0666) : -1;
+    void *block;
+    memset(log, 0, sizeof *log);
+    if (file >= 0 && posix_fallocate(file, 0, NIDZARU_LOG_CAST(off_t, size))) {
+        close(file);
+        return NIDZARU_LOG_NO_FILE;
+    }
+    block = nidzaru_log_map(file, size, MAP_SHARED);
+    if (!block) return NIDZARU_LOG_NO_FILE;
+    nidzaru_log_begin_block(log, block, size, who, room);
+    log->mapped = size;
+    return 0;
+}
+
+/* Whether a block of this size is a log. */
+NIDZARU_LOG_INLINE int nidzaru_log_is_whole(const nidzaru_log *log, size_t size) {
+    const nidzaru_log_state *it = log->state;
+    if (memcmp(it->magic, NIDZARU_LOG_MAGIC, sizeof it->magic) || nidzaru_log_size(it->room) != size || it->count > it->room) return 0;
+    for (uint64_t at = 0; at < it->count; at++) {
+        const nidzaru_log_operation *one = &log->operations[at];
+        if (one->kind < NIDZARU_LOG_WRITE || one->kind > NIDZARU_LOG_REFUSED || one->begin > one->end) return 0;
+    }
+    return 1;
+}
+
+/* Opens what a program left in a file, to be merged. */
+NIDZARU_LOG_CHECKED int nidzaru_log_open_left(nidzaru_log *log, const char *path) {
+    int file = open(path, O_RDONLY);
+    off_t end = file < 0 ? 0 : lseek(file, 0, SEEK_END);
+    size_t size = end > 0 && NIDZARU_LOG_CAST(uint64_t, end) >= sizeof(nidzaru_log_state) ? NIDZARU_LOG_CAST(size_t, end) : 0;
+    void *block = nidzaru_log_map(file, size, MAP_PRIVATE);
+    memset(log, 0, sizeof *log);
+    if (!block) return NIDZARU_LOG_NO_FILE;
+    nidzaru_log_take_block(log, block);
+    log->mapped = size;
+    if (nidzaru_log_is_whole(log, size)) return 0;
+    munmap(block, size);
+    memset(log, 0, sizeof *log);
+    return NIDZARU_LOG_NO_FILE;
+}
+#endif
+
+/* Gives the memory back; a file stays. */
 NIDZARU_LOG_INLINE void nidzaru_log_close(nidzaru_log *log) {
-    free(log->operations);
+#if NIDZARU_LOG_FILES
+    if (log->mapped) munmap(log->state, log->mapped);
+#endif
+    if (!log->mapped) free(log->state);
     memset(log, 0, sizeof *log);
 }
 
 /* Whether the next operation of the thread has no room. */
-NIDZARU_LOG_INLINE int nidzaru_log_is_full(const nidzaru_log *log) { return log->count == log->room; }
+NIDZARU_LOG_INLINE int nidzaru_log_is_full(const nidzaru_log *log) { return log->state->count == log->state->room; }
 
 /* The record of these data: their number, and a hash of all bytes. Of two that differ in one word alone the hashes differ. */
 NIDZARU_LOG_INLINE nidzaru_log_record nidzaru_log_record_of(uint64_t number, const void *data, size_t size) {
@@ -225,7 +325,7 @@ NIDZARU_LOG_INLINE void nidzaru_log_pace(nidzaru_log *const *logs, size_t count,
     }
 }
 
-NIDZARU_LOG_INLINE void nidzaru_log_set_turn(nidzaru_log *log, uint64_t turn) { __atomic_store_n(&log->turn, turn, __ATOMIC_RELAXED); }
+NIDZARU_LOG_INLINE void nidzaru_log_set_turn(nidzaru_log *log, uint64_t turn) { __atomic_store_n(&log->state->turn, turn, __ATOMIC_RELAXED); }
 
 /* The thread records no more, and nobody waits for it. */
 NIDZARU_LOG_INLINE void nidzaru_log_leave(nidzaru_log *log) { nidzaru_log_set_turn(log, NIDZARU_LOG_LEFT); }
@@ -234,7 +334,7 @@ NIDZARU_LOG_INLINE void nidzaru_log_leave(nidzaru_log *log) { nidzaru_log_set_tu
 NIDZARU_LOG_INLINE uint64_t nidzaru_log_slowest(const nidzaru_log *log) {
     uint64_t slowest = NIDZARU_LOG_LEFT;
     for (size_t at = 0; at < log->beside_count; at++) {
-        uint64_t turn = __atomic_load_n(&log->beside[at]->turn, __ATOMIC_RELAXED);
+        uint64_t turn = __atomic_load_n(&log->beside[at]->state->turn, __ATOMIC_RELAXED);
         if (turn < slowest) slowest = turn;
     }
     return slowest;
@@ -242,33 +342,46 @@ NIDZARU_LOG_INLINE uint64_t nidzaru_log_slowest(const nidzaru_log *log) {
 
 /* Waits for the slowest, and then until it is behind by half as many, so that both run at once for a while. */
 NIDZARU_LOG_INLINE void nidzaru_log_keep_pace(nidzaru_log *log) {
-    if (!log->ahead || log->turn < log->reach || log->turn == NIDZARU_LOG_LEFT) return;
-    while ((log->reach = nidzaru_log_slowest(log) + log->ahead) <= log->turn + log->ahead / 2) sched_yield();
+    uint64_t turn = log->state->turn;
+    if (!log->ahead || turn < log->reach || turn == NIDZARU_LOG_LEFT) return;
+    while ((log->reach = nidzaru_log_slowest(log) + log->ahead) <= turn + log->ahead / 2) sched_yield();
 }
 
+/* The kind is stored behind all else, so that a thread that is killed leaves a whole operation or none. */
 NIDZARU_LOG_INLINE void nidzaru_log_begin(nidzaru_log *log, uint64_t kind, nidzaru_log_record record) {
+    nidzaru_log_state *it = log->state;
     nidzaru_log_keep_pace(log);
-    log->unpaired += log->under_way.kind != NIDZARU_LOG_NOTHING;
-    log->under_way.record = record;
-    log->under_way.begin = nidzaru_log_stamp_begin(log);
-    log->under_way.kind = kind;
+    it->unpaired += it->under_way.kind != NIDZARU_LOG_NOTHING;
+    it->under_way.record = record;
+    it->place = it->count;
+    it->under_way.begin = nidzaru_log_stamp_begin(log);
+    __atomic_store_n(&it->under_way.kind, kind, __ATOMIC_RELEASE);
 }
 
+/* Nothing is under way any more, and nothing that follows is stored before. */
+NIDZARU_LOG_INLINE void nidzaru_log_rest(nidzaru_log *log) {
+    __atomic_store_n(&log->state->under_way.kind, NIDZARU_LOG_CAST(uint64_t, NIDZARU_LOG_NOTHING), __ATOMIC_RELEASE);
+    NIDZARU_LOG_ORDER(signal_fence);
+    if (log->state->turn != NIDZARU_LOG_LEFT) nidzaru_log_set_turn(log, nidzaru_log_is_full(log) ? NIDZARU_LOG_LEFT : log->state->turn + 1);
+}
+
+/* The count is stored behind the operation, and before nothing is under way. */
 NIDZARU_LOG_INLINE void nidzaru_log_end(nidzaru_log *log, uint64_t began_as, uint64_t kind, uint64_t end, nidzaru_log_record record) {
-    nidzaru_log_operation *next;
-    log->unpaired += log->under_way.kind != began_as;
+    nidzaru_log_state *it = log->state;
+    it->unpaired += it->under_way.kind != began_as;
+    it->refused += kind == NIDZARU_LOG_REFUSED;
     log->last_end = end;
-    if (log->count == log->room) {
-        log->lost++;
+    if (it->count == it->room) {
+        it->lost++;
     } else {
-        next = &log->operations[log->count++];
+        nidzaru_log_operation *next = &log->operations[it->count];
         next->kind = kind;
-        next->begin = log->under_way.begin;
+        next->begin = it->under_way.begin;
         next->end = end;
         next->record = record;
+        __atomic_store_n(&it->count, it->count + 1, __ATOMIC_RELEASE);
     }
-    log->under_way.kind = NIDZARU_LOG_NOTHING;
-    nidzaru_log_set_turn(log, log->count == log->room ? NIDZARU_LOG_LEFT : log->turn + 1);
+    nidzaru_log_rest(log);
 }
 
 /* Before a write of these data. */
@@ -279,21 +392,19 @@ NIDZARU_LOG_INLINE void nidzaru_log_begin_write(nidzaru_log *log, uint64_t numbe
 /* After a write that took effect. */
 NIDZARU_LOG_INLINE void nidzaru_log_end_write(nidzaru_log *log) {
     uint64_t end = nidzaru_log_stamp_end();
-    nidzaru_log_end(log, NIDZARU_LOG_WRITE, NIDZARU_LOG_WRITE, end, log->under_way.record);
+    nidzaru_log_end(log, NIDZARU_LOG_WRITE, NIDZARU_LOG_WRITE, end, log->state->under_way.record);
 }
 
 /* After a write that was refused, with the data that it saw last. */
 NIDZARU_LOG_INLINE void nidzaru_log_end_refused(nidzaru_log *log, uint64_t number, const void *data, size_t size) {
     uint64_t end = nidzaru_log_stamp_end();
     nidzaru_log_end(log, NIDZARU_LOG_WRITE, NIDZARU_LOG_REFUSED, end, nidzaru_log_record_of(number, data, size));
-    log->refused++;
 }
 
 /* After a write that did nothing, such as a push onto a full queue or a compare-and-set that failed. It is left out of the log. */
 NIDZARU_LOG_INLINE void nidzaru_log_end_no_effect(nidzaru_log *log) {
-    log->unpaired += log->under_way.kind != NIDZARU_LOG_WRITE;
-    log->under_way.kind = NIDZARU_LOG_NOTHING;
-    nidzaru_log_set_turn(log, log->turn == NIDZARU_LOG_LEFT ? NIDZARU_LOG_LEFT : log->turn + 1);
+    log->state->unpaired += log->state->under_way.kind != NIDZARU_LOG_WRITE;
+    nidzaru_log_rest(log);
 }
 
 /* Before a read. */
@@ -310,8 +421,9 @@ NIDZARU_LOG_INLINE void nidzaru_log_end_read(nidzaru_log *log, uint64_t number, 
 
 /* The next operation of a log to be written, or nothing: after those that ended a write that is under way. */
 NIDZARU_LOG_INLINE const nidzaru_log_operation *nidzaru_log_next(const nidzaru_log *log) {
-    if (log->merged < log->count) return &log->operations[log->merged];
-    return log->merged == log->count && log->under_way.kind == NIDZARU_LOG_WRITE ? &log->under_way : NULL;
+    const nidzaru_log_state *it = log->state;
+    if (log->merged < it->count) return &log->operations[log->merged];
+    return log->merged == it->count && it->under_way.kind == NIDZARU_LOG_WRITE && it->place == it->count ? &it->under_way : NULL;
 }
 
 /* The log whose next operation began first, or nothing where all are written. */
@@ -327,8 +439,8 @@ NIDZARU_LOG_INLINE nidzaru_log *nidzaru_log_first(nidzaru_log *const *logs, size
 NIDZARU_LOG_INLINE void nidzaru_log_put(FILE *to, const nidzaru_log *log, uint64_t zero) {
     static const char *const kinds[] = {"", "write", "read", "refused"};
     const nidzaru_log_operation *it = nidzaru_log_next(log);
-    fprintf(to, "{\"who\":%" PRIu64 ",\"kind\":\"%s\",\"begin\":%" PRIu64 ",\"end\":", log->who, kinds[it->kind], it->begin - zero);
-    if (it == &log->under_way) {
+    fprintf(to, "{\"who\":%" PRIu64 ",\"kind\":\"%s\",\"begin\":%" PRIu64 ",\"end\":", log->state->who, kinds[it->kind], it->begin - zero);
+    if (it == &log->state->under_way) {
         fputs("null", to);
     } else {
         fprintf(to, "%" PRIu64, it->end - zero);
@@ -339,9 +451,9 @@ NIDZARU_LOG_INLINE void nidzaru_log_put(FILE *to, const nidzaru_log *log, uint64
 /* Why these logs can't be merged, or 0. */
 NIDZARU_LOG_INLINE int nidzaru_log_fault(nidzaru_log *const *logs, size_t count, uint64_t limit) {
     for (size_t at = 0; at < count; at++) {
-        if (logs[at]->unpaired) return NIDZARU_LOG_UNPAIRED;
-        if (logs[at]->lost) return NIDZARU_LOG_FULL;
-        if (logs[at]->refused && !limit) return NIDZARU_LOG_NO_LIMIT;
+        if (logs[at]->state->unpaired) return NIDZARU_LOG_UNPAIRED;
+        if (logs[at]->state->lost) return NIDZARU_LOG_FULL;
+        if (logs[at]->state->refused && !limit) return NIDZARU_LOG_NO_LIMIT;
     }
     return 0;
 }

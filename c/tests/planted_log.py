@@ -15,12 +15,13 @@ import tempfile
 TOP = os.path.dirname(os.path.dirname(os.path.dirname(os.path.realpath(__file__))))
 H, RUST = "c/nidzaru_log.h", "rust/nidzaru/src/log.rs"
 C11 = ["gcc", "-std=c11", "-D_POSIX_C_SOURCE=200809L", "-O0", "-w", "-pthread"]
-# Tests in C: the source and the words of the compiler.
+# Tests in C: the source, the words of the compiler, and those of the program.
 PROGRAMS = {
-    "recorder": ("recorder.c", []),
-    "stamped": ("stamped.c", []),
-    "unfenced": ("stamped.c", ["-DNIDZARU_LOG_FENCE=0"]),
-    "by the clock": ("stamped.c", ["-DNIDZARU_LOG_TSC=0"]),
+    "recorder": ("recorder.c", [], []),
+    "stamped": ("stamped.c", [], []),
+    "unfenced": ("stamped.c", ["-DNIDZARU_LOG_FENCE=0"], []),
+    "by the clock": ("stamped.c", ["-DNIDZARU_LOG_TSC=0"], []),
+    "steps": ("killed.c", [], ["steps", "left.log"]),
 }
 # Calls whose instructions are looked at: what stands between a recorded call's stamps, and where these are.
 CALLS = """#[path = "log.rs"]
@@ -45,14 +46,18 @@ pub fn one_try_write(log: &mut Log, record: Record) -> Result<u64, u64> {
 NAMES = ("one_read", "one_write", "one_try_write")
 ORDER = ["rdtsc", "lfence", "the_call", "mfence", "rdtscp"]
 
+# How an operation is kept and counted.
+KEPT = "next->kind = kind; next->begin = it->under_way.begin; next->end = end; next->record = record; "
+COUNTED = KEPT + "__atomic_store_n(&it->count, it->count + 1, __ATOMIC_RELEASE);"
+
 # The name of an edit, its file, the old text, the new one, and the test that refuses it.
 PLANTED = [
-    ("a begin that is its end's stamp", H, "next->begin = log->under_way.begin;", "next->begin = end;", "stamped"),
-    ("a begin that is kept from before", H, "log->under_way.begin = nidzaru_log_stamp_begin(log);",
-     "log->under_way.begin = log->last_end + 1;", "stamped"),
+    ("a begin that is its end's stamp", H, "next->begin = it->under_way.begin;", "next->begin = end;", "stamped"),
+    ("a begin that is kept from before", H, "it->under_way.begin = nidzaru_log_stamp_begin(log);",
+     "it->under_way.begin = log->last_end + 1;", "stamped"),
     ("a begin before its record", H, "nidzaru_log_begin(log, NIDZARU_LOG_WRITE, nidzaru_log_record_of(number, data, size));",
      "nidzaru_log_record none = {0, 0}; nidzaru_log_begin(log, NIDZARU_LOG_WRITE, none); "
-     "log->under_way.record = nidzaru_log_record_of(number, data, size);", "stamped"),
+     "log->state->under_way.record = nidzaru_log_record_of(number, data, size);", "stamped"),
     ("an end behind its record", H,
      "uint64_t end = nidzaru_log_stamp_end(); nidzaru_log_end(log, NIDZARU_LOG_READ, NIDZARU_LOG_READ, end, nidzaru_log_record_of(number, data, size));",
      "nidzaru_log_record it = nidzaru_log_record_of(number, data, size); "
@@ -75,45 +80,58 @@ PLANTED = [
     ("a clock without seconds", H, "NIDZARU_LOG_CAST(uint64_t, now.tv_sec) * 1000000000u +", "", "by the clock"),
     ("a clock that is set", H, "#define NIDZARU_LOG_CLOCK CLOCK_MONOTONIC", "#define NIDZARU_LOG_CLOCK CLOCK_REALTIME", "by the clock"),
     ("no fence by the clock", H, "_mm_mfence();", "if (NIDZARU_LOG_TSC) _mm_mfence();", "by the clock"),
-    ("a room that overflows", H, "if (room > SIZE_MAX / sizeof *log->operations) return NIDZARU_LOG_NO_MEMORY;", "", "stamped"),
-    ("pages that nobody touched", H, "memset(log->operations, 1, room * sizeof *log->operations);", "", "stamped"),
-    ("a close that frees nothing", H, "free(log->operations);", "", "stamped"),
-    ("a close that clears nothing", H, "free(log->operations); memset(log, 0, sizeof *log);", "free(log->operations);", "recorder"),
+    ("a room that overflows", H, "room > (SIZE_MAX - sizeof(nidzaru_log_state)) / size ? 0 :", "", "stamped"),
+    ("pages that nobody touched", H, "memset(block, 1, size);", "(void)size;", "stamped"),
+    ("a close that frees nothing", H, "if (!log->mapped) free(log->state);", "", "stamped"),
+    ("a close that clears nothing", H, "if (!log->mapped) free(log->state); memset(log, 0, sizeof *log);", "if (!log->mapped) free(log->state);", "recorder"),
     ("a hash of 128 bytes", H, "size - at < 8 ? size - at : 8); record.hash", "size - at < 8 ? size - at : 8); if (at >= 128) break; record.hash", "recorder"),
     ("a hash of whole words", H, "at < size; at += 8", "at + 8 <= size; at += 8", "recorder"),
     ("a hash without the size", H, "0x9e3779b97f4a7c15u ^ size", "0x9e3779b97f4a7c15u", "recorder"),
     ("a hash that forgets where", H, "(record.hash ^ word) * 0xff51afd7ed558ccdu", "record.hash ^ word * 0xff51afd7ed558ccdu", "recorder"),
     ("a hash without its upper half", H, "record.hash ^= record.hash >> 32;", "", "recorder"),
-    ("a loss that isn't counted", H, "log->lost++;", "", "recorder"),
-    ("a begin within another", H, "log->unpaired += log->under_way.kind != NIDZARU_LOG_NOTHING;", "", "recorder"),
-    ("an end of another", H, "log->unpaired += log->under_way.kind != began_as;", "", "recorder"),
-    ("no limit", H, "if (logs[at]->refused && !limit) return NIDZARU_LOG_NO_LIMIT;", "", "recorder"),
-    ("a full stream", H, "return fflush(to) || ferror(to) ? NIDZARU_LOG_STREAM : 0;", "return 0;", "recorder"),
-    ("an unfinished write that isn't written", H, "log->under_way.kind == NIDZARU_LOG_WRITE ? &log->under_way : NULL", "0 ? &log->under_way : NULL", "recorder"),
-    ("an unfinished read that is written", H, "log->under_way.kind == NIDZARU_LOG_WRITE ?", "log->under_way.kind != NIDZARU_LOG_NOTHING ?", "recorder"),
+    ("a loss that isn't counted", H, "it->lost++;", "", "recorder"),
+    ("a begin within another", H, "it->unpaired += it->under_way.kind != NIDZARU_LOG_NOTHING;", "", "recorder"),
+    ("an end of another", H, "it->unpaired += it->under_way.kind != began_as;", "", "recorder"),
+    ("no limit", H, "if (logs[at]->state->refused && !limit) return NIDZARU_LOG_NO_LIMIT;", "", "recorder"),
+    ("a full stream", H, "->begin : 0)); return fflush(to) || ferror(to) ? NIDZARU_LOG_STREAM : 0;", "->begin : 0)); return 0;", "recorder"),
+    ("a full stream of lines", H, "nidzaru_log_put_all(to, logs, count, 0); return fflush(to) || ferror(to) ? NIDZARU_LOG_STREAM : 0;",
+     "nidzaru_log_put_all(to, logs, count, 0); return 0;", "recorder"),
+    ("an unfinished write that isn't written", H, "it->place == it->count ? &it->under_way : NULL", "0 ? &it->under_way : NULL", "recorder"),
+    ("an unfinished read that is written", H, "it->under_way.kind == NIDZARU_LOG_WRITE && it->place", "it->under_way.kind != NIDZARU_LOG_NOTHING && it->place", "recorder"),
     ("a merge by ends", H, "next->begin < nidzaru_log_next(first)->begin", "next->end < nidzaru_log_next(first)->end", "recorder"),
-    ("a pace that nobody keeps", H, "nidzaru_log_keep_pace(log); log->unpaired", "log->unpaired", "stamped"),
-    ("a pace that is kept behind the begin", H, "nidzaru_log_keep_pace(log); log->unpaired += log->under_way.kind != NIDZARU_LOG_NOTHING; "
-     "log->under_way.record = record; log->under_way.begin = nidzaru_log_stamp_begin(log);",
-     "log->unpaired += log->under_way.kind != NIDZARU_LOG_NOTHING; "
-     "log->under_way.record = record; log->under_way.begin = nidzaru_log_stamp_begin(log); nidzaru_log_keep_pace(log);", "stamped"),
-    ("a pace of one more", H, "log->turn < log->reach ||", "log->turn <= log->reach ||", "stamped"),
+    ("a pace that nobody keeps", H, "nidzaru_log_keep_pace(log); it->unpaired", "it->unpaired", "stamped"),
+    ("a pace that is kept behind the begin", H, "nidzaru_log_keep_pace(log); it->unpaired += it->under_way.kind != NIDZARU_LOG_NOTHING; "
+     "it->under_way.record = record; it->place = it->count; it->under_way.begin = nidzaru_log_stamp_begin(log);",
+     "it->unpaired += it->under_way.kind != NIDZARU_LOG_NOTHING; it->under_way.record = record; it->place = it->count; "
+     "it->under_way.begin = nidzaru_log_stamp_begin(log); nidzaru_log_keep_pace(log);", "stamped"),
+    ("a pace of one more", H, "turn < log->reach ||", "turn <= log->reach ||", "stamped"),
     ("a pace of a half", H, "+ log->ahead / 2) sched_yield();", ") sched_yield();", "stamped"),
-    ("a pace by its own log", H, "__atomic_load_n(&log->beside[at]->turn", "__atomic_load_n(&log->turn", "stamped"),
+    ("a pace by its own log", H, "__atomic_load_n(&log->beside[at]->state->turn", "__atomic_load_n(&log->state->turn", "stamped"),
     ("a leave that is ignored", H, "nidzaru_log_set_turn(log, NIDZARU_LOG_LEFT); }", "(void)log; }", "stamped"),
-    ("a full log that is waited for", H, "log->count == log->room ? NIDZARU_LOG_LEFT : log->turn + 1", "log->turn + 1", "stamped"),
-    ("a full log that waits", H, "|| log->turn == NIDZARU_LOG_LEFT) return;", ") return;", "stamped"),
-    ("a pace of 0 that waits", H, "if (!log->ahead || log->turn", "if (log->turn", "stamped"),
+    ("a full log that is waited for", H, "nidzaru_log_is_full(log) ? NIDZARU_LOG_LEFT : log->state->turn + 1", "log->state->turn + 1", "stamped"),
+    ("a full log that waits", H, "|| turn == NIDZARU_LOG_LEFT) return;", ") return;", "stamped"),
+    ("a pace of 0 that waits", H, "if (!log->ahead || turn", "if (turn", "stamped"),
     ("a pace that nobody keeps in Rust", RUST, "pace.keep(thread::yield_now);", "let _ = pace;", "log.rs"),
-    ("a pace of one more in Rust", RUST, "if turn < self.reach ||", "if turn <= self.reach ||", "log.rs"),
+    ("a pace of one more in Rust", RUST, "if turn >= self.reach &&", "if turn > self.reach &&", "log.rs"),
     ("a leave that is ignored in Rust", RUST, "pub fn leave(&self) { if let Some(pace) = &self.pace {", "pub fn leave(&self) { if let (Some(pace), true) = (&self.pace, false) {", "log.rs"),
     ("a panic that is waited for", RUST, "if thread::panicking() {", "if false {", "log.rs"),
-    ("a full log that is waited for in Rust", RUST, "if self.is_full() { LEFT } else {", "if false { LEFT } else {", "log.rs"),
-    ("a write without an effect that stays", H, "log->unpaired += log->under_way.kind != NIDZARU_LOG_WRITE; log->under_way.kind = NIDZARU_LOG_NOTHING;",
-     "log->unpaired += log->under_way.kind != NIDZARU_LOG_WRITE;", "recorder"),
+    ("a full log that is waited for in Rust", RUST, "turn == LEFT || self.is_full()", "turn == LEFT", "log.rs"),
+    ("a write without an effect that stays", H, "log->state->unpaired += log->state->under_way.kind != NIDZARU_LOG_WRITE; nidzaru_log_rest(log);",
+     "log->state->unpaired += log->state->under_way.kind != NIDZARU_LOG_WRITE;", "recorder"),
     ("a write without an effect as a write", H,
-     "log->unpaired += log->under_way.kind != NIDZARU_LOG_WRITE; log->under_way.kind = NIDZARU_LOG_NOTHING;", "nidzaru_log_end_write(log);", "recorder"),
-    ("a read without an effect", H, "log->unpaired += log->under_way.kind != NIDZARU_LOG_WRITE; log", "log", "recorder"),
+     "log->state->unpaired += log->state->under_way.kind != NIDZARU_LOG_WRITE; nidzaru_log_rest(log);", "nidzaru_log_end_write(log);", "recorder"),
+    ("a read without an effect", H, "log->state->unpaired += log->state->under_way.kind != NIDZARU_LOG_WRITE; nidzaru_log_rest", "nidzaru_log_rest", "recorder"),
+    ("a count before its operation", H, COUNTED, "__atomic_store_n(&it->count, it->count + 1, __ATOMIC_RELEASE); next = &log->operations[it->count - 1]; " + KEPT, "steps"),
+    ("a rest before the count", H, COUNTED, "it->under_way.kind = NIDZARU_LOG_NOTHING; " + COUNTED, "steps"),
+    ("a kind before its begin", H, "it->under_way.record = record; it->place", "it->under_way.kind = kind; it->under_way.record = record; it->place", "steps"),
+    ("a begin that isn't told", H, "it->place = it->count; it->under_way.begin", "it->under_way.begin", "steps"),
+    ("an operation twice", H, "&& it->place == it->count ?", "?", "steps"),
+    ("a file that nobody else sees", H, "nidzaru_log_map(file, size, MAP_SHARED)", "nidzaru_log_map(file, size, MAP_PRIVATE)", "steps"),
+    ("a log of another file", H, "memcmp(it->magic, NIDZARU_LOG_MAGIC, sizeof it->magic) ||", "", "recorder"),
+    ("a log that was cut off", H, "nidzaru_log_size(it->room) != size ||", "", "recorder"),
+    ("an operation of no kind", H, "one->kind < NIDZARU_LOG_WRITE ||", "", "recorder"),
+    ("an operation of an unknown kind", H, "one->kind > NIDZARU_LOG_REFUSED ||", "", "recorder"),
+    ("an operation that ends before it begins", H, "|| one->begin > one->end) return 0;", ") return 0;", "recorder"),
     ("lines by a zero of their own", H, "nidzaru_log_put_all(to, logs, count, 0);", "nidzaru_log_put_all(to, logs, count, nidzaru_log_next(logs[0])->begin);", "recorder"),
     ("lines of a log that lost one", H, "int fault = nidzaru_log_fault(logs, count, 1);", "int fault = 0;", "recorder"),
     ("a write without an effect as a write in Rust", RUST, "if took_effect(&given) {", "if took_effect(&given) || true {", "log.rs"),
@@ -121,11 +139,12 @@ PLANTED = [
     ("no lfence in Rust", RUST, "_mm_lfence();", "", "instructions"),
     ("no mfence in Rust", RUST, "_mm_mfence();", "", "instructions"),
     ("rdtsc at the end in Rust", RUST, "__rdtscp(&mut processor)", "{ let _ = &mut processor; _rdtsc() }", "instructions"),
-    ("a read that ends before its call", RUST, "let given = call(); let end = clock::end(self.fenced); self.put(Operation { kind: Kind::Read",
-     "let end = clock::end(self.fenced); let given = call(); self.put(Operation { kind: Kind::Read", "log.rs"),
-    ("a write that ends before its call", RUST, "let given = call(); let end = clock::end(self.fenced); self.under_way = None;",
-     "let end = clock::end(self.fenced); let given = call(); self.under_way = None;", "log.rs"),
-    ("a read that begins behind its call", RUST, "let begin = self.begin(); let given = call();", "let given = call(); let begin = self.begin();", "log.rs"),
+    ("a read that ends before its call", RUST, "let given = call(); let end = clock::end(self.fenced); drop(leaves); self.put(",
+     "let end = clock::end(self.fenced); let given = call(); drop(leaves); self.put(", "log.rs"),
+    ("a write that ends before its call", RUST, "let given = call(); let end = clock::end(self.fenced); drop(leaves); self.under_way",
+     "let end = clock::end(self.fenced); let given = call(); drop(leaves); self.under_way", "log.rs"),
+    ("a read that begins behind its call", RUST, "let begin = self.begin(); let leaves = LeavesByPanic(self.pace.as_ref()); let given = call();",
+     "let given = call(); let begin = self.begin(); let leaves = LeavesByPanic(self.pace.as_ref());", "log.rs"),
     ("an end that isn't kept in Rust", RUST, "self.last_end = operation.end;", "", "log.rs"),
     ("operations that touch in Rust", RUST, "if now > last_end", "if now >= last_end", "log.rs"),
     ("unfenced that does nothing", RUST, "Log { fenced: false, ..self }", "self", "log.rs"),
@@ -135,7 +154,8 @@ PLANTED = [
     ("words without their size", RUST, "Record::seed(8 * words.len())", "Record::seed(8)", "log.rs"),
     ("bytes without their size", RUST, "Record::seed(bytes.len())", "Record::seed(8)", "log.rs"),
     ("bytes in another order", RUST, "u64::from_le_bytes(word)", "u64::from_be_bytes(word)", "log.rs"),
-    ("no flush", RUST, "to.flush()?;", "", "log.rs"),
+    ("no flush of a merge", RUST, '{count}}}")?; to.flush()?;', '{count}}}")?;', "log.rs"),
+    ("no flush of lines", RUST, "put_all(to, logs, 0)?; to.flush()?;", "put_all(to, logs, 0)?;", "log.rs"),
     ("a loss that isn't counted in Rust", RUST, "self.lost += 1;", "", "log.rs"),
     ("no limit in Rust", RUST, "limit.is_none() && self.operations", "false && self.operations", "log.rs"),
 ]
@@ -178,13 +198,13 @@ class Room:
 
     # Each test gives: whether it was built, whether it passed, and what was said.
     def program(self, name):
-        source, words = PROGRAMS[name]
+        source, words, its_words = PROGRAMS[name]
         out = f"{self.folder}/program"
         status, said = call([*C11, *words, "-I", self.folder, f"{TOP}/c/tests/{source}", "-o", out])
         if status:
             return False, False, said
-        status, said = call([out])
-        return True, status == 0 and said == "passed\n", said
+        status, said = call([out, *its_words], cwd=self.folder)
+        return True, status == 0 and said.split("\n")[-2:] == ["passed", ""], said
 
     def unit_tests(self):
         out = f"{self.folder}/tests"

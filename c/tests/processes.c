@@ -18,7 +18,7 @@ static void keep_pace(int me, unsigned long long turn, unsigned long long operat
 
 static void write_all(nidzaru_log *log) {
     for (uint64_t n = 1; !nidzaru_log_is_full(log); n++) {
-        keep_pace(0, n, log->room);
+        keep_pace(0, n, log->state->room);
         nidzaru_log_begin_write(log, n, &n, sizeof n);
         atomic_store(&shared->word, n);
         nidzaru_log_end_write(log);
@@ -29,7 +29,7 @@ static void write_all(nidzaru_log *log) {
 static void read_all(nidzaru_log *log, int late) {
     uint64_t had = 0;
     for (uint64_t turn = 1; !nidzaru_log_is_full(log); turn++) {
-        keep_pace(1, turn, log->room);
+        keep_pace(1, turn, log->state->room);
         nidzaru_log_begin_read(log);
         if (!late || turn % 8) had = atomic_load(&shared->word);
         nidzaru_log_end_read(log, had, &had, sizeof had);

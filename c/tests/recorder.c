@@ -21,7 +21,7 @@ static void open_both(size_t room) {
 static void close_both(void) {
     nidzaru_log_close(&one);
     nidzaru_log_close(&two);
-    check(!one.operations && !two.operations, "a closed log has no memory");
+    check(!one.state && !two.state, "a closed log has no memory");
 }
 
 /* What is written stands in `text`; answers the status. */
@@ -53,7 +53,7 @@ static void read_one(nidzaru_log *log, const uint64_t *item) {
 
 /* The times of the operations are set, so that the text is known. */
 static void set_times(nidzaru_log *log, size_t at, uint64_t begin, uint64_t end) {
-    check(at < log->count, "an operation whose times are set");
+    check(at < log->state->count, "an operation whose times are set");
     log->operations[at].begin = begin;
     log->operations[at].end = end;
     log->operations[at].record.hash = 9;
@@ -69,8 +69,8 @@ static void check_text(void) {
     set_times(&two, 0, 100, 103);
     set_times(&two, 1, 105, 106);
     nidzaru_log_begin_write(&one, second[0], second, sizeof second);
-    one.under_way.begin = 120;
-    one.under_way.record.hash = 9;
+    one.state->under_way.begin = 120;
+    one.state->under_way.record.hash = 9;
     nidzaru_log_begin_read(&two);
     check(merge(0) == NIDZARU_LOG_NO_LIMIT && !text[0], "a refused write without a limit");
     for (int again = 0; again < 2; again++) {
@@ -105,7 +105,7 @@ static void check_no_effect(void) {
         nidzaru_log_begin_write(&one, second[0], second, sizeof second);
         nidzaru_log_end_no_effect(&one);
     }
-    check(!nidzaru_log_is_full(&one) && one.turn == 3, "a write without an effect takes no room, and a turn");
+    check(!nidzaru_log_is_full(&one) && one.state->turn == 3, "a write without an effect takes no room, and a turn");
     write_one(&one, first);
     check(merge(0) == 0 && strstr(text, "\"record\":[1,") && !strstr(text, "\"record\":[2,") && strstr(text, "\"ops\":1}"),
           "a write without an effect is left out");
@@ -157,7 +157,7 @@ static void check_times(void) {
     }
     one.last_end = nidzaru_log_stamp_end() + 100000;
     nidzaru_log_begin_read(&one);
-    check(one.under_way.begin > one.last_end, "a begin waits until the clock has left the last end");
+    check(one.state->under_way.begin > one.last_end, "a begin waits until the clock has left the last end");
     close_both();
 }
 
@@ -191,7 +191,61 @@ static void check_stream(void) {
     close_both();
 }
 
-int main(void) {
+#if NIDZARU_LOG_FILES
+/* Stores a byte into a file, or cuts it off there. */
+static void spoil(const char *path, size_t at, int byte) {
+    int file = open(path, O_RDWR);
+    unsigned char it = NIDZARU_LOG_CAST(unsigned char, byte);
+    check(file >= 0 && (byte < 0 ? ftruncate(file, NIDZARU_LOG_CAST(off_t, at)) == 0 : pwrite(file, &it, 1, NIDZARU_LOG_CAST(off_t, at)) == 1), "a file that is spoilt");
+    close(file);
+}
+
+/* A file of two operations in which a byte is spoilt isn't a log. */
+static void check_spoilt(const char *what, const char *path, size_t at, int byte) {
+    check(nidzaru_log_open_file(&one, 3, 2, path) == 0, "a log in a file");
+    write_one(&one, first);
+    read_one(&one, first);
+    nidzaru_log_close(&one);
+    spoil(path, at, byte);
+    check(nidzaru_log_open_left(&one, path) == NIDZARU_LOG_NO_FILE && !one.state, what);
+}
+
+/* What a thread did in a file is there for another one, finished or not. */
+static void check_files(const char *path) {
+    size_t state = sizeof(nidzaru_log_state), operation = sizeof(nidzaru_log_operation);
+    check(state == 128 && operation == 40, "the sizes that join.py knows");
+    check(nidzaru_log_open(&two, 5, 2) == 0 && nidzaru_log_open_file(&one, 3, 9, path) == 0, "a log in a file");
+    write_one(&one, first);
+    nidzaru_log_begin_write(&one, second[0], second, sizeof second);
+    check(one.state->count == 1 && one.state->place == 1, "an operation and one that is under way");
+    nidzaru_log_close(&one);
+    check(nidzaru_log_open_left(&one, path) == 0 && put(1, 0) == 0, "what is left");
+    check(!strncmp(text, "{\"who\":3,\"kind\":\"write\",", 24) && strstr(text, "\"end\":null,\"record\":[2,"),
+          "a write that ended and one that didn't");
+    close_both();
+    check_spoilt("another file", path, 0, 'x');
+    check_spoilt("a log of another form", path, 7, 2);
+    check_spoilt("a log that was cut off", path, state + 2 * operation - 1, -1);
+    check_spoilt("less than a log", path, state - 1, -1);
+    check_spoilt("nothing", path, 0, -1);
+    check_spoilt("a log of another room", path, 16, 3);
+    check_spoilt("a log of more than its room", path, 24, 3);
+    check_spoilt("an operation of no kind", path, state, 0);
+    check_spoilt("an operation of an unknown kind", path, state + operation, 4);
+    check_spoilt("an operation that ends before it begins", path, state + operation + 15, 255);
+    remove(path);
+    check(nidzaru_log_open_left(&one, path) == NIDZARU_LOG_NO_FILE, "no file");
+    check(nidzaru_log_open_file(&one, 3, 9, "/dev/null/none") == NIDZARU_LOG_NO_FILE, "a file that can't be");
+    check(nidzaru_log_open_file(&one, 3, SIZE_MAX / 2, path) == NIDZARU_LOG_NO_FILE, "a file that no size can say");
+}
+#else
+static void check_files(const char *path) { (void)path; }
+#endif
+
+int main(int count, char **words) {
+    char path[4096];
+    snprintf(path, sizeof path, "%s.log", words[count - 1]);
+    check_files(path);
     check_text();
     check_no_effect();
     check_full();

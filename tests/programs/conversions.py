@@ -223,6 +223,10 @@ PORCUPINE = {
     ),
     "other_key": (keys('0 invoke put x "1"', '0 ok put y "1"'), "line 2: this write ends for another key than that of line 1"),
     "other_value": (keys('0 invoke put x "1"', '0 ok put x "2"'), "line 2: this write ends with another value than that of line 1"),
+    "goes_on_keys": (
+        keys('0 invoke put x "1"', '0 info put x "1"', "0 invoke get x nil", '0 ok get x "1"'),
+        {"x": log("lawful", '1 write 0 null "\\"1\\""', '0 read 2 3 "\\"1\\""', opening='"\\"\\""')},
+    ),
     "unknown_type": (keys('0 invoke put x "1"', '0 done put x "1"'), "line 2: :done is no type"),
     "no_key": ('{:process 0, :type :invoke, :f :put, :value "1"}\n', "line 1: this is no event"),
     "no_event": ('{:process 0, :type :invoke, :f :put, :key "x", :value "1"}\nwhy\n', "line 2: this is no event"),
@@ -244,6 +248,7 @@ PORCUPINE = {
         "INFO  jepsen.util - :nemesis\t:info\t:start\tnil\nINFO  jepsen.util - 0\t:invoke\t:write\t3\n",
         {"only": log("lawful", "0 write 1 null 3")},
     ),
+    "no_line_of_a_nemesis": ("INFO  jepsen.util - 0\t:invoke\t:write\t3\nINFO  why\n", "line 2: this is no event"),
     "no_line": ("INFO  jepsen.util - 0\t:invoke\t:write\t3\nWARN  why\n", "line 2: this is no event"),
     "endless_line": ("INFO  jepsen.util - 0\t:invoke\t:write\t1e999\n", "line 1: a number that is too large"),
     "returns_at_nothing": (

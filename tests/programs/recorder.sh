@@ -143,6 +143,7 @@ test_in_c() {
         fail "c/tests/recorded.c, without the fence ($c)" "it wasn't built: $(head -n 3 "$room/said" | tr '\n' ' ')"
     fi
     test_processes
+    test_killed
 }
 
 judges_by_stub() {
@@ -165,6 +166,24 @@ test_processes() {
     records "two processes ($c)" lawful both_lines "$operations"
     records "two processes, one late ($c)" refused both_lines "$operations" late
     records "two processes, by join.py ($c)" lawful python3 tools/convert/join.py "$room/own/writes.jsonl" "$room/own/reads.jsonl"
+}
+
+# Threads that are killed: after each instruction, and at random. What they left is merged in C and by the tool.
+test_killed() {
+    if ! "$c" -std=c11 -O2 $strict c/tests/killed.c -o "$room/killed" >"$room/said" 2>&1; then
+        fail "c/tests/killed.c ($c)" "it wasn't built: $(head -n 3 "$room/said" | tr '\n' ' ')"
+        return
+    fi
+    if (cd "$room" && timeout 120 ./killed steps left.log) >"$room/said" 2>&1 && [ "$(tail -n 1 "$room/said")" = passed ]; then
+        pass "c/tests/killed.c ($c): $(head -n 1 "$room/said")"
+    else
+        fail "c/tests/killed.c ($c)" "$(head -n 3 "$room/said" | tr '\n' ' ')"
+    fi
+    for seed in 1 2 3; do
+        records "killed threads $seed ($c)" lawful timeout 120 "$room/killed" threads "$room" $seed
+    done
+    records "killed threads, by join.py ($c)" lawful python3 tools/convert/join.py "$room/header" "$room"/[012].log
+    rm -f "$room"/[012].log
 }
 
 # What has to be seen in a log that was recorded of a right register.

@@ -3,8 +3,9 @@
 
     join.py [--opening RECORD] [--limit NUMBER] [--skew NS] FILE..
 
-Each file has the operations of tasks of its own, by one clock; a header and a last line may be there. The header that is written has the
-opening and the limit of a file's header, or those of the words, where the record is JSON. Operations stand by beginning.
+Each file has the operations of tasks of its own, by one clock, as JSON Lines; a header and a last line may be there. Or it is what a thread
+left in a file of `nidzaru_log_open_file`. The header that is written has the opening and the limit of a file's header, or those of the
+words, where the record is JSON. Operations stand by beginning.
 
 --skew NS: the clocks of two files differ by at most NS. The times of the first file stay, and intervals of all others are NS longer at both
 ends. An operation that then overlaps the one before it of its task gets a task of its own, since no interval can say both that it comes
@@ -16,9 +17,15 @@ Status 3: the files can't be joined; 5: one can't be read or written.
 
 import argparse
 import json
+import struct
 import sys
 
 import lines
+
+# A state of nidzaru_log.h: the magic, who, room, count, lost, unpaired, refused, turn, and of the write under way its kind, times, record and
+# place; and an operation: its kind, times and record.
+MAGIC, STATE, OPERATION = b"nidzaru\1", struct.Struct("=8s7Q6Q16x"), struct.Struct("=5Q")
+KINDS = (None, "write", "read", "refused")
 
 
 class Operations:
@@ -26,9 +33,32 @@ class Operations:
 
     def __init__(self, path):
         self.path, self.header, self.rows = path, None, []
+        with open(path, "rb") as file:
+            if file.read(len(MAGIC)) == MAGIC:
+                self.take_left(MAGIC + file.read())
+                return
         for number, text in enumerate(lines.text_of_file(path).split("\n"), 1):
             if text.strip():
                 self.add(number, self.row_of(number, text))
+
+    def take_left(self, block):
+        """The operations that ended, and a write that was under way."""
+        if len(block) < STATE.size:
+            raise lines.Refused(self.path, "a log that was cut off")
+        _, who, room, count, lost, unpaired, _, _, kind, begin, _, number, code, place = STATE.unpack_from(block)
+        if len(block) != STATE.size + room * OPERATION.size or count > room:
+            raise lines.Refused(self.path, "a log that was cut off")
+        if lost or unpaired:
+            raise lines.Refused(self.path, f"{lost} operations had no room, and {unpaired} began or ended out of turn")
+        for at in range(count):
+            self.take(who, *OPERATION.unpack_from(block, STATE.size + at * OPERATION.size))
+        if place == count and KINDS[kind] == "write":
+            self.take(who, kind, begin, None, number, code)
+
+    def take(self, who, kind, begin, end, number, code):
+        if not 1 <= kind < len(KINDS) or (end is not None and end < begin):
+            raise lines.Refused(self.path, "this is no log")
+        self.rows.append({"who": who, "kind": KINDS[kind], "begin": begin, "end": end, "record": [number, code]})
 
     def row_of(self, number, text):
         try:

@@ -3,7 +3,7 @@
 //!     record_seqlock OPERATIONS            the right one
 //!     record_seqlock OPERATIONS torn       one whose readers don't look at the sequence: sooner or later a record is torn
 //!
-//! The wrong one lingers now and then in the middle of a write, until others have read, so that a short log shows it.
+//! The wrong one lingers now and then in the middle of a write, while others read, so that a short log shows it.
 
 use nidzaru::log::{merge, pace, Log, Record};
 use std::env;
@@ -29,10 +29,6 @@ struct SeqLock {
     sequence: AtomicU64,
     words: [AtomicU64; 8],
     reads: AtomicU64,
-    writes: AtomicU64,
-    /// How many threads still read, and still write.
-    reading: AtomicU64,
-    writing: AtomicU64,
 }
 
 impl SeqLock {
@@ -61,18 +57,11 @@ impl SeqLock {
         }
     }
 
+    /// Waits for some reads, not for ever: others may wait for this thread.
     fn linger(&self) {
         let seen = self.reads.load(SeqCst);
-        while self.reading.load(SeqCst) > 0 && self.reads.load(SeqCst) < seen + 4 {
-            thread::yield_now();
-        }
-    }
-
-    /// Waits for a write, not for ever, so that reads and writes are done at once.
-    fn keep_pace(&self) {
-        let seen = self.writes.load(SeqCst);
-        for _ in 0..20_000 {
-            if self.writing.load(SeqCst) == 0 || self.writes.load(SeqCst) > seen {
+        for _ in 0..100 {
+            if self.reads.load(SeqCst) >= seen + 4 {
                 break;
             }
             thread::yield_now();
@@ -86,27 +75,22 @@ fn write_all(shared: &SeqLock, log: &mut Log) {
             break;
         }
         let item = item(n);
-        shared.writes.fetch_add(1, SeqCst);
         log.write(Record::of_words(&item), || shared.write(&item));
     }
-    shared.writing.fetch_sub(1, SeqCst);
 }
 
 fn read_all(shared: &SeqLock, log: &mut Log) {
     while !log.is_full() {
         log.read(|| shared.read(), |item| Record::of_words(item));
-        if shared.reads.fetch_add(1, SeqCst) % 16 == 0 {
-            shared.keep_pace();
-        }
+        shared.reads.fetch_add(1, SeqCst);
     }
-    shared.reading.fetch_sub(1, SeqCst);
 }
 
 fn main() -> Result<(), Box<dyn Error>> {
     let words: Vec<String> = env::args().skip(1).collect();
     let room = words.first().ok_or("usage: record_seqlock OPERATIONS [torn]")?.parse::<usize>()? / 3;
     let torn = words.get(1).is_some_and(|word| word == "torn");
-    let shared = SeqLock { torn, reading: 2.into(), writing: 1.into(), ..SeqLock::default() };
+    let shared = SeqLock { torn, ..SeqLock::default() };
     let mut logs = [Log::new(0, room)?, Log::new(1, room)?, Log::new(2, room)?];
     pace(&mut logs, 200);
     thread::scope(|scope| {

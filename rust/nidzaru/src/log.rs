@@ -277,11 +277,16 @@ impl Pace {
 
     /// Waits for the slowest, and then until it is behind by half as many, so that both run at once for a while.
     #[inline]
-    fn keep(&mut self, mut wait: impl FnMut()) {
+    fn keep(&mut self, wait: impl FnMut()) {
         let turn = self.turn().load(Relaxed);
-        if turn < self.reach || turn == LEFT {
-            return;
+        if turn >= self.reach && turn != LEFT {
+            self.await_others(turn, wait);
         }
+    }
+
+    #[cold]
+    #[inline(never)]
+    fn await_others(&mut self, turn: u64, mut wait: impl FnMut()) {
         loop {
             self.reach = self.slowest() + self.ahead;
             if self.reach > turn + self.ahead / 2 {
@@ -399,6 +404,7 @@ impl Log {
         (begin, given, end)
     }
 
+    #[inline]
     fn begin(&mut self) -> u64 {
         if let Some(pace) = &mut self.pace {
             pace.keep(thread::yield_now);
