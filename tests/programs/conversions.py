@@ -208,6 +208,13 @@ JEPSEN = {
     "discarded": ("#_{:a 1} " + jepsen("0 invoke write #tag 3") + "#_ 7", {"only": log("lawful", "0 write 0 null 3")}),
     "one_vector": ("[" + jepsen("0 invoke write 3", "0 ok write 3") + "]", {"only": log("lawful", "0 write 0 1 3")}),
     "cut_off": ("[" + jepsen("0 invoke write 3", "0 ok write 3"), "line 3: an end where ] belongs"),
+    "unended": ('{:a "x', "line 1: no EDN"),
+    "closed": (jepsen("0 invoke write 3") + "}", "line 2: } where a value belongs"),
+    "discarded_inside": (jepsen("0 invoke write [0 #_ [7] 1]"), {"0": log("lawful", "0 write 0 null 1")}),
+    "keys_of_maps": (
+        jepsen('0 invoke write {1 :a "1" :b [2] :c}'),
+        {"only": log("lawful", '0 write 0 null "{\\"1\\" :b, 1 :a, [2] :c}"')},
+    ),
     "wrongly_closed": ("{:a [1}", "line 1: } closes ["),
     "half_a_map": ("{:a}", "line 1: a key without a value"),
 }
@@ -255,6 +262,11 @@ PORCUPINE = {
         operation(0, "put 3", 0, 0) + operation(1, "get", 5, 6, "3"),
         {"only": log("lawful", "0 write 0 0 3", "1 read 5 6 3")},
     ),
+    "output_of_a_write": (operation(0, "put 3", 0, 5, "7"), {"only": log("lawful", "0 write 0 5 3")}),
+    "fraction": (operation(0, "put 1.5", 0, 5), {"only": log("lawful", '0 write 0 5 "1.5"')}),
+    "half_an_event": ('{"Kind":0}\n', "line 1: this is neither an operation nor an event"),
+    "empty": ("", "line 1: there is no operation of a register"),
+    "array": ("[" + operation(0, "put 3", 0, 5) + ",\n7]", "line 1: this is no object"),
     "never_returns": (
         operation(0, "put 3", 0, None) + operation(1, "get", 5, None) + operation(2, "write 4", 6, "null") + operation(3, "read", 7, 8, "4"),
         {"only": log("lawful", "0 write 0 null 3", "2 write 6 null 4", "3 read 7 8 4")},

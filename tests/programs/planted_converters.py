@@ -62,8 +62,8 @@ PLANTED = [
     ("the later of two writes", "lines.py", "min(fitting, key=lambda it: it.begin)", "max(fitting, key=lambda it: it.begin)", "jepsen_version_of_an_unfinished_write"),
     ("one of two writes", "lines.py", "if len(fitting) > 1 and rivals:", "if False:", "jepsen_two_versions_of_unfinished_writes"),
     ("a nil that is a value", "lines.py", 'if any(it.kind == "write" and it.fate == "done" and has_hole(it.value) for it in calls):', "if False:", "jepsen_nil_that_is_a_value"),
-    ("maps by the order of keys", "edn.py", '"{" + ", ".join(sorted(f"{text_of(key)} {text_of(it)}" for key, it in value.items())) + "}"',
-     '"{" + ", ".join(f"{text_of(key)} {text_of(it)}" for key, it in value.items()) + "}"', "jepsen_maps porcupine_maps"),
+    ("maps by the order of keys", "edn.py", '"{" + ", ".join(sorted(f"{key_text(key)} {text_of(it)}" for key, it in value.items())) + "}"',
+     '"{" + ", ".join(f"{key_text(key)} {text_of(it)}" for key, it in value.items()) + "}"', "jepsen_maps porcupine_maps"),
     ("sets by their order", "edn.py", '" ".join(sorted(value))', '" ".join(value)', "jepsen_sets"),
     ("an infinite number", "edn.py", "if not math.isfinite(float(text)):", "if False:", "jepsen_endless"),
     ("an infinite number in JSON", "porcupine.py", 'if not float("-inf") < float(text) < float("inf"):', "if False:", "porcupine_endless"),
@@ -96,6 +96,13 @@ PLANTED = [
     ("headers that differ", "join.py", "if len(openings) != 1 or", "if not openings or", "joined"),
     ("a file that was cut off", "join.py", 'if row.get("ops") != len(self.rows):', "if False:", "joined"),
     ("lines as they come", "join.py", 'key=lambda row: row["begin"]', 'key=lambda row: row["who"]', "joined"),
+    ("texts as keys", "edn.py", "Map(zip(map(text_of, items[::2]), items[1::2]))", "Map(zip(map(str, items[::2]), items[1::2]))", "jepsen_keys_of_maps"),
+    ("an end stamped before its call", "recorder.py", "given = call() self.put(\"read\", begin, self.clock(), record_of(given))",
+     "end = self.clock()\n        given = call()\n        self.put(\"read\", begin, end, record_of(given))", "recorded"),
+    ("operations that touch in Python", "recorder.py", "while now <= self.last_end:", "while now < self.last_end:", "recorded"),
+    ("an end that isn't kept in Python", "recorder.py", "self.last_end = begin if end is None else end", "pass", "recorded"),
+    ("a write without an effect in Python", "recorder.py", "if took_effect(given):", "if True:", "recorded"),
+    ("a write that failed in Python", "recorder.py", 'self.put("write", begin, None, record)', "pass", "recorded"),
     ("a put that failed", "porcupine.py", 'or it.get("Error") or not it.get("Revision"):', "or False:", "porcupine_etcd_failed"),
     ("a put without its revision", "porcupine.py", 'return [[it["Revision"], value[1]]]', "return [[None, value[1]]]", "porcupine_etcd"),
     ("a range of several keys", "porcupine.py", 'if options.get("End") or it["Range"].get("Revision"):', "if False:", "porcupine_etcd_counted"),
@@ -109,9 +116,11 @@ def run(*words):
 
 
 def passes(folder, names):
-    """Whether these histories pass, and, if it is among them, what is joined."""
-    histories = [name for name in names if name != "joined"]
+    """Whether these histories pass, and, if they are among them, what is joined and what is recorded in Python."""
+    histories = [name for name in names if name not in ("joined", "recorded")]
     well, said = run(f"{TOP}/tests/programs/converters.py", "--tools", folder, *histories) if histories else (True, "")
+    if well and "recorded" in names:
+        well, said = run(f"{TOP}/tests/programs/recorded.py", "--tool", folder)
     if well and "joined" in names:
         return run(f"{TOP}/tests/programs/joined.py", "--tool", f"{folder}/join.py", "--logs", "3")
     return well, said

@@ -39,7 +39,7 @@ class Set(frozenset):
 
 
 class Map(dict):
-    """A map, whose keys are texts and names; of other values these are their texts."""
+    """A map, whose keys are the texts of its keys: `:a` is ":a"."""
 
 
 def text_of(value):
@@ -47,7 +47,8 @@ def text_of(value):
     if isinstance(value, Set):
         return "#{" + " ".join(sorted(value)) + "}"
     if isinstance(value, dict):
-        return "{" + ", ".join(sorted(f"{text_of(key)} {text_of(it)}" for key, it in value.items())) + "}"
+        key_text = str if isinstance(value, Map) else text_of
+        return "{" + ", ".join(sorted(f"{key_text(key)} {text_of(it)}" for key, it in value.items())) + "}"
     if isinstance(value, list):
         return "[" + " ".join(map(text_of, value)) + "]"
     if value is None:
@@ -113,17 +114,13 @@ class Reader:
             return Set(map(text_of, items)) if opened == "#{" else items
         if len(items) % 2:
             raise NoEdn(line, "a key without a value")
-        return Map(zip(map(key_of, items[::2]), items[1::2]))
+        return Map(zip(map(text_of, items[::2]), items[1::2]))
 
 
 def letter_of(found):
     """What an escaped letter of a text stands for."""
     it = found[1]
     return chr(int(it[1:], 16)) if len(it) == 5 else {"n": "\n", "t": "\t", "r": "\r"}.get(it, it)
-
-
-def key_of(it):
-    return it if isinstance(it, str) else Name(text_of(it))
 
 
 def word_of(text):
