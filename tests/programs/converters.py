@@ -78,7 +78,7 @@ class Converter:
         for key, (log, verdict) in wanted.items():
             if made[f"{key}.jsonl"] != self.planted_in("log", log):
                 faults.append(f"{name}: {key} is\n{made[f'{key}.jsonl']}")
-            told = lines.answer(lines.read_log(made[f"{key}.jsonl"].splitlines()))[1].split("\n")[0]
+            told = lines.answer(lines.read_log(made[f"{key}.jsonl"].split("\n")))[1].split("\n")[0]
             if told != self.planted_in("verdict", verdict):
                 faults.append(f"{name}: {key} is {told}")
         return faults

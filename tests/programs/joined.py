@@ -77,7 +77,7 @@ class Room:
         if status:
             return err
         try:
-            return lines.answer(lines.read_log(out.splitlines()))[1].split("\n")[0]
+            return lines.answer(lines.read_log(out.split("\n")))[1].split("\n")[0]
         except lines.Refused as why:
             return str(why)
 

@@ -87,7 +87,7 @@ def verdict(tool, whole, operations=400):
         for who in range(3):
             with open(f"{folder}/{who}.jsonl", encoding="utf-8") as file:
                 text += file.read()
-    return lines.answer(lines.read_log(text.splitlines()))[1].split("\n")[0]
+    return lines.answer(lines.read_log(text.split("\n")))[1].split("\n")[0]
 
 
 def main():

@@ -286,7 +286,8 @@ def counts(log):
 
 def main(words):
     try:
-        with open(words[0], encoding="utf-8") if words else sys.stdin as file:
+        sys.stdin.reconfigure(newline="\n")
+        with open(words[0], encoding="utf-8", newline="\n") if words else sys.stdin as file:
             status, text = answer(read_log(file))
     except Refused as why:
         print(f"lines: {why}", file=sys.stderr)

@@ -1,9 +1,9 @@
 """Plants a fault in a lawful log in JSON Lines, which a judge must see.
 
-    plant_lines.py old|lost|misspelt|short < LOG > LOG
+    plant_lines.py old|lost|misspelt|short|returned < LOG > LOG
 
 `old`: the last read gives the record of the first write. `lost`: the write of the last read's record isn't there. `misspelt`: a line has
-`stop` and no `end`. `short`: a line isn't there, and the last line counts it.
+`stop` and no `end`. `short`: a line isn't there, and the last line counts it. `returned`: a carriage return alone ends the second line.
 """
 
 import json
@@ -23,10 +23,10 @@ def main(fault):
         read["stop"] = read.pop("end")
     elif fault == "short":
         rows.remove(read)
-    else:
+    elif fault != "returned":
         sys.exit(__doc__)
-    for row in rows:
-        print(json.dumps(row, separators=(",", ":")))
+    for at, row in enumerate(rows):
+        print(json.dumps(row, separators=(",", ":")), end="\r" if fault == "returned" and at == 1 else "\n")
 
 
 if __name__ == "__main__":
