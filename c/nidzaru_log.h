@@ -340,11 +340,23 @@ NIDZARU_LOG_INLINE uint64_t nidzaru_log_slowest(const nidzaru_log *log) {
     return slowest;
 }
 
+/* Waits a little. A thread that gave its processor away each time would seldom run while another one does. */
+NIDZARU_LOG_INLINE void nidzaru_log_wait(unsigned tries) {
+#ifdef __x86_64__
+    if (tries % 2000) {
+        _mm_pause();
+        return;
+    }
+#endif
+    (void)tries;
+    sched_yield();
+}
+
 /* Waits for the slowest, and then until it is behind by half as many, so that both run at once for a while. */
 NIDZARU_LOG_INLINE void nidzaru_log_keep_pace(nidzaru_log *log) {
     uint64_t turn = log->state->turn;
     if (!log->ahead || turn < log->reach || turn == NIDZARU_LOG_LEFT) return;
-    while ((log->reach = nidzaru_log_slowest(log) + log->ahead) <= turn + log->ahead / 2) sched_yield();
+    for (unsigned tries = 1; (log->reach = nidzaru_log_slowest(log) + log->ahead) <= turn + log->ahead / 2; tries++) nidzaru_log_wait(tries);
 }
 
 /* The kind is stored behind all else, so that a thread that is killed leaves a whole operation or none. */

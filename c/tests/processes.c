@@ -1,5 +1,5 @@
 /* Two processes over one word in shared memory, each with a log of its own, whose lines go to FOLDER/writes.jsonl, with the header, and
- * FOLDER/reads.jsonl. usage: processes FOLDER OPERATIONS [late]. Late, and wrong: now and then a read gives what the one before it gave. */
+ * FOLDER/reads.jsonl. usage: processes FOLDER OPERATIONS [late] */
 #define _GNU_SOURCE
 #include "nidzaru_log.h"
 #include <stdatomic.h>
@@ -26,12 +26,16 @@ static void write_all(nidzaru_log *log) {
     }
 }
 
+/* Late: of the reads before which a write has ended since the last one, each eighth gives what that one gave. */
 static void read_all(nidzaru_log *log, int late) {
-    uint64_t had = 0;
-    for (uint64_t turn = 1; !nidzaru_log_is_full(log); turn++) {
+    uint64_t had = 0, turn, seen = 0, lates = 0;
+    for (turn = 1; !nidzaru_log_is_full(log); turn++) {
+        unsigned long long ended;
         keep_pace(1, turn, log->state->room);
+        ended = atomic_load(&shared->ended[0]);
         nidzaru_log_begin_read(log);
-        if (!late || turn % 8) had = atomic_load(&shared->word);
+        if (!late || ended <= seen || ++lates % 8) had = atomic_load(&shared->word);
+        seen = atomic_load(&shared->ended[0]) + 1;
         nidzaru_log_end_read(log, had, &had, sizeof had);
         atomic_fetch_add(&shared->ended[1], 1);
     }

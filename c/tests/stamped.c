@@ -80,6 +80,8 @@ static void yield(void) {
 #define atomic_signal_fence(order) note((order) == memory_order_seq_cst ? 's' : '?')
 #define atomic_thread_fence(order) note((order) == memory_order_seq_cst ? 'f' : '?')
 #define sched_yield() yield()
+#undef _mm_pause
+#define _mm_pause() yield()
 #define clock_gettime look_at_clock
 #define malloc take_block
 #define free return_block

@@ -57,7 +57,7 @@ use std::io::{self, Write};
 use std::num::NonZeroU64;
 use std::sync::atomic::{AtomicU64, Ordering::Relaxed};
 use std::sync::Arc;
-use std::thread;
+use std::{hint, thread};
 
 /// The stamps.
 #[cfg(target_arch = "x86_64")]
@@ -407,7 +407,7 @@ impl Log {
     #[inline]
     fn begin(&mut self) -> u64 {
         if let Some(pace) = &mut self.pace {
-            pace.keep(thread::yield_now);
+            pace.keep(wait_a_little());
         }
         moment_after(self.last_end, clock::begin)
     }
@@ -446,6 +446,19 @@ impl Log {
         }
         let refused = limit.is_none() && self.operations.iter().any(|it| it.kind == Kind::Refused);
         refused.then_some(MergeError::NoLimit)
+    }
+}
+
+/// A way to wait. A thread that gave its processor away each time would seldom run while another one does.
+fn wait_a_little() -> impl FnMut() {
+    let mut tries = 0;
+    move || {
+        tries += 1;
+        if tries % 2000 == 0 {
+            thread::yield_now();
+        } else {
+            hint::spin_loop();
+        }
     }
 }
 
