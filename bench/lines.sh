@@ -11,7 +11,7 @@ room=$(mktemp -d) || exit 1
 trap 'rm -rf "$room"' EXIT
 first=
 ! chrt -f 50 true 2>/dev/null || first='chrt -f 50'
-for bytes in 24 256; do
+for bytes in 24 256 4096; do
     for register in four_slot triple plain; do
         ${CC:-cc} -std=c11 -O2 -DBYTES=$bytes -D"$(echo $register | tr a-z A-Z)" -I"$1/include" "$top/bench/lines.c" \
             "$1/lib/libnidzaru.a" -pthread -o "$room/$register,$bytes" || exit 1
