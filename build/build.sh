@@ -30,11 +30,11 @@ is_newer_than_sources() {
     [ -z "$(cd "$top" && find crates.txt "$@" -newer "$newer_than" -print -quit 2>/dev/null)" ]
 }
 
-# Whether a program, or the library for C, is there and no source that it is made of is newer. (build.py goes by the sums of the sources,
+# Whether a program, or a library for C, is there and no source that it is made of is newer. (build.py goes by the sums of the sources,
 # and gives what it finds built a new time.)
 is_fresh() {
     case $1 in
-    c_exports) is_newer_than_sources "$top/crates/$1/out/lib$1.a" "$1" ;;
+    *_exports) is_newer_than_sources "$top/crates/$1/out/lib$1.a" "$1" ;;
     *) [ -x "$top/crates/$1/out/$1" ] && is_newer_than_sources "$top/crates/$1/out/$1" "$1" ;;
     esac
 }
