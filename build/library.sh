@@ -88,6 +88,6 @@ library_pages='CHANGELOG.md LICENSE-MIT LICENSE-APACHE docs/C.md docs/PACKAGE.md
 # Lays out the library with its headers and pages, and the script that installs them, in a new folder, an absolute path.
 lay_out() {
     mkdir -p "$1/lib" "$1/include" && make_library "$1/lib/libnidzaru.a" && cp "$top/packaging/install" "$1/" \
-        && cp "$top/c/nidzaru.h" "$top/c/nidzaru.hpp" "$top/c/nidzaru_log.h" "$1/include/" \
+        && cp "$top/c/nidzaru.h" "$top/c/nidzaru.hpp" "$top/c/nidzaru_log.h" "$top/c/nidzaru_shared.h" "$1/include/" \
         && python3 "$top/packaging/pages.py" "$1/share/doc/nidzaru" $library_pages
 }

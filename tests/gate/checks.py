@@ -27,6 +27,7 @@ TOOLS = {
     "tests/library/c.sh": ("gcc", "g++", "clang", "clang++", "cmake", "valgrind", "cargo"),
     "tests/library/c_controls.sh": ("gcc", "cargo"),
     "tests/programs/recorder.sh": ("gcc", "g++", "clang", "clang++", "rustc", "cargo"),
+    "tests/library/shared.sh": ("gcc", "g++", "clang", "clang++"),
     "tests/library/package.sh": ("musl-gcc", "cmake", "cargo", "lintian", "unshare"),
 }
 # The scripts that have no checks, and those that are run by hand alone.
