@@ -83,15 +83,15 @@ class Room:
 
 
 def faults_by_hand(room):
-    faults = []
+    """The first join that isn't as it was written by hand."""
     for words, texts, wanted in BY_HAND:
         status, out, err = room.join(words, texts)
         if wanted.startswith("{"):
             if (status, out, err) != (0, wanted, ""):
-                faults.append(f"{words} of {texts}: status {status}: {out}{err}")
+                return [f"{words} of {texts}: status {status}: {out}{err}"]
         elif status != 3 or out or wanted not in err or not err.startswith(f"join: {room.folder}/"):
-            faults.append(f"{words} of {texts}: status {status}: {out}{err}")
-    return faults
+            return [f"{words} of {texts}: status {status}: {out}{err}"]
+    return []
 
 
 def recorded(random_numbers, count=24):
@@ -141,12 +141,12 @@ def faults_of_random(room, number):
 
 def main():
     parser = argparse.ArgumentParser()
-    parser.add_argument("--logs", type=int, default=25)
+    parser.add_argument("--logs", type=int, default=15)
     parser.add_argument("--tool", default=f"{TOP}/tools/convert/join.py")
     words = parser.parse_args()
     with tempfile.TemporaryDirectory() as folder:
         room = Room(folder, words.tool)
-        faults = faults_by_hand(room) + faults_of_random(room, words.logs)
+        faults = faults_by_hand(room) or faults_of_random(room, words.logs)
     print("\n".join(faults or [f"{len(BY_HAND)} joins as by hand, and {words.logs} random logs by two clocks"]))
     return 1 if faults else 0
 
