@@ -83,7 +83,7 @@ version_of_header() {
 
 # The pages that go with the library: what the header cites, what that page's readers need next, the examples and the licences.
 library_pages='CHANGELOG.md LICENSE-MIT LICENSE-APACHE docs/C.md docs/PACKAGE.md docs/LANGUAGES.md docs/BOARD-USE.md docs/ASSUMPTIONS.md
-    docs/ONE-TIME.md examples/c/tasks.c examples/c/tasks.cpp examples/c/board.c'
+    docs/ONE-TIME.md examples/c/tasks.c examples/c/tasks.cpp examples/c/board.c examples/c/own_memory.c examples/c/processes.c'
 
 # Lays out the library with its headers and pages, and the script that installs them, in a new folder, an absolute path.
 lay_out() {
