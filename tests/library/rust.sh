@@ -41,8 +41,19 @@ test_oldest_rust() {
     fi
 }
 
+# Sees that the pair of this word is a race.
+#   sees_race_in_rust WORD TITLE
+sees_race_in_rust() {
+    TSAN_OPTIONS=exitcode=66 "$pairs" "$1" >"$room/said" 2>&1
+    if [ $? = 66 ] && [ "$(grep -c '^WARNING: ThreadSanitizer' "$room/said")" = 1 ] && grep -q '#0 pairs::load ' "$room/said"; then
+        pass "planted: rust/pairs: $2"
+    else
+        fail "planted: rust/pairs: $2" "no race, or another: $(head -n 5 "$room/said" | tr '\n' ' ')"
+    fi
+}
+
 # Pairs of a store and a load under ThreadSanitizer, which the stable compiler has too: it is silent over those that a call orders, and sees
-# the race of the one that none does. (The standard library isn't built for it, so channels and the crate's other tests would show false
+# the races of two that none does. (The standard library isn't built for it, so channels and the crate's other tests would show false
 # races.)
 test_races_in_rust() {
     runtime=$(rustc --print sysroot)/lib/rustlib/x86_64-unknown-linux-gnu/lib
@@ -64,12 +75,8 @@ test_races_in_rust() {
     else
         fail "rust/pairs: what one call orders, with ThreadSanitizer" "$(head -n 5 "$room/said" | tr '\n' ' ')"
     fi
-    TSAN_OPTIONS=exitcode=66 "$pairs" unread >"$room/said" 2>&1
-    if [ $? = 66 ] && [ "$(grep -c '^WARNING: ThreadSanitizer' "$room/said")" = 1 ] && grep -q '#0 pairs::load ' "$room/said"; then
-        pass "planted: rust/pairs: a pair without its call is a race"
-    else
-        fail "planted: rust/pairs: a pair without its call is a race" "no race, or another: $(head -n 5 "$room/said" | tr '\n' ' ')"
-    fi
+    sees_race_in_rust unread "a pair without its call is a race"
+    sees_race_in_rust other "what another register tells is a race"
 }
 
 if command -v cargo >/dev/null 2>&1; then

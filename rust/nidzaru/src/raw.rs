@@ -264,6 +264,14 @@ impl<const N: usize> Words<N> {
         words
     }
 
+    /// The item in front, of whose type the first bytes have to be.
+    #[inline]
+    unsafe fn item<T: Copy>(&self) -> T {
+        assert!(size_of::<T>() <= size_of::<Self>());
+        // The words are aligned to 8, and a `T` may be to more.
+        unsafe { ptr::read_unaligned(self.0.as_ptr().cast::<T>()) }
+    }
+
     #[inline]
     fn as_ptr(&self) -> *const c_void {
         self.0.as_ptr().cast()
@@ -355,9 +363,10 @@ fn write_by<T: Copy, const N: usize>(calls: &'static Calls, writer: &mut Writing
     is_written(writer.order.show(|| unsafe { (calls.write)(&mut writer.side, words.as_ptr()) }))
 }
 
-/// What a loan answers, and where it leads. It takes room of the stack for a record of so many words.
+/// What a loan of this size of record answers, and where it leads. It takes room of the stack for a record of so many words.
 #[inline]
-fn lend<const N: usize>(loan: Loan, writer: &mut Side) -> (u32, *mut c_void) {
+fn lend<const N: usize>(size: usize, loan: Loan, writer: &mut Side) -> (u32, *mut c_void) {
+    assert!(size <= size_of::<[u64; N]>());
     let mut before = MaybeUninit::<[u64; N]>::uninit();
     let mut at = before.as_mut_ptr().cast::<c_void>();
     // `at` leads to room for a record of this call's own, as the library asks, and then to the writer's slot.
@@ -371,9 +380,9 @@ pub fn write_in_place<T: Copy>(calls: &'static Calls, writer: &mut WritingSide, 
     const { assert!(align_of::<T>() <= 8, "a record that is filled where it lies is aligned to at most 8") };
     let InPlace { loan, publish } = in_place_for(calls.size);
     let (status, at) = ignore(|| match calls.size {
-        65536 => apart(|| lend::<8192>(loan, &mut writer.side)),
-        1048576 => apart(|| lend::<131072>(loan, &mut writer.side)),
-        _ => lend::<512>(loan, &mut writer.side),
+        65536 => apart(|| lend::<8192>(65536, loan, &mut writer.side)),
+        1048576 => apart(|| lend::<131072>(1048576, loan, &mut writer.side)),
+        size => lend::<512>(size, loan, &mut writer.side),
     });
     must_be_done(status);
     writer.order.take(at);
@@ -408,12 +417,11 @@ pub fn read<T: Copy>(calls: &'static Calls, reader: &mut ReadingSide) -> (T, u64
 
 #[inline]
 fn read_by<T: Copy, const N: usize>(calls: &'static Calls, reader: &mut ReadingSide) -> (T, u64) {
-    assert!(size_of::<T>() <= size_of::<Words<N>>());
     let (mut words, mut number) = (Words::<N>::zero(), 0);
     // The words are as many as the library's record has.
     must_be_done(reader.order.see(|| unsafe { (calls.read)(&mut reader.side, words.as_mut_ptr(), &mut number) }));
     // They begin with the bytes of a `T`.
-    (unsafe { ptr::read_unaligned(words.as_ptr().cast::<T>()) }, number)
+    (unsafe { words.item() }, number)
 }
 
 /// Reads a record into place, and gives its number.
@@ -448,14 +456,15 @@ struct Large(UnsafeCell<[u64; 131_072]>);
 // Nobody writes there.
 unsafe impl Sync for Large {}
 
-/// A record of zeros of this size of the library's, for what has to lead to one before a hold.
-fn any_record(size: usize) -> *const c_void {
+/// A record of zeros of this size of the library's, or a larger one, for what has to lead to one before a hold.
+fn any_record(size: usize) -> &'static [u64] {
     static SMALL: [u64; 512] = [0; 512];
     static LARGE: Large = Large(UnsafeCell::new([0; 131_072]));
     if size <= 4096 {
-        SMALL.as_ptr().cast()
+        &SMALL
     } else {
-        LARGE.0.get().cast_const().cast()
+        // Nobody writes there.
+        unsafe { &*LARGE.0.get() }
     }
 }
 
@@ -463,7 +472,7 @@ fn any_record(size: usize) -> *const c_void {
 #[inline]
 pub fn hold<'a, T: Copy>(calls: &'static Calls, reader: &'a mut ReadingSide) -> (&'a T, u64) {
     const { assert!(align_of::<T>() <= 8, "a record that is read where it lies is aligned to at most 8") };
-    let (mut at, mut number) = (any_record(calls.size), 0);
+    let (mut at, mut number) = (any_record(calls.size).as_ptr().cast::<c_void>(), 0);
     // `at` leads to a whole record, as the library asks, and then to the one that the reader holds.
     must_be_done(reader.order.see(|| unsafe {
         match (calls.look)(&mut reader.side, &mut number) {
@@ -637,12 +646,11 @@ pub fn read_place<T: Copy>(calls: &'static BoardCalls, place: &mut BoardPlace) -
 
 #[inline]
 fn read_place_by<T: Copy, const N: usize>(calls: &BoardCalls, place: &mut BoardPlace) -> (T, Mark) {
-    assert!(size_of::<T>() <= size_of::<Words<N>>());
     let (mut words, mut stamp) = (Words::<N>::zero(), Mark::default());
     // The words are as many as the library's record has.
     must_be_done(place.order.see(|| unsafe { (calls.read)(&mut place.side, words.as_mut_ptr(), &mut stamp) }));
     // They begin with the bytes of a `T`.
-    (unsafe { ptr::read_unaligned(words.as_ptr().cast::<T>()) }, stamp)
+    (unsafe { words.item() }, stamp)
 }
 
 /// Reads a record into place, and gives its stamp.
@@ -668,13 +676,12 @@ pub fn read_place_since<T: Copy>(calls: &'static BoardCalls, place: &mut BoardPl
 
 #[inline]
 fn read_place_since_by<T: Copy, const N: usize>(calls: &BoardCalls, place: &mut BoardPlace, least: Mark) -> (T, Mark, bool) {
-    assert!(size_of::<T>() <= size_of::<Words<N>>());
     let (mut words, mut stamp) = (Words::<N>::zero(), Mark::default());
     // The words are as many as the library's record has.
     let status = place.order.see(|| unsafe { (calls.read_since)(&mut place.side, &least, words.as_mut_ptr(), &mut stamp) });
     assert!(status == DONE || status == OLDER, "the handle has a place");
     // They begin with the bytes of a `T`, with either status.
-    (unsafe { ptr::read_unaligned(words.as_ptr().cast::<T>()) }, stamp, status == DONE)
+    (unsafe { words.item() }, stamp, status == DONE)
 }
 
 #[cfg(test)]
@@ -746,10 +753,36 @@ mod tests {
         assert_eq!(words.0.map(|word| unsafe { word.assume_init() }), [u64::from(u32::MAX), 0, 0]);
     }
 
+    #[repr(align(64))]
+    #[derive(Clone, Copy, Debug, PartialEq)]
+    struct Wide([u64; 8]);
+
+    /// A record in front of words that lie at each multiple of 8. (An optimized build would read one that is aligned to 64 by moves that
+    /// fail where no multiple of 16 is.)
+    #[test]
+    fn words_may_be_aligned_less_than_their_record() {
+        #[repr(align(128))]
+        struct Room([MaybeUninit<u64>; 24]);
+        let mut room = Room([const { MaybeUninit::new(0) }; 24]);
+        let item_of: unsafe fn(&Words<8>) -> Wide = std::hint::black_box(Words::item);
+        for offset in 0..16 {
+            // There are 8 words from each of these on.
+            let words = unsafe { &mut *room.0[offset..].as_mut_ptr().cast::<Words<8>>() };
+            *words = Words::of(&Wide([7, 6, 5, 4, 3, 2, 1, 0]));
+            // They begin with the bytes of a `Wide`.
+            assert_eq!(unsafe { item_of(words) }, Wide([7, 6, 5, 4, 3, 2, 1, 0]));
+        }
+    }
+
+    #[test]
+    fn what_a_hold_leads_to_before_has_room_for_its_record() {
+        for size in [8, 24, 64, 256, 1024, 4096, 65_536, 1_048_576] {
+            assert!(size_of_val(any_record(size)) >= size);
+        }
+    }
+
     #[test]
     fn what_passes_is_as_large_and_aligned_as_the_librarys_record() {
-        #[repr(align(64))]
-        struct Wide([u64; 8]);
         assert!(passes::<[u64; 3]>(24));
         assert!(passes::<Wide>(64));
         assert!(!passes::<[u32; 6]>(24));

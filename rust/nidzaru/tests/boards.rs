@@ -64,8 +64,15 @@ fn what_no_board_has_is_refused() {
 fn tags_end_at_the_limit() {
     let mut places = limited_board::<_, Triple>(2, 2, 0).unwrap();
     assert!(places[0].write(&1).is_ok() && places[1].write(&2).is_ok());
-    assert_eq!(places[0].write(&3), Err(TagsEnded));
+    assert_eq!((places[0].write(&3), places[0].stamp()), (Err(TagsEnded), Stamp::new(1, 0)));
     assert_eq!((places[0].read(), places[1].read()), (2, 2));
+}
+
+#[test]
+fn an_older_answer_comes_with_its_stamp() {
+    let mut places = board(2, 0).unwrap();
+    places[1].write(&1).unwrap();
+    assert_eq!((places[0].read_since(Stamp::new(9, 0)), places[0].stamp()), (Since::Older(1), Stamp::new(1, 1)));
 }
 
 #[test]

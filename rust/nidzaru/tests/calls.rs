@@ -2,7 +2,7 @@
 
 use nidzaru::{
     board, board_over, library_version, register, register_over, triple_board, triple_register, BoardError, FourSlot, Mechanism,
-    OutOfMemory, Place, Sides, Triple, WornOut,
+    OutOfMemory, Sides, Triple, WornOut,
 };
 use std::cell::Cell;
 use std::ffi::c_void;
@@ -154,6 +154,34 @@ fn records_filled_in_place_at_each_size() {
     fills(|n| [u64::from(n); 512]);
     fills(|n| (n, f64::from(n)));
     fills(|_| ());
+}
+
+#[test]
+fn nothing_is_shown_where_a_fill_panics() {
+    let (mut writer, mut reader) = triple_register([1; 3]).unwrap();
+    writer.write(&[2; 3]).unwrap();
+    assert_eq!((reader.latest(), reader.number()), ([2; 3], 1));
+    let filled = std::panic::catch_unwind(std::panic::AssertUnwindSafe(|| {
+        writer.write_with(|record| {
+            *record = [3; 3];
+            panic!("a fill that panics, as this test wants it");
+        })
+    }));
+    assert!(filled.is_err());
+    assert_eq!((reader.has_news(), reader.latest(), reader.number()), (false, [2; 3], 1));
+    writer.write_with(|record| assert_eq!(*record, [3; 3])).unwrap();
+    assert_eq!((reader.latest(), reader.number()), ([3; 3], 2));
+}
+
+#[test]
+fn what_debug_prints() {
+    let (mut writer, mut reader) = register('a').unwrap();
+    let mut places = board(2, 'a').unwrap();
+    writer.write(&'b').unwrap();
+    reader.latest();
+    places[1].write(&'b').unwrap();
+    assert_eq!(format!("{writer:?} {reader:?}"), "Writer { .. } Reader { number: 1, .. }");
+    assert_eq!(format!("{:?}", places[1]), "Place { stamp: Stamp { tag: 1, writer: 1 }, .. }");
 }
 
 #[test]

@@ -3,8 +3,10 @@
 //! made. In one half of the pairs the write stands still behind the library's own call, until the other thread has read and loaded; in the
 //! other half the read stands still before it, until the other thread has stored and written. So an order that is told after the write, or
 //! looked for before the read, is a race in each run.
+//! And a slot that a reader held and a writer then fills, whose only order is the reader's next call and the loan.
 //! usage: pairs clean       nothing is to be reported
 //!        pairs unread      one pair without its call: a race, which is to be reported
+//!        pairs other       one pair whose read is of another register than its write: a race, which is to be reported
 //! Link with the --wrap words of tests/library/rust.sh.
 
 use nidzaru::{Place, Reader, Since, Stamp, Triple, Writer};
@@ -15,6 +17,7 @@ use std::sync::atomic::{AtomicBool, AtomicU32, Ordering::Relaxed};
 use std::thread;
 
 const ROUNDS: usize = 4;
+const LENT: u32 = 8;
 
 #[derive(Clone, Copy, Debug, PartialEq)]
 enum Call {
@@ -30,6 +33,8 @@ enum Call {
     ReadSince,
     PlaceNews,
     PlaceCopied,
+    /// A read of another register.
+    Other,
     None,
 }
 
@@ -147,7 +152,8 @@ fn pair(call: Call, before_read: bool, shared: &'static Shared) -> bool {
     let (mut half, mut other_half) = (small.pop().unwrap(), small.pop().unwrap());
     reach(0);
     BEFORE_READ.store(before_read, Relaxed);
-    ARMED.store(call != Call::None, Relaxed);
+    let stands_still = !matches!(call, Call::Other | Call::None);
+    ARMED.store(stands_still, Relaxed);
     let storing = thread::spawn(move || {
         if before_read {
             wait_for(1);
@@ -161,13 +167,13 @@ fn pair(call: Call, before_read: bool, shared: &'static Shared) -> bool {
             Call::Read | Call::PlaceReadInto | Call::ReadSince | Call::PlaceNews => drop(place.write(&[7; 3]).unwrap()),
             _ => writer.write(&[7; 3]).unwrap(),
         }
-        if before_read || call == Call::None {
+        if before_read || !stands_still {
             reach(2);
         }
         (writer, half_writer, lender, place, half)
     });
     let loading = thread::spawn(move || {
-        if !before_read && call != Call::None {
+        if !before_read && stands_still {
             wait_for(1);
         }
         let mut item = [0; 3];
@@ -183,6 +189,10 @@ fn pair(call: Call, before_read: bool, shared: &'static Shared) -> bool {
             Call::ReadSince => other.read_since(Stamp::new(1, 1)) == Since::Fresh([7; 3]),
             Call::PlaceNews => other.news() == Some([7; 3]),
             Call::PlaceCopied => other_half.read() == [7; 6],
+            Call::Other => {
+                wait_for(2);
+                half_reader.latest() == [0; 6]
+            }
             Call::None => {
                 wait_for(2);
                 true
@@ -199,6 +209,33 @@ fn pair(call: Call, before_read: bool, shared: &'static Shared) -> bool {
     loading.join().unwrap()
 }
 
+/// One thread reads each record where it lies, and holds another register's meanwhile; the other thread then fills the next one.
+fn lends() -> bool {
+    let (mut writer, mut reader) = nidzaru::triple_register([0; 3]).unwrap();
+    let (_other_writer, mut other) = nidzaru::triple_register([9; 3]).unwrap();
+    reach(0);
+    let filling = thread::spawn(move || {
+        for n in 1..=LENT {
+            wait_for(2 * n - 1);
+            writer.write_with(|record| *record = [u64::from(n); 3]).unwrap();
+            reach(2 * n);
+        }
+        writer
+    });
+    let holding = thread::spawn(move || {
+        let mut right = true;
+        for n in 0..=LENT {
+            wait_for(2 * n);
+            let (held, also) = (reader.hold(), other.hold());
+            right &= *held == [u64::from(n); 3] && *also == [9; 3];
+            reach(2 * n + 1);
+        }
+        (right, reader)
+    });
+    drop(filling.join().unwrap());
+    holding.join().unwrap().0
+}
+
 /// A cell of its own for each pair.
 fn fresh() -> &'static Shared {
     Box::leak(Box::new(Shared(UnsafeCell::new(0))))
@@ -206,8 +243,9 @@ fn fresh() -> &'static Shared {
 
 fn main() -> ExitCode {
     let passed = match std::env::args().nth(1).as_deref() {
-        Some("clean") => CALLS.iter().all(|&call| (0..ROUNDS).all(|round| pair(call, round % 2 == 1, fresh()))),
+        Some("clean") => CALLS.iter().all(|&call| (0..ROUNDS).all(|round| pair(call, round % 2 == 1, fresh()))) && lends(),
         Some("unread") => pair(Call::None, false, fresh()),
+        Some("other") => pair(Call::Other, false, fresh()),
         _ => false,
     };
     println!("{}", if passed { "passed" } else { "FAILED" });
