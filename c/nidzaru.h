@@ -66,6 +66,27 @@
  * compiler lays out with zeros behind it. ThreadSanitizer sees what a copy reads and writes, so there each record has one. */
 #define NIDZARU_PASSES(size, alignment) (!NIDZARU_WATCHED && (size) == NIDZARU_SIZE(size) && (alignment) >= 8)
 
+#if NIDZARU_WATCHED
+/* ThreadSanitizer is told of each copy of a record: gcc makes those of small ones unseen. */
+#ifdef __cplusplus
+extern "C" {
+#endif
+void __tsan_read_range(void *at, unsigned long size);
+void __tsan_write_range(void *at, unsigned long size);
+#ifdef __cplusplus
+}
+#endif
+NIDZARU_INLINE void nidzaru_copy(void *to, const void *from, size_t size) {
+    void *at;
+    memcpy(&at, &from, sizeof at);
+    __tsan_read_range(at, size);
+    __tsan_write_range(to, size);
+    memcpy(to, from, size);
+}
+#else
+#define nidzaru_copy(to, from, size) memcpy(to, from, size)
+#endif
+
 #ifdef __cplusplus
 #define NIDZARU_TO(type, value) static_cast<type>(value)
 #define NIDZARU_NOWHERE nullptr
@@ -121,7 +142,7 @@ template <class T, bool whole> struct giving {
     static void give(T *item, const void *record) { *item = unmade<T>(record).value; }
 };
 template <class T> struct giving<T, true> {
-    static void give(T *item, const void *record) { memcpy(static_cast<void *>(item), record, sizeof(T)); }
+    static void give(T *item, const void *record) { nidzaru_copy(static_cast<void *>(item), record, sizeof(T)); }
 };
 template <class T> void give(T *item, const void *record) { giving<T, !shares_tail<T>::value>::give(item, record); }
 
@@ -138,13 +159,13 @@ extern "C" {
 #define NIDZARU_COPIES(type) 1
 #define NIDZARU_PLAIN(type) (_Generic((type *)0, const type *: 0, default: 1) && _Generic((type *)0, volatile type *: 0, default: 1))
 #define NIDZARU_IN_PLACE(type) NIDZARU_PASSES(sizeof(type), _Alignof(type))
-#define NIDZARU_GIVE(item, record) memcpy(item, record, sizeof *(item))
+#define NIDZARU_GIVE(item, record) nidzaru_copy(item, record, sizeof *(item))
 #endif
 
 enum nidzaru_status {
     NIDZARU_DONE = 0,
     NIDZARU_NO_MEMORY = 1,  /* make: memory was refused */
-    NIDZARU_IN_USE = 2,     /* make, a move: a handle that is to get a side has one already */
+    NIDZARU_IN_USE = 2,     /* make, a move: a handle that is to get a side has one already, or is to get two */
     NIDZARU_ENDED = 3,      /* the handle has no side: it was ended, or never made */
     NIDZARU_WORN_OUT = 4,   /* write: all 2^64 - 1 numbers are used, or a board's tags have ended */
     NIDZARU_OTHER_SIDE = 5, /* the handle has another side, or a side of another cell or size */
@@ -276,7 +297,7 @@ void __tsan_release(void *at);
 __attribute__((weak)) char nidzaru_orders[1 << 16];
 __attribute__((weak)) unsigned nidzaru_registers;
 /* By each register's byte, where its reader holds a record. */
-__attribute__((weak)) void *nidzaru_held[1 << 16];
+__attribute__((weak)) void *nidzaru_held[sizeof nidzaru_orders];
 
 NIDZARU_INLINE void *nidzaru_new_order(void) {
     return &nidzaru_orders[__atomic_fetch_add(&nidzaru_registers, 1, __ATOMIC_RELAXED) % sizeof nidzaru_orders];
@@ -350,6 +371,7 @@ NIDZARU_INLINE void nidzaru_take(void *slot) { __tsan_acquire(slot); }
 NIDZARU_CHECKED int nidzaru_sized_make(int triple, size_t size, const void *first, nidzaru_handle *w, nidzaru_handle *r) {
     uint32_t status;
     nidzaru_ask_for_release();
+    if (w == r) return NIDZARU_IN_USE;
     nidzaru_ignore();
     status = NIDZARU_PICK(triple, size, make, (first, &w->side, &r->side));
     nidzaru_heed();
@@ -415,15 +437,9 @@ NIDZARU_CHECKED int nidzaru_sized_look(int triple, size_t size, nidzaru_handle *
      : (size) == 65536 ? nidzaru_triple_65536_##call arguments                                                        \
                        : nidzaru_triple_1048576_##call arguments)
 
-/* A record of zeros, for what has to lead to one before a hold. Nobody writes there. */
-NIDZARU_INLINE const void *nidzaru_any_record(size_t size) {
-    static const uint64_t words[4096 / 8] = {0};
-    static uint64_t large_words[1048576 / 8];
-    return size <= 4096 ? NIDZARU_TO(const void *, words) : large_words;
-}
-
+/* Before the call *at leads to a whole record of the library, which nobody writes. */
 NIDZARU_CHECKED int nidzaru_sized_hold(size_t size, nidzaru_handle *r, const void **at, uint64_t *number) {
-    const void *held = nidzaru_any_record(size);
+    const void *held = *at;
     uint64_t given = 0;
     uint32_t status;
     nidzaru_begin(r);
@@ -547,7 +563,7 @@ NIDZARU_CHECKED int nidzaru_move_handle(nidzaru_handle *to, nidzaru_handle *from
                                       &reader->handle);                                                                \
         } else {                                                                                                       \
             uint64_t words[NIDZARU_SIZE(sizeof(name##_record)) / 8] = {0};                                             \
-            memcpy(words, NIDZARU_TO(const void *, first), sizeof(name##_record));                                     \
+            nidzaru_copy(words, NIDZARU_TO(const void *, first), sizeof(name##_record));                               \
             return nidzaru_sized_make(triple, sizeof words, words, &writer->handle, &reader->handle);                  \
         }                                                                                                              \
     }                                                                                                                  \
@@ -560,7 +576,7 @@ NIDZARU_CHECKED int nidzaru_move_handle(nidzaru_handle *to, nidzaru_handle *from
             return nidzaru_sized_write(triple, sizeof(name##_record), &writer->handle, NIDZARU_TO(const void *, item)); \
         } else {                                                                                                       \
             uint64_t words[NIDZARU_SIZE(sizeof(name##_record)) / 8] = {0};                                             \
-            memcpy(words, NIDZARU_TO(const void *, item), sizeof(name##_record));                                      \
+            nidzaru_copy(words, NIDZARU_TO(const void *, item), sizeof(name##_record));                                \
             return nidzaru_sized_write(triple, sizeof words, &writer->handle, words);                                  \
         }                                                                                                              \
     }                                                                                                                  \
@@ -633,7 +649,8 @@ NIDZARU_CHECKED int nidzaru_move_handle(nidzaru_handle *to, nidzaru_handle *from
 #define NIDZARU_HOLD(name)                                                                                             \
     NIDZARU_ASSERT(NIDZARU_ALIGNMENT(name##_record) <= 8, "a record that is read where it lies is aligned to at most 8");   \
     NIDZARU_CHECKED int name##_hold(name##_reader *reader, const name##_record **at, uint64_t *number) {               \
-        const void *held = NIDZARU_NOWHERE;                                                                            \
+        static uint64_t before[NIDZARU_SIZE(sizeof(name##_record)) / 8];                                               \
+        const void *held = before;                                                                                     \
         int status;                                                                                                    \
         if (!reader || !at || !number) return NIDZARU_NULL;                                                            \
         if (nidzaru_is_copied(&reader->handle)) return NIDZARU_COPIED;                                                 \
@@ -838,7 +855,7 @@ NIDZARU_INLINE int nidzaru_sized_board_end(int triple, size_t size, nidzaru_hand
         size_t i;                                                                                                      \
         if (!first || !places) return NIDZARU_NULL;                                                                    \
         for (i = 0; i < count && i < 16; i++) handles[i] = &places[i].handle;                                          \
-        memcpy(words, NIDZARU_TO(const void *, first), sizeof(name##_record));                                         \
+        nidzaru_copy(words, NIDZARU_TO(const void *, first), sizeof(name##_record));                                   \
         return nidzaru_sized_board_make(triple, sizeof words, words, limit, handles, count);                           \
     }                                                                                                                  \
     /* The same, with tags that no program uses up. */                                                                 \
@@ -853,7 +870,7 @@ NIDZARU_INLINE int nidzaru_sized_board_end(int triple, size_t size, nidzaru_hand
             return nidzaru_sized_board_write(triple, sizeof(name##_record), &place->handle, NIDZARU_TO(const void *, item), stamp); \
         } else {                                                                                                       \
             uint64_t words[NIDZARU_BOARD_SIZE(sizeof(name##_record)) / 8] = {0};                                       \
-            memcpy(words, NIDZARU_TO(const void *, item), sizeof(name##_record));                                      \
+            nidzaru_copy(words, NIDZARU_TO(const void *, item), sizeof(name##_record));                                \
             return nidzaru_sized_board_write(triple, sizeof words, &place->handle, words, stamp);                      \
         }                                                                                                              \
     }                                                                                                                  \

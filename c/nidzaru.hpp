@@ -60,7 +60,7 @@ template <class T, cell C, std::size_t bytes = NIDZARU_SIZE(sizeof(T))> struct r
     std::uint64_t words[size / 8] = {};
 
     record() = default;
-    explicit record(const T &item) noexcept { std::memcpy(words, std::addressof(item), sizeof(T)); }
+    explicit record(const T &item) noexcept { nidzaru_copy(words, std::addressof(item), sizeof(T)); }
 };
 
 // A handle that may be moved, and has no side from then on.
@@ -202,7 +202,8 @@ template <class T, cell C = cell::four_slot> class reader : detail::side {
     [[nodiscard]] const T *hold() noexcept {
         static_assert(C == cell::triple, "a four-slot cell's records are read into place: a triple buffer has hold()");
         static_assert(alignof(T) <= 8, "a record that is read where it lies is aligned to at most 8");
-        const void *at = nullptr;
+        static std::uint64_t before[record::size / 8];
+        const void *at = before;
         if (nidzaru_sized_hold(record::size, &handle, &at, &last)) return nullptr;
         return std::launder(static_cast<const T *>(at));
     }

@@ -144,6 +144,16 @@ static void news_of_boards(void) {
     check(!part_boards_end(&p[0]) && !part_boards_end(&p[1]), "a board's news", "ends");
 }
 
+/* Of equal tags the greater writer's is news. */
+static void news_by_writers(void) {
+    whole_boards_place p[2] = {NIDZARU_EMPTY, NIDZARU_EMPTY};
+    struct signed_whole x = {9, {0, 0}}, y = {7, {0, 0}};
+    nidzaru_stamp told, its = {1, 0};
+    check(!whole_boards_make(&x, p, 2) && !whole_boards_write(&p[1], &x, &told) && is_stamp(told, 1, 1), "news by writers", "a write");
+    check(!whole_boards_news(&p[0], &y, &its) && is_stamp(its, 1, 1) && y.low == 9, "news by writers", "a greater writer");
+    check(!whole_boards_end(&p[0]) && !whole_boards_end(&p[1]), "news by writers", "ends");
+}
+
 /* What no call on a board takes: null pointers, copied places, and one live place among empty ones. */
 static void refused_places(void) {
     whole_boards_place p[3] = {NIDZARU_EMPTY, NIDZARU_EMPTY, NIDZARU_EMPTY}, q[3], copy, other = NIDZARU_EMPTY;
@@ -176,6 +186,7 @@ static void refused_places(void) {
         check(whole_boards_make(&x, q, 3) == NIDZARU_IN_USE && blocks == had, name, "make where one handle has a place");
         for (size_t k = 0; k < 3; k++) check(!q[k].handle.side.live == (k != live), name, "what that make leaves");
         check(whole_boards_move(&q[live], &p[(live + 1) % 3]) == NIDZARU_IN_USE, name, "a move to a live place");
+        check(whole_boards_move(&q[live], &p[live]) == NIDZARU_IN_USE && q[live].handle.side.live, name, "an empty place to a live one");
         check(!whole_boards_move(&p[live], &q[live]) && !q[live].handle.side.live, name, "a move back");
     }
     check(!whole_boards_move(&q[0], &q[1]) && !q[0].handle.side.live, name, "a move of an empty place");
@@ -266,7 +277,8 @@ static void texts(void) {
 
 /* Stamps in their order: by tags, and where these are the same by writers. */
 static void stamps(void) {
-    static const nidzaru_stamp in_order[] = {{0, 0}, {0, 1}, {1, 0}, {1, 15}, {2, 0}, {UINT64_MAX - 1, 3}, {UINT64_MAX, 0}, {UINT64_MAX, 1}};
+    static const nidzaru_stamp in_order[] = {{0, 0}, {0, 1}, {1, 0}, {1, 15}, {2, 0}, {UINT32_MAX, 15}, {UINT32_MAX + 1ull, 0},
+                                             {UINT64_MAX - 1, 3}, {UINT64_MAX, 0}, {UINT64_MAX, 1}};
     enum { COUNT = sizeof in_order / sizeof in_order[0] };
     for (int a = 0; a < COUNT; a++)
         for (int b = 0; b < COUNT; b++) {
@@ -283,6 +295,7 @@ int main(void) {
     part_boards_stamps();
     news_of_registers();
     news_of_boards();
+    news_by_writers();
     refused_places();
     names_of_records();
     texts();

@@ -70,6 +70,11 @@ static void only_these(const char *name, size_t size, int triple, nidzaru_side *
 NIDZARU_ASSERT(NIDZARU_WATCHED || (NIDZARU_PASSES(24, 8) && NIDZARU_PASSES(4096, 8)), "records that are passed where they lie");
 NIDZARU_ASSERT(!NIDZARU_PASSES(24, 4) && !NIDZARU_PASSES(8, 1) && !NIDZARU_PASSES(16, 8) && !NIDZARU_PASSES(4088, 8), "records that are copied");
 
+/* Each record goes into the least of the library's that has room. */
+static void sizes(void) {
+    for (size_t size = 1; size <= 1048576; size++) check(NIDZARU_SIZE(size) == cell_of(size, 0)->size, "sizes", "not the least size");
+}
+
 /* The most bytes that `make` asks for: records of the library with their numbers, in slots and in the passes, and what is the same
  * for every size. A four-slot register's words lie in a table of 32, so that the two sides' words share no cache line. Of each request
  * there may be two lines more, so that its block has its lines alone. */
@@ -110,6 +115,7 @@ static size_t most_bytes(size_t size, int triple) {
         name##_set(&item, 3);                                                                                                 \
         check(name##_make(0, &w, &r) == NIDZARU_NULL && name##_make(&item.x, 0, &r) == NIDZARU_NULL                           \
                   && name##_make(&item.x, &w, 0) == NIDZARU_NULL, #name, "make with a null pointer");                         \
+        check(name##_make(&item.x, &w, (name##_reader *)&w) == NIDZARU_IN_USE, #name, "make with one handle for both sides"); \
         check(!w.handle.side.live && !r.handle.side.live && blocks == had, #name, "what a refused make leaves");              \
         bytes = 0, asked = 0;                                                                                                 \
         check(!name##_make(&item.x, &w, &r) && name##_is(&item, 3), #name, "make");                                           \
@@ -151,6 +157,9 @@ static size_t most_bytes(size_t size, int triple) {
         check(!name##_move_writer(&moved_w, &w) && !name##_move_reader(&moved_r, &r), #name, "a move");                       \
         name##_refuses(&w, &r, NIDZARU_ENDED, "handles that were moved from");                                                \
         name##_lives(&moved_w, &moved_r, 20, 20, "handles that were moved to");                                               \
+        check(name##_move_writer(&moved_w, &w) == NIDZARU_IN_USE && name##_move_reader(&moved_r, &r) == NIDZARU_IN_USE, #name, \
+              "a move of an empty handle into a live one");                                                                   \
+        name##_lives(&moved_w, &moved_r, 20, 20, "after moves of empty handles");                                             \
         check(!name##_move_writer(&w2, &w) && !w2.handle.side.live, #name, "a move of an empty handle");                      \
         check(!name##_make(&item.x, &w, &r), #name, "make in handles that were moved from");                                  \
         check(!name##_end_writer(&w) && !name##_end_reader(&r) && blocks == alive, #name, "their ends");                      \
@@ -197,6 +206,7 @@ ALL_WORDS(WORDS)
 
 int main(void) {
     check(nidzaru_version() == NIDZARU_VERSION, "version", "header and library aren't of one version");
+    sizes();
     ALL_BYTES(RUN_BYTES)
     ALL_WORDS(RUN_WORDS)
     check(!blocks, "blocks", "some are left");

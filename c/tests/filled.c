@@ -1,6 +1,6 @@
 /* Under MemorySanitizer, which doesn't see inside the library: what each call gives counts as filled, and what a refused call leaves
- * doesn't. usage: filled clean      nothing is to be reported
- *                 filled refused    one use of what nothing has filled, which is to be reported */
+ * doesn't. usage: filled clean             nothing is to be reported
+ *                 filled refused WHAT      a use of this, which nothing has filled, is to be reported */
 #include "nidzaru.h"
 #include <stdio.h>
 
@@ -20,16 +20,14 @@ static int sum(const void *bytes, size_t count) {
 }
 
 #define REGISTER(name, type)                                                                                          \
-    static int name##_filled(int refused) {                                                                           \
+    static int name##_filled(void) {                                                                                  \
         name##_writer w = NIDZARU_EMPTY;                                                                              \
         name##_reader r = NIDZARU_EMPTY;                                                                              \
         type first = {{1, 2, 3}}, x, y;                                                                               \
         uint64_t n, m, o = 0;                                                                                         \
         int odd = 0;                                                                                                  \
         if (name##_make(&first, &w, &r) || name##_write(&w, &first)) return -1;                                       \
-        if (refused && name##_end_reader(&r)) return -1;                                                              \
-        if (name##_look(&r, &m) != refused * NIDZARU_ENDED) return -1;                                                \
-        if (name##_read(&r, &x, &n) != refused * NIDZARU_ENDED) return -1;                                            \
+        if (name##_look(&r, &m) || name##_read(&r, &x, &n)) return -1;                                                \
         odd += sum(&x, sizeof x) + sum(&n, sizeof n) + sum(&m, sizeof m);                                             \
         if (name##_news(&r, &y, &o)) return -1;                                                                       \
         odd += sum(&y, sizeof y) + sum(&o, sizeof o) + sum(&r.handle, sizeof r.handle) + sum(&w.handle, sizeof w.handle); \
@@ -69,10 +67,25 @@ static int held_filled(void) {
 BOARD(whole_boards, struct whole)
 BOARD(part_boards, struct part)
 
+/* Uses what a call with an empty handle leaves as it was. */
+static int use_of(const char *what) {
+    wholes_reader r = NIDZARU_EMPTY;
+    whole_boards_place p = NIDZARU_EMPTY;
+    struct whole item, board_item;
+    uint64_t number, looked;
+    nidzaru_stamp stamp;
+    if (wholes_read(&r, &item, &number) != NIDZARU_ENDED || wholes_look(&r, &looked) != NIDZARU_ENDED) return -1;
+    if (whole_boards_read(&p, &board_item, &stamp) != NIDZARU_ENDED) return -1;
+#define IF_NAMED(it)                                                                                                  \
+    if (!strcmp(what, #it)) return sum(&it, sizeof it);
+    IF_NAMED(item) IF_NAMED(number) IF_NAMED(looked) IF_NAMED(board_item) IF_NAMED(stamp)
+    return -1;
+}
+
 int main(int count, char **words) {
-    int wrong = count != 2;
-    if (!wrong && !strcmp(words[1], "refused")) wrong = wholes_filled(1) >= 0;
-    else wrong |= wholes_filled(0) < 0 || parts_filled(0) < 0 || held_filled() < 0 || whole_boards_filled() < 0 || part_boards_filled() < 0;
+    int wrong;
+    if (count == 3 && !strcmp(words[1], "refused")) wrong = use_of(words[2]) < 0;
+    else wrong = wholes_filled() < 0 || parts_filled() < 0 || held_filled() < 0 || whole_boards_filled() < 0 || part_boards_filled() < 0;
     puts(wrong ? "FAILED" : "passed");
     return wrong;
 }

@@ -1,5 +1,5 @@
 /* Held reads of a triple buffer: the address leads to the whole record, with its number, and what lies there stays until the reader's
- * next call, however much is written meanwhile. usage: held [WRITES] */
+ * next call, however much is written meanwhile. usage: held [WRITES [threads]] */
 #include "lent.h"
 
 #define TEST(name)                                                                                                    \
@@ -48,11 +48,6 @@ static void test_four_slots(void) {
     check(!fours_make(&given, &writer, &reader), "four slots", "make");
     check(fours_hold(&reader, &at, &number) == NIDZARU_OTHER_SIDE && at == &given && number == 9, "four slots", "hold");
     check(!fours_end_writer(&writer) && !fours_end_reader(&reader), "four slots", "ends");
-}
-
-/* The writer waits until so many records were met, by what orders nothing that ThreadSanitizer knows of. */
-static void wait_until_met(int count) {
-    while (__atomic_load_n(&met, __ATOMIC_RELAXED) < count && !__atomic_load_n(&failed, __ATOMIC_RELAXED)) sched_yield();
 }
 
 static void *write_pages(void *unused) {

@@ -63,6 +63,11 @@ static pages_writer page_writer;
 /* How many records the reader has met. */
 static int met;
 
+/* The writer waits until so many records were met, by what orders nothing that ThreadSanitizer knows of. */
+static void wait_until_met(int count) {
+    while (__atomic_load_n(&met, __ATOMIC_RELAXED) < count && !__atomic_load_n(&failed, __ATOMIC_RELAXED)) sched_yield();
+}
+
 static int is_page(const struct page *page, uint64_t number) {
     int i;
     for (i = 0; i < 512; i++)
@@ -70,24 +75,27 @@ static int is_page(const struct page *page, uint64_t number) {
     return 1;
 }
 
-/* Holds the pages that `write_pages` writes in a thread of its own. */
+/* Holds the pages that `write_pages` writes in a thread of its own, and meanwhile another register's page. */
 static void hold_pages(void *(*write_pages)(void *)) {
     static struct page opening;
-    static pages_reader reader;
-    const struct page *at = 0;
-    uint64_t number = 0, last = 0;
+    static pages_reader reader, other_reader;
+    static pages_writer other_writer;
+    const struct page *at = 0, *other = 0;
+    uint64_t number = 0, last = 0, none = 9;
     pthread_t thread;
-    check(!pages_make(&opening, &page_writer, &reader), "threads", "make");
+    check(!pages_make(&opening, &page_writer, &reader) && !pages_make(&opening, &other_writer, &other_reader), "threads", "make");
     check(!pthread_create(&thread, 0, write_pages, 0), "threads", "start");
     while (number < writes && !failed) {
-        check(!pages_hold(&reader, &at, &number), "threads", "hold");
+        check(!pages_hold(&reader, &at, &number) && !pages_hold(&other_reader, &other, &none), "threads", "hold");
         check(number >= last, "threads", "a number fell");
         check(is_page(at, number) && is_page(at, number), "threads", "a held record isn't whole, or changed");
+        check(is_page(other, 0) && none == 0, "threads", "the other register's page");
         if (number > last) __atomic_fetch_add(&met, 1, __ATOMIC_RELAXED);
         last = number;
     }
     check(!pthread_join(thread, 0), "threads", "join");
     check(!pages_end_writer(&page_writer) && !pages_end_reader(&reader), "threads", "ends");
+    check(!pages_end_writer(&other_writer) && !pages_end_reader(&other_reader), "threads", "the other register's ends");
 }
 
 /* How a program ends. */
@@ -98,12 +106,14 @@ static int told(void) {
 
 #define CALL_TEST(name) test_##name();
 
-/* The tests of each size, of four slots and of threads, with as many writes as the first word says. */
+/* The tests of each size, of four slots and of threads, with as many writes as the first word says; with a second word of threads alone. */
 #define MAIN                                                                                                          \
     int main(int count, char **words) {                                                                               \
         if (count > 1) writes = strtoull(words[1], 0, 10);                                                            \
-        EACH_SIZE(CALL_TEST)                                                                                          \
-        test_four_slots();                                                                                            \
+        if (count < 3) {                                                                                              \
+            EACH_SIZE(CALL_TEST)                                                                                      \
+            test_four_slots();                                                                                        \
+        }                                                                                                             \
         test_threads();                                                                                               \
         return told();                                                                                                \
     }

@@ -1,5 +1,5 @@
 /* Writes in place over a triple buffer: what is filled in the lent slot is the next record once it is published, whole, and what isn't
- * filled is an older record's. usage: loaned [WRITES] */
+ * filled is an older record's. usage: loaned [WRITES [threads]] */
 #include "lent.h"
 
 #define TEST(name)                                                                                                    \
@@ -72,6 +72,7 @@ static void *fill_pages(void *unused) {
         if (pages_loan(&page_writer, &at)) break;
         for (i = 0; i < 512; i++) at->words[i] = n;
         if (pages_publish(&page_writer)) break;
+        if (n % 64 == 0) wait_until_met((int)(n / 64));
     }
     return unused;
 }

@@ -323,6 +323,15 @@ def faults(page, folder, compilers):
         yield "the compiler says: " + " ".join(told.split("\n")[:3])
 
 
+def is_refused_for_narrow_pointers(folder, compiler):
+    """Whether the header, once it has its own headers, isn't taken where pointers have 4 bytes, and says why."""
+    with tempfile.TemporaryDirectory() as room:
+        page = os.path.join(room, "page.i")
+        made = subprocess.run([compiler, "-E", "-P", "-I", folder, "-include", "nidzaru.h", "-x", "c", "/dev/null", "-o", page], check=False)
+        told = subprocess.run([compiler, "-m32", "-w", "-fsyntax-only", page], capture_output=True, text=True, check=False)
+    return not made.returncode and told.returncode != 0 and "the library is built for pointers of 8 bytes" in told.stderr
+
+
 def main(folder, c_compiler, cpp_compiler):
     compilers = {C: c_compiler, CPP: cpp_compiler}
     passed = failed = 0
@@ -335,6 +344,11 @@ def main(folder, c_compiler, cpp_compiler):
             print(f"test: refused, {name} ({compilers[language]}): FAILED: {text[:160]}")
         if not wrong:
             print(f"test: refused, {name} ({compilers[language]}): ok, {len(rows)} rows")
+    if is_refused_for_narrow_pointers(folder, c_compiler):
+        passed += 1
+    else:
+        failed += 1
+        print(f"test: refused, pointers of 4 bytes ({c_compiler}): FAILED: the header is taken")
     print(f"{passed} passed, {failed} failed")
     return failed != 0
 

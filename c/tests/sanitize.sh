@@ -1,7 +1,7 @@
 #!/bin/sh
 # Runs the tests of the library for C under what watches a program: valgrind (no error, no block left), the sanitizers of addresses
-# and of undefined behaviour, MemorySanitizer, which must be silent over the tests and must see one use of memory that nothing filled, and
-# ThreadSanitizer, which must be silent over the tests and must see four races. Each on the C side, with gcc and clang, where it is there.
+# and of undefined behaviour, MemorySanitizer, which must be silent over the tests and must see each use of memory that nothing filled, and
+# ThreadSanitizer, which must be silent over the tests and must see each race. Each on the C side, with gcc and clang, where it is there.
 # The last line is the sums. usage: c/tests/sanitize.sh [WRITES [LIBRARY]]
 cd "$(dirname -- "$(readlink -f -- "$0")")/../.." || exit 1
 top=.
@@ -16,6 +16,11 @@ library=${2:-$room/libnidzaru.a}
 wrapped='-Wl,--wrap=malloc,--wrap=realloc,--wrap=free'
 paused='-Wl,--wrap=nidzaru_8_write,--wrap=nidzaru_8_read,--wrap=nidzaru_8_look,--wrap=nidzaru_triple_8_write,--wrap=nidzaru_triple_8_look'
 paused=$paused,--wrap=nidzaru_triple_8_publish,--wrap=nidzaru_board_24_write,--wrap=nidzaru_board_24_read,--wrap=nidzaru_board_24_read_since
+led=
+for size in 8 24 64 256 1024 4096 65536 1048576; do
+    led="$led -Wl,--wrap=nidzaru_triple_${size}_hold,--wrap=nidzaru_triple_${size}_loan"
+done
+calls='write read look hold loan publish end_writer end_reader board_write board_read board_read_since board_end'
 tests='test edges calls triple_calls held loaned boards triple_boards board_edges test_cpp boards_cpp'
 
 # Runs a program whose last line must be 'passed'.
@@ -94,6 +99,8 @@ for pair in gcc,g++ clang,clang++; do
         for test in $tests; do
             run "$test with the sanitizers of addresses and undefined behaviour ($c)" "$room/$test" "$writes"
         done
+        in_c led loaned.c c/tests/led.c $led || exit 1
+        run "what a hold and a loan are passed, with the sanitizer of addresses ($c)" "$room/led" "$writes"
     fi
     # (at -O0: a test over all sizes takes minutes to compile with more)
     if has '-fsanitize=memory'; then
@@ -103,11 +110,13 @@ for pair in gcc,g++ clang,clang++; do
             run "$test with MemorySanitizer ($c)" "$room/$test" "$writes"
         done
         run "what the library fills, with MemorySanitizer ($c)" "$room/filled" clean
-        sees_unfilled "MemorySanitizer: what a refused read leaves unfilled ($c)" "$room/filled" refused
+        for what in item number looked board_item stamp; do
+            sees_unfilled "MemorySanitizer: what a refused call leaves unfilled: $what ($c)" "$room/filled" refused $what
+        done
     fi
     if has '-fsanitize=thread'; then
         compile '-fsanitize=thread' || exit 1
-        in_c watched watched.c && in_c pairs pairs.c $paused || exit 1
+        in_c watched watched.c c/tests/elsewhere.c && in_cpp watched_cpp watched.cpp && in_c pairs pairs.c $paused || exit 1
         for test in $tests; do
             run "$test with ThreadSanitizer ($c)" "$room/$test" "$writes"
         done
@@ -115,8 +124,16 @@ for pair in gcc,g++ clang,clang++; do
         sees_race "ThreadSanitizer: a pair without its call is a race ($c)" load "$room/pairs" unread
         run "what records point to, with ThreadSanitizer ($c)" "$room/watched" clean
         sees_race "ThreadSanitizer: what another register tells is a race ($c)" read_elsewhere "$room/watched" other
-        sees_race "ThreadSanitizer: one handle in two threads is a race ($c)" nidzaru_begin "$room/watched" twice
-        sees_race "ThreadSanitizer: a record that changes while it is written is a race ($c)" change_shared "$room/watched" item
+        for call in $calls; do
+            sees_race "ThreadSanitizer: one handle in two threads is a race: $call ($c)" nidzaru_begin "$room/watched" twice $call
+        done
+        for call in write read board_write board_read; do
+            sees_race "ThreadSanitizer: a record that changes meanwhile is a race: $call ($c)" change_shared "$room/watched" record $call
+        done
+        for call in write read place_write place_read; do
+            sees_race "ThreadSanitizer: a class's record that changes meanwhile is a race: $call ($c)" '.*change_shared[()]*' \
+                "$room/watched_cpp" class $call
+        done
     fi
 done
 if [ -x "$room/watched" ]; then

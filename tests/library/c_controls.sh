@@ -1,5 +1,5 @@
 # The controls of tests/library/c.sh and tests/library/rust.sh, by their own functions over the library that they installed: a program that
-# says something else or isn't built, a right library where a plain buffer is due, and a test in Rust that fails.
+# says something else or isn't built, a right library where a plain buffer is due, edits that no test refuses, and a test in Rust that fails.
 
 # A control of a function of tests/library/c.sh, which wants this of a program.
 #   catches_program TITLE SAID FUNCTION WANTED COMMAND..
@@ -17,6 +17,18 @@ elif command -v gcc >/dev/null 2>&1; then
         gcc -std=c11 -DNIDZARU_REGISTER examples/c/tasks.c
     catches_program "a register where a plain buffer is due" "it took a plain buffer" run_control 'a torn record' \
         gcc -std=c11 -D_GNU_SOURCE -O2 c/tests/test.c $flags -pthread
+fi
+
+# The control of c/tests/planted.py, which has to fail over a copy in which the text of a file is changed, and say this.
+#   catches_planted TITLE SAID FILE SED
+catches_planted() {
+    catches_in_tree "$1" "$2" "$3" "$4" python3 c/tests/planted.py "$installed/lib/libnidzaru.a" 'pointers of 4 bytes'
+}
+if [ -n "${flags:-}" ] && command -v gcc >/dev/null 2>&1; then
+    catches_planted "a verdict that is always the same" 'FAILED: control: a comment: it is refused' \
+        c/tests/planted.py 's/^    name, paths, old, new, test, word = row/    return None/'
+    catches_planted "an edit that changes nothing" 'FAILED: pointers of 4 bytes: it gets through narrow' \
+        c/tests/edits.py 's|.NIDZARU_ASSERT(sizeof(void \*) == 8, .*, "", "narrow"|"/* What a handle begins as: zeros. */", "", "narrow"|'
 fi
 
 if [ -n "${flags:-}" ] && command -v cargo >/dev/null 2>&1; then
