@@ -9,6 +9,7 @@ mod Reported
 mod Twice
 mod Listings
 mod Single
+mod SoFar
 mod Made
 mod Scheduled
 mod Shown

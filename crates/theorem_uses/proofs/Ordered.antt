@@ -27,6 +27,13 @@ unfinished ends kind times e l h = writes kind times l (subst (λ z. MayStand z 
 precedes : (ends : Option ℕ) (end starts : ℕ) → ends ≡ Some end → end < starts → IsSomeAnd ends (λ e. e < starts)
 precedes ends end starts e l = subst (λ z. IsSomeAnd z (λ e. e < starts)) (sym e) l
 
+pub uncut : (xs : List ℕ) (i j p : ℕ) → slice_get (take j xs) i ≡ Some p → slice_get xs i ≡ Some p
+uncut [] i zero p e = absurd (none-some p e)
+uncut [] i (suc j) p e = absurd (none-some p e)
+uncut (x ∷ xs) i zero p e = absurd (none-some p e)
+uncut (x ∷ xs) zero (suc j) p e = e
+uncut (x ∷ xs) (suc i) (suc j) p e = uncut xs i j p e
+
 pub cut : (xs : List ℕ) (i j p : ℕ) → i < j → slice_get xs i ≡ Some p → slice_get (take j xs) i ≡ Some p
 cut [] i j p l e = absurd (none-some p e)
 cut (x ∷ xs) zero zero p l e = absurd (omega arith)
@@ -91,8 +98,12 @@ module _ {R : Type 0} where
       let is = reads opening ops order y.0 q read atomic y.1 at_q reads_it in
       other (sym there ∙ is.2 ∙ sym is.1 ∙ has)
 
-  pub waits : WaitsForTheLimit R
-  waits limit ops order i p op some lawful none e at refused =
+  -- nothing is written before it
+  pub waits_among : (limit : ℕ) (ops : List (Op R)) (order : List ℕ) (i p : ℕ) (op : Op R) → 0 < limit →
+      RefusesLawfully (record { first = 0; limit = limit } ∷ []) ops order →
+      ((y q : ℕ) (o : Op R) → slice_get (take i order) y ≡ Some q → slice_get ops q ≡ Some o → o.kind ≢ Write) →
+      slice_get order i ≡ Some p → slice_get ops p ≡ Some op → op.kind ≢ Refused
+  waits_among limit ops order i p op some lawful none e at refused =
       let least = lawful 0 (record { first = 0; limit = limit }) refl i p op e at refused within in
       let zero_of = counts_none (in_term (record { first = 0; limit = limit }) []) ops (take i order) none in
       omega (arith, some, least, zero_of)
@@ -102,3 +113,7 @@ module _ {R : Type 0} where
 
       within : in_term (record { first = 0; limit = limit }) [] p ≡ true
       within = ap (λ b. b && true) least_of
+
+  pub waits : WaitsForTheLimit R
+  waits limit ops order i p op some lawful none e at refused =
+      waits_among limit ops order i p op some lawful (λ y q o x. none q o) e at refused

@@ -21,3 +21,4 @@ pub mod Runs
 pub mod Ends
 pub mod Passing
 pub mod Terms
+pub mod SoFar
