@@ -28,6 +28,7 @@ TOOLS = {
     "tests/library/c_controls.sh": ("gcc", "cargo"),
     "tests/programs/recorder.sh": ("gcc", "g++", "clang", "clang++", "rustc", "cargo"),
     "tests/library/shared.sh": ("gcc", "g++", "clang", "clang++"),
+    "tests/programs/page.sh": ("gcc", "wasm-opt", "chromium"),
     "tests/library/package.sh": ("musl-gcc", "cmake", "cargo", "lintian", "unshare"),
 }
 # The scripts that have no checks, and those that are run by hand alone.

@@ -1,0 +1,398 @@
+"use strict";
+const $ = id => document.getElementById(id);
+// a longer document isn't put into the text field whole, nor a longer answer below it
+const MOST_SHOWN = 200000;
+// of a longer document this much is shown
+const FRONT = 40000;
+// as many numbers of an answer are made links
+const MOST_LINKS = 500;
+// a longer document makes no link to the page
+const MOST_LINKED = 60000;
+const WORDS = {
+  "check": ["This order is lawful", "This order isn't lawful"],
+  "order": ["Atomic: a lawful order exists", "Not atomic: no order is lawful"],
+  "order --order": ["Atomic: a lawful order exists", "Not atomic: no order is lawful"],
+  "order --small": ["Atomic: so there is no small log", "Not atomic: a small log shows why"],
+  "play": ["Played"],
+  "picture": ["Drawn", "Drawn: it isn't lawful"],
+};
+const ENDS = { 3: "Refused: nothing is said of its operations", 4: "Out of memory" };
+const BOUNDS = { "64 MB": 2 ** 26, "256 MB": 2 ** 28, "1 GB": 2 ** 30, "4 GB": 2 ** 32, "12 GB": 12 * 2 ** 30 };
+// The regions of an answer whose numbers are lines or operations of the document.
+const NAMED = /\blines? \d+(?: and \d+)?|\boperations? \d+(?:(?: and| precedes) \d+)*|^(?:unlawful \w+|order:|writes:)(?: \d+)+/gim;
+
+// -- the module and its worker --
+
+// Whether the browser has memories of 64 bits and is fast with them. (Others than Chromium check each access, which
+// costs more than vectors bring.)
+const OF_64_BITS = new Uint8Array([0, 97, 115, 109, 1, 0, 0, 0, 5, 3, 1, 4, 1]);
+const isWide = () => /Chrom(e|ium)\//.test(navigator.userAgent) && WebAssembly.validate(OF_64_BITS);
+
+async function unpacked(id) {
+  const bytes = Uint8Array.from(atob($(id).textContent), it => it.charCodeAt(0));
+  return new Uint8Array(await new Response(new Blob([bytes]).stream().pipeThrough(new DecompressionStream("gzip"))).arrayBuffer());
+}
+
+const state = { worker: null, module: null, number: 0, running: false, began: 0, file: null, kind: "", zoom: 1, picture: null };
+
+async function begin() {
+  const wide = isWide() && location.hash !== "#narrow";
+  state.module ||= await unpacked(wide ? "wide" : "narrow");
+  document.body.dataset.width = wide ? "64" : "32";
+  $("width").textContent = `this page uses the module of ${wide ? 64 : 32} bits`;
+  const code = new Blob(['"use strict";', $("code").textContent], { type: "text/javascript" });
+  const worker = new Worker(URL.createObjectURL(code));
+  const ready = new Promise((done, failed) => {
+    state.abandon = done;
+    worker.onmessage = ({ data }) => (data.ready ? done() : data.number === undefined ? failed(data.error) : hear(data));
+    worker.onerror = event => {
+      event.preventDefault();
+      failed(event.message);
+      hear({ number: state.number, error: event.message });
+    };
+  });
+  worker.postMessage({ module: state.module });
+  state.worker = worker;
+  await ready;
+}
+
+// Ends what the worker does, and begins anew. Whoever waits for it goes on, and finds that it is asked for no more.
+function restart() {
+  state.worker.terminate();
+  state.abandon();
+  state.ready = begin();
+}
+
+async function ask() {
+  clearTimeout(state.later);
+  state.number++;
+  if (state.running && state.worker) restart();
+  const number = state.number;
+  state.running = true;
+  state.began = performance.now();
+  document.body.dataset.ready = "";
+  tick("waiting");
+  try {
+    await state.ready;
+  } catch (error) {
+    return hear({ number, error: String(error) });
+  }
+  if (number !== state.number) return;
+  const request = { number, command: $("command").value, bound: Number($("bound").value) };
+  if (state.file) return state.worker.postMessage({ ...request, file: state.file });
+  const bytes = new TextEncoder().encode($("text").value);
+  state.worker.postMessage({ ...request, bytes: bytes.buffer }, [bytes.buffer]);
+}
+
+function stop() {
+  if (!state.running || !state.worker) return;
+  state.number++;
+  restart();
+  over();
+  tell("odd", "Stopped", "The document stays as it is.");
+  document.body.dataset.ready = "stopped";
+}
+
+// Says how far a long run is.
+function tick(phase) {
+  state.phase = phase;
+  clearInterval(state.ticking);
+  const says = () => {
+    const seconds = (performance.now() - state.began) / 1000;
+    if (seconds < 0.3) return;
+    tell("", `${phase[0].toUpperCase()}${phase.slice(1)} ..`, "", `${seconds.toFixed(1)} s`, true);
+    $("stop").hidden = $("progress").hidden = false;
+  };
+  state.ticking = setInterval(says, 100);
+}
+
+function over() {
+  state.running = false;
+  clearInterval(state.ticking);
+  $("stop").hidden = $("progress").hidden = true;
+}
+
+function hear(data) {
+  if (data.number !== state.number) return;
+  if (data.phase) return tick(data.phase);
+  over();
+  if (data.error) {
+    show({ hidden: true });
+    tell("odd", "The module stopped", `It gave no answer: ${data.error}. The document stays as it is.`);
+    document.body.dataset.ready = "error";
+    return;
+  }
+  answer(data);
+}
+
+// -- what is shown --
+
+function tell(kind, title, sentence, facts = "", quiet = false) {
+  $("verdict").className = kind;
+  $("verdict").setAttribute("aria-live", quiet ? "off" : "polite");
+  $("title").textContent = title;
+  $("sentence").replaceChildren(...(typeof sentence === "string" ? [sentence] : sentence));
+  $("facts").textContent = facts;
+}
+
+const inUnits = (number, unit) => `${number.toFixed(number < 10 ? 1 : 0)} ${unit}`;
+const sizeOf = bytes => (bytes < 1e3 ? `${bytes} bytes` : bytes < 1e6 ? inUnits(bytes / 1e3, "kB") : inUnits(bytes / 1e6, "MB"));
+const timeOf = ms => (ms < 1e3 ? inUnits(ms, "ms") : inUnits(ms / 1e3, "s"));
+
+// The sentence of an answer: the program's own, where it prints one, else that of the picture.
+function sentenceOf(data, text) {
+  if (data.status > 1) return text;
+  const lines = text.split("\n").filter(it => it);
+  const own = data.kind === "lines" && data.command !== "order --small" ? lines.find(it => /^Lines? \d/.test(it)) : undefined;
+  const svg = data.picture && data.picture.of === "document" ? new TextDecoder().decode(data.picture.svg) : "";
+  const drawn = /<text class="z" x="8" y="24">([^<]*)/.exec(svg);
+  const first = data.command === "picture" || data.command === "play" || data.command === "order --small" ? "" : lines[0] || "";
+  return own || (drawn ? drawn[1].replace(/&lt;/g, "<").replace(/&gt;/g, ">").replace(/&amp;/g, "&") : first);
+}
+
+function answer(data) {
+  const text = new TextDecoder().decode(data.text);
+  state.kind = data.kind;
+  const counts = (data.kind === "lines" && data.status <= 1 && /^\d+ operations, .*$/m.exec(text)) || [""];
+  const spent = [timeOf(data.took), `${sizeOf(data.memory)} of memory`, `document of ${sizeOf(data.length)}`];
+  const facts = [`${data.command}, status ${data.status}`, counts[0], ...spent].filter(it => it).join(" \u00b7 ");
+  const title = data.status <= 1 ? WORDS[data.command][data.status] : ENDS[data.status] || `Status ${data.status}`;
+  tell(["good", "bad"][data.status] || "odd", title, linked(sentenceOf(data, text)), facts);
+  show({ text: data.command === "picture" && data.status <= 1 ? "" : text, picture: data.picture });
+}
+
+function show({ text, picture, hidden }) {
+  $("printed").hidden = hidden || !text;
+  if (text) $("printed").replaceChildren(...linked(text.length > MOST_SHOWN ? `${text.slice(0, MOST_SHOWN)}\n(cut here)` : text));
+  $("figure").hidden = !picture;
+  if (state.picture) URL.revokeObjectURL(state.picture);
+  state.picture = null;
+  if (!picture) {
+    document.body.dataset.ready = "yes";
+    return;
+  }
+  state.picture = URL.createObjectURL(new Blob([picture.svg], { type: "image/svg+xml" }));
+  const captions = { small: "The lines of the verdict as a small log, with the ranks of their times", document: "The document's picture" };
+  $("caption").textContent = captions[picture.of];
+  $("picture").onload = () => {
+    zoom("fit");
+    document.body.dataset.ready = "yes";
+  };
+  $("picture").onerror = () => {
+    $("figure").hidden = true;
+    document.body.dataset.ready = "yes";
+  };
+  $("picture").src = $("save").href = state.picture;
+  $("picture").alt = `Picture: ${$("title").textContent}. ${$("sentence").textContent}`;
+}
+
+function zoom(by) {
+  const image = $("picture"), room = $("canvas").clientWidth - 14;
+  state.zoom = by === "fit" ? Math.min(1, room / image.naturalWidth) : Math.min(8, Math.max(0.05, state.zoom * by));
+  image.style.width = `${Math.round(image.naturalWidth * state.zoom)}px`;
+}
+
+// A text whose numbers of lines and operations lead to the document.
+function linked(text) {
+  const unit = { lines: "line", log: "operation", check: "operation" }[state.kind];
+  if (!unit || state.file && !$("text").value) return [text];
+  const found = [];
+  let at = 0, links = 0;
+  for (const region of text.matchAll(NAMED))
+    for (const number of region[0].matchAll(/\d+/g)) {
+      if (links++ >= MOST_LINKS) continue;
+      const place = region.index + number.index;
+      const button = document.createElement("button");
+      button.className = "to";
+      button.textContent = number[0];
+      button.title = `Show ${unit} ${number[0]} of the document`;
+      button.onclick = () => mark(unit, Number(number[0]));
+      found.push(text.slice(at, place), button);
+      at = place + number[0].length;
+    }
+  return [...found, text.slice(at)];
+}
+
+// Where a line of the text stands, by its number from 1.
+function lineAt(text, number) {
+  let begin = 0;
+  for (let line = 1; line < number; line++) {
+    begin = text.indexOf("\n", begin) + 1;
+    if (!begin) return null;
+  }
+  const end = text.indexOf("\n", begin);
+  return [begin, end < 0 ? text.length : end];
+}
+
+// Where a member of the document's array `ops` stands, by its place from 0.
+function operationAt(text, number) {
+  let depth = 0, inside = false, begin = 0, place = -1, last = "";
+  for (const it of text.matchAll(/"(?:[^"\\]|\\.)*"|[{}[\]]/g)) {
+    const token = it[0];
+    if ("{[".includes(token)) {
+      if (depth === 1 && token === "[") inside = last === '"ops"';
+      if (depth === 2 && inside && ++place === number) begin = it.index;
+      depth++;
+    } else if ("}]".includes(token)) {
+      depth--;
+      if (depth === 2 && inside && place === number) return [begin, it.index + 1];
+    }
+    last = token;
+  }
+  return null;
+}
+
+function mark(unit, number) {
+  const field = $("text"), text = field.value, place = (unit === "line" ? lineAt : operationAt)(text, number);
+  if (!place) return;
+  field.focus();
+  field.setSelectionRange(...place);
+  const lines = text.slice(0, place[0]).split("\n").length;
+  field.scrollTop = Math.max(0, lines - 4) * parseFloat(getComputedStyle(field).lineHeight);
+  field.scrollLeft = 0;
+}
+
+// -- how a document comes in --
+
+function put(text, name) {
+  state.file = null;
+  $("text").readOnly = false;
+  $("text").value = text;
+  $("name").textContent = name || "";
+  for (const it of document.querySelectorAll("#examples button")) it.setAttribute("aria-current", String(it.dataset.name === name));
+}
+
+async function take(file) {
+  if (file.size <= MOST_SHOWN) {
+    put(await file.text(), file.name);
+  } else {
+    const told = `${file.name}, ${sizeOf(file.size)}: only the front is shown, and the whole file is answered`;
+    put(await file.slice(0, FRONT).text(), told);
+    $("text").readOnly = true;
+    state.file = file;
+  }
+  $("command").value = "";
+  return ask();
+}
+
+function drop(event) {
+  event.preventDefault();
+  $("drop").classList.remove("over");
+  const file = event.dataTransfer.files[0], text = event.dataTransfer.getData("text");
+  if (file) return take(file);
+  if (!text) return undefined;
+  put(text, "dropped");
+  return ask();
+}
+
+// -- links that hold a document --
+
+const packed = async (bytes, how) => new Uint8Array(await new Response(new Blob([bytes]).stream().pipeThrough(how)).arrayBuffer());
+
+async function link() {
+  const text = $("text").value;
+  if (state.file || text.length > MOST_LINKED) {
+    $("name").textContent = `A link holds at most ${MOST_LINKED} characters.`;
+    return;
+  }
+  const bytes = await packed(new TextEncoder().encode(text), new CompressionStream("deflate-raw"));
+  const letters = btoa(String.fromCharCode(...bytes)).replace(/\+/g, "-").replace(/\//g, "_").replace(/=/g, "");
+  history.replaceState(null, "", `#${$("command").value.replace(" ", "_")}:${letters}`);
+  state.hash = location.hash;
+  try {
+    await navigator.clipboard.writeText(location.href);
+    $("name").textContent = "The link is copied, and stands in the address.";
+  } catch {
+    $("name").textContent = "The link stands in the address.";
+  }
+}
+
+// Takes the document of a link, if the address has one.
+async function follow() {
+  const found = /^#([\w-]*):([\w-]+)$/.exec(location.hash);
+  if (!found || location.hash === state.hash) return false;
+  state.hash = location.hash;
+  try {
+    const bytes = Uint8Array.from(atob(found[2].replace(/-/g, "+").replace(/_/g, "/")), it => it.charCodeAt(0));
+    put(new TextDecoder().decode(await packed(bytes, new DecompressionStream("deflate-raw"))), "from the link");
+  } catch {
+    put("", "The link's document is damaged.");
+    return false;
+  }
+  $("command").value = found[1].replace("_", " ");
+  if ($("command").selectedIndex < 0) $("command").value = "";
+  ask();
+  return true;
+}
+
+// -- the start --
+
+const EXAMPLES = JSON.parse($("all").textContent);
+
+function example(name) {
+  put(EXAMPLES[name].text, name);
+  $("command").value = "";
+  return ask();
+}
+
+function listExamples() {
+  for (const [name, { command, shows }] of Object.entries(EXAMPLES)) {
+    const button = document.createElement("button"), kind = document.createElement("b"), row = document.createElement("li");
+    button.dataset.name = name;
+    kind.textContent = command;
+    button.append(kind, ` ${shows}`);
+    button.title = name;
+    button.onclick = () => example(name);
+    row.append(button);
+    $("examples").append(row);
+  }
+}
+
+function listChoices() {
+  for (const it of Object.keys(WORDS)) $("command").add(new Option(it, it));
+  for (const [name, bytes] of Object.entries(BOUNDS)) $("bound").add(new Option(name, bytes, name === "4 GB", name === "4 GB"));
+}
+
+function listen() {
+  $("answer").onclick = ask;
+  $("command").onchange = $("bound").onchange = ask;
+  $("stop").onclick = stop;
+  $("link").onclick = link;
+  $("choose").onclick = () => $("file").click();
+  $("file").onchange = event => event.target.files[0] && take(event.target.files[0]);
+  $("text").oninput = () => {
+    $("name").textContent = "";
+    clearTimeout(state.later);
+    state.later = setTimeout(ask, 400);
+  };
+  $("smaller").onclick = () => zoom(1 / 1.4);
+  $("larger").onclick = () => zoom(1.4);
+  $("fit").onclick = () => zoom("fit");
+  addEventListener("hashchange", follow);
+  addEventListener("keydown", event => {
+    if (event.key === "Escape") stop();
+    else if (event.key === "Enter" && (event.ctrlKey || event.metaKey)) ask();
+  });
+  addEventListener("dragover", event => {
+    event.preventDefault();
+    $("drop").classList.add("over");
+  });
+  addEventListener("dragleave", () => $("drop").classList.remove("over"));
+  addEventListener("drop", drop);
+}
+
+async function start() {
+  listExamples();
+  listChoices();
+  listen();
+  state.ready = begin();
+  try {
+    await state.ready;
+  } catch (error) {
+    tell("odd", "This browser can't run the module", String(error));
+    document.body.dataset.ready = "error";
+    return;
+  }
+  if (!(await follow())) example("lines_stale.jsonl");
+}
+start();

@@ -1,0 +1,79 @@
+// The page's worker: it compiles the module once, reads files itself, and answers one request after the other.
+const KINDS = { lines: "order", log: "order", check: "check", cell: "play", matrix: "play", board: "play" };
+// the longest document that isn't in lines
+const LONGEST = 1048576;
+let module;
+
+// The kind that a document names: a log in lines in its first line, any other at its top. (The program refuses a
+// wrong guess.)
+function kindOf(bytes) {
+  const end = bytes.indexOf(10);
+  for (const part of [bytes.subarray(0, end < 0 ? bytes.length : end), bytes]) {
+    if (part.length > LONGEST) continue;
+    try {
+      const { kind } = JSON.parse(new TextDecoder().decode(part));
+      if (typeof kind === "string") return kind;
+    } catch {
+      // (not JSON)
+    }
+  }
+  return undefined;
+}
+
+// A small log with the ranks of its times in place of the times, which say the same and can be drawn.
+function ranked(bytes) {
+  const text = new TextDecoder().decode(bytes), times = /("(?:begin|end)":)(\d+)/g;
+  const all = [...new Set([...text.matchAll(times)].map(it => it[2]))].sort((a, b) => (BigInt(a) < BigInt(b) ? -1 : 1));
+  const ranks = new Map(all.map((time, rank) => [time, rank]));
+  return new TextEncoder().encode(text.replace(times, (whole, key, time) => key + ranks.get(time)));
+}
+
+// The picture of what was asked, if it has one, and what it shows: the document, or of a log in lines the small log
+// without an order.
+function pictureOf({ command, kind, document, answer, bound }) {
+  if (command === "picture") return answer.status <= 1 ? { svg: answer.text, of: "document" } : null;
+  if (answer.status > 1) return null;
+  let drawn = document, of = "document";
+  if (kind === "lines") {
+    if (answer.status === 0) return null;
+    const small = command === "order --small" ? answer : run(module, "order --small", document, bound);
+    if (small.status !== 1) return null;
+    drawn = ranked(small.text);
+    of = "small";
+  }
+  const { status, text } = run(module, "picture", drawn, bound);
+  return status <= 1 ? { svg: text, of } : null;
+}
+
+async function answer(request) {
+  const say = phase => postMessage({ number: request.number, phase });
+  const began = performance.now();
+  if (request.file) say("reading");
+  const document = new Uint8Array(request.file ? await request.file.arrayBuffer() : request.bytes);
+  const kind = kindOf(document), command = request.command || KINDS[kind] || "order", bound = request.bound;
+  say("answering");
+  const asked = performance.now();
+  const it = run(module, command, document, bound);
+  const took = performance.now() - asked;
+  say("drawing");
+  let picture = null;
+  try {
+    picture = pictureOf({ command, kind, document, answer: it, bound });
+  } catch (error) {
+    // (without a picture, then: the verdict stands)
+  }
+  return { ...it, number: request.number, command, kind, picture, took, whole: performance.now() - began, length: document.length };
+}
+
+onmessage = async ({ data }) => {
+  try {
+    if (data.module) {
+      module = await WebAssembly.compile(data.module);
+      postMessage({ ready: true });
+    } else {
+      postMessage(await answer(data));
+    }
+  } catch (error) {
+    postMessage({ number: data.number, error: String(error) });
+  }
+};
