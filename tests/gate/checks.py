@@ -29,6 +29,7 @@ TOOLS = {
     "tests/programs/recorder.sh": ("gcc", "g++", "clang", "clang++", "rustc", "cargo"),
     "tests/library/shared.sh": ("gcc", "g++", "clang", "clang++"),
     "tests/programs/page.sh": ("gcc", "wasm-opt", "chromium"),
+    "tests/library/in_memory.sh": ("gcc", "g++"),
     "tests/library/package.sh": ("musl-gcc", "cmake", "cargo", "lintian", "unshare"),
 }
 # The scripts that have no checks, and those that are run by hand alone.

@@ -1,0 +1,78 @@
+"""Compares what the module for Python answers to the documents of examples/ with the texts and statuses that stand beside them.
+
+    in_memory.py LIBRARY [--planted]     LIBRARY: the shared object; --planted: with the text of another document, which has to be seen
+"""
+
+import ctypes
+import glob
+import os
+import re
+import sys
+
+TOP = os.path.dirname(os.path.dirname(os.path.dirname(os.path.realpath(__file__))))
+sys.path.insert(0, f"{TOP}/python")
+
+
+def text_of(path):
+    with open(path, encoding="utf-8") as file:
+        return file.read()
+
+
+def cases():
+    """The documents of examples/ with their commands, texts and statuses. A race needs threads."""
+    rows = re.findall(r"^\| `((\w+)\.jsonl?)` \| (check|order|play) \|", text_of(f"{TOP}/examples/README.md"), re.M)
+    for file, name, command in rows:
+        stem = f"{TOP}/examples/{name}"
+        status = int(text_of(f"{stem}.status")) if os.path.exists(f"{stem}.status") else 0
+        yield file, command, status, text_of(f"{stem}.txt")
+
+
+def faults(module, is_planted):
+    texts = [it[3] for it in cases()]
+    for number, (file, command, status, text) in enumerate(cases()):
+        wanted = (status, texts[number - 1] if is_planted else text)
+        if getattr(module, command)(text_of(f"{TOP}/examples/{file}")) != wanted:
+            yield f"{command} of {file} is answered otherwise"
+    pictures = glob.glob(f"{TOP}/docs/pictures/*.svg")
+    for path in pictures:
+        name = os.path.basename(path)[: -len(".svg")]
+        if module.picture(text_of(f"{TOP}/examples/{name}.json")).text != text_of(path):
+            yield f"{name} is drawn otherwise"
+    log = text_of(f"{TOP}/examples/lines_stale.jsonl")
+    if module.order(log, module.SMALL).status != 1 or '"kind":"log"' not in module.order(log, module.SMALL).text:
+        yield "--small gives no small log"
+    lawful = text_of(f"{TOP}/examples/lines.jsonl")
+    if not re.search(r"^writes: \d+$", module.order(lawful, module.ORDER).text, re.M):
+        yield "--order gives no order of the writes"
+    if not texts or not pictures:
+        yield "there is no example"
+
+
+def cut(module):
+    """What a buffer that is too small gets: the front of the text, and its whole length. The rest of the buffer stays."""
+    document = text_of(f"{TOP}/examples/lines_stale.jsonl").encode()
+    text, size = text_of(f"{TOP}/examples/lines_stale.txt").encode(), ctypes.c_uint64()
+    for room in (0, 1, 20, len(text) - 1, len(text), len(text) + 10):
+        buffer = ctypes.create_string_buffer(b"#" * (room + 8), room + 8)
+        status = module._library.nidzaru_order(0, document, len(document), buffer, room, ctypes.byref(size))
+        if (status, size.value) != (1, len(text)) or buffer.raw != text[:room].ljust(room + 8, b"#"):
+            yield f"a buffer of {room} bytes has {buffer.raw!r}, and the length is {size.value}"
+
+
+def main(library, *words):
+    os.environ["NIDZARU_CHECK"] = library
+    import nidzaru_check
+
+    found = [*faults(nidzaru_check, "--planted" in words), *cut(nidzaru_check)]
+    for wanted, document in ((ValueError, "{"), (None, text_of(f"{TOP}/examples/lawful.json"))):
+        try:
+            nidzaru_check.check(document).is_lawful
+            found += ["a refused document has a verdict"] if wanted else []
+        except ValueError:
+            found += [] if wanted else ["a lawful document has none"]
+    print("\n".join(found or [f"{len(list(cases()))} documents, and buffers that are too small"]))
+    return 1 if found else 0
+
+
+if __name__ == "__main__":
+    sys.exit(main(*sys.argv[1:]))

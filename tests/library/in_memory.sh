@@ -1,0 +1,32 @@
+# The library that answers documents in memory: its header for C and C++, and the module for Python over it.
+
+header=c/nidzaru_check.h
+for compiler in 'gcc -xc -std=c99' 'g++ -xc++ -std=c++11'; do
+    title="$header by ${compiler%% *}"
+    if ! command -v "${compiler%% *}" >/dev/null 2>&1; then
+        fail "$title" "there is no ${compiler%% *}"
+    elif $compiler -pedantic -Wall -Wextra -Werror -fsyntax-only "$header" 2>"$room/out"; then
+        pass "$title"
+    else
+        fail "$title" "$(head -c 300 "$room/out")"
+    fi
+done
+
+title="documents in memory, by Python"
+if ! command -v python3 >/dev/null 2>&1; then
+    fail "$title" "there is no python3"
+elif ! python/build "$room/libnidzaru_check.so" >"$room/out" 2>&1; then
+    fail "$title" "the library isn't built: $(tail -n 2 "$room/out")"
+else
+    if python3 tests/library/in_memory.py "$room/libnidzaru_check.so" >"$room/out" 2>&1; then
+        pass "$title: $(tail -n 1 "$room/out")"
+    else
+        fail "$title" "$(tail -n 3 "$room/out" | tr '\n' ' ')"
+    fi
+    # (planted: the text of another document)
+    if python3 tests/library/in_memory.py "$room/libnidzaru_check.so" --planted >"$room/out" 2>&1 || ! grep -q "is answered otherwise" "$room/out"; then
+        fail "planted: the text of another document" "it isn't seen: $(tail -n 3 "$room/out" | tr '\n' ' ')"
+    else
+        pass "planted: the text of another document"
+    fi
+fi
