@@ -20,6 +20,7 @@ extern "C" {
     fn __libc_malloc(size: usize) -> *mut c_void;
     fn __libc_realloc(old: *mut c_void, size: usize) -> *mut c_void;
     fn __libc_free(old: *mut c_void);
+    fn __libc_memalign(alignment: usize, size: usize) -> *mut c_void;
 }
 
 fn is_refused() -> bool {
@@ -37,6 +38,20 @@ extern "C" fn malloc(size: usize) -> *mut c_void {
     BLOCKS.set(BLOCKS.get() + 1);
     // The C library's own function, with what it was to get.
     unsafe { __libc_malloc(size) }
+}
+
+/// The same of what lies on whole lines of the cache, as places do.
+#[no_mangle]
+extern "C" fn posix_memalign(to: *mut *mut c_void, alignment: usize, size: usize) -> i32 {
+    const NO_MEMORY: i32 = 12;
+    // As above; `to` leads to a pointer.
+    let made = if is_refused() { std::ptr::null_mut() } else { unsafe { __libc_memalign(alignment, size) } };
+    if made.is_null() {
+        return NO_MEMORY;
+    }
+    BLOCKS.set(BLOCKS.get() + 1);
+    unsafe { to.write(made) };
+    0
 }
 
 #[no_mangle]
