@@ -336,7 +336,7 @@ int main(int count, char **words) {
     state = seed * 2862933555777941757u + 3037000493u;
     while (kills < wanted) {
         int begun = 0;
-        DO(root_create(&block, NULL, sizeof(struct root) + (size_t)(ROOM + 1) * (4096 + 30 * BYTES), &root));
+        DO(root_create(&block, NULL, sizeof(struct root) + (size_t)(ROOM + 1) * (24576 + 12 * BYTES), &root));
 #if defined PLAIN || defined SEQUENCE
         instead = mmap(NULL, sizeof *instead, PROT_READ | PROT_WRITE, MAP_SHARED | MAP_ANONYMOUS, -1, 0);
 #endif
