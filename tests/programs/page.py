@@ -263,9 +263,11 @@ class Use:
     """The page, as one uses it."""
 
     def __init__(self, page, shots):
-        self.page, self.shots, self.browser, self.faults, self.looks = page, shots, opened(page), [], 0
+        # (a browser that is handed a file by a relative path doesn't answer any more)
+        self.page, self.shots, self.browser = page, os.path.abspath(shots), opened(page)
+        self.faults, self.looks = [], 0
         self.js = self.browser.js
-        os.makedirs(shots, exist_ok=True)
+        os.makedirs(self.shots, exist_ok=True)
 
     def shot(self, name):
         with open(f"{self.shots}/{name}.png", "wb") as file:
