@@ -13,9 +13,11 @@ for compiler in 'gcc -xc -std=c99' 'g++ -xc++ -std=c++11'; do
 done
 
 title="documents in memory, by Python"
+over_gate=
+[ ! -d crates/memory_answers/out/rlib ] || over_gate=--over-gate
 if ! command -v python3 >/dev/null 2>&1; then
     fail "$title" "there is no python3"
-elif ! python/build "$room/libnidzaru_check.so" >"$room/out" 2>&1; then
+elif ! python/build $over_gate "$room/libnidzaru_check.so" >"$room/out" 2>&1; then
     fail "$title" "the library isn't built: $(tail -n 2 "$room/out")"
 else
     if python3 tests/library/in_memory.py "$room/libnidzaru_check.so" >"$room/out" 2>&1; then
