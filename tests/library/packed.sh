@@ -63,7 +63,7 @@ lists() {
     printf '%s\n' "$@" | LC_ALL=C sort >"$room/wanted" && LC_ALL=C sort "$listed" | diff - "$room/wanted"
 }
 
-headers='include/nidzaru.h include/nidzaru.hpp include/nidzaru_log.h'
+headers='include/nidzaru.h include/nidzaru.hpp include/nidzaru_log.h include/nidzaru_shared.h'
 
 # Whether a list of files is that of the library's tar.
 lists_tar() {
