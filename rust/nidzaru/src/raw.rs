@@ -728,22 +728,25 @@ mod tests {
         }
     }
 
-    /// What the library calls a register's and a board's write, by the mechanism.
+    /// What the library calls a register's and a board's write, by the mechanism. (As functions, as they are declared above: a release build
+    /// would take a name that is a function's and a static's for two.)
     mod named {
+        use super::{c_void, Mark, Side};
+
         extern "C" {
-            pub static nidzaru_24_write: u8;
-            pub static nidzaru_triple_24_write: u8;
-            pub static nidzaru_board_24_write: u8;
-            pub static nidzaru_triple_board_24_write: u8;
+            pub fn nidzaru_24_write(writer: *mut Side, item: *const c_void) -> u32;
+            pub fn nidzaru_triple_24_write(writer: *mut Side, item: *const c_void) -> u32;
+            pub fn nidzaru_board_24_write(place: *mut Side, item: *const c_void, stamp: *mut Mark) -> u32;
+            pub fn nidzaru_triple_board_24_write(place: *mut Side, item: *const c_void, stamp: *mut Mark) -> u32;
         }
     }
 
     #[test]
     fn each_mechanism_has_its_calls() {
-        assert_eq!(calls_for(24, false).write as usize, &raw const named::nidzaru_24_write as usize);
-        assert_eq!(calls_for(24, true).write as usize, &raw const named::nidzaru_triple_24_write as usize);
-        assert_eq!(board_calls_for(24, false).write as usize, &raw const named::nidzaru_board_24_write as usize);
-        assert_eq!(board_calls_for(24, true).write as usize, &raw const named::nidzaru_triple_board_24_write as usize);
+        assert_eq!(calls_for(24, false).write as usize, named::nidzaru_24_write as *const () as usize);
+        assert_eq!(calls_for(24, true).write as usize, named::nidzaru_triple_24_write as *const () as usize);
+        assert_eq!(board_calls_for(24, false).write as usize, named::nidzaru_board_24_write as *const () as usize);
+        assert_eq!(board_calls_for(24, true).write as usize, named::nidzaru_triple_board_24_write as *const () as usize);
     }
 
     #[test]
