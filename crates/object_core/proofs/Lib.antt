@@ -1,0 +1,2 @@
+-- The instances, worked out.
+pub mod Instances
