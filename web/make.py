@@ -1,9 +1,10 @@
-"""Builds the page: one HTML file with the modules, the examples and all that it runs.
+"""Builds the page: one HTML file with the modules, the examples, the page docs/stepper.html and all that it runs.
 
-    make.py [--over PART] [OUT]     OUT: the file, out/nidzaru.html if none is named
+    make.py [--over PART] [--anew] [OUT]      OUT: the file, out/nidzaru.html if none is named
+    make.py [--over PART] [--anew] --cell [OUT]     the module alone that steps a cell, in docs/stepper.html or the page OUT like it
 
 The libraries below the page's are proved and built first, unless PART names a part of their folders `out/` in which they are built.
-What was built of the same files is taken from out/page.
+What was built of the same files is taken from out/page, unless it is to be built anew.
 """
 
 import argparse
@@ -18,10 +19,14 @@ import sys
 import tempfile
 
 import module
-from module import CRATE, TOP, Refused, crates_below, read_rows
+from module import CELL, CRATE, TOP, Refused, crates_below, read_rows
 
 HERE = os.path.dirname(os.path.realpath(__file__))
 PARTS = {"STYLE": "page.css", "DRIVER": "driver.js", "WORKER": "worker.js", "SCRIPT": "page.js"}
+STEPPER = f"{TOP}/docs/stepper.html"
+IN_STEPPER = re.compile(r'(<script type="text/plain" id="module">\n)(.*?)(</script>)', re.S)
+# What is kept of a build, by the crate.
+KEPT = {CRATE: ("wide.wasm", "narrow.wasm", "refuses.wasm", "shallow.wasm", "stack_128.wasm", "verdict"), CELL: ("cell.wasm",)}
 # the commands that a page can run, as its list has them; a race needs threads
 COMMANDS = ("order", "check", "play")
 
@@ -48,69 +53,106 @@ def packed(wasm):
     return base64.b64encode(gzip.compress(wasm, 9, mtime=0)).decode()
 
 
-def page(wide, narrow, verdict):
+def stepper(cell):
+    """The text of docs/stepper.html with this module."""
+    text, letters = read(STEPPER), base64.b64encode(cell).decode()
+    lines = "".join(f"{letters[at : at + 120]}\n" for at in range(0, len(letters), 120))
+    text, count = IN_STEPPER.subn(lambda it: it[1] + lines + it[3], text)
+    if count != 1:
+        raise Refused("docs/stepper.html has no place for its module")
+    return text
+
+
+def page(made):
     """The text of the page."""
     parts = {mark: read(f"{HERE}/{name}") for mark, name in PARTS.items()}
-    shown = json.dumps(examples(), ensure_ascii=False).replace("<", "\\u003c")
-    parts |= {"WIDE": packed(wide), "NARROW": packed(narrow), "VERDICT": verdict, "EXAMPLES": shown}
+    parts |= {"WIDE": packed(made["wide.wasm"]), "NARROW": packed(made["narrow.wasm"]), "VERDICT": made["verdict"].decode()}
+    for mark, what in (("EXAMPLES", examples()), ("STEPPER", stepper(made["cell.wasm"]))):
+        parts[mark] = json.dumps(what, ensure_ascii=False).replace("<", "\\u003c")
     for mark in ("STYLE", "DRIVER", "WORKER", "SCRIPT"):
         if re.search(r"</(script|style)", parts[mark], re.I):
             raise Refused(f"{PARTS[mark]} would end its element")
     return re.sub(r"@@(\w+)@@", lambda it: parts[it[1]], read(f"{HERE}/page.html"))
 
 
-def sum_of_sources(kit):
-    """Of all that the modules are made of."""
+def sum_of_sources(kit, crate):
+    """Of all that this crate's modules are made of."""
     found = hashlib.sha256(read(f"{kit}/KIT-ID").encode() + read(f"{TOP}/crates.txt").encode())
     names = [f"{HERE}/heap.c", f"{HERE}/module.py"]
-    for crate in [*crates_below(read_rows(TOP), CRATE), CRATE]:
+    for it in [*crates_below(read_rows(TOP), crate), crate]:
         for part in ("src", "specs", "proofs"):
-            for at, _, files in os.walk(f"{TOP}/crates/{crate}/{part}"):
-                names += [f"{at}/{it}" for it in files if not it.startswith(".")]
+            for at, _, files in os.walk(f"{TOP}/crates/{it}/{part}"):
+                names += [f"{at}/{name}" for name in files if not name.startswith(".")]
     for name in sorted(names):
         with open(name, "rb") as file:
             found.update(repr([os.path.relpath(name, TOP), file.read()]).encode())
     return found.hexdigest()
 
 
-def modules(kit, part, kept):
-    """By their names the modules and the prover's line, as they were kept or made anew."""
-    names, wanted = ("wide.wasm", "narrow.wasm", "refuses.wasm", "verdict"), sum_of_sources(kit)
-    if os.path.exists(f"{kept}/sum") and read(f"{kept}/sum") == wanted:
+def read_kept(kept, crate, wanted):
+    """What was built of this crate of the same files, or None."""
+    try:
+        if read(f"{kept}/{crate}.sum") != wanted:
+            return None
         found = {}
-        for name in names:
+        for name in KEPT[crate]:
             with open(f"{kept}/{name}", "rb") as file:
                 found[name] = file.read()
         return found
-    if part is None:
-        if subprocess.run([sys.executable, f"{TOP}/build/build.py", "memory_answers"], check=False).returncode:
-            raise Refused("the libraries below aren't built")
-        part = "stated"
+    except OSError:
+        return None
+
+
+def built(kit, crate, part):
+    """By their names what is built of this crate, over what lies in this part of the folders `out/` of those below it."""
     with tempfile.TemporaryDirectory() as room:
-        print("page: compiles the library for WebAssembly", flush=True)
-        made = module.make_modules(kit, room, part)
-    os.makedirs(kept, exist_ok=True)
-    for name, what in {**made, "sum": wanted.encode()}.items():
-        with open(f"{kept}/{name}", "wb") as file:
-            file.write(what)
+        print(f"page: compiles {crate} for WebAssembly", flush=True)
+        return module.make_cell(kit, room, part) if crate == CELL else module.make_modules(kit, room, part)
+
+
+def modules(kit, crates, asked):
+    """By their names the modules of these crates and the prover's line, as they were kept or made anew."""
+    made, kept, part = {}, f"{TOP}/out/page", asked.over
+    for crate in crates:
+        wanted = sum_of_sources(kit, crate)
+        found = None if asked.anew else read_kept(kept, crate, wanted)
+        if found is None:
+            if part is None:
+                below = [it for it in read_rows(TOP)[crate][1] if os.path.isdir(f"{TOP}/crates/{it}")]
+                if subprocess.run([sys.executable, f"{TOP}/build/build.py", *below], check=False).returncode:
+                    raise Refused("the libraries below aren't built")
+            found = built(kit, crate, part or "stated")
+            os.makedirs(kept, exist_ok=True)
+            for name, what in {**found, f"{crate}.sum": wanted.encode()}.items():
+                with open(f"{kept}/{name}", "wb") as file:
+                    file.write(what)
+        made |= found
     return made
+
+
+def write(path, text):
+    os.makedirs(os.path.dirname(os.path.abspath(path)), exist_ok=True)
+    with open(path, "w", encoding="utf-8") as file:
+        file.write(text)
 
 
 def main():
     words = argparse.ArgumentParser(prog="page", description="Builds the page: the proved checker, player and pictures in one HTML file.")
     words.add_argument("--over", metavar="PART", help="take the libraries as they are built in this part of their folders out/")
-    words.add_argument("out", nargs="?", default=f"{TOP}/out/nidzaru.html", help="the file, out/nidzaru.html if none is named")
+    words.add_argument("--anew", action="store_true", help="take no module that was built before")
+    words.add_argument("--cell", action="store_true", help="build docs/stepper.html alone, with the module that steps a cell")
+    words.add_argument("out", nargs="?", help="the file, out/nidzaru.html if none is named")
     asked = words.parse_args()
     try:
-        made = modules(module.kit_folder(), asked.over, f"{TOP}/out/page")
-        text = page(made["wide.wasm"], made["narrow.wasm"], made["verdict"].decode())
+        made = modules(module.kit_folder(), (CELL,) if asked.cell else (CRATE, CELL), asked)
+        out, text = (STEPPER, stepper(made["cell.wasm"])) if asked.cell else (f"{TOP}/out/nidzaru.html", page(made))
     except (Refused, OSError) as fault:
         print(f"page: it isn't built: {fault}", file=sys.stderr)
         return 1
-    os.makedirs(os.path.dirname(os.path.abspath(asked.out)), exist_ok=True)
-    with open(asked.out, "w", encoding="utf-8") as file:
-        file.write(text)
-    print(f"page: {asked.out}, {len(text.encode())} bytes; modules of {len(made['wide.wasm'])} and {len(made['narrow.wasm'])} bytes")
+    out = asked.out or out
+    write(out, text)
+    sizes = " and ".join(str(len(what)) for name, what in made.items() if name in ("wide.wasm", "narrow.wasm", "cell.wasm"))
+    print(f"page: {out}, {len(text.encode())} bytes; modules of {sizes} bytes")
     return 0
 
 

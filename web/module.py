@@ -17,6 +17,8 @@ from listed import crates_below, rattle_words, read_rows  # noqa: E402
 
 CRATE = "check_exports"
 EXPORTS = ("nidzaru_check", "nidzaru_order", "nidzaru_play", "nidzaru_picture")
+# The crate that steps a cell. It needs no heap, so the toolchain builds it for WebAssembly itself; its stack may be small.
+CELL, CELL_EXPORTS, CELL_STACK = "cell_steps", {"nidzaru_cell_after", "memory", "__heap_base"}, 1 << 16
 # what the module exports besides: of the heap, and of the link
 OTHER_EXPORTS = ("memory", "__heap_base", "leave", "reach", "room", "set_bound")
 TEST_EXPORTS = ("calls_made", "refuse")
@@ -50,6 +52,22 @@ def kit_folder():
     return os.path.dirname(run("rt", "doc").strip())
 
 
+def words_for(kit, crate, part):
+    """What proves and builds a static library, over what lies in this part of the folders `out/` of those below it."""
+    rows = read_rows(TOP)
+    lower = {it: f"{TOP}/crates/{it}/out/{part}" for it in crates_below(rows, crate)}
+    words = rattle_words(kit, crate, "src/lib.rt", rows[crate][1], lower)
+    return [f"{kit}/bin/rattle", "build", *words, "--crate-type", "staticlib", "--links", f"{crate}="]
+
+
+def verdict_in(told):
+    """The prover's last line."""
+    found = re.findall(r"^logic=.*$", told, re.M)
+    if len(found) != 1 or not found[0].startswith("logic=proved "):
+        raise Refused(f"the library isn't proved: {told[-500:]}")
+    return found[0]
+
+
 def capture_module(kit, room, part):
     """Proves and builds the library with a clang that keeps what it is handed, and gives the path of that and the prover's last line. The
     libraries below it are built in this part of their folders `out/`."""
@@ -66,19 +84,13 @@ def capture_module(kit, room, part):
         # (it is run without an environment; nobody runs the code for x86-64 that it makes here)
         file.write(f'#!/bin/sh\nfor it; do case $it in *.bc) command -p cp "$it" "{room}/" ;; esac; done\nexec "{clang}" "$@" -O0\n')
     os.chmod(f"{tools}/bin/clang", 0o755)
-    rows = read_rows(TOP)
-    lower = {it: f"{TOP}/crates/{it}/out/{part}" for it in crates_below(rows, CRATE)}
-    words = rattle_words(kit, CRATE, "src/lib.rt", rows[CRATE][1], lower)
-    build = [f"{kit}/bin/rattle", "build", *words, "--crate-type", "staticlib", "--links", f"{CRATE}=", "--toolchain", tools]
     # (the first processor of the list has no vectors beyond those that LLVM knows on every target)
-    told = run(*build, "--cpu", "x86-64", "-o", f"{room}/library.a", cwd=f"{TOP}/crates/{CRATE}")
+    how = ["--toolchain", tools, "--cpu", "x86-64", "-o", f"{room}/library.a"]
+    told = run(*words_for(kit, CRATE, part), *how, cwd=f"{TOP}/crates/{CRATE}")
     found = [it for it in os.listdir(room) if it.endswith(".bc")]
     if len(found) != 1:
         raise Refused(f"the toolchain's clang was handed {len(found)} LLVM modules and not one")
-    verdict = re.findall(r"^logic=.*$", told, re.M)
-    if len(verdict) != 1 or not verdict[0].startswith("logic=proved "):
-        raise Refused(f"the library isn't proved: {told[-500:]}")
-    return f"{room}/{found[0]}", verdict[0]
+    return f"{room}/{found[0]}", verdict_in(told)
 
 
 def fault_in_text(text):
@@ -149,15 +161,14 @@ def exports_of(section):
     return names
 
 
-def fault_in_module(wasm, for_tests):
-    """What a linked module has that the page doesn't expect."""
+def fault_in_module(wasm, wanted):
+    """What a linked module has that the page doesn't expect, where these are its exports."""
     parts = {number: body for number, _, body in parts_of(wasm)}
-    wanted = {*EXPORTS, *OTHER_EXPORTS, *(TEST_EXPORTS if for_tests else ())}
     exported = set(exports_of(parts.get(EXPORTED, b"\0")))
     if parts.get(IMPORTS, b"\0") != b"\0":
         return "it imports something of its host"
-    if exported != wanted:
-        return f"its exports are others: {' '.join(sorted(exported ^ wanted))}"
+    if exported != set(wanted):
+        return f"its exports are others: {' '.join(sorted(exported ^ set(wanted)))}"
     if START in parts:
         return "it has a function that runs at its start"
     return None
@@ -180,36 +191,41 @@ def compile_text(kit, room, text, vectors):
     return f"{name}.o"
 
 
-def link(kit, room, library, for_tests=False):
-    """The module of the library's object and the heap; for tests with one that refuses a request which they choose."""
+def link(kit, room, library, for_tests=False, stack=STACK):
+    """The module of the library's object and the heap; for tests with one that refuses a request which they choose, or with another stack."""
     tools, archive, linked = f"{kit}/toolchain/bin", f"{room}/linked.a", f"{room}/linked.wasm"
     freestanding = ["-O2", "-fwrapv", "-ffreestanding", "-nostdinc", *(["-DREFUSES"] if for_tests else [])]
     run(f"{tools}/clang", *FOR_WASM, *freestanding, f"{TOP}/web/heap.c", "-o", f"{room}/heap.o")
     if os.path.exists(archive):
         os.remove(archive)
     run(f"{tools}/llvm-ar", "rcsD", archive, library, f"{room}/heap.o")
-    how = ["--target", "wasm64-unknown-unknown", "--toolchain", f"{kit}/toolchain", "--stack", str(STACK)]
+    how = ["--target", "wasm64-unknown-unknown", "--toolchain", f"{kit}/toolchain", "--stack", str(stack)]
     told = run(f"{kit}/bin/rattle-link", *how, "-o", linked, archive)
     if "imports=" in told:
         raise Refused(f"the linker says {told.strip()}")
-    with open(linked, "rb") as file:
-        return checked(stripped(file.read()), for_tests)
+    return read_module(linked, exports_for(for_tests))
 
 
-def checked(wasm, for_tests):
-    fault = fault_in_module(wasm, for_tests)
+def exports_for(tests):
+    return {*EXPORTS, *OTHER_EXPORTS, *(TEST_EXPORTS if tests else ())}
+
+
+def read_module(path, exports):
+    """The module of this file without names and table. It has to have these exports."""
+    with open(path, "rb") as file:
+        wasm = stripped(file.read())
+    fault = fault_in_module(wasm, exports)
     if fault:
         raise Refused(f"the module isn't as expected: {fault}")
     return wasm
 
 
-def lower(room, wasm):
+def lower(room, wasm, exports):
     """The same module with a memory of 32 bits, for browsers without the other or with a slow one."""
     with open(f"{room}/wide.wasm", "wb") as file:
         file.write(wasm)
     run("wasm-opt", *LOWERING, f"{room}/wide.wasm", "-o", f"{room}/narrow.wasm")
-    with open(f"{room}/narrow.wasm", "rb") as file:
-        return checked(stripped(file.read()), False)
+    return read_module(f"{room}/narrow.wasm", exports)
 
 
 def printed_module(kit, room, module):
@@ -224,11 +240,22 @@ def printed_module(kit, room, module):
 
 
 def make_modules(kit, room, part):
-    """By their names the module for 64 bits, that for 32 bits, that for tests, and the prover's line."""
+    """By their names the module for 64 bits, that for 32 bits, three for tests, and the prover's line."""
     module, verdict = capture_module(kit, room, part)
     text = printed_module(kit, room, module)
     vectors = compile_text(kit, room, text, True)
     made = {"wide.wasm": link(kit, room, vectors), "refuses.wasm": link(kit, room, vectors, for_tests=True)}
+    # (with the least stack that the linker gives, and with twice that)
+    made |= {"shallow.wasm": link(kit, room, vectors, stack=1 << 16), "stack_128.wasm": link(kit, room, vectors, stack=1 << 17)}
     # (lowering knows no vectors)
-    made["narrow.wasm"] = lower(room, link(kit, room, compile_text(kit, room, text, False)))
+    made["narrow.wasm"] = lower(room, link(kit, room, compile_text(kit, room, text, False)), exports_for(False))
     return {**made, "verdict": verdict.encode()}
+
+
+def make_cell(kit, room, part):
+    """The module of 32 bits that steps a cell, proved and built by the toolchain for WebAssembly, by its name."""
+    archive, linked = f"{room}/cell.a", f"{room}/cell.wasm"
+    for_wasm = ["--target", "wasm64-unknown-unknown", "--toolchain", f"{kit}/toolchain"]
+    verdict_in(run(*words_for(kit, CELL, part), *for_wasm, "-o", archive, cwd=f"{TOP}/crates/{CELL}"))
+    run(f"{kit}/bin/rattle-link", *for_wasm, "--stack", str(CELL_STACK), "-o", linked, archive)
+    return {"cell.wasm": lower(room, read_module(linked, CELL_EXPORTS), CELL_EXPORTS)}

@@ -4,6 +4,8 @@ const $ = id => document.getElementById(id);
 const MOST_SHOWN = 200000;
 // of a longer document this much is shown
 const FRONT = 40000;
+// such pieces of it are read in which a line is looked for
+const PIECE = 1 << 20;
 // as many numbers of an answer are made links
 const MOST_LINKS = 500;
 // a longer document makes no link to the page
@@ -33,7 +35,7 @@ async function unpacked(id) {
   return new Uint8Array(await new Response(new Blob([bytes]).stream().pipeThrough(new DecompressionStream("gzip"))).arrayBuffer());
 }
 
-const state = { worker: null, module: null, number: 0, running: false, began: 0, file: null, kind: "", zoom: 1, picture: null };
+const state = { worker: null, module: null, number: 0, running: false, began: 0, file: null, first: 1, kind: "", zoom: 1, picture: null };
 
 async function begin() {
   const wide = isWide() && location.hash !== "#narrow";
@@ -116,9 +118,10 @@ function hear(data) {
   if (data.number !== state.number) return;
   if (data.phase) return tick(data.phase);
   over();
-  if (data.error) {
+  if (data.error || data.unread) {
     show({ hidden: true });
-    tell("odd", "The module stopped", `It gave no answer: ${data.error}. The document stays as it is.`);
+    if (data.error) tell("odd", "The module stopped", `It gave no answer: ${data.error}. The document stays as it is.`);
+    else tell("odd", "The file can't be read", data.unread);
     document.body.dataset.ready = "error";
     return;
   }
@@ -215,6 +218,7 @@ function linked(text) {
 
 // Where a line of the text stands, by its number from 1.
 function lineAt(text, number) {
+  if (number < 1) return null;
   let begin = 0;
   for (let line = 1; line < number; line++) {
     begin = text.indexOf("\n", begin) + 1;
@@ -242,9 +246,27 @@ function operationAt(text, number) {
   return null;
 }
 
-function mark(unit, number) {
-  const field = $("text"), text = field.value, place = (unit === "line" ? lineAt : operationAt)(text, number);
+// Shows a file's lines from some lines before this one, if it isn't shown; it is looked for piece by piece.
+async function turnTo(file, number) {
+  const wanted = Math.max(1, number - 5);
+  let line = 1, begin = 0;
+  for (let at = 0; at < file.size && line < wanted; at += PIECE) {
+    const bytes = new Uint8Array(await file.slice(at, at + PIECE).arrayBuffer());
+    for (let end = bytes.indexOf(10); end >= 0 && line < wanted; end = bytes.indexOf(10, end + 1), line++) begin = at + end + 1;
+  }
+  if (state.file !== file || line < wanted) return false;
+  state.first = wanted;
+  $("text").value = await file.slice(begin, begin + FRONT).text();
+  $("name").textContent = `${file.name}, ${sizeOf(file.size)}: shown from line ${wanted} on, and the whole file is answered`;
+  return true;
+}
+
+async function mark(unit, number) {
+  const field = $("text"), find = unit === "line" ? (text, line) => lineAt(text, line - state.first + 1) : operationAt;
+  let place = find(field.value, number);
+  if (!place && state.file && unit === "line" && (await turnTo(state.file, number))) place = find(field.value, number);
   if (!place) return;
+  const text = field.value;
   field.focus();
   field.setSelectionRange(...place);
   const lines = text.slice(0, place[0]).split("\n").length;
@@ -256,6 +278,7 @@ function mark(unit, number) {
 
 function put(text, name) {
   state.file = null;
+  state.first = 1;
   $("text").readOnly = false;
   $("text").value = text;
   $("name").textContent = name || "";
@@ -273,6 +296,14 @@ async function take(file) {
   }
   $("command").value = "";
   return ask();
+}
+
+// A text that is too long for the text field, a file, and what is pasted elsewhere than into the field.
+function paste(event) {
+  const [file] = event.clipboardData.files, text = event.clipboardData.getData("text");
+  if (!file && (!text || (event.target === $("text") && text.length <= MOST_SHOWN && !state.file))) return undefined;
+  event.preventDefault();
+  return take(file || new File([text], "pasted"));
 }
 
 function drop(event) {
@@ -307,8 +338,10 @@ async function link() {
   }
 }
 
-// Takes the document of a link, if the address has one.
+// Takes the document of a link, or the steps, if the address has one.
 async function follow() {
+  const steps = /^#steps:([wr]*)$/.exec(location.hash);
+  if (steps && location.hash !== state.hash) openPanel("mechanism", steps[1]);
   const found = /^#([\w-]*):([\w-]+)$/.exec(location.hash);
   if (!found || location.hash === state.hash) return false;
   state.hash = location.hash;
@@ -323,6 +356,28 @@ async function follow() {
   if ($("command").selectedIndex < 0) $("command").value = "";
   ask();
   return true;
+}
+
+// -- the mechanism --
+
+// The page that steps the mechanism stands in a frame of its own, which is made when it is first shown.
+function openPanel(name, steps) {
+  for (const it of ["log", "mechanism"]) {
+    $(it).hidden = it !== name;
+    $(`${it}_tab`).setAttribute("aria-selected", String(it === name));
+    $(`${it}_tab`).tabIndex = it === name ? 0 : -1;
+  }
+  if (name !== "mechanism") return history.replaceState(null, "", "#");
+  if (steps !== undefined && $("stepper").srcdoc) return $("stepper").contentWindow.postMessage({ steps }, "*");
+  if (!$("stepper").srcdoc) $("stepper").srcdoc = JSON.parse($("stepper_text").textContent).replace("<html", `<html data-steps="${steps || ""}"`);
+  return undefined;
+}
+
+// The address has the steps that the frame shows.
+function hearSteps(event) {
+  if (event.source !== $("stepper").contentWindow || $("mechanism").hidden || !/^[wr]*$/.test(event.data.steps)) return;
+  state.hash = `#steps:${event.data.steps}`;
+  history.replaceState(null, "", state.hash);
 }
 
 // -- the start --
@@ -368,6 +423,17 @@ function listen() {
   $("smaller").onclick = () => zoom(1 / 1.4);
   $("larger").onclick = () => zoom(1.4);
   $("fit").onclick = () => zoom("fit");
+  for (const it of ["log", "mechanism"]) {
+    $(`${it}_tab`).onclick = () => openPanel(it);
+    $(`${it}_tab`).onkeydown = event => {
+      if (event.key !== "ArrowLeft" && event.key !== "ArrowRight") return;
+      const other = it === "log" ? "mechanism" : "log";
+      openPanel(other);
+      $(`${other}_tab`).focus();
+    };
+  }
+  addEventListener("message", hearSteps);
+  addEventListener("paste", paste);
   addEventListener("hashchange", follow);
   addEventListener("keydown", event => {
     if (event.key === "Escape") stop();

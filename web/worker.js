@@ -49,7 +49,12 @@ async function answer(request) {
   const say = phase => postMessage({ number: request.number, phase });
   const began = performance.now();
   if (request.file) say("reading");
-  const document = new Uint8Array(request.file ? await request.file.arrayBuffer() : request.bytes);
+  let document;
+  try {
+    document = new Uint8Array(request.file ? await request.file.arrayBuffer() : request.bytes);
+  } catch (error) {
+    return { number: request.number, unread: String(error) };
+  }
   const kind = kindOf(document), command = request.command || KINDS[kind] || "order", bound = request.bound;
   say("answering");
   const asked = performance.now();

@@ -1,5 +1,6 @@
-"""A headless Chromium, driven over its debugging pipe with the standard library alone."""
+"""Headless browsers, driven with the standard library alone: Chromium over its debugging pipe, and Firefox, in firefox.py, over Marionette."""
 
+import base64
 import json
 import os
 import shutil
@@ -8,11 +9,57 @@ import tempfile
 import time
 
 
-class Chromium:
+class Browser:
+    """What a test asks of a browser. `call` and `js` are each browser's own, and `width` is that of its memories in the page."""
+
+    def __init__(self):
+        self.room = tempfile.mkdtemp()
+        self.process = None
+
+    def begin(self, words, **how):
+        self.process = subprocess.Popen(words, stdout=subprocess.DEVNULL, stderr=subprocess.DEVNULL, **how)
+
+    def settle(self, limit=60):
+        """Waits until the page says something in its body's data-ready, and gives that."""
+        for _ in range(limit * 20):
+            ready = self.js("document.body && document.body.dataset.ready || ''")
+            if ready:
+                return ready
+            time.sleep(0.05)
+        return "never"
+
+    def open(self, url, wide=1100, high=900):
+        """Opens a page anew, and gives what it says in its body's data-ready once it does."""
+        self.resize(wide, high)
+        self.visit("about:blank")
+        self.visit(url)
+        return self.settle(20)
+
+    def open_file(self, path, suffix="", wide=1200, high=900):
+        # (a browser that is handed a file by a relative path doesn't answer any more)
+        return self.open(f"file://{os.path.abspath(path)}{suffix}", wide, high)
+
+    def keep_shot(self, path):
+        """Keeps a picture of what is shown."""
+        with open(path, "wb") as file:
+            file.write(base64.b64decode(self.shot()))
+
+    def wait_for_end(self):
+        try:
+            self.process.wait(20)
+        except subprocess.TimeoutExpired:
+            self.process.kill()
+            self.process.wait(20)
+        shutil.rmtree(self.room, ignore_errors=True)
+
+
+class Chromium(Browser):
+    title, width = "Chromium", "64"
+
     def __init__(self, program="chromium"):
+        super().__init__()
         to_it, from_us = os.pipe()
         to_us, from_it = os.pipe()
-        self.room = tempfile.mkdtemp()
 
         def wire():
             # (3 and 4 are the pipe's places; by way of 13 and 14, as either end may lie there)
@@ -23,8 +70,7 @@ class Chromium:
 
         flags = "--headless=new --no-sandbox --disable-gpu --no-first-run --disable-dev-shm-usage --disable-background-networking"
         words = [program, *flags.split(), f"--user-data-dir={self.room}", "--remote-debugging-pipe", "about:blank"]
-        how = {"preexec_fn": wire, "close_fds": False, "stdout": subprocess.DEVNULL, "stderr": subprocess.DEVNULL}
-        self.process = subprocess.Popen(words, **how)
+        self.begin(words, preexec_fn=wire, close_fds=False)
         os.close(to_it)
         os.close(from_it)
         self.out, self.into = from_us, to_us
@@ -59,17 +105,15 @@ class Chromium:
         one, self.rest = self.rest.split(b"\0", 1)
         return json.loads(one)
 
-    def open(self, url, wide=1100, high=900):
-        """Opens a page, and gives what it says in its body's data-ready once it does."""
+    def resize(self, wide, high):
         self.call("Emulation.setDeviceMetricsOverride", width=wide, height=high, deviceScaleFactor=1, mobile=wide < 600)
-        self.call("Page.navigate", url="about:blank")
+
+    def visit(self, url):
         self.call("Page.navigate", url=url)
-        for _ in range(400):
-            ready = self.js("document.body && document.body.dataset.ready || ''")
-            if ready:
-                return ready
-            time.sleep(0.05)
-        return "never"
+
+    def scheme(self, name):
+        """Asks pages for light or dark colours."""
+        self.call("Emulation.setEmulatedMedia", features=[{"name": "prefers-color-scheme", "value": name}])
 
     def js(self, text):
         got = self.call("Runtime.evaluate", expression=text, returnByValue=True, awaitPromise=True)
@@ -77,10 +121,11 @@ class Chromium:
             raise RuntimeError(json.dumps(got["exceptionDetails"])[:2000])
         return got["result"].get("value")
 
-    def key(self, key):
+    def key(self, key, with_control=False):
         text = {"text": key} if len(key) == 1 else {}
-        self.call("Input.dispatchKeyEvent", type="keyDown", key=key, **text)
-        self.call("Input.dispatchKeyEvent", type="keyUp", key=key)
+        how = {"key": key, "code": key, "windowsVirtualKeyCode": 13 if key == "Enter" else 0, "modifiers": 2 if with_control else 0}
+        self.call("Input.dispatchKeyEvent", type="keyDown", **how, **text)
+        self.call("Input.dispatchKeyEvent", type="keyUp", **how)
 
     def click(self, selector):
         middle = """(it => { it.scrollIntoView({block: "nearest"}); const box = it.getBoundingClientRect();
@@ -88,6 +133,15 @@ class Chromium:
         x, y = self.js(middle % json.dumps(selector))
         for kind in ("mousePressed", "mouseReleased"):
             self.call("Input.dispatchMouseEvent", type=kind, x=x, y=y, button="left", clickCount=1)
+
+    def choose(self, selector, path):
+        """Gives a file to a field that asks for one."""
+        root = self.call("DOM.getDocument")["root"]["nodeId"]
+        node = self.call("DOM.querySelector", nodeId=root, selector=selector)["nodeId"]
+        self.call("DOM.setFileInputFiles", nodeId=node, files=[os.path.abspath(path)])
+
+    def shot(self):
+        return self.call("Page.captureScreenshot", format="png")["data"]
 
     def said(self):
         """What went wrong in the page, and what it fetched beyond files."""
@@ -97,7 +151,7 @@ class Chromium:
                 yield json.dumps(params["exceptionDetails"])[:300]
             elif event.get("method") == "Log.entryAdded":
                 yield params["entry"]["text"]
-            elif event.get("method") == "Network.requestWillBeSent" and not params["request"]["url"].startswith(("file:", "about:")):
+            elif event.get("method") == "Network.requestWillBeSent" and not params["request"]["url"].startswith(("file:", "about:", "blob:")):
                 yield "it fetches " + params["request"]["url"]
 
     def end(self):
@@ -106,5 +160,11 @@ class Chromium:
             self.call("Browser.close")
         except (RuntimeError, OSError):
             pass
-        self.process.wait(10)
-        shutil.rmtree(self.room, ignore_errors=True)
+        self.wait_for_end()
+
+
+def browsers():
+    """The classes of the browsers that are installed."""
+    from firefox import Firefox
+
+    return [it for it, program in ((Chromium, "chromium"), (Firefox, "firefox-esr")) if shutil.which(program)]

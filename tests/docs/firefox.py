@@ -2,22 +2,35 @@
 
 import json
 import os
-import shutil
 import socket
-import subprocess
-import tempfile
 import time
 
+from browser import Browser
 
-class Firefox:
+ELEMENT = "element-6066-11e4-a52e-4f735466cecf"
+# Runs an expression in the page itself, by a script's element, which the page's policy lets run.
+IN_PAGE = """const done = arguments[1], it = document.createElement("script");
+    document.addEventListener("told", event => done(event.detail), { once: true });
+    it.textContent = "Promise.resolve().then(() => (" + arguments[0] + ")).then(it => [it], error => [null, String(error)])"
+        + ".then(it => document.dispatchEvent(new CustomEvent('told', { detail: JSON.stringify(it) })))";
+    (document.head || document.documentElement).append(it);
+    it.remove();"""
+# What went wrong in pages, of the messages that the browser keeps.
+MESSAGES = """return Services.console.getMessageArray().filter(it => it instanceof Ci.nsIScriptError && /^(file|blob):/.test(it.sourceName))
+    .map(it => it.errorMessage)"""
+KEYS = {"Enter": "\ue007", "Escape": "\ue00c", "ArrowLeft": "\ue012", "ArrowRight": "\ue014", "Backspace": "\ue003"}
+
+
+class Firefox(Browser):
+    title, width = "Firefox", "32"
+
     def __init__(self, program="firefox-esr"):
-        self.room = tempfile.mkdtemp()
+        super().__init__()
         with open(f"{self.room}/user.js", "w", encoding="utf-8") as file:
             # (port 0: one that is free, which it writes down)
             file.write('user_pref("marionette.port", 0);\nuser_pref("browser.shell.checkDefaultBrowser", false);\n')
-        words = [program, "--headless", "--marionette", "--no-remote", "--profile", self.room]
-        how = {"stdout": subprocess.DEVNULL, "stderr": subprocess.DEVNULL, "env": {**os.environ, "HOME": self.room}}
-        self.process = subprocess.Popen(words, **how)
+        words = [program, "--headless", "--marionette", "--remote-allow-system-access", "--no-remote", "--profile", self.room]
+        self.begin(words, env={**os.environ, "HOME": self.room})
         self.last, self.rest = 0, b""
         self.socket = self.connected()
         self.receive()
@@ -56,37 +69,61 @@ class Firefox:
             raise RuntimeError(json.dumps(error)[:2000])
         return result
 
-    def open(self, url):
-        """Opens a page, and gives what it says in its body's data-ready once it does."""
+    def in_browser(self, script, *args):
+        """What a script gives that runs in the browser itself and not in a page."""
+        self.call("Marionette:SetContext", value="chrome")
+        try:
+            return self.call("WebDriver:ExecuteScript", script=script, args=args)["value"]
+        finally:
+            self.call("Marionette:SetContext", value="content")
+
+    def resize(self, wide, high):
+        # (a window isn't made as narrow as a telephone)
+        self.call("WebDriver:SetWindowRect", width=wide, height=high)
+
+    def visit(self, url):
         self.call("WebDriver:Navigate", url=url)
-        for _ in range(400):
-            ready = self.js("document.body && document.body.dataset.ready || ''")
-            if ready:
-                return ready
-            time.sleep(0.05)
-        return "never"
+
+    def scheme(self, name):
+        """Asks pages for light or dark colours."""
+        self.in_browser("Services.prefs.setIntPref('layout.css.prefers-color-scheme.content-override', arguments[0])", ["dark", "light"].index(name))
 
     def js(self, text):
-        """The value of an expression, or what it promises, in the page itself: by a script's element, which the page's policy lets run."""
-        body = """const done = arguments[1], it = document.createElement("script");
-            document.addEventListener("told", event => done(event.detail), { once: true });
-            it.textContent = "Promise.resolve().then(() => (" + arguments[0] + ")).then(it => [it], error => [null, String(error)])"
-                + ".then(it => document.dispatchEvent(new CustomEvent('told', { detail: JSON.stringify(it) })))";
-            document.head.append(it);
-            it.remove();"""
-        told = json.loads(self.call("WebDriver:ExecuteAsyncScript", script=body, args=[text])["value"])
+        """The value of an expression, or what it promises, in the page itself."""
+        told = json.loads(self.call("WebDriver:ExecuteAsyncScript", script=IN_PAGE, args=[text])["value"])
         if len(told) > 1:
             raise RuntimeError(told[1])
         return told[0]
+
+    def key(self, key, with_control=False):
+        letters = [KEYS.get(key, key)]
+        if with_control:
+            letters.insert(0, "\ue009")
+        down = [{"type": "keyDown", "value": it} for it in letters]
+        up = [{"type": "keyUp", "value": it} for it in reversed(letters)]
+        self.call("WebDriver:PerformActions", actions=[{"type": "key", "id": "keys", "actions": down + up}])
+
+    def found(self, selector):
+        return self.call("WebDriver:FindElement", using="css selector", value=selector)["value"][ELEMENT]
+
+    def click(self, selector):
+        self.call("WebDriver:ElementClick", id=self.found(selector))
+
+    def choose(self, selector, path):
+        """Gives a file to a field that asks for one."""
+        self.call("WebDriver:ElementSendKeys", id=self.found(selector), text=os.path.abspath(path))
+
+    def shot(self):
+        return self.call("WebDriver:TakeScreenshot", full=False)["value"]
+
+    def said(self):
+        """What went wrong in the page."""
+        return self.in_browser(MESSAGES)
 
     def end(self):
         try:
             self.call("Marionette:Quit", flags=["eForceQuit"])
         except (RuntimeError, OSError, ValueError):
             pass
-        try:
-            self.process.wait(20)
-        except subprocess.TimeoutExpired:
-            self.process.kill()
+        self.wait_for_end()
         self.socket.close()
-        shutil.rmtree(self.room, ignore_errors=True)

@@ -1,11 +1,9 @@
-"""Compares the page docs/stepper.html with the proved four-slot cell and with the player.
+"""Compares the page docs/stepper.html with the proved four-slot cell and with the player, in each browser that is installed.
 
-    stepper.py GROWTHS [FSR]       compares: the table in the page with the cell that GROWTHS steps and, where a browser is installed, what the
-                                   page shows of schedules with what `FSR play` prints
-    stepper.py GROWTHS --write     puts the table into the page
+    stepper.py GROWTHS FSR [SHOTS]     the states to which the page's module leads with those of the cell that GROWTHS steps, and what the page
+                                       shows of schedules with what `FSR play` prints; pictures of the page go to the folder SHOTS
 
-A row of the table has the state that a schedule leads to as digits (latest, reading, slot[0], slot[1], the writer's last event and slot, the
-reader's last event and slot), and the rows after one step more of the writer and of the reader. Row 0 is a new cell.
+A state is digits: latest, reading, slot[0], slot[1], the writer's last event and slot, the reader's last event and slot.
 """
 
 import glob
@@ -13,16 +11,18 @@ import json
 import os
 import random
 import re
-import shutil
 import subprocess
 import sys
+import time
 
-from browser import Chromium
+from browser import browsers
 
 TOP = os.path.dirname(os.path.dirname(os.path.dirname(os.path.realpath(__file__))))
 PAGE = f"{TOP}/docs/stepper.html"
-TABLE = re.compile(r'(<script type="text/plain" id="table">\n)(.*?)(</script>)', re.S)
 SHOWN = re.compile(r"([01]) ([01]) ([01]) ([01]) W(\d) (\d) R(\d) (\d) (\S+) (\S+)")
+# The states to which the page's module leads.
+STATES = """(pause(), %s.map(steps => { const it = after(steps);
+    return [it.latest, it.reading, ...it.slots, it.write, it.writeSlot, it.read, it.readSlot].join("") }))"""
 
 
 def states_after(growths, schedules):
@@ -40,31 +40,15 @@ def states_after(growths, schedules):
     return states
 
 
-def made(growths):
-    """The table, by stepping from each state that is found."""
-    found = dict.fromkeys(states_after(growths, [""]), "")
-    after, newest = {}, list(found)
+def reached(growths):
+    """By a schedule each state that is found by stepping from those that are: of each state and of each step from it."""
+    found, states, newest = {}, {}, [""]
     while newest:
-        steps = [found[it] + side for it in newest for side in "wr"]
-        reached = states_after(growths, steps)
-        frontier = newest
-        newest = []
-        for number, state in enumerate(frontier):
-            after[state] = reached[2 * number : 2 * number + 2]
-        for state, schedule in zip(reached, steps):
-            if state not in found:
-                found[state] = schedule
-                newest.append(state)
-    places = {state: place for place, state in enumerate(found)}
-    return "".join(f"{state} {places[after[state][0]]} {places[after[state][1]]}\n" for state in found)
-
-
-def walk(table, schedule):
-    rows = [row.split() for row in table.splitlines()]
-    at = 0
-    for side in schedule:
-        at = int(rows[at][1 if side == "w" else 2])
-    return rows[at][0]
+        for steps, state in zip(newest, states_after(growths, newest)):
+            found[steps] = state
+            states.setdefault(state, steps)
+        newest = [steps + side for steps in newest if states[found[steps]] == steps for side in "wr"]
+    return found
 
 
 def schedules():
@@ -88,59 +72,104 @@ def held_after(steps, report):
     return held
 
 
-def page_faults(fsr):
-    """What the page shows otherwise than the player, and what it fetches."""
-    faults, page = [], Chromium()
-    try:
-        if page.open("file://" + PAGE) != "yes":
-            return ["the page doesn't begin"]
-        for steps in schedules():
-            page.js(f"go({json.dumps(steps)}, '')")
-            document, report = page.js("[$('document').textContent, $('report').textContent]")
-            played = subprocess.run([fsr, "play"], input=document, stdout=subprocess.PIPE, text=True, check=False)
-            if played.returncode or played.stdout != report:
-                faults.append(f"of {steps} the page shows {report!r} and fsr plays {played.stdout!r}")
-            shown = page.js("[...document.querySelectorAll('.slot')].map(it => it.children[1].textContent.split(' ')[0])")
-            if shown != held_after(steps, played.stdout):
-                faults.append(f"of {steps} the page shows {shown} in the slots")
-        page.js("go('', '')")
-        for _ in range(3):
-            page.click("#w")
-        for key in "rrrr":
-            page.key(key)
-        faults += [f"clicks and keys led to {it}" for it in [page.js("location.hash")] if it != "#wwwrrrr"]
-        page.key("ArrowLeft")
-        page.click("#undo")
-        page.key("ArrowRight")
-        faults += [f"back and forth led to {it}" for it in [page.js("location.hash")] if it != "#wwwrrr"]
-        for wide, high in ((1100, 1000), (390, 844)):
-            page.open("file://" + PAGE + "#wwwwwwwrrrr", wide, high)
+def shows_as_played(page, fsr):
+    """The schedules of which the page shows otherwise than the player."""
+    for steps in schedules():
+        page.js(f"go({json.dumps(steps)}, '')")
+        document, report = page.js("[$('document').textContent, $('report').textContent]")
+        played = subprocess.run([fsr, "play"], input=document, stdout=subprocess.PIPE, text=True, check=False)
+        if played.returncode or played.stdout != report:
+            yield f"of {steps} the page shows {report!r} and fsr plays {played.stdout!r}"
+        shown = page.js("[...document.querySelectorAll('.slot')].map(it => it.children[1].textContent.split(' ')[0])")
+        if shown != held_after(steps, played.stdout):
+            yield f"of {steps} the page shows {shown} in the slots"
+
+
+def steps_by_hand(page):
+    """What clicks and keys don't do."""
+    page.js("go('', '')")
+    for _ in range(3):
+        page.click("#w")
+    for key in "rrrr":
+        page.key(key)
+    yield from (f"clicks and keys led to {it}" for it in [page.js("location.hash")] if it != "#wwwrrrr")
+    page.key("ArrowLeft")
+    page.click("#undo")
+    page.key("ArrowRight")
+    yield from (f"back and forth led to {it}" for it in [page.js("location.hash")] if it != "#wwwrrr")
+
+
+def waits_for(page, what):
+    for _ in range(400):
+        if page.js(what):
+            return True
+        time.sleep(0.05)
+    return False
+
+
+def plays_itself(page):
+    """How the page doesn't play the stories, the sleeping reader first: those are the steps of examples/."""
+    with open(f"{TOP}/examples/stalled_reader.json", encoding="utf-8") as file:
+        first = json.load(file)["steps"]
+    page.open_file(PAGE)
+    if not waits_for(page, "steps.length > 1") or page.js("steps + undone") != first:
+        yield f"it doesn't begin with the sleeping reader: {page.js('[steps, undone]')}"
+    page.key("p")
+    before = page.js("[playing, steps]")
+    time.sleep(1.2)
+    if page.js("[playing, steps]") != before or before[0]:
+        yield "it goes on where it is to pause"
+    page.js("$('speed').add(new Option('at once', 1)), $('speed').value = 1, $('play').click()")
+    if not waits_for(page, "story === 1"):
+        yield "after the first story comes no other"
+    page.key("w")
+    if page.js("playing"):
+        yield "it plays on after a step by hand"
+
+
+def looks(page, shots):
+    """Narrow screens and dark ones."""
+    for wide, high in ((1100, 1000), (390, 844)):
+        for scheme in ("light", "dark"):
+            page.scheme(scheme)
+            page.open_file(PAGE, "#wwwwwwwrrrr", wide, high)
             if not page.js("document.documentElement.scrollWidth <= innerWidth"):
-                faults.append(f"the page is wider than {wide} pixels")
-        faults += [f"the browser says {it}" for it in page.said()]
+                yield f"the page is wider than {wide} pixels"
+            back = page.js("getComputedStyle(document.body).backgroundColor")
+            if (back == "rgb(255, 255, 255)") != (scheme == "light"):
+                yield f"{scheme}: the page's colour is {back}"
+            if shots:
+                page.keep_shot(f"{shots}/stepper_{page.title}_{scheme}_{wide}.png")
+
+
+def page_faults(kind, states, fsr, shots):
+    """What a page shows otherwise than the cell and the player, and what it fetches."""
+    page = kind()
+    try:
+        if page.open_file(PAGE) != "yes":
+            return ["the page doesn't begin"]
+        found = page.js(STATES % json.dumps(list(states)))
+        faults = [f"{steps} leads to {got} and not to {state}" for (steps, state), got in zip(states.items(), found) if got != state]
+        if faults:
+            return faults
+        for part in (shows_as_played(page, fsr), steps_by_hand(page), plays_itself(page), looks(page, shots)):
+            faults += part
+        return faults + [f"the browser says {it}" for it in page.said()]
     finally:
         page.end()
-    return faults
 
 
-def main(growths, other=None):
-    with open(PAGE, encoding="utf-8") as file:
-        text = file.read()
-    table = made(growths)
-    if other == "--write":
-        with open(PAGE, "w", encoding="utf-8") as file:
-            file.write(TABLE.sub(lambda it: it[1] + table + it[3], text))
-        return 0
-    faults = [] if TABLE.search(text)[2] == table else ["the table in docs/stepper.html isn't that of the proved cell"]
-    walks = [it for it in schedules() if len(it) < 1000]
-    # (that a state has what decides the next steps is seen by schedules that lead there otherwise)
-    faults += [f"the table leads {it} elsewhere" for it, state in zip(walks, states_after(growths, walks)) if walk(table, it) != state]
-    told = f"the page's table has the {len(table.splitlines())} states of the proved cell"
-    if other and shutil.which("chromium"):
-        faults += page_faults(other)
-        told += f", and it shows {len(schedules())} schedules as fsr plays them"
-    print("\n".join(faults or [told]))
-    return 1 if faults else 0
+def main(growths, fsr, shots=None):
+    if shots:
+        os.makedirs(shots, exist_ok=True)
+    states, found = reached(growths), browsers()
+    # (a schedule leads to each state, and one step more to those that follow)
+    count = len(set(states.values()))
+    faults = [f"in {kind.title}, {it}" for kind in found for it in page_faults(kind, states, fsr, shots)]
+    where = " and ".join(it.title for it in found)
+    told = f"in {where} the module gives the {count} states of the proved cell, and {len(schedules())} schedules are shown as fsr plays them"
+    print("\n".join(faults[:20] or [told if found else "no browser is installed"]))
+    return 1 if faults or not found else 0
 
 
 if __name__ == "__main__":

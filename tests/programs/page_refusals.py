@@ -44,9 +44,9 @@ def main():
         if said not in (module.fault_in_text(text) or ""):
             faults.append(f"{title} isn't seen")
     head, names = b"\0asm\1\0\0\0", [*module.EXPORTS, *module.OTHER_EXPORTS]
-    plain = head + exports(names)
-    if module.fault_in_module(plain, False):
-        faults.append(f"the plain link is refused: {module.fault_in_module(plain, False)}")
+    plain, wanted = head + exports(names), module.exports_for(False)
+    if module.fault_in_module(plain, wanted):
+        faults.append(f"the plain link is refused: {module.fault_in_module(plain, wanted)}")
     imports = section(module.IMPORTS, b"\1\3env\3ask\0\0")
     in_module = {
         "an import": (head + imports + exports(names), "imports something"),
@@ -55,7 +55,7 @@ def main():
         "a start": (plain + section(module.START, b"\0"), "runs at its start"),
     }
     for title, (wasm, said) in in_module.items():
-        if said not in (module.fault_in_module(wasm, False) or ""):
+        if said not in (module.fault_in_module(wasm, wanted) or ""):
             faults.append(f"{title} isn't seen")
     try:
         module.stripped(head + section(module.ELEMENTS, b"\0"))
