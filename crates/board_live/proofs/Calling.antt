@@ -260,12 +260,15 @@ module _ {V F S T : Type 0} (words : FamilyWords F (Posted V) S T) (obeys : V �
   }
 
   -- the record stands last in each register of the process
-  pub is_pass : IsTrue (obeys chosen.item) → IsPass words obeys board new
-  is_pass lawful = record {
+  pub is_pass : ((place : ℕ) → ChoosesByKind board.limit
+      (record { place = place; who = i; kind = kind; stamp = chosen.stamp; item = chosen.item }) kind seen.stamp seen.item) →
+      IsTrue (obeys chosen.item) → IsPass words obeys board new
+  is_pass chooses lawful = record {
     size = of.size;
     some = of.some;
     processes = of.processes;
     opens = of.opens;
+    limit = of.limit;
     first = of.first;
     inside = of.inside;
     room = of.room;
@@ -279,4 +282,5 @@ module _ {V F S T : Type 0} (words : FamilyWords F (Posted V) S T) (obeys : V �
           ap (λ z. last_or board.first (words.writes next z).items) (sym e.2) ∙ w.last t e.0 board.first le
       | inr f ↦ ap (λ x. last_or board.first x.items) ((w.unwritten f).0 j ∙ r.writes j) ∙ of.last j l ne ∙ sym (w.unwritten f).1
     ];
+    made = (of.made.0 ++ called ∷ [], made chooses of.made.0 of.made.1);
   }

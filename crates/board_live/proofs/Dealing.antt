@@ -89,11 +89,11 @@ module _ {V F S T : Type 0} (words : FamilyWords F (Posted V) S T) (obeys : V �
   pub is_new : (n limit : ℕ) (first : Posted V) (board : Board V F S T) (seats : List S) (passes : List (Pass V F S T)) →
       (2 ≤ n) × (n ≤ 16) → (1 ≤ limit) × (limit < 18446744073709551615) → first.stamp ≡ first_stamp → IsTrue (obeys first.item) →
       board.processes ≡ n → board.limit ≡ limit → board.first ≡ first →
-      words.opening board.family ≡ first → words.processes board.family ≡ n → length seats ≡ n →
+      words.opening board.family ≡ first → words.processes board.family ≡ n → words.limit board.family ≡ limit → length seats ≡ n →
       Each (λ i s. words.is_seat board.family s × (words.who s ≡ i)) seats →
       Each (λ i s. IsUnused (words.clock s) (words.times s) (words.writes s) (words.reads s)) seats →
       ArePasses n first 0 seats passes → IsNew words obeys n limit first board passes
-  is_new n limit first board seats passes size within stamp lawful count limited opened opens all long each unused are = record {
+  is_new n limit first board seats passes size within stamp lawful count limited opened opens all limits long each unused are = record {
     size = (size.0, size.1);
     count = (count, dealt_length n first 0 seats passes are ∙ long);
     limited = limited;
@@ -112,19 +112,6 @@ module _ {V F S T : Type 0} (words : FamilyWords F (Posted V) S T) (obeys : V �
           let u = unused i seat x.2 in
           let l : i < n = let z = slice_get_within seats i seat x.2 in omega arith in
           let room : IsRoom n i x.1 = subst (λ m. IsRoom n m x.1) place x.3 in
-          let is : IsPass words obeys board (pass_of first i seat x.1) = record {
-            size = let z = count in (let a = size.0 in omega arith, let a = size.1 in omega arith);
-            some = words.some_steps;
-            processes = all ∙ sym count;
-            opens = opens ∙ sym opened;
-            first = ap (λ f. f.stamp) opened ∙ stamp;
-            inside = let z = count in omega arith;
-            room = (λ last. let a = room.0 (last ∙ count) in let z = count in omega arith, room.1);
-            seat = e.0;
-            who = e.1;
-            lawful = lawful;
-            last = λ j lj ne. ap (λ w. last_or board.first w.items) (u.2 j) ∙ opened;
-          } in
           let made : HasMade words board (pass_of first i seat x.1) [] = record {
             made = nothing_made words.width board.processes board.limit (stamped board.first) i (did_of words seat []) (record {
               times = u.1;
@@ -133,6 +120,21 @@ module _ {V F S T : Type 0} (words : FamilyWords F (Posted V) S T) (obeys : V �
               writes = λ j. ap written_of (u.2 j);
             });
             own = ap stamped (sym opened);
+          } in
+          let is : IsPass words obeys board (pass_of first i seat x.1) = record {
+            size = let z = count in (let a = size.0 in omega arith, let a = size.1 in omega arith);
+            some = words.some_steps;
+            processes = all ∙ sym count;
+            opens = opens ∙ sym opened;
+            limit = limits ∙ sym limited;
+            first = ap (λ f. f.stamp) opened ∙ stamp;
+            inside = let z = count in omega arith;
+            room = (λ last. let a = room.0 (last ∙ count) in let z = count in omega arith, room.1);
+            seat = e.0;
+            who = e.1;
+            lawful = lawful;
+            last = λ j lj ne. ap (λ w. last_or board.first w.items) (u.2 j) ∙ opened;
+            made = ([], made);
           } in
           subst (λ (q : Pass V F S T). IsPass words obeys board q × (q.process ≡ i) × (q.own ≡ first) × HasMade words board q [])
           (sym (x.4 ∙ ap (λ m. pass_of first m seat x.1) place)) (is, refl, refl, made)

@@ -8,3 +8,6 @@ mod Whole
 mod Dealing
 mod Same
 pub mod Passing
+mod Plans
+mod Allowed
+mod SoFar

@@ -1,8 +1,10 @@
 -- A pass with which no call was made: what its process did is what it did before.
-use Rattle.std.proofs.Common.{◌≡◌, ◌≢◌, ℕ, ◌+◌, ◌-◌, ◌*◌, ◌<◌, List, length, map, slice_get}
+use Rattle.std.proofs.Common.{◌≡◌, ◌≢◌, Bool, ℕ, ◌+◌, ◌-◌, ◌*◌, ◌<◌, ◌≤◌, List, length, map, slice_get}
+use Rattle.std.specs.Prelude.{IsTrue, vec_capacity}
 use Rattle.std.proofs.Common.{refl, sym, ◌∙◌, ap, subst, inl, inr}
 use Rattle.std.proofs.lemmas.Bool.{cases_eq}
 use Rattle.cell_contract.specs.declared.times.Known.{Known}
+use Rattle.cell_contract.specs.Running.{last_or}
 use Rattle.cell_contract.specs.declared.family.Family.{Ghosts as FamilyWords}
 use Rattle.cell_contract.specs.Accesses.{IsHeardRead, KeepsEach, KeepsOthers}
 use Rattle.matrix_core.specs.declared.stamp.Stamped.{Stamped}
@@ -11,8 +13,10 @@ use Rattle.matrix_core.specs.Lines.{other}
 use Rattle.matrix_core.proofs.lines.Others.{other_differs}
 use Rattle.board_history.specs.BoardRuns.{Answered, AreReads, AreWrites, Called, Did, IsProcess, own_before, records}
 use Rattle.board_history.specs.BoardRuns.{steps_before, steps_of_call, told}
+use Rattle.board_live.specs.declared.board.Board.{Board}
+use Rattle.board_live.specs.declared.board.Pass.{Pass}
 use Rattle.board_live.specs.declared.record.Posted.{Posted}
-use Rattle.board_live.specs.Passes.{answered_of, did_of, written_of}
+use Rattle.board_live.specs.Passes.{answered_of, did_of, HasSame, IsPass, written_of}
 use Rattle.board_live.specs.Records.{stamped}
 
 -- the reads of a process are the same, but for what it was told
@@ -52,7 +56,7 @@ same_writes {V} width n old new access begins ends begins' ends' times calls b e
   );
 }
 
-same_process : {V : Type 0} (width n limit : ℕ) (first : Stamped V) (i : ℕ) (old new : Did V) → new.times ≡ old.times →
+pub same_process : {V : Type 0} (width n limit : ℕ) (first : Stamped V) (i : ℕ) (old new : Did V) → new.times ≡ old.times →
     new.calls ≡ old.calls → ((e : ℕ) → AreSameReads (old.reads (other i e)) (new.reads (other i e))) →
     ((e : ℕ) → new.writes (other i e) ≡ old.writes (other i e)) →
     IsProcess width n limit first i old → IsProcess width n limit first i new
@@ -121,3 +125,26 @@ module _ {V F S T : Type 0} (words : FamilyWords F (Posted V) S T) (n limit proc
               ends = ap (λ r. r.times.ends) r;
             }
       ]
+
+module _ {V F S T : Type 0} (words : FamilyWords F (Posted V) S T) (obeys : V → Bool) (board : Board V F S T) where
+  -- no call was made: it is a pass of the board still
+  pub still : (old new : Pass V F S T) → IsPass words obeys board old → HasSame words board old new → new.room ≡ old.room →
+      words.is_seat board.family new.seat → words.who new.seat ≡ words.who old.seat → IsPass words obeys board new
+  still old new of same room seat who = record {
+    size = of.size;
+    some = of.some;
+    processes = of.processes;
+    opens = of.opens;
+    limit = of.limit;
+    first = of.first;
+    inside = subst (λ z. z < board.processes) (sym same.process) of.inside;
+    room = (
+      λ e. subst (λ z. board.processes ≤ vec_capacity z) (sym room) (of.room.0 (ap (λ z. z + 1) (sym same.process) ∙ e)),
+      ap (λ z. z.items) room ∙ of.room.1,
+    );
+    seat = seat;
+    who = who ∙ of.who ∙ sym same.process;
+    lawful = subst (λ z. IsTrue (obeys z.item)) (sym same.own) of.lawful;
+    last = λ j l ne. ap (λ w. last_or board.first w.items) (same.writes j) ∙ of.last j l (λ e. ne (e ∙ sym same.process)) ∙ sym same.own;
+    made = (of.made.0, same.made of.made.0 of.made.1);
+  }

@@ -6,11 +6,13 @@ use Rattle.std.specs.Prelude.{vec_capacity}
 use Rattle.cell_contract.specs.Running.{last_or}
 use Rattle.cell_contract.specs.declared.family.Family.{Ghosts as FamilyWords}
 use Rattle.history_core.proofs.Places.{get_last}
+use Rattle.board_history.specs.BoardRuns.{IsProcess}
 use Rattle.board_live.specs.declared.board.Board.{Board}
 use Rattle.board_live.specs.declared.board.Pass.{Pass}
 use Rattle.board_live.specs.declared.record.Posted.{Posted}
 use Rattle.board_live.specs.Ends.{AllPasses}
-use Rattle.board_live.specs.Passes.{IsPass}
+use Rattle.board_live.specs.Passes.{did_of, IsPass}
+use Rattle.board_live.specs.Records.{stamped}
 
 -- an element is one of the first, or the last
 pub of_more : {A : Type 0} (xs : List A) (x y : A) (i : ℕ) → slice_get (xs ++ x ∷ []) i ≡ Some y →
@@ -40,6 +42,7 @@ module _ {V F S T : Type 0} (words : FamilyWords F (Posted V) S T) (obeys : V �
     some = h.some;
     processes = h.processes;
     opens = h.opens;
+    limit = h.limit;
     first = h.first;
     inside = subst (λ z. z < board.processes) (sym process) h.inside;
     room = (
@@ -50,6 +53,16 @@ module _ {V F S T : Type 0} (words : FamilyWords F (Posted V) S T) (obeys : V �
     who = ap words.who seat ∙ h.who ∙ sym process;
     lawful = subst (λ z. IsTrue (obeys z.item)) (sym own) h.lawful;
     last = λ j l ne. ap (λ z. last_or board.first (words.writes z j).items) seat ∙ h.last j l (λ e. ne (e ∙ sym process)) ∙ sym own;
+    made = (
+      h.made.0,
+      record {
+        made = subst (λ z. IsProcess words.width board.processes board.limit (stamped board.first) z (did_of words q.seat h.made.0))
+            (sym process)
+            (subst (λ z. IsProcess words.width board.processes board.limit (stamped board.first) p.process (did_of words z h.made.0))
+            (sym seat) h.made.1.made);
+        own = ap stamped own ∙ h.made.1.own;
+      },
+    );
   }
 
   pub all_again : (passes left : List (Pass V F S T)) (p q : Pass V F S T) → AllPasses words obeys board passes → passes ≡ left ++ p ∷ [] →

@@ -4,6 +4,7 @@ use Rattle.std.proofs.Common.{sym, ◌∙◌, ap, subst, arith}
 use Rattle.std.specs.Option.{option_map}
 use Rattle.std.proofs.lemmas.List.{length-map}
 use Rattle.std.proofs.lemmas.Option.{same_Some, slice_get-map, slice_get_within}
+use Rattle.history_core.specs.Registers.{Intervals, IsRegular}
 use Rattle.history_core.specs.Schedules.{positions}
 use Rattle.cell_contract.specs.declared.family.Family.{Ghosts as FamilyWords}
 use Rattle.cell_contract.specs.Accesses.{ReadAccesses, WriteAccesses}
@@ -24,24 +25,27 @@ use Rattle.board_live.specs.inner.Room.{HaveRoom}
 use Rattle.board_live.specs.Passes.{answered_of, did_of, IsPass, written_of}
 use Rattle.board_live.specs.Records.{stamped}
 
--- a register of the family, as a played board has it
-register : {V : Type 0} (first : Posted V) (w : WriteAccesses (Posted V)) (r : ReadAccesses (Posted V)) → IsAtomicCell first w r →
-    IsRegister (stamped first) (written_of w) (answered_of r)
-register first w r h = record {
+-- a register of records with their stamps, as a played board has it; and one of the family
+pub stamped_register : {V : Type 0} (first : Posted V) (items : List (Posted V)) (writes : Intervals) (answers : List (Posted V))
+    (numbers : List ℕ) (reads : Intervals) → IsRegular first items writes answers numbers reads →
+    IsRegular (stamped first) (map stamped items) writes (map stamped answers) numbers reads
+stamped_register first items writes answers numbers reads h = record {
   source = λ m number x a b. source m number x a b;
-  read_of = λ m number a.
-      let x = h.atomic.regular.read_of m number a in
-      record { late = λ k b. x.late k b; begun = λ k e. x.begun k e };
-  numbered = h.atomic.regular.numbered ∙ sym (length-map r.answers stamped);
+  read_of = h.read_of;
+  numbered = h.numbered ∙ sym (length-map answers stamped);
 }
   where
-    source : (m number : ℕ) (x : Stamped _) → slice_get r.numbers m ≡ Some number → slice_get (map stamped r.answers) m ≡ Some x →
-        slice_get (stamped first ∷ map stamped w.items) number ≡ Some x
+    source : (m number : ℕ) (x : Stamped _) → slice_get numbers m ≡ Some number → slice_get (map stamped answers) m ≡ Some x →
+        slice_get (stamped first ∷ map stamped items) number ≡ Some x
     source m number x a b =
-        let l : m < length r.answers = let z = slice_get_within r.numbers m number a in let y = h.atomic.regular.numbered in omega arith in
-        let p = get_exists r.answers m l in
-        let same : Some (stamped p.0) ≡ Some x = ap (option_map stamped) (sym p.1) ∙ sym (slice_get-map stamped r.answers m) ∙ b in
-        slice_get-map stamped (first ∷ w.items) number ∙ ap (option_map stamped) (h.atomic.regular.source m number p.0 a p.1) ∙ same
+        let l : m < length answers = let z = slice_get_within numbers m number a in let y = h.numbered in omega arith in
+        let p = get_exists answers m l in
+        let same : Some (stamped p.0) ≡ Some x = ap (option_map stamped) (sym p.1) ∙ sym (slice_get-map stamped answers m) ∙ b in
+        slice_get-map stamped (first ∷ items) number ∙ ap (option_map stamped) (h.source m number p.0 a p.1) ∙ same
+
+register : {V : Type 0} (first : Posted V) (w : WriteAccesses (Posted V)) (r : ReadAccesses (Posted V)) → IsAtomicCell first w r →
+    IsRegister (stamped first) (written_of w) (answered_of r)
+register first w r h = stamped_register first w.items _ r.answers r.numbers _ h.atomic.regular
 
 module _ {V F S T : Type 0} (words : FamilyWords F (Posted V) S T) (obeys : V → Bool) (board : Board V F S T)
     (passes : List (Pass V F S T)) (all : AllPasses words obeys board passes) where

@@ -46,12 +46,18 @@ module _ {V F S T : Type 0} (family : FamilyWords F (Posted V) S T) where
     reads = λ j. answered_of (family.reads seat j);
   }
 
-  -- the pass is of this board, and its process has written its own record last
+  -- these calls were made with the pass
+  pub record HasMade (board : Board V F S T) (pass : Pass V F S T) (calls : List (Called V)) : Type 0 where
+    pub made : IsProcess family.width board.processes board.limit (stamped board.first) pass.process (did_of pass.seat calls)
+    pub own : stamped pass.own ≡ own_before (stamped board.first) calls (length calls)
+
+  -- the pass is of this board, some calls were made with it, and its process has written its own record last
   pub record IsPass (obeys : V → Bool) (board : Board V F S T) (pass : Pass V F S T) : Type 0 where
     pub size : (2 ≤ board.processes) × (board.processes ≤ 16)
     pub some : 0 < family.width
     pub processes : family.processes board.family ≡ board.processes
     pub opens : family.opening board.family ≡ board.first
+    pub limit : family.limit board.family ≡ board.limit
     pub first : board.first.stamp ≡ first_stamp
     pub inside : pass.process < board.processes
     pub room : (pass.process + 1 ≡ board.processes → board.processes ≤ vec_capacity pass.room) × (pass.room.items ≡ [])
@@ -59,11 +65,7 @@ module _ {V F S T : Type 0} (family : FamilyWords F (Posted V) S T) where
     pub who : family.who pass.seat ≡ pass.process
     pub lawful : IsTrue (obeys pass.own.item)
     pub last : (j : ℕ) → j < board.processes → j ≢ pass.process → last_or board.first (family.writes pass.seat j).items ≡ pass.own
-
-  -- these calls were made with the pass
-  pub record HasMade (board : Board V F S T) (pass : Pass V F S T) (calls : List (Called V)) : Type 0 where
-    pub made : IsProcess family.width board.processes board.limit (stamped board.first) pass.process (did_of pass.seat calls)
-    pub own : stamped pass.own ≡ own_before (stamped board.first) calls (length calls)
+    pub made : (calls : List (Called V)) × HasMade board pass calls
 
   -- *Known*: it is the own record, or the record with a number of those that the process knows another one to have written to it, where
   -- the opening has number 0. These begin with all that the other one had really written to it by each receipt of its that the process

@@ -1,5 +1,5 @@
 -- Records with stamps: their order, and the greatest of several (this project's own).
-use Rattle.std.specs.Prelude.{◌≡◌, ◌⊎◌, List, Option, Some, None, if◌then◌else◌}
+use Rattle.std.specs.Prelude.{◌≡◌, ◌⊎◌, List, Option, Some, None}
 use Rattle.std.proofs.Common.{refl, ◌∙◌, inl, inr, arith}
 use Rattle.matrix_core.specs.declared.stamp.Stamp.{Stamp}
 use Rattle.matrix_core.specs.declared.stamp.Stamped.{Stamped}

@@ -1,9 +1,12 @@
 //! Reading and writing.
 ghost use Rattle.std.specs.Prelude.{◌≡◌, ◌≢◌, ◌+◌, ◌-◌, ◌*◌, ◌<◌, length, IfErr, IfOk, IsTrue};
-ghost use Rattle.board_live.specs.inner.Calls.{HasReadColumn, HasRow, HasWrittenRow, IsOf};
+ghost use Rattle.board_live.specs.inner.Calls.{HasReadColumn, HasRow, HasWrittenRow, IsOf, ShowsAll};
+ghost use Rattle.cell_contract.specs.Plans.{doings, MayReadEach, MayWriteEach};
 ghost use Rattle.cell_contract.specs.Running.{last_or};
 ghost use Rattle.history_core.specs.declared.history.Kind.TheVariants.{Read};
 ghost use Rattle.board_live.specs.Passes.{ChoosesStamp, IsBounded, IsCall, IsKnown, IsPass, kind_of};
+ghost use Rattle.board_live.specs.Plans.{MakesCalls};
+ghost use Rattle.board_live.specs.SoFar.{HaveAtomicOrderSoFar};
 ghost use Rattle.matrix_core.specs.Stamps.{IsBelow};
 ghost use Rattle.board_live.specs.Records.{Rises};
 
@@ -23,7 +26,10 @@ fn column<V: RecordLaw, F: Family<Posted<V>>>(
 )
     requires of { IsOf ⟦<F as Family<Posted<V>>>⟧ family.now processes process seat.old }
     requires lawful { IsTrue (V.obeys seen.old.item) }
-    ensures { HasReadColumn ⟦<F as Family<Posted<V>>>⟧ V.obeys family.now process (processes - 1) seat.old seat.new seen.old seen.new }
+    requires plan { MayReadEach (MakesCalls (F.opening family.now) F.width (F.processes family.now) (F.limit family.now) (F.who seat.old))
+        F.width (F.processes family.now) (F.who seat.old) (doings (F.times seat.old) (F.writes seat.old) (F.reads seat.old)) }
+    ensures read { HasReadColumn ⟦<F as Family<Posted<V>>>⟧ V.obeys family.now process (processes - 1) seat.old seat.new seen.old seen.new }
+    ensures so_far { ShowsAll ⟦<F as Family<Posted<V>>>⟧ family.now seat.new }
 {
     family.read_all_from(seat, seen);
 }
@@ -44,7 +50,10 @@ fn row<V: RecordLaw, F: Family<Posted<V>>>(
     requires last { (j : _) → j < processes → j ≢ process → last_or first.now (F.writes seat.old j).items ≡ own.now }
     requires rises { Rises own.now item.now }
     requires lawful { IsTrue (V.obeys item.now.item) }
-    ensures { HasWrittenRow ⟦<F as Family<Posted<V>>>⟧ family.now process (processes - 1) seat.old seat.new item.now }
+    requires plan { MayWriteEach (MakesCalls (F.opening family.now) F.width (F.processes family.now) (F.limit family.now) (F.who seat.old))
+        F.width (F.processes family.now) (F.who seat.old) item.now (doings (F.times seat.old) (F.writes seat.old) (F.reads seat.old)) }
+    ensures row { HasWrittenRow ⟦<F as Family<Posted<V>>>⟧ family.now process (processes - 1) seat.old seat.new item.now }
+    ensures so_far { ShowsAll ⟦<F as Family<Posted<V>>>⟧ family.now seat.new }
 {
     family.write_all_from(seat, item);
 }
@@ -65,7 +74,11 @@ fn tell_row<V: RecordLaw, F: Family<Posted<V>>>(
     requires last { (j : _) → j < processes → j ≢ process → last_or first.now (F.writes seat.old j).items ≡ own.now }
     requires rises { Rises own.now item.now }
     requires lawful { IsTrue (V.obeys item.now.item) }
+    requires plan { MayWriteEach (MakesCalls (F.opening family.now) F.width (F.processes family.now) (F.limit family.now) (F.who seat.old))
+        F.width (F.processes family.now) (F.who seat.old) item.now (doings (F.times seat.old) (F.writes seat.old) (F.reads seat.old)) }
+    requires so_far { ShowsAll ⟦<F as Family<Posted<V>>>⟧ family.now seat.old }
     ensures row { HasRow ⟦<F as Family<Posted<V>>>⟧ family.now process (processes - 1) seat.old seat.new own.now item.now }
+    ensures so_far { ShowsAll ⟦<F as Family<Posted<V>>>⟧ family.now seat.new }
     ensures silent { own.now.stamp ≡ item.now.stamp → seat.new ≡ seat.old }
 {
     if own.stamp != item.stamp {
@@ -88,6 +101,8 @@ impl<V: RecordLaw, F: Family<Posted<V>>> Board<V, F> {
             length (F.times pass.new.seat) ≡ length (F.times pass.old.seat) + (self.now.processes - 1) * F.width }
         ensures bounded { IsBounded ⟦<F as Family<Posted<V>>>⟧ self.now pass.old pass.new }
         ensures lawful { IsTrue (V.obeys result.item) }
+        // All calls of all processes so far, ended or cut off, have one atomic order that refuses lawfully, and this call stands in it.
+        ensures so_far { HaveAtomicOrderSoFar ⟦<F as Family<Posted<V>>>⟧ self.now pass.new }
     {
         let before = pass.own;
         column(
@@ -121,6 +136,8 @@ impl<V: RecordLaw, F: Family<Posted<V>>> Board<V, F> {
         ensures raised { IfOk result (λ s. IsBelow pass.old.own.stamp s) }
         ensures bounded { IsBounded ⟦<F as Family<Posted<V>>>⟧ self.now pass.old pass.new }
         ensures lawful { IfErr result (λ e. IsTrue (V.obeys e.seen.item)) }
+        // All calls of all processes so far, ended or cut off, have one atomic order that refuses lawfully, and this call stands in it.
+        ensures so_far { HaveAtomicOrderSoFar ⟦<F as Family<Posted<V>>>⟧ self.now pass.new }
     {
         let own = pass.own;
         column(

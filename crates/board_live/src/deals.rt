@@ -37,7 +37,7 @@ fn deal<V: RecordLaw, F: Family<Posted<V>>>(
 {
     let room = Vec::with_capacity(alloc, n)?;
     let mut passes = Vec::with_capacity(alloc, n)?;
-    let (family, seats) = F::make(alloc, n, first)?;
+    let (family, seats) = F::make(alloc, n, limit, first)?;
     let mut seats = seats;
     let mut room = room;
     for _ in 0..n {

@@ -9,6 +9,7 @@ mod ends;
 mod passes;
 mod receipts;
 mod record;
+mod so_far;
 
 pub use board::{Board, Pass, TagsEnded};
 pub use deals::BoardError;

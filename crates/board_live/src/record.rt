@@ -1,7 +1,7 @@
 //! Records that several processes share, with the stamps under which they were written.
 ghost use Rattle.std.specs.Prelude.{◌≡◌, Bool, IsTrue};
 
-use cell_contract::{Kept, Lawful, Sees};
+use cell_contract::{Kept, Lawful, Planned, Sees};
 use history_core::Band;
 use matrix_core::Stamp;
 
@@ -68,6 +68,13 @@ impl<V: RecordLaw> Lawful for Posted<V> {
     ghost reflexive = { rises_itself };
 
     ghost transitive = { rises_on };
+}
+
+/// A process of a board makes calls, at any moment as far as it has come.
+impl<V: RecordLaw> Planned for Posted<V> {
+    ghost use Rattle.board_live.specs.Plans.{MakesCalls};
+
+    ghost plan = { MakesCalls };
 }
 
 /// Of the records that it sees it becomes the greatest.

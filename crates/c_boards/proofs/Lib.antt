@@ -2,4 +2,3 @@ pub mod Pairing
 pub mod Putting
 pub mod Opening
 pub mod Since
-pub mod Lives

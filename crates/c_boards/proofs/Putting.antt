@@ -17,9 +17,9 @@ get_other xs i k y z ne at = ⊎_elim (λ p. absurd (ne p.0)) (λ p. p.1) (get_s
 get_here : {X : Type 0} (xs : List X) (i : ℕ) (y z : X) → slice_get (set xs i y) i ≡ Some z → z ≡ y
 get_here xs i y z at = ⊎_elim (λ p. p.1) (λ p. absurd (p.0 refl)) (get_set xs i i y z at)
 
-module _ {H D : Type 0} (live : H → ℕ) (side : H → D) where
+module _ {H D : Type 0} (live : H → ℕ) (side : H → D) (code : ℕ) where
   abbrev HasSide : H → D → Type 0
-  HasSide h d = (live h ≢ 0) × (side h ≡ d)
+  HasSide h d = (live h ≡ code) × (side h ≡ d)
 
   pub record PutFrom (whole left : List (Box D)) (hs : List H) : Type 0 where
     pub done : List (Box D)
@@ -61,7 +61,7 @@ module _ {H D : Type 0} (live : H → ℕ) (side : H → D) where
             (same_or_not k (length left));
       }
 
-  pub put_all : (whole left : List (Box D)) (hs : List H) → PutFrom whole left hs → length left ≡ 0 → HaveBoxed live side whole hs
+  pub put_all : (whole left : List (Box D)) (hs : List H) → PutFrom whole left hs → length left ≡ 0 → HaveBoxed live side code whole hs
   put_all whole left hs inv e = (inv.counts, λ k b h at_b at_h. inv.put k b h (omega (arith, e)) at_b at_h)
 
   -- one more handle without a side
@@ -77,7 +77,7 @@ module _ {H D : Type 0} (live : H → ℕ) (side : H → D) where
 
   -- the boxes of places are in the handles, and so are the places
   pub have_all : {S : Type 0} (place : S → D) (ss : List S) (bs : List (Box D)) (hs : List H) → AreBoxed place ss bs
-      → HaveBoxed live side bs hs → HaveAll live side place ss hs
+      → HaveBoxed live side code bs hs → HaveAll live side code place ss hs
   have_all place ss bs hs p h = (
     h.0 ∙ sym (paired_length _ ss bs p),
     λ k s x at_s at_h.

@@ -1,112 +1,103 @@
 //! The calls of C on boards, over any record, family and handle.
-ghost use Rattle.std.specs.Prelude.{◌≡◌, ◌≢◌, true};
-ghost use Rattle.c_registers.specs.Handles.{holding, IsEnd};
-ghost use Rattle.c_boards.specs.Places.{IsBoardWrite, IsBoardRead, IsBoardReadSince};
+ghost use Rattle.std.specs.Prelude.{◌≡◌, ◌≢◌, true, IfSome, IfNone};
+ghost use Rattle.c_registers.specs.Handles.{holding};
+ghost use Rattle.c_boards.specs.Places.{shown, IsBoardWrite, IsBoardRead, IsBoardReadSince};
 
 use crate::mark::{Mark, is_below, mark_of};
 use crate::posts::Posts;
-use c_registers::{DONE, ENDED, Hand, Holds, OLDER, OTHER_SIDE, Offers, WORN_OUT, end};
-use std::alloc::Global;
+use c_registers::{BUSY, DONE, Holds, OLDER, WORN_OUT, Wraps, lacks};
+use matrix_core::Stamp;
 
-/// Writes by the place, where it is one.
+/// Writes by the place in the struct.
 #[inline]
-fn write_among<D: Offers<S>, W: Copy, S: Posts<W>>(side: &mut D, item: &W, stamp: &mut Mark) -> u32
-    ensures { IsBoardWrite D.side S.has_posted S.is_refused (holding 1 side.old) (holding 1 side.new) item.now stamp.old stamp.new result }
+fn post_inside<D: Wraps<S>, W: Copy, S: Posts<W>>(side: &mut D, item: &W) -> Option<Stamp>
+    ensures posted { IfSome result (λ s. (q : S) × (side.new ≡ D.side q) × S.has_posted (D.inner side.old) q item.now s) }
+    ensures refused { IfNone result ((q : S) × (side.new ≡ D.side q) × S.is_refused (D.inner side.old) q) }
 {
-    match side.of() {
-        None => OTHER_SIDE,
-        Some(sits) => match sits.post(item) {
-            None => WORN_OUT,
-            Some(given) => {
-                *stamp = mark_of(given);
-                DONE
-            }
-        },
-    }
+    side.inside().post(item)
 }
 
-/// Reads by the place, where it is one.
+/// Reads by the place in the struct.
 #[inline]
-fn read_among<D: Offers<S>, W: Copy, S: Posts<W>>(
-    side: &mut D,
-    item: &mut W,
+fn see_inside<D: Wraps<S>, W: Copy, S: Posts<W>>(side: &mut D, item: &mut W, stamp: &mut Mark)
+    ensures { (q : S) × (side.new ≡ D.side q) × S.has_seen (D.inner side.old) q (shown stamp.new item.new) }
+{
+    let answer = side.inside().see();
+    *item = answer.item;
+    *stamp = mark_of(answer.stamp);
+}
+
+/// Writes the record by the place of a handle. Gives the stamp that the record has.
+#[inline]
+pub fn write_place<D: Wraps<S>, L: Holds<D>, W: Copy, S: Posts<W>>(
+    code: u64,
+    live: &mut u64,
+    loose: &mut L,
+    item: &W,
     stamp: &mut Mark,
 ) -> u32
-    ensures { IsBoardRead D.side S.has_seen (holding 1 side.old) (holding 1 side.new) item.old item.new stamp.old stamp.new result }
+    requires { live.old ≡ code → L.full loose.old ≡ true }
+    ensures live { live.new ≡ live.old }
+    ensures full { L.full loose.new ≡ L.full loose.old }
+    ensures write { IsBoardWrite code D.side S.has_posted S.is_refused (holding live.old (L.side loose.old))
+        (holding live.new (L.side loose.new)) item.now stamp.old stamp.new result }
 {
-    match side.of() {
-        None => OTHER_SIDE,
-        Some(sits) => {
-            let answer = sits.see();
-            *item = answer.item;
-            *stamp = mark_of(answer.stamp);
+    if *live != code {
+        return lacks(*live);
+    }
+    *live = BUSY;
+    let posted = post_inside::<D, W, S>(loose.reach(), item);
+    *live = code;
+    match posted {
+        None => WORN_OUT,
+        Some(given) => {
+            *stamp = mark_of(given);
             DONE
         }
     }
 }
 
-/// Writes the record by the place that a handle has. Gives the stamp that the record has.
+/// Reads by the place of a handle. Gives the record with its stamp.
 #[inline]
-pub fn write_place<D: Offers<S>, L: Holds<D>, W: Copy, S: Posts<W>>(
-    alloc: Global,
-    live: u64,
-    loose: &mut L,
-    item: &W,
-    stamp: &mut Mark,
-) -> u32
-    requires { live ≢ 0 → L.full loose.old ≡ true }
-    ensures full { L.full loose.new ≡ L.full loose.old }
-    ensures write { IsBoardWrite D.side S.has_posted S.is_refused (holding live (L.side loose.old)) (holding live (L.side loose.new))
-        item.now stamp.old stamp.new result }
-{
-    if live == 0 {
-        return ENDED;
-    }
-    let mut side = loose.take(alloc);
-    let status = write_among::<D, W, S>(side.as_mut(), item, stamp);
-    loose.put(side);
-    status
-}
-
-/// Reads by the place that a handle has. Gives the record with its stamp.
-#[inline]
-pub fn read_place<D: Offers<S>, L: Holds<D>, W: Copy, S: Posts<W>>(
-    alloc: Global,
-    live: u64,
+pub fn read_place<D: Wraps<S>, L: Holds<D>, W: Copy, S: Posts<W>>(
+    code: u64,
+    live: &mut u64,
     loose: &mut L,
     item: &mut W,
     stamp: &mut Mark,
 ) -> u32
-    requires { live ≢ 0 → L.full loose.old ≡ true }
+    requires { live.old ≡ code → L.full loose.old ≡ true }
+    ensures live { live.new ≡ live.old }
     ensures full { L.full loose.new ≡ L.full loose.old }
-    ensures read { IsBoardRead D.side S.has_seen (holding live (L.side loose.old)) (holding live (L.side loose.new))
+    ensures read { IsBoardRead code D.side S.has_seen (holding live.old (L.side loose.old)) (holding live.new (L.side loose.new))
         item.old item.new stamp.old stamp.new result }
 {
-    if live == 0 {
-        return ENDED;
+    if *live != code {
+        return lacks(*live);
     }
-    let mut side = loose.take(alloc);
-    let status = read_among::<D, W, S>(side.as_mut(), item, stamp);
-    loose.put(side);
-    status
+    *live = BUSY;
+    see_inside::<D, W, S>(loose.reach(), item, stamp);
+    *live = code;
+    DONE
 }
 
 /// Reads, and says whether the answer is older than this stamp.
 #[inline]
-pub fn read_place_since<D: Offers<S>, L: Holds<D>, W: Copy, S: Posts<W>>(
-    alloc: Global,
-    live: u64,
+pub fn read_place_since<D: Wraps<S>, L: Holds<D>, W: Copy, S: Posts<W>>(
+    code: u64,
+    live: &mut u64,
     loose: &mut L,
     least: &Mark,
     item: &mut W,
     stamp: &mut Mark,
 ) -> u32
-    requires { live ≢ 0 → L.full loose.old ≡ true }
+    requires { live.old ≡ code → L.full loose.old ≡ true }
+    ensures live { live.new ≡ live.old }
     ensures full { L.full loose.new ≡ L.full loose.old }
-    ensures read { IsBoardReadSince D.side S.has_seen (holding live (L.side loose.old)) (holding live (L.side loose.new)) least.now
-        item.old item.new stamp.old stamp.new result }
+    ensures read { IsBoardReadSince code D.side S.has_seen (holding live.old (L.side loose.old)) (holding live.new (L.side loose.new))
+        least.now item.old item.new stamp.old stamp.new result }
 {
-    let status = read_place::<D, L, W, S>(alloc, live, loose, item, stamp);
+    let status = read_place::<D, L, W, S>(code, live, loose, item, stamp);
     if status != DONE {
         return status;
     }
@@ -114,11 +105,4 @@ pub fn read_place_since<D: Offers<S>, L: Holds<D>, W: Copy, S: Posts<W>>(
         return OLDER;
     }
     status
-}
-
-/// Ends the place that the handle has.
-pub fn end_place<D: Offers<S>, H: Hand<D>, S>(alloc: Global, handle: &mut H) -> u32
-    ensures { IsEnd D.side (holding (H.live handle.old) (H.side handle.old)) (holding (H.live handle.new) (H.side handle.new)) result }
-{
-    end::<D, H, S>(alloc, handle)
 }

@@ -1,6 +1,6 @@
 //! A place at a board, and the calls that C makes on it through a handle, over any record, family and handle.
 //!
-//! A place is a share of the board with the pass of one of its processes. What a handle is, and which places it can have, is for
+//! A place is a share of the board with the pass of one of its processes. What a handle is, and which place it can have, is for
 //! the crate above to say.
 #![tactic(auto)]
 
@@ -13,7 +13,7 @@ mod posts;
 mod seated;
 mod sits;
 
-pub use calls::{end_place, read_place, read_place_since, write_place};
+pub use calls::{read_place, read_place_since, write_place};
 pub use makes::make_places;
 pub use mark::Mark;
 pub use place::Place;

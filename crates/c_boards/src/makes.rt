@@ -1,12 +1,20 @@
 //! Making a board for C: a place into each of its handles.
-ghost use Rattle.std.specs.Prelude.{◌≡◌, true, false, IfOk, IfSome, length};
+ghost use Rattle.std.specs.Prelude.{◌≡◌, ◌≢◌, true, false, IfOk, IfSome, length};
 ghost use Rattle.c_boards.specs.Opens.{AreBoxed, OpensBoxes};
 ghost use Rattle.c_boards.specs.Places.{NoneLive, SomeLive, HaveBoxed, IsBoardMake};
 
 use crate::posts::Posts;
 use board_live::BoardError;
-use c_registers::{DONE, Hand, IN_USE, LIMIT, NO_MEMORY, Offers, PROCESSES};
+use c_registers::{DONE, Hand, IN_USE, LIMIT, NO_MEMORY, PROCESSES, Wraps};
 use std::alloc::{AllocError, Global};
+
+/// Whether the handle has a side, or a call on it was cut off.
+fn is_live<D, H: Hand<D>>(handle: &H) -> bool
+    ensures dead { result ≡ false → H.live handle.now ≡ 0 }
+    ensures live { result ≡ true → H.live handle.now ≢ 0 }
+{
+    handle.live() != 0
+}
 
 /// Whether one of the handles has a side.
 fn any_live<D, H: Hand<D>>(handles: &[H]) -> bool
@@ -14,7 +22,7 @@ fn any_live<D, H: Hand<D>>(handles: &[H]) -> bool
     ensures some { result ≡ true → SomeLive H.live H.side handles.now }
 {
     for k in 0..handles.len() {
-        if handles[k].is_live() {
+        if is_live::<D, H>(&handles[k]) {
             return true;
         }
     }
@@ -25,7 +33,7 @@ fn any_live<D, H: Hand<D>>(handles: &[H]) -> bool
 fn put_all<D: Drop, H: Hand<D>>(handles: &mut [H], sides: Vec<Box<D>>)
     requires none { NoneLive H.live H.side handles.old }
     requires counts { length handles.old ≡ length sides.items }
-    ensures { HaveBoxed H.live H.side sides.items handles.new }
+    ensures { HaveBoxed H.live H.side H.CODE sides.items handles.new }
 {
     let mut sides = sides;
     for _ in 0..handles.len() {
@@ -38,17 +46,14 @@ fn put_all<D: Drop, H: Hand<D>>(handles: &mut [H], sides: Vec<Box<D>>)
 }
 
 /// The place in a box, where there is memory.
-fn boxed_place<D: Offers<S>, S: Drop>(alloc: Global, place: S) -> Option<Box<D>>
+fn boxed_place<D: Wraps<S>, S: Drop>(alloc: Global, place: S) -> Option<Box<D>>
     ensures { IfSome result (λ b. b.value ≡ D.side place) }
 {
     Box::new(alloc, D::whole(place)).ok()
 }
 
 /// Each place in a box, where there is memory.
-fn all_boxed<D: Offers<S>, S: Drop>(
-    alloc: Global,
-    places: Vec<S>,
-) -> Result<Vec<Box<D>>, AllocError>
+fn all_boxed<D: Wraps<S>, S: Drop>(alloc: Global, places: Vec<S>) -> Result<Vec<Box<D>>, AllocError>
     ensures { IfOk result (λ v. AreBoxed D.side places.items v.items) }
 {
     let mut places = places;
@@ -67,7 +72,7 @@ fn all_boxed<D: Offers<S>, S: Drop>(
 }
 
 /// The places of a new board, each in a box.
-fn open_boxed<D: Offers<S>, W: Copy, S: Posts<W>>(
+fn open_boxed<D: Wraps<S>, W: Copy, S: Posts<W>>(
     alloc: Global,
     n: usize,
     limit: u64,
@@ -83,13 +88,13 @@ fn open_boxed<D: Offers<S>, W: Copy, S: Posts<W>>(
 }
 
 /// Makes a board with a process for each handle, and puts the places into them. Process k calls with handle k.
-pub fn make_places<D: Offers<S>, H: Hand<D>, W: Copy, S: Posts<W>>(
+pub fn make_places<D: Wraps<S>, H: Hand<D>, W: Copy, S: Posts<W>>(
     alloc: Global,
     first: &W,
     limit: u64,
     handles: &mut [H],
 ) -> u32
-    ensures { IsBoardMake H.live H.side D.side S.is_made limit handles.old handles.new first.now result }
+    ensures { IsBoardMake H.live H.side H.CODE D.side S.is_made limit handles.old handles.new first.now result }
 {
     if any_live(handles) {
         return IN_USE;

@@ -1,6 +1,6 @@
 -- The accesses of a family of registers, each of one writer and one reader, and what each call adds to what its process did (this
 -- project's own, over the intervals of L. Lamport, On Interprocess Communication, Parts I and II, Distributed Computing 1, 1986).
-use Rattle.std.specs.Prelude.{◌≡◌, ◌≢◌, ℕ, ◌+◌, ◌-◌, ◌<◌, ◌≤◌, List, [], ◌∷◌, ◌++◌, length, slice_get, Some}
+use Rattle.std.specs.Prelude.{◌≡◌, ◌≢◌, ℕ, ◌-◌, ◌<◌, List, [], ◌∷◌, ◌++◌, length, slice_get, Some}
 use Rattle.cell_contract.specs.declared.times.Times.{Times}
 use Rattle.cell_contract.specs.declared.times.Known.{Known}
 use Rattle.cell_contract.specs.Intervals.{no_times, none_known, AreHeeded, IsNextAnswer}

@@ -4,5 +4,6 @@ pub mod Rows
 pub mod Acts
 pub mod Histories
 pub mod Intervals
+pub mod Plans
 pub mod Running
 pub mod Sights

@@ -6,6 +6,7 @@ ghost use Rattle.cell_contract.specs.Intervals.{known_as};
 ghost use Rattle.cell_contract.specs.declared.times.Known.{Known};
 ghost use Rattle.cell_contract.specs.Accesses.{WriteAccesses, ReadAccesses, IsUnused, IsAccess, IsWriteAccess, IsHeardRead, KeepsEach};
 ghost use Rattle.cell_contract.specs.Accesses.{KeepsOthers};
+ghost use Rattle.cell_contract.specs.Plans.{AreSoFar, Doings, doings, HasNoSteps, MayRead, MayReadEach, MayWrite, MayWriteEach};
 ghost use Rattle.cell_contract.specs.Ends.{Each, EachTwo, IsSchedule, IsAtomicCell};
 ghost use Rattle.cell_contract.specs.Rows.{OneByOne, IsReadFrom, IsWriteTo};
 
@@ -22,20 +23,32 @@ pub trait Sees<T> {
         ensures { sees self.old item.now self.new };
 }
 
+/// A record whose processes keep to a plan: at any moment, also within an access, what each has done is of the plan. So what all have done
+/// is known of those too that were stopped for ever.
+pub trait Planned: Lawful {
+    // Whether it is of the plan, where all registers opened with this record and an access takes so many steps, that of so many processes
+    // with this limit the process with this number has done this.
+    ghost plan: { Self → ℕ → ℕ → ℕ → ℕ → Doings Self → Type 0 };
+}
+
 /// The calls of a family: registers of one writer and one reader each, from each of 2 to 16 processes to each other one.
 ///
 /// Lists, numbers and times are known to contracts alone. The running program has none of them.
-pub trait Family<T: Lawful>: Sized + Drop {
+///
+/// Each access ends with what all processes have done so far (`so_far`), also those that were stopped for ever.
+pub trait Family<T: Planned>: Sized + Drop {
     /// The right to write and to read as one of the processes.
     type Seat: Drop;
 
     /// A receipt of a process for what it has written.
     type Told: Drop;
 
-    // The record that each register opened with, and how many processes there are.
+    // The record that each register opened with, how many processes there are, and the limit of which the records' plan speaks.
     ghost opening: { Self → T };
 
     ghost processes: { Self → ℕ };
+
+    ghost limit: { Self → ℕ };
 
     // The steps of the schedule that an access makes. They are those of the registers' mechanism: one load or store of memory may make
     // several of them.
@@ -71,11 +84,18 @@ pub trait Family<T: Lawful>: Sized + Drop {
 
     ghost writes_of: { Self.Told → ℕ → Known T };
 
-    /// A family of `n` processes whose registers all hold `first`, with the seat of each process.
-    fn make(alloc: Global, n: usize, first: T) -> Result<(Self, Vec<Self::Seat>), AllocError>
+    /// A family of `n` processes whose registers all hold `first`, with the seat of each process. The records' plan alone speaks of its
+    /// limit.
+    fn make(
+        alloc: Global,
+        n: usize,
+        plan_limit: u64,
+        first: T,
+    ) -> Result<(Self, Vec<Self::Seat>), AllocError>
         requires lawful { T.fits first }
         requires processes { (2 ≤ n) × (n ≤ 16) }
-        ensures opens { IfOk result (λ r. (opening r.0 ≡ first) × (processes r.0 ≡ n)) }
+        requires plan { (i : ℕ) (done : Doings T) → i < n → HasNoSteps done → T.plan first width n plan_limit i done }
+        ensures opens { IfOk result (λ r. (opening r.0 ≡ first) × (processes r.0 ≡ n) × (limit r.0 ≡ plan_limit)) }
         ensures seats { IfOk result (λ r. (vec_len r.1 ≡ n) × Each (λ i s. is_seat r.0 s × (who s ≡ i)) r.1.items) }
         ensures unused { IfOk result (λ r. Each (λ i s. IsUnused (clock s) (times s) (writes s) (reads s)) r.1.items) };
 
@@ -84,11 +104,15 @@ pub trait Family<T: Lawful>: Sized + Drop {
         requires own { is_seat self.now seat.old }
         requires other { (to < processes self.now) × (to ≢ who seat.old) }
         requires lawful { T.fits item.now × T.rises (last_or (opening self.now) (writes seat.old to).items) item.now }
+        requires plan { MayWrite (T.plan (opening self.now) width (processes self.now) (limit self.now) (who seat.old)) width item.now to
+            (doings (times seat.old) (writes seat.old) (reads seat.old)) }
         ensures own { is_seat self.now seat.new × (who seat.new ≡ who seat.old) }
         ensures access { IsAccess width (clock seat.old) (clock seat.new) (times seat.old) (times seat.new)
             (writes seat.old to).times (writes seat.new to).times }
         ensures written { IsWriteAccess (writes seat.old to) (writes seat.new to) item.now }
-        ensures others { KeepsOthers to (writes seat.old) (writes seat.new) × KeepsEach (reads seat.old) (reads seat.new) };
+        ensures others { KeepsOthers to (writes seat.old) (writes seat.new) × KeepsEach (reads seat.old) (reads seat.new) }
+        ensures so_far { AreSoFar (T.plan (opening self.now) width (processes self.now) (limit self.now)) (opening self.now)
+            (processes self.now) (who seat.new) (doings (times seat.new) (writes seat.new) (reads seat.new)) };
 
     /// Shows the record to each other process, rising: the same as so many calls of `write_from`, in fewer instructions.
     fn write_all_from(&self, seat: &mut Self::Seat, item: &T)
@@ -96,23 +120,35 @@ pub trait Family<T: Lawful>: Sized + Drop {
         requires lawful { T.fits item.now }
         requires rises { (j : ℕ) → j < processes self.now → j ≢ who seat.old →
             T.rises (last_or (opening self.now) (writes seat.old j).items) item.now }
-        ensures { OneByOne (IsWriteTo (is_seat self.now) who clock times writes reads width item.now) (who seat.old) seat.old
-            (processes self.now - 1) seat.new };
+        requires plan { MayWriteEach (T.plan (opening self.now) width (processes self.now) (limit self.now) (who seat.old)) width
+            (processes self.now) (who seat.old) item.now (doings (times seat.old) (writes seat.old) (reads seat.old)) }
+        ensures row { OneByOne (IsWriteTo (is_seat self.now) who clock times writes reads width item.now) (who seat.old) seat.old
+            (processes self.now - 1) seat.new }
+        ensures so_far { AreSoFar (T.plan (opening self.now) width (processes self.now) (limit self.now)) (opening self.now)
+            (processes self.now) (who seat.new) (doings (times seat.new) (writes seat.new) (reads seat.new)) };
 
     /// Shows one whole record of another process where it lies, so that nothing is copied. It is a record that was written, and by its law
     /// it may stand after each that this process saw or was told of that one.
     fn read_from<L: Sees<T>>(&self, seat: &mut Self::Seat, from: usize, seen: &mut L)
         requires own { is_seat self.now seat.old }
         requires other { (from < processes self.now) × (from ≢ who seat.old) }
-        ensures { IsReadFrom (is_seat self.now) who clock times writes reads width (opening self.now) T.fits T.rises L.sees from
-            (seat.old, seen.old) (seat.new, seen.new) };
+        requires plan { MayRead (T.plan (opening self.now) width (processes self.now) (limit self.now) (who seat.old)) width from
+            (doings (times seat.old) (writes seat.old) (reads seat.old)) }
+        ensures read { IsReadFrom (is_seat self.now) who clock times writes reads width (opening self.now) T.fits T.rises L.sees from
+            (seat.old, seen.old) (seat.new, seen.new) }
+        ensures so_far { AreSoFar (T.plan (opening self.now) width (processes self.now) (limit self.now)) (opening self.now)
+            (processes self.now) (who seat.new) (doings (times seat.new) (writes seat.new) (reads seat.new)) };
 
     /// Shows one record of each other process, rising: the same as so many calls of `read_from`, in fewer instructions.
     fn read_all_from<L: Sees<T>>(&self, seat: &mut Self::Seat, seen: &mut L)
         requires own { is_seat self.now seat.old }
-        ensures { OneByOne (IsReadFrom (is_seat self.now) who clock times writes reads width (opening self.now) T.fits T.rises L.sees)
+        requires plan { MayReadEach (T.plan (opening self.now) width (processes self.now) (limit self.now) (who seat.old)) width
+            (processes self.now) (who seat.old) (doings (times seat.old) (writes seat.old) (reads seat.old)) }
+        ensures column { OneByOne (IsReadFrom (is_seat self.now) who clock times writes reads width (opening self.now) T.fits T.rises L.sees)
             (who seat.old)
-            (seat.old, seen.old) (processes self.now - 1) (seat.new, seen.new) };
+            (seat.old, seen.old) (processes self.now - 1) (seat.new, seen.new) }
+        ensures so_far { AreSoFar (T.plan (opening self.now) width (processes self.now) (limit self.now)) (opening self.now)
+            (processes self.now) (who seat.new) (doings (times seat.new) (writes seat.new) (reads seat.new)) };
 
     /// Gives a receipt for all that the process has written, which carries these writes.
     fn tell(&self, seat: &mut Self::Seat) -> Self::Told
@@ -160,5 +196,16 @@ pub trait Family<T: Lawful>: Sized + Drop {
         ensures atomic { EachTwo (λ i j s t. IsAtomicCell (opening self) (writes s j) (reads t i)) seats.items };
 }
 
+/// A family in which each seat shows what all processes have done so far.
+pub trait SoFar<T: Planned>: Family<T> {
+    /// Shows what all processes have done so far, while they go on, and also those that were stopped for ever. Nothing changes.
+    fn so_far_from(&self, seat: &mut Self::Seat)
+        requires own { Self.is_seat self.now seat.old }
+        ensures same { seat.new ≡ seat.old }
+        ensures so_far { AreSoFar (T.plan (Self.opening self.now) Self.width (Self.processes self.now) (Self.limit self.now))
+            (Self.opening self.now) (Self.processes self.now) (Self.who seat.old)
+            (doings (Self.times seat.old) (Self.writes seat.old) (Self.reads seat.old)) };
+}
+
 /// A family that threads can share.
-pub trait SharedFamily<T: Kept>: Family<T> + Send + Sync {}
+pub trait SharedFamily<T: Kept + Planned>: Family<T> + Send + Sync {}

@@ -1,12 +1,15 @@
 -- A column on its way: what its next read needs.
-use Rattle.std.proofs.Common.{◌≡◌, ℕ, sym, ap, ◌∙◌}
+use Rattle.std.proofs.Common.{◌≡◌, ℕ, ◌-◌, ◌<◌, sym, ap, ◌∙◌, subst}
+use Rattle.cell_contract.specs.Plans.{Doings, doings, MayRead, MayReadEach, ReadsSoFar}
 use Rattle.cell_contract.specs.Rows.{OneByOne, IsReadFrom}
 use Rattle.cell_contract.proofs.Rows.{column_own}
 use Rattle.family_four_slot.specs.declared.family.FourSlotFamily.{FourSlotFamily}
 use Rattle.family_four_slot.specs.Seated.{FourSlotSeat}
 use Rattle.family_table.specs.Places.{place}
 use Rattle.family_table.specs.Seated.{number_of, clock_of, times_of}
-use Rattle.family_four_slot.specs.Seated.{opening_of, writes_of, reads_of, IsSeat}
+use Rattle.family_four_slot.specs.Seated.{opening_of, processes_of, writes_of, reads_of, IsSeat}
+use Rattle.family_table.proofs.Plans.{may_read_after, may_read_before, whole_reads}
+use Rattle.family_four_slot.proofs.Rows.{row_room}
 
 module _ {T L : Type 0} (f : FourSlotFamily T) (fits : T → Type 0) (rises : T → T → Type 0) (sees : L → T → L → Type 0) where
   -- such a read of one process
@@ -29,3 +32,30 @@ module _ {T L : Type 0} (f : FourSlotFamily T) (fits : T → Type 0) (rises : T 
         let is = column_seat count now seen own r in
         let n : start.processes ≡ now.processes = own.processes ∙ sym is.0.processes in
         at ∙ ap (λ z. place z from start.who) n ∙ ap (λ z. place now.processes from z) (sym is.1)
+
+    -- what the plan says of the next read
+    module _ (plan : ℕ → Doings T → Type 0) (may : MayReadEach (plan start.who) 3 (processes_of f) start.who
+        (doings (times_of start) (writes_of start) (reads_of start))) (own : IsSeat f start) where
+      so_far : (count : ℕ) (now : FourSlotSeat T × L) → Column count now → OneByOne (ReadsSoFar 3 3) start.who
+          (doings (times_of start) (writes_of start) (reads_of start)) count (doings (times_of now.0) (writes_of now.0) (reads_of now.0))
+      so_far count now r = whole_reads (IsSeat f) number_of clock_of times_of writes_of reads_of 3 (opening_of f) fits rises sees start.who
+          (start, first) count now r
+
+      low : start.who < processes_of f
+      low = subst (λ z. start.who < z) own.processes (row_room f start own).1
+
+      pub column_may_before : (now : FourSlotSeat T) (seen : L) (from : ℕ) → Column from (now, seen) → from < start.who →
+          MayRead (plan now.who) 3 from (doings (times_of now) (writes_of now) (reads_of now))
+      column_may_before now seen from r l =
+          subst (λ z. MayRead (plan z) 3 from (doings (times_of now) (writes_of now) (reads_of now)))
+          (sym (column_seat from now seen own r).1)
+          (may_read_before (plan start.who) 3 (processes_of f) start.who from (doings (times_of start) (writes_of start) (reads_of start))
+          (doings (times_of now) (writes_of now) (reads_of now)) may (so_far from (now, seen) r) l low)
+
+      pub column_may_after : (now : FourSlotSeat T) (seen : L) (from : ℕ) → Column (from - 1) (now, seen) → start.who < from →
+          from < processes_of f → MayRead (plan now.who) 3 from (doings (times_of now) (writes_of now) (reads_of now))
+      column_may_after now seen from r l lf =
+          subst (λ z. MayRead (plan z) 3 from (doings (times_of now) (writes_of now) (reads_of now)))
+          (sym (column_seat (from - 1) now seen own r).1)
+          (may_read_after (plan start.who) 3 (processes_of f) start.who from (doings (times_of start) (writes_of start) (reads_of start))
+          (doings (times_of now) (writes_of now) (reads_of now)) may (so_far (from - 1) (now, seen) r) l lf)

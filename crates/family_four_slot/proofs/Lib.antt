@@ -8,8 +8,12 @@ pub mod Learning
 pub mod Merged
 pub mod Parting
 pub mod Places
+pub mod Planning
 pub mod Rests
 pub mod Rows
+pub mod Shapes
+pub mod Showing
+pub mod SoFar
 pub mod Starts
 pub mod Telling
 pub mod Told

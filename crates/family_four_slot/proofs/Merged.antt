@@ -26,6 +26,7 @@ use Rattle.family_table.specs.Layouts.{shift}
 use Rattle.family_four_slot.specs.Places.{four_slots, word_at, slot_at}
 use Rattle.family_table.specs.Family.{of_cell, cell}
 use Rattle.family_four_slot.specs.FourSlots.{FourSlotFamily}
+use Rattle.family_four_slot.specs.Plans.{MayAnnounce, MayPublish}
 use Rattle.family_four_slot.specs.Steps.{After, asks_on, stores_on, has_asked, has_stored}
 use Rattle.family_table.proofs.Acts.{homes_long}
 use Rattle.family_four_slot.proofs.Places.{is_layout}
@@ -43,12 +44,13 @@ module _ {S V : Type 0} (holds : State S V → Type 0) where
     views = set_twice s.views id w w' z;
   }) h
 
-module _ {T : Type 0} (fits : T → Type 0) (rises : T → T → Type 0) (o : T) (n : ℕ) where
+module _ {T : Type 0} (fits : T → Type 0) (rises : T → T → Type 0) (o : T) (n : ℕ)
+    (Plan : ℕ → Process (FourSlotSight T) → Type 0) where
   abbrev W : Type 0
   W = FourSlotSight T
 
   abbrev F : State T (View W) → Type 0
-  F = FourSlotFamily fits rises o n
+  F = FourSlotFamily fits rises o Plan n
 
   same_cell : (k j i h : ℕ) → i < 4 → h < 4 → word_at k i ≡ word_at j h → k ≡ j
   same_cell k j i h li lh e = ((is_layout n).word_apart k i j h li lh e).0
@@ -66,9 +68,9 @@ module _ {T : Type 0} (fits : T → Type 0) (rises : T → T → Type 0) (o : T)
   pub asks_on_ok : (slots id word k : ℕ) (me : Me T (View W)) (v : Process W) (g : ReaderNotes T) (before behind : List (ℕ × T)) →
       word ≡ word_at k 0 → k < (four_slots n).cells → k < length v.parts → me.0 ≡ Has (v ∷ []) → of_cell Spent k v.parts ≡ Reader g →
       me.1 ≡ before ++ (shift (slot_at k) (slot_of_choice g.chosen g.at_hand.value) ++ behind) → v.held ≡ held_slots me.1 →
-      g.stage ≡ reader.R5 → Allows F slots id me word (λ m. m) (asks_on (step slots word 0 0 none) me)
-  asks_on_ok slots id word k me v g before behind at lk has who is slots_are held stage s r long seen small =
-      let x = asks_ok fits rises o n slots id word k me v g at lk has who is held stage s r long seen small in
+      g.stage ≡ reader.R5 → MayAnnounce Plan k v g → Allows F slots id me word (λ m. m) (asks_on (step slots word 0 0 none) me)
+  asks_on_ok slots id word k me v g before behind at lk has who is slots_are held stage may s r long seen small =
+      let x = asks_ok fits rises o n Plan slots id word k me v g at lk has who is held stage may.0 s r long seen small in
       let found : ℕ = get_or s.words word 0 in
       let Result : Type 0 = (w : View W) × (a : Act T) × Valid s.homes me.1 a × F (stepped s word found id me.1 w a)
       × asks_on (step slots word 0 0 none) me found (w, carried_after me.1 a) in
@@ -98,10 +100,10 @@ module _ {T : Type 0} (fits : T → Type 0) (rises : T → T → Type 0) (o : T)
       let reading : get_or s1.words (word_at k 1) 0 ≡ bit_number b =
       ap (λ zs. get_or zs (word_at k 1) 0) (set-get_or s.words word 0) ∙ (there ∙ (sym first ∙ d.2)) in
       let low : bit_number b ≤ 1 = bit_low b in
-      let y = says_ok fits rises o n 0 (omega arith) slots id (word_at k 1) k (bit_number b) me1 v1 g1 before behind refl lk
+      let y = says_ok fits rises o n Plan 0 (omega arith) slots id (word_at k 1) k (bit_number b) me1 v1 g1 before behind refl lk
       (subst (λ z. k < z) (sym (set_long v.parts k (Reader g1))) has) d.4.1 (get_set_here v.parts k (Reader g1) Spent has)
       (d.4.2 ∙ slots_are)
-      (ap held_slots (sym d.4.2)) refl refl s1 x.3 (homes_long s.homes me.1 a1 ∙ long)
+      (ap held_slots (sym d.4.2)) refl refl (may.1 b t (held_slots me.1) d.4.0) s1 x.3 (homes_long s.homes me.1 a1 ∙ long)
       (set_here s.views id x.0 (within s.views id me.0 seen))
       (omega (arith, reading, low)) in
       let z = y.4 k v1 g1 refl d.4.1 (get_set_here v.parts k (Reader g1) Spent has) in (
@@ -124,11 +126,11 @@ module _ {T : Type 0} (fits : T → Type 0) (rises : T → T → Type 0) (o : T)
   pub stores_on_ok : (slots id word k i new : ℕ) (me : Me T (View W)) (v : Process W) (p : WriterNotes T) (cs : List (ℕ × T)) →
       word ≡ word_at k i → k < (four_slots n).cells → k < length v.parts → me.0 ≡ Has (v ∷ []) → of_cell Spent k v.parts ≡ Writer p →
       me.1 ≡ (slot_at k (slot_number p.slot), p.item.value) ∷ cs → v.held ≡ held_slots me.1 → p.stage ≡ writer.W3 →
-      i ≡ 2 + bit_number p.slot.pair → i < 4 → new ≡ bit_number p.slot.index →
+      i ≡ 2 + bit_number p.slot.pair → i < 4 → new ≡ bit_number p.slot.index → MayPublish Plan k v p →
       Allows F slots id me word (λ _. new) (λ _. stores_on (step slots word new 0 none) me new)
-  stores_on_ok slots id word k i new me v p cs at lk has who is slots_are held stage place li to s r long seen small =
-      let x = stores_ok fits rises o n slots id word k i new me v p cs at lk has who is slots_are held stage place li to s r long seen
-      small in
+  stores_on_ok slots id word k i new me v p cs at lk has who is slots_are held stage place li to may s r long seen small =
+      let x = stores_ok fits rises o n Plan slots id word k i new me v p cs at lk has who is slots_are held stage place li to may.0
+      s r long seen small in
       let Result : Type 0 = (w : View W) × (a : Act T) × Valid s.homes me.1 a × F (stepped s word new id me.1 w a)
       × stores_on (step slots word new 0 none) me new (w, carried_after me.1 a) in
       let told : (m' : Me T (View W)) → ℕ → Process W → WriterNotes T → List (ℕ × T) → Type 0 = λ m' j u q ds. (t : ℕ) × (u.clock < t)
@@ -154,9 +156,9 @@ module _ {T : Type 0} (fits : T → Type 0) (rises : T → T → Type 0) (o : T)
       let latest : get_or s1.words (word_at k 0) 0 ≡ bit_number p.slot.pair = get_set_else s.words word (word_at k 0) new 0 other
       ∙ (shown_there fits rises o (cell Spent (four_slots n) k s.words s.homes r.processes r.receipts) (r.cells k lk).0 v.who p
       (view_there s r id k v (seen ∙ ap some who) ∙ ap some is) ∙ sym e) in
-      let y = finishes_ok fits rises o n 0 (omega arith) slots id (word_at k 0) k (bit_number p.slot.pair) me1 v1 p1 refl lk
+      let y = finishes_ok fits rises o n Plan 0 (omega arith) slots id (word_at k 0) k (bit_number p.slot.pair) me1 v1 p1 refl lk
       (subst (λ z. k < z) (sym (set_long v.parts k (Writer p1))) has) d.2.1 (get_set_here v.parts k (Writer p1) Spent has)
-      (ap held_slots (sym d.2.2)) refl refl s1 x.3 (homes_long s.homes me.1 a1 ∙ long)
+      (ap held_slots (sym d.2.2)) refl refl (may.1 t (held_slots cs) d.2.0) s1 x.3 (homes_long s.homes me.1 a1 ∙ long)
       (set_here s.views id x.0 (within s.views id me.0 seen))
       (omega (arith, latest, low)) in
       let z = y.4 k v1 p1 refl d.2.1 (get_set_here v.parts k (Writer p1) Spent has) in

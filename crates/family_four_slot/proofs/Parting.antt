@@ -14,6 +14,7 @@ use Rattle.cell_contract.specs.declared.sight.Sight.TheVariants.{Spent, Writer, 
 use Rattle.cell_four_slot.specs.Steps.{FourSlotSight, first_writer, first_reader, receipt_for}
 use Rattle.cell_contract.specs.Accesses.{WriteAccesses, ReadAccesses, IsUnused, no_writes, no_reads}
 use Rattle.cell_contract.specs.Ends.{Each, EachTwo, IsSchedule, IsAtomicCell}
+use Rattle.cell_contract.specs.Plans.{HasNoSteps}
 use Rattle.family_four_slot.specs.declared.family.FourSlotFamily.{FourSlotFamily}
 use Rattle.family_four_slot.specs.Seated.{FourSlotSeat}
 use Rattle.family_table.specs.declared.table.FamilySeat.{FamilySeat}
@@ -23,11 +24,12 @@ use Rattle.family_table.specs.declared.notes.Process.{Process}
 use Rattle.family_table.specs.declared.notes.View.TheVariants.{Has}
 use Rattle.family_table.specs.Family.{of_cell}
 use Rattle.family_table.specs.Places.{upto}
-use Rattle.family_four_slot.specs.FourSlots.{first_part, first_process, Idle}
+use Rattle.family_four_slot.specs.FourSlots.{first_part, first_process, Idle, IsInShape}
 use Rattle.family_table.specs.Places.{place, writer_of, reader_of}
 use Rattle.family_table.specs.Seats.{all_but_first, first_of}
 use Rattle.family_table.specs.Seated.{known_by, number_of, clock_of, times_of}
 use Rattle.family_four_slot.specs.Seated.{opening_of, processes_of, writes_of, reads_of, IsSeat, IsFirst}
+use Rattle.family_four_slot.specs.Plans.{done_by}
 use Rattle.family_four_slot.specs.Tables.{IsEnded}
 use Rattle.family_four_slot.specs.Words.{none_shown, shown_to, writes_to, reads_from, IsAtRest}
 use Rattle.family_table.specs.Views.{process_of}
@@ -36,7 +38,7 @@ use Rattle.family_table.proofs.Seats.{same_number}
 use Rattle.family_table.proofs.Gathering.{each_more}
 use Rattle.family_table.proofs.Places.{place_in, writer_there, reader_there}
 use Rattle.family_table.proofs.Seats.{differ}
-use Rattle.family_table.proofs.Firsts.{upto_long, upto_get}
+use Rattle.family_table.proofs.Firsts.{upto_long, upto_get, replicate_long}
 use Rattle.family_table.proofs.Firsts.{upto_next}
 
 all_same : {A : Type 0} (m j : ℕ) (x d : A) → j < m → get_or (replicate m x) j d ≡ x
@@ -181,6 +183,24 @@ module _ {T : Type 0} where
         (blank (nat_eq j i) (of_cell Spent (place n j i) v.parts) (λ x. reader_or (first_reader o) x ≡ first_reader o) refl
         (first_any (λ x. reader_or (first_reader o) x ≡ first_reader o) o n i (place n j i) refl refl refl))
 
+    pub first_shape : i < n → n ≤ 16 → IsInShape n i v
+    first_shape li most =
+        let none_yet : Shown = record { bits = 0 ∷ 0 ∷ []; latest = 0 } in
+        let unsaid : ℕ = 2 in
+        let rest = first_rest unstored li most (λ j lj. all_same 16 j none_yet none_shown lj) (λ j lj. all_same 16 j unsaid 0 lj)
+        (replicate_long 16 none_yet, replicate_long 16 unsaid) in record {
+          row = λ j lj ne. let row = rest.row j lj ne in (row.notes, row.is);
+          column = λ j lj ne. let column = rest.column j lj ne in (column.notes, column.is);
+        }
+
+    -- it has made no step
+    pub first_done : HasNoSteps (done_by o n v)
+    first_done = record {
+      times = refl;
+      writes = λ j. ap (λ (z : WriteAccesses T). record { items = z.items; begins = z.times.begins; ends = z.times.ends }) (first_writes j);
+      reads = λ j. ap (λ (z : ReadAccesses T). record { items = z.answers; begins = z.times.begins; ends = z.times.ends }) (first_reads j);
+    }
+
   -- such a seat is one of the family's, and unused
   pub first_seat : (f : FourSlotFamily T) (n : ℕ) (o : T) (i : ℕ) (s : FourSlotSeat T) → opening_of f ≡ o → processes_of f ≡ n → i < n →
       n ≤ 16 → IsFirst f.table.rows.inner.shared.table_id n o i s →
@@ -244,7 +264,7 @@ module _ {T : Type 0} where
         (λ x. of_cell Spent (place (sym mine.0.processes x) (sym who_s x) j) v.parts) ∙ row.is in
         let reads : of_cell Spent k u.parts ≡ Reader column.notes =
         (λ x. of_cell Spent (place (sym theirs.0.processes x) i (sym who_t x)) u.parts) ∙ column.is in
-        let done = ended.cells a.0 b.0 v u a.1 b.1 k inside row.notes column.notes writes reads row.idle column.idle in
+        let done = (ended.cells a.0 b.0 v u a.1 b.1 k inside row.notes column.notes writes reads).1 row.idle column.idle in
         let w = sees_writes s.spare s.processes v v.who j row.notes (λ e. ne (sym (e ∙ who_s))) refl row.is in
         let r = sees_reads t.spare t.processes u u.who i column.notes (λ e. ne (e ∙ who_t)) refl column.is in
         subst (λ (z : WriteAccesses T × ReadAccesses T). IsAtomicCell (opening_of f) z.0 z.1) (λ x. (sym w x, sym r x))

@@ -1,5 +1,5 @@
 -- Zeros and copies of the record are a family at the start.
-use Rattle.std.proofs.Common.{◌≡◌, ℕ, ◌+◌, ◌*◌, List, [], ◌∷◌, ◌++◌, map, replicate}
+use Rattle.std.proofs.Common.{◌≡◌, ℕ, ◌+◌, ◌*◌, ◌<◌, length, List, [], ◌∷◌, ◌++◌, map, replicate}
 use Rattle.std.proofs.Common.{refl, sym, ap, ◌∙◌, subst, arith, append-nil}
 use mathlib.Core.Option.{none, some}
 use Rattle.atomic_table.specs.Table.{opening}
@@ -10,31 +10,37 @@ use Rattle.family_table.specs.Layouts.{gather}
 use Rattle.family_table.specs.Family.{of_cell}
 use Rattle.family_four_slot.specs.Places.{four_slots}
 use Rattle.family_table.specs.Places.{upto}
-use Rattle.family_four_slot.specs.FourSlots.{first_part, first_process, first_view, CellRule, FourSlotFamily}
-use Rattle.family_table.proofs.Slices.{gather_replicate}
+use Rattle.family_four_slot.specs.FourSlots.{first_part, first_process, first_view, CellRule, FourSlotFamily, Shaped}
+use Rattle.family_table.proofs.Slices.{gather_replicate, within}
 use Rattle.family_four_slot.proofs.Places.{is_layout}
 use Rattle.family_table.proofs.Seats.{family_starts}
 use Rattle.family_four_slot.specs.Cells.{cell_starts}
 use Rattle.family_table.proofs.Firsts.{upto_long, upto_at, upto_get, map_at, map_replicate, replicate_long}
 
-module _ {T : Type 0} (fits : T → Type 0) (rises : T → T → Type 0) (o : T) (n : ℕ) where
+module _ {T : Type 0} (fits : T → Type 0) (rises : T → T → Type 0) (Plan : ℕ → Process (FourSlotSight T) → Type 0) (o : T) (n : ℕ) where
   abbrev V : Type 0
   V = FourSlotSight T
 
-  pub four_slots_start : fits o →
-      FourSlotFamily fits rises o n (opening (replicate (16 * (n * n) + 8) 0) (replicate (4 * (n * n)) o) (first_view o n))
-  four_slots_start f =
+  pub four_slots_start : fits o → ((i : ℕ) → i < n → Shaped n Plan i (first_process o n i)) →
+      FourSlotFamily fits rises o Plan n (opening (replicate (16 * (n * n) + 8) 0) (replicate (4 * (n * n)) o) (first_view o n))
+  four_slots_start f planned =
       let cells : ℕ = n * n in
       let ps : List (Process V) = upto (first_process o n) 0 n in
       let ws : List ℕ = replicate (16 * cells + 8) 0 in
       let hs : List T = replicate (4 * cells) o in
-      family_starts Spent (four_slots n) (CellRule fits rises o) n ws hs ps (replicate_long (16 * cells + 8) 0)
+      family_starts Spent (four_slots n) (CellRule fits rises o) (Shaped n Plan) n ws hs ps (replicate_long (16 * cells + 8) 0)
       (replicate_long (4 * cells) o)
       (upto_long (first_process o n) 0 n)
       (λ i p e.
       let is : p ≡ first_process o n i =
       upto_at (first_process o n) 0 n i p e ∙ ap (first_process o n) (let z : 0 + i ≡ i = omega arith in z) in
       subst (λ (q : Process V). (q.who ≡ i) × (q.clock ≡ 0) × (q.times ≡ []) × (q.held ≡ [])) (sym is) (refl, refl, refl, refl))
+      (λ i p e.
+      let is : p ≡ first_process o n i =
+      upto_at (first_process o n) 0 n i p e ∙ ap (first_process o n) (let z : 0 + i ≡ i = omega arith in z) in
+      let low : i < length ps = within ps i p e in
+      let many : length ps ≡ n = upto_long (first_process o n) 0 n in
+      subst (Shaped n Plan i) (sym is) (planned i (omega arith)))
       (λ k lk.
       let G : Process V → V = λ (p : Process V). of_cell Spent k p.parts in
       let homes : gather ((four_slots n).slot k) 4 none (map some hs) ≡ some o ∷ some o ∷ some o ∷ some o ∷ [] =

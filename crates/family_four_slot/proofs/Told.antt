@@ -23,6 +23,7 @@ use Rattle.family_table.specs.Layouts.{shift}
 use Rattle.family_four_slot.specs.Places.{four_slots, word_at, slot_at}
 use Rattle.family_table.specs.Family.{of_cell, knows, StepTells}
 use Rattle.family_four_slot.specs.FourSlots.{When, FourSlotFamily}
+use Rattle.family_four_slot.specs.Plans.{MayAsk, MayBegin, MayFinish, MaySay, MayStore, MayTake}
 use Rattle.family_four_slot.specs.Steps.{After, begins, stores, finishes_counting, asks, says_counting, takes}
 use Rattle.family_four_slot.proofs.Places.{is_layout}
 use Rattle.family_four_slot.proofs.FourSlots.{family_begins, family_stores, family_finishes, family_asks, family_says, family_takes}
@@ -57,12 +58,13 @@ module _ {T : Type 0} where
   after v k t w w' before c behind cs m lt same slots view held =
       (lt, view ∙ (λ i. Has (knows Spent v k (same i) t (held_slots ((held ∙ slots) i)) ∷ [])), held ∙ slots)
 
-module _ {T : Type 0} (fits : T → Type 0) (rises : T → T → Type 0) (o : T) (n : ℕ) where
+module _ {T : Type 0} (fits : T → Type 0) (rises : T → T → Type 0) (o : T) (n : ℕ)
+    (Plan : ℕ → Process (FourSlotSight T) → Type 0) where
   abbrev W : Type 0
   W = FourSlotSight T
 
   abbrev F : State T (View W) → Type 0
-  F = FourSlotFamily fits rises o n
+  F = FourSlotFamily fits rises o Plan n
 
   same_cell : (k j i h : ℕ) → i < 4 → h < 4 → word_at k i ≡ word_at j h → k ≡ j
   same_cell k j i h li lh e = ((is_layout n).word_apart k i j h li lh e).0
@@ -70,8 +72,8 @@ module _ {T : Type 0} (fits : T → Type 0) (rises : T → T → Type 0) (o : T)
   pub begins_ok : (slots id word k : ℕ) (me : Me T (View W)) (v : Process W) (p : WriterNotes T) (items : List T) (x : T) →
       word ≡ word_at k 1 → k < (four_slots n).cells → k < length v.parts → me.0 ≡ Has (v ∷ []) → of_cell Spent k v.parts ≡ Writer p →
       v.held ≡ held_slots me.1 → p.stage ≡ writer.W5 → items ≡ x ∷ [] → fits x → rises (last_or p.opening.value p.written) x →
-      Allows F slots id me word (λ m. m) (begins items (step slots word 0 0 none) me)
-  begins_ok slots id word k me v p items x at lk has who is held stage item f up =
+      MayBegin Plan k v p x → Allows F slots id me word (λ m. m) (begins items (step slots word 0 0 none) me)
+  begins_ok slots id word k me v p items x at lk has who is held stage item f up may =
       let cs : List (ℕ × T) = me.1 in
       let told : ℕ → Me T (View W) → Type 0 =
       StepTells Spent slot_at k v [] cs (When (cell_begins items (step 4 1 0 0 none) (of_cell Spent k v.parts, []))) in
@@ -95,16 +97,16 @@ module _ {T : Type 0} (fits : T → Type 0) (rises : T → T → Type 0) (o : T)
             ((slot_at k (slot_number (begun_with q d.0 y h.0).slot), d.1) ∷ cs) u h.3
             (d.5 ∙ ap (λ z. Writer (begun_with q d.0 y z)) now) (ap (λ zs. shift (slot_at k) zs ++ cs) d.6) h.5 h.6,
       )) is')
-      (family_begins fits rises o n slots id k v cs p items x lk has is held stage item f up) in
+      (family_begins fits rises o Plan n slots id k v cs p items x lk has is held stage item f up may) in
       subst (λ (z : ℕ × View W). Allows F slots id (z.1, cs) z.0 (λ m. m) (begins items (step slots z.0 0 0 none) (z.1, cs)))
       (λ i. (sym at i, sym who i)) here
 
   pub stores_ok : (slots id word k i new : ℕ) (me : Me T (View W)) (v : Process W) (p : WriterNotes T) (cs : List (ℕ × T)) →
       word ≡ word_at k i → k < (four_slots n).cells → k < length v.parts → me.0 ≡ Has (v ∷ []) → of_cell Spent k v.parts ≡ Writer p →
       me.1 ≡ (slot_at k (slot_number p.slot), p.item.value) ∷ cs → v.held ≡ held_slots me.1 → p.stage ≡ writer.W3 →
-      i ≡ 2 + bit_number p.slot.pair → i < 4 → new ≡ bit_number p.slot.index →
+      i ≡ 2 + bit_number p.slot.pair → i < 4 → new ≡ bit_number p.slot.index → MayStore Plan k v p →
       Allows F slots id me word (λ _. new) (λ _. stores (step slots word new 0 none) me new)
-  stores_ok slots id word k i new me v p cs at lk has who is slots_are held stage place li to =
+  stores_ok slots id word k i new me v p cs at lk has who is slots_are held stage place li to may =
       let mine : List (ℕ × T) = (slot_at k (slot_number p.slot), p.item.value) ∷ cs in
       let cell_cs : List (ℕ × T) = (slot_number p.slot, p.item.value) ∷ [] in
       let told : ℕ → Me T (View W) → Type 0 =
@@ -127,7 +129,7 @@ module _ {T : Type 0} (fits : T → Type 0) (rises : T → T → Type 0) (o : T)
       (λ _. stores (step slots (word_at k i) new 0 none) (Has (v ∷ []), mine) new) =
       allows_more F slots id (Has (v ∷ []), mine) (word_at k i) (λ _. new) told
       (λ _. stores (step slots (word_at k i) new 0 none) (Has (v ∷ []), mine) new)
-      more (family_stores fits rises o n slots id k i new v cs p lk has is (held ∙ ap held_slots slots_are) stage place to) in
+      more (family_stores fits rises o Plan n slots id k i new v cs p lk has is (held ∙ ap held_slots slots_are) stage place to may) in
       subst (λ (z : ℕ × Me T (View W)). Allows F slots id z.1 z.0 (λ _. new) (λ _. stores (step slots z.0 new 0 none) z.1 new))
       (λ j. (sym at j, (sym who j, sym slots_are j))) here where
         rest_of : List (ℕ × T) → List (ℕ × T)
@@ -136,9 +138,9 @@ module _ {T : Type 0} (fits : T → Type 0) (rises : T → T → Type 0) (o : T)
 
   pub finishes_ok : (count : ℕ) → count ≤ 1 → (slots id word k new : ℕ) (me : Me T (View W)) (v : Process W) (p : WriterNotes T) →
       word ≡ word_at k 0 → k < (four_slots n).cells → k < length v.parts → me.0 ≡ Has (v ∷ []) → of_cell Spent k v.parts ≡ Writer p →
-      v.held ≡ held_slots me.1 → p.stage ≡ writer.W4 → new ≡ bit_number p.slot.pair →
+      v.held ≡ held_slots me.1 → p.stage ≡ writer.W4 → new ≡ bit_number p.slot.pair → MayFinish Plan k v p →
       Allows F slots id me word (λ _. new) (λ _. finishes_counting count (step slots word new 0 none) me new)
-  finishes_ok count few slots id word k new me v p at lk has who is held stage to =
+  finishes_ok count few slots id word k new me v p at lk has who is held stage to may =
       let cs : List (ℕ × T) = me.1 in
       let told : ℕ → Me T (View W) → Type 0 =
       StepTells Spent slot_at k v [] cs (λ t _. When (cell_finishes count (step 4 0 new 0 none) (of_cell Spent k v.parts, [])) t new) in
@@ -159,15 +161,16 @@ module _ {T : Type 0} (fits : T → Type 0) (rises : T → T → Type 0) (o : T)
       (λ _. finishes_counting count (step slots (word_at k 0) new 0 none) (Has (v ∷ []), cs) new) =
       allows_more F slots id (Has (v ∷ []), cs) (word_at k 0) (λ _. new) told
       (λ _. finishes_counting count (step slots (word_at k 0) new 0 none) (Has (v ∷ []), cs) new)
-      more (family_finishes fits rises o n count few slots id k new v cs p lk has is held stage to) in
+      more (family_finishes fits rises o Plan n count few slots id k new v cs p lk has is held stage to may) in
       subst (λ (z : ℕ × View W). Allows F slots id (z.1, cs) z.0 (λ _. new)
       (λ _. finishes_counting count (step slots z.0 new 0 none) (z.1, cs) new))
       (λ i. (sym at i, sym who i)) here
 
   pub asks_ok : (slots id word k : ℕ) (me : Me T (View W)) (v : Process W) (g : ReaderNotes T) →
       word ≡ word_at k 0 → k < (four_slots n).cells → k < length v.parts → me.0 ≡ Has (v ∷ []) → of_cell Spent k v.parts ≡ Reader g →
-      v.held ≡ held_slots me.1 → g.stage ≡ reader.R5 → Allows F slots id me word (λ m. m) (asks (step slots word 0 0 none) me)
-  asks_ok slots id word k me v g at lk has who is held stage =
+      v.held ≡ held_slots me.1 → g.stage ≡ reader.R5 → MayAsk Plan k v g →
+      Allows F slots id me word (λ m. m) (asks (step slots word 0 0 none) me)
+  asks_ok slots id word k me v g at lk has who is held stage may =
       let cs : List (ℕ × T) = me.1 in
       let told : ℕ → Me T (View W) → Type 0 =
       StepTells Spent slot_at k v [] cs (When (cell_asks (step 4 0 0 0 none) (of_cell Spent k v.parts, []))) in
@@ -186,7 +189,7 @@ module _ {T : Type 0} (fits : T → Type 0) (rises : T → T → Type 0) (o : T)
         after v k h.0 h.1 (Reader (asked_by q d.0 h.0)) [] h.2 cs cs u h.3 (d.4 ∙ ap (λ z. Reader (asked_by q d.0 z)) now)
             (ap (λ zs. shift (slot_at k) zs ++ cs) d.5) h.5 h.6,
       )) is')
-      (family_asks fits rises o n slots id k v cs g lk has is held stage) in
+      (family_asks fits rises o Plan n slots id k v cs g lk has is held stage may) in
       subst (λ (z : ℕ × View W). Allows F slots id (z.1, cs) z.0 (λ m. m) (asks (step slots z.0 0 0 none) (z.1, cs)))
       (λ i. (sym at i, sym who i)) here
 
@@ -194,9 +197,9 @@ module _ {T : Type 0} (fits : T → Type 0) (rises : T → T → Type 0) (o : T)
       (slots id word k new : ℕ) (me : Me T (View W)) (v : Process W) (g : ReaderNotes T) (before behind : List (ℕ × T)) →
       word ≡ word_at k 1 → k < (four_slots n).cells → k < length v.parts → me.0 ≡ Has (v ∷ []) → of_cell Spent k v.parts ≡ Reader g →
       me.1 ≡ before ++ (shift (slot_at k) (slot_of_choice g.chosen g.at_hand.value) ++ behind) → v.held ≡ held_slots me.1 →
-      g.stage ≡ reader.R1 → new ≡ bit_number g.slot.pair →
+      g.stage ≡ reader.R1 → new ≡ bit_number g.slot.pair → MaySay Plan k v g →
       Allows F slots id me word (λ _. new) (λ _. says_counting count (step slots word new 0 none) me new)
-  says_ok count few slots id word k new me v g before behind at lk has who is slots_are held stage to =
+  says_ok count few slots id word k new me v g before behind at lk has who is slots_are held stage to may =
       let cell_cs : List (ℕ × T) = slot_of_choice g.chosen g.at_hand.value in
       let mine : List (ℕ × T) = before ++ (shift (slot_at k) cell_cs ++ behind) in
       let told : ℕ → Me T (View W) → Type 0 =
@@ -225,15 +228,17 @@ module _ {T : Type 0} (fits : T → Type 0) (rises : T → T → Type 0) (o : T)
       (λ _. says_counting count (step slots (word_at k 1) new 0 none) (Has (v ∷ []), mine) new) =
       allows_more F slots id (Has (v ∷ []), mine) (word_at k 1) (λ _. new) told
       (λ _. says_counting count (step slots (word_at k 1) new 0 none) (Has (v ∷ []), mine) new)
-      more (family_says fits rises o n count few slots id k new v before behind g lk has is (held ∙ ap held_slots slots_are) stage to) in
+      more (family_says fits rises o Plan n count few slots id k new v before behind g lk has is (held ∙ ap held_slots slots_are)
+      stage to may) in
       subst (λ (z : ℕ × Me T (View W)). Allows F slots id z.1 z.0 (λ _. new) (λ _. says_counting count (step slots z.0 new 0 none) z.1 new))
       (λ j. (sym at j, (sym who j, sym slots_are j))) here
 
   pub takes_ok : ((a : T) → rises a a) → ((a b c : T) → rises a b → rises b c → rises a c) → (slots id word k i : ℕ) (me : Me T (View W))
       (v : Process W) (g : ReaderNotes T) → word ≡ word_at k i → k < (four_slots n).cells → k < length v.parts → me.0 ≡ Has (v ∷ []) →
       of_cell Spent k v.parts ≡ Reader g → v.held ≡ held_slots me.1 → g.stage ≡ reader.R2 → i ≡ 2 + bit_number g.slot.pair → i < 4 →
+      MayTake Plan k v g →
       Allows F slots id me word (λ m. m) (takes fits rises (step slots word 0 0 none) me)
-  takes_ok same along slots id word k i me v g at lk has who is held stage place li =
+  takes_ok same along slots id word k i me v g at lk has who is held stage place li may =
       let cs : List (ℕ × T) = me.1 in
       let told : ℕ → Me T (View W) → Type 0 =
       StepTells Spent slot_at k v [] cs (When (cell_takes fits rises (step 4 i 0 0 none) (of_cell Spent k v.parts, []))) in
@@ -264,6 +269,6 @@ module _ {T : Type 0} (fits : T → Type 0) (rises : T → T → Type 0) (o : T)
         subst (λ z. HasAnswered q (got_by q d.0 d.1 z d.4 d.5) d.1) now d.10,
         d.11,
       )) is')
-      (family_takes fits rises o n same along slots id k i v cs g lk has is held stage place) in
+      (family_takes fits rises o Plan n same along slots id k i v cs g lk has is held stage place may) in
       subst (λ (z : ℕ × View W). Allows F slots id (z.1, cs) z.0 (λ m. m) (takes fits rises (step slots z.0 0 0 none) (z.1, cs)))
       (λ j. (sym at j, sym who j)) here

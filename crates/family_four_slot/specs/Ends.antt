@@ -13,7 +13,8 @@ use Rattle.cell_four_slot.specs.declared.notes.ReaderNotes.{ReaderNotes}
 use Rattle.cell_contract.specs.declared.sight.Sight.TheVariants.{Writer, Reader}
 use Rattle.cell_four_slot.specs.Rule.{FourSlotRule, IsTimed, number_in, named_slot}
 use Rattle.cell_four_slot.specs.Steps.{FourSlotSight}
-use Rattle.cell_four_slot.proofs.Timing.{timed_atomic}
+use Rattle.cell_four_slot.proofs.Timing.{timed_at_any, timed_atomic}
+use Rattle.history_core.specs.Registers.{intervals, IsRegular}
 use Rattle.family_four_slot.specs.FourSlots.{CellRule}
 use Rattle.family_table.specs.Ends.{CellEnds}
 use Rattle.family_four_slot.specs.Tables.{IsDone, Done}
@@ -40,6 +41,27 @@ module _ {T : Type 0} (fits : T → Type 0) (rises : T → T → Type 0) (o : T)
         known = r.known;
       })
 
+  -- at any stage of its two sides
+  cell_regular : (s : State T (FourSlotSight T)) (r : FourSlotRule fits rises o s) (i j : ℕ) (p : WriterNotes T)
+      (g : ReaderNotes T) → get_elem? s.views i ≡ some (Writer p) → get_elem? s.views j ≡ some (Reader g) →
+      IsRegular o p.written (intervals p.times.begins p.times.ends) g.answers g.numbers
+      (intervals g.times.begins g.times.ends)
+  cell_regular s r i j p g there here =
+      let put_is : p ≡ r.put = (r.each_seat i (Writer p) there).0 in
+      let get_is : g ≡ r.get = (r.each_seat j (Reader g) here).0 in
+      let shown : ℕ = number_in r.put.slots (latest_slot r.core) in
+      let pair : ℕ = number_in r.put.slots (named_slot r.core r.core.read.pair) in
+      subst (λ (z : WriterNotes T × ReaderNotes T). IsRegular o z.0.written (intervals z.0.times.begins z.0.times.ends)
+      z.1.answers z.1.numbers (intervals z.1.times.begins z.1.times.ends)) (λ k. (sym put_is k, sym get_is k)) (record {
+        source = r.timed.source;
+        read_of = timed_at_any o r.put r.get r.now shown pair r.core.writer r.core.reader r.timed;
+        numbered = r.timed.numbered;
+      })
+
   pub cell_ends : CellEnds (CellRule fits rises o) (Done o)
-  cell_ends now s i j v w r there here p g is_writer is_reader idle rest =
-      cell_done s r.0 i j p g (there ∙ ap some is_writer) (here ∙ ap some is_reader) idle rest
+  cell_ends now s i j v w r there here p g is_writer is_reader =
+      let at_writer = there ∙ ap some is_writer in
+      let at_reader = here ∙ ap some is_reader in (
+        cell_regular s r.0 i j p g at_writer at_reader,
+        (λ idle rest. cell_done s r.0 i j p g at_writer at_reader idle rest),
+      )

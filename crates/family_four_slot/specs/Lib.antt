@@ -2,6 +2,7 @@ pub mod Cells
 pub mod Ends
 pub mod FourSlots
 pub mod Places
+pub mod Plans
 pub mod Seated
 pub mod Steps
 pub mod Tables

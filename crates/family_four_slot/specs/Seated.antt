@@ -10,11 +10,12 @@ use Rattle.cell_contract.specs.declared.times.Known.{Known}
 use Rattle.cell_contract.specs.declared.sight.Sight.TheVariants.{Spent, Told as Tells}
 use Rattle.cell_four_slot.specs.Steps.{FourSlotSight}
 use Rattle.cell_contract.specs.Accesses.{WriteAccesses, ReadAccesses}
+use Rattle.cell_contract.specs.Plans.{AreSoFar, Doings, doings}
 use Rattle.family_four_slot.specs.declared.family.FourSlotFamily.{FourSlotFamily}
 use Rattle.family_four_slot.specs.declared.family.Stored.{Stored}
 use Rattle.family_table.specs.declared.processes.ProcessSeat.{ProcessSeat}
 use Rattle.family_table.specs.declared.processes.ProcessTold.{ProcessTold}
-use Rattle.family_table.specs.Seated.{known_by, told_in}
+use Rattle.family_table.specs.Seated.{known_by, times_of, told_in}
 use Rattle.family_table.specs.declared.notes.View.TheVariants.{Told, Has}
 use Rattle.family_table.specs.Family.{of_cell}
 use Rattle.family_four_slot.specs.FourSlots.{first_process}
@@ -41,6 +42,9 @@ module _ {T : Type 0} where
   abbrev pub processes_of : FourSlotFamily T → ℕ
   processes_of f = f.table.rows.inner.shared.key.processes
 
+  abbrev pub limit_of : FourSlotFamily T → ℕ
+  limit_of f = f.table.rows.inner.shared.key.limit
+
   abbrev pub writes_of : FourSlotSeat T → ℕ → WriteAccesses T
   writes_of s = writes_to s.spare s.processes (known_by s)
 
@@ -55,6 +59,11 @@ module _ {T : Type 0} where
     pub one : s.seat.inner.me.0 ≡ Has (known_by s ∷ [])
     pub who : (known_by s).who ≡ s.who
     pub rest : IsAtRest s.spare s.processes (known_by s) s.stored s.seat.inner.me.1
+
+  -- what all processes have done so far, shown by a seat
+  abbrev pub SeatShowsAll : (T → ℕ → ℕ → ℕ → ℕ → Doings T → Type 0) → FourSlotFamily T → FourSlotSeat T → Type 0
+  SeatShowsAll plan f s = AreSoFar (plan (opening_of f) 3 (processes_of f) (limit_of f)) (opening_of f) (processes_of f) s.who
+      (doings (times_of s) (writes_of s) (reads_of s))
 
   -- the record that a receipt names to process j, and all that was written to that one up to then
   abbrev pub naming : FourSlotTold T → ℕ → Dated T

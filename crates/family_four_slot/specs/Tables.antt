@@ -2,6 +2,7 @@
 use Rattle.std.specs.Prelude.{◌≡◌, ℕ, ◌<◌, List, [], ◌∷◌, length}
 use Rattle.four_slot_core.specs.declared.state.Stage.TheVariants as writer
 use Rattle.four_slot_core.specs.declared.state.ReaderStage.TheVariants as reader
+use Rattle.history_core.specs.Registers.{intervals, IsRegular}
 use Rattle.cell_contract.specs.Intervals.{AreAtomic, AreFirst, HaveEnded}
 use Rattle.family_four_slot.specs.Places.{four_slots}
 use Rattle.atomic_table.specs.Table.{Me}
@@ -38,10 +39,13 @@ pub record IsDone {T : Type 0} (o : T) (p : WriterNotes T) (g : ReaderNotes T) :
   pub ended : HaveEnded p.times
   pub known : AreFirst g.known p.written p.times
 
--- the calls of a cell by what its two processes know of it, if none is under way
+-- the calls of a cell by what its two processes know of it: each answer is the record with its number, by the intervals
+-- so far; and more, if no call is under way
 abbrev pub Done : {T : Type 0} → T → FourSlotSight T → FourSlotSight T → Type 0
 Done o v w = (p : WriterNotes _) (g : ReaderNotes _) → v ≡ Writer p → w ≡ Reader g →
-    p.stage ≡ writer.W5 → g.stage ≡ reader.R5 → IsDone o p g
+    IsRegular o p.written (intervals p.times.begins p.times.ends) g.answers g.numbers
+    (intervals g.times.begins g.times.ends)
+    × (p.stage ≡ writer.W5 → g.stage ≡ reader.R5 → IsDone o p g)
 
 -- at the end: one schedule, and the calls of each cell whose two processes the seat has
 abbrev pub IsEnded : {T : Type 0} → ℕ → T → List (Process (FourSlotSight T)) → Type 0

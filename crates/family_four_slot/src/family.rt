@@ -3,6 +3,7 @@ ghost use Rattle.std.specs.Prelude.{◌≡◌, ◌≢◌, ℕ, ◌<◌, List, []
 ghost use Rattle.history_core.specs.Schedules.{positions};
 ghost use Rattle.cell_contract.specs.Running.{last_or};
 ghost use Rattle.cell_contract.specs.Ends.{Each, EachTwo, IsSchedule, IsAtomicCell};
+ghost use Rattle.cell_contract.specs.Plans.{doings, MayRead, MayWrite};
 ghost use Rattle.cell_contract.specs.Rows.{IsReadFrom, IsWriteTo};
 ghost use Rattle.family_table.specs.Places.{place};
 ghost use Rattle.family_four_slot.specs.FourSlots.{first_view};
@@ -12,12 +13,12 @@ ghost use Rattle.family_four_slot.specs.Seated.{IsFirst};
 ghost use Rattle.family_table.specs.declared.notes.Process.{Process};
 ghost use Rattle.cell_four_slot.specs.Steps.{FourSlotSight};
 ghost use Rattle.family_table.specs.Seated.{number_of, clock_of, times_of};
-ghost use Rattle.family_four_slot.specs.Seated.{opening_of, processes_of, writes_of, reads_of, IsSeat};
+ghost use Rattle.family_four_slot.specs.Seated.{opening_of, processes_of, limit_of, writes_of, reads_of, IsSeat, SeatShowsAll};
 ghost use Rattle.family_table.specs.Seated.{sender_of, time_of};
 ghost use Rattle.family_four_slot.specs.Seated.{named_by, carried_by, IsTold, three_are_few, three_steps};
 
 use crate::table::{FamilySeat, FamilyTable};
-use cell_contract::{Family, Kept, Lawful, Sees, SharedFamily};
+use cell_contract::{Family, Kept, Planned, Sees, SharedFamily, SoFar};
 use cell_four_slot::{FourSlotSight, bit_of, other_bit, set_bit, slot_of};
 use family_table::place;
 use family_table::processes::{ProcessSeat, ProcessTold, gathered, show};
@@ -28,7 +29,7 @@ use std::snapshot::Snapshot;
 /// Registers of four slots each, in one table. Each write and each read makes three steps of the mechanism, by three control accesses or
 /// by two, plain loads and stores: the store of a pair is left out where its word has that pair already.
 #[derive(Drop)]
-pub struct FourSlotFamily<T: Lawful> {
+pub struct FourSlotFamily<T: Planned> {
     table: FamilyTable<T>,
 }
 
@@ -55,7 +56,7 @@ pub type FourSlotSeat<T> = ProcessSeat<T, FourSlotSight<T>, Stored>;
 pub type FourSlotTold<T> = ProcessTold<T, FourSlotSight<T>>;
 
 /// A seat for each process, of the one that has them all.
-fn seats_of<T: Lawful>(
+fn seats_of<T: Planned>(
     alloc: Global,
     table: &FamilyTable<T>,
     n: usize,
@@ -87,7 +88,7 @@ fn seats_of<T: Lawful>(
     Ok(seats)
 }
 
-impl<T: Lawful> FourSlotFamily<T> {
+impl<T: Planned> FourSlotFamily<T> {
     /// A write to the register of process `to`, which is this cell.
     #[inline(always)]
     fn write_at(&self, seat: &mut FourSlotSeat<T>, cell: usize, to: usize, item: &T)
@@ -95,7 +96,11 @@ impl<T: Lawful> FourSlotFamily<T> {
         requires other { (to < processes_of self.now) × (to ≢ number_of seat.old) }
         requires at { cell ≡ place seat.old.processes seat.old.who to }
         requires lawful { T.fits item.now × T.rises (last_or (opening_of self.now) (writes_of seat.old to).items) item.now }
-        ensures { IsWriteTo (IsSeat self.now) number_of clock_of times_of writes_of reads_of 3 item.now to seat.old seat.new }
+        requires plan { MayWrite
+            (T.plan (opening_of self.now) 3 (processes_of self.now) (limit_of self.now) (number_of seat.old)) 3 item.now to
+            (doings (times_of seat.old) (writes_of seat.old) (reads_of seat.old)) }
+        ensures write { IsWriteTo (IsSeat self.now) number_of clock_of times_of writes_of reads_of 3 item.now to seat.old seat.new }
+        ensures so_far { SeatShowsAll T.plan self.now seat.new }
     {
         let table = &self.table;
         let named = Snapshot::of(item);
@@ -107,7 +112,7 @@ impl<T: Lawful> FourSlotFamily<T> {
         let slot = slot_of(pair, index);
         table.fill(&mut seat.seat, cell, slot, item);
         set_bit(&mut shown.bits, pair, index);
-        table.publish(&mut seat.seat, cell, pair, index, &mut shown.latest);
+        table.publish::<Brand>(&mut seat.seat, cell, pair, index, &mut shown.latest);
     }
 
     /// A read of the register of process `from`, which is this cell.
@@ -122,19 +127,23 @@ impl<T: Lawful> FourSlotFamily<T> {
         requires own { IsSeat self.now seat.old }
         requires other { (from < processes_of self.now) × (from ≢ number_of seat.old) }
         requires at { cell ≡ place seat.old.processes from seat.old.who }
-        ensures { IsReadFrom (IsSeat self.now) number_of clock_of times_of writes_of reads_of 3
+        requires plan { MayRead
+            (T.plan (opening_of self.now) 3 (processes_of self.now) (limit_of self.now) (number_of seat.old)) 3 from
+            (doings (times_of seat.old) (writes_of seat.old) (reads_of seat.old)) }
+        ensures read { IsReadFrom (IsSeat self.now) number_of clock_of times_of writes_of reads_of 3
             (opening_of self.now) T.fits T.rises L.sees from
             (seat.old, seen.old) (seat.new, seen.new) }
+        ensures so_far { SeatShowsAll T.plan self.now seat.new }
     {
         let table = &self.table;
         let latest = table.announce(&mut seat.seat, cell, &mut seat.stored.said[from]);
-        let index = table.take(&mut seat.seat, cell, latest);
+        let index = table.take::<Brand>(&mut seat.seat, cell, latest);
         let slot = slot_of(latest, index);
         table.show(&mut seat.seat, cell, slot, seen);
     }
 }
 
-impl<T: Lawful> Family<T> for FourSlotFamily<T> {
+impl<T: Planned> Family<T> for FourSlotFamily<T> {
     type Seat = FourSlotSeat<T>;
 
     type Told = FourSlotTold<T>;
@@ -142,6 +151,8 @@ impl<T: Lawful> Family<T> for FourSlotFamily<T> {
     ghost opening = { opening_of };
 
     ghost processes = { processes_of };
+
+    ghost limit = { limit_of };
 
     ghost width = { 3 };
 
@@ -171,8 +182,13 @@ impl<T: Lawful> Family<T> for FourSlotFamily<T> {
 
     ghost writes_of = { carried_by };
 
-    fn make(alloc: Global, n: usize, first: T) -> Result<(Self, Vec<FourSlotSeat<T>>), AllocError> {
-        let (table, rest) = FamilyTable::new(alloc, n, first)?;
+    fn make(
+        alloc: Global,
+        n: usize,
+        plan_limit: u64,
+        first: T,
+    ) -> Result<(Self, Vec<FourSlotSeat<T>>), AllocError> {
+        let (table, rest) = FamilyTable::new(alloc, n, plan_limit, first)?;
         let seats = seats_of(alloc, &table, n, first, rest)?;
         Ok((FourSlotFamily { table }, seats))
     }
@@ -264,4 +280,10 @@ impl<T: Lawful> Family<T> for FourSlotFamily<T> {
     }
 }
 
-impl<T: Kept> SharedFamily<T> for FourSlotFamily<T> {}
+impl<T: Planned> SoFar<T> for FourSlotFamily<T> {
+    fn so_far_from(&self, seat: &mut FourSlotSeat<T>) {
+        self.table.rows.all_so_far(&mut seat.seat);
+    }
+}
+
+impl<T: Kept + Planned> SharedFamily<T> for FourSlotFamily<T> {}

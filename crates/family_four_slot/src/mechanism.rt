@@ -7,15 +7,16 @@ ghost use Rattle.family_four_slot.specs.FourSlots.{CellRule, Idle, first_view};
 ghost use Rattle.family_four_slot.specs.Tables.{Done};
 ghost use Rattle.family_four_slot.specs.Cells.{cell_tells, cell_hears, deaf, mute};
 ghost use Rattle.family_four_slot.specs.Ends.{cell_ends};
+ghost use Rattle.family_four_slot.specs.Plans.{IsPlanned, receipts_keep_plans};
 
-use cell_contract::Lawful;
+use cell_contract::Planned;
 use cell_four_slot::FourSlotSight;
 use family_table::mechanism::Mechanism;
 
 /// The mechanism of the registers.
 pub struct FourSlotMechanism;
 
-impl<T: Lawful> Mechanism<T, FourSlotSight<T>> for FourSlotMechanism {
+impl<T: Planned> Mechanism<T, FourSlotSight<T>> for FourSlotMechanism {
     ghost layout = { four_slots };
 
     ghost blank = { Spent };
@@ -23,6 +24,8 @@ impl<T: Lawful> Mechanism<T, FourSlotSight<T>> for FourSlotMechanism {
     ghost keeps = { CellRule T.fits T.rises };
 
     ghost first = { first_view };
+
+    ghost plan = { IsPlanned T.plan };
 
     ghost idle = { Idle };
 
@@ -43,4 +46,6 @@ impl<T: Lawful> Mechanism<T, FourSlotSight<T>> for FourSlotMechanism {
     ghost learns = { λ o. cell_hears T.fits T.rises o };
 
     ghost ends = { λ o. cell_ends T.fits T.rises o };
+
+    ghost stays = { receipts_keep_plans T.plan };
 }

@@ -8,6 +8,7 @@ ghost use Rattle.four_slot_core.specs.declared.state.Stage.TheVariants.{W3, W4, 
 ghost use Rattle.four_slot_core.specs.declared.state.ReaderStage.TheVariants.{R1, R2, R5};
 ghost use Rattle.four_slot_core.specs.Events.{bit_number, slot_number};
 ghost use Rattle.cell_contract.specs.Running.{last_or, held_slots};
+ghost use Rattle.cell_contract.specs.Plans.{Doings, HasNoSteps};
 ghost use Rattle.cell_four_slot.specs.declared.notes.WriterNotes.{WriterNotes};
 ghost use Rattle.cell_four_slot.specs.declared.notes.ReaderNotes.{ReaderNotes};
 ghost use Rattle.cell_contract.specs.declared.sight.Sight.TheVariants.{Writer, Reader, Spent};
@@ -16,21 +17,24 @@ ghost use Rattle.family_table.specs.declared.notes.Process.{Process};
 ghost use Rattle.family_table.specs.Layouts.{shift};
 ghost use Rattle.family_four_slot.specs.Places.{four_slots, slot_at};
 ghost use Rattle.family_four_slot.specs.FourSlots.{first_view, Idle};
+ghost use Rattle.family_four_slot.specs.Plans.{plan_of, MayAnnounce, MayBegin, MayFinish, MayPublish, MaySay, MayTake, ShowsAll};
 ghost use Rattle.family_four_slot.specs.Steps.{begins, stores_on, publishes, finishes, asks_on, announces, says, takes};
 ghost use Rattle.family_four_slot.specs.Tables.{HasWriter, HasReader, IsEnded};
 ghost use Rattle.family_table.specs.Family.{of_cell};
 
 use crate::mechanism::FourSlotMechanism;
 use crate::plays::{Asks, Begins, Finishes, Item, Says, Stores, Takes};
-use cell_contract::{Lawful, Sees};
+use cell_contract::{Planned, Sees};
 use cell_four_slot::FourSlotSight;
+use family_table::notes::Opening;
+use family_table::plays::Showing;
 use family_table::table::Rows;
 use std::alloc::{AllocError, Global};
 use std::snapshot::Snapshot;
 
 /// The words and slots of all cells. Eight words that nobody stores to come first.
 #[derive(Drop)]
-pub struct FamilyTable<T: Lawful> {
+pub struct FamilyTable<T: Planned> {
     pub(crate) rows: Rows<T, FourSlotSight<T>, FourSlotMechanism>,
     ghost sized: { rows.inner.shared.table_id.words ≡ (four_slots rows.inner.shared.key.processes).words },
 }
@@ -56,20 +60,25 @@ fn slot_place(cell: usize, slot: usize) -> usize
     4 * cell + slot
 }
 
-impl<T: Lawful> FamilyTable<T> {
-    /// A table of the cells of so many processes, which all hold this record, and a seat that has all processes.
+impl<T: Planned> FamilyTable<T> {
+    /// A table of the cells of so many processes, which all hold this record, and a seat that has all processes. The records'
+    /// plan alone speaks of the limit.
     pub fn new(
         alloc: Global,
         processes: usize,
+        limit: u64,
         first: T,
     ) -> Result<(Self, FamilySeat<T>), AllocError>
         requires lawful { T.fits first }
         requires some { (2 ≤ processes) × (processes ≤ 16) }
-        ensures key { IfOk result (λ r. r.0.rows.inner.shared.key ≡ record { first = first; processes = processes }) }
+        requires plan { (i : ℕ) (done : Doings T) → i < processes → HasNoSteps done →
+            T.plan first 3 processes limit i done }
+        ensures key { IfOk result (λ r.
+            r.0.rows.inner.shared.key ≡ record { first = first; processes = processes; limit = limit }) }
         ensures seat { IfOk result (λ r. (r.1.inner.table_id ≡ r.0.rows.inner.shared.table_id)
             × (r.1.inner.me ≡ (first_view first processes, []))) }
     {
-        let (rows, seat) = Rows::new(alloc, processes, first, 16, 0, 4)?;
+        let (rows, seat) = Rows::new(alloc, processes, limit, first, 16, 0, 4)?;
         Ok((FamilyTable { rows }, seat))
     }
 
@@ -86,7 +95,8 @@ impl<T: Lawful> FamilyTable<T> {
         requires item { K.item ≡ item.value ∷ [] }
         requires idle { (v : Process (FourSlotSight T)) × (p : WriterNotes T) × HasWriter seat.old.inner.me cell v p × (p.stage ≡ W5)
             × T.fits item.value
-            × T.rises (last_or p.opening.value p.written) item.value }
+            × T.rises (last_or p.opening.value p.written) item.value
+            × MayBegin (plan_of T.plan self.now.rows.inner.shared.key) cell v p item.value }
         ensures own { seat.new.inner.table_id ≡ seat.old.inner.table_id }
         ensures begun { begins K.item (step self.now.rows.inner.shared.table_id.slots (16 * cell + 8 + 8) 0 0 none)
             seat.old.inner.me result seat.new.inner.me }
@@ -99,7 +109,7 @@ impl<T: Lawful> FamilyTable<T> {
 
     /// W4 and W5. W5's store is left out where `latest` has the pair already. `shown` is what it has.
     #[inline]
-    pub(super) fn publish(
+    pub(super) fn publish<K: Opening<T>>(
         &self,
         seat: &mut FamilySeat<T>,
         cell: usize,
@@ -107,56 +117,71 @@ impl<T: Lawful> FamilyTable<T> {
         index: u64,
         shown: &mut u64,
     )
+        requires opening { (K.first ≡ self.now.rows.inner.shared.key.first ∷ [])
+            × (K.processes ≡ self.now.rows.inner.shared.key.processes) × (K.limit ≡ self.now.rows.inner.shared.key.limit) }
         requires own { seat.old.inner.table_id ≡ self.now.rows.inner.shared.table_id }
         requires place { cell < (four_slots self.now.rows.inner.shared.key.processes).cells }
         requires filled { (v : Process (FourSlotSight T)) × (p : WriterNotes T) × (cs : List (ℕ × T)) × HasWriter seat.old.inner.me cell v p
             × (seat.old.inner.me.1 ≡ (slot_at cell (slot_number p.slot), p.item.value) ∷ cs) × (p.stage ≡ W3)
-            × (pair ≡ bit_number p.slot.pair) × (index ≡ bit_number p.slot.index) × (shown.old ≡ bit_number p.latest) }
+            × (pair ≡ bit_number p.slot.pair) × (index ≡ bit_number p.slot.index) × (shown.old ≡ bit_number p.latest)
+            × MayPublish (plan_of T.plan self.now.rows.inner.shared.key) cell v p }
         ensures own { seat.new.inner.table_id ≡ seat.old.inner.table_id }
         ensures published { publishes cell seat.old.inner.me seat.new.inner.me }
+        ensures shown { ShowsAll T.plan self.now.rows.inner.shared.key seat.new.inner.me }
         ensures remembered { shown.new ≡ pair }
     {
-        self.store(seat, cell, pair, index);
+        self.store::<K>(seat, cell, pair, index);
         if pair == *shown {
             return;
         }
         *shown = pair;
-        self.finish(seat, cell, pair);
+        self.finish::<K>(seat, cell, pair);
     }
 
     /// W4: stores the index in the pair's word, and gives the slot back. This is W5 too where `latest` has the pair already.
     #[inline]
-    fn store(&self, seat: &mut FamilySeat<T>, cell: usize, pair: u64, index: u64)
+    fn store<K: Opening<T>>(&self, seat: &mut FamilySeat<T>, cell: usize, pair: u64, index: u64)
+        requires opening { (K.first ≡ self.now.rows.inner.shared.key.first ∷ [])
+            × (K.processes ≡ self.now.rows.inner.shared.key.processes) × (K.limit ≡ self.now.rows.inner.shared.key.limit) }
         requires own { seat.old.inner.table_id ≡ self.now.rows.inner.shared.table_id }
         requires place { cell < (four_slots self.now.rows.inner.shared.key.processes).cells }
         requires filled { (v : Process (FourSlotSight T)) × (p : WriterNotes T) × (cs : List (ℕ × T)) × HasWriter seat.old.inner.me cell v p
             × (seat.old.inner.me.1 ≡ (slot_at cell (slot_number p.slot), p.item.value) ∷ cs) × (p.stage ≡ W3)
-            × (pair ≡ bit_number p.slot.pair) × (index ≡ bit_number p.slot.index) }
+            × (pair ≡ bit_number p.slot.pair) × (index ≡ bit_number p.slot.index)
+            × MayPublish (plan_of T.plan self.now.rows.inner.shared.key) cell v p }
         ensures own { seat.new.inner.table_id ≡ seat.old.inner.table_id }
         ensures stored { stores_on (step self.now.rows.inner.shared.table_id.slots (16 * cell + 8 + (2 + pair)) index 0 none)
             seat.old.inner.me index seat.new.inner.me }
+        ensures shown { ShowsAll T.plan self.now.rows.inner.shared.key seat.new.inner.me }
     {
         self.rows
             .inner
             .shared
-            .store::<Stores>(&mut seat.inner, base(cell) + (2 + pair as usize), index);
+            .store::<Showing<Stores, FourSlotMechanism, K>>(
+                &mut seat.inner,
+                base(cell) + (2 + pair as usize),
+                index,
+            );
     }
 
     /// W5: stores the pair in `latest`.
     #[inline]
-    fn finish(&self, seat: &mut FamilySeat<T>, cell: usize, pair: u64)
+    fn finish<K: Opening<T>>(&self, seat: &mut FamilySeat<T>, cell: usize, pair: u64)
+        requires opening { (K.first ≡ self.now.rows.inner.shared.key.first ∷ [])
+            × (K.processes ≡ self.now.rows.inner.shared.key.processes) × (K.limit ≡ self.now.rows.inner.shared.key.limit) }
         requires own { seat.old.inner.table_id ≡ self.now.rows.inner.shared.table_id }
         requires place { cell < (four_slots self.now.rows.inner.shared.key.processes).cells }
         requires stored { (v : Process (FourSlotSight T)) × (p : WriterNotes T) × HasWriter seat.old.inner.me cell v p × (p.stage ≡ W4)
-            × (pair ≡ bit_number p.slot.pair) }
+            × (pair ≡ bit_number p.slot.pair) × MayFinish (plan_of T.plan self.now.rows.inner.shared.key) cell v p }
         ensures own { seat.new.inner.table_id ≡ seat.old.inner.table_id }
         ensures finished { finishes (step self.now.rows.inner.shared.table_id.slots (16 * cell + 8) pair 0 none)
             seat.old.inner.me pair seat.new.inner.me }
+        ensures shown { ShowsAll T.plan self.now.rows.inner.shared.key seat.new.inner.me }
     {
         self.rows
             .inner
             .shared
-            .store::<Finishes>(&mut seat.inner, base(cell), pair);
+            .store::<Showing<Finishes, FourSlotMechanism, K>>(&mut seat.inner, base(cell), pair);
     }
 
     /// R1 and R2. R2's store is left out where `reading` has the pair already. `said` is what it has.
@@ -167,7 +192,8 @@ impl<T: Lawful> FamilyTable<T> {
         requires idle { (v : Process (FourSlotSight T)) × (g : ReaderNotes T) × (before : List (ℕ × T)) × (behind : List (ℕ × T))
             × HasReader seat.old.inner.me cell v g
             × (seat.old.inner.me.1 ≡ before ++ (shift (slot_at cell) (slot_of_choice g.chosen g.at_hand.value) ++ behind)) × (g.stage ≡ R5)
-            × (said.old ≡ word_said g.chosen) }
+            × (said.old ≡ word_said g.chosen)
+            × MayAnnounce (plan_of T.plan self.now.rows.inner.shared.key) cell v g }
         ensures own { seat.new.inner.table_id ≡ seat.old.inner.table_id }
         ensures announced { announces cell seat.old.inner.me result seat.new.inner.me }
         ensures remembered { said.new ≡ result }
@@ -189,7 +215,7 @@ impl<T: Lawful> FamilyTable<T> {
         requires idle { (v : Process (FourSlotSight T)) × (g : ReaderNotes T) × (before : List (ℕ × T)) × (behind : List (ℕ × T))
             × HasReader seat.old.inner.me cell v g
             × (seat.old.inner.me.1 ≡ before ++ (shift (slot_at cell) (slot_of_choice g.chosen g.at_hand.value) ++ behind))
-            × (g.stage ≡ R5) }
+            × (g.stage ≡ R5) × MayAnnounce (plan_of T.plan self.now.rows.inner.shared.key) cell v g }
         ensures own { seat.new.inner.table_id ≡ seat.old.inner.table_id }
         ensures asked { asks_on (step self.now.rows.inner.shared.table_id.slots (16 * cell + 8) 0 0 none) seat.old.inner.me result
             seat.new.inner.me }
@@ -208,7 +234,7 @@ impl<T: Lawful> FamilyTable<T> {
         requires asked { (v : Process (FourSlotSight T)) × (g : ReaderNotes T) × (before : List (ℕ × T)) × (behind : List (ℕ × T))
             × HasReader seat.old.inner.me cell v g
             × (seat.old.inner.me.1 ≡ before ++ (shift (slot_at cell) (slot_of_choice g.chosen g.at_hand.value) ++ behind)) × (g.stage ≡ R1)
-            × (pair ≡ bit_number g.slot.pair) }
+            × (pair ≡ bit_number g.slot.pair) × MaySay (plan_of T.plan self.now.rows.inner.shared.key) cell v g }
         ensures own { seat.new.inner.table_id ≡ seat.old.inner.table_id }
         ensures said { says (step self.now.rows.inner.shared.table_id.slots (16 * cell + 8 + 8) pair 0 none)
             seat.old.inner.me pair seat.new.inner.me }
@@ -221,20 +247,31 @@ impl<T: Lawful> FamilyTable<T> {
 
     /// R3: loads the pair's word, and takes the slot that it names.
     #[inline]
-    pub(super) fn take(&self, seat: &mut FamilySeat<T>, cell: usize, pair: u64) -> u64
+    pub(super) fn take<K: Opening<T>>(
+        &self,
+        seat: &mut FamilySeat<T>,
+        cell: usize,
+        pair: u64,
+    ) -> u64
+        requires opening { (K.first ≡ self.now.rows.inner.shared.key.first ∷ [])
+            × (K.processes ≡ self.now.rows.inner.shared.key.processes) × (K.limit ≡ self.now.rows.inner.shared.key.limit) }
         requires own { seat.old.inner.table_id ≡ self.now.rows.inner.shared.table_id }
         requires place { cell < (four_slots self.now.rows.inner.shared.key.processes).cells }
         requires said { (v : Process (FourSlotSight T)) × (g : ReaderNotes T) × HasReader seat.old.inner.me cell v g × (g.stage ≡ R2)
-            × (pair ≡ bit_number g.slot.pair) }
+            × (pair ≡ bit_number g.slot.pair) × MayTake (plan_of T.plan self.now.rows.inner.shared.key) cell v g }
         ensures own { seat.new.inner.table_id ≡ seat.old.inner.table_id }
         ensures taken { takes T.fits T.rises (step self.now.rows.inner.shared.table_id.slots (16 * cell + 8 + (2 + pair)) 0 0 none)
             seat.old.inner.me
             result seat.new.inner.me }
+        ensures shown { ShowsAll T.plan self.now.rows.inner.shared.key seat.new.inner.me }
     {
         self.rows
             .inner
             .shared
-            .load::<Takes>(&mut seat.inner, base(cell) + (2 + pair as usize))
+            .load::<Showing<Takes, FourSlotMechanism, K>>(
+                &mut seat.inner,
+                base(cell) + (2 + pair as usize),
+            )
     }
 
     /// W2 and W3: copies the record into the slot.

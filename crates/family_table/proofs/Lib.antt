@@ -5,6 +5,7 @@ pub mod Frames
 pub mod Gathering
 pub mod Held
 pub mod Places
+pub mod Plans
 pub mod Receipts
 pub mod Seats
 pub mod Showing

@@ -60,9 +60,9 @@ module _ {V : Type 0} (blank : V) (receipt : V → V) (hears : V → V → V) (p
   heard_cell zero (v ∷ vs) (w ∷ ws) = refl
   heard_cell (suc k) (v ∷ vs) (w ∷ ws) = heard_cell k vs ws
 
-  module _ {S : Type 0} (l : Layout) (Rule : ℕ → State S V → Type 0) (Idle : V → Type 0) (n : ℕ) where
+  module _ {S : Type 0} (l : Layout) (Rule : ℕ → State S V → Type 0) (Plan : ℕ → Process V → Type 0) (Idle : V → Type 0) (n : ℕ) where
     abbrev F : State S (View V) → Type 0
-    F = FamilyRule blank l Rule n
+    F = FamilyRule blank l Rule Plan n
 
     pub family_tells : CellTells Rule Idle receipt → (id : ℕ) (v : Process V) → ((k : ℕ) → Idle (of_cell blank k v.parts)) →
         Splits F id (Has (v ∷ [])) (Has (v ∷ [])) (Told (receipt_of receipt v))
@@ -99,6 +99,7 @@ module _ {V : Type 0} (blank : V) (receipt : V → V) (hears : V → V → V) (p
           made = r.made;
           away = r.away;
           apart = r.apart;
+          planned = r.planned;
           shows = λ j x e. ⊎_elim (λ (h : get_elem? s.views j ≡ some x). more r.processes r.receipts p x (r.shows j x h))
               (λ (h : Told p ≡ x). subst (Shows r.processes (r.receipts ++ p ∷ [])) h (in_last r.receipts p))
               (at_snoc s.views (Told p) x j e);
@@ -132,6 +133,7 @@ module _ {V : Type 0} (blank : V) (receipt : V → V) (hears : V → V → V) (p
           made = r.made;
           away = r.away;
           apart = r.apart;
+          planned = r.planned;
           shows = λ j x e. ⊎_elim (λ (h : get_elem? s.views j ≡ some x). r.shows j x h)
               (λ (h : Told p ≡ x). subst (Shows r.processes r.receipts) h (r.shows id (Told p) at)) (at_snoc s.views (Told p) x j e);
           once = λ who. let a = total_snoc (holders who) s.views (Told p) in let most : total (holders who) s.views ≤ 1 = r.once who in
@@ -140,9 +142,11 @@ module _ {V : Type 0} (blank : V) (receipt : V → V) (hears : V → V → V) (p
         } in
         subst (λ vs. F (record { words = s.words; homes = s.homes; views = vs })) views rule
 
-    pub family_learns : CellHears Rule Idle hears → (id other : ℕ) (v : Process V) (p : Receipt V) →
+    pub family_learns : CellHears Rule Idle hears →
+        ((i : ℕ) (v : Process V) (p : Receipt V) → Plan i v → Plan i (heard_by hears v p)) →
+        (id other : ℕ) (v : Process V) (p : Receipt V) →
         ((k : ℕ) → Idle (of_cell blank k v.parts)) → Joins F id (Has (v ∷ [])) other (Told p) (Has (heard_by hears v p ∷ [])) (Has [])
-    family_learns heard id other v p idle s r at apart there =
+    family_learns heard stays id other v p idle s r at apart there =
         let u : Process V = heard_by hears v p in
         let who : ℕ = v.who in
         let mine : get_elem? r.processes who ≡ some v = (r.shows id (Has (v ∷ [])) at).0 in
@@ -184,6 +188,11 @@ module _ {V : Type 0} (blank : V) (receipt : V → V) (hears : V → V → V) (p
               (λ (b : (j ≢ who) × (get_elem? r.processes j ≡ some z)). r.clocks j z b.1)
               (at_set r.processes who j u z e);
           told = r.told;
+          planned = λ j z e. ⊎_elim
+              (λ (b : (j ≡ who) × (u ≡ z)). subst (λ (q : ℕ × Process V). Plan q.0 q.1) (λ h. (sym b.0 h, b.1 h))
+              (stays who v p (r.planned who v mine)))
+              (λ (b : (j ≢ who) × (get_elem? r.processes j ≡ some z)). r.planned j z b.1)
+              (at_set r.processes who j u z e);
           steps = r.steps;
           long = r.long;
           within = r.within;

@@ -67,9 +67,9 @@ module _ {V : Type 0} where
       let z : holders who (Has (p ∷ ps)) ≤ 1 = omega arith in z)
       (cases_eq p.who who)
 
-module _ {S V : Type 0} (blank : V) (l : Layout) (Rule : ℕ → State S V → Type 0) (n : ℕ) where
+module _ {S V : Type 0} (blank : V) (l : Layout) (Rule : ℕ → State S V → Type 0) (Plan : ℕ → Process V → Type 0) (n : ℕ) where
   abbrev F : State S (View V) → Type 0
-  F = FamilyRule blank l Rule n
+  F = FamilyRule blank l Rule Plan n
 
   -- other views, each of which shows what is known, and no process twice
   pub reviewed : (s : State S (View V)) (r : F s) (vs : List (View V)) →
@@ -93,6 +93,7 @@ module _ {S V : Type 0} (blank : V) (l : Layout) (Rule : ℕ → State S V → T
     apart = r.apart;
     shows = shows;
     once = once;
+    planned = r.planned;
   }
 
   -- one part of what a seat knows goes to a new seat
@@ -149,8 +150,10 @@ module _ {S V : Type 0} (blank : V) (l : Layout) (Rule : ℕ → State S V → T
   -- at the start: one seat has all processes, none of which has done anything
   pub family_starts : (words : List ℕ) (slots : List S) (ps : List (Process V)) → length words ≡ l.words → length slots ≡ l.slots →
       length ps ≡ n → ((i : ℕ) (p : Process V) → get_elem? ps i ≡ some p → (p.who ≡ i) × (p.clock ≡ 0) × (p.times ≡ []) × (p.held ≡ [])) →
+      ((i : ℕ) (p : Process V) → get_elem? ps i ≡ some p → Plan i p) →
       ((k : ℕ) → k < l.cells → Rule 0 (cell blank l k words (map some slots) ps [])) → F (opening words slots (Has ps))
-  family_starts words slots ps lw ls many fresh cells = record {
+  family_starts words slots ps lw ls many fresh planned cells = record {
+    planned = planned;
     now = 0;
     processes = ps;
     receipts = [];

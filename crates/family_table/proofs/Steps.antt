@@ -88,16 +88,19 @@ module _ {S V : Type 0} (blank : V) (l : Layout) (is : IsLayout l) where
         views = map_same F P who v u there same z ++ told;
       }
 
-  module _ (Rule : ℕ → State S V → Type 0) (later : (now t : ℕ) (s : State S V) → now ≤ t → Rule now s → Rule t s) (n : ℕ) where
-    -- *A step of a family*: where a cell's own rule allows a step at any later time, the family's rule allows it at the cell's words,
-    -- whatever other slots the process has
+  module _ (Rule : ℕ → State S V → Type 0) (Plan : ℕ → Process V → Type 0)
+      (later : (now t : ℕ) (s : State S V) → now ≤ t → Rule now s → Rule t s) (n : ℕ) where
+    -- *A step of a family*: where a cell's own rule allows a step at any later time, and the process then keeps to its plan, the family's
+    -- rule allows it at the cell's words, whatever other slots the process has
     pub family_allows : (slots id k i : ℕ) (v : Process V) (before c behind : List (ℕ × S)) (f : ℕ → ℕ)
         (then : ℕ → ℕ → Me S V → Type 0) → i < l.cell_words → k < l.cells → k < length v.parts → Inside l.cell_slots c →
         v.held ≡ held_slots (before ++ (shift (l.slot k) c ++ behind)) →
         CellAllows Rule v.who (of_cell blank k v.parts, c) i f then →
-        Allows (FamilyRule blank l Rule n) slots id (Has (v ∷ []), before ++ (shift (l.slot k) c ++ behind)) (l.word k i) f
+        ((t m : ℕ) (w : V) (d : List (ℕ × S)) → v.clock < t → then t m (w, d) → Plan v.who v →
+        Plan v.who (knows blank v k w t (held_slots (before ++ (shift (l.slot k) d ++ behind))))) →
+        Allows (FamilyRule blank l Rule Plan n) slots id (Has (v ∷ []), before ++ (shift (l.slot k) c ++ behind)) (l.word k i) f
         (StepTells blank l.slot k v before behind then)
-    family_allows slots id k i v before c behind f then li lk has inside held allowed s r _ at _ =
+    family_allows slots id k i v before c behind f then li lk has inside held allowed goes s r _ at _ =
         let t : ℕ = r.now + 1 in
         let who : ℕ = v.who in
         let place : ℕ → ℕ = l.slot k in
@@ -143,7 +146,7 @@ module _ {S V : Type 0} (blank : V) (l : Layout) (is : IsLayout l) where
         let step : State S V = stepped mine i m who c w a in
         let kept : Rule t step = subst (λ z. Rule t (stepped mine i (f z) who c w a)) found x.4 in
         let own : of_cell blank k u.parts ≡ w = get_set_here v.parts k w blank has in
-        let rule : FamilyRule blank l Rule n (record {
+        let rule : FamilyRule blank l Rule Plan n (record {
           words = set s.words (l.word k i) m;
           homes = homes';
           views = set s.views id (Has (u ∷ []));
@@ -220,11 +223,16 @@ module _ {S V : Type 0} (blank : V) (l : Layout) (is : IsLayout l) where
               let most : total (holders z) s.views ≤ 1 = r.once z in
               let g : total (holders z) (set s.views id (Has (u ∷ []))) ≤ 1 = omega arith in
               g;
+          planned = λ j z e. ⊎_elim
+              (λ (b : (j ≡ who) × (u ≡ z)). subst (λ (q : ℕ × Process V). Plan q.0 q.1) (λ h. (sym b.0 h, b.1 h))
+              (goes t (get_or mine.words i 0) w (carried_after c a) (let d : v.clock < t = omega arith in d) x.5 (r.planned who v there)))
+              (λ (b : (j ≢ who) × (get_elem? r.processes j ≡ some z)). r.planned j z b.1)
+              (at_set r.processes who j u z e);
         } in (
           Has (u ∷ []),
           around before sa,
           around_valid s.homes before rest sa out parted.0 avoid valid,
-          subst (λ hs. FamilyRule blank l Rule n (record {
+          subst (λ hs. FamilyRule blank l Rule Plan n (record {
             words = set s.words (l.word k i) m;
             homes = hs;
             views = set s.views id (Has (u ∷ []));

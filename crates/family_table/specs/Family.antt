@@ -49,8 +49,9 @@ module _ {V : Type 0} where
   Shows processes receipts (Has ps) = EachOf (λ (p : Process V). get_elem? processes p.who ≡ some p) ps
 
 -- The rule of a family, of a cell's own rule at a time: of each cell it holds up to the one time, and no process knows of a later one.
--- The steps made are a schedule, which names the process of each: a process's times are the positions of its steps there, from 1 on
-module _ {S V : Type 0} (blank : V) (l : Layout) (Rule : ℕ → State S V → Type 0) where
+-- The steps made are a schedule, which names the process of each: a process's times are the positions of its steps there,
+-- from 1 on. Each process keeps to its plan, whoever has its seat
+module _ {S V : Type 0} (blank : V) (l : Layout) (Rule : ℕ → State S V → Type 0) (Plan : ℕ → Process V → Type 0) where
   pub record FamilyRule (n : ℕ) (s : State S (View V)) : Type 0 where
     pub now : ℕ
     pub processes : List (Process V)
@@ -73,6 +74,8 @@ module _ {S V : Type 0} (blank : V) (l : Layout) (Rule : ℕ → State S V → T
     -- the seats
     pub shows : (j : ℕ) (x : View V) → get_elem? s.views j ≡ some x → Shows processes receipts x
     pub once : (who : ℕ) → total (holders who) s.views ≤ 1
+    -- the plans
+    pub planned : (i : ℕ) (v : Process V) → get_elem? processes i ≡ some v → Plan i v
 
 module _ {S V : Type 0} (Rule : ℕ → State S V → Type 0) where
   -- a step is allowed on one cell alone, at any time later than all before

@@ -13,7 +13,7 @@ ghost use Rattle.family_table.specs.Places.{place};
 
 pub mod mechanism;
 pub mod notes;
-mod plays;
+pub mod plays;
 pub mod processes;
 pub mod table;
 

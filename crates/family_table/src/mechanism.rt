@@ -3,7 +3,9 @@ ghost use Rattle.std.specs.Prelude.{◌≡◌, ℕ};
 ghost use Rattle.atomic_table.specs.Table.{State};
 ghost use Rattle.family_table.specs.Ends.{CellEnds};
 ghost use Rattle.family_table.specs.Layouts.{Layout};
-ghost use Rattle.family_table.specs.Family.{FamilyRule, CellTells, CellHears};
+ghost use Rattle.family_table.specs.Family.{FamilyRule, CellTells, CellHears, heard_by};
+ghost use Rattle.family_table.specs.declared.notes.Process.{Process};
+ghost use Rattle.family_table.specs.declared.notes.Receipt.{Receipt};
 ghost use Rattle.family_table.specs.declared.notes.View.{View};
 
 use crate::notes::{Opened, View};
@@ -23,6 +25,10 @@ pub trait Mechanism<T, V> {
 
     // What the first seat knows of a family of so many processes.
     ghost first: { T → ℕ → View V };
+
+    // What a process may know at any moment: by what the registers opened with, the limit, how many processes there are, and its
+    // number.
+    ghost plan: { T → ℕ → ℕ → ℕ → Process V → Type 0 };
 
     // No call of the register is under way.
     ghost idle: { V → Type 0 };
@@ -46,6 +52,9 @@ pub trait Mechanism<T, V> {
     ghost learns: { (o : T) → CellHears (keeps o) idle hears };
 
     ghost ends: { (o : T) → CellEnds (keeps o) (done o) };
+
+    ghost stays: { (o : T) (limit n i : ℕ) (v : Process V) (r : Receipt V) →
+        plan o limit n i v → plan o limit n i (heard_by hears v r) };
 }
 
 /// The rule of the table.
@@ -54,7 +63,8 @@ pub struct FamilyLaw<M> {
 }
 
 impl<T: Copy, V, M: Mechanism<T, V>> TableRule<T, View<V>, Opened<T>> for FamilyLaw<M> {
-    ghost holds = { λ key s. FamilyRule M.blank (M.layout key.processes) (M.keeps key.first) key.processes s };
+    ghost holds = { λ key s. FamilyRule M.blank (M.layout key.processes) (M.keeps key.first)
+        (M.plan key.first key.limit key.processes) key.processes s };
 
     ghost first = { λ key. M.first key.first key.processes };
 }

@@ -26,11 +26,12 @@ pub enum View<V> {
     Has(LinkedList<Process<V>>),
 }
 
-/// The record that all cells open with, and how many processes there are.
+/// The record that all cells open with, how many processes there are, and the limit of which their plans speak.
 #[derive(Drop)]
 pub struct Opened<T: Copy> {
     pub first: T,
     pub processes: usize,
+    pub limit: u64,
 }
 
 /// What a family opened with, which a step that changes nothing shows together with all calls so far.
@@ -38,10 +39,14 @@ pub trait Opening<T> {
     ghost first: { List T };
 
     ghost processes: { ℕ };
+
+    ghost limit: { ℕ };
 }
 
 impl<T> Opening<T> for Brand {
     ghost first = { [] };
 
     ghost processes = { 0 };
+
+    ghost limit = { 0 };
 }

@@ -1,5 +1,5 @@
 //! What a step tells that changes nothing, and what goes from seat to seat.
-ghost use Rattle.family_table.specs.Ends.{shows};
+ghost use Rattle.family_table.specs.Ends.{shows, shows_all, tells_and_shows};
 ghost use Rattle.family_table.specs.Seats.{all_but_first, first_of, no_process, all_of, told_by, learnt_by, joined, no_one};
 
 use crate::mechanism::Mechanism;
@@ -14,6 +14,25 @@ pub(crate) struct Shows<M, K> {
 
 impl<T, V, M: Mechanism<T, V>, K: Opening<T>> Play<T, View<V>> for Shows<M, K> {
     ghost then = { shows M.blank M.layout M.done K.first K.processes };
+}
+
+/// Shows what all processes have done so far.
+pub(crate) struct ShowsAll<M, K> {
+    of: PhantomData<(M, K)>,
+}
+
+impl<T, V, M: Mechanism<T, V>, K: Opening<T>> Play<T, View<V>> for ShowsAll<M, K> {
+    ghost then = { shows_all M.blank M.layout M.done M.plan K.first K.processes K.limit };
+}
+
+/// A step of a mechanism that shows what all processes have done so far too.
+pub struct Showing<P, M, K> {
+    of: PhantomData<(P, M, K)>,
+}
+
+impl<T, V, P: Play<T, View<V>>, M: Mechanism<T, V>, K: Opening<T>> Play<T, View<V>>
+    for Showing<P, M, K> {
+    ghost then = { tells_and_shows M.blank M.layout M.done M.plan K.first K.processes K.limit P.then };
 }
 
 /// The first process of a seat's goes to a seat of its own.

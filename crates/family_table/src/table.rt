@@ -4,13 +4,13 @@ ghost use Rattle.atomic_table.specs.Table.{opening};
 ghost use Rattle.family_table.specs.declared.notes.Process.{Process};
 ghost use Rattle.family_table.specs.declared.notes.Receipt.{Receipt};
 ghost use Rattle.family_table.specs.declared.notes.View.TheVariants.{Told, Has};
-ghost use Rattle.family_table.specs.Ends.{AllDone};
+ghost use Rattle.family_table.specs.Ends.{AllDone, AllSoFar};
 ghost use Rattle.family_table.specs.Family.{of_cell, FamilyRule};
 ghost use Rattle.family_table.specs.Seats.{all_but_first, all_of, first_of, no_process, told_by, learnt_by, joined};
 
 use crate::mechanism::{FamilyLaw, Mechanism};
 use crate::notes::{Opened, Opening, View};
-use crate::plays::{All, First, Gathers, Learns, Repeats, Shows, Tells};
+use crate::plays::{All, First, Gathers, Learns, Repeats, Shows, ShowsAll, Tells};
 use atomic_table::{Seat, Table};
 use cell_contract::{Sees, empty};
 use std::alloc::{AllocError, Global};
@@ -32,10 +32,11 @@ pub struct FamilySeat<T: Copy, V> {
 
 impl<T: Copy, V, M: Mechanism<T, V>> Rows<T, V, M> {
     /// A table of the registers of so many processes, which all hold this record, and a seat that has all processes. A register takes
-    /// `stride` words, which hold `word` at first.
+    /// `stride` words, which hold `word` at first. The processes' plans alone speak of the limit.
     pub fn new(
         alloc: Global,
         processes: usize,
+        limit: u64,
         first: T,
         stride: usize,
         word: u64,
@@ -43,10 +44,12 @@ impl<T: Copy, V, M: Mechanism<T, V>> Rows<T, V, M> {
     ) -> Result<(Self, FamilySeat<T, V>), AllocError>
         requires some { (2 ≤ processes) × (processes ≤ 16) }
         requires small { (stride ≤ 16) × (slots ≤ 4) }
-        requires starts { FamilyRule M.blank (M.layout processes) (M.keeps first) processes
+        requires starts { FamilyRule M.blank (M.layout processes) (M.keeps first)
+            (M.plan first limit processes) processes
             (opening (replicate (stride * (processes * processes) + 8) word) (replicate (slots * (processes * processes)) first)
             (M.first first processes)) }
-        ensures key { IfOk result (λ r. r.0.inner.shared.key ≡ record { first = first; processes = processes }) }
+        ensures key { IfOk result (λ r.
+            r.0.inner.shared.key ≡ record { first = first; processes = processes; limit = limit }) }
         ensures sized { IfOk result (λ r. r.0.inner.shared.table_id.words ≡ stride * (processes * processes) + 8) }
         ensures seat { IfOk result (λ r. (r.1.inner.table_id ≡ r.0.inner.shared.table_id)
             × (r.1.inner.me ≡ (M.first first processes, []))) }
@@ -64,7 +67,11 @@ impl<T: Copy, V, M: Mechanism<T, V>> Rows<T, V, M> {
             alloc,
             words.as_slice(),
             records,
-            &Opened { first, processes },
+            &Opened {
+                first,
+                processes,
+                limit,
+            },
         )
         .map_err(|_| AllocError)?;
         Ok((Rows { inner: table }, FamilySeat { inner: seat }))
@@ -185,6 +192,34 @@ impl<T: Copy, V, M: Mechanism<T, V>> Rows<T, V, M> {
             self.now.inner.shared.key.processes ps }
     {
         self.load_calls::<Brand>(seat);
+    }
+
+    /// A load that tells what all processes have done so far. Nothing changes.
+    fn load_all<K: Opening<T>>(&self, seat: &mut FamilySeat<T, V>)
+        requires own { seat.old.inner.table_id ≡ self.now.inner.shared.table_id }
+        requires opening { (K.first ≡ self.now.inner.shared.key.first ∷ [])
+            × (K.processes ≡ self.now.inner.shared.key.processes) × (K.limit ≡ self.now.inner.shared.key.limit) }
+        ensures own { (seat.new.inner.table_id ≡ seat.old.inner.table_id) × (seat.new.inner.id ≡ seat.old.inner.id) }
+        ensures same { seat.new.inner.me ≡ seat.old.inner.me }
+        ensures shown { (ps : List (Process V)) → seat.old.inner.me.0 ≡ Has ps →
+            AllSoFar M.blank (M.layout self.now.inner.shared.key.processes) (M.done self.now.inner.shared.key.first)
+            (M.plan self.now.inner.shared.key.first self.now.inner.shared.key.limit self.now.inner.shared.key.processes)
+            self.now.inner.shared.key.processes ps }
+    {
+        self.inner.shared.load::<ShowsAll<M, K>>(&mut seat.inner, 0);
+    }
+
+    /// Shows what all processes have done so far, whoever has their seats. Nothing changes.
+    pub fn all_so_far(&self, seat: &mut FamilySeat<T, V>)
+        requires own { seat.old.inner.table_id ≡ self.now.inner.shared.table_id }
+        ensures own { (seat.new.inner.table_id ≡ seat.old.inner.table_id) × (seat.new.inner.id ≡ seat.old.inner.id) }
+        ensures same { seat.new.inner.me ≡ seat.old.inner.me }
+        ensures shown { (ps : List (Process V)) → seat.old.inner.me.0 ≡ Has ps →
+            AllSoFar M.blank (M.layout self.now.inner.shared.key.processes) (M.done self.now.inner.shared.key.first)
+            (M.plan self.now.inner.shared.key.first self.now.inner.shared.key.limit self.now.inner.shared.key.processes)
+            self.now.inner.shared.key.processes ps }
+    {
+        self.load_all::<Brand>(seat);
     }
 
     /// Frees the table.

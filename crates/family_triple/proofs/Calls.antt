@@ -44,7 +44,7 @@ not_same m n ne = grind (arith, nat_tests)
 
 -- what is seen of a cell that didn't change, or that is seen as before, where the notes of one cell changed
 module _ {V A : Type 0} (blank : V) (seen : V → A) (who k : ℕ) (parts : List V) (w : V) where
-  seen_same : (at j : ℕ) → (j ≢ who → (at ≢ k) ⊎ (seen w ≡ seen (of_cell blank k parts))) → k < length parts →
+  pub seen_same : (at j : ℕ) → (j ≢ who → (at ≢ k) ⊎ (seen w ≡ seen (of_cell blank k parts))) → k < length parts →
       seen (cond (nat_eq j who) blank (of_cell blank at (set parts k w))) ≡ seen (cond (nat_eq j who) blank (of_cell blank at parts))
   seen_same at j either lk = ⊎_elim
       (λ (e : j ≡ who).

@@ -9,6 +9,7 @@ use Rattle.cell_triple.specs.declared.notes.WriterNotes.{WriterNotes}
 use Rattle.cell_triple.specs.declared.notes.ReaderNotes.{ReaderNotes}
 use Rattle.cell_triple.specs.Steps.{TripleSight, published, answered}
 use Rattle.cell_contract.specs.Accesses.{IsAccess, IsReadAccess, IsWriteAccess, KeepsEach, KeepsOthers, ReadAccesses}
+use Rattle.cell_contract.specs.Plans.{Doings, doings, MayRead, MayWrite}
 use Rattle.family_table.specs.declared.notes.Process.{Process}
 use Rattle.family_table.specs.declared.notes.View.{View}
 use Rattle.family_table.specs.declared.notes.View.TheVariants.{Has}
@@ -22,10 +23,12 @@ use Rattle.family_triple.specs.Seated.{TripleSeat}
 use Rattle.family_triple.specs.Access.{HasLooked}
 use Rattle.family_triple.specs.Places.{among, triples, slot_at}
 use Rattle.family_table.specs.Seated.{known_by, number_of, clock_of, times_of}
-use Rattle.family_triple.specs.Seated.{opening_of, processes_of, writes_of, reads_of, IsSeat}
+use Rattle.family_triple.specs.Plans.{done_by, plan_of, HasCells, MayDecide, MayPublish, TriplePlan}
+use Rattle.family_triple.specs.Seated.{opening_of, processes_of, limit_of, writes_of, reads_of, IsSeat}
 use Rattle.family_triple.specs.Tables.{IsRotated}
 use Rattle.family_triple.specs.Words.{writes_to, reads_from, IsAtRest, IsRow, IsColumn}
 use Rattle.family_triple.proofs.Calls.{sees_writes, sees_reads, a_write, a_read}
+use Rattle.family_triple.proofs.Plans.{may_decide, may_publish}
 use Rattle.family_triple.proofs.Rests.{Replaced, rest_write, rest_read}
 
 module _ {T : Type 0} where
@@ -133,6 +136,40 @@ module _ {T : Type 0} where
           let seen = sees_reads s.spare s.processes (known_by s) j column_at.notes apart column_at.is in
           subst (λ (z : T × ReadAccesses T). IsAnswer fits rises z.0 z.1.answers z.1.told x)
           (λ i. ((column_at.opened ∙ own.opening) i, sym seen i)) h
+
+    -- the process has its cells
+    cells : HasCells s.processes (known_by s).who (known_by s)
+    cells = record {
+      row = λ i li ne. let row = own.rest.row i li ne in (row.notes, row.is);
+      column = λ i li ne. let column = own.rest.column i li ne in (column.notes, column.is);
+    }
+
+    -- what the plan says of an access, the step owes that makes it
+    module _ (plan : T → ℕ → ℕ → ℕ → ℕ → Doings T → Type 0) (cell : ℕ) where
+      pub publish_may : (x : T) → cell ≡ place s.processes s.who j →
+          MayWrite (plan (opening_of f) 1 (processes_of f) (limit_of f) (number_of s)) 1 x j
+          (doings (times_of s) (writes_of s) (reads_of s)) →
+          MayPublish (plan_of plan f.table.rows.inner.shared.key) (known_by s) cell row_at.notes x
+      publish_may x at may =
+          let v : Process (TripleSight T) = known_by s in
+          subst (λ (z : T × ℕ × ℕ). MayPublish (TriplePlan plan z.0 (limit_of f) z.1) v z.2 row_at.notes x)
+          (λ i. (own.opening i, own.processes i, sym (row_place cell at) i))
+          (may_publish plan s.spare (limit_of f) s.processes v j own.rest.inside own.rest.parts cells within apart row_at.notes x row_at.is
+          (subst (λ (z : T × ℕ × ℕ). MayWrite (plan z.0 1 z.1 (limit_of f) z.2) 1 x j (done_by s.spare s.processes v))
+          (λ i. (sym own.opening i, sym own.processes i, sym own.who i)) may))
+
+      pub decide_may : cell ≡ place s.processes j s.who →
+          MayRead (plan (opening_of f) 1 (processes_of f) (limit_of f) (number_of s)) 1 j
+          (doings (times_of s) (writes_of s) (reads_of s)) →
+          MayDecide (plan_of plan f.table.rows.inner.shared.key) (known_by s) cell column_at.notes
+      decide_may at may =
+          let v : Process (TripleSight T) = known_by s in
+          subst (λ (z : T × ℕ × ℕ). MayDecide (TriplePlan plan z.0 (limit_of f) z.1) v z.2 column_at.notes)
+          (λ i. (own.opening i, own.processes i, sym (column_place cell at) i))
+          (may_decide plan s.spare (limit_of f) s.processes v j own.rest.inside own.rest.parts cells within apart
+          column_at.notes column_at.is
+          (subst (λ (z : T × ℕ × ℕ). MayRead (plan z.0 1 z.1 (limit_of f) z.2) 1 j (done_by s.spare s.processes v))
+          (λ i. (sym own.opening i, sym own.processes i, sym own.who i)) may))
 
     -- a whole write
     pub wrote : (cell : ℕ) → cell ≡ place s.processes s.who j → j < 16 → (x y : T) (slot t : ℕ) (held : List ℕ) (s' : TripleSeat T) →

@@ -6,9 +6,12 @@ pub mod Learning
 pub mod Looking
 pub mod Parting
 pub mod Places
+pub mod Plans
 pub mod Rests
 pub mod Rounds
 pub mod Rows
+pub mod Showing
+pub mod SoFar
 pub mod Starts
 pub mod Steps
 pub mod Taking

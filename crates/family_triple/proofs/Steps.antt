@@ -85,9 +85,10 @@ module _ {S V : Type 0} (blank : V) (l : Layout) (is : IsLayout l) where
         views = map_same F P who v u there same z ++ told;
       }
 
-  module _ (Rule : ℕ → State S V → Type 0) (later : (now t : ℕ) (s : State S V) → now ≤ t → Rule now s → Rule t s) (n : ℕ) where
+  module _ (Rule : ℕ → State S V → Type 0) (Plan : ℕ → Process V → Type 0)
+      (later : (now t : ℕ) (s : State S V) → now ≤ t → Rule now s → Rule t s) (n : ℕ) where
     abbrev F : State S (View V) → Type 0
-    F = FamilyRule blank l Rule n
+    F = FamilyRule blank l Rule Plan n
 
     -- the process knows more of one cell; its clock and its times, and the steps made, go on to these
     kept : (s : State S (View V)) (r : F s) (id k i m : ℕ) (v : Process V) (c behind : List (ℕ × S)) (w : V) (a : Act S)
@@ -97,10 +98,11 @@ module _ {S V : Type 0} (blank : V) (l : Layout) (is : IsLayout l) where
         ((j : ℕ) → j ≢ v.who → positions 1 j steps ≡ positions 1 j r.steps) → ProperAll c a →
         Valid (gather (l.slot k) l.cell_slots none s.homes) c a →
         Rule t (stepped (cell blank l k s.words s.homes r.processes r.receipts) i m v.who c w a) →
+        Plan v.who (goes_on v k w clock times (held_slots (shift (l.slot k) (carried_after c a) ++ behind))) →
         Valid s.homes (shift (l.slot k) c ++ behind) (shift_act (l.slot k) a)
         × F (stepped s (l.word k i) m id (shift (l.slot k) c ++ behind) (Has (goes_on v k w clock times
         (held_slots (shift (l.slot k) (carried_after c a) ++ behind)) ∷ [])) (shift_act (l.slot k) a))
-    kept s r id k i m v c behind w a t clock times steps at li lk has inside turned on by long low made others proper fine rule =
+    kept s r id k i m v c behind w a t clock times steps at li lk has inside turned on by long low made others proper fine rule plan =
         let who : ℕ = v.who in
         let place : ℕ → ℕ = l.slot k in
         let cs : List (ℕ × S) = shift place c ++ behind in
@@ -189,23 +191,31 @@ module _ {S V : Type 0} (blank : V) (l : Layout) (is : IsLayout l) where
                 let most : total (holders z) s.views ≤ 1 = r.once z in
                 let g : total (holders z) (set s.views id (Has (u ∷ []))) ≤ 1 = omega arith in
                 g;
+            planned = λ j z e. ⊎_elim
+                (λ (b : (j ≡ who) × (u ≡ z)). subst (λ (q : ℕ × Process V). Plan q.0 q.1) (λ h. (sym b.0 h, b.1 h)) plan)
+                (λ (b : (j ≢ who) × (get_elem? r.processes j ≡ some z)). r.planned j z b.1)
+                (at_set r.processes who j u z e);
           },
         )
 
-    -- *A step of the schedule*: its time is the one after all before
+    -- *A step of the schedule*: its time is the one after all before, and the process then keeps to its plan
     pub steps_at : (s : State S (View V)) (r : F s) (id k m : ℕ) (v : Process V) (c behind : List (ℕ × S)) (then : ℕ → Me S V → Type 0) →
         get_elem? s.views id ≡ some (Has (v ∷ [])) → 0 < l.cell_words → k < l.cells →
         k < length v.parts → Inside l.cell_slots c → IsRotated v.held (held_slots (shift (l.slot k) c ++ behind)) →
         Outcome Rule (cell blank l k s.words s.homes r.processes r.receipts) (r.now + 1) v.who (of_cell blank k v.parts, c) m
-        (then (r.now + 1)) → Allowed F s id (l.word k 0) (Has (v ∷ []), shift (l.slot k) c ++ behind) m
+        (then (r.now + 1)) →
+        ((w : V) (d : List (ℕ × S)) → v.clock < r.now + 1 → then (r.now + 1) (w, d) → Plan v.who v →
+        Plan v.who (knows blank v k w (r.now + 1) (held_slots (shift (l.slot k) d ++ behind)))) →
+        Allowed F s id (l.word k 0) (Has (v ∷ []), shift (l.slot k) c ++ behind) m
         (StepTells blank l.slot k v [] behind (λ t _ x. then t x) 0)
-    steps_at s r id k m v c behind then at li lk has inside turned x =
+    steps_at s r id k m v c behind then at li lk has inside turned x goes =
         let t : ℕ = r.now + 1 in
         let who : ℕ = v.who in
         let there : get_elem? r.processes who ≡ some v = (r.shows id (Has (v ∷ [])) at).0 in
         let inside_list : who < length r.processes = within r.processes who v there in
         let many : length r.processes ≡ n = r.many in
         let long : r.now ≡ length r.steps = r.long in
+        let by : v.clock ≤ r.now = r.clocks who v there in
         let more = length-append r.steps (who ∷ []) in
         let carried : List (ℕ × S) = shift (l.slot k) (carried_after c x.1) ++ behind in
         let y = kept s r id k 0 m v c behind x.0 x.1 t t (v.times ++ t ∷ []) (r.steps ++ who ∷ []) at li lk has inside turned (omega arith)
@@ -217,9 +227,9 @@ module _ {S V : Type 0} (blank : V) (l : Layout) (is : IsLayout l) where
         (ap (λ zs. zs ++ t ∷ []) (r.made who v there)
         ∙ (ap (λ z. positions 1 who r.steps ++ z ∷ []) (let d : t ≡ 1 + length r.steps = omega arith in d)
         ∙ sym (positions_mine 1 who r.steps)))
-        (λ j ne. positions_other 1 j who r.steps (λ h. ne (sym h))) x.2 x.3 x.4 in
-        let carried_is = carried_shift (l.slot k) c behind x.1 x.2 in
-        let by : v.clock ≤ r.now = r.clocks who v there in (
+        (λ j ne. positions_other 1 j who r.steps (λ h. ne (sym h))) x.2 x.3 x.4
+        (goes x.0 (carried_after c x.1) (let d : v.clock < t = omega arith in d) x.5 (r.planned who v there)) in
+        let carried_is = carried_shift (l.slot k) c behind x.1 x.2 in (
           Has (knows blank v k x.0 t (held_slots carried) ∷ []),
           shift_act (l.slot k) x.1,
           y.0,
@@ -240,12 +250,15 @@ module _ {S V : Type 0} (blank : V) (l : Layout) (is : IsLayout l) where
         get_elem? s.views id ≡ some (Has (v ∷ [])) → 0 < l.cell_words → k < l.cells →
         k < length v.parts → Inside l.cell_slots c → IsRotated v.held (held_slots (shift (l.slot k) c ++ behind)) →
         Outcome Rule (cell blank l k s.words s.homes r.processes r.receipts) r.now v.who (of_cell blank k v.parts, c) m then →
+        ((w : V) (d : List (ℕ × S)) → then (w, d) → Plan v.who v →
+        Plan v.who (alters v k w (held_slots (shift (l.slot k) d ++ behind)))) →
         Allowed F s id (l.word k 0) (Has (v ∷ []), shift (l.slot k) c ++ behind) m (TellsBeside l.slot k v behind then)
-    steps_beside s r id k m v c behind then at li lk has inside turned x =
+    steps_beside s r id k m v c behind then at li lk has inside turned x goes =
         let there : get_elem? r.processes v.who ≡ some v = (r.shows id (Has (v ∷ [])) at).0 in
         let carried : List (ℕ × S) = shift (l.slot k) (carried_after c x.1) ++ behind in
         let y = kept s r id k 0 m v c behind x.0 x.1 r.now v.clock v.times r.steps at li lk has inside turned (le_refl r.now)
-        (r.clocks v.who v there) r.long r.within (r.made v.who v there) (λ j ne. refl) x.2 x.3 x.4 in
+        (r.clocks v.who v there) r.long r.within (r.made v.who v there) (λ j ne. refl) x.2 x.3 x.4
+        (goes x.0 (carried_after c x.1) x.5 (r.planned v.who v there)) in
         let carried_is = carried_shift (l.slot k) c behind x.1 x.2 in (
           Has (alters v k x.0 (held_slots carried) ∷ []),
           shift_act (l.slot k) x.1,

@@ -158,7 +158,7 @@ upto_part f m k d = ⊎_elim
       beyond (x ∷ xs) (suc i) d l = beyond xs i d (omega arith)
 
 module _ {T : Type 0} (o : T) (n who : ℕ) where
-  plain_first : (k : ℕ) → IsPlain o n who k (of_cell Spent k (first_process o n who).parts)
+  pub plain_first : (k : ℕ) → IsPlain o n who k (of_cell Spent k (first_process o n who).parts)
   plain_first k = ⊎_elim
       (λ (e : get_or (upto (first_part o n who) 0 (n * n)) k Spent ≡ first_part o n who k). subst (IsPlain o n who k) (sym e)
       (first (nat_eq who (writer_of n k)) (nat_eq who (reader_of n k)) (λ nw. not_same who (writer_of n k) (λ q. nw (sym q)))))

@@ -24,6 +24,7 @@ use Rattle.family_table.specs.Layouts.{shift, Inside}
 use Rattle.family_table.specs.Family.{of_cell, knows, cell, StepTells}
 use Rattle.family_table.proofs.Slices.{gather_get}
 use Rattle.family_triple.specs.Places.{triples, word_at, slot_at}
+use Rattle.family_triple.specs.Plans.{MayPublish, MayDecide}
 use Rattle.family_triple.specs.Triples.{CellRule, TripleFamily}
 use Rattle.family_triple.specs.Steps.{alters, After, Beside, put_takes, get_takes, publishes, looks, fetches}
 use Rattle.family_triple.specs.Tables.{IsRotated}
@@ -79,9 +80,9 @@ module _ {T : Type 0} (fits : T → Type 0) (rises : T → T → Type 0) (o : T)
   pub rule_later : (now t : ℕ) (s : State T W) → now ≤ t → Rule now s → Rule t s
   rule_later now t s l r = (r.0, le_trans r.1 l)
 
-  module _ (n : ℕ) where
+  module _ (n : ℕ) (Plan : ℕ → Process W → Type 0) where
     abbrev F : State T (View W) → Type 0
-    F = TripleFamily fits rises o n
+    F = TripleFamily fits rises o n Plan
 
     abbrev Cell : (s : State T (View W)) → F s → ℕ → State T W
     Cell s r k = cell Spent (triples n) k s.words s.homes r.processes r.receipts
@@ -105,26 +106,32 @@ module _ {T : Type 0} (fits : T → Type 0) (rises : T → T → Type 0) (o : T)
         get_elem? s.views id ≡ some (Has (v ∷ [])) → k < (triples n).cells → k < length v.parts → of_cell Spent k v.parts ≡ w → Inside 3 c →
         IsRotated v.held (held_slots (shift (slot_at k) c ++ behind)) →
         Outcome Rule (Cell s r k) (r.now + 1) v.who (w, c) m (then (r.now + 1)) →
+        ((u : W) (d : List (ℕ × T)) → v.clock < r.now + 1 → then (r.now + 1) (u, d) → Plan v.who v →
+        Plan v.who (knows Spent v k u (r.now + 1) (held_slots (shift (slot_at k) d ++ behind)))) →
         Allowed F s id (word_at k 0) (Has (v ∷ []), shift (slot_at k) c ++ behind) m
         (StepTells Spent slot_at k v [] behind (λ t _ x. then t x) 0)
-    timed s r id k m v w c behind then at lk has is inside turned out =
-        steps_at Spent (triples n) (is_layout n) Rule rule_later n s r id k m v c behind then at
+    timed s r id k m v w c behind then at lk has is inside turned out goes =
+        steps_at Spent (triples n) (is_layout n) Rule Plan rule_later n s r id k m v c behind then at
         (let z : 0 < 1 = omega arith in z) lk has inside
-        turned (subst (λ (z : W). Outcome Rule (Cell s r k) (r.now + 1) v.who (z, c) m (then (r.now + 1))) (sym is) out)
+        turned (subst (λ (z : W). Outcome Rule (Cell s r k) (r.now + 1) v.who (z, c) m (then (r.now + 1))) (sym is) out) goes
 
     untimed : (s : State T (View W)) (r : F s) (id k m : ℕ) (v : Process W) (w : W) (c behind : List (ℕ × T)) (then : Me T W → Type 0) →
         get_elem? s.views id ≡ some (Has (v ∷ [])) → k < (triples n).cells → k < length v.parts → of_cell Spent k v.parts ≡ w → Inside 3 c →
         IsRotated v.held (held_slots (shift (slot_at k) c ++ behind)) → Outcome Rule (Cell s r k) r.now v.who (w, c) m then →
+        ((u : W) (d : List (ℕ × T)) → then (u, d) → Plan v.who v →
+        Plan v.who (alters v k u (held_slots (shift (slot_at k) d ++ behind)))) →
         Allowed F s id (word_at k 0) (Has (v ∷ []), shift (slot_at k) c ++ behind) m (TellsBeside slot_at k v behind then)
-    untimed s r id k m v w c behind then at lk has is inside turned out =
-        steps_beside Spent (triples n) (is_layout n) Rule rule_later n s r id k m v c behind then at
+    untimed s r id k m v w c behind then at lk has is inside turned out goes =
+        steps_beside Spent (triples n) (is_layout n) Rule Plan rule_later n s r id k m v c behind then at
         (let z : 0 < 1 = omega arith in z) lk has inside
-        turned (subst (λ (z : W). Outcome Rule (Cell s r k) r.now v.who (z, c) m then) (sym is) out)
+        turned (subst (λ (z : W). Outcome Rule (Cell s r k) r.now v.who (z, c) m then) (sym is) out) goes
 
     pub put_takes_ok : (slots id word k : ℕ) (me : Me T (View W)) (v : Process W) (p : WriterNotes T) → word ≡ word_at k 0 →
         k < (triples n).cells → k < length v.parts → me.0 ≡ Has (v ∷ []) → of_cell Spent k v.parts ≡ Writer p →
-        IsRotated v.held (held_slots me.1) → p.has ≡ 0 → Allows F slots id me word (λ m. m) (put_takes (step slots word 0 0 none) me)
-    put_takes_ok slots id word k me v p at lk has who is turned bare =
+        IsRotated v.held (held_slots me.1) → p.has ≡ 0 →
+        ((held : List ℕ) → Plan v.who v → Plan v.who (alters v k (Writer (record p { has = 1 })) held)) →
+        Allows F slots id me word (λ m. m) (put_takes (step slots word 0 0 none) me)
+    put_takes_ok slots id word k me v p at lk has who is turned bare stays =
         let cs : List (ℕ × T) = me.1 in
         let here : Allows F slots id (Has (v ∷ []), cs) (word_at k 0) (λ m. m)
         (put_takes (step slots (word_at k 0) 0 0 none) (Has (v ∷ []), cs)) =
@@ -139,7 +146,11 @@ module _ {T : Type 0} (fits : T → Type 0) (rises : T → T → Type 0) (o : T)
         let y = put_takes_at fits rises o (Cell s r k) c.0 3 v.who (Writer p, []) there known.1 h.0 refl h.1 in
         let out = subst (λ z. Outcome Rule (Cell s r k) r.now v.who (Writer p, []) z (then z)) (found s r k)
         (y.0, y.1, y.2, y.3, rule_later c.0.now r.now _ c.1 y.4, y.5) in
-        let x = untimed s r id k nn v (Writer p) [] cs (then nn) seen lk has is tt turned out in
+        let goes : (u : W) (d : List (ℕ × T)) → then nn (u, d) → Plan v.who v →
+        Plan v.who (alters v k u (held_slots (shift (slot_at k) d ++ cs))) = λ u d told plan.
+        subst (λ z. Plan v.who (alters v k z (held_slots (shift (slot_at k) d ++ cs)))) (sym (told p refl).0)
+        (stays (held_slots (shift (slot_at k) d ++ cs)) plan) in
+        let x = untimed s r id k nn v (Writer p) [] cs (then nn) seen lk has is tt turned out goes in
         (x.0, x.1, x.2, x.3, more nn (x.0, carried_after cs x.1) x.4)) in
         subst (λ (z : ℕ × View W). Allows F slots id (z.1, cs) z.0 (λ m. m) (put_takes (step slots z.0 0 0 none) (z.1, cs)))
         (λ i. (sym at i, sym who i)) here where
@@ -155,8 +166,10 @@ module _ {T : Type 0} (fits : T → Type 0) (rises : T → T → Type 0) (o : T)
 
     pub get_takes_ok : (slots id word k : ℕ) (me : Me T (View W)) (v : Process W) (g : ReaderNotes T) → word ≡ word_at k 0 →
         k < (triples n).cells → k < length v.parts → me.0 ≡ Has (v ∷ []) → of_cell Spent k v.parts ≡ Reader g →
-        IsRotated v.held (held_slots me.1) → g.has ≡ 0 → Allows F slots id me word (λ m. m) (get_takes (step slots word 0 0 none) me)
-    get_takes_ok slots id word k me v g at lk has who is turned bare =
+        IsRotated v.held (held_slots me.1) → g.has ≡ 0 →
+        ((held : List ℕ) → Plan v.who v → Plan v.who (alters v k (Reader (record g { has = 1 })) held)) →
+        Allows F slots id me word (λ m. m) (get_takes (step slots word 0 0 none) me)
+    get_takes_ok slots id word k me v g at lk has who is turned bare stays =
         let cs : List (ℕ × T) = me.1 in
         let here : Allows F slots id (Has (v ∷ []), cs) (word_at k 0) (λ m. m)
         (get_takes (step slots (word_at k 0) 0 0 none) (Has (v ∷ []), cs)) =
@@ -171,7 +184,11 @@ module _ {T : Type 0} (fits : T → Type 0) (rises : T → T → Type 0) (o : T)
         let y = get_takes_at fits rises o (Cell s r k) c.0 3 v.who (Reader g, []) there known.1 h.0 refl h.1 in
         let out = subst (λ z. Outcome Rule (Cell s r k) r.now v.who (Reader g, []) z (then z)) (found s r k)
         (y.0, y.1, y.2, y.3, rule_later c.0.now r.now _ c.1 y.4, y.5) in
-        let x = untimed s r id k nn v (Reader g) [] cs (then nn) seen lk has is tt turned out in
+        let goes : (u : W) (d : List (ℕ × T)) → then nn (u, d) → Plan v.who v →
+        Plan v.who (alters v k u (held_slots (shift (slot_at k) d ++ cs))) = λ u d told plan.
+        subst (λ z. Plan v.who (alters v k z (held_slots (shift (slot_at k) d ++ cs)))) (sym (told g refl).0)
+        (stays (held_slots (shift (slot_at k) d ++ cs)) plan) in
+        let x = untimed s r id k nn v (Reader g) [] cs (then nn) seen lk has is tt turned out goes in
         (x.0, x.1, x.2, x.3, more nn (x.0, carried_after cs x.1) x.4)) in
         subst (λ (z : ℕ × View W). Allows F slots id (z.1, cs) z.0 (λ m. m) (get_takes (step slots z.0 0 0 none) (z.1, cs)))
         (λ i. (sym at i, sym who i)) here where
@@ -188,9 +205,9 @@ module _ {T : Type 0} (fits : T → Type 0) (rises : T → T → Type 0) (o : T)
     pub publishes_ok : (slots id word k new : ℕ) (me : Me T (View W)) (v : Process W) (p : WriterNotes T) (x : T) (cs : List (ℕ × T)) →
         word ≡ word_at k 0 → k < (triples n).cells → k < length v.parts → me.0 ≡ Has (v ∷ []) → of_cell Spent k v.parts ≡ Writer p →
         me.1 ≡ (slot_at k p.slot, x) ∷ cs → IsRotated v.held (held_slots me.1) → p.has ≡ 1 → fits x →
-        rises (last_or p.opening.value p.written) x → new ≡ p.slot + 4 →
+        rises (last_or p.opening.value p.written) x → new ≡ p.slot + 4 → MayPublish Plan v k p x →
         Allows F slots id me word (λ _. new) (publishes (step slots word new 0 none) me)
-    publishes_ok slots id word k new me v p x cs at lk has who is slots_are turned took f up to =
+    publishes_ok slots id word k new me v p x cs at lk has who is slots_are turned took f up to may =
         let mine : List (ℕ × T) = (slot_at k p.slot, x) ∷ cs in
         let own : List (ℕ × T) = (p.slot, x) ∷ [] in
         let here : Allows F slots id (Has (v ∷ []), mine) (word_at k 0) (λ _. new)
@@ -211,9 +228,16 @@ module _ {T : Type 0} (fits : T → Type 0) (rises : T → T → Type 0) (o : T)
         (subst (λ (z : T). rises (last_or z c.0.put.written) x) c.0.openings.0 h.3) h.4 in
         let out = subst (λ z. Outcome Rule (Cell s r k) t v.who (Writer p, own) new (then z t)) (found s r k)
         (y.0, y.1, y.2, y.3, y.4, (y.5, y.6)) in
+        let goes : (u : W) (d : List (ℕ × T)) → v.clock < t → then nn t (u, d) → Plan v.who v →
+        Plan v.who (knows Spent v k u t (held_slots (shift (slot_at k) d ++ cs))) = λ u d lt told plan.
+        let e = told.0 p x refl refl in
+        let now : e.2 ≡ t = sym (ap clock_of e.4) ∙ told.1 in
+        let is_now : u ≡ Writer (published p (nn % 4) x t) = e.4 ∙ ap (λ z. Writer (published p (nn % 4) x z)) now in
+        subst (λ z. Plan v.who (knows Spent v k z t (held_slots (shift (slot_at k) d ++ cs)))) (sym is_now)
+        (may t (nn % 4) (held_slots (shift (slot_at k) d ++ cs)) lt) in
         let a = timed s r id k new v (Writer p) own cs (then nn) seen lk has is inside
         (subst (λ zs. IsRotated v.held (held_slots zs)) slots_are turned)
-        out in
+        out goes in
         (a.0, a.1, a.2, a.3, more nn (a.0, carried_after mine a.1) a.4)) in
         subst (λ (z : ℕ × Me T (View W)). Allows F slots id z.1 z.0 (λ _. new) (publishes (step slots z.0 new 0 none) z.1))
         (λ j. (sym at j, (sym who j, sym slots_are j))) here where
@@ -244,8 +268,9 @@ module _ {T : Type 0} (fits : T → Type 0) (rises : T → T → Type 0) (o : T)
       pub looks_ok : (slots id word k : ℕ) (me : Me T (View W)) (v : Process W) (g : ReaderNotes T) → word ≡ word_at k 0 →
           k < (triples n).cells → k < length v.parts → me.0 ≡ Has (v ∷ []) → of_cell Spent k v.parts ≡ Reader g →
           IsRotated v.held (held_slots me.1) → g.asked ≡ 0 →
+          ((m : ℕ) (held : List ℕ) → Plan v.who v → Plan v.who (alters v k (Reader (asked_by g m)) held)) → MayDecide Plan v k g →
           Allows F slots id me word (λ m. m) (looks fits rises (step slots word 0 0 none) me)
-      looks_ok slots id word k me v g at lk has who is turned free =
+      looks_ok slots id word k me v g at lk has who is turned free stays may =
           let cs : List (ℕ × T) = me.1 in
           let here : Allows F slots id (Has (v ∷ []), cs) (word_at k 0) (λ m. m)
           (looks fits rises (step slots (word_at k 0) 0 0 none) (Has (v ∷ []), cs)) =
@@ -266,14 +291,26 @@ module _ {T : Type 0} (fits : T → Type 0) (rises : T → T → Type 0) (o : T)
           (subst (λ z. z < 4) (sym of_it) less) in
           let out = subst (λ z. Outcome Rule (Cell s r k) t v.who (Reader g, []) z (λ m. then z m × (clock_of m.0 ≡ t))) of_it
           (y.0, y.1, y.2, y.3, y.4, (y.5, y.6)) in
-          let a = timed s r id k nn v (Reader g) [] cs (λ i m. then nn m × (clock_of m.0 ≡ i)) seen lk has is tt turned out in
+          let goes : (u : W) (d : List (ℕ × T)) → v.clock < t → then nn (u, d) × (clock_of u ≡ t) → Plan v.who v →
+          Plan v.who (knows Spent v k u t (held_slots (shift (slot_at k) d ++ cs))) = λ u d lt told plan.
+          let e = (told.0 g refl).2 less in
+          let now : e.0 ≡ t = sym (ap clock_of e.4) ∙ told.1 in
+          let is_now : u ≡ Reader (answered (looked_by g nn) g.at_hand.value t e.1 e.2) =
+          e.4 ∙ ap (λ z. Reader (answered (looked_by g nn) g.at_hand.value z e.1 e.2)) now in
+          subst (λ z. Plan v.who (knows Spent v k z t (held_slots (shift (slot_at k) d ++ cs)))) (sym is_now)
+          (may (looked_by g nn) g.at_hand.value t e.1 e.2 (held_slots (shift (slot_at k) d ++ cs)) refl refl lt) in
+          let a = timed s r id k nn v (Reader g) [] cs (λ i m. then nn m × (clock_of m.0 ≡ i)) seen lk has is tt turned out goes in
           (a.0, a.1, a.2, a.3, more nn (a.0, carried_after cs a.1) less a.4))
           (λ (high : 4 ≤ nn).
           let y = asks_at fits rises o same along (Cell s r k) c.0 3 v.who (Reader g, []) known.1 h.0 h.1
           (subst (λ z. 4 ≤ z) (sym of_it) high) in
           let out = subst (λ z. Outcome Rule (Cell s r k) r.now v.who (Reader g, []) z (then z)) of_it
           (y.0, y.1, y.2, y.3, rule_later c.0.now r.now _ low y.4, y.5) in
-          let a = untimed s r id k nn v (Reader g) [] cs (then nn) seen lk has is tt turned out in
+          let goes : (u : W) (d : List (ℕ × T)) → then nn (u, d) → Plan v.who v →
+          Plan v.who (alters v k u (held_slots (shift (slot_at k) d ++ cs))) = λ u d told plan.
+          subst (λ z. Plan v.who (alters v k z (held_slots (shift (slot_at k) d ++ cs)))) (sym ((told g refl).1 high))
+          (stays nn (held_slots (shift (slot_at k) d ++ cs)) plan) in
+          let a = untimed s r id k nn v (Reader g) [] cs (then nn) seen lk has is tt turned out goes in
           (a.0, a.1, a.2, a.3, marked nn (a.0, carried_after cs a.1) high a.4))
           (cases_lt nn 4)) in
           subst (λ (z : ℕ × View W). Allows F slots id (z.1, cs) z.0 (λ m. m) (looks fits rises (step slots z.0 0 0 none) (z.1, cs)))
@@ -329,8 +366,9 @@ module _ {T : Type 0} (fits : T → Type 0) (rises : T → T → Type 0) (o : T)
       pub fetches_ok : (slots id word k new : ℕ) (me : Me T (View W)) (v : Process W) (g : ReaderNotes T) (cs : List (ℕ × T)) →
           word ≡ word_at k 0 → k < (triples n).cells → k < length v.parts → me.0 ≡ Has (v ∷ []) → of_cell Spent k v.parts ≡ Reader g →
           me.1 ≡ (slot_at k g.slot, g.at_hand.value) ∷ cs → IsRotated v.held (held_slots me.1) → g.has ≡ 1 → g.asked ≡ 1 → new ≡ g.slot →
+          MayDecide Plan v k g →
           Allows F slots id me word (λ _. new) (fetches fits rises (step slots word new 0 none) me)
-      fetches_ok slots id word k new me v g cs at lk has who is slots_are turned took asked to =
+      fetches_ok slots id word k new me v g cs at lk has who is slots_are turned took asked to may =
           let mine : List (ℕ × T) = (slot_at k g.slot, g.at_hand.value) ∷ cs in
           let own : List (ℕ × T) = (g.slot, g.at_hand.value) ∷ [] in
           let here : Allows F slots id (Has (v ∷ []), mine) (word_at k 0) (λ _. new)
@@ -352,9 +390,17 @@ module _ {T : Type 0} (fits : T → Type 0) (rises : T → T → Type 0) (o : T)
           (Reader g, own) new known.1 h.0 h.1 h.2 h.3 h.4 in
           let out = subst (λ z. Outcome Rule (Cell s r k) t v.who (Reader g, own) new (then z t)) (found s r k)
           (y.0, y.1, y.2, y.3, y.4, (y.5, y.6)) in
+          let goes : (u : W) (d : List (ℕ × T)) → v.clock < t → then nn t (u, d) → Plan v.who v →
+          Plan v.who (knows Spent v k u t (held_slots (shift (slot_at k) d ++ cs))) = λ u d lt told plan.
+          let e = told.0 g g.at_hand.value refl refl asked in
+          let now : e.2 ≡ t = sym (ap clock_of e.6) ∙ told.1 in
+          let is_now : u ≡ Reader (answered (fetched g (nn % 4) e.0) e.0 t e.3 e.4) =
+          e.6 ∙ ap (λ z. Reader (answered (fetched g (nn % 4) e.0) e.0 z e.3 e.4)) now in
+          subst (λ z. Plan v.who (knows Spent v k z t (held_slots (shift (slot_at k) d ++ cs)))) (sym is_now)
+          (may (fetched g (nn % 4) e.0) e.0 t e.3 e.4 (held_slots (shift (slot_at k) d ++ cs)) refl refl lt) in
           let a = timed s r id k new v (Reader g) own cs (then nn) seen lk has is inside
           (subst (λ zs. IsRotated v.held (held_slots zs)) slots_are turned)
-          out in
+          out goes in
           (a.0, a.1, a.2, a.3, more nn (a.0, carried_after mine a.1) a.4)) in
           subst (λ (z : ℕ × Me T (View W)). Allows F slots id z.1 z.0 (λ _. new) (fetches fits rises (step slots z.0 new 0 none) z.1))
           (λ j. (sym at j, (sym who j, sym slots_are j))) here where

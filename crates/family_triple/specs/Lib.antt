@@ -1,7 +1,9 @@
 pub mod Access
 pub mod Cells
 pub mod Ends
+pub mod Keeping
 pub mod Places
+pub mod Plans
 pub mod Seated
 pub mod Steps
 pub mod Tables

@@ -17,7 +17,8 @@ use Rattle.family_triple.specs.declared.family.TripleFamily.{TripleFamily}
 use Rattle.family_triple.specs.declared.family.Slots.{Slots}
 use Rattle.family_table.specs.declared.processes.ProcessSeat.{ProcessSeat}
 use Rattle.family_table.specs.declared.processes.ProcessTold.{ProcessTold}
-use Rattle.family_table.specs.Seated.{known_by, told_in}
+use Rattle.cell_contract.specs.Plans.{AreSoFar, Doings, doings}
+use Rattle.family_table.specs.Seated.{known_by, times_of, told_in}
 use Rattle.family_triple.specs.Words.{writes_to, reads_from, IsAtRest}
 
 pub one_step : 0 < 1
@@ -40,6 +41,9 @@ module _ {T : Type 0} where
   abbrev pub processes_of : TripleFamily T → ℕ
   processes_of f = f.table.rows.inner.shared.key.processes
 
+  abbrev pub limit_of : TripleFamily T → ℕ
+  limit_of f = f.table.rows.inner.shared.key.limit
+
   abbrev pub writes_of : TripleSeat T → ℕ → WriteAccesses T
   writes_of s = writes_to s.spare s.processes (known_by s)
 
@@ -54,6 +58,11 @@ module _ {T : Type 0} where
     pub one : s.seat.inner.me.0 ≡ Has (known_by s ∷ [])
     pub who : (known_by s).who ≡ s.who
     pub rest : IsAtRest s.spare s.processes (known_by s) s.stored.fills s.stored.reads s.seat.inner.me.1
+
+  -- what all processes have done so far, shown by a seat
+  abbrev pub SeatShowsAll : (T → ℕ → ℕ → ℕ → ℕ → Doings T → Type 0) → TripleFamily T → TripleSeat T → Type 0
+  SeatShowsAll plan f s = AreSoFar (plan (opening_of f) 1 (processes_of f) (limit_of f)) (opening_of f)
+      (processes_of f) s.who (doings (times_of s) (writes_of s) (reads_of s))
 
   -- the record that a receipt names to process j, and all that was written to that one up to then
   abbrev pub naming : TripleTold T → ℕ → Dated T

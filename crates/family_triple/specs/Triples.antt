@@ -28,10 +28,10 @@ module _ {T : Type 0} where
   abbrev pub Any : TripleSight T → Type 0
   Any v = Unit {0}
 
-  -- the rule of one cell up to a time, and of a family of n processes
+  -- the rule of one cell up to a time, and of a family of n processes with their plans
   module _ (fits : T → Type 0) (rises : T → T → Type 0) (o : T) where
     abbrev pub CellRule : ℕ → State T (TripleSight T) → Type 0
     CellRule now s = (r : TripleRule fits rises o s) × (r.now ≤ now)
 
-    abbrev pub TripleFamily : ℕ → State T (View (TripleSight T)) → Type 0
-    TripleFamily n s = FamilyRule Spent (triples n) CellRule n s
+    abbrev pub TripleFamily : ℕ → (ℕ → Process (TripleSight T) → Type 0) → State T (View (TripleSight T)) → Type 0
+    TripleFamily n Plan s = FamilyRule Spent (triples n) CellRule Plan n s

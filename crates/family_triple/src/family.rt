@@ -2,6 +2,7 @@
 ghost use Rattle.std.specs.Prelude.{◌≡◌, ◌≢◌, ℕ, ◌≤◌, ◌<◌, List, [], ◌∷◌, IfOk, vec_len, vec_capacity};
 ghost use Rattle.history_core.specs.Schedules.{positions};
 ghost use Rattle.cell_contract.specs.Ends.{Each, EachTwo, IsSchedule, IsAtomicCell};
+ghost use Rattle.cell_contract.specs.Plans.{doings, MayRead};
 ghost use Rattle.cell_contract.specs.Rows.{IsReadFrom};
 ghost use Rattle.family_table.specs.Places.{place};
 ghost use Rattle.family_table.specs.declared.notes.View.TheVariants.{Has};
@@ -11,21 +12,23 @@ ghost use Rattle.family_triple.specs.Seated.{IsFirst};
 ghost use Rattle.family_table.specs.declared.notes.Process.{Process};
 ghost use Rattle.cell_triple.specs.Steps.{TripleSight};
 ghost use Rattle.family_table.specs.Seated.{number_of, clock_of, times_of};
-ghost use Rattle.family_triple.specs.Seated.{opening_of, processes_of, writes_of, reads_of, IsSeat};
+ghost use Rattle.family_triple.specs.Seated.{opening_of, processes_of, limit_of, writes_of, reads_of};
+ghost use Rattle.family_triple.specs.Seated.{IsSeat, SeatShowsAll};
 ghost use Rattle.family_table.specs.Seated.{sender_of, time_of};
 ghost use Rattle.family_triple.specs.Seated.{named_by, carried_by, IsTold, one_is_few, one_step};
 
 use crate::slots::{among, newest, take_slots, turn_by};
 use crate::table::{FamilySeat, FamilyTable, slot_place};
-use cell_contract::{Family, Kept, Lawful, Sees, SharedFamily};
+use cell_contract::{Family, Kept, Planned, Sees, SharedFamily, SoFar};
 use cell_triple::TripleSight;
 use family_table::place;
 use family_table::processes::{ProcessSeat, ProcessTold, gathered, show};
 use std::alloc::{AllocError, Global};
+use std::marker::Brand;
 
 /// Registers of a triple buffer each, in one table. A write makes one control access, a swap, and a read one or two.
 #[derive(Drop)]
-pub struct TripleFamily<T: Lawful> {
+pub struct TripleFamily<T: Planned> {
     table: FamilyTable<T>,
 }
 
@@ -44,14 +47,14 @@ pub type TripleSeat<T> = ProcessSeat<T, TripleSight<T>, Slots>;
 pub type TripleTold<T> = ProcessTold<T, TripleSight<T>>;
 
 /// A seat for each process, of the one that has them all.
-fn seats_of<T: Lawful>(
+fn seats_of<T: Planned>(
     alloc: Global,
     table: &FamilyTable<T>,
     n: usize,
     first: T,
     rest: FamilySeat<T>,
 ) -> Result<Vec<TripleSeat<T>>, AllocError>
-    requires key { table.now.rows.inner.shared.key ≡ record { first = first; processes = n } }
+    requires key { (table.now.rows.inner.shared.key.first ≡ first) × (table.now.rows.inner.shared.key.processes ≡ n) }
     requires own { rest.inner.table_id ≡ table.now.rows.inner.shared.table_id }
     requires all { rest.inner.me ≡ (first_view first n, []) }
     requires few { n ≤ 16 }
@@ -76,22 +79,26 @@ fn seats_of<T: Lawful>(
     Ok(seats)
 }
 
-impl<T: Lawful> TripleFamily<T> {
+impl<T: Planned> TripleFamily<T> {
     /// A read of the register of process `from`, which is this cell.
     #[inline(always)]
     fn read_at<L: Sees<T>>(&self, seat: &mut TripleSeat<T>, cell: usize, from: usize, seen: &mut L)
         requires own { IsSeat self.now seat.old }
         requires other { (from < processes_of self.now) × (from ≢ number_of seat.old) }
         requires at { cell ≡ place seat.old.processes from seat.old.who }
-        ensures { IsReadFrom (IsSeat self.now) number_of clock_of times_of writes_of reads_of 1
+        requires plan { MayRead
+            (T.plan (opening_of self.now) 1 (processes_of self.now) (limit_of self.now) (number_of seat.old)) 1 from
+            (doings (times_of seat.old) (writes_of seat.old) (reads_of seat.old)) }
+        ensures read { IsReadFrom (IsSeat self.now) number_of clock_of times_of writes_of reads_of 1
             (opening_of self.now) T.fits T.rises L.sees from
             (seat.old, seen.old) (seat.new, seen.new) }
+        ensures so_far { SeatShowsAll T.plan self.now seat.new }
     {
         let table = &self.table;
         let others = seat.processes - 1;
         let before = others + among(seat.who, from);
         turn_by(table, &mut seat.seat, before);
-        let slot = newest(table, &mut seat.seat, cell, seat.stored.reads[from]);
+        let slot = newest::<T, Brand>(table, &mut seat.seat, cell, seat.stored.reads[from]);
         seat.stored.reads[from] = slot;
         table
             .rows
@@ -100,7 +107,7 @@ impl<T: Lawful> TripleFamily<T> {
     }
 }
 
-impl<T: Lawful> Family<T> for TripleFamily<T> {
+impl<T: Planned> Family<T> for TripleFamily<T> {
     type Seat = TripleSeat<T>;
 
     type Told = TripleTold<T>;
@@ -108,6 +115,8 @@ impl<T: Lawful> Family<T> for TripleFamily<T> {
     ghost opening = { opening_of };
 
     ghost processes = { processes_of };
+
+    ghost limit = { limit_of };
 
     ghost width = { 1 };
 
@@ -137,8 +146,13 @@ impl<T: Lawful> Family<T> for TripleFamily<T> {
 
     ghost writes_of = { carried_by };
 
-    fn make(alloc: Global, n: usize, first: T) -> Result<(Self, Vec<TripleSeat<T>>), AllocError> {
-        let (table, rest) = FamilyTable::new(alloc, n, first)?;
+    fn make(
+        alloc: Global,
+        n: usize,
+        plan_limit: u64,
+        first: T,
+    ) -> Result<(Self, Vec<TripleSeat<T>>), AllocError> {
+        let (table, rest) = FamilyTable::new(alloc, n, plan_limit, first)?;
         let seats = seats_of(alloc, &table, n, first, rest)?;
         Ok((TripleFamily { table }, seats))
     }
@@ -154,7 +168,7 @@ impl<T: Lawful> Family<T> for TripleFamily<T> {
         table
             .rows
             .fill(&mut seat.seat, slot_place(cell, slot), item);
-        let middle = table.publish(&mut seat.seat, cell, slot + 4);
+        let middle = table.publish::<Brand>(&mut seat.seat, cell, slot + 4);
         turn_by(table, &mut seat.seat, 2 * others - before);
         seat.stored.fills[to] = middle % 4;
     }
@@ -241,4 +255,10 @@ impl<T: Lawful> Family<T> for TripleFamily<T> {
     }
 }
 
-impl<T: Kept> SharedFamily<T> for TripleFamily<T> {}
+impl<T: Planned> SoFar<T> for TripleFamily<T> {
+    fn so_far_from(&self, seat: &mut TripleSeat<T>) {
+        self.table.rows.all_so_far(&mut seat.seat);
+    }
+}
+
+impl<T: Kept + Planned> SharedFamily<T> for TripleFamily<T> {}

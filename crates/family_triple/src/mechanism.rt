@@ -7,15 +7,17 @@ ghost use Rattle.family_triple.specs.Triples.{CellRule, Any, first_view};
 ghost use Rattle.family_triple.specs.Tables.{Done};
 ghost use Rattle.family_triple.specs.Cells.{cell_tells, cell_hears, deaf, mute};
 ghost use Rattle.family_triple.specs.Ends.{cell_ends};
+ghost use Rattle.family_triple.specs.Keeping.{plan_heard};
+ghost use Rattle.family_triple.specs.Plans.{TriplePlan};
 
-use cell_contract::Lawful;
+use cell_contract::Planned;
 use cell_triple::TripleSight;
 use family_table::mechanism::Mechanism;
 
 /// The mechanism of the registers.
 pub struct TripleMechanism;
 
-impl<T: Lawful> Mechanism<T, TripleSight<T>> for TripleMechanism {
+impl<T: Planned> Mechanism<T, TripleSight<T>> for TripleMechanism {
     ghost layout = { triples };
 
     ghost blank = { Spent };
@@ -23,6 +25,8 @@ impl<T: Lawful> Mechanism<T, TripleSight<T>> for TripleMechanism {
     ghost keeps = { CellRule T.fits T.rises };
 
     ghost first = { first_view };
+
+    ghost plan = { TriplePlan T.plan };
 
     ghost idle = { Any };
 
@@ -43,4 +47,6 @@ impl<T: Lawful> Mechanism<T, TripleSight<T>> for TripleMechanism {
     ghost learns = { λ o. cell_hears T.fits T.rises o };
 
     ghost ends = { λ o. cell_ends T.fits T.rises o };
+
+    ghost stays = { λ o limit n i v r. plan_heard o n v r T.plan limit i };
 }

@@ -9,11 +9,13 @@ ghost use Rattle.family_table.specs.declared.notes.View.TheVariants.{Has};
 ghost use Rattle.family_triple.specs.Access.{HasLooked, IsReady};
 ghost use Rattle.history_core.specs.Others.{other};
 ghost use Rattle.family_triple.specs.Places.{among, triples, slot_at};
+ghost use Rattle.family_triple.specs.Plans.{plan_of, MayDecide, ShowsAll};
 ghost use Rattle.family_triple.specs.Tables.{HasReader};
 ghost use Rattle.family_triple.specs.Triples.{first_process};
 
 use crate::table::{FamilySeat, FamilyTable};
-use cell_contract::Lawful;
+use cell_contract::Planned;
+use family_table::notes::Opening;
 use family_table::place;
 
 /// The number of process `j` among the others of process `i`.
@@ -35,8 +37,9 @@ fn other(i: usize, k: usize) -> usize
 
 /// So many of the first slots of a seat go behind its others. Nothing is done at run time.
 #[inline]
-pub(crate) fn turn_by<T: Lawful>(table: &FamilyTable<T>, seat: &mut FamilySeat<T>, count: usize)
+pub(crate) fn turn_by<T: Planned>(table: &FamilyTable<T>, seat: &mut FamilySeat<T>, count: usize)
     ensures own { seat.new.inner.table_id ≡ seat.old.inner.table_id }
+    ensures view { seat.new.inner.me.0 ≡ seat.old.inner.me.0 }
     ensures turned { (front back : List (ℕ × T)) → seat.old.inner.me.1 ≡ front ++ back → length front ≡ count →
         seat.new.inner.me ≡ (seat.old.inner.me.0, back ++ front) }
 {
@@ -46,7 +49,7 @@ pub(crate) fn turn_by<T: Lawful>(table: &FamilyTable<T>, seat: &mut FamilySeat<T
 }
 
 /// Takes the first slots of a process: those that it writes, in turn, and then those that it reads.
-pub(crate) fn take_slots<T: Lawful>(
+pub(crate) fn take_slots<T: Planned>(
     table: &FamilyTable<T>,
     seat: &mut FamilySeat<T>,
     n: usize,
@@ -71,26 +74,31 @@ pub(crate) fn take_slots<T: Lawful>(
 
 /// Takes the slot in the middle in place of the seat's first, where the cell's word has the mark. Then the first slot has the answer.
 #[inline]
-pub(crate) fn newest<T: Lawful>(
+pub(crate) fn newest<T: Planned, K: Opening<T>>(
     table: &FamilyTable<T>,
     seat: &mut FamilySeat<T>,
     cell: usize,
     slot: u64,
 ) -> u64
+    requires opening { (K.first ≡ table.now.rows.inner.shared.key.first ∷ [])
+        × (K.processes ≡ table.now.rows.inner.shared.key.processes)
+        × (K.limit ≡ table.now.rows.inner.shared.key.limit) }
     requires own { seat.old.inner.table_id ≡ table.now.rows.inner.shared.table_id }
     requires place { cell < (triples table.now.rows.inner.shared.key.processes).cells }
     requires idle { (v : Process (TripleSight T)) × (g : ReaderNotes T) × (cs : List (ℕ × T)) × HasReader seat.old.inner.me cell v g
         × (seat.old.inner.me.1 ≡ (slot_at cell g.slot, g.at_hand.value) ∷ cs)
-        × (g.has ≡ 1) × (g.asked ≡ 0) × (g.slot < 3) × (slot ≡ g.slot) }
+        × (g.has ≡ 1) × (g.asked ≡ 0) × (g.slot < 3) × (slot ≡ g.slot)
+        × MayDecide (plan_of T.plan table.now.rows.inner.shared.key) v cell g }
     ensures own { seat.new.inner.table_id ≡ seat.old.inner.table_id }
     ensures looked { (v : Process (TripleSight T)) (g : ReaderNotes T) (cs : List (ℕ × T)) → HasReader seat.old.inner.me cell v g →
         seat.old.inner.me.1 ≡ (slot_at cell g.slot, g.at_hand.value) ∷ cs → g.slot < 3 → slot ≡ g.slot →
         HasLooked T.fits T.rises cell v g cs seat.new.inner.me result }
+    ensures shown { ShowsAll T.plan table.now.rows.inner.shared.key seat.new.inner.me }
 {
-    let found = table.look(seat, cell);
+    let found = table.look::<K>(seat, cell);
     if found < 4 {
         return slot;
     }
-    let middle = table.fetch(seat, cell, slot);
+    let middle = table.fetch::<K>(seat, cell, slot);
     middle % 4
 }

@@ -7,7 +7,7 @@ use crate::teams::lost::{late_receipt, lost_pass};
 use crate::teams::outside::told_from_outside;
 use crate::teams::rows::wrong_board;
 use board_live::{BoardError, Posted};
-use cell_contract::{Family, SharedFamily};
+use cell_contract::{SharedFamily, SoFar};
 use family_four_slot::FourSlotFamily;
 use family_triple::TripleFamily;
 use history_core::Band;
@@ -16,7 +16,7 @@ use std::test::Fail;
 use std::thread::Threads;
 
 /// What boards over this family don't keep that are called in one thread.
-fn wrong_alone<F: Family<Posted<Band>>>(alloc: Global) -> Result<Option<&'static str>, BoardError> {
+fn wrong_alone<F: SoFar<Posted<Band>>>(alloc: Global) -> Result<Option<&'static str>, BoardError> {
     if !late_receipt::<F>(alloc)? {
         return Ok(Some("a late receipt of a lost pass"));
     }
@@ -60,7 +60,7 @@ where
 }
 
 /// What boards and tasks over this family don't keep.
-fn wrong<R: Threads + Sync, F: SharedFamily<Posted<Band>>>(
+fn wrong<R: Threads + Sync, F: SharedFamily<Posted<Band>> + SoFar<Posted<Band>>>(
     rt: &R,
     alloc: Global,
 ) -> Result<Option<&'static str>, AllocError>

@@ -1,3 +1,4 @@
+mod Lacking
 mod Listed
 mod Latest
 mod Ordered
@@ -29,3 +30,5 @@ mod Opened
 mod Learning
 mod Noting
 mod Dealing
+mod OnePass
+mod Keeping

@@ -1,5 +1,5 @@
 -- The parts of a pass and of a call; the steps of a call are those of one access or of two.
-use Rattle.std.proofs.Common.{◌≡◌, ◌⊎◌, Bool, ℕ, ◌+◌, ◌-◌, ◌*◌, true, false, List, [], ◌∷◌, length, refl, sym, ◌∙◌, ap, subst, inl, inr}
+use Rattle.std.proofs.Common.{◌≡◌, ◌⊎◌, Bool, ℕ, ◌+◌, true, false, List, [], ◌∷◌, length, refl, ◌∙◌, ap, subst, inl, inr}
 use Rattle.std.proofs.Common.{arith}
 use Rattle.std.proofs.Common.{All, slice_get, Some}
 use Rattle.std.proofs.lemmas.List.Elements.{All-get_or}
@@ -8,7 +8,6 @@ use Rattle.matrix_core.specs.Choices.{IsAtMost}
 use Rattle.cell_contract.specs.Intervals.{IsHeeded}
 use Rattle.cell_contract.specs.declared.family.Family.{Ghosts as FamilyWords}
 use Rattle.board_history.specs.BoardRuns.{steps_of_call}
-use Rattle.board_live.specs.declared.board.Board.{Board}
 use Rattle.board_live.specs.declared.record.Posted.{Posted}
 use Rattle.board_live.specs.Records.{Rises, stamped}
 use Rattle.theorem_uses.specs.Passes.{AllPassesShow, CallsShow, MadeShows, PassesShow}
@@ -88,6 +87,9 @@ module _ {V F S T : Type 0} (words : FamilyWords F (Posted V) S T) (obeys : V �
     h.who,
     h.lawful,
     h.last,
+    h.limit,
+    h.made.0,
+    h.made.1,
   )
 
   pub all_passes : AllPassesShow words obeys

@@ -18,19 +18,20 @@ next p q w h = (
 )
 
 pub publishes : {D W : Type 0} → PublishesShow D W
-publishes writes last h k = (
-  handed.done writes last (λ p q (_ : Unit {0}). HasPublished p q) h k tt 0 refl,
-  handed.ended writes last (λ p q (_ : Unit {0}). HasPublished p q) h k tt 3 refl,
-  handed.worn_out writes last (λ p q (_ : Unit {0}). HasPublished p q) h k tt 4 refl,
-  handed.other writes last (λ p q (_ : Unit {0}). HasPublished p q) h k tt 5 refl,
+publishes code writes last h k = (
+  handed.done code writes last (λ p q (_ : Unit {0}). HasPublished p q) h k tt 0 refl,
+  handed.ended code writes last (λ p q (_ : Unit {0}). HasPublished p q) h k tt 3 refl,
+  handed.worn_out code writes last (λ p q (_ : Unit {0}). HasPublished p q) h k tt 4 refl,
+  handed.other code writes last (λ p q (_ : Unit {0}). HasPublished p q) h k tt 5 refl,
+  handed.cut_off code writes last (λ p q (_ : Unit {0}). HasPublished p q) h k tt 12 refl,
 )
 
 pub fillings : {D W : Type 0} → FillingsShow D W
-fillings {D} {W} writes last h k l w one filled published =
-    let made = (publishes writes last k l).0 published in
+fillings {D} {W} code writes last h k l w one filled published =
+    let made = (publishes code writes last k l).0 published in
     let p : TripleWriter W = filled.0 in
     let q : TripleWriter W = made.1 in
     let same : made.0 ≡ writer_with p w = one made.0 (writer_with p w) (sym made.3 ∙ filled.2.1) in
     let wrote : HasPublished (writer_with p w) q = subst (λ z. HasPublished z q) same made.6 in
     let shown = next (writer_with p w) q w wrote in
-    (p, q, filled.1.0, filled.1.1, filled.3, made.5, shown.1, shown.0, shown.2)
+    (p, q, filled.1.0, filled.1.1, filled.2.0 ∙ sym filled.1.0, made.5, shown.1, shown.0, shown.2)

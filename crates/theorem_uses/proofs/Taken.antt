@@ -1,15 +1,13 @@
 -- A status tells which case it was.
-use Rattle.std.proofs.Common.{◌≡◌, ◌≢◌, ℕ, refl, inl, inr, arith}
+use Rattle.std.proofs.Common.{◌≡◌, ◌≢◌, ℕ, refl, sym, ◌∙◌, inl, inr, arith}
 use Rattle.c_registers.specs.FourSlotCalls as four_slot
-use Rattle.c_registers.specs.Handles.{Holding, IsHold, IsLook, IsRead, LacksSide}
+use Rattle.c_registers.specs.Handles.{Holding, IsHold, IsLook, IsRead}
 use Rattle.c_registers.specs.Handles as handles
 use Rattle.c_registers.specs.Numbers.{numbered}
 use Rattle.c_registers.specs.TripleCalls.{at_hand, HasRead}
-use Rattle.c_registers.specs.TripleCalls as sides
 use Rattle.c_registers.specs.declared.numbered.Numbered.{Numbered}
-use Rattle.c_registers.specs.declared.triple.TripleWriter.{TripleWriter}
-use Rattle.theorem_uses.specs.Reads.{BacksShow, FilledSidesShow, FourSlotReadsShow, HoldStatusesShow, LacksShow, LentSidesShow}
-use Rattle.theorem_uses.specs.Reads.{LookStatusesShow, ReadStatusesShow, TripleReadsShow}
+use Rattle.theorem_uses.proofs.Lacking.{lacks_ended, lacks_other, lacks_cut_off, lacks_by_three}
+use Rattle.theorem_uses.specs.Reads.{BacksShow, FourSlotReadsShow, HoldStatusesShow, LookStatusesShow, ReadStatusesShow, TripleReadsShow}
 
 pub four_slot_reads : {W : Type 0} → FourSlotReadsShow W
 four_slot_reads g h a read = (
@@ -36,90 +34,100 @@ triple_reads g h a read = (
   read.written,
 )
 
-module _ {D G W : Type 0} (reads : G → D) (h k : Holding D) (has_read : G → G → Numbered W → Type 0) (item item' : W) (number number' : ℕ) where
-  read_done : (n : ℕ) → n ≡ 0 → IsRead reads has_read h k item item' number number' n → (p : G) × (q : G) × (h.live ≢ 0)
-      × (h.side ≡ reads p) × (k.live ≢ 0) × (k.side ≡ reads q) × has_read p q (numbered number' item')
+module _ {D G W : Type 0} (code : ℕ) (reads : G → D) (h k : Holding D) (has_read : G → G → Numbered W → Type 0) (item item' : W) (number number' : ℕ) where
+  abbrev Was : ℕ → Type 0
+  Was n = IsRead code reads has_read h k item item' number number' n
+
+  read_done : (n : ℕ) → n ≡ 0 → Was n → (p : G) × (q : G) × (h.live ≡ code) × (h.side ≡ reads p) × (k.live ≡ code) × (k.side ≡ reads q)
+      × has_read p q (numbered number' item')
   read_done n e (handles.done p q had has read) = (p, q, had.0, had.1, has.0, has.1, read)
-  read_done n e (handles.ended gone keeps same counted) = absurd (omega (arith, e))
-  read_done n e (handles.other had keeps same counted) = absurd (omega (arith, e))
+  read_done n e (handles.refused r same counted) = absurd (let least = lacks_by_three n r.1 in omega (arith, e, least))
 
-  read_ended : (n : ℕ) → n ≡ 3 → IsRead reads has_read h k item item' number number' n → (h.live ≡ 0) × (k.live ≡ 0)
-      × (k.side ≡ h.side) × (item' ≡ item) × (number' ≡ number)
+  read_ended : (n : ℕ) → n ≡ 3 → Was n → (h.live ≡ 0) × (k ≡ h) × (item' ≡ item) × (number' ≡ number)
   read_ended n e (handles.done p q had has read) = absurd (omega (arith, e))
-  read_ended n e (handles.ended gone keeps same counted) = (gone, keeps.1.1 gone, keeps.0, same, counted)
-  read_ended n e (handles.other had keeps same counted) = absurd (omega (arith, e))
+  read_ended n e (handles.refused r same counted) = (lacks_ended n e r.1, r.2, same, counted)
 
-  read_other : (n : ℕ) → n ≡ 5 → IsRead reads has_read h k item item' number number' n → (h.live ≢ 0) × ((p : G) → h.side ≢ reads p)
-      × (k.live ≢ 0) × (k.side ≡ h.side) × (item' ≡ item) × (number' ≡ number)
+  read_other : (n : ℕ) → n ≡ 5 → Was n → (h.live ≢ 0) × (h.live ≢ code) × (k ≡ h) × (item' ≡ item) × (number' ≡ number)
   read_other n e (handles.done p q had has read) = absurd (omega (arith, e))
-  read_other n e (handles.ended gone keeps same counted) = absurd (omega (arith, e))
-  read_other n e (handles.other had keeps same counted) = (had.0, had.1, λ z. had.0 (keeps.1.0 z), keeps.0, same, counted)
+  read_other n e (handles.refused r same counted) = ((lacks_other n e r.1).0, r.0, r.2, same, counted)
 
-module _ {D G W : Type 0} (reads : G → D) (h k : Holding D) (has_read : G → G → Numbered W → Type 0) (number number' : ℕ) where
-  look_done : (n : ℕ) → n ≡ 0 → IsLook reads has_read h k number number' n → (p : G) × (q : G) × (w : W) × (h.live ≢ 0)
-      × (h.side ≡ reads p) × (k.live ≢ 0) × (k.side ≡ reads q) × has_read p q (numbered number' w)
+  read_cut_off : (n : ℕ) → n ≡ 12 → Was n → (h.live ≡ 255) × (k ≡ h) × (item' ≡ item) × (number' ≡ number)
+  read_cut_off n e (handles.done p q had has read) = absurd (omega (arith, e))
+  read_cut_off n e (handles.refused r same counted) = (lacks_cut_off n e r.1, r.2, same, counted)
+
+module _ {D G W : Type 0} (code : ℕ) (reads : G → D) (h k : Holding D) (has_read : G → G → Numbered W → Type 0) (number number' : ℕ) where
+  abbrev Saw : ℕ → Type 0
+  Saw n = IsLook code reads has_read h k number number' n
+
+  look_done : (n : ℕ) → n ≡ 0 → Saw n → (p : G) × (q : G) × (w : W) × (h.live ≡ code) × (h.side ≡ reads p) × (k.live ≡ code)
+      × (k.side ≡ reads q) × has_read p q (numbered number' w)
   look_done n e (handles.done p q w had has read) = (p, q, w, had.0, had.1, has.0, has.1, read)
-  look_done n e (handles.ended gone keeps counted) = absurd (omega (arith, e))
-  look_done n e (handles.other had keeps counted) = absurd (omega (arith, e))
+  look_done n e (handles.refused r counted) = absurd (let least = lacks_by_three n r.1 in omega (arith, e, least))
 
-  look_ended : (n : ℕ) → n ≡ 3 → IsLook reads has_read h k number number' n → (h.live ≡ 0) × (k.live ≡ 0) × (k.side ≡ h.side)
-      × (number' ≡ number)
+  look_ended : (n : ℕ) → n ≡ 3 → Saw n → (h.live ≡ 0) × (k ≡ h) × (number' ≡ number)
   look_ended n e (handles.done p q w had has read) = absurd (omega (arith, e))
-  look_ended n e (handles.ended gone keeps counted) = (gone, keeps.1.1 gone, keeps.0, counted)
-  look_ended n e (handles.other had keeps counted) = absurd (omega (arith, e))
+  look_ended n e (handles.refused r counted) = (lacks_ended n e r.1, r.2, counted)
 
-  look_other : (n : ℕ) → n ≡ 5 → IsLook reads has_read h k number number' n → (h.live ≢ 0) × ((p : G) → h.side ≢ reads p)
-      × (k.live ≢ 0) × (k.side ≡ h.side) × (number' ≡ number)
+  look_other : (n : ℕ) → n ≡ 5 → Saw n → (h.live ≢ 0) × (h.live ≢ code) × (k ≡ h) × (number' ≡ number)
   look_other n e (handles.done p q w had has read) = absurd (omega (arith, e))
-  look_other n e (handles.ended gone keeps counted) = absurd (omega (arith, e))
-  look_other n e (handles.other had keeps counted) = (had.0, had.1, λ z. had.0 (keeps.1.0 z), keeps.0, counted)
+  look_other n e (handles.refused r counted) = ((lacks_other n e r.1).0, r.0, r.2, counted)
 
-module _ {D G W : Type 0} (reads : G → D) (h : Holding D) (at_hand : G → Numbered W) (seen seen' : W) where
-  hold_done : (n : ℕ) → n ≡ 0 → IsHold reads at_hand h seen seen' n → (g : G) × (h.live ≢ 0) × (h.side ≡ reads g)
-      × (seen' ≡ (at_hand g).words)
+  look_cut_off : (n : ℕ) → n ≡ 12 → Saw n → (h.live ≡ 255) × (k ≡ h) × (number' ≡ number)
+  look_cut_off n e (handles.done p q w had has read) = absurd (omega (arith, e))
+  look_cut_off n e (handles.refused r counted) = (lacks_cut_off n e r.1, r.2, counted)
+
+module _ {D G W : Type 0} (code : ℕ) (reads : G → D) (h : Holding D) (at_hand : G → Numbered W) (seen seen' : W) where
+  abbrev Held : ℕ → Type 0
+  Held n = IsHold code reads at_hand h seen seen' n
+
+  hold_done : (n : ℕ) → n ≡ 0 → Held n → (g : G) × (h.live ≡ code) × (h.side ≡ reads g) × (seen' ≡ (at_hand g).words)
   hold_done n e (handles.done g had leads) = (g, had.0, had.1, leads)
-  hold_done n e (handles.ended gone same) = absurd (omega (arith, e))
-  hold_done n e (handles.other had same) = absurd (omega (arith, e))
+  hold_done n e (handles.refused not lacking same) = absurd (let least = lacks_by_three n lacking in omega (arith, e, least))
 
-  hold_ended : (n : ℕ) → n ≡ 3 → IsHold reads at_hand h seen seen' n → (h.live ≡ 0) × (seen' ≡ seen)
+  hold_ended : (n : ℕ) → n ≡ 3 → Held n → (h.live ≡ 0) × (seen' ≡ seen)
   hold_ended n e (handles.done g had leads) = absurd (omega (arith, e))
-  hold_ended n e (handles.ended gone same) = (gone, same)
-  hold_ended n e (handles.other had same) = absurd (omega (arith, e))
+  hold_ended n e (handles.refused not lacking same) = (lacks_ended n e lacking, same)
 
-  hold_other : (n : ℕ) → n ≡ 5 → IsHold reads at_hand h seen seen' n → (h.live ≢ 0) × ((g : G) → h.side ≢ reads g) × (seen' ≡ seen)
+  hold_other : (n : ℕ) → n ≡ 5 → Held n → (h.live ≢ 0) × (h.live ≢ code) × (seen' ≡ seen)
   hold_other n e (handles.done g had leads) = absurd (omega (arith, e))
-  hold_other n e (handles.ended gone same) = absurd (omega (arith, e))
-  hold_other n e (handles.other had same) = (had.0, had.1, same)
+  hold_other n e (handles.refused not lacking same) = ((lacks_other n e lacking).0, not, same)
+
+  hold_cut_off : (n : ℕ) → n ≡ 12 → Held n → (h.live ≡ 255) × (seen' ≡ seen)
+  hold_cut_off n e (handles.done g had leads) = absurd (omega (arith, e))
+  hold_cut_off n e (handles.refused not lacking same) = (lacks_cut_off n e lacking, same)
 
 module _ {D W : Type 0} where
   pub read_statuses : ReadStatusesShow D W
-  read_statuses reads h k item item' number number' = (
-    read_done reads h k four_slot.HasRead item item' number number' 0 refl,
-    read_ended reads h k four_slot.HasRead item item' number number' 3 refl,
-    read_other reads h k four_slot.HasRead item item' number number' 5 refl,
+  read_statuses code reads h k item item' number number' = (
+    read_done code reads h k four_slot.HasRead item item' number number' 0 refl,
+    read_ended code reads h k four_slot.HasRead item item' number number' 3 refl,
+    read_other code reads h k four_slot.HasRead item item' number number' 5 refl,
+    read_cut_off code reads h k four_slot.HasRead item item' number number' 12 refl,
   )
 
   pub look_statuses : LookStatusesShow D W
-  look_statuses reads h k number number' = (
-    look_done reads h k HasRead number number' 0 refl,
-    look_ended reads h k HasRead number number' 3 refl,
-    look_other reads h k HasRead number number' 5 refl,
+  look_statuses code reads h k number number' = (
+    look_done code reads h k HasRead number number' 0 refl,
+    look_ended code reads h k HasRead number number' 3 refl,
+    look_other code reads h k HasRead number number' 5 refl,
+    look_cut_off code reads h k HasRead number number' 12 refl,
   )
 
   pub hold_statuses : HoldStatusesShow D W
-  hold_statuses reads h seen seen' = (
-    hold_done reads h at_hand seen seen' 0 refl,
-    hold_ended reads h at_hand seen seen' 3 refl,
-    hold_other reads h at_hand seen seen' 5 refl,
+  hold_statuses code reads h seen seen' = (
+    hold_done code reads h at_hand seen seen' 0 refl,
+    hold_ended code reads h at_hand seen seen' 3 refl,
+    hold_other code reads h at_hand seen seen' 5 refl,
+    hold_cut_off code reads h at_hand seen seen' 12 refl,
   )
 
   pub backs : BacksShow D W
-  backs reads h k (handles.reader f g had has live stays) = inl (
+  backs code reads h k (handles.reader f g had has stays) = inl (
     f,
     g,
     had.0,
     had.1,
-    live,
+    has.0 ∙ sym had.0,
     has.1,
     stays.same,
     stays.pass.table,
@@ -127,24 +135,4 @@ module _ {D W : Type 0} where
     stays.pass.slot,
     stays.pass.spare,
   )
-  backs reads h k (handles.ended gone same) = inr (same, inl gone)
-  backs reads h k (handles.other had same) = inr (same, inr had)
-
-  lacks_any : (writes : TripleWriter W → D) (h : Holding D) (n : ℕ) → n ≡ 3 → LacksSide writes h n → h.live ≡ 0
-  lacks_any writes h n e (handles.ended gone) = gone
-  lacks_any writes h n e (handles.other had) = absurd (omega (arith, e))
-
-  lacks_such : (writes : TripleWriter W → D) (h : Holding D) (n : ℕ) → n ≡ 5 → LacksSide writes h n →
-      (h.live ≢ 0) × ((p : TripleWriter W) → h.side ≢ writes p)
-  lacks_such writes h n e (handles.ended gone) = absurd (omega (arith, e))
-  lacks_such writes h n e (handles.other had) = had
-
-  pub lacks : LacksShow D W
-  lacks writes h = (lacks_any writes h 3 refl, lacks_such writes h 5 refl)
-
-  pub lent_sides : LentSidesShow D W
-  lent_sides reads d d' (sides.reader g h was is stays) = inl (g, h, was, is, stays)
-  lent_sides reads d d' (sides.other without same) = inr (without, same)
-
-  pub filled_sides : FilledSidesShow D W
-  filled_sides writes d d' w filled = filled
+  backs code reads h k (handles.refused not same) = inr (same, not)

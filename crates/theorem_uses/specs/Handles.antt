@@ -13,17 +13,16 @@ use Rattle.c_registers.specs.Numbers.{numbered}
 use Rattle.c_registers.specs.declared.four_slot.FourSlotWriter.{FourSlotWriter}
 
 module _ (D W : Type 0) where
-  -- with status 0 the handle had a side of the cell and has it after the write; with any other it has what it had
+  -- with status 0 the handle had a side of the cell and has it after the write; with any other it is what it was
   abbrev pub StatusesShow : Type 0
-  StatusesShow = (writes : FourSlotWriter W → D) (last : FourSlotWriter W → ℕ) (h k : Holding D) (item : W) →
-      (IsWrite writes last HasWritten h k item 0 → (p : FourSlotWriter W) × (q : FourSlotWriter W) × (h.live ≢ 0) × (h.side ≡ writes p)
-      × (k.live ≢ 0)
-      × (k.side ≡ writes q) × HasWritten p q item)
-      × (IsWrite writes last HasWritten h k item 3 → (h.live ≡ 0) × (k.live ≡ 0) × (k.side ≡ h.side))
-      × (IsWrite writes last HasWritten h k item 4 → (p : FourSlotWriter W) × (h.live ≢ 0) × (h.side ≡ writes p) × (2 ^ 64 ≤ last p + 1)
-      × (k.live ≢ 0) × (k.side ≡ h.side))
-      × (IsWrite writes last HasWritten h k item 5 → (h.live ≢ 0) × ((p : FourSlotWriter W) → h.side ≢ writes p) × (k.live ≢ 0)
-      × (k.side ≡ h.side))
+  StatusesShow = (code : ℕ) (writes : FourSlotWriter W → D) (last : FourSlotWriter W → ℕ) (h k : Holding D) (item : W) →
+      (IsWrite code writes last HasWritten h k item 0 → (p : FourSlotWriter W) × (q : FourSlotWriter W) × (h.live ≡ code)
+      × (h.side ≡ writes p) × (k.live ≡ code) × (k.side ≡ writes q) × HasWritten p q item)
+      × (IsWrite code writes last HasWritten h k item 3 → (h.live ≡ 0) × (k ≡ h))
+      × (IsWrite code writes last HasWritten h k item 4 → (p : FourSlotWriter W) × (h.live ≡ code) × (h.side ≡ writes p)
+      × (2 ^ 64 ≤ last p + 1) × (k ≡ h))
+      × (IsWrite code writes last HasWritten h k item 5 → (h.live ≢ 0) × (h.live ≢ code) × (k ≡ h))
+      × (IsWrite code writes last HasWritten h k item 12 → (h.live ≡ 255) × (k ≡ h))
 
 module _ (W : Type 0) where
   -- the cell is the same, and has the record under the next number, by two accesses or three

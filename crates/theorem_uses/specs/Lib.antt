@@ -22,3 +22,5 @@ pub mod Ends
 pub mod Passing
 pub mod Terms
 pub mod SoFar
+pub mod OnePass
+pub mod Planned

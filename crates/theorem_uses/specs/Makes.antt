@@ -1,5 +1,5 @@
 -- Consequences of a make and an end through C, by its status (this project's own).
-use Rattle.std.specs.Prelude.{◌≡◌, ◌≢◌, ◌⊎◌, []}
+use Rattle.std.specs.Prelude.{◌≡◌, ◌≢◌, ◌⊎◌, ℕ, []}
 use Rattle.std.specs.Arc.{arc_value}
 use Rattle.cell_contract.specs.Intervals.{no_times, none_known}
 use Rattle.cell_four_slot.specs.Words as four
@@ -29,18 +29,21 @@ module _ (W : Type 0) where
       × (triple.put_times p.room.inner.put ≡ no_times) × (triple.get_times g.room.inner.get ≡ no_times)
       × (triple.numbers_of g.room.inner.get ≡ []) × (triple.known_to g.room.inner.get ≡ none_known)
 
-module _ (D W : Type 0) where
-  -- with status 0 both handles were empty, and have the two sides; with any other they have what they had
+module _ (D E W : Type 0) where
+  -- with status 0 both handles were empty, and have the two sides; with any other they are what they were
   abbrev pub MakeStatusesShow : Type 0
-  MakeStatusesShow = (writes : FourSlotWriter W → D) (reads : FourSlotReader W → D) (w r w' r' : Holding D) (first : W) →
-      (IsMake writes reads four_slot.IsMade w r w' r' first 0 → (p : FourSlotWriter W) × (g : FourSlotReader W) × (w.live ≡ 0)
-      × (r.live ≡ 0) × (w'.live ≢ 0) × (w'.side ≡ writes p) × (r'.live ≢ 0) × (r'.side ≡ reads g) × four_slot.IsMade p g first)
-      × (IsMake writes reads four_slot.IsMade w r w' r' first 1 → (w.live ≡ 0) × (r.live ≡ 0) × (w' ≡ w) × (r' ≡ r))
-      × (IsMake writes reads four_slot.IsMade w r w' r' first 2 → ((w.live ≢ 0) ⊎ (r.live ≢ 0)) × (w' ≡ w) × (r' ≡ r))
+  MakeStatusesShow = (c d : ℕ) (writes : FourSlotWriter W → D) (reads : FourSlotReader W → E) (w w' : Holding D) (r r' : Holding E)
+      (first : W) →
+      (IsMake (c, d) writes reads four_slot.IsMade w r w' r' first 0 → (p : FourSlotWriter W) × (g : FourSlotReader W) × (w.live ≡ 0)
+      × (r.live ≡ 0) × (w'.live ≡ c) × (w'.side ≡ writes p) × (r'.live ≡ d) × (r'.side ≡ reads g) × four_slot.IsMade p g first)
+      × (IsMake (c, d) writes reads four_slot.IsMade w r w' r' first 1 → (w.live ≡ 0) × (r.live ≡ 0) × (w' ≡ w) × (r' ≡ r))
+      × (IsMake (c, d) writes reads four_slot.IsMade w r w' r' first 2 → ((w.live ≢ 0) ⊎ (r.live ≢ 0)) × (w' ≡ w) × (r' ≡ r))
 
-  -- with status 0 the handle had such a side and has none; with any other it has what it had
+module _ (D : Type 0) where
+  -- with status 0 the handle had such a side and has none; with any other it is what it was
   abbrev pub EndStatusesShow : Type 0
-  EndStatusesShow = (reads : FourSlotReader W → D) (h k : Holding D) →
-      (IsEnd reads h k 0 → (g : FourSlotReader W) × (h.live ≢ 0) × (h.side ≡ reads g) × (k.live ≡ 0))
-      × (IsEnd reads h k 3 → (h.live ≡ 0) × (k.live ≡ 0) × (k.side ≡ h.side))
-      × (IsEnd reads h k 5 → (h.live ≢ 0) × ((g : FourSlotReader W) → h.side ≢ reads g) × (k.live ≢ 0) × (k.side ≡ h.side))
+  EndStatusesShow = (code : ℕ) (h k : Holding D) →
+      (IsEnd code h k 0 → (h.live ≡ code) × (k.live ≡ 0))
+      × (IsEnd code h k 3 → (h.live ≡ 0) × (k ≡ h))
+      × (IsEnd code h k 5 → (h.live ≢ 0) × (h.live ≢ code) × (k ≡ h))
+      × (IsEnd code h k 12 → (h.live ≡ 255) × (k ≡ h))

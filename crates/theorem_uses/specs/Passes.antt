@@ -36,8 +36,8 @@ module _ {V F S T : Type 0} (words : FamilyWords F (Posted V) S T) (obeys : V �
       (HasMade words board pass [] → (stamped pass.own ≡ stamped board.first) × (words.times pass.seat ≡ []))
       × ((call : Called V) → HasMade words board pass (call ∷ []) → stamped pass.own ≡ call.chosen)
 
-  -- a pass is one of 2 to 16 processes of its board, whose seat it has, with room for all seats if it is the last one; its own record obeys
-  -- its law, and each other process was shown it last
+  -- a pass is one of 2 to 16 processes of its board, whose seat it has, with room for all seats if it is the last one; its
+  -- own record obeys its law, and each other process was shown it last; and some calls were made with it, within the limit
   abbrev pub PassesShow : Type 0
   PassesShow = (board : Board V F S T) (pass : Pass V F S T) → IsPass words obeys board pass →
       (2 ≤ board.processes) × (board.processes ≤ 16) × (0 < words.width) × (words.processes board.family ≡ board.processes)
@@ -45,6 +45,7 @@ module _ {V F S T : Type 0} (words : FamilyWords F (Posted V) S T) (obeys : V �
       × (pass.process < board.processes) × (pass.process + 1 ≡ board.processes → board.processes ≤ vec_capacity pass.room)
       × (pass.room.items ≡ []) × words.is_seat board.family pass.seat × (words.who pass.seat ≡ pass.process) × IsTrue (obeys pass.own.item)
       × ((j : ℕ) → j < board.processes → j ≢ pass.process → last_or board.first (words.writes pass.seat j).items ≡ pass.own)
+      × (words.limit board.family ≡ board.limit) × (calls : List (Called V)) × HasMade words board pass calls
 
   -- the passes of all processes stand in the order of their numbers
   abbrev pub AllPassesShow : Type 0

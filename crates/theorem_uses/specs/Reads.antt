@@ -8,11 +8,10 @@ use Rattle.cell_triple.specs.Words as triple
 use Rattle.c_registers.specs.FourSlotCalls as four_slot
 use Rattle.c_registers.specs.Handles.{Holding, IsBack, IsHold, IsLook, IsRead, LacksSide}
 use Rattle.c_registers.specs.Numbers.{Always, IsNoEarlier, numbered}
-use Rattle.c_registers.specs.TripleCalls.{at_hand, FilledAmong, HasRead, Stays, StaysAmong, writer_with}
+use Rattle.c_registers.specs.TripleCalls.{at_hand, HasRead, Stays}
 use Rattle.c_registers.specs.declared.numbered.Numbered.{Numbered}
 use Rattle.c_registers.specs.declared.four_slot.FourSlotReader.{FourSlotReader}
 use Rattle.c_registers.specs.declared.triple.TripleReader.{TripleReader}
-use Rattle.c_registers.specs.declared.triple.TripleWriter.{TripleWriter}
 
 module _ (W : Type 0) where
   -- a read over four slots answers one record more, of the same cell, by two accesses or three: an answer of the running cell, and the record
@@ -44,55 +43,47 @@ module _ (W : Type 0) where
       (triple.get_times h.room.inner.get) a
 
 module _ (D W : Type 0) where
-  -- with status 0 the handle had a reading side, which has read just this; with any other it has what it had, and so do record and number
+  -- with status 0 the handle had a reading side, which has read just this; with any other it is what it was, and so are record and number
   abbrev pub ReadStatusesShow : Type 0
-  ReadStatusesShow = (reads : FourSlotReader W → D) (h k : Holding D) (item item' : W) (number number' : ℕ) →
-      (IsRead reads four_slot.HasRead h k item item' number number' 0 → (p : FourSlotReader W) × (q : FourSlotReader W) × (h.live ≢ 0)
-      × (h.side ≡ reads p) × (k.live ≢ 0) × (k.side ≡ reads q) × four_slot.HasRead p q (numbered number' item'))
-      × (IsRead reads four_slot.HasRead h k item item' number number' 3 → (h.live ≡ 0) × (k.live ≡ 0) × (k.side ≡ h.side)
+  ReadStatusesShow = (code : ℕ) (reads : FourSlotReader W → D) (h k : Holding D) (item item' : W) (number number' : ℕ) →
+      (IsRead code reads four_slot.HasRead h k item item' number number' 0 → (p : FourSlotReader W) × (q : FourSlotReader W)
+      × (h.live ≡ code) × (h.side ≡ reads p) × (k.live ≡ code) × (k.side ≡ reads q) × four_slot.HasRead p q (numbered number' item'))
+      × (IsRead code reads four_slot.HasRead h k item item' number number' 3 → (h.live ≡ 0) × (k ≡ h) × (item' ≡ item)
+      × (number' ≡ number))
+      × (IsRead code reads four_slot.HasRead h k item item' number number' 5 → (h.live ≢ 0) × (h.live ≢ code) × (k ≡ h)
       × (item' ≡ item) × (number' ≡ number))
-      × (IsRead reads four_slot.HasRead h k item item' number number' 5 → (h.live ≢ 0)
-      × ((p : FourSlotReader W) → h.side ≢ reads p) × (k.live ≢ 0) × (k.side ≡ h.side) × (item' ≡ item) × (number' ≡ number))
+      × (IsRead code reads four_slot.HasRead h k item item' number number' 12 → (h.live ≡ 255) × (k ≡ h) × (item' ≡ item)
+      × (number' ≡ number))
 
   -- a look is a read whose record isn't given
   abbrev pub LookStatusesShow : Type 0
-  LookStatusesShow = (reads : TripleReader W → D) (h k : Holding D) (number number' : ℕ) →
-      (IsLook reads HasRead h k number number' 0 → (p : TripleReader W) × (q : TripleReader W) × (w : W) × (h.live ≢ 0)
-      × (h.side ≡ reads p) × (k.live ≢ 0) × (k.side ≡ reads q) × HasRead p q (numbered number' w))
-      × (IsLook reads HasRead h k number number' 3 → (h.live ≡ 0) × (k.live ≡ 0) × (k.side ≡ h.side) × (number' ≡ number))
-      × (IsLook reads HasRead h k number number' 5 → (h.live ≢ 0) × ((p : TripleReader W) → h.side ≢ reads p) × (k.live ≢ 0)
-      × (k.side ≡ h.side) × (number' ≡ number))
+  LookStatusesShow = (code : ℕ) (reads : TripleReader W → D) (h k : Holding D) (number number' : ℕ) →
+      (IsLook code reads HasRead h k number number' 0 → (p : TripleReader W) × (q : TripleReader W) × (w : W) × (h.live ≡ code)
+      × (h.side ≡ reads p) × (k.live ≡ code) × (k.side ≡ reads q) × HasRead p q (numbered number' w))
+      × (IsLook code reads HasRead h k number number' 3 → (h.live ≡ 0) × (k ≡ h) × (number' ≡ number))
+      × (IsLook code reads HasRead h k number number' 5 → (h.live ≢ 0) × (h.live ≢ code) × (k ≡ h) × (number' ≡ number))
+      × (IsLook code reads HasRead h k number number' 12 → (h.live ≡ 255) × (k ≡ h) × (number' ≡ number))
 
   -- with status 0 a hold leads to the record at hand, and with any other to what it led to
   abbrev pub HoldStatusesShow : Type 0
-  HoldStatusesShow = (reads : TripleReader W → D) (h : Holding D) (seen seen' : W) →
-      (IsHold reads at_hand h seen seen' 0 → (g : TripleReader W) × (h.live ≢ 0) × (h.side ≡ reads g) × (seen' ≡ (at_hand g).words))
-      × (IsHold reads at_hand h seen seen' 3 → (h.live ≡ 0) × (seen' ≡ seen))
-      × (IsHold reads at_hand h seen seen' 5 → (h.live ≢ 0) × ((g : TripleReader W) → h.side ≢ reads g) × (seen' ≡ seen))
+  HoldStatusesShow = (code : ℕ) (reads : TripleReader W → D) (h : Holding D) (seen seen' : W) →
+      (IsHold code reads at_hand h seen seen' 0 → (g : TripleReader W) × (h.live ≡ code) × (h.side ≡ reads g)
+      × (seen' ≡ (at_hand g).words))
+      × (IsHold code reads at_hand h seen seen' 3 → (h.live ≡ 0) × (seen' ≡ seen))
+      × (IsHold code reads at_hand h seen seen' 5 → (h.live ≢ 0) × (h.live ≢ code) × (seen' ≡ seen))
+      × (IsHold code reads at_hand h seen seen' 12 → (h.live ≡ 255) × (seen' ≡ seen))
 
   -- once the record is back, the handle has its side, which has its cell, knows what it knew and holds the slot that it held; or it is as
   -- it was
   abbrev pub BacksShow : Type 0
-  BacksShow = (reads : TripleReader W → D) (h k : Holding D) → IsBack reads Stays h k →
-      ((f : TripleReader W) × (g : TripleReader W) × (h.live ≢ 0) × (h.side ≡ reads f) × (k.live ≡ h.live) × (k.side ≡ reads g)
+  BacksShow = (code : ℕ) (reads : TripleReader W → D) (h k : Holding D) → IsBack code reads Stays h k →
+      ((f : TripleReader W) × (g : TripleReader W) × (h.live ≡ code) × (h.side ≡ reads f) × (k.live ≡ h.live) × (k.side ≡ reads g)
       × (g.room.inner.cell ≡ f.room.inner.cell)
       × (g.room.inner.get.seat.inner.table_id ≡ f.room.inner.get.seat.inner.table_id)
       × (g.room.inner.get.seat.inner.me ≡ f.room.inner.get.seat.inner.me) × (g.room.inner.get.slot ≡ f.room.inner.get.slot)
       × (g.room.inner.get.spare ≡ f.room.inner.get.spare))
-      ⊎ ((k ≡ h) × ((h.live ≡ 0) ⊎ ((h.live ≢ 0) × ((g : TripleReader W) → h.side ≢ reads g))))
+      ⊎ ((k ≡ h) × (h.live ≢ code))
 
-  -- a side is lacking by status 3 if there is none, and by status 5 if there is another one
-  abbrev pub LacksShow : Type 0
-  LacksShow = (writes : TripleWriter W → D) (h : Holding D) → (LacksSide writes h 3 → h.live ≡ 0)
-      × (LacksSide writes h 5 → (h.live ≢ 0) × ((p : TripleWriter W) → h.side ≢ writes p))
-
-  -- a side that stays is a reader's that stays, or no reader's and as it was
-  abbrev pub LentSidesShow : Type 0
-  LentSidesShow = (reads : TripleReader W → D) (d d' : D) → StaysAmong reads d d' →
-      ((g : TripleReader W) × (h : TripleReader W) × (d ≡ reads g) × (d' ≡ reads h) × Stays g h)
-      ⊎ (((g : TripleReader W) → d ≢ reads g) × (d' ≡ d))
-
-  -- a side with other words in its slot is of the writing side that it was
-  abbrev pub FilledSidesShow : Type 0
-  FilledSidesShow = (writes : TripleWriter W → D) (d d' : D) (w : W) → FilledAmong writes d d' w →
-      (p : TripleWriter W) × (d ≡ writes p) × (d' ≡ writes (writer_with p w))
+-- a side is lacking by status 3 if there is none, by status 5 if there is another one, and by status 12 if its call was cut off
+abbrev pub LacksShow : Type 0
+LacksShow = (live : ℕ) → (LacksSide live 3 → live ≡ 0) × (LacksSide live 5 → (live ≢ 0) × (live ≢ 255)) × (LacksSide live 12 → live ≡ 255)

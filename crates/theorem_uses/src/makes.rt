@@ -8,7 +8,7 @@ pub fn makes_show<W>()
 {}
 
 /// Whatever handles can have, a make or an end with status 0 was made, and with any other status nothing was.
-pub fn make_statuses_show<D, W>()
-    ensures makes { MakeStatusesShow D W }
-    ensures ends { EndStatusesShow D W }
+pub fn make_statuses_show<D, E, W>()
+    ensures makes { MakeStatusesShow D E W }
+    ensures ends { EndStatusesShow D }
 {}

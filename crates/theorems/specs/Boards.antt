@@ -10,6 +10,7 @@ use Rattle.board_live.specs.declared.board.TagsEnded.{TagsEnded}
 use Rattle.board_live.specs.declared.record.Posted.{Posted}
 use Rattle.board_live.specs.Ends.{AllAtomic, HaveAtomicOrder, IsGreatest, standing}
 use Rattle.board_live.specs.Passes.{ChoosesStamp, IsCall, IsKnown, kind_of}
+use Rattle.board_live.specs.SoFar.{HaveAtomicOrderSoFar}
 
 module _ {V F S T : Type 0} (words : FamilyWords F (Posted V) S T) where
   -- what is shown of all passes at once: the greatest of their records, the calls atomic by their intervals, and each register
@@ -34,11 +35,15 @@ module _ {V F S T : Type 0} (words : FamilyWords F (Posted V) S T) (obeys : V �
     pub reads : IsCall words obeys board Read pass between read
     pub read_known : IsKnown words board pass between read
     pub read_chosen : between.own ≡ read
+    -- and when it ends all calls of all processes so far, ended or cut off, have one atomic order in which it stands, whatever the others
+    -- do then, and also if one of them was stopped for ever
+    pub read_atomic : HaveAtomicOrderSoFar words board between
     -- the write is a call, of a record that is known; it chooses the item with the next stamp, or is refused at the limit
     pub seen : Posted V
     pub writes : IsCall words obeys board (kind_of wrote) between after seen
     pub write_known : IsKnown words board between after seen
     pub write_chosen : ChoosesStamp board.limit between.process item seen after.own wrote
+    pub write_atomic : HaveAtomicOrderSoFar words board after
     -- all calls that were made are atomic by their intervals, while the board goes on and at its end
     pub so_far : AllAreShown words board (others ++ after ∷ []) shown
     pub still : map standing final ≡ map standing (others ++ after ∷ [])

@@ -2,7 +2,7 @@
 use super::{A, B, C, OPENING};
 use board_live::{BoardError, Posted, TagsEnded};
 use board_teams::Team;
-use cell_contract::Family;
+use cell_contract::{Family, SoFar};
 use history_core::Band;
 use matrix_core::Stamp;
 use std::alloc::Global;
@@ -48,8 +48,8 @@ pub fn late_receipt<F: Family<Posted<Band>>>(alloc: Global) -> Result<bool, Boar
     Ok(first & second & third & seen)
 }
 
-/// Process 1 writes, and its pass is lost.
-pub fn lost_pass<F: Family<Posted<Band>>>(alloc: Global) -> Result<bool, BoardError> {
+/// Process 1 writes, and its pass is lost. The other pass shows all calls so far, and goes on as before.
+pub fn lost_pass<F: SoFar<Posted<Band>>>(alloc: Global) -> Result<bool, BoardError> {
     let Team { board, mut passes } = Team::<F>::new(alloc, 2, 9, OPENING)?;
     let Some(mut lost) = passes.pop() else {
         return Ok(false);
@@ -59,6 +59,7 @@ pub fn lost_pass<F: Family<Posted<Band>>>(alloc: Global) -> Result<bool, BoardEr
     };
     let _ = board.write(&mut lost, B);
     drop(lost);
+    board.so_far_with(&mut kept);
     let first = board.read(&mut kept);
     let second = got(board.write(&mut kept, C), 2, 0);
     let third = board.read(&mut kept);

@@ -1,6 +1,7 @@
 -- Each seat has become a pass, in their order.
 use Rattle.std.proofs.Common.{arith, ap, refl, sym, subst, ◌∙◌, ◌≡◌, ◌+◌, ◌∷◌, [], length, length-append, rules}
 use Rattle.board_live.proofs.Dealing.{all_dealt, ArePasses, dealt_more, is_new, IsRoom}
+use Rattle.board_live.proofs.Plans.{none_allowed}
 use Rattle.board_live.proofs.deals.deal.Goals as goal
 
 pub loop-preserved : goal.loop-preserved
@@ -31,7 +32,7 @@ returns g c =
     is_new g.F.Family g.V.RecordLaw.obeys c.args.n c.args.limit c.args.first
     (record { family = c.in_ok-family.family; processes = c.args.n; limit = c.args.limit; first = c.args.first })
     seats.items c.reverse.new.self.items c.requires.processes c.requires.within c.requires.opens c.requires.lawful refl refl refl
-    c.in_ok-family.ensures.opens.0 c.in_ok-family.ensures.opens.1 long
+    c.in_ok-family.ensures.opens.0 c.in_ok-family.ensures.opens.1 c.in_ok-family.ensures.opens.2 long
     c.in_ok-family.ensures.seats.1 c.in_ok-family.ensures.unused
     (subst (ArePasses c.args.n c.args.first 0 seats.items) (sym c.reverse.ensures.items)
     (all_dealt c.args.n c.args.first seats.items c.loop.seats.items c.loop.passes.items h.0 none))
@@ -47,6 +48,10 @@ make-requires-clause-lawful g c = search rules
 
 pub make-requires-clause-processes : goal.make-requires-clause-processes
 make-requires-clause-processes g c = search rules
+
+pub make-requires-clause-plan : goal.make-requires-clause-plan
+make-requires-clause-plan g c = λ i done l none.
+    none_allowed g.F.Family.width c.args.n c.args.limit i c.args.first c.requires.processes.0 g.F.Family.some_steps done none
 
 pub returns-in_err-family : goal.returns-in_err-family
 returns-in_err-family g c = search rules

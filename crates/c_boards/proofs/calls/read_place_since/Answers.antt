@@ -5,11 +5,11 @@ use Rattle.c_boards.proofs.calls.read_place_since.Goals as goal
 
 pub returns-then-status-ne-DONE-clause-read : goal.returns-then-status-ne-DONE-clause-read
 returns-then-status-ne-DONE-clause-read g c =
-    fresh_of c.args.least.now c.read_place-status.ensures.read (λ e. absurd (c.if-status-ne-DONE.true e))
+    fresh_of c.args.code c.args.least.now c.read_place-status.ensures.read (λ e. absurd (c.if-status-ne-DONE.true e))
 
 pub returns-then-is_below-clause-read : goal.returns-then-is_below-clause-read
 returns-then-is_below-clause-read g c =
-    older_of c.args.least.now c.read_place-status.ensures.read c.if-status-ne-DONE.false (sym c.if-is_below.ensures)
+    older_of c.args.code c.args.least.now c.read_place-status.ensures.read c.if-status-ne-DONE.false (sym c.if-is_below.ensures)
 
 pub returns-clause-read : goal.returns-clause-read
-returns-clause-read g c = fresh_of c.args.least.now c.read_place-status.ensures.read (λ e. sym c.if-is_below.ensures)
+returns-clause-read g c = fresh_of c.args.code c.args.least.now c.read_place-status.ensures.read (λ e. sym c.if-is_below.ensures)

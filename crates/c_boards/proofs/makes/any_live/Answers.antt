@@ -1,5 +1,5 @@
 -- One more handle without a side.
-use Rattle.std.proofs.Common.{◌≡◌, ◌<◌, length, rules, refl, arith}
+use Rattle.std.proofs.Common.{◌≡◌, length, rules, refl, arith}
 use Rattle.std.proofs.lemmas.Option.{slice_get_read, slice_get_within}
 use Rattle.c_boards.proofs.Putting.{none_more}
 use Rattle.c_boards.proofs.makes.any_live.Goals as goal
@@ -9,7 +9,7 @@ loop-k-init g c = λ j h lt at. absurd (omega (arith, lt))
 
 pub loop-k-preserved : goal.loop-k-preserved
 loop-k-preserved g c =
-    none_more g.H.Hand.live g.H.Hand.side c.args.handles.now c.loop-k.k c.index-handles-k.result c.loop-k.invariant c.loop-k-test.true
+    none_more g.H.Hand.live g.H.Hand.side g.H.Hand.CODE c.args.handles.now c.loop-k.k c.index-handles-k.result c.loop-k.invariant c.loop-k-test.true
     c.index-handles-k.is (c.if-is_live.ensures.dead refl)
 
 pub returns-then-is_live-clause-some : goal.returns-then-is_live-clause-some

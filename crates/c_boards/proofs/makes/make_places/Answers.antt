@@ -12,7 +12,7 @@ pub returns-in-Ok : goal.returns-in-Ok
 returns-in-Ok g c =
     let o = c.in-Ok.ensures in
     done o.0 (c.if-any_live.ensures.none refl) o.1
-    (have_all g.H.Hand.live g.H.Hand.side g.D.Offers.side o.0 c.in-Ok.sides.items c.put_all.new.handles o.3 c.put_all.ensures)
+    (have_all g.H.Hand.live g.H.Hand.side g.H.Hand.CODE g.D.Wraps.side o.0 c.in-Ok.sides.items c.put_all.new.handles o.3 c.put_all.ensures)
 
 pub returns-in-Err-Processes : goal.returns-in-Err-Processes
 returns-in-Err-Processes g c = let w = c.in-Err-Processes in

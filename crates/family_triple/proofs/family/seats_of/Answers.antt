@@ -28,7 +28,7 @@ take_slots-requires-clause-first g c =
     ∙ (ap (λ z. (first_of z.0, []))
     (next_me c.args.table.now.rows.inner.shared.table_id c.args.n c.args.first c.loop-who.who c.loop-who.rest
     c.loop-who.seats.items l h)
-    ∙ ap (λ o. (Has (first_process o c.args.n c.loop-who.who ∷ []), [])) (sym (ap (λ z. z.first) c.requires.key)))
+    ∙ ap (λ o. (Has (first_process o c.args.n c.loop-who.who ∷ []), [])) (sym c.requires.key.0))
 
 pub loop-who-preserved : goal.loop-who-preserved
 loop-who-preserved g c =
@@ -47,7 +47,7 @@ loop-who-preserved g c =
             spare = c.args.first;
           }) l c.requires.few h part.own.0 part.parted.0 (c.take_slots.ensures.own ∙ part.own.1)
           (subst (λ o. IsReady o c.args.n c.loop-who.who c.take_slots.new.seat.inner.me)
-          (ap (λ z. z.first) c.requires.key) c.take_slots.ensures.ready)
+          c.requires.key.0 c.take_slots.ensures.ready)
           refl refl refl refl refl),
       c.push_reserved.ensures.capacity ∙ c.loop-who.invariant.1,
     )

@@ -20,3 +20,6 @@ returns-clause-turned g c front back e long =
     let h = c.loop.invariant in
     let done : length front ≡ c.loop.counter = omega (arith, long, c.loop-test.false, c.loop.auto.counter-end) in
     (λ i. (h.1 i, h.2 front back e done i))
+
+pub returns-clause-view : goal.returns-clause-view
+returns-clause-view g c = c.loop.invariant.1

@@ -1,4 +1,5 @@
 -- Each is a consequence of one clause of `so_far`.
+use Rattle.theorem_uses.proofs.OnePass.{one_pass_shows}
 use Rattle.theorem_uses.proofs.Twice.{answers_the_opening, have_ended, one_greatest, reads_so_far}
 use Rattle.theorem_uses.proofs.boards.shown_boards_show.Goals as goal
 
@@ -13,3 +14,6 @@ returns-clause-orders g c = reads_so_far g.F.Family
 
 pub returns-clause-ended : goal.returns-clause-ended
 returns-clause-ended g c = have_ended g.F.Family
+
+pub returns-clause-one : goal.returns-clause-one
+returns-clause-one g c = one_pass_shows g.F.Family

@@ -3,7 +3,7 @@ use Rattle.std.proofs.Common.{refl, sym, ◌∙◌, ap, subst, ◌≡◌, rules}
 use Rattle.cell_contract.specs.declared.times.Known.{Known}
 use Rattle.cell_contract.specs.Accesses.{IsHeardRead, KeepsOthers}
 use Rattle.board_live.specs.declared.record.Posted.{Posted}
-use Rattle.board_live.proofs.Same.{after_learn}
+use Rattle.board_live.proofs.Same.{after_learn, still}
 use Rattle.board_live.proofs.board.Board.learn.Goals as goal
 
 pub returns-clause-same : goal.returns-clause-same
@@ -48,4 +48,7 @@ pub learn-requires : goal.learn-requires
 learn-requires g c = search rules
 
 pub returns-clause-pass : goal.returns-clause-pass
-returns-clause-pass g c = search rules
+returns-clause-pass g c =
+    let old = c.args.pass.now in
+    still g.F.Family g.V.RecordLaw.obeys c.args.self.now old (record old { seat = c.learn.new.seat }) c.requires.pass (returns-clause-same g c) refl
+    c.learn.ensures.own.0 c.learn.ensures.own.1

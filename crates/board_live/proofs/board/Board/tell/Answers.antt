@@ -1,7 +1,7 @@
 -- Nothing was read or written, and what a process wrote last to each other one is its own record.
 use Rattle.std.proofs.Common.{refl, ◌∙◌, ap, ◌<◌, arith, rules}
 use Rattle.cell_contract.specs.Running.{last_or}
-use Rattle.board_live.proofs.Same.{after_tell}
+use Rattle.board_live.proofs.Same.{after_tell, still}
 use Rattle.board_live.proofs.board.Board.tell.Goals as goal
 
 pub returns-clause-same : goal.returns-clause-same
@@ -44,4 +44,7 @@ pub tell-told-requires : goal.tell-told-requires
 tell-told-requires g c = search rules
 
 pub returns-clause-pass : goal.returns-clause-pass
-returns-clause-pass g c = search rules
+returns-clause-pass g c =
+    let old = c.args.pass.now in
+    still g.F.Family g.V.RecordLaw.obeys c.args.self.now old (record old { seat = c.tell-told.new.seat }) c.requires (returns-clause-same g c) refl
+    c.tell-told.ensures.own.0 c.tell-told.ensures.own.1

@@ -7,8 +7,10 @@ use Rattle.matrix_core.proofs.choices.Stamps.{at_most_below}
 use Rattle.board_live.specs.declared.record.Posted.{Posted}
 use Rattle.board_live.specs.Records.{or_item}
 use Rattle.board_live.proofs.Accessing.{row_told}
+use Rattle.board_live.proofs.Allowed.{may_read, may_write, write_chooses}
 use Rattle.board_live.proofs.Calling.{is_bounded, is_call, is_pass}
 use Rattle.board_live.proofs.Records.{rises_at_most}
+use Rattle.board_live.proofs.SoFar.{ordered_so_far}
 use Rattle.board_live.proofs.board.Board.write.Goals as goal
 
 chose_some : (g : _) (c : goal.In-Some g) →
@@ -36,18 +38,20 @@ below_next g c = subst (λ s. IsBelow c.column.new.seen.stamp s) (sym (next_some
 pub returns-in-Some-clause-pass : goal.returns-in-Some-clause-pass
 returns-in-Some-clause-pass g c =
     is_pass g.F.Family g.V.RecordLaw.obeys c.args.self.now c.args.pass.now c.requires.pass Write c.column.new.seen c.renew.new.self
-    c.column.new.seat c.row.new.seat c.column.ensures
+    c.column.new.seat c.row.new.seat c.column.ensures.read
     (row_told g.F.Family c.args.self.now.family c.args.pass.now.process (c.args.self.now.processes - 1)
-    c.column.new.seat c.row.new.seat c.args.pass.now.own c.renew.new.self c.row.ensures)
+    c.column.new.seat c.row.new.seat c.args.pass.now.own c.renew.new.self c.row.ensures.row)
+    (λ place. ((next_some g c).0, ap (λ (z : Posted _). z.stamp) (chose_some g c) ∙ (next_some g c).1))
     (subst (λ (z : Posted _). IsTrue (g.V.RecordLaw.obeys z.item)) (sym (chose_some g c)) c.requires.item)
 
 pub returns-in-None-clause-pass : goal.returns-in-None-clause-pass
 returns-in-None-clause-pass g c =
     is_pass g.F.Family g.V.RecordLaw.obeys c.args.self.now c.args.pass.now c.requires.pass Refused c.column.new.seen c.renew.new.self
-    c.column.new.seat c.row.new.seat c.column.ensures
+    c.column.new.seat c.row.new.seat c.column.ensures.read
     (row_told g.F.Family c.args.self.now.family c.args.pass.now.process (c.args.self.now.processes - 1)
-    c.column.new.seat c.row.new.seat c.args.pass.now.own c.renew.new.self c.row.ensures)
-    (subst (λ (z : Posted _). IsTrue (g.V.RecordLaw.obeys z.item)) (sym (chose_none g c)) c.column.ensures.lawful)
+    c.column.new.seat c.row.new.seat c.args.pass.now.own c.renew.new.self c.row.ensures.row)
+    (λ place. (next_none g c, ap (λ (z : Posted _). z.stamp) (chose_none g c), ap (λ (z : Posted _). z.item) (chose_none g c)))
+    (subst (λ (z : Posted _). IsTrue (g.V.RecordLaw.obeys z.item)) (sym (chose_none g c)) c.column.ensures.read.lawful)
 
 pub returns-in-Some-clause-call : goal.returns-in-Some-clause-call
 returns-in-Some-clause-call g c =
@@ -57,9 +61,9 @@ returns-in-Some-clause-call g c =
     let next = ap (λ (z : Posted _). z.stamp) chose ∙ (next_some g c).1 in (
       seen,
       is_call g.F.Family g.V.RecordLaw.obeys c.args.self.now c.args.pass.now c.requires.pass Write seen c.renew.new.self c.column.new.seat
-          c.row.new.seat c.column.ensures
+          c.row.new.seat c.column.ensures.read
           (row_told g.F.Family c.args.self.now.family c.args.pass.now.process (c.args.self.now.processes - 1)
-          c.column.new.seat c.row.new.seat c.args.pass.now.own c.renew.new.self c.row.ensures)
+          c.column.new.seat c.row.new.seat c.args.pass.now.own c.renew.new.self c.row.ensures.row)
           (inl (subst (λ (z : Posted _). IsBelow seen.stamp z.stamp) (sym chose) (below_next g c))) (λ place. (below, next)),
       (below, (next_some g c).1, chose),
     )
@@ -72,9 +76,9 @@ returns-in-None-clause-call g c =
     let item = ap (λ (z : Posted _). z.item) chose in (
       seen,
       is_call g.F.Family g.V.RecordLaw.obeys c.args.self.now c.args.pass.now c.requires.pass Refused seen c.renew.new.self c.column.new.seat
-          c.row.new.seat c.column.ensures
+          c.row.new.seat c.column.ensures.read
           (row_told g.F.Family c.args.self.now.family c.args.pass.now.process (c.args.self.now.processes - 1)
-          c.column.new.seat c.row.new.seat c.args.pass.now.own c.renew.new.self c.row.ensures) (inr (sym stamp, sym item))
+          c.column.new.seat c.row.new.seat c.args.pass.now.own c.renew.new.self c.row.ensures.row) (inr (sym stamp, sym item))
           (λ place. (next_none g c, stamp, item)),
       (next_none g c, chose, chose),
     )
@@ -82,31 +86,41 @@ returns-in-None-clause-call g c =
 pub returns-in-Some-clause-bounded : goal.returns-in-Some-clause-bounded
 returns-in-Some-clause-bounded g c =
     is_bounded g.F.Family g.V.RecordLaw.obeys c.args.self.now c.args.pass.now c.requires.pass Write c.column.new.seen c.renew.new.self
-    c.column.new.seat c.row.new.seat c.column.ensures
+    c.column.new.seat c.row.new.seat c.column.ensures.read
     (row_told g.F.Family c.args.self.now.family c.args.pass.now.process (c.args.self.now.processes - 1)
-    c.column.new.seat c.row.new.seat c.args.pass.now.own c.renew.new.self c.row.ensures)
+    c.column.new.seat c.row.new.seat c.args.pass.now.own c.renew.new.self c.row.ensures.row)
 
 pub returns-in-None-clause-bounded : goal.returns-in-None-clause-bounded
 returns-in-None-clause-bounded g c =
     is_bounded g.F.Family g.V.RecordLaw.obeys c.args.self.now c.args.pass.now c.requires.pass Refused c.column.new.seen c.renew.new.self
-    c.column.new.seat c.row.new.seat c.column.ensures
+    c.column.new.seat c.row.new.seat c.column.ensures.read
     (row_told g.F.Family c.args.self.now.family c.args.pass.now.process (c.args.self.now.processes - 1)
-    c.column.new.seat c.row.new.seat c.args.pass.now.own c.renew.new.self c.row.ensures)
+    c.column.new.seat c.row.new.seat c.args.pass.now.own c.renew.new.self c.row.ensures.row)
 
 pub returns-in-Some-clause-raised : goal.returns-in-Some-clause-raised
 returns-in-Some-clause-raised g c =
     at_most_below c.args.pass.now.own.stamp c.column.new.seen.stamp c.in-Some.stamp
-    (rises_at_most c.args.pass.now.own c.column.new.seen c.column.ensures.rises) (below_next g c)
+    (rises_at_most c.args.pass.now.own c.column.new.seen c.column.ensures.read.rises) (below_next g c)
 
 pub returns-in-None-clause-lawful : goal.returns-in-None-clause-lawful
 returns-in-None-clause-lawful g c =
-    subst (λ (z : Posted _). IsTrue (g.V.RecordLaw.obeys z.item)) (sym (chose_none g c)) c.column.ensures.lawful
+    subst (λ (z : Posted _). IsTrue (g.V.RecordLaw.obeys z.item)) (sym (chose_none g c)) c.column.ensures.read.lawful
 
 pub column-requires-clause-of : goal.column-requires-clause-of
 column-requires-clause-of g c = search rules
 
 pub column-requires-clause-lawful : goal.column-requires-clause-lawful
 column-requires-clause-lawful g c = search rules
+
+pub column-requires-clause-plan : goal.column-requires-clause-plan
+column-requires-clause-plan g c = may_read g.F.Family g.V.RecordLaw.obeys c.args.self.now c.args.pass.now c.requires.pass
+
+pub row-requires-clause-plan : goal.row-requires-clause-plan
+row-requires-clause-plan g c =
+    let chooses = write_chooses g.F.Family g.V.RecordLaw.obeys c.args.self.now c.args.pass.now c.requires.pass c.next-next.result
+    c.column.new.seen c.renew.new.self c.args.item c.next-next.ensures c.renew.ensures in
+    may_write g.F.Family g.V.RecordLaw.obeys c.args.self.now c.args.pass.now c.requires.pass c.column.new.seat chooses.0
+    c.column.new.seen c.renew.new.self c.column.ensures.read chooses.1
 
 pub next-next-requires : goal.next-next-requires
 next-next-requires g c = search rules
@@ -131,3 +145,11 @@ row-requires-clause-rises g c = search rules
 
 pub row-requires-clause-lawful : goal.row-requires-clause-lawful
 row-requires-clause-lawful g c = search rules
+
+pub returns-in-Some-clause-so_far : goal.returns-in-Some-clause-so_far
+returns-in-Some-clause-so_far g c = ordered_so_far g.F.Family g.V.RecordLaw.obeys c.args.self.now
+    (record c.args.pass.now { own = c.renew.new.self; seat = c.row.new.seat }) (returns-in-Some-clause-pass g c) c.row.ensures.so_far
+
+pub returns-in-None-clause-so_far : goal.returns-in-None-clause-so_far
+returns-in-None-clause-so_far g c = ordered_so_far g.F.Family g.V.RecordLaw.obeys c.args.self.now
+    (record c.args.pass.now { own = c.renew.new.self; seat = c.row.new.seat }) (returns-in-None-clause-pass g c) c.row.ensures.so_far

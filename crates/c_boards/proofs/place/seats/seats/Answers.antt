@@ -1,5 +1,5 @@
 -- The place of the last pass stands before those that were made.
-use Rattle.std.proofs.Common.{arith, ap, ◌∙◌, ◌≡◌, ◌+◌, ◌∷◌, ◌++◌, [], length, length-append}
+use Rattle.std.proofs.Common.{arith, ap, ◌∙◌, ◌≡◌, ◌+◌, ◌∷◌, [], length, length-append}
 use Rattle.c_boards.proofs.Pairing.{paired_none, paired_more, paired_all}
 use Rattle.c_boards.proofs.place.seats.seats.Goals as goal
 

@@ -16,6 +16,8 @@ use Rattle.family_table.proofs.Slices.{set_long}
 use Rattle.family_four_slot.proofs.Done.{has_read, is_answer}
 use Rattle.family_four_slot.proofs.Going.{pair_low, pair_word, reader_after, column_at, column_place, column_inside, column_long}
 use Rattle.family_four_slot.proofs.Going.{column_notes, column_reader}
+use Rattle.family_four_slot.proofs.Planning.{seat_may_announce, seat_may_take}
+use Rattle.family_four_slot.proofs.SoFar.{seat_so_far}
 use Rattle.family_four_slot.proofs.family.FourSlotFamily.read_at.Goals as goal
 
 pub announce-latest-requires-clause-idle : goal.announce-latest-requires-clause-idle
@@ -31,8 +33,17 @@ announce-latest-requires-clause-idle g c =
     let column = column_at f s own c.args.from other in
     let n0 : ReaderNotes g.row.T.Denot = column.notes in
     let long = column_long f s own c.args.from other cell at in
-    let column_there = subst (λ z. HasSlots z n0 cs) (sym (column_place f s own c.args.from other cell at)) column.slots in
-    (v, n0, column_there.0, column_there.1, column_reader f s own c.args.from other cell at, column_there.2, column.idle, column.stored)
+    let column_there = subst (λ z. HasSlots z n0 cs) (sym (column_place f s own c.args.from other cell at)) column.slots in (
+      v,
+      n0,
+      column_there.0,
+      column_there.1,
+      column_reader f s own c.args.from other cell at,
+      column_there.2,
+      column.idle,
+      column.stored,
+      seat_may_announce g.T.Planned.plan f s own c.args.from other cell at c.requires.plan,
+    )
 
 pub take-index-requires-clause-said : goal.take-index-requires-clause-said
 take-index-requires-clause-said g c =
@@ -57,8 +68,15 @@ take-index-requires-clause-said g c =
     let n2 : ReaderNotes g.row.T.Denot = said_with n1 t.3 t.2 in
     let a2 : After v1 cell (Reader n2) t.2 (before ++ behind) c.announce-latest.new.seat.inner.me = t.11 in
     let v2 : Process (FourSlotSight g.row.T.Denot) = knows Spent v1 cell (Reader n2) t.2 (held_slots (before ++ behind)) in
-    let r2 = reader_after v1 cell t.2 n2 (before ++ behind) c.announce-latest.new.seat.inner.me has1 a2 in
-    (v2, n2, r2, refl, t.6)
+    let r2 = reader_after v1 cell t.2 n2 (before ++ behind) c.announce-latest.new.seat.inner.me has1 a2 in (
+      v2,
+      n2,
+      r2,
+      refl,
+      t.6,
+      seat_may_take g.T.Planned.plan f s own c.args.from other cell at c.requires.plan b t.1 (held_slots cs) t.3 t.2
+          (held_slots (before ++ behind)),
+    )
 
 pub slot_of-slot-requires : goal.slot_of-slot-requires
 slot_of-slot-requires g c =
@@ -161,8 +179,8 @@ show-requires-clause-held g c =
     let slot : c.slot_of-slot.result ≡ slot_number (slot_with b bit) = c.slot_of-slot.ensures b bit t.6 e.5 in
     (x, c.announce-latest.new.seat.inner.me.1, a3.2 ∙ ap (λ z. (slot_at cell z, x) ∷ c.announce-latest.new.seat.inner.me.1) (sym slot))
 
-pub returns : goal.returns
-returns g c =
+pub returns-clause-read : goal.returns-clause-read
+returns-clause-read g c =
     let f = c.args.self.now in
     let s = c.args.seat.now in
     let own = c.requires.own in
@@ -214,3 +232,9 @@ returns g c =
           (a3.2 ∙ ap (λ z. (slot_at cell z, x) ∷ c.announce-latest.new.seat.inner.me.1) (sym slot));
       others = h.others;
     }
+
+pub returns-clause-so_far : goal.returns-clause-so_far
+returns-clause-so_far g c =
+    let own = (returns-clause-read g c).own.0 in
+    seat_so_far g.T.Planned.plan c.args.self.now _ own
+    (c.take-index.ensures.shown _ (sym (ap (λ z. z.0) c.show.ensures.same) ∙ own.one))

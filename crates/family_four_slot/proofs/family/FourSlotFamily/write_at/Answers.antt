@@ -11,10 +11,13 @@ use Rattle.family_table.specs.declared.notes.Process.{Process}
 use Rattle.family_table.specs.Family.{knows}
 use Rattle.family_four_slot.specs.Places.{slot_at}
 use Rattle.family_table.specs.Seated.{known_by}
+use Rattle.family_four_slot.specs.Plans.{plan_of, MayBegin}
 use Rattle.family_four_slot.specs.Steps.{After}
 use Rattle.family_four_slot.specs.Tables.{HasWriter}
 use Rattle.family_four_slot.proofs.Done.{wrote}
 use Rattle.family_four_slot.proofs.Going.{after_filled, writer_after, row_at, row_inside, row_long, row_notes, row_writer, row_written}
+use Rattle.family_four_slot.proofs.Planning.{seat_may_begin, seat_may_publish}
+use Rattle.family_four_slot.proofs.SoFar.{seat_so_far}
 use Rattle.family_four_slot.proofs.family.FourSlotFamily.write_at.Goals as goal
 
 pub begin-reading-requires-clause-idle : goal.begin-reading-requires-clause-idle
@@ -33,7 +36,8 @@ begin-reading-requires-clause-idle g c =
     let named = c.of-named.ensures in
     subst (λ (x : g.row.T.Denot). (v' : Process (FourSlotSight g.row.T.Denot)) × (q : WriterNotes g.row.T.Denot)
     × HasWriter s.seat.inner.me cell v' q
-    × (q.stage ≡ stage.W5) × g.T.Lawful.fits x × g.T.Lawful.rises (last_or q.opening.value q.written) x) (sym named) (
+    × (q.stage ≡ stage.W5) × g.T.Lawful.fits x × g.T.Lawful.rises (last_or q.opening.value q.written) x
+    × MayBegin (plan_of g.T.Planned.plan f.table.rows.inner.shared.key) cell v' q x) (sym named) (
       v,
       p,
       row_writer f s own c.args.to other cell at,
@@ -41,6 +45,7 @@ begin-reading-requires-clause-idle g c =
       c.requires.lawful.0,
       subst (λ (z : g.row.T.Denot × List g.row.T.Denot). g.T.Lawful.rises (last_or z.0 z.1) item)
           (λ i. ((sym (row.opened ∙ own.opening)) i, row_written f s own c.args.to other i)) c.requires.lawful.1,
+      seat_may_begin g.T.Planned.plan f s own c.args.to other cell item at c.requires.plan,
     )
 
 pub bit_of-stored-requires : goal.bit_of-stored-requires
@@ -169,8 +174,18 @@ publish-requires-clause-filled g c =
     (Writer q1) item t.1 s.seat.inner.me.1 c.begin-reading.new.seat.inner.me c.fill.new.seat.inner.me a1 filled in
     let h1 : List ℕ = held_slots ((slot1, t.1) ∷ s.seat.inner.me.1) in
     let v1 : Process (FourSlotSight g.row.T.Denot) = knows Spent v cell (Writer q1) t.2 h1 in
-    let w1 = writer_after v cell t.2 q1 ((slot1, item) ∷ s.seat.inner.me.1) c.fill.new.seat.inner.me long a2 in
-    (v1, q1, s.seat.inner.me.1, w1, a2.2, refl, pair, index, row.shown)
+    let w1 = writer_after v cell t.2 q1 ((slot1, item) ∷ s.seat.inner.me.1) c.fill.new.seat.inner.me long a2 in (
+      v1,
+      q1,
+      s.seat.inner.me.1,
+      w1,
+      a2.2,
+      refl,
+      pair,
+      index,
+      row.shown,
+      seat_may_publish g.T.Planned.plan f s own c.args.to other cell item at c.requires.plan b t.2 h1,
+    )
 
 pub set_bit-requires : goal.set_bit-requires
 set_bit-requires g c =
@@ -193,8 +208,8 @@ set_bit-requires g c =
     let pair : c.other_bit-pair.result ≡ bit_number (not b) = c.other_bit-pair.ensures b t.3 in
     (p.remembered, not b, row.bits, pair)
 
-pub returns : goal.returns
-returns g c =
+pub returns-clause-write : goal.returns-clause-write
+returns-clause-write g c =
     let f = c.args.self.now in
     let s = c.args.seat.now in
     let own = c.requires.own in
@@ -237,3 +252,8 @@ returns g c =
     s.seat.inner.me.1 (record s { seat = c.publish.new.seat; stored = kept }) t.5.0 u.5 u.6.0 refl u.6.1 u.6.2 same refl refl refl refl bits
     (c.publish.ensures.remembered ∙ pair) in
     record { own = h.own; access = h.access; written = h.written; others = h.others }
+
+pub returns-clause-so_far : goal.returns-clause-so_far
+returns-clause-so_far g c =
+    let own = (returns-clause-write g c).own.0 in
+    seat_so_far g.T.Planned.plan c.args.self.now _ own (c.publish.ensures.shown _ own.one)

@@ -4,29 +4,35 @@ use Rattle.cell_contract.specs.Rows.{IsWriteTo}
 use Rattle.cell_contract.specs.Rows.OneByOne.{no_call}
 use Rattle.cell_contract.proofs.Rows.{one_after, one_before}
 use Rattle.family_table.specs.Seated.{number_of, clock_of, times_of}
-use Rattle.family_four_slot.specs.Seated.{processes_of, writes_of, reads_of, IsSeat}
-use Rattle.family_four_slot.proofs.Rows.{Row, row_after, row_before, row_cell, row_room, row_seat}
+use Rattle.family_four_slot.specs.Seated.{opening_of, processes_of, limit_of, writes_of, reads_of, IsSeat}
+use Rattle.family_four_slot.proofs.Rows.{Row, row_after, row_before, row_cell, row_may_after, row_may_before, row_room, row_seat}
 use Rattle.family_four_slot.proofs.family.FourSlotFamilyFamily.write_all_from.Goals as goal
 
 pub loop-to-init : goal.loop-to-init
-loop-to-init g c = no_call
+loop-to-init g c = (no_call, λ some. absurd (omega (arith, some)))
 
 pub loop-to-preserved : goal.loop-to-preserved
-loop-to-preserved g c =
-    one_before (IsWriteTo (IsSeat c.args.self.now) number_of clock_of times_of writes_of reads_of 3 c.args.item.now) c.args.seat.now.who
-    c.args.seat.now c.loop-to.seat c.write_at.new.seat c.loop-to.to c.loop-to.invariant c.loop-to-test.true c.write_at.ensures
+loop-to-preserved g c = (
+  one_before (IsWriteTo (IsSeat c.args.self.now) number_of clock_of times_of writes_of reads_of 3 c.args.item.now) c.args.seat.now.who
+      c.args.seat.now c.loop-to.seat c.write_at.new.seat c.loop-to.to c.loop-to.invariant.0 c.loop-to-test.true c.write_at.ensures.write,
+  λ _. c.write_at.ensures.so_far,
+)
 
 pub loop-to-2-init : goal.loop-to-2-init
 loop-to-2-init g c =
-    let e : c.loop-to.to ≡ c.args.seat.now.who + 1 - 1 = omega (arith, c.loop-to-test.false, c.loop-to.auto.to-end) in
-    subst (λ z. Row c.args.self.now c.args.item.now c.args.seat.now z c.loop-to.seat) e c.loop-to.invariant
+    let e : c.loop-to.to ≡ c.args.seat.now.who + 1 - 1 = omega (arith, c.loop-to-test.false, c.loop-to.auto.to-end) in (
+      subst (λ z. Row c.args.self.now c.args.item.now c.args.seat.now z c.loop-to.seat) e c.loop-to.invariant.0,
+      λ some. c.loop-to.invariant.1 (omega (arith, e, some)),
+    )
 
 pub loop-to-2-preserved : goal.loop-to-2-preserved
 loop-to-2-preserved g c =
     let l = c.loop-to-2 in
-    let call = c.write_at-in-loop-to-2 in
-    one_after (IsWriteTo (IsSeat c.args.self.now) number_of clock_of times_of writes_of reads_of 3 c.args.item.now) c.args.seat.now.who
-    c.args.seat.now l.seat call.new.seat l.to l.invariant (omega (arith, l.auto.to)) call.ensures
+    let call = c.write_at-in-loop-to-2 in (
+      one_after (IsWriteTo (IsSeat c.args.self.now) number_of clock_of times_of writes_of reads_of 3 c.args.item.now) c.args.seat.now.who
+          c.args.seat.now l.seat call.new.seat l.to l.invariant.0 (omega (arith, l.auto.to)) call.ensures.write,
+      λ _. call.ensures.so_far,
+    )
 
 pub returns : goal.returns
 returns g c =
@@ -34,7 +40,11 @@ returns g c =
     let s = c.args.seat.now in
     let same : s.processes ≡ processes_of c.args.self.now = c.requires.own.processes in
     let e : l.to - 1 ≡ processes_of c.args.self.now - 1 = omega (arith, same, c.loop-to-2-test.false, l.auto.to, l.auto.to-end) in
-    subst (λ z. Row c.args.self.now c.args.item.now s z l.seat) e l.invariant
+    let two = c.args.self.now.table.rows.some.0 in
+    record {
+      row = subst (λ z. Row c.args.self.now c.args.item.now s z l.seat) e l.invariant.0;
+      so_far = l.invariant.1 (omega (arith, e, two));
+    }
 
 pub place-requires : goal.place-requires
 place-requires g c =
@@ -43,12 +53,12 @@ place-requires g c =
 
 pub write_at-requires-clause-own : goal.write_at-requires-clause-own
 write_at-requires-clause-own g c =
-    (row_seat c.args.self.now c.args.item.now c.args.seat.now c.loop-to.to c.loop-to.seat c.requires.own c.loop-to.invariant).0
+    (row_seat c.args.self.now c.args.item.now c.args.seat.now c.loop-to.to c.loop-to.seat c.requires.own c.loop-to.invariant.0).0
 
 pub write_at-requires-clause-other : goal.write_at-requires-clause-other
 write_at-requires-clause-other g c =
     let room = row_room c.args.self.now c.args.seat.now c.requires.own in
-    let here = row_seat c.args.self.now c.args.item.now c.args.seat.now c.loop-to.to c.loop-to.seat c.requires.own c.loop-to.invariant in
+    let here = row_seat c.args.self.now c.args.item.now c.args.seat.now c.loop-to.to c.loop-to.seat c.requires.own c.loop-to.invariant.0 in
     let who : c.loop-to.seat.who ≡ c.args.seat.now.who = here.1 in
     let same : c.args.seat.now.processes ≡ processes_of c.args.self.now = c.requires.own.processes in (
       omega (arith, same, room.1, c.loop-to-test.true),
@@ -57,7 +67,7 @@ write_at-requires-clause-other g c =
 
 pub write_at-requires-clause-at : goal.write_at-requires-clause-at
 write_at-requires-clause-at g c =
-    row_cell c.args.self.now c.args.item.now c.args.seat.now c.loop-to.to c.loop-to.seat c.requires.own c.loop-to.invariant c.place.result
+    row_cell c.args.self.now c.args.item.now c.args.seat.now c.loop-to.to c.loop-to.seat c.requires.own c.loop-to.invariant.0 c.place.result
     c.loop-to.to c.place.ensures
 
 pub write_at-requires-clause-lawful : goal.write_at-requires-clause-lawful
@@ -67,7 +77,7 @@ write_at-requires-clause-lawful g c =
     let l = c.loop-to-test.true in (
       c.requires.lawful,
       row_before c.args.self.now c.args.item.now c.args.seat.now g.T.Lawful.rises c.loop-to.seat c.loop-to.to
-          c.loop-to.invariant l (c.requires.rises c.loop-to.to (omega (arith, same, room.1, l))
+          c.loop-to.invariant.0 l (c.requires.rises c.loop-to.to (omega (arith, same, room.1, l))
           (λ e. let z : c.loop-to.to ≡ c.args.seat.now.who = e in omega (arith, z, l))),
     )
 
@@ -77,19 +87,19 @@ place-requires-in-loop-to-2 g c =
 
 pub write_at-requires-in-loop-to-2-clause-own : goal.write_at-requires-in-loop-to-2-clause-own
 write_at-requires-in-loop-to-2-clause-own g c =
-    (row_seat c.args.self.now c.args.item.now c.args.seat.now (c.loop-to-2.to - 1) c.loop-to-2.seat c.requires.own c.loop-to-2.invariant).0
+    (row_seat c.args.self.now c.args.item.now c.args.seat.now (c.loop-to-2.to - 1) c.loop-to-2.seat c.requires.own c.loop-to-2.invariant.0).0
 
 pub write_at-requires-in-loop-to-2-clause-other : goal.write_at-requires-in-loop-to-2-clause-other
 write_at-requires-in-loop-to-2-clause-other g c =
     let l = c.loop-to-2 in
-    let here = row_seat c.args.self.now c.args.item.now c.args.seat.now (l.to - 1) l.seat c.requires.own l.invariant in
+    let here = row_seat c.args.self.now c.args.item.now c.args.seat.now (l.to - 1) l.seat c.requires.own l.invariant.0 in
     let who : l.seat.who ≡ c.args.seat.now.who = here.1 in
     let same : c.args.seat.now.processes ≡ processes_of c.args.self.now = c.requires.own.processes in
     (omega (arith, same, c.loop-to-2-test.true), λ e. let z : l.to ≡ l.seat.who = e in omega (arith, z, who, l.auto.to))
 
 pub write_at-requires-in-loop-to-2-clause-at : goal.write_at-requires-in-loop-to-2-clause-at
 write_at-requires-in-loop-to-2-clause-at g c =
-    row_cell c.args.self.now c.args.item.now c.args.seat.now (c.loop-to-2.to - 1) c.loop-to-2.seat c.requires.own c.loop-to-2.invariant
+    row_cell c.args.self.now c.args.item.now c.args.seat.now (c.loop-to-2.to - 1) c.loop-to-2.seat c.requires.own c.loop-to-2.invariant.0
     c.place-in-loop-to-2.result c.loop-to-2.to c.place-in-loop-to-2.ensures
 
 pub write_at-requires-in-loop-to-2-clause-lawful : goal.write_at-requires-in-loop-to-2-clause-lawful
@@ -97,7 +107,22 @@ write_at-requires-in-loop-to-2-clause-lawful g c =
     let l = c.loop-to-2 in
     let same : c.args.seat.now.processes ≡ processes_of c.args.self.now = c.requires.own.processes in (
       c.requires.lawful,
-      row_after c.args.self.now c.args.item.now c.args.seat.now g.T.Lawful.rises l.seat l.to l.invariant
+      row_after c.args.self.now c.args.item.now c.args.seat.now g.T.Lawful.rises l.seat l.to l.invariant.0
           (omega (arith, l.auto.to)) (c.requires.rises l.to (omega (arith, same, c.loop-to-2-test.true))
           (λ e. let z : l.to ≡ c.args.seat.now.who = e in omega (arith, z, l.auto.to))),
     )
+
+pub write_at-requires-clause-plan : goal.write_at-requires-clause-plan
+write_at-requires-clause-plan g c =
+    let l = c.loop-to in
+    row_may_before c.args.self.now c.args.item.now c.args.seat.now
+    (g.T.Planned.plan (opening_of c.args.self.now) 3 (processes_of c.args.self.now) (limit_of c.args.self.now))
+    c.requires.plan c.requires.own l.seat l.to l.invariant.0 c.loop-to-test.true
+
+pub write_at-requires-in-loop-to-2-clause-plan : goal.write_at-requires-in-loop-to-2-clause-plan
+write_at-requires-in-loop-to-2-clause-plan g c =
+    let l = c.loop-to-2 in
+    let same : c.args.seat.now.processes ≡ processes_of c.args.self.now = c.requires.own.processes in
+    row_may_after c.args.self.now c.args.item.now c.args.seat.now
+    (g.T.Planned.plan (opening_of c.args.self.now) 3 (processes_of c.args.self.now) (limit_of c.args.self.now))
+    c.requires.plan c.requires.own l.seat l.to l.invariant.0 (omega (arith, l.auto.to)) (omega (arith, same, c.loop-to-2-test.true))

@@ -1,5 +1,6 @@
 -- Where `reading` has the pair the load made R1 and R2; where it has another, R1 alone, and the store makes R2.
 use Rattle.std.proofs.Common.{◌≡◌, ◌<◌, ℕ, length, sym, ap, ◌∙◌, subst, refl}
+use Rattle.cell_contract.specs.Running.{held_slots}
 use Rattle.cell_contract.specs.declared.sight.Sight.TheVariants.{Spent}
 use Rattle.cell_four_slot.specs.Steps.{FourSlotSight, asked_by, word_said}
 use Rattle.cell_four_slot.specs.declared.notes.ReaderNotes.{ReaderNotes}
@@ -9,6 +10,9 @@ use Rattle.family_four_slot.proofs.Going.{first_word, reader_after}
 use Rattle.family_four_slot.proofs.Told.{has_one, reads_one}
 use Rattle.family_four_slot.proofs.table.FamilyTable.announce.Goals as goal
 
+pub ask-pair-requires-clause-idle : goal.ask-pair-requires-clause-idle
+ask-pair-requires-clause-idle g c = let t = c.requires.idle in (t.0, t.1, t.2, t.3, t.4, t.5, t.6, t.8)
+
 pub say-requires-clause-asked : goal.say-requires-clause-asked
 say-requires-clause-asked g c =
     let t = c.requires.idle in
@@ -17,7 +21,8 @@ say-requires-clause-asked g c =
     let a = c.ask-pair.ensures.asked cell t.0 t.1 (first_word cell) t.4.process.one t.4.notes in
     let h = a.4 (λ e. c.if-pair-said.false (e ∙ sym t.7)) in
     let n1 : ReaderNotes g.row.T.Denot = asked_by t.1 a.0 a.1 in
-    (_, n1, t.2, t.3, reader_after t.0 cell a.1 n1 me.1 c.ask-pair.new.seat.inner.me t.4.process.has h, h.2 ∙ t.5, refl, a.2)
+    let asked = reader_after t.0 cell a.1 n1 me.1 c.ask-pair.new.seat.inner.me t.4.process.has h in
+    (_, n1, t.2, t.3, asked, h.2 ∙ t.5, refl, a.2, t.8.1 a.0 a.1 (held_slots me.1) h.0)
 
 pub returns-clause-announced : goal.returns-clause-announced
 returns-clause-announced g c = λ v q one notes.

@@ -11,6 +11,6 @@ load-requires g c =
     let b = c.base.ensures in (
       c.requires.own,
       omega arith,
-      asks_on_ok g.T.Lawful.fits g.T.Lawful.rises _ _ _ _ _ c.args.cell _ t.0 t.1 t.2 t.3 (omega arith) place
-          t.4.process.has t.4.process.one t.4.notes t.5 t.4.process.held t.6,
+      asks_on_ok g.T.Lawful.fits g.T.Lawful.rises _ _ _ _ _ _ c.args.cell _ t.0 t.1 t.2 t.3 (omega arith) place
+          t.4.process.has t.4.process.one t.4.notes t.5 t.4.process.held t.6 t.7,
     )

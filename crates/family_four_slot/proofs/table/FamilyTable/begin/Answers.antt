@@ -11,6 +11,6 @@ load-requires g c =
     let b = c.base.ensures in (
       c.requires.own,
       omega arith,
-      begins_ok g.T.Lawful.fits g.T.Lawful.rises _ _ _ _ _ c.args.cell _ t.0 t.1 _ c.args.item.value (omega arith) place
-          t.2.process.has t.2.process.one t.2.notes t.2.process.held t.3 c.requires.item t.4 t.5,
+      begins_ok g.T.Lawful.fits g.T.Lawful.rises _ _ _ _ _ _ c.args.cell _ t.0 t.1 _ c.args.item.value (omega arith) place
+          t.2.process.has t.2.process.one t.2.notes t.2.process.held t.3 c.requires.item t.4 t.5 t.6,
     )

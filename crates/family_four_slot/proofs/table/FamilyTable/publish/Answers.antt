@@ -1,6 +1,7 @@
 -- Where `latest` has the pair the first store made W4 and W5; where it has the other, W4 alone, and the second store makes W5.
 use Rattle.std.proofs.Common.{◌≡◌, ◌<◌, ℕ, List, length, sym, ap, ◌∙◌, subst, refl}
 use Rattle.four_slot_core.specs.Events.{bit_number}
+use Rattle.cell_contract.specs.Running.{held_slots}
 use Rattle.cell_contract.specs.declared.sight.Sight.TheVariants.{Spent, Writer}
 use Rattle.cell_four_slot.specs.Steps.{FourSlotSight, stored_by, finished_with}
 use Rattle.cell_four_slot.specs.declared.notes.WriterNotes.{WriterNotes}
@@ -11,6 +12,9 @@ use Rattle.family_four_slot.proofs.Going.{first_word, pair_low, pair_word, write
 use Rattle.family_four_slot.proofs.Told.{has_one, writes_one}
 use Rattle.family_four_slot.proofs.table.FamilyTable.publish.Goals as goal
 
+pub store-requires-clause-filled : goal.store-requires-clause-filled
+store-requires-clause-filled g c = let t = c.requires.filled in (t.0, t.1, t.2, t.3, t.4, t.5, t.6, t.7, t.9)
+
 pub finish-requires-clause-stored : goal.finish-requires-clause-stored
 finish-requires-clause-stored g c =
     let t = c.requires.filled in
@@ -20,7 +24,8 @@ finish-requires-clause-stored g c =
     (pair_word cell c.args.pair p.slot.pair t.6) t.3.process.one t.3.notes t.4 in
     let h = a.2 (λ e. c.if-pair-shown.false (t.6 ∙ (e ∙ sym t.8))) in
     let q1 : WriterNotes g.row.T.Denot = stored_by p a.0 in
-    (_, q1, writer_after t.0 cell a.0 q1 t.2 c.store.new.seat.inner.me t.3.process.has h, refl, t.6)
+    let stored = writer_after t.0 cell a.0 q1 t.2 c.store.new.seat.inner.me t.3.process.has h in
+    (_, q1, stored, refl, t.6, t.9.1 a.0 (held_slots t.2) h.0)
 
 pub returns-clause-published : goal.returns-clause-published
 returns-clause-published g c = λ v q cs one notes held.
@@ -55,3 +60,15 @@ returns-then-pair-shown-clause-published g c = λ v q cs one notes held.
     let a = c.store.ensures.stored cell _ v q cs (pair_low q.slot.pair) (pair_word cell c.args.pair q.slot.pair pair) one notes held in
     let b = a.3 equal in
     (a.0, b.0, 0, (λ _. refl), (λ ne. absurd (ne equal)), a.1, b.1)
+
+pub store-requires-clause-opening : goal.store-requires-clause-opening
+store-requires-clause-opening g c = c.requires.opening
+
+pub finish-requires-clause-opening : goal.finish-requires-clause-opening
+finish-requires-clause-opening g c = c.requires.opening
+
+pub returns-clause-shown : goal.returns-clause-shown
+returns-clause-shown g c = c.finish.ensures.shown
+
+pub returns-then-pair-shown-clause-shown : goal.returns-then-pair-shown-clause-shown
+returns-then-pair-shown-clause-shown g c = c.store.ensures.shown

@@ -11,6 +11,6 @@ store-requires g c =
     let b = c.base.ensures in (
       c.requires.own,
       omega arith,
-      says_ok g.T.Lawful.fits g.T.Lawful.rises _ _ 1 (le_refl 1) _ _ _ c.args.cell _ _ t.0 t.1 t.2 t.3 (omega arith) place
-          t.4.process.has t.4.process.one t.4.notes t.5 t.4.process.held t.6 t.7,
+      says_ok g.T.Lawful.fits g.T.Lawful.rises _ _ _ 1 (le_refl 1) _ _ _ c.args.cell _ _ t.0 t.1 t.2 t.3 (omega arith) place
+          t.4.process.has t.4.process.one t.4.notes t.5 t.4.process.held t.6 t.7 t.8,
     )

@@ -6,6 +6,7 @@ use Rattle.cell_four_slot.proofs.Slots.{bit_low}
 use Rattle.family_four_slot.specs.Steps.{stores_on}
 use Rattle.family_four_slot.proofs.Places.{bit_word}
 use Rattle.family_four_slot.proofs.Merged.{stores_on_ok}
+use Rattle.family_four_slot.proofs.Showing.{may_show, shows}
 use Rattle.family_four_slot.proofs.table.FamilyTable.store.Goals as goal
 
 pub store-requires : goal.store-requires
@@ -19,9 +20,11 @@ store-requires g c =
     let pair = t.6 in (
       c.requires.own,
       omega arith,
-      stores_on_ok g.T.Lawful.fits g.T.Lawful.rises _ _ _ _ _ c.args.cell (2 + c.args.pair) _ _ t.0 t.1 t.2
+      may_show g.T.Lawful.fits g.T.Lawful.rises g.T.Planned.plan c.args.self.now.rows.inner.shared.key _ _ _ c.requires.opening.0
+          c.requires.opening.1 c.requires.opening.2 c.args.self.now.rows.inner.shared.table_id.slots c.args.seat.now.inner.id (c.base.result + (2 + c.args.pair))
+          c.args.seat.now.inner.me (λ _. c.args.index) (λ _. stores_on (step c.args.self.now.rows.inner.shared.table_id.slots (c.base.result + (2 + c.args.pair)) c.args.index 0 none) c.args.seat.now.inner.me c.args.index) (stores_on_ok g.T.Lawful.fits g.T.Lawful.rises _ _ _ _ _ _ c.args.cell (2 + c.args.pair) _ _ t.0 t.1 t.2
           (word ∙ bit_word c.args.cell c.args.pair) place
-          t.3.process.has t.3.process.one t.3.notes t.4 t.3.process.held t.5 (ap (λ z. 2 + z) pair) (omega arith) t.7,
+          t.3.process.has t.3.process.one t.3.notes t.4 t.3.process.held t.5 (ap (λ z. 2 + z) pair) (omega arith) t.7 t.8),
     )
 
 pub returns-clause-stored : goal.returns-clause-stored
@@ -29,4 +32,9 @@ returns-clause-stored g c =
     let b = c.base.ensures in
     subst (λ z. stores_on (step c.args.self.now.rows.inner.shared.table_id.slots z c.args.index 0 none) c.args.seat.now.inner.me
     c.args.index c.store.new.seat.me)
-    (omega arith) c.store.ensures.2
+    (omega arith) c.store.ensures.2.0
+
+pub returns-clause-shown : goal.returns-clause-shown
+returns-clause-shown g c =
+    shows g.T.Lawful.fits g.T.Lawful.rises g.T.Planned.plan c.args.self.now.rows.inner.shared.key _ _ _ c.requires.opening.0
+    c.requires.opening.1 c.requires.opening.2 c.store.new.seat.me c.store.ensures.2.1

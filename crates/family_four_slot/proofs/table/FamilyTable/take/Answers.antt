@@ -6,6 +6,7 @@ use Rattle.cell_four_slot.proofs.Slots.{bit_low}
 use Rattle.family_four_slot.specs.Steps.{takes}
 use Rattle.family_four_slot.proofs.Places.{bit_word}
 use Rattle.family_four_slot.proofs.Told.{takes_ok}
+use Rattle.family_four_slot.proofs.Showing.{may_show, shows}
 use Rattle.family_four_slot.proofs.table.FamilyTable.take.Goals as goal
 
 pub load-requires : goal.load-requires
@@ -19,9 +20,11 @@ load-requires g c =
     let pair = t.4 in (
       c.requires.own,
       omega arith,
-      takes_ok g.T.Lawful.fits g.T.Lawful.rises _ _ g.T.Lawful.reflexive g.T.Lawful.transitive _ _ _ c.args.cell (2 + c.args.pair) _ t.0 t.1
-          (word ∙ bit_word c.args.cell c.args.pair) place t.2.process.has t.2.process.one t.2.notes t.2.process.held t.3
-          (ap (λ z. 2 + z) pair) (omega arith),
+      may_show g.T.Lawful.fits g.T.Lawful.rises g.T.Planned.plan c.args.self.now.rows.inner.shared.key _ _ _ c.requires.opening.0
+          c.requires.opening.1 c.requires.opening.2 c.args.self.now.rows.inner.shared.table_id.slots c.args.seat.now.inner.id (c.base.result + (2 + c.args.pair))
+          c.args.seat.now.inner.me (λ m. m) (takes g.T.Lawful.fits g.T.Lawful.rises (step c.args.self.now.rows.inner.shared.table_id.slots (c.base.result + (2 + c.args.pair)) 0 0 none) c.args.seat.now.inner.me) (takes_ok g.T.Lawful.fits g.T.Lawful.rises _ _ _ g.T.Lawful.reflexive g.T.Lawful.transitive _ _ _ c.args.cell (2 + c.args.pair) _ t.0
+          t.1 (word ∙ bit_word c.args.cell c.args.pair) place t.2.process.has t.2.process.one t.2.notes t.2.process.held t.3
+          (ap (λ z. 2 + z) pair) (omega arith) t.5),
     )
 
 pub returns-clause-taken : goal.returns-clause-taken
@@ -29,4 +32,9 @@ returns-clause-taken g c =
     let b = c.base.ensures in
     subst (λ z. takes g.T.Lawful.fits g.T.Lawful.rises
     (step c.args.self.now.rows.inner.shared.table_id.slots z 0 0 none) c.args.seat.now.inner.me
-    c.load.result c.load.new.seat.me) (omega arith) c.load.ensures.2
+    c.load.result c.load.new.seat.me) (omega arith) c.load.ensures.2.0
+
+pub returns-clause-shown : goal.returns-clause-shown
+returns-clause-shown g c =
+    shows g.T.Lawful.fits g.T.Lawful.rises g.T.Planned.plan c.args.self.now.rows.inner.shared.key _ _ _ c.requires.opening.0
+    c.requires.opening.1 c.requires.opening.2 c.load.new.seat.me c.load.ensures.2.1

@@ -11,11 +11,12 @@ split_seat-again-requires g c =
     let n = c.args.self.now.inner.shared.key.processes in
     let o = c.args.self.now.inner.shared.key.first in
     let m = g.M.Mechanism in
-    let R = m.keeps o in (
+    let R = m.keeps o in
+    let P = m.plan o c.args.self.now.inner.shared.key.limit n in (
       c.requires.own,
       c.args.self.now.there,
-      subst (λ z. Splits (FamilyRule m.blank (m.layout n) R n) c.args.receipt.now.inner.id z z z) (sym (ap (λ m. m.0) t.1))
-          (family_repeats m.blank m.receipt m.hears m.plain m.deaf m.mute (m.layout n) R m.idle n c.args.receipt.now.inner.id t.0),
+      subst (λ z. Splits (FamilyRule m.blank (m.layout n) R P n) c.args.receipt.now.inner.id z z z) (sym (ap (λ m. m.0) t.1))
+          (family_repeats m.blank m.receipt m.hears m.plain m.deaf m.mute (m.layout n) R P m.idle n c.args.receipt.now.inner.id t.0),
     )
 
 pub returns-clause-same : goal.returns-clause-same

@@ -14,12 +14,13 @@ load-requires g c =
     let n = c.args.self.now.inner.shared.key.processes in
     let seat = c.args.seat.now.inner in
     let st = step slots 0 0 0 none in
-    let m = g.M.Mechanism in (
+    let m = g.M.Mechanism in
+    let P = m.plan o c.args.self.now.inner.shared.key.limit n in (
       c.requires.own,
       c.args.self.now.there,
-      subst (λ (z : List g.row.T.Denot × ℕ). Allows (FamilyRule m.blank (m.layout n) (m.keeps o) n) slots seat.id seat.me 0 (λ w. w)
+      subst (λ (z : List g.row.T.Denot × ℕ). Allows (FamilyRule m.blank (m.layout n) (m.keeps o) P n) slots seat.id seat.me 0 (λ w. w)
           (shows m.blank m.layout m.done z.0 z.1 st seat.me)) (λ i. (sym c.requires.opening.0 i, sym c.requires.opening.1 i))
-          (shows_ok m.blank m.layout m.keeps m.done m.ends o n slots seat.id 0 seat.me st),
+          (shows_ok m.blank m.layout m.keeps m.done m.ends o n P slots seat.id 0 seat.me st),
     )
 
 pub returns-clause-shown : goal.returns-clause-shown

@@ -9,6 +9,7 @@ pub new-requires : goal.new-requires
 new-requires g c =
     let n : ℕ = c.args.processes in
     let o : g.row.T.Denot = c.args.first in
+    let limit : ℕ = c.args.limit in
     let m = g.M.Mechanism in
     let one : is_ok c.resize.result ≡ true = search rules in
     let two : is_ok c.resize-2.result ≡ true = search rules in
@@ -20,6 +21,6 @@ new-requires g c =
     filled _ (c.args.slots * (n * n)) (vec_len c.new-records.result) c.new-records.result.items c.resize-2.new.self.items o two
     (search rules) (search rules)
     c.resize-2.ensures.items in
-    subst (λ (z : List ℕ × List g.row.T.Denot). FamilyRule m.blank (m.layout n) (m.keeps o) n
+    subst (λ (z : List ℕ × List g.row.T.Denot). FamilyRule m.blank (m.layout n) (m.keeps o) (m.plan o limit n) n
     (opening z.0 z.1 (m.first o n))) (λ i. (sym words i, sym slots i))
     c.requires.starts

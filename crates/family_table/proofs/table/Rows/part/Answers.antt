@@ -12,9 +12,10 @@ split_seat-parted-requires g c =
     let n = c.args.self.now.inner.shared.key.processes in
     let o = c.args.self.now.inner.shared.key.first in
     let m = g.M.Mechanism in
-    let R = m.keeps o in (
+    let R = m.keeps o in
+    let P = m.plan o c.args.self.now.inner.shared.key.limit n in (
       c.requires.own,
       c.args.self.now.there,
-      subst (λ z. Splits (FamilyRule m.blank (m.layout n) R n) c.args.seat.now.inner.id z (all_but_first z) (first_of z)) (sym t.2)
-          (parts_first m.blank (m.layout n) R n c.args.seat.now.inner.id t.0 t.1),
+      subst (λ z. Splits (FamilyRule m.blank (m.layout n) R P n) c.args.seat.now.inner.id z (all_but_first z) (first_of z)) (sym t.2)
+          (parts_first m.blank (m.layout n) R P n c.args.seat.now.inner.id t.0 t.1),
     )

@@ -15,6 +15,7 @@ join_seat-requires g c =
     let o = c.args.self.now.inner.shared.key.first in
     let m = g.M.Mechanism in
     let R = m.keeps o in
+    let P = m.plan o c.args.self.now.inner.shared.key.limit n in
     let id = c.args.seat.now.inner.id in
     let other = c.args.bare.inner.id in (
       c.requires.own.0,
@@ -22,6 +23,6 @@ join_seat-requires g c =
       ap (λ m. m.1) u.1,
       c.args.self.now.there,
       subst (λ (z : View g.row.V.Denot × View g.row.V.Denot).
-          Joins (FamilyRule m.blank (m.layout n) R n) id z.0 other z.1 (joined z.0 z.1) no_one)
-          (λ i. (sym t.1 i, sym (ap (λ m. m.0) u.1) i)) (family_joins m.blank (m.layout n) R n id other t.0 u.0),
+          Joins (FamilyRule m.blank (m.layout n) R P n) id z.0 other z.1 (joined z.0 z.1) no_one)
+          (λ i. (sym t.1 i, sym (ap (λ m. m.0) u.1) i)) (family_joins m.blank (m.layout n) R P n id other t.0 u.0),
     )

@@ -3,4 +3,6 @@ use Rattle.std.proofs.Common.{[], ◌∷◌}
 use Rattle.family_table.proofs.table.Rows.so_far.Given as goal
 
 abbrev pub ghosts-load_calls : goal.ghosts-load_calls
-ghosts-load_calls g a = record { first = a.self.now.inner.shared.key.first ∷ []; processes = a.self.now.inner.shared.key.processes }
+ghosts-load_calls g a =
+    let key = a.self.now.inner.shared.key in
+    record { first = key.first ∷ []; processes = key.processes; limit = key.limit }

@@ -4,8 +4,9 @@ use Rattle.cell_triple.specs.declared.notes.ReaderNotes.{ReaderNotes}
 use Rattle.family_triple.specs.Places.{among, slot_at}
 use Rattle.family_table.specs.Seated.{known_by}
 use Rattle.family_triple.specs.Tables.{HasReader}
-use Rattle.family_triple.proofs.Going.{column_at, column_inside, column_long, column_notes, column_slot, is_answer, has_read}
+use Rattle.family_triple.proofs.Going.{column_at, column_inside, column_long, column_notes, column_slot, decide_may, is_answer, has_read}
 use Rattle.family_triple.proofs.Rounds.{few_cells, replaced, behind_long, turned_front, turned_back}
+use Rattle.family_triple.proofs.SoFar.{seat_so_far}
 use Rattle.family_triple.proofs.Turns.{split_at}
 use Rattle.family_triple.proofs.family.TripleFamily.read_at.Goals as goal
 
@@ -35,8 +36,18 @@ newest-slot-requires-clause-idle g c =
             c.turn_by.new.seat.inner.me.1 cut.2 own.rest.held slots;
       };
       notes = column_notes f s own c.args.from other cell at;
-    } in
-    (known_by s, q, back ++ front, reader, slots, column.took, column.free, column.low, sym column.numbered)
+    } in (
+      known_by s,
+      q,
+      back ++ front,
+      reader,
+      slots,
+      column.took,
+      column.free,
+      column.low,
+      sym column.numbered,
+      decide_may f s own c.args.from other g.T.Planned.plan cell at c.requires.plan,
+    )
 
 pub slot_place-requires : goal.slot_place-requires
 slot_place-requires g c =
@@ -102,8 +113,8 @@ show-requires-clause-held g c =
     looked.slots ∙ ap (λ z. (z, looked.answer) ∷ (back ++ front)) (sym c.slot_place.ensures) in
     (looked.answer, back ++ front, there)
 
-pub returns : goal.returns
-returns g c =
+pub returns-clause-read : goal.returns-clause-read
+returns-clause-read g c =
     let f = c.args.self.now in
     let s = c.args.seat.now in
     let own = c.requires.own in
@@ -158,3 +169,10 @@ returns g c =
       saw = c.show.ensures.shown looked.answer (back ++ front) there;
       others = h.others;
     }
+
+pub returns-clause-so_far : goal.returns-clause-so_far
+returns-clause-so_far g c =
+    let own = (returns-clause-read g c).own.0 in
+    let view = ap (λ z. z.0) c.show.ensures.same in
+    seat_so_far g.T.Planned.plan c.args.self.now _ own
+    (c.newest-slot.ensures.shown _ (sym view ∙ (sym c.turn_by-2.ensures.view ∙ own.one)))

@@ -2,4 +2,4 @@
 use Rattle.family_triple.proofs.family.TripleFamilyFamily.read_from.Goals as goal
 
 pub returns : goal.returns
-returns g c = c.read_at.ensures
+returns g c = record { read = c.read_at.ensures.read; so_far = c.read_at.ensures.so_far }

@@ -5,9 +5,10 @@ use Rattle.cell_triple.specs.declared.notes.WriterNotes.{WriterNotes}
 use Rattle.family_table.specs.declared.notes.View.TheVariants.{Has}
 use Rattle.family_triple.specs.Places.{among, slot_at}
 use Rattle.family_table.specs.Seated.{known_by}
-use Rattle.family_triple.proofs.Going.{row_at, row_long, row_notes, row_slot, row_written, wrote}
+use Rattle.family_triple.proofs.Going.{publish_may, row_at, row_long, row_notes, row_slot, row_written, wrote}
 use Rattle.family_triple.proofs.Looking.{word_is}
 use Rattle.family_triple.proofs.Rounds.{replaced, behind_long, turned_front, turned_back}
+use Rattle.family_triple.proofs.SoFar.{seat_so_far}
 use Rattle.family_triple.proofs.Turns.{split_at}
 use Rattle.family_triple.proofs.family.TripleFamilyFamily.write_from.Goals as goal
 
@@ -74,6 +75,7 @@ publish-middle-requires-clause-filled g c =
       subst (λ (z : g.row.T.Denot × List g.row.T.Denot). g.T.Lawful.rises (last_or z.0 z.1) item)
           (λ i. (sym (row.opened ∙ own.opening) i, row_written f s own c.args.to other i)) c.requires.lawful.1,
       ap (λ z. z + 4) (sym row.numbered),
+      publish_may f s own c.args.to other g.T.Planned.plan cell item at c.requires.plan,
     )
 
 pub returns : goal.returns
@@ -119,4 +121,11 @@ returns g c =
     (replaced s.seat.inner.me.1 c.turn_by-2.new.seat.inner.me.1 front back (slot_at cell p.slot, row.record_there) y
     (among s.who c.args.to) cut.2 is cut.3)
     (turned_back front back y c.turn_by-2.new.seat.inner.me.1 is) same refl refl refl refl refl in
-    record { own = h.own; access = h.access; written = h.written; others = h.others }
+    record {
+      own = h.own;
+      access = h.access;
+      written = h.written;
+      others = h.others;
+      so_far = seat_so_far g.T.Planned.plan f _ h.own.0
+          (c.publish-middle.ensures.shown _ (sym (ap (λ z. z.0) last) ∙ h.own.0.one));
+    }
