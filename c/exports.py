@@ -1,8 +1,8 @@
 """What the library for C has once more for each size of record and each cell. The exports: for each cell and size the same six calls, of a
-triple buffer three more, and for each family and size of a board's record the same five. And crates/c_handles/src/pick.rt, which finds
-among the sides that a handle may have the one of a size and of a cell's reader or writer.
+triple buffer three more, and for each family and size of a board's record the same five. And of crates/c_handles what is made for each side
+and place (handles.py).
 
-    exports.py write     writes them: pick.rt, and crates/c_exports/src/exports.rt and exports/
+    exports.py write     writes them: crates/c_exports/src/exports.rt and exports/, the answers for each loan, and the files of crates/c_handles
     exports.py check     compares them, and what c/nidzaru.h declares and c/tests/control.c has, with the text below
 """
 
@@ -10,25 +10,23 @@ import os
 import re
 import sys
 
+import handles
+from handles import BOARD_SIZES, SIZES, code_of
+
 TOP = os.path.dirname(os.path.dirname(os.path.realpath(__file__)))
 EXPORTS = os.path.join(TOP, "crates/c_exports/src/exports")
-# The first line of each file that is made.
-MADE = "// made by c/exports.py\n"
-SIZES = (8, 24, 64, 256, 1024, 4096, 65536, 1048576)
-BOARD_SIZES = (24, 256, 4096)
+# The first line of each file that is made, after the words that begin a comment.
+MADE = {".rt": "// made by c/exports.py\n", ".antt": "-- made by c/exports.py\n"}
 # What a triple buffer's exports for records in place take from the definitions.
 IN_PLACE = ", HasPublished, at_hand, in_slot"
 CELLS = {
-    "four_slot": {"words": "A four-slot cell", "prefix": "", "specs": "FourSlotCalls", "name": "four_slot", "type": "FourSlot", "party": "", "holds": ""},
-    "triple": {"words": "A triple buffer", "prefix": "triple_", "specs": "TripleCalls", "name": "triple", "type": "Triple", "party": "Triple", "holds": IN_PLACE},
+    "four_slot": {"words": "A four-slot cell", "prefix": "", "specs": "FourSlotCalls", "name": "four_slot", "type": "FourSlot", "holds": ""},
+    "triple": {"words": "A triple buffer", "prefix": "triple_", "specs": "TripleCalls", "name": "triple", "type": "Triple", "holds": IN_PLACE},
 }
 
-# What each side of a cell does.
-SIDES = {"Writer": "Writes", "Reader": "Reads"}
-
 FAMILIES = {
-    "board": {"words": "A board over four-slot cells", "prefix": "", "family": "FourSlot", "variant": "Board"},
-    "triple_board": {"words": "A board over triple buffers", "prefix": "triple_", "family": "Triple", "variant": "TripleBoard"},
+    "board": {"words": "A board over four-slot cells", "prefix": "", "name": "four_slot", "type": "FourSlot"},
+    "triple_board": {"words": "A board over triple buffers", "prefix": "triple_", "name": "triple", "type": "Triple"},
 }
 
 HEAD = """//! The exports: for each cell and size a make, a write, a read, a look and an end of either side, and of a triple buffer a hold, a
@@ -37,101 +35,111 @@ HEAD = """//! The exports: for each cell and size a make, a write, a read, a loo
 
 TEXT = """//! {words} with records of {bytes} bytes.
 ghost use Rattle.c_registers.specs.{specs}.{{IsMade, HasWritten, HasRead{holds}}};
-ghost use Rattle.c_registers.specs.Handles.{{IsMake, IsWrite, IsRead, IsLook, {is_hold}IsEnd}};
-ghost use Rattle.c_handles.specs.Held.{{held}};
-ghost use Rattle.c_handles.specs.declared.side.Side.TheVariants.{{Of{size}}};
-ghost use Rattle.c_handles.specs.declared.side.Party.TheVariants.{{{party}Writes, {party}Reads}};
+ghost use Rattle.c_registers.specs.Handles.{{holding, IsMake, IsWrite, IsRead, IsLook, {is_hold}IsEnd}};
 
-use c_handles::{{{names}}};
+use c_handles::handles::{{{name}_reader_{size}, {name}_writer_{size}}};
+use c_handles::{{{structs}}};
+use c_registers::{{{names}}};
 use std::alloc::Global;
 
 #[unsafe(no_mangle)]
 pub extern "C" fn nidzaru_{prefix}{size}_make(
     alloc: Global,
     first: &Record{size},
-    writer: &mut Handle,
-    reader: &mut Handle,
+    writer: &mut {name}_writer_{size}::Handle,
+    reader: &mut {name}_reader_{size}::Handle,
 ) -> u32
-    ensures {{ IsMake (λ p. Of{size} ({party}Writes p)) (λ g. Of{size} ({party}Reads g)) IsMade
-        (held writer.old) (held reader.old) (held writer.new) (held reader.new) first.now result }}
+    ensures {{ IsMake ({writes}, {reads}) (λ p. record {{ it = p }}) (λ g. record {{ it = g }}) IsMade
+        (holding writer.old.live writer.old.loose.side) (holding reader.old.live reader.old.loose.side)
+        (holding writer.new.live writer.new.loose.side) (holding reader.new.live reader.new.loose.side) first.now result }}
 {{
-    {name}_make::<Record{size}>(alloc, first, writer, reader)
+    make::<{type}Writer{size}, {type}Reader{size}, {name}_writer_{size}::Handle, {name}_reader_{size}::Handle, Record{size}, {type}Writer<Record{size}>, {type}Reader<Record{size}>>(alloc, first, writer, reader)
 }}
 
 #[unsafe(no_mangle)]
-pub extern "C" fn nidzaru_{prefix}{size}_write(alloc: Global, writer: &mut Handle, item: &Record{size}) -> u32
-    ensures {{ IsWrite (λ p. Of{size} ({party}Writes p)) (λ p. p.number) HasWritten (held writer.old) (held writer.new) item.now result }}
+pub extern "C" fn nidzaru_{prefix}{size}_write(writer: &mut {name}_writer_{size}::Handle, item: &Record{size}) -> u32
+    ensures {{ IsWrite {writes} (λ p. record {{ it = p }}) (λ p. p.number) HasWritten (holding writer.old.live writer.old.loose.side)
+        (holding writer.new.live writer.new.loose.side) item.now result }}
 {{
-    {name}_write::<Record{size}>(alloc, writer, item)
+    write::<{type}Writer{size}, {name}_writer_{size}::Loose, Record{size}, {type}Writer<Record{size}>>({writes}, &mut writer.live, &mut writer.loose, item)
 }}
 
 #[unsafe(no_mangle)]
 pub extern "C" fn nidzaru_{prefix}{size}_read(
-    alloc: Global,
-    reader: &mut Handle,
+    reader: &mut {name}_reader_{size}::Handle,
     item: &mut Record{size},
     number: &mut u64,
 ) -> u32
-    ensures {{ IsRead (λ g. Of{size} ({party}Reads g)) HasRead (held reader.old) (held reader.new)
-        item.old item.new number.old number.new result }}
+    ensures {{ IsRead {reads} (λ g. record {{ it = g }}) HasRead (holding reader.old.live reader.old.loose.side)
+        (holding reader.new.live reader.new.loose.side) item.old item.new number.old number.new result }}
 {{
-    {name}_read::<Record{size}>(alloc, reader, item, number)
+    read::<{type}Reader{size}, {name}_reader_{size}::Loose, Record{size}, {type}Reader<Record{size}>>({reads}, &mut reader.live, &mut reader.loose, item, number)
 }}
 
 #[unsafe(no_mangle)]
-pub extern "C" fn nidzaru_{prefix}{size}_look(alloc: Global, reader: &mut Handle, number: &mut u64) -> u32
-    ensures {{ IsLook (λ g. Of{size} ({party}Reads g)) HasRead (held reader.old) (held reader.new) number.old number.new result }}
+pub extern "C" fn nidzaru_{prefix}{size}_look(reader: &mut {name}_reader_{size}::Handle, number: &mut u64) -> u32
+    ensures {{ IsLook {reads} (λ g. record {{ it = g }}) HasRead (holding reader.old.live reader.old.loose.side)
+        (holding reader.new.live reader.new.loose.side) number.old number.new result }}
 {{
-    {name}_look::<Record{size}>(alloc, reader, number)
+    look::<{type}Reader{size}, {name}_reader_{size}::Loose, Record{size}, {type}Reader<Record{size}>>({reads}, &mut reader.live, &mut reader.loose, number)
 }}
 {hold}
 #[unsafe(no_mangle)]
-pub extern "C" fn nidzaru_{prefix}{size}_end_writer(alloc: Global, writer: &mut Handle) -> u32
-    ensures {{ IsEnd (λ p. Of{size} ({party}Writes p)) (held writer.old) (held writer.new) result }}
+pub extern "C" fn nidzaru_{prefix}{size}_end_writer(alloc: Global, writer: &mut {name}_writer_{size}::Handle) -> u32
+    ensures {{ IsEnd {writes} (holding writer.old.live writer.old.loose.side) (holding writer.new.live writer.new.loose.side) result }}
 {{
-    {name}_end_writer::<Record{size}>(alloc, writer)
+    end::<{type}Writer{size}, {name}_writer_{size}::Handle>(alloc, writer)
 }}
 
 #[unsafe(no_mangle)]
-pub extern "C" fn nidzaru_{prefix}{size}_end_reader(alloc: Global, reader: &mut Handle) -> u32
-    ensures {{ IsEnd (λ g. Of{size} ({party}Reads g)) (held reader.old) (held reader.new) result }}
+pub extern "C" fn nidzaru_{prefix}{size}_end_reader(alloc: Global, reader: &mut {name}_reader_{size}::Handle) -> u32
+    ensures {{ IsEnd {reads} (holding reader.old.live reader.old.loose.side) (holding reader.new.live reader.new.loose.side) result }}
 {{
-    {name}_end_reader::<Record{size}>(alloc, reader)
+    end::<{type}Reader{size}, {name}_reader_{size}::Handle>(alloc, reader)
 }}
 """
 
 HOLD_TEXT = """
 #[unsafe(no_mangle)]
-pub extern "C" fn nidzaru_{prefix}{size}_hold<'a>(reader: &'a mut Handle, at: &mut &'a Record{size}) -> u32
-    ensures {{ IsHold (λ g. Of{size} ({party}Reads g)) at_hand (held reader.old) at.old.now at.new.now result }}
+pub extern "C" fn nidzaru_{prefix}{size}_hold<'a>(reader: &'a mut {name}_reader_{size}::Handle, at: &mut &'a Record{size}) -> u32
+    ensures {{ IsHold {reads} (λ g. record {{ it = g }}) at_hand (holding reader.old.live reader.old.loose.side) at.old.now at.new.now result }}
 {{
-    {name}_hold::<Record{size}>(reader, at).status
+    let live = reader.live;
+    hold::<{type}Reader{size}, {name}_reader_{size}::Loose, Record{size}>(&mut reader.loose, {reads}, live, at).status
 }}
 
 #[unsafe(no_mangle)]
-pub extern "C" fn nidzaru_{prefix}{size}_loan<'a>(writer: &'a mut Handle, at: &mut &'a mut Record{size}) -> u32
-    ensures {{ IsHold (λ p. Of{size} ({party}Writes p)) in_slot (held writer.old) at.old.now at.new.now result }}
+pub extern "C" fn nidzaru_{prefix}{size}_loan<'a>(writer: &'a mut {name}_writer_{size}::Handle, at: &mut &'a mut Record{size}) -> u32
+    ensures {{ IsHold {writes} (λ p. record {{ it = p }}) in_slot (holding writer.old.live writer.old.loose.side) at.old.now at.new.now result }}
 {{
-    {name}_loan::<Record{size}>(writer, at)
+    let live = writer.live;
+    match slot::<{type}Writer{size}, {name}_writer_{size}::Loose, Record{size}>(&mut writer.loose, {writes}, live) {{
+        Err(status) => status,
+        Ok(words) => {{
+            *at = words;
+            DONE
+        }}
+    }}
 }}
 
 #[unsafe(no_mangle)]
-pub extern "C" fn nidzaru_{prefix}{size}_publish(alloc: Global, writer: &mut Handle) -> u32
-    ensures {{ IsPublish (λ p. Of{size} ({party}Writes p)) (λ p. p.number) HasPublished (held writer.old) (held writer.new) result }}
+pub extern "C" fn nidzaru_{prefix}{size}_publish(writer: &mut {name}_writer_{size}::Handle) -> u32
+    ensures {{ IsPublish {writes} (λ p. record {{ it = p }}) (λ p. p.number) HasPublished (holding writer.old.live writer.old.loose.side)
+        (holding writer.new.live writer.new.loose.side) result }}
 {{
-    {name}_publish::<Record{size}>(alloc, writer)
+    publish::<{type}Writer{size}, {name}_writer_{size}::Loose, Record{size}>({writes}, &mut writer.live, &mut writer.loose)
 }}
 """
 
 
 BOARD_TEXT = """//! {words} with records of {bytes} bytes.
-ghost use Rattle.c_registers.specs.Handles.{{IsEnd}};
+ghost use Rattle.c_registers.specs.Handles.{{holding, IsEnd}};
 ghost use Rattle.c_boards.specs.Places.{{IsBoardMake, IsBoardWrite, IsBoardRead, IsBoardReadSince}};
-ghost use Rattle.c_handles.specs.Held.{{held, live_of, side_of}};
-ghost use Rattle.c_handles.specs.declared.side.Side.TheVariants.{{{variant}{size}}};
 
-use c_boards::{{Mark, Posts}};
-use c_handles::{{{names}}};
+use c_boards::{{Mark, Posts, make_places, read_place, read_place_since, write_place}};
+use c_handles::handles::{name}_place_{size};
+use c_handles::{{{structs}}};
+use c_registers::end;
 use std::alloc::Global;
 
 #[unsafe(no_mangle)]
@@ -139,217 +147,90 @@ pub extern "C" fn nidzaru_{prefix}board_{size}_make(
     alloc: Global,
     first: &Record{size},
     limit: u64,
-    places: &mut [Handle],
+    places: &mut [{name}_place_{size}::Handle],
 ) -> u32
-    ensures {{ IsBoardMake live_of side_of {variant}{size} ⟦<{family}Seat{size} as Posts<Record{size}>>⟧.is_made
+    ensures {{ IsBoardMake (λ h. h.live) (λ h. h.loose.side) {code} (λ s. record {{ it = s }}) ⟦<{type}Seat{size} as Posts<Record{size}>>⟧.is_made
         limit places.old places.new first.now result }}
 {{
-    board_make::<Record{size}, {family}Seat{size}>(alloc, first, limit, places)
+    make_places::<{type}Place{size}, {name}_place_{size}::Handle, Record{size}, {type}Seat{size}>(alloc, first, limit, places)
 }}
 
 #[unsafe(no_mangle)]
 pub extern "C" fn nidzaru_{prefix}board_{size}_write(
-    alloc: Global,
-    place: &mut Handle,
+    place: &mut {name}_place_{size}::Handle,
     item: &Record{size},
     stamp: &mut Mark,
 ) -> u32
-    ensures {{ IsBoardWrite {variant}{size} ⟦<{family}Seat{size} as Posts<Record{size}>>⟧.has_posted ⟦<{family}Seat{size} as Posts<Record{size}>>⟧.is_refused
-        (held place.old) (held place.new) item.now stamp.old stamp.new result }}
+    ensures {{ IsBoardWrite {code} (λ s. record {{ it = s }}) ⟦<{type}Seat{size} as Posts<Record{size}>>⟧.has_posted ⟦<{type}Seat{size} as Posts<Record{size}>>⟧.is_refused
+        (holding place.old.live place.old.loose.side) (holding place.new.live place.new.loose.side) item.now stamp.old stamp.new result }}
 {{
-    board_write::<Record{size}, {family}Seat{size}>(alloc, place, item, stamp)
+    write_place::<{type}Place{size}, {name}_place_{size}::Loose, Record{size}, {type}Seat{size}>({code}, &mut place.live, &mut place.loose, item, stamp)
 }}
 
 #[unsafe(no_mangle)]
 pub extern "C" fn nidzaru_{prefix}board_{size}_read(
-    alloc: Global,
-    place: &mut Handle,
+    place: &mut {name}_place_{size}::Handle,
     item: &mut Record{size},
     stamp: &mut Mark,
 ) -> u32
-    ensures {{ IsBoardRead {variant}{size} ⟦<{family}Seat{size} as Posts<Record{size}>>⟧.has_seen
-        (held place.old) (held place.new) item.old item.new stamp.old stamp.new result }}
+    ensures {{ IsBoardRead {code} (λ s. record {{ it = s }}) ⟦<{type}Seat{size} as Posts<Record{size}>>⟧.has_seen
+        (holding place.old.live place.old.loose.side) (holding place.new.live place.new.loose.side) item.old item.new stamp.old stamp.new result }}
 {{
-    board_read::<Record{size}, {family}Seat{size}>(alloc, place, item, stamp)
+    read_place::<{type}Place{size}, {name}_place_{size}::Loose, Record{size}, {type}Seat{size}>({code}, &mut place.live, &mut place.loose, item, stamp)
 }}
 
 #[unsafe(no_mangle)]
 pub extern "C" fn nidzaru_{prefix}board_{size}_read_since(
-    alloc: Global,
-    place: &mut Handle,
+    place: &mut {name}_place_{size}::Handle,
     least: &Mark,
     item: &mut Record{size},
     stamp: &mut Mark,
 ) -> u32
-    ensures {{ IsBoardReadSince {variant}{size} ⟦<{family}Seat{size} as Posts<Record{size}>>⟧.has_seen
-        (held place.old) (held place.new) least.now item.old item.new stamp.old stamp.new result }}
+    ensures {{ IsBoardReadSince {code} (λ s. record {{ it = s }}) ⟦<{type}Seat{size} as Posts<Record{size}>>⟧.has_seen
+        (holding place.old.live place.old.loose.side) (holding place.new.live place.new.loose.side) least.now item.old item.new stamp.old stamp.new result }}
 {{
-    board_read_since::<Record{size}, {family}Seat{size}>(alloc, place, least, item, stamp)
+    read_place_since::<{type}Place{size}, {name}_place_{size}::Loose, Record{size}, {type}Seat{size}>({code}, &mut place.live, &mut place.loose, least, item, stamp)
 }}
 
 #[unsafe(no_mangle)]
-pub extern "C" fn nidzaru_{prefix}board_{size}_end(alloc: Global, place: &mut Handle) -> u32
-    ensures {{ IsEnd {variant}{size} (held place.old) (held place.new) result }}
+pub extern "C" fn nidzaru_{prefix}board_{size}_end(alloc: Global, place: &mut {name}_place_{size}::Handle) -> u32
+    ensures {{ IsEnd {code} (holding place.old.live place.old.loose.side) (holding place.new.live place.new.loose.side) result }}
 {{
-    board_end::<{family}Seat{size}>(alloc, place)
-}}
-"""
-
-PICK_HEAD = """//! Which part of a `Side` a call is for: the size by its record, then the cell and the side by the party's type.
-ghost use Rattle.std.specs.Prelude.{{◌≡◌, ◌≢◌, IfSome, IfNone}};
-ghost use Rattle.std.specs.Borrow.{{LendsIf, sem}};
-ghost use Rattle.std.proofs.Common.{{rules}};
-ghost use Rattle.c_handles.specs.declared.side.Side.{{Side}};
-ghost use Rattle.c_handles.specs.declared.side.Party.{{Party}};
-ghost use Rattle.c_handles.specs.declared.side.Side.TheVariants.{{{variants}}};
-ghost use Rattle.c_handles.specs.declared.side.Party.TheVariants.{{{parties}}};
-ghost use Rattle.c_handles.specs.contracts.side.Side as sides;
-ghost use Rattle.c_handles.specs.contracts.side.Party as parties;
-
-use crate::record::{{{records}}};
-use crate::side::{{Party, Side}};
-use c_registers::{{{sides}}};
-
-/// A record of one of the sizes.
-pub trait Record: Copy {{
-    // The side that a party of this size is.
-    ghost side: {{ Party Self → Side }};
-
-    /// The party of this size, if the side is of this size.
-    fn party(among: &mut Side) -> Option<&mut Party<Self>>
-        ensures* writes_back {{ sem 𝓛 (LendsIf sides.the_row (parties.the_row Self.row Self.Clone) among.entry result side among.old) }}
-        ensures some {{ IfSome result (λ p. among.old ≡ side p.now) }}
-        ensures none {{ IfNone result ((p : Party Self) → among.old ≢ side p) }};
-
-    /// The side that the party is.
-    fn into_side(party: Party<Self>) -> Side
-        ensures {{ result ≡ side party }};
-
-    // No other party is the same side.
-    ghost only: {{ (p q : Party Self) → side p ≡ side q → p ≡ q }};
-}}
-"""
-
-PICK_RECORD = """
-impl Record for Record{size} {{
-    ghost side = {{ Of{size} }};
-
-    fn party(among: &mut Side) -> Option<&mut Party<Record{size}>> {{
-        if let Side::Of{size}(party) = among {{
-            Some(party)
-        }} else {{
-            None
-        }}
-    }}
-
-    fn into_side(party: Party<Record{size}>) -> Side
-        ensures {{ result ≡ Of{size} party }}
-    {{
-        Side::Of{size}(party)
-    }}
-
-    ghost only = {{ Prim.search rules }};
-}}
-"""
-
-PICK_ROLES = """
-/// A party of one kind, over records of one type.
-pub trait Role<W: Copy>: Sized + Drop {
-    // The party that it is.
-    ghost party: { Self → Party W };
-
-    /// What the party has, if it is of this kind.
-    fn of(among: &mut Party<W>) -> Option<&mut Self>
-        ensures* writes_back { sem 𝓛 (LendsIf (parties.the_row W.row W.Clone) Self.row among.entry result party among.old) }
-        ensures some { IfSome result (λ s. among.old ≡ party s.now) }
-        ensures none { IfNone result ((s : Self) → among.old ≢ party s) };
-
-    /// The party.
-    fn into_party(self) -> Party<W>
-        ensures { result ≡ party self };
-}
-"""
-
-PICK_ROLE = """
-impl<W: Copy> Role<W> for {side}<W> {{
-    ghost party = {{ {party} }};
-
-    fn of(among: &mut Party<W>) -> Option<&mut {side}<W>> {{
-        if let Party::{party}(side) = among {{
-            Some(side)
-        }} else {{
-            None
-        }}
-    }}
-
-    fn into_party(self) -> Party<W> {{
-        Party::{party}(self)
-    }}
-}}
-"""
-
-PICK = """
-/// The side of one kind and size that lies in `among`, if it is one.
-pub fn pick<'a, W: Record + 'a, S: Role<W> + 'a>(among: &'a mut Side) -> Option<&'a mut S>
-    ensures* writes_back { sem 𝓛 (LendsIf sides.the_row S.row among.entry result (λ s. W.side (S.party s)) among.old) }
-    ensures some { IfSome result (λ s. among.old ≡ W.side (S.party s.now)) }
-    ensures none { IfNone result ((s : S) → among.old ≢ W.side (S.party s)) }
-{
-    match W::party(among) {
-        None => None,
-        Some(party) => S::of(party),
-    }
-}
-"""
-
-PICK_OFFER = """
-impl<W: Record> Offers<{side}<W>> for Side {{
-    ghost side = {{ λ s. W.side ({party} s) }};
-
-    fn of(&mut self) -> Option<&mut {side}<W>> {{
-        pick::<W, {side}<W>>(self)
-    }}
-
-    fn whole(variant: {side}<W>) -> Side {{
-        W::into_side(Party::{party}(variant))
-    }}
+    end::<{type}Place{size}, {name}_place_{size}::Handle>(alloc, place)
 }}
 """
 
 
 def export(size, cell):
-    calls = ("end_reader", "end_writer", *(["hold", "loan", "publish"] if cell["holds"] else []), "look", "make", "read", "write")
-    names = ["Handle", f"Record{size}", *(f"{cell['name']}_{call}" for call in calls)]
-    hold = HOLD_TEXT.format(size=size, **cell) if cell["holds"] else ""
-    is_hold = "IsHold, IsPublish, " if cell["holds"] else ""
-    return TEXT.format(size=size, bytes=f"{size:,}", names=", ".join(sorted(names)), hold=hold, is_hold=is_hold, **cell)
+    """The text of one cell's and size's exports."""
+    calls = ["end", "look", "make", "read", "write", *(["hold", "publish", "slot"] if cell["holds"] else [])]
+    words = {
+        "size": size,
+        "bytes": f"{size:,}",
+        "writes": code_of(f"{cell['name']}_writer_{size}"),
+        "reads": code_of(f"{cell['name']}_reader_{size}"),
+        "structs": ", ".join(sorted([f"Record{size}", f"{cell['type']}Reader{size}", f"{cell['type']}Writer{size}"])),
+        "is_hold": "IsHold, IsPublish, " if cell["holds"] else "",
+        "names": ", ".join(sorted([*(["DONE"] if cell["holds"] else []), f"{cell['type']}Reader", f"{cell['type']}Writer"]) + sorted(calls)),
+        **cell,
+    }
+    return TEXT.format(hold=HOLD_TEXT.format(**words) if cell["holds"] else "", **words)
 
 
 def board_export(size, family):
-    calls = ("end", "make", "read", "read_since", "write")
-    names = ["Handle", f"Record{size}", f"{family['family']}Seat{size}", *(f"board_{call}" for call in calls)]
-    return BOARD_TEXT.format(size=size, bytes=f"{size:,}", names=", ".join(sorted(names)), **family)
-
-
-def pick():
-    """The text of pick.rt."""
-    sides = [(f"{cell['type']}{side}", f"{cell['party']}{does}") for cell in CELLS.values() for side, does in SIDES.items()]
-    head = PICK_HEAD.format(
-        variants=", ".join(f"Of{size}" for size in SIZES),
-        parties=", ".join(party for _, party in sides),
-        records=", ".join(f"Record{size}" for size in SIZES),
-        sides=", ".join(sorted(["Offers", *(side for side, _ in sides)])),
-    )
-    records = [PICK_RECORD.format(size=size) for size in SIZES]
-    roles = [PICK_ROLE.format(side=side, party=party) for side, party in sides]
-    offers = [PICK_OFFER.format(side=side, party=party) for side, party in sides]
-    return "".join([head, *records, PICK_ROLES, *roles, PICK, *offers])
+    """The text of one family's and size's exports."""
+    structs = ", ".join(sorted([f"Record{size}", f"{family['type']}Place{size}", f"{family['type']}Seat{size}"]))
+    return BOARD_TEXT.format(structs=structs, size=size, bytes=f"{size:,}", code=code_of(f"{family['name']}_place_{size}"), **family)
 
 
 def made():
     """The files by their names below crates/."""
     files = {f"c_exports/src/{name}": text for name, text in exports().items()}
-    return {name: MADE + text for name, text in {"c_handles/src/pick.rt": pick(), **files}.items()}
+    files.update({f"c_handles/{name}": text for name, text in handles.made().items()})
+    answers = read(handles.TEMPLATES, "loan_answers.antt.template")
+    for size in SIZES:
+        files[f"c_exports/proofs/exports/triple_{size}/nidzaru_triple_{size}_loan/Answers.antt"] = answers.replace("@FILE@", f"triple_{size}")
+    return {name: MADE[os.path.splitext(name)[1]] + text for name, text in files.items()}
 
 
 def exports():
@@ -373,7 +254,7 @@ def boards():
 
 def words(text):
     """A text without its layout, which `rt fmt` decides: no spaces, and no comma before a bracket that closes."""
-    return re.sub(r",(?=[)\]}])", "", re.sub(r"\s+", "", text))
+    return re.sub(r",(?=[)\]}>])", "", re.sub(r"\s+", "", text))
 
 
 def read(*path):
@@ -385,7 +266,7 @@ def faults():
     files = made()
     for name, text in files.items():
         path = os.path.join(TOP, "crates", name)
-        if not os.path.exists(path) or not read(path).startswith(MADE) or words(read(path)) != words(text):
+        if not os.path.exists(path) or words(read(path)) != words(text):
             yield f"crates/{name} isn't the text of c/exports.py"
     there = {f"c_exports/src/exports/{name}" for name in os.listdir(EXPORTS) if name != "version.rt"}
     yield from (f"crates/{name} is made by nothing" for name in sorted(there - set(files)))
@@ -407,11 +288,13 @@ def faults():
 
 if sys.argv[1:] == ["write"]:
     for name, text in made().items():
-        with open(os.path.join(TOP, "crates", name), "w", encoding="utf-8") as file:
+        path = os.path.join(TOP, "crates", name)
+        os.makedirs(os.path.dirname(path), exist_ok=True)
+        with open(path, "w", encoding="utf-8") as file:
             file.write(text)
 elif sys.argv[1:] == ["check"]:
     found = list(faults())
-    print("\n".join(found) or f"pick.rt, {(6 * len(CELLS) + 3) * len(SIZES)} exports of {len(CELLS) * len(SIZES)} cells, {5 * len(boards())} of {len(boards())} boards")
+    print("\n".join(found) or f"{len(list(handles.kinds()))} handles, {(6 * len(CELLS) + 3) * len(SIZES)} exports of {len(CELLS) * len(SIZES)} cells, {5 * len(boards())} of {len(boards())} boards")
     sys.exit(1 if found else 0)
 else:
     sys.exit(__doc__)

@@ -22,8 +22,8 @@ __attribute__((weak)) void *nidzaru_allocate(size bytes) { return malloc(bytes);
 
 __attribute__((weak)) void nidzaru_release(void *block) { free(block); }
 
-/* The library gets whole lines of the cache, so that no line has parts of two blocks: a thread's own lines then stay with its processor, and
- * words that change together lie in one. What a block is a part of, which is aligned to 16, stands right before it. */
+/* The library gets whole lines of the cache, so that no line has parts of two blocks: a thread's own lines then stay with its processor,
+ * and words that change together lie in one. What a block is a part of, which is aligned to 16, stands right before it. */
 enum { LINE = 64 };
 
 static void *lines(size bytes) {
@@ -37,7 +37,9 @@ static void *lines(size bytes) {
 static void release(void *block) { nidzaru_release(((void **)block)[-1]); }
 
 /* A value without bytes gets a block too, so that each has one of its own. */
-struct tried rattle_alloc(size bytes, size alignment) { return tried(lines(bytes ? bytes : alignment)); }
+struct tried rattle_alloc(size bytes, size alignment) {
+    return tried(lines(bytes ? bytes : alignment));
+}
 
 /* Makes a block one of so many bytes, which may lie elsewhere, with its first `kept` bytes. If there is no memory it stays as it is. */
 struct tried rattle_realloc(void *block, size kept, size bytes, size alignment) {

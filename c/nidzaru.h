@@ -13,9 +13,10 @@
  *   limits_news(&reader, &item, &number)               the same as a read where there is a greater number than this one, else nothing
  *   limits_end_writer(&writer), limits_end_reader(&reader)   in any order, each from its own thread
  *
- * No write and no read waits, tries again or takes memory. The opening is number 0, and each write has the next number. A
- * number never falls from one read to the next, and one number is one record: a greater number than the last is news, and
- * what lies between them was missed. NIDZARU_REGISTER takes the four-slot cell, NIDZARU_TRIPLE_REGISTER the triple buffer.
+ * No write and no read waits, tries again or takes memory; but a triple buffer swaps a word, which on 64-bit ARM is a loop, so take
+ * four slots there. The opening is number 0, and each write has the next number. A number never falls from one read to the next, and
+ * one number is one record: a greater number than the last is news, and what lies between them was missed. NIDZARU_REGISTER takes the
+ * four-slot cell, NIDZARU_TRIPLE_REGISTER the triple buffer.
  *
  * Each call on a register answers 0 where it did what it says. Where it answers another of the numbers below it has changed nothing.
  * `nidzaru_status_text` has a line for each.
@@ -26,7 +27,21 @@
 
 #include <stddef.h>
 #include <stdint.h>
+#if __STDC_HOSTED__
 #include <string.h>
+#else
+#ifdef __cplusplus
+extern "C"
+#endif
+void *memcpy(void *to, const void *from, size_t size);
+#endif
+
+/* The packages for pkg-config and CMake tell which machine their library is for. */
+#if defined(NIDZARU_FOR_X86_64) && !defined(__x86_64__)
+#error "nidzaru: the library is for x86_64, and this program isn't"
+#elif defined(NIDZARU_FOR_AARCH64) && !defined(__aarch64__)
+#error "nidzaru: the library is for aarch64, and this program isn't"
+#endif
 
 /* This header's version. `nidzaru_version()` is the library's: the two are of one release where the numbers are the same. */
 #define NIDZARU_VERSION_MAJOR 2
@@ -174,7 +189,8 @@ enum nidzaru_status {
     NIDZARU_PROCESSES = 8,  /* make of a board: it has 2 to 16 places */
     NIDZARU_LIMIT = 9,      /* make of a board: a limit is at least 1 and below 2^64 - 1 */
     NIDZARU_OLDER = 10,     /* read_since: the answer, which is given, has a smaller stamp */
-    NIDZARU_NO_NEWS = 11    /* news: no record is newer than the caller's */
+    NIDZARU_NO_NEWS = 11,   /* news: no record is newer than the caller's */
+    NIDZARU_CUT_OFF = 12    /* the last call with this handle was cut off, by a kill, a cancel or a jump: the side is lost */
 };
 
 /* What a status means, in a few words. */
@@ -192,15 +208,19 @@ NIDZARU_INLINE const char *nidzaru_status_text(int status) {
     case NIDZARU_LIMIT: return "a board's limit is at least 1 and below 2^64 - 1";
     case NIDZARU_OLDER: return "the record is older than the stamp";
     case NIDZARU_NO_NEWS: return "there is no news";
+    case NIDZARU_CUT_OFF: return "the handle's last call was cut off";
     default: return "no status of this library";
     }
 }
 
-/* What the library has of a side. Nothing else reads or writes it. */
+/* What the library has of a side. Nothing else reads or writes it. `live` is 0 where it has none, NIDZARU_BUSY while a call runs, and else
+ * the number of the side's cell and size. */
 typedef struct {
     uint64_t live;
     void *at;
 } nidzaru_side;
+
+#define NIDZARU_BUSY 255
 
 /* A side with the place where it was put, so that a copy of the handle is refused, and with what ThreadSanitizer knows its
  * register by. */
@@ -398,7 +418,7 @@ NIDZARU_CHECKED int nidzaru_sized_write(int triple, size_t size, nidzaru_handle 
 
 /* (what the number is given to may lie in the record, so the call gets a local one) */
 NIDZARU_CHECKED int nidzaru_sized_read(int triple, size_t size, nidzaru_handle *r, void *item, uint64_t *number) {
-    uint64_t given = 0;
+    uint64_t given;
     uint32_t status;
     nidzaru_begin(r);
     nidzaru_let_go(r);
@@ -701,8 +721,8 @@ NIDZARU_CHECKED int nidzaru_move_handle(nidzaru_handle *to, nidzaru_handle *from
  *   plans_news(&places[1], &item, &stamp)              the same as a read where there is a greater stamp than this one, else nothing
  *   plans_end(&places[2])                              in any order, each from its own thread
  *
- * No call waits, tries again or takes memory, but `make`. One stamp is one record; the opening has the stamp 0.0. Of two stamps the
- * one with the greater tag is the later one, of equal tags the one with the greater writer. What a place reads is never older than
+ * No call waits, tries again (but a triple buffer's on 64-bit ARM) or takes memory, but `make`. One stamp is one record; the opening has
+ * the stamp 0.0. Of two stamps the one with the greater tag is the later one, of equal tags the one with the greater writer. What a place reads is never older than
  * what it wrote or read before. A place goes to the struct of its thread by `plans_move`. NIDZARU_BOARD takes four-slot cells,
  * NIDZARU_TRIPLE_BOARD triple buffers.
  *

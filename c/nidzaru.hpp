@@ -17,7 +17,8 @@
 //
 // `if (writer)`, `if (reader)` and `if (places[0])` ask whether there is a side.
 //
-// The record's type is neither const nor volatile, trivially copyable, and of at most 1048576 bytes, on a board 4096. It may be aligned to 16, 32, 64 and more.
+// The record's type is neither const nor volatile, trivially copyable, and of at most 1048576 bytes, on a board 4096. It may be aligned to
+// 16, 32, 64 and more.
 #ifndef NIDZARU_HPP
 #define NIDZARU_HPP
 #include "nidzaru.h"
@@ -193,9 +194,7 @@ template <class T, cell C = cell::four_slot> class reader : detail::side {
     [[nodiscard]] std::optional<T> news() noexcept { return has_news() ? latest() : std::nullopt; }
 
     // Gives the number that a read would give, without the record. No later read gives a number below it.
-    [[nodiscard]] int look(std::uint64_t &number) noexcept {
-        return nidzaru_sized_look(record::triple, record::size, &handle, &number);
-    }
+    [[nodiscard]] int look(std::uint64_t &number) noexcept { return nidzaru_sized_look(record::triple, record::size, &handle, &number); }
 
     // Where one whole record lies, whose number is `number()` then; null where there is no side. No write goes there until the next call
     // of this reader, but for `number()`: from then on nothing is read through it. Of triple buffers alone.

@@ -45,9 +45,11 @@
  * Stamps. A begin is never taken late, nor an end early, so an interval may be longer than its call and is never shorter. On x86-64
  * `lfence` behind `rdtsc` holds back what follows, and `mfence` before `rdtscp` waits for what went before (Intel, Software Developer's
  * Manual, volume 2, "RDTSC" and "RDTSCP"). The counters of all processors have to run together (constant_tsc and nonstop_tsc in
- * /proc/cpuinfo). With NIDZARU_LOG_TSC 0, and on other processors, the clock is CLOCK_MONOTONIC, in nanoseconds: more portable and
- * slower, and outside x86-64 not tried. The begin waits until the clock has left the thread's last end, so operations of one thread
- * never touch.
+ * /proc/cpuinfo). On 64-bit ARM the counter is CNTVCT_EL0, one for all processors: `isb` behind it holds back what follows, and `dsb`, then
+ * `isb`, before it wait for what went before (Arm Architecture Reference Manual, "Barriers" and "The Generic Timer"). It ticks at some tens
+ * of MHz on many machines, so times may be equal. With NIDZARU_LOG_TSC 0, and on other processors, the clock is CLOCK_MONOTONIC, in
+ * nanoseconds: more portable and slower. The begin waits until the clock has left the thread's last end, so operations of one thread never
+ * touch. The tests ran on x86-64, and for ARM under emulation alone.
  *
  * The fence. When a call returns, what it stored may still wait in the store buffer of its processor. With an end stamped then,
  * others read the old record after that end, and a correct register of release stores and acquire loads is `crossed` or `stale`: by the
@@ -69,11 +71,18 @@
 #define NIDZARU_LOG_FENCE 1
 #endif
 #ifndef NIDZARU_LOG_TSC
-#ifdef __x86_64__
+#if defined(__x86_64__) || defined(__aarch64__)
 #define NIDZARU_LOG_TSC 1
 #else
 #define NIDZARU_LOG_TSC 0
 #endif
+#endif
+
+/* Whether the stamps are the counter of 64-bit ARM. */
+#if NIDZARU_LOG_TSC && defined(__aarch64__)
+#define NIDZARU_LOG_ARM 1
+#else
+#define NIDZARU_LOG_ARM 0
 #endif
 
 #ifndef NIDZARU_LOG_CLOCK
@@ -279,7 +288,9 @@ NIDZARU_LOG_INLINE uint64_t nidzaru_log_stamp_begin(const nidzaru_log *log) {
     uint64_t now;
     NIDZARU_LOG_ORDER(signal_fence);
     do {
-#if NIDZARU_LOG_TSC
+#if NIDZARU_LOG_ARM
+        __asm__ volatile("mrs %0, cntvct_el0" : "=r"(now) : : "memory");
+#elif NIDZARU_LOG_TSC
         now = __rdtsc();
 #else
         now = nidzaru_log_clock();
@@ -287,6 +298,8 @@ NIDZARU_LOG_INLINE uint64_t nidzaru_log_stamp_begin(const nidzaru_log *log) {
     } while (now <= log->last_end);
 #ifdef __x86_64__
     _mm_lfence();
+#elif NIDZARU_LOG_ARM
+    __asm__ volatile("isb" : : : "memory");
 #else
     NIDZARU_LOG_ORDER(thread_fence);
 #endif
@@ -297,16 +310,22 @@ NIDZARU_LOG_INLINE uint64_t nidzaru_log_stamp_begin(const nidzaru_log *log) {
 /* A moment by which all that went before has been done, and, with the fence, can be seen by all. */
 NIDZARU_LOG_INLINE uint64_t nidzaru_log_stamp_end(void) {
     uint64_t now;
-#if NIDZARU_LOG_TSC
+#if NIDZARU_LOG_TSC && !NIDZARU_LOG_ARM
     unsigned processor;
 #endif
     NIDZARU_LOG_ORDER(signal_fence);
 #if NIDZARU_LOG_FENCE && defined(__x86_64__)
     _mm_mfence();
+#elif NIDZARU_LOG_FENCE && NIDZARU_LOG_ARM
+    __asm__ volatile("dsb ish" : : : "memory"); /* (a dmb orders accesses alone, and a look at the counter is none) */
 #elif NIDZARU_LOG_FENCE
     NIDZARU_LOG_ORDER(thread_fence);
+#elif NIDZARU_LOG_ARM
+    __asm__ volatile("dsb ishld" : : : "memory"); /* what was loaded is there; what was stored may wait */
 #endif
-#if NIDZARU_LOG_TSC
+#if NIDZARU_LOG_ARM
+    __asm__ volatile("isb\n\tmrs %0, cntvct_el0" : "=r"(now) : : "memory");
+#elif NIDZARU_LOG_TSC
     now = __rdtscp(&processor);
 #else
     now = nidzaru_log_clock();
@@ -325,7 +344,9 @@ NIDZARU_LOG_INLINE void nidzaru_log_pace(nidzaru_log *const *logs, size_t count,
     }
 }
 
-NIDZARU_LOG_INLINE void nidzaru_log_set_turn(nidzaru_log *log, uint64_t turn) { __atomic_store_n(&log->state->turn, turn, __ATOMIC_RELAXED); }
+NIDZARU_LOG_INLINE void nidzaru_log_set_turn(nidzaru_log *log, uint64_t turn) {
+    __atomic_store_n(&log->state->turn, turn, __ATOMIC_RELAXED);
+}
 
 /* The thread records no more, and nobody waits for it. */
 NIDZARU_LOG_INLINE void nidzaru_log_leave(nidzaru_log *log) { nidzaru_log_set_turn(log, NIDZARU_LOG_LEFT); }
@@ -356,7 +377,8 @@ NIDZARU_LOG_INLINE void nidzaru_log_wait(unsigned tries) {
 NIDZARU_LOG_INLINE void nidzaru_log_keep_pace(nidzaru_log *log) {
     uint64_t turn = log->state->turn;
     if (!log->ahead || turn < log->reach || turn == NIDZARU_LOG_LEFT) return;
-    for (unsigned tries = 1; (log->reach = nidzaru_log_slowest(log) + log->ahead) <= turn + log->ahead / 2; tries++) nidzaru_log_wait(tries);
+    for (unsigned tries = 1; (log->reach = nidzaru_log_slowest(log) + log->ahead) <= turn + log->ahead / 2; tries++)
+        nidzaru_log_wait(tries);
 }
 
 /* The kind is stored behind all else, so that a thread that is killed leaves a whole operation or none. */
@@ -488,8 +510,8 @@ NIDZARU_LOG_INLINE uint64_t nidzaru_log_put_all(FILE *to, nidzaru_log *const *lo
     return operations;
 }
 
-/* Writes the lines of all logs alone, by beginning and with the clock's own times, so that those of several processes can be joined. A limit
- * is the header's. Nothing is written where a log lost an operation. */
+/* Writes the lines of all logs alone, by beginning and with the clock's own times, so that those of several processes can be joined. A
+ * limit is the header's. Nothing is written where a log lost an operation. */
 NIDZARU_LOG_CHECKED int nidzaru_log_lines(FILE *to, nidzaru_log *const *logs, size_t count) {
     int fault = nidzaru_log_fault(logs, count, 1);
     if (fault) return fault;
@@ -507,7 +529,8 @@ NIDZARU_LOG_CHECKED int nidzaru_log_merge(FILE *to, nidzaru_log *const *logs, si
     for (size_t at = 0; at < count; at++) logs[at]->merged = 0;
     nidzaru_log_header(to, opening, limit);
     first = nidzaru_log_first(logs, count);
-    fprintf(to, "{\"kind\":\"done\",\"ops\":%" PRIu64 "}\n", nidzaru_log_put_all(to, logs, count, first ? nidzaru_log_next(first)->begin : 0));
+    fprintf(to, "{\"kind\":\"done\",\"ops\":%" PRIu64 "}\n",
+            nidzaru_log_put_all(to, logs, count, first ? nidzaru_log_next(first)->begin : 0));
     return fflush(to) || ferror(to) ? NIDZARU_LOG_STREAM : 0;
 }
 

@@ -508,11 +508,10 @@ int nidzaru_item_end(nidzaru_item *item, int status) {
     return status;
 }
 
-/* Each call of the library takes the pointer out of the handle first, and puts it back last: a live handle without one is of an owner that
- * died within a call. */
+/* A call of the library marks the handle first, and takes the mark away last: one that is marked is of an owner that died within a call. */
 static int nidzaru_look_at_handle(const nidzaru_handle *handle) {
     if (!handle->side.live) return NIDZARU_ENDED;
-    if (!handle->side.at) return NIDZARU_SHARED_OWNER_DEAD;
+    if (handle->side.live == NIDZARU_BUSY) return NIDZARU_SHARED_OWNER_DEAD;
     return NIDZARU_DONE;
 }
 

@@ -264,7 +264,7 @@ static void names_of_records(void) {
 
 /* Each status has a text of its own, and no other number has it. */
 static void texts(void) {
-    for (int a = NIDZARU_DONE; a <= NIDZARU_NO_NEWS; a++) {
+    for (int a = NIDZARU_DONE; a <= NIDZARU_CUT_OFF; a++) {
         check(*nidzaru_status_text(a) && strcmp(nidzaru_status_text(a), nidzaru_status_text(-1)), "texts", "a status without a text");
         for (int b = NIDZARU_DONE; b < a; b++) check(strcmp(nidzaru_status_text(a), nidzaru_status_text(b)), "texts", "one text for two");
     }
@@ -272,7 +272,7 @@ static void texts(void) {
               && !strcmp(nidzaru_status_text(NIDZARU_ENDED), "the handle has no side")
               && !strcmp(nidzaru_status_text(NIDZARU_COPIED), "the handle was copied")
               && !strcmp(nidzaru_status_text(NIDZARU_NO_NEWS), "there is no news"), "texts", "another text");
-    check(!strcmp(nidzaru_status_text(NIDZARU_NO_NEWS + 1), nidzaru_status_text(-1)), "texts", "a number that is no status");
+    check(!strcmp(nidzaru_status_text(NIDZARU_CUT_OFF + 1), nidzaru_status_text(-1)), "texts", "a number that is no status");
 }
 
 /* Stamps in their order: by tags, and where these are the same by writers. */

@@ -577,8 +577,8 @@ CRATE = [
        f"unsafe impl Send for {side} {{}} unsafe impl Sync for {side} {{}}", f"doc {name}")
       for what, side, name in (("writer", "WritingSide", "Writer"), ("reader", "ReadingSide", "Reader"), ("place", "BoardPlace", "Place"))],
     *[(f"an end of {what} that release builds don't look at", RAW,
-       f"{note} let status = ignore(|| unsafe {{ (self.end)(&mut self.side) }}); assert_eq!(",
-       "let status = ignore(|| unsafe { (self.end)(&mut self.side) }); debug_assert_eq!(", "lib --release")
+       f"{note} let status = ignore(|| unsafe {{ (self.end)(&mut self.side) }}); assert!(",
+       "let status = ignore(|| unsafe { (self.end)(&mut self.side) }); debug_assert!(", "lib --release")
       for what, note in (
           ("a writer", "// The side is live, and is not used again."),
           ("a reader", "// As above."),
@@ -678,7 +678,7 @@ CRATE = [
     ("no release is asked for by a register", RAW, "Option<(WritingSide, ReadingSide)> { ask_for_release();",
      "Option<(WritingSide, ReadingSide)> {", "crate_release"),
     ("no release is asked for by a board", RAW, "16]; ask_for_release();", "16];", "crate_release"),
-    ("a release that isn't asked for", RAW, "std::hint::black_box(&raw const SINCE);", "", "crate_release"),
+    ("a release that isn't asked for", RAW, "core::hint::black_box(&raw const SINCE);", "", "crate_release"),
     ("an older answer without its stamp", BOARDS, "self.last = Stamp::of(mark); if fresh {", "if fresh { self.last = Stamp::of(mark);",
      "test boards"),
     (

@@ -88,12 +88,23 @@ static void *end(void *unused) {
     return unused;
 }
 
+/* What a thread has of the stack beyond what it is to have, as a system may give none so little. It uses that up first. */
+static size_t beyond;
+
+static void *use_up(void *run) {
+    volatile unsigned char gone[beyond + 1];
+    gone[0] = 1;
+    (*(void *(**)(void *))run)(0);
+    return gone[0] ? 0 : run;
+}
+
 /* Runs this in a thread with so many bytes of stack. Behind them lies a page that nothing may touch. */
 static void on_stack(size_t bytes, void *(*run)(void *)) {
     pthread_attr_t attributes;
     pthread_t thread;
-    check(!pthread_attr_init(&attributes) && !pthread_attr_setstacksize(&attributes, bytes), "the size of a stack");
-    check(!pthread_create(&thread, &attributes, run, 0) && !pthread_join(thread, 0), "a thread");
+    check(!pthread_attr_init(&attributes), "what a thread is to have");
+    for (beyond = 0; pthread_attr_setstacksize(&attributes, bytes + beyond) && beyond < 1 << 20;) beyond += 4096;
+    check(!pthread_create(&thread, &attributes, use_up, &run) && !pthread_join(thread, 0), "a thread");
     pthread_attr_destroy(&attributes);
 }
 

@@ -5,11 +5,14 @@
 The edits stand in edits.py. An edit's old text stands once in its file; blanks and the backslashes of macros match any others. The test
 that is named has to pass over the files as they are, and to fail over the edited ones: by a check that it tells, a crash, a race, or the
 compiler's word where that is named. That a test can't be built for another reason doesn't count. The controls are edits that no test
-refuses: each has to be told for its reason. The last line is the sums.
+refuses: each has to be told for its reason. As many rooms as RT_JOBS says, or as there are processors, work at once. The last line is the
+sums.
 """
 
+import concurrent.futures
 import glob
 import os
+import queue
 import re
 import shutil
 import subprocess
@@ -78,7 +81,6 @@ CONTROLS = [
     (("a header that isn't C, for another reason", [H], "int nidzaru_is_copied(", "int nidzaru_is_coped(", "held", "a held record"),
      "it wasn't built for another reason"),
 ]
-
 
 
 class Room:
@@ -191,7 +193,8 @@ class Room:
         return True, True, said
 
     def run_cargo(self, *words, crate="rust", packages="lib", target="target", **more):
-        env = {**os.environ, "PKG_CONFIG_PATH": f"{self.folder}/{packages}", "CARGO_TARGET_DIR": f"{self.folder}/{target}", **more}
+        env = {**os.environ, "PKG_CONFIG_PATH": f"{self.folder}/{packages}", "CARGO_TARGET_DIR": f"{self.folder}/{target}",
+               "CARGO_PROFILE_DEV_DEBUG": "0", "CARGO_PROFILE_TEST_DEBUG": "0", "CARGO_BUILD_JOBS": "1", **more}
         return self.call(["cargo", *words, "--offline", "--quiet", "--manifest-path", f"{self.folder}/{crate}/Cargo.toml"], env=env)
 
     def cargo(self, words):
@@ -274,43 +277,52 @@ def verdict(room, row):
     return f"it gets through {test}" if passed else None
 
 
-def judge(room, rows, what):
-    """Tells of each row whose verdict isn't as it is to be: the rows, each with how its reason begins, or with None where it is refused."""
-    passed = failed = 0
-    for row, wanted in rows:
-        why = verdict(room, row)
-        room.restore()
-        good = why is None if wanted is None else why is not None and why.startswith(wanted)
-        passed, failed = passed + good, failed + (not good)
-        if not good:
-            print(f"test: planted: FAILED: {what}{row[0]}: {why or 'it is refused'}")
-        sys.stdout.flush()
-    return passed, failed
+def judge(room, row, wanted, what):
+    """What is told of a row whose verdict isn't as it is to be: `wanted` is how its reason begins, or None where it is refused."""
+    why = verdict(room, row)
+    good = why is None if wanted is None else why is not None and why.startswith(wanted)
+    return None if good else f"{what}{row[0]}: {why or 'it is refused'}"
 
 
-def try_tests(room, tests):
-    """Runs each test over the files as they are."""
-    passed = failed = 0
-    for test in tests:
-        built, good, said = room.test(test)
-        room.restore()
-        passed, failed = passed + good, failed + (not good)
-        if not good:
-            print(f"test: planted: FAILED: {test} over the headers as they are{'' if built else ', not built'}: {said[-300:]}")
-    return passed, failed
+def try_test(room, test):
+    """What is told of a test that doesn't pass over the files as they are."""
+    built, good, said = room.test(test)
+    return None if good else f"{test} over the headers as they are{'' if built else ', not built'}: {said[-300:]}"
+
+
+def over_rooms(rooms, checks):
+    """Makes each check in one of the rooms, and tells of those that fail."""
+    free = queue.SimpleQueue()
+    for room in rooms:
+        free.put(room)
+
+    def work(check):
+        room = free.get()
+        try:
+            return check(room)
+        finally:
+            room.restore()
+            free.put(room)
+
+    failed = 0
+    with concurrent.futures.ThreadPoolExecutor(len(rooms)) as pool:
+        for told in pool.map(work, checks):
+            if told is not None:
+                failed += 1
+                print(f"test: planted: FAILED: {told}", flush=True)
+    return len(checks) - failed, failed
 
 
 def main(library, words):
     began = time.monotonic()
+    rows = [row for row in edits() if not words or any(word in row[0] for word in words)]
     with tempfile.TemporaryDirectory() as folder:
-        room = Room(folder, library)
-        rows = [row for row in edits() if not words or any(word in row[0] for word in words)]
-        sums = [
-            try_tests(room, dict.fromkeys(row[4] for row in rows)),
-            judge(room, [(row, None) for row in rows], ""),
-            judge(room, CONTROLS, "control: "),
-        ]
-    passed, failed = (sum(column) for column in zip(*sums))
+        jobs = min(int(os.environ.get("RT_JOBS") or os.cpu_count() or 1), max(len(rows), 1))
+        rooms = [Room(f"{folder}/{k}", library) for k in range(jobs)]
+        checks = [lambda room, test=test: try_test(room, test) for test in dict.fromkeys(row[4] for row in rows)]
+        checks += [lambda room, row=row: judge(room, row, None, "") for row in rows]
+        checks += [lambda room, row=row, wanted=wanted: judge(room, row, wanted, "control: ") for row, wanted in CONTROLS]
+        passed, failed = over_rooms(rooms, checks)
     spent = os.times()
     print(f"test: planted: {len(rows)} wrong headers and crates, {(spent.children_user + spent.children_system) / 60:.1f} processor minutes, "
           f"{(time.monotonic() - began) / 60:.1f} minutes")

@@ -45,6 +45,22 @@ pub fn one_try_write(log: &mut Log, record: Record) -> Result<u64, u64> {
 """
 NAMES = ("one_read", "one_write", "one_try_write")
 ORDER = ["rdtsc", "lfence", "the_call", "mfence", "rdtscp"]
+# The same for 64-bit ARM, of C: with the fence and without it.
+CALLS_IN_C = """#include "nidzaru_log.h"
+uint64_t the_call(void);
+void one_read(nidzaru_log *log) {
+    nidzaru_log_begin_read(log);
+    uint64_t found = the_call();
+    nidzaru_log_end_read(log, found, &found, sizeof found);
+}
+void one_write(nidzaru_log *log, uint64_t n) {
+    nidzaru_log_begin_write(log, n, &n, sizeof n);
+    the_call();
+    nidzaru_log_end_write(log);
+}
+"""
+ARM_ORDERS = {"arm": ["mrs", "isb", "the_call", "dsb ish", "isb", "mrs"], "arm, unfenced": ["mrs", "isb", "the_call", "dsb ishld", "isb", "mrs"]}
+ARM_C = ["aarch64-linux-gnu-gcc", "-std=c11", "-D_POSIX_C_SOURCE=200809L", "-O2", "-S"]
 
 # How an operation is kept and counted.
 KEPT = "next->kind = kind; next->begin = it->under_way.begin; next->end = end; next->record = record; "
@@ -74,6 +90,12 @@ PLANTED = [
      "\n#if NIDZARU_LOG_FENCE", "stamped"),
     ("nothing that holds the compiler behind the end", H, "now = nidzaru_log_clock(); #endif NIDZARU_LOG_ORDER(signal_fence); return now;",
      "now = nidzaru_log_clock();\n#endif\nreturn now;", "stamped"),
+    ("a begin on ARM that holds nothing back", H, '__asm__ volatile("isb" : : : "memory");', "", "arm"),
+    ("an end on ARM that waits for no store", H, '__asm__ volatile("dsb ish" : : : "memory");', "", "arm"),
+    ("an end on ARM that orders accesses alone", H, '"dsb ish"', '"dmb ish"', "arm"),
+    ("an end on ARM that may be stamped early", H, '"isb\\n\\tmrs %0, cntvct_el0"', '"mrs %0, cntvct_el0"', "arm"),
+    ("an unfenced end on ARM that waits for no load", H, '__asm__ volatile("dsb ishld" : : : "memory");', "", "arm, unfenced"),
+    ("the fence on ARM that is never left out", H, "#elif NIDZARU_LOG_FENCE && NIDZARU_LOG_ARM", "#elif NIDZARU_LOG_ARM", "arm, unfenced"),
     ("operations that touch", H, "while (now <= log->last_end);", "while (now < log->last_end);", "stamped"),
     ("a last end that isn't kept", H, "log->last_end = end;", "", "stamped"),
     ("a clock of microseconds", H, "NIDZARU_LOG_CAST(uint64_t, now.tv_nsec)", "NIDZARU_LOG_CAST(uint64_t, now.tv_nsec) / 1000u * 1000u", "by the clock"),
@@ -85,6 +107,10 @@ PLANTED = [
     ("a close that frees nothing", H, "if (!log->mapped) free(log->state);", "", "stamped"),
     ("a close that clears nothing", H, "if (!log->mapped) free(log->state); memset(log, 0, sizeof *log);", "if (!log->mapped) free(log->state);", "recorder"),
     ("a hash of 128 bytes", H, "size - at < 8 ? size - at : 8); record.hash", "size - at < 8 ? size - at : 8); if (at >= 128) break; record.hash", "recorder"),
+    ("a hash of bytes behind the record", H, "size - at < 8 ? size - at : 8", "size + at < 8 ? size - at : 8", "recorder"),
+    ("a log that isn't cleared where there is no file", H, "void *block; memset(log, 0, sizeof *log); if (file >= 0 && posix_fallocate",
+     "void *block; if (file >= 0 && posix_fallocate", "recorder"),
+    ("a pace of the first log alone", H, "at < count; at++) { logs[at]->beside = logs;", "at < count; at--) { logs[at]->beside = logs;", "recorder"),
     ("a hash of whole words", H, "at < size; at += 8", "at + 8 <= size; at += 8", "recorder"),
     ("a hash without the size", H, "0x9e3779b97f4a7c15u ^ size", "0x9e3779b97f4a7c15u", "recorder"),
     ("a hash that forgets where", H, "(record.hash ^ word) * 0xff51afd7ed558ccdu", "record.hash ^ word * 0xff51afd7ed558ccdu", "recorder"),
@@ -177,6 +203,8 @@ class Room:
         self.restore()
         with open(f"{folder}/calls.rs", "w", encoding="utf-8") as file:
             file.write(CALLS)
+        with open(f"{folder}/calls.c", "w", encoding="utf-8") as file:
+            file.write(CALLS_IN_C)
         with open(f"{folder}/lib.rs", "w", encoding="utf-8") as file:
             file.write("pub mod log;\n")
 
@@ -226,7 +254,25 @@ class Room:
         wrong = [f"{name}: {' '.join(order)}" for name, order in found.items() if order != ORDER]
         return True, not wrong, "FAILED: " + "; ".join(wrong)
 
+    def arm_instructions(self, name):
+        out = f"{self.folder}/calls.s"
+        status, said = call([*ARM_C, f"-DNIDZARU_LOG_FENCE={int(name == 'arm')}", "-I", self.folder, f"{self.folder}/calls.c", "-o", out])
+        if status:
+            return False, False, said
+        with open(out, encoding="utf-8") as file:
+            text = file.read()
+        wrong = []
+        for function in "one_read", "one_write":
+            body = text.split(f"\n{function}:\n")[1].split(".cfi_endproc")[0]
+            order = re.findall(r"(?m)^\s+(mrs|isb|d[ms]b \w+|bl\s+the_call)\b", re.sub(r"(?m)^(\s+d[ms]b)\s+", r"\1 ", body))
+            order = [it.split()[-1] if it.startswith("bl") else it for it in order]
+            if order != ARM_ORDERS[name]:
+                wrong.append(f"{function}: {' '.join(order)}")
+        return True, not wrong, "FAILED: " + "; ".join(wrong)
+
     def test(self, name):
+        if name in ARM_ORDERS:
+            return self.arm_instructions(name)
         if name == "log.rs":
             return self.unit_tests()
         return self.instructions() if name == "instructions" else self.program(name)
@@ -247,7 +293,7 @@ def verdict(room, path, old, new, test):
 
 def has(test):
     """Whether this machine can run the test."""
-    needs = "rustc" if test in ("log.rs", "instructions") else "gcc"
+    needs = ARM_C[0] if test in ARM_ORDERS else "rustc" if test in ("log.rs", "instructions") else "gcc"
     return any(os.access(f"{folder}/{needs}", os.X_OK) for folder in os.environ["PATH"].split(os.pathsep))
 
 

@@ -176,6 +176,16 @@ static void check_records(void) {
         check(nidzaru_log_record_of(0, other, SIZE).hash != hash, "each byte is in the hash");
         check(nidzaru_log_record_of(0, bytes, at).hash != hash, "the size is in the hash");
     }
+    memset(other, 7, SIZE);
+    memset(other, 0, 19);
+    check(nidzaru_log_record_of(0, other, 19).hash == nidzaru_log_record_of(0, bytes, 19).hash, "no byte behind a record is in the hash");
+}
+
+static void check_pace(void) {
+    open_both(2);
+    nidzaru_log_pace(logs, 2, 9);
+    check(one.ahead == 9 && two.ahead == 9 && one.beside == logs && two.beside == logs && two.beside_count == 2, "each log keeps pace");
+    close_both();
 }
 
 static void check_stream(void) {
@@ -237,6 +247,9 @@ static void check_files(const char *path) {
     check(nidzaru_log_open_left(&one, path) == NIDZARU_LOG_NO_FILE, "no file");
     check(nidzaru_log_open_file(&one, 3, 9, "/dev/null/none") == NIDZARU_LOG_NO_FILE, "a file that can't be");
     check(nidzaru_log_open_file(&one, 3, SIZE_MAX / 2, path) == NIDZARU_LOG_NO_FILE, "a file that no size can say");
+    memset(&one, 255, sizeof one);
+    check(nidzaru_log_open_file(&one, 3, 9, "/dev/null/none") == NIDZARU_LOG_NO_FILE && !one.state, "no log where there is no file");
+    memset(&one, 0, sizeof one);
 }
 #else
 static void check_files(const char *path) { (void)path; }
@@ -252,6 +265,7 @@ int main(int count, char **words) {
     check_pairs();
     check_times();
     check_records();
+    check_pace();
     check_stream();
     puts(failed ? "failed" : "passed");
     return failed;

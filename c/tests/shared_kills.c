@@ -12,13 +12,9 @@
 #include <stdio.h>
 #include <sys/prctl.h>
 #include <sys/wait.h>
+#include "shared_cells.h"
 
-#ifndef BYTES
-#define BYTES 24
-#endif
-enum { WORDS = BYTES / 8, ROOM = 200, BOARD_PLACES = 3 };
-
-struct record { uint64_t words[WORDS]; };
+enum { ROOM = 200 };
 
 /* What is seen of the victim: its calls, and whether it was within one. */
 struct seen { uint64_t calls, number, within; };
@@ -30,32 +26,10 @@ static void fails(const char *why) {
 
 /* The record of a write has this and the following numbers in its words. No two writes have one. */
 static uint64_t next = 1;
-static struct record record_of(uint64_t first) {
-    struct record item;
-    for (size_t k = 0; k < WORDS; k++) item.words[k] = first + k;
-    return item;
-}
 
 static void look_at(const struct record *item) {
-    for (size_t k = 0; k < WORDS; k++)
-        if (item->words[k] != item->words[0] + k) fails("a torn record");
+    if (is_torn(item)) fails("a torn record");
 }
-
-#ifdef BOARD
-#ifdef TRIPLE
-NIDZARU_TRIPLE_BOARD(cell, struct record);
-#else
-NIDZARU_BOARD(cell, struct record);
-#endif
-NIDZARU_SHARED_BOARD(cell, BOARD_PLACES);
-#else
-#ifdef TRIPLE
-NIDZARU_TRIPLE_REGISTER(cell, struct record);
-#else
-NIDZARU_REGISTER(cell, struct record);
-#endif
-NIDZARU_SHARED_REGISTER(cell);
-#endif
 
 struct root { cell_shared cells[ROOM]; struct seen seen; uint64_t next; };
 NIDZARU_SHARED_BLOCK(root, struct root);
@@ -121,7 +95,7 @@ static void write_as_victim(cell_shared *cell) {
     cell_writer *writer;
     if (cell_claim_writer(&block, cell, &writer)) _exit(8);
     for (;;) {
-        const struct record item = record_of(root->next);
+        const struct record item = record_from(root->next);
         CALL(write_it(writer, &item));
         root->next += WORDS;
         __atomic_fetch_add(&root->seen.calls, 1, __ATOMIC_RELAXED);
@@ -155,7 +129,7 @@ static void call_once(cell_shared *cell, int kind) {
         DO(read_it(&cell->reader, &item, &number));
         check_read(&item, number);
     } else {
-        item = record_of(root->next);
+        item = record_from(root->next);
         DO(write_it(&cell->writer, &item));
         root->next += WORDS;
         written++;
@@ -172,7 +146,7 @@ static int take_over(cell_shared *cell, int kind) {
     if (status == NIDZARU_SHARED_OWNER_DEAD) return 1;
     if (status) fails(nidzaru_shared_text(status));
     for (int k = 0; k < 3; k++) {
-        item = record_of(root->next);
+        item = record_from(root->next);
         DO(write_it(writer, &item));
         root->next += WORDS;
         DO(read_it(reader, &item, &number));
@@ -197,7 +171,7 @@ static void check_end(cell_shared *cell, int kind, uint64_t before) {
 }
 
 static void begin_cell(cell_shared *cell) {
-    const struct record first = record_of(next);
+    const struct record first = record_from(next);
     DO(cell_shared_make(&block, cell, &first));
 #if defined PLAIN || defined SEQUENCE
     instead->item = first;
@@ -230,7 +204,7 @@ static void read_place(cell_shared *cell, size_t k) {
 
 static void write_place(cell_shared *cell, size_t k) {
     /* (the victim's records have even first words, this process's odd ones) */
-    const struct record item = record_of((own += 2) | 1);
+    const struct record item = record_from((own += 2) | 1);
     nidzaru_stamp stamp;
     DO(cell_write(&cell->places[k], &item, &stamp));
     if (!nidzaru_stamp_is_below(highest, stamp)) fails("a write that isn't above what came before");
@@ -244,7 +218,7 @@ static void victim_calls(cell_shared *cell, int kind) {
     if (cell_claim(&block, cell, 0, &place)) _exit(8);
     for (;;) {
         if (kind) {
-            item = record_of(root->next += 2);
+            item = record_from(root->next += 2);
             CALL(cell_write(place, &item, &stamp));
         } else {
             CALL(cell_read(place, &item, &stamp));
@@ -281,7 +255,7 @@ static void check_end(cell_shared *cell, int kind, uint64_t before) {
 }
 
 static void begin_cell(cell_shared *cell) {
-    const struct record first = record_of(next);
+    const struct record first = record_from(next);
     DO(cell_shared_make(&block, cell, &first));
     memset(stamps, 0, sizeof stamps);
     memset(&highest, 0, sizeof highest);

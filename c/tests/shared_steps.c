@@ -10,29 +10,7 @@
 #include <sys/ptrace.h>
 #include <sys/user.h>
 #include <sys/wait.h>
-
-#ifndef BYTES
-#define BYTES 24
-#endif
-enum { WORDS = BYTES / 8 };
-
-struct record { uint64_t words[WORDS]; };
-
-#ifdef BOARD
-#ifdef TRIPLE
-NIDZARU_TRIPLE_BOARD(cell, struct record);
-#else
-NIDZARU_BOARD(cell, struct record);
-#endif
-NIDZARU_SHARED_BOARD(cell, 3);
-#else
-#ifdef TRIPLE
-NIDZARU_TRIPLE_REGISTER(cell, struct record);
-#else
-NIDZARU_REGISTER(cell, struct record);
-#endif
-NIDZARU_SHARED_REGISTER(cell);
-#endif
+#include "shared_cells.h"
 
 struct root { cell_shared cell; struct record given; };
 NIDZARU_SHARED_BLOCK(root, struct root);
@@ -51,14 +29,11 @@ static void fails(const char *why) {
 
 /* The record of the n-th write has n times 1000 and the following numbers in its words. */
 static struct record record_of(uint64_t n) {
-    struct record item;
-    for (size_t k = 0; k < WORDS; k++) item.words[k] = n * 1000 + k;
-    return item;
+    return record_from(n * 1000);
 }
 
 static uint64_t which(const struct record *item) {
-    for (size_t k = 0; k < WORDS; k++)
-        if (item->words[k] != item->words[0] + k || item->words[0] % 1000) fails("a torn record");
+    if (is_torn(item) || item->words[0] % 1000) fails("a torn record");
     return item->words[0] / 1000;
 }
 

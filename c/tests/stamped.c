@@ -1,5 +1,5 @@
 /* Where the recorder takes its stamps, and what it asks of the system: each instruction and call that counts is one of this file in place
- * of the real one, and is noted. C11, on any processor; the last line is `passed`. */
+ * of the real one, and is noted. C11, on any processor, on ARM by the clock alone; the last line is `passed`. */
 #include <sched.h>
 #include <stdatomic.h>
 #include <stdint.h>
@@ -91,6 +91,9 @@ static void yield(void) {
 #undef free
 #undef malloc
 
+#if NIDZARU_LOG_ARM
+#error "the counter of ARM has no function: compile with -DNIDZARU_LOG_TSC=0, and see planted_log.py"
+#endif
 #define TICK (NIDZARU_LOG_TSC ? 'b' : 'c')
 /* What stands before a call and behind it. (When an operation is put down, the compiler is held once more.) */
 #if !defined(__x86_64__)

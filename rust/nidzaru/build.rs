@@ -37,6 +37,12 @@ fn link() -> Result<(), String> {
         let needed = env!("CARGO_PKG_VERSION");
         return Err(format!("the library is of version {version}, and this crate needs {needed} or a later one of its major version"));
     }
+    // (a library from before this was asked is for x86-64)
+    let machine = ask("--variable=machine").ok().filter(|it| !it.is_empty()).unwrap_or_else(|| "x86_64".into());
+    let wanted = env::var("CARGO_CFG_TARGET_ARCH").unwrap_or_default();
+    if machine != wanted {
+        return Err(format!("the library is for {machine}, and this program for {wanted}"));
+    }
     let (folder, packages) = (ask("--variable=libdir")?, ask("--variable=pcfiledir")?);
     let library = Path::new(&folder).join("libnidzaru.a");
     if !library.is_file() {

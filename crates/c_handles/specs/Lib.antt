@@ -1,3 +1,1 @@
 pub mod Loosely
-pub mod Held
-pub mod Reached

@@ -1,37 +1,26 @@
-//! Handles that C can hold, the sides of cells and the places at boards that they can have, and the calls on cells and boards over any
-//! size.
+//! Handles that C can hold, each with a type of its own, and the sides of cells and the places at boards that they can have.
 //!
-//! A handle holds an erased box of one `Side`, or nothing.
+//! A handle has an erased box of its side, or nothing. C's struct is the same for all of them, so a call may be handed a handle of
+//! another type: `live` has the number of the type, and what has another number has no side of this one.
 #![tactic(auto)]
 
-mod board;
-mod four_slot;
-mod handle;
+pub mod handles;
 mod layout;
-mod loose;
 mod parts;
-mod pick;
-mod placed;
 mod record;
 mod side;
-mod triple;
 
-pub use board::{board_end, board_make, board_read, board_read_since, board_write};
-pub use four_slot::{
-    four_slot_end_reader, four_slot_end_writer, four_slot_look, four_slot_make, four_slot_read,
-    four_slot_write,
-};
-pub use handle::{Handle, handles_cross};
-pub use loose::Loose;
-pub use pick::{Record, Role};
 pub use record::{
     Record8, Record24, Record64, Record256, Record1024, Record4096, Record65536, Record1048576,
 };
 pub use side::{
-    FourSlotSeat24, FourSlotSeat256, FourSlotSeat4096, Party, Side, TripleSeat24, TripleSeat256,
-    TripleSeat4096,
-};
-pub use triple::{
-    Lending, triple_end_reader, triple_end_writer, triple_hold, triple_loan, triple_look,
-    triple_make, triple_publish, triple_read, triple_slot, triple_write,
+    FourSlotPlace24, FourSlotPlace256, FourSlotPlace4096, FourSlotReader8, FourSlotReader24,
+    FourSlotReader64, FourSlotReader256, FourSlotReader1024, FourSlotReader4096,
+    FourSlotReader65536, FourSlotReader1048576, FourSlotSeat24, FourSlotSeat256, FourSlotSeat4096,
+    FourSlotWriter8, FourSlotWriter24, FourSlotWriter64, FourSlotWriter256, FourSlotWriter1024,
+    FourSlotWriter4096, FourSlotWriter65536, FourSlotWriter1048576, TriplePlace24, TriplePlace256,
+    TriplePlace4096, TripleReader8, TripleReader24, TripleReader64, TripleReader256,
+    TripleReader1024, TripleReader4096, TripleReader65536, TripleReader1048576, TripleSeat24,
+    TripleSeat256, TripleSeat4096, TripleWriter8, TripleWriter24, TripleWriter64, TripleWriter256,
+    TripleWriter1024, TripleWriter4096, TripleWriter65536, TripleWriter1048576,
 };

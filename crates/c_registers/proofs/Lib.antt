@@ -1,4 +1,1 @@
-pub mod Kept
-pub mod Lives
-pub mod Back
 pub mod Same

@@ -1,62 +1,72 @@
 //! What a handle of C can have, and how a call reaches it.
-ghost use Rattle.std.specs.Prelude.{◌≡◌, ◌≢◌, ℕ, Bool, true, false, IfSome, IfNone};
-ghost use Rattle.std.specs.Borrow.{LendsIf, sem};
+ghost use Rattle.std.specs.Prelude.{◌≡◌, ◌≢◌, ℕ, Bool, true, false};
+ghost use Rattle.std.specs.Borrow.{Lends, sem};
 
 use std::alloc::Global;
 
-/// What may be an `S`, as one of its variants.
-pub trait Offers<S>: Sized + Drop {
-    // What the variant is as a whole.
+/// A struct that has an `S`, and nothing else.
+pub trait Wraps<S>: Sized + Drop {
+    // What it has, and the struct with this in it.
+    ghost inner: { Self → S };
+
     ghost side: { S → Self };
 
-    /// What it has, if it is an `S`.
-    fn of(&mut self) -> Option<&mut S>
-        ensures* writes_back { sem 𝓛 (LendsIf Self.row S.row self.entry result side self.old) }
-        ensures some { IfSome result (λ s. self.old ≡ side s.now) }
-        ensures none { IfNone result ((s : S) → self.old ≢ side s) };
+    /// Lends what it has.
+    fn inside(&mut self) -> &mut S
+        ensures* back { sem 𝓛 (Lends Self.row S.row self.entry result side) }
+        ensures value { result.now ≡ inner self.old };
 
-    /// The whole.
     fn whole(variant: S) -> Self
         ensures { result ≡ side variant };
+
+    // It has nothing else.
+    ghost whole_of: { (d : Self) → side (inner d) ≡ d };
 }
 
 /// Room for a box, or for nothing.
-pub trait Holds<D> {
+pub trait Holds<D>: Sized {
     // Whether there is a box, and what it has.
     ghost full: { Self → Bool };
 
     ghost side: { Self → D };
 
-    /// Takes the box out.
-    fn take(&mut self, alloc: Global) -> Box<D>
-        requires { full self.old ≡ true }
-        ensures { (full self.new ≡ false) × (result.value ≡ side self.old) };
+    // The room with this in its box.
+    ghost having: { Self → D → Self };
 
-    /// Puts a box where nothing is.
-    fn put(&mut self, boxed: Box<D>)
-        requires { full self.old ≡ false }
-        ensures { (full self.new ≡ true) × (side self.new ≡ boxed.value) };
+    /// Lends what is in the box, where it lies.
+    fn reach(&mut self) -> &mut D
+        requires { full self.old ≡ true }
+        ensures* lent { sem 𝓛 (Lends Self.row D.row self.entry result (having self.old)) }
+        ensures value { result.now ≡ side self.old };
+
+    // A box stays a box, and has what was put there.
+    ghost stays: { (l : Self) (d : D) → full (having l d) ≡ full l };
+
+    ghost has: { (l : Self) (d : D) → side (having l d) ≡ d };
 }
 
-/// A handle: it has a box where it is live.
+/// A handle: it has a box where `live` is the number of its type.
 pub trait Hand<D>: Sized {
-    // Not 0 where it is live, and what it has then.
+    // The number of its type, which no other type has. It isn't 0, and it isn't that of a call that runs.
+    ghost CODE: { ℕ };
+
+    const CODE: u64;
+
+    // 0 where it has nothing.
     ghost live: { Self → ℕ };
 
     ghost side: { Self → D };
 
-    fn is_live(&self) -> bool
-        ensures dead { result ≡ false → live self.now ≡ 0 }
-        ensures live { result ≡ true → live self.now ≢ 0 };
+    fn live(&self) -> u64
+        ensures { result ≡ live self.now };
 
     /// Takes the box out for good.
-    fn take(&mut self, alloc: Global) -> Option<Box<D>>
-        ensures empty { live self.new ≡ 0 }
-        ensures boxed { IfSome result (λ b. (live self.old ≢ 0) × (b.value ≡ side self.old)) }
-        ensures none { IfNone result ((live self.old ≡ 0) × (self.new ≡ self.old)) };
+    fn take(&mut self, alloc: Global) -> Box<D>
+        requires { live self.old ≡ CODE }
+        ensures { (live self.new ≡ 0) × (result.value ≡ side self.old) };
 
     /// Puts a box in.
     fn put(&mut self, boxed: Box<D>)
         requires { live self.old ≡ 0 }
-        ensures { (live self.new ≡ 1) × (side self.new ≡ boxed.value) };
+        ensures { (live self.new ≡ CODE) × (side self.new ≡ boxed.value) };
 }

@@ -17,3 +17,5 @@ pub const PROCESSES: u32 = 8;
 pub const LIMIT: u32 = 9;
 
 pub const OLDER: u32 = 10;
+
+pub const CUT_OFF: u32 = 12;

@@ -2,8 +2,9 @@
 
 use crate::raw::{self, BoardCalls, BoardPlace, Mark, NoBoard};
 use crate::{FourSlot, Mechanism, Triple};
-use std::fmt;
-use std::marker::PhantomData;
+use alloc::vec::Vec;
+use core::fmt;
+use core::marker::PhantomData;
 
 /// The greatest limit of a board's tags, which no program gets to.
 pub const GREATEST_LIMIT: u64 = u64::MAX - 1;
@@ -58,7 +59,7 @@ impl fmt::Display for BoardError {
     }
 }
 
-impl std::error::Error for BoardError {}
+impl core::error::Error for BoardError {}
 
 /// The tags of a board, up to its limit, have ended. The record wasn't written.
 #[derive(Clone, Copy, Debug, PartialEq, Eq)]
@@ -70,7 +71,7 @@ impl fmt::Display for TagsEnded {
     }
 }
 
-impl std::error::Error for TagsEnded {}
+impl core::error::Error for TagsEnded {}
 
 /// What is known of a record of a board when the program is compiled.
 struct Known<T, M>(PhantomData<(T, M)>);
@@ -84,7 +85,8 @@ impl<T: Copy + Send, M: Mechanism> Known<T, M> {
 
 /// A board over four-slot cells that holds `first`, as its `n` places, of which there are 2 to 16.
 ///
-/// Each thread has a place, by which it writes and reads. No call waits for another thread, tries again or takes memory.
+/// Each thread has a place, by which it writes and reads. No call waits for another thread, tries again or takes memory. (Over triple buffers
+/// a word is swapped, which on 64-bit ARM is a loop.)
 ///
 /// ```
 /// #[derive(Clone, Copy)]

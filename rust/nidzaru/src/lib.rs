@@ -2,8 +2,9 @@
 //! several threads each write and read: [`board`].
 //!
 //! A sensor's thread publishes its reading; the control loop takes the newest one whenever it likes. Neither ever waits for
-//! the other, tries again or takes memory, and no read gives half of one record and half of another. A register is no queue:
-//! it holds one record, and what isn't read before the next write is lost.
+//! the other, tries again or takes memory, and no read gives half of one record and half of another. (A triple buffer swaps a word, which on
+//! 64-bit ARM is a loop: take four slots there.) A register is no queue: it holds one record, and what isn't read before the next write is
+//! lost.
 //!
 //! ```
 //! #[derive(Clone, Copy)]
@@ -35,6 +36,12 @@
 //! `pkg-config` where that is: each command of cargo needs `PKG_CONFIG_PATH=PREFIX/lib/pkgconfig` in its environment, where `PREFIX`
 //! is an absolute path without blanks. `cargo doc -p nidzaru` needs no library.
 //!
+//! # Without the standard library
+//!
+//! With `default-features = false` the crate is `no_std`: all of it but the module `log`, which the feature `std` has. It takes `alloc`, so the
+//! program names an allocator, and it defines `malloc` and `free`, of which the library takes memory, or `nidzaru_allocate` and
+//! `nidzaru_release` beside them; `memcpy`, `memmove` and `memset` are those of `compiler_builtins`.
+//!
 //! # Numbers
 //!
 //! The opening is number 0, and each write has the next number. A number never falls from one read to the next, and one
@@ -42,8 +49,8 @@
 //!
 //! # Which register
 //!
-//! [`register`] is a four-slot cell, whose calls are plain loads and stores of its control bits; [`triple_register`] is a
-//! triple buffer, of three slots and with the fastest read. Both make the same promises.
+//! [`register`] is a four-slot cell, whose calls are plain loads and stores of its control bits, and the one to take on 64-bit ARM;
+//! [`triple_register`] is a triple buffer, of three slots and with the fastest read. Both make the same promises.
 //!
 //! # Records
 //!
@@ -69,22 +76,26 @@
 //! The calls go to the static library for C, each of whose exports is proved: the status that it answers, the record that it
 //! adds, and that no number and no stamp falls. This crate is tested.
 
+#![cfg_attr(not(any(feature = "std", test)), no_std)]
 #![deny(unsafe_code)]
 #![warn(missing_docs)]
+
+extern crate alloc;
 
 #[cfg(all(nidzaru_missing, not(doc)))]
 compile_error!(env!("NIDZARU_MISSING"));
 
 mod boards;
+#[cfg(feature = "std")]
 pub mod log;
 mod raw;
 mod watched;
 
 pub use boards::{board, board_over, limited_board, triple_board, BoardError, Place, Since, Stamp, TagsEnded, GREATEST_LIMIT};
 
+use core::fmt;
+use core::marker::PhantomData;
 use raw::{Calls, ReadingSide, WritingSide};
-use std::fmt;
-use std::marker::PhantomData;
 
 /// The library's version: 10,000 times the major number, 100 times the minor one and the patch.
 pub fn library_version() -> u32 {
@@ -101,7 +112,7 @@ impl fmt::Display for OutOfMemory {
     }
 }
 
-impl std::error::Error for OutOfMemory {}
+impl core::error::Error for OutOfMemory {}
 
 /// All numbers of a register, up to 2^64 - 1, are used. The record wasn't written.
 #[derive(Clone, Copy, Debug, PartialEq, Eq)]
@@ -113,7 +124,7 @@ impl fmt::Display for WornOut {
     }
 }
 
-impl std::error::Error for WornOut {}
+impl core::error::Error for WornOut {}
 
 mod sealed {
     pub trait Sealed {}

@@ -42,8 +42,9 @@
 //!
 //! A begin is never taken late, nor an end early, so an interval may be longer than its call and is never shorter. On x86-64 stamps
 //! are the processor's counter, which has to run together on all processors (`constant_tsc` and `nonstop_tsc` in `/proc/cpuinfo`);
-//! elsewhere they are nanoseconds of [`std::time::Instant`], which wasn't tried. A begin waits until the clock has left the thread's last
-//! end, so operations of one thread never touch.
+//! on 64-bit ARM they are the generic counter, one for all processors, tried under emulation alone; elsewhere they are nanoseconds of
+//! [`std::time::Instant`], which wasn't tried. A begin waits until the clock has left the thread's last end, so operations of one thread
+//! never touch.
 //!
 //! # The fence
 //!
@@ -91,7 +92,39 @@ mod clock {
     }
 }
 
-#[cfg(not(target_arch = "x86_64"))]
+#[cfg(target_arch = "aarch64")]
+#[allow(unsafe_code)]
+mod clock {
+    use std::arch::asm;
+
+    /// A moment; nothing that follows has been done by it.
+    #[inline]
+    pub fn begin() -> u64 {
+        let now;
+        // SAFETY: Linux lets each program read this counter.
+        unsafe { asm!("mrs {now}, cntvct_el0", "isb", now = out(reg) now, options(nostack, preserves_flags)) };
+        now
+    }
+
+    /// A moment by which all that went before has been done, and, with the fence, can be seen by all. (A `dmb` orders accesses alone, and
+    /// a look at the counter is none.)
+    #[inline]
+    pub fn end(fenced: bool) -> u64 {
+        let now;
+        // SAFETY: as above.
+        unsafe {
+            if fenced {
+                asm!("dsb ish", options(nostack, preserves_flags));
+            } else {
+                asm!("dsb ishld", options(nostack, preserves_flags));
+            }
+            asm!("isb", "mrs {now}, cntvct_el0", now = out(reg) now, options(nostack, preserves_flags));
+        }
+        now
+    }
+}
+
+#[cfg(not(any(target_arch = "x86_64", target_arch = "aarch64")))]
 mod clock {
     use std::sync::atomic::{compiler_fence, fence, Ordering::SeqCst};
     use std::sync::OnceLock;
@@ -134,7 +167,7 @@ impl Record {
         Record { number, hash: words.iter().fold(Record::seed(8 * words.len()), |hash, word| Record::mix(hash, *word)) }
     }
 
-    /// The record of data that are bytes. Of words in their order in memory it is the same as [`of_words`](Record::of_words) on x86-64.
+    /// The record of data that are bytes. Of words in their order in memory it is the same as [`of_words`](Record::of_words) on x86-64 and ARM.
     pub fn of_bytes(number: u64, bytes: &[u8]) -> Record {
         let words = bytes.chunks(8).map(|chunk| {
             let mut word = [0; 8];
@@ -483,7 +516,7 @@ pub fn header(to: &mut impl Write, opening: Record, limit: Option<NonZeroU64>) -
 }
 
 /// Writes the lines of all logs alone, by beginning and with the clock's own times, and answers how many there are. So `cat` joins a header and
-/// the lines of several processes of a machine, whose threads all have different numbers. (Elsewhere than on x86-64 each process has a clock
+/// the lines of several processes of a machine, whose threads all have different numbers. (Elsewhere than on x86-64 and 64-bit ARM each process has a clock
 /// of its own.)
 pub fn lines(to: &mut impl Write, logs: &[Log]) -> Result<u64, MergeError> {
     if let Some(error) = logs.iter().find_map(|log| log.fault(Some(NonZeroU64::MIN))) {

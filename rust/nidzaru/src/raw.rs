@@ -19,10 +19,11 @@
 #![allow(unsafe_code)]
 
 use crate::watched::{ignore, Order};
-use std::cell::UnsafeCell;
-use std::ffi::c_void;
-use std::mem::MaybeUninit;
-use std::ptr;
+use alloc::vec::Vec;
+use core::cell::UnsafeCell;
+use core::ffi::c_void;
+use core::mem::MaybeUninit;
+use core::ptr;
 
 const DONE: u32 = 0;
 const NO_MEMORY: u32 = 1;
@@ -30,6 +31,7 @@ const WORN_OUT: u32 = 4;
 const PROCESSES: u32 = 8;
 const LIMIT: u32 = 9;
 const OLDER: u32 = 10;
+const CUT_OFF: u32 = 12;
 
 /// A handle of the library.
 #[repr(C)]
@@ -172,7 +174,7 @@ extern "C" {
 /// Asks for a library that isn't older than this crate: no other is linked.
 fn ask_for_release() {
     // The address alone is taken.
-    std::hint::black_box(&raw const SINCE);
+    core::hint::black_box(&raw const SINCE);
 }
 
 pub fn version() -> u32 {
@@ -227,7 +229,7 @@ impl Drop for WritingSide {
     fn drop(&mut self) {
         // The side is live, and is not used again.
         let status = ignore(|| unsafe { (self.end)(&mut self.side) });
-        assert_eq!(status, DONE, "the side is live");
+        assert!(status == DONE || status == CUT_OFF, "the side is live");
     }
 }
 
@@ -236,7 +238,7 @@ impl Drop for ReadingSide {
         self.order.let_go();
         // As above.
         let status = ignore(|| unsafe { (self.end)(&mut self.side) });
-        assert_eq!(status, DONE, "the side is live");
+        assert!(status == DONE || status == CUT_OFF, "the side is live");
     }
 }
 
@@ -397,6 +399,7 @@ fn is_written(status: u32) -> bool {
     match status {
         DONE => true,
         WORN_OUT => false,
+        CUT_OFF => was_cut_off(),
         other => unreachable!("the handle has the writing side, or a place, so the status isn't {other}"),
     }
 }
@@ -487,7 +490,16 @@ pub fn hold<'a, T: Copy>(calls: &'static Calls, reader: &'a mut ReadingSide) -> 
 
 #[inline]
 fn must_be_done(status: u32) {
+    if status == CUT_OFF {
+        was_cut_off();
+    }
     assert_eq!(status, DONE, "the handle has the side, or a place");
+}
+
+/// The last call of the side never came to its end, as by a jump out of a signal handler: the side is lost.
+#[cold]
+fn was_cut_off() -> ! {
+    panic!("the side's last call was cut off");
 }
 
 /// A stamp of the library.
@@ -569,7 +581,7 @@ impl Drop for BoardPlace {
     fn drop(&mut self) {
         // The place is live, and is not used again.
         let status = ignore(|| unsafe { (self.end)(&mut self.side) });
-        assert_eq!(status, DONE, "the side is live");
+        assert!(status == DONE || status == CUT_OFF, "the side is live");
     }
 }
 
@@ -679,7 +691,9 @@ fn read_place_since_by<T: Copy, const N: usize>(calls: &BoardCalls, place: &mut 
     let (mut words, mut stamp) = (Words::<N>::zero(), Mark::default());
     // The words are as many as the library's record has.
     let status = place.order.see(|| unsafe { (calls.read_since)(&mut place.side, &least, words.as_mut_ptr(), &mut stamp) });
-    assert!(status == DONE || status == OLDER, "the handle has a place");
+    if status != OLDER {
+        must_be_done(status);
+    }
     // They begin with the bytes of a `T`, with either status.
     (unsafe { words.item() }, stamp, status == DONE)
 }

@@ -4,8 +4,8 @@
 #[cfg(nidzaru_watched)]
 #[allow(unsafe_code)]
 mod told {
-    use std::ffi::{c_char, c_int, c_void};
-    use std::sync::atomic::{AtomicPtr, AtomicUsize, Ordering};
+    use core::ffi::{c_char, c_int, c_void};
+    use core::sync::atomic::{AtomicPtr, AtomicUsize, Ordering};
 
     extern "C" {
         fn AnnotateIgnoreReadsBegin(file: *const c_char, line: c_int);
@@ -19,7 +19,7 @@ mod told {
     static BYTES: [u8; 1 << 16] = [0; 1 << 16];
     static MADE: AtomicUsize = AtomicUsize::new(0);
     /// By each register's byte, where its reader holds a record.
-    static HELD: [AtomicPtr<c_void>; 1 << 16] = [const { AtomicPtr::new(std::ptr::null_mut()) }; 1 << 16];
+    static HELD: [AtomicPtr<c_void>; 1 << 16] = [const { AtomicPtr::new(core::ptr::null_mut()) }; 1 << 16];
     const FILE: *const c_char = c"nidzaru".as_ptr();
 
     /// The byte by which a register or a board is known. From the 65,537th on some share one.
@@ -32,7 +32,7 @@ mod told {
         }
 
         fn at(self) -> *mut c_void {
-            std::ptr::from_ref(self.0).cast_mut().cast()
+            core::ptr::from_ref(self.0).cast_mut().cast()
         }
 
         /// A call that writes: what went before it is shown.
@@ -94,7 +94,7 @@ mod told {
 
 #[cfg(not(nidzaru_watched))]
 mod told {
-    use std::ffi::c_void;
+    use core::ffi::c_void;
 
     #[derive(Clone, Copy)]
     pub struct Order;

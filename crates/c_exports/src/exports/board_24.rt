@@ -1,15 +1,12 @@
 // made by c/exports.py
 //! A board over four-slot cells with records of 24 bytes.
-ghost use Rattle.c_registers.specs.Handles.{IsEnd};
+ghost use Rattle.c_registers.specs.Handles.{holding, IsEnd};
 ghost use Rattle.c_boards.specs.Places.{IsBoardMake, IsBoardWrite, IsBoardRead, IsBoardReadSince};
-ghost use Rattle.c_handles.specs.Held.{held, live_of, side_of};
-ghost use Rattle.c_handles.specs.declared.side.Side.TheVariants.{Board24};
 
-use c_boards::{Mark, Posts};
-use c_handles::{
-    FourSlotSeat24, Handle, Record24, board_end, board_make, board_read, board_read_since,
-    board_write,
-};
+use c_boards::{Mark, Posts, make_places, read_place, read_place_since, write_place};
+use c_handles::handles::four_slot_place_24;
+use c_handles::{FourSlotPlace24, FourSlotSeat24, Record24};
+use c_registers::end;
 use std::alloc::Global;
 
 #[unsafe(no_mangle)]
@@ -17,57 +14,75 @@ pub extern "C" fn nidzaru_board_24_make(
     alloc: Global,
     first: &Record24,
     limit: u64,
-    places: &mut [Handle],
+    places: &mut [four_slot_place_24::Handle],
 ) -> u32
-    ensures { IsBoardMake live_of side_of Board24 ⟦<FourSlotSeat24 as Posts<Record24>>⟧.is_made
+    ensures { IsBoardMake (λ h. h.live) (λ h. h.loose.side) 33 (λ s. record { it = s }) ⟦<FourSlotSeat24 as Posts<Record24>>⟧.is_made
         limit places.old places.new first.now result }
 {
-    board_make::<Record24, FourSlotSeat24>(alloc, first, limit, places)
+    make_places::<FourSlotPlace24, four_slot_place_24::Handle, Record24, FourSlotSeat24>(
+        alloc, first, limit, places,
+    )
 }
 
 #[unsafe(no_mangle)]
 pub extern "C" fn nidzaru_board_24_write(
-    alloc: Global,
-    place: &mut Handle,
+    place: &mut four_slot_place_24::Handle,
     item: &Record24,
     stamp: &mut Mark,
 ) -> u32
-    ensures { IsBoardWrite Board24 ⟦<FourSlotSeat24 as Posts<Record24>>⟧.has_posted ⟦<FourSlotSeat24 as Posts<Record24>>⟧.is_refused
-        (held place.old) (held place.new) item.now stamp.old stamp.new result }
+    ensures { IsBoardWrite 33 (λ s. record { it = s }) ⟦<FourSlotSeat24 as Posts<Record24>>⟧.has_posted ⟦<FourSlotSeat24 as Posts<Record24>>⟧.is_refused
+        (holding place.old.live place.old.loose.side) (holding place.new.live place.new.loose.side) item.now stamp.old stamp.new result }
 {
-    board_write::<Record24, FourSlotSeat24>(alloc, place, item, stamp)
+    write_place::<FourSlotPlace24, four_slot_place_24::Loose, Record24, FourSlotSeat24>(
+        33,
+        &mut place.live,
+        &mut place.loose,
+        item,
+        stamp,
+    )
 }
 
 #[unsafe(no_mangle)]
 pub extern "C" fn nidzaru_board_24_read(
-    alloc: Global,
-    place: &mut Handle,
+    place: &mut four_slot_place_24::Handle,
     item: &mut Record24,
     stamp: &mut Mark,
 ) -> u32
-    ensures { IsBoardRead Board24 ⟦<FourSlotSeat24 as Posts<Record24>>⟧.has_seen
-        (held place.old) (held place.new) item.old item.new stamp.old stamp.new result }
+    ensures { IsBoardRead 33 (λ s. record { it = s }) ⟦<FourSlotSeat24 as Posts<Record24>>⟧.has_seen
+        (holding place.old.live place.old.loose.side) (holding place.new.live place.new.loose.side) item.old item.new stamp.old stamp.new result }
 {
-    board_read::<Record24, FourSlotSeat24>(alloc, place, item, stamp)
+    read_place::<FourSlotPlace24, four_slot_place_24::Loose, Record24, FourSlotSeat24>(
+        33,
+        &mut place.live,
+        &mut place.loose,
+        item,
+        stamp,
+    )
 }
 
 #[unsafe(no_mangle)]
 pub extern "C" fn nidzaru_board_24_read_since(
-    alloc: Global,
-    place: &mut Handle,
+    place: &mut four_slot_place_24::Handle,
     least: &Mark,
     item: &mut Record24,
     stamp: &mut Mark,
 ) -> u32
-    ensures { IsBoardReadSince Board24 ⟦<FourSlotSeat24 as Posts<Record24>>⟧.has_seen
-        (held place.old) (held place.new) least.now item.old item.new stamp.old stamp.new result }
+    ensures { IsBoardReadSince 33 (λ s. record { it = s }) ⟦<FourSlotSeat24 as Posts<Record24>>⟧.has_seen
+        (holding place.old.live place.old.loose.side) (holding place.new.live place.new.loose.side) least.now item.old item.new stamp.old stamp.new result }
 {
-    board_read_since::<Record24, FourSlotSeat24>(alloc, place, least, item, stamp)
+    read_place_since::<FourSlotPlace24, four_slot_place_24::Loose, Record24, FourSlotSeat24>(
+        33,
+        &mut place.live,
+        &mut place.loose,
+        least,
+        item,
+        stamp,
+    )
 }
 
 #[unsafe(no_mangle)]
-pub extern "C" fn nidzaru_board_24_end(alloc: Global, place: &mut Handle) -> u32
-    ensures { IsEnd Board24 (held place.old) (held place.new) result }
+pub extern "C" fn nidzaru_board_24_end(alloc: Global, place: &mut four_slot_place_24::Handle) -> u32
+    ensures { IsEnd 33 (holding place.old.live place.old.loose.side) (holding place.new.live place.new.loose.side) result }
 {
-    board_end::<FourSlotSeat24>(alloc, place)
+    end::<FourSlotPlace24, four_slot_place_24::Handle>(alloc, place)
 }

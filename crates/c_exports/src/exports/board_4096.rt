@@ -1,15 +1,12 @@
 // made by c/exports.py
 //! A board over four-slot cells with records of 4,096 bytes.
-ghost use Rattle.c_registers.specs.Handles.{IsEnd};
+ghost use Rattle.c_registers.specs.Handles.{holding, IsEnd};
 ghost use Rattle.c_boards.specs.Places.{IsBoardMake, IsBoardWrite, IsBoardRead, IsBoardReadSince};
-ghost use Rattle.c_handles.specs.Held.{held, live_of, side_of};
-ghost use Rattle.c_handles.specs.declared.side.Side.TheVariants.{Board4096};
 
-use c_boards::{Mark, Posts};
-use c_handles::{
-    FourSlotSeat4096, Handle, Record4096, board_end, board_make, board_read, board_read_since,
-    board_write,
-};
+use c_boards::{Mark, Posts, make_places, read_place, read_place_since, write_place};
+use c_handles::handles::four_slot_place_4096;
+use c_handles::{FourSlotPlace4096, FourSlotSeat4096, Record4096};
+use c_registers::end;
 use std::alloc::Global;
 
 #[unsafe(no_mangle)]
@@ -17,57 +14,76 @@ pub extern "C" fn nidzaru_board_4096_make(
     alloc: Global,
     first: &Record4096,
     limit: u64,
-    places: &mut [Handle],
+    places: &mut [four_slot_place_4096::Handle],
 ) -> u32
-    ensures { IsBoardMake live_of side_of Board4096 ⟦<FourSlotSeat4096 as Posts<Record4096>>⟧.is_made
+    ensures { IsBoardMake (λ h. h.live) (λ h. h.loose.side) 35 (λ s. record { it = s }) ⟦<FourSlotSeat4096 as Posts<Record4096>>⟧.is_made
         limit places.old places.new first.now result }
 {
-    board_make::<Record4096, FourSlotSeat4096>(alloc, first, limit, places)
+    make_places::<FourSlotPlace4096, four_slot_place_4096::Handle, Record4096, FourSlotSeat4096>(
+        alloc, first, limit, places,
+    )
 }
 
 #[unsafe(no_mangle)]
 pub extern "C" fn nidzaru_board_4096_write(
-    alloc: Global,
-    place: &mut Handle,
+    place: &mut four_slot_place_4096::Handle,
     item: &Record4096,
     stamp: &mut Mark,
 ) -> u32
-    ensures { IsBoardWrite Board4096 ⟦<FourSlotSeat4096 as Posts<Record4096>>⟧.has_posted ⟦<FourSlotSeat4096 as Posts<Record4096>>⟧.is_refused
-        (held place.old) (held place.new) item.now stamp.old stamp.new result }
+    ensures { IsBoardWrite 35 (λ s. record { it = s }) ⟦<FourSlotSeat4096 as Posts<Record4096>>⟧.has_posted ⟦<FourSlotSeat4096 as Posts<Record4096>>⟧.is_refused
+        (holding place.old.live place.old.loose.side) (holding place.new.live place.new.loose.side) item.now stamp.old stamp.new result }
 {
-    board_write::<Record4096, FourSlotSeat4096>(alloc, place, item, stamp)
+    write_place::<FourSlotPlace4096, four_slot_place_4096::Loose, Record4096, FourSlotSeat4096>(
+        35,
+        &mut place.live,
+        &mut place.loose,
+        item,
+        stamp,
+    )
 }
 
 #[unsafe(no_mangle)]
 pub extern "C" fn nidzaru_board_4096_read(
-    alloc: Global,
-    place: &mut Handle,
+    place: &mut four_slot_place_4096::Handle,
     item: &mut Record4096,
     stamp: &mut Mark,
 ) -> u32
-    ensures { IsBoardRead Board4096 ⟦<FourSlotSeat4096 as Posts<Record4096>>⟧.has_seen
-        (held place.old) (held place.new) item.old item.new stamp.old stamp.new result }
+    ensures { IsBoardRead 35 (λ s. record { it = s }) ⟦<FourSlotSeat4096 as Posts<Record4096>>⟧.has_seen
+        (holding place.old.live place.old.loose.side) (holding place.new.live place.new.loose.side) item.old item.new stamp.old stamp.new result }
 {
-    board_read::<Record4096, FourSlotSeat4096>(alloc, place, item, stamp)
+    read_place::<FourSlotPlace4096, four_slot_place_4096::Loose, Record4096, FourSlotSeat4096>(
+        35,
+        &mut place.live,
+        &mut place.loose,
+        item,
+        stamp,
+    )
 }
 
 #[unsafe(no_mangle)]
 pub extern "C" fn nidzaru_board_4096_read_since(
-    alloc: Global,
-    place: &mut Handle,
+    place: &mut four_slot_place_4096::Handle,
     least: &Mark,
     item: &mut Record4096,
     stamp: &mut Mark,
 ) -> u32
-    ensures { IsBoardReadSince Board4096 ⟦<FourSlotSeat4096 as Posts<Record4096>>⟧.has_seen
-        (held place.old) (held place.new) least.now item.old item.new stamp.old stamp.new result }
+    ensures { IsBoardReadSince 35 (λ s. record { it = s }) ⟦<FourSlotSeat4096 as Posts<Record4096>>⟧.has_seen
+        (holding place.old.live place.old.loose.side) (holding place.new.live place.new.loose.side) least.now item.old item.new stamp.old stamp.new result }
 {
-    board_read_since::<Record4096, FourSlotSeat4096>(alloc, place, least, item, stamp)
+    read_place_since::<
+        FourSlotPlace4096,
+        four_slot_place_4096::Loose,
+        Record4096,
+        FourSlotSeat4096,
+    >(35, &mut place.live, &mut place.loose, least, item, stamp)
 }
 
 #[unsafe(no_mangle)]
-pub extern "C" fn nidzaru_board_4096_end(alloc: Global, place: &mut Handle) -> u32
-    ensures { IsEnd Board4096 (held place.old) (held place.new) result }
+pub extern "C" fn nidzaru_board_4096_end(
+    alloc: Global,
+    place: &mut four_slot_place_4096::Handle,
+) -> u32
+    ensures { IsEnd 35 (holding place.old.live place.old.loose.side) (holding place.new.live place.new.loose.side) result }
 {
-    board_end::<FourSlotSeat4096>(alloc, place)
+    end::<FourSlotPlace4096, four_slot_place_4096::Handle>(alloc, place)
 }

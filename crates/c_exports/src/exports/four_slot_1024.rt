@@ -1,67 +1,100 @@
 // made by c/exports.py
 //! A four-slot cell with records of 1,024 bytes.
 ghost use Rattle.c_registers.specs.FourSlotCalls.{IsMade, HasWritten, HasRead};
-ghost use Rattle.c_registers.specs.Handles.{IsMake, IsWrite, IsRead, IsLook, IsEnd};
-ghost use Rattle.c_handles.specs.Held.{held};
-ghost use Rattle.c_handles.specs.declared.side.Side.TheVariants.{Of1024};
-ghost use Rattle.c_handles.specs.declared.side.Party.TheVariants.{Writes, Reads};
+ghost use Rattle.c_registers.specs.Handles.{holding, IsMake, IsWrite, IsRead, IsLook, IsEnd};
 
-use c_handles::{
-    Handle, Record1024, four_slot_end_reader, four_slot_end_writer, four_slot_look, four_slot_make,
-    four_slot_read, four_slot_write,
-};
+use c_handles::handles::{four_slot_reader_1024, four_slot_writer_1024};
+use c_handles::{FourSlotReader1024, FourSlotWriter1024, Record1024};
+use c_registers::{FourSlotReader, FourSlotWriter, end, look, make, read, write};
 use std::alloc::Global;
 
 #[unsafe(no_mangle)]
 pub extern "C" fn nidzaru_1024_make(
     alloc: Global,
     first: &Record1024,
-    writer: &mut Handle,
-    reader: &mut Handle,
+    writer: &mut four_slot_writer_1024::Handle,
+    reader: &mut four_slot_reader_1024::Handle,
 ) -> u32
-    ensures { IsMake (λ p. Of1024 (Writes p)) (λ g. Of1024 (Reads g)) IsMade
-        (held writer.old) (held reader.old) (held writer.new) (held reader.new) first.now result }
+    ensures { IsMake (17, 18) (λ p. record { it = p }) (λ g. record { it = g }) IsMade
+        (holding writer.old.live writer.old.loose.side) (holding reader.old.live reader.old.loose.side)
+        (holding writer.new.live writer.new.loose.side) (holding reader.new.live reader.new.loose.side) first.now result }
 {
-    four_slot_make::<Record1024>(alloc, first, writer, reader)
+    make::<
+        FourSlotWriter1024,
+        FourSlotReader1024,
+        four_slot_writer_1024::Handle,
+        four_slot_reader_1024::Handle,
+        Record1024,
+        FourSlotWriter<Record1024>,
+        FourSlotReader<Record1024>,
+    >(alloc, first, writer, reader)
 }
 
 #[unsafe(no_mangle)]
-pub extern "C" fn nidzaru_1024_write(alloc: Global, writer: &mut Handle, item: &Record1024) -> u32
-    ensures { IsWrite (λ p. Of1024 (Writes p)) (λ p. p.number) HasWritten (held writer.old) (held writer.new) item.now result }
+pub extern "C" fn nidzaru_1024_write(
+    writer: &mut four_slot_writer_1024::Handle,
+    item: &Record1024,
+) -> u32
+    ensures { IsWrite 17 (λ p. record { it = p }) (λ p. p.number) HasWritten (holding writer.old.live writer.old.loose.side)
+        (holding writer.new.live writer.new.loose.side) item.now result }
 {
-    four_slot_write::<Record1024>(alloc, writer, item)
+    write::<
+        FourSlotWriter1024,
+        four_slot_writer_1024::Loose,
+        Record1024,
+        FourSlotWriter<Record1024>,
+    >(17, &mut writer.live, &mut writer.loose, item)
 }
 
 #[unsafe(no_mangle)]
 pub extern "C" fn nidzaru_1024_read(
-    alloc: Global,
-    reader: &mut Handle,
+    reader: &mut four_slot_reader_1024::Handle,
     item: &mut Record1024,
     number: &mut u64,
 ) -> u32
-    ensures { IsRead (λ g. Of1024 (Reads g)) HasRead (held reader.old) (held reader.new)
-        item.old item.new number.old number.new result }
+    ensures { IsRead 18 (λ g. record { it = g }) HasRead (holding reader.old.live reader.old.loose.side)
+        (holding reader.new.live reader.new.loose.side) item.old item.new number.old number.new result }
 {
-    four_slot_read::<Record1024>(alloc, reader, item, number)
+    read::<
+        FourSlotReader1024,
+        four_slot_reader_1024::Loose,
+        Record1024,
+        FourSlotReader<Record1024>,
+    >(18, &mut reader.live, &mut reader.loose, item, number)
 }
 
 #[unsafe(no_mangle)]
-pub extern "C" fn nidzaru_1024_look(alloc: Global, reader: &mut Handle, number: &mut u64) -> u32
-    ensures { IsLook (λ g. Of1024 (Reads g)) HasRead (held reader.old) (held reader.new) number.old number.new result }
+pub extern "C" fn nidzaru_1024_look(
+    reader: &mut four_slot_reader_1024::Handle,
+    number: &mut u64,
+) -> u32
+    ensures { IsLook 18 (λ g. record { it = g }) HasRead (holding reader.old.live reader.old.loose.side)
+        (holding reader.new.live reader.new.loose.side) number.old number.new result }
 {
-    four_slot_look::<Record1024>(alloc, reader, number)
+    look::<
+        FourSlotReader1024,
+        four_slot_reader_1024::Loose,
+        Record1024,
+        FourSlotReader<Record1024>,
+    >(18, &mut reader.live, &mut reader.loose, number)
 }
 
 #[unsafe(no_mangle)]
-pub extern "C" fn nidzaru_1024_end_writer(alloc: Global, writer: &mut Handle) -> u32
-    ensures { IsEnd (λ p. Of1024 (Writes p)) (held writer.old) (held writer.new) result }
+pub extern "C" fn nidzaru_1024_end_writer(
+    alloc: Global,
+    writer: &mut four_slot_writer_1024::Handle,
+) -> u32
+    ensures { IsEnd 17 (holding writer.old.live writer.old.loose.side) (holding writer.new.live writer.new.loose.side) result }
 {
-    four_slot_end_writer::<Record1024>(alloc, writer)
+    end::<FourSlotWriter1024, four_slot_writer_1024::Handle>(alloc, writer)
 }
 
 #[unsafe(no_mangle)]
-pub extern "C" fn nidzaru_1024_end_reader(alloc: Global, reader: &mut Handle) -> u32
-    ensures { IsEnd (λ g. Of1024 (Reads g)) (held reader.old) (held reader.new) result }
+pub extern "C" fn nidzaru_1024_end_reader(
+    alloc: Global,
+    reader: &mut four_slot_reader_1024::Handle,
+) -> u32
+    ensures { IsEnd 18 (holding reader.old.live reader.old.loose.side) (holding reader.new.live reader.new.loose.side) result }
 {
-    four_slot_end_reader::<Record1024>(alloc, reader)
+    end::<FourSlotReader1024, four_slot_reader_1024::Handle>(alloc, reader)
 }

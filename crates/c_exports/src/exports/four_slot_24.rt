@@ -1,67 +1,95 @@
 // made by c/exports.py
 //! A four-slot cell with records of 24 bytes.
 ghost use Rattle.c_registers.specs.FourSlotCalls.{IsMade, HasWritten, HasRead};
-ghost use Rattle.c_registers.specs.Handles.{IsMake, IsWrite, IsRead, IsLook, IsEnd};
-ghost use Rattle.c_handles.specs.Held.{held};
-ghost use Rattle.c_handles.specs.declared.side.Side.TheVariants.{Of24};
-ghost use Rattle.c_handles.specs.declared.side.Party.TheVariants.{Writes, Reads};
+ghost use Rattle.c_registers.specs.Handles.{holding, IsMake, IsWrite, IsRead, IsLook, IsEnd};
 
-use c_handles::{
-    Handle, Record24, four_slot_end_reader, four_slot_end_writer, four_slot_look, four_slot_make,
-    four_slot_read, four_slot_write,
-};
+use c_handles::handles::{four_slot_reader_24, four_slot_writer_24};
+use c_handles::{FourSlotReader24, FourSlotWriter24, Record24};
+use c_registers::{FourSlotReader, FourSlotWriter, end, look, make, read, write};
 use std::alloc::Global;
 
 #[unsafe(no_mangle)]
 pub extern "C" fn nidzaru_24_make(
     alloc: Global,
     first: &Record24,
-    writer: &mut Handle,
-    reader: &mut Handle,
+    writer: &mut four_slot_writer_24::Handle,
+    reader: &mut four_slot_reader_24::Handle,
 ) -> u32
-    ensures { IsMake (λ p. Of24 (Writes p)) (λ g. Of24 (Reads g)) IsMade
-        (held writer.old) (held reader.old) (held writer.new) (held reader.new) first.now result }
+    ensures { IsMake (5, 6) (λ p. record { it = p }) (λ g. record { it = g }) IsMade
+        (holding writer.old.live writer.old.loose.side) (holding reader.old.live reader.old.loose.side)
+        (holding writer.new.live writer.new.loose.side) (holding reader.new.live reader.new.loose.side) first.now result }
 {
-    four_slot_make::<Record24>(alloc, first, writer, reader)
+    make::<
+        FourSlotWriter24,
+        FourSlotReader24,
+        four_slot_writer_24::Handle,
+        four_slot_reader_24::Handle,
+        Record24,
+        FourSlotWriter<Record24>,
+        FourSlotReader<Record24>,
+    >(alloc, first, writer, reader)
 }
 
 #[unsafe(no_mangle)]
-pub extern "C" fn nidzaru_24_write(alloc: Global, writer: &mut Handle, item: &Record24) -> u32
-    ensures { IsWrite (λ p. Of24 (Writes p)) (λ p. p.number) HasWritten (held writer.old) (held writer.new) item.now result }
+pub extern "C" fn nidzaru_24_write(writer: &mut four_slot_writer_24::Handle, item: &Record24) -> u32
+    ensures { IsWrite 5 (λ p. record { it = p }) (λ p. p.number) HasWritten (holding writer.old.live writer.old.loose.side)
+        (holding writer.new.live writer.new.loose.side) item.now result }
 {
-    four_slot_write::<Record24>(alloc, writer, item)
+    write::<FourSlotWriter24, four_slot_writer_24::Loose, Record24, FourSlotWriter<Record24>>(
+        5,
+        &mut writer.live,
+        &mut writer.loose,
+        item,
+    )
 }
 
 #[unsafe(no_mangle)]
 pub extern "C" fn nidzaru_24_read(
-    alloc: Global,
-    reader: &mut Handle,
+    reader: &mut four_slot_reader_24::Handle,
     item: &mut Record24,
     number: &mut u64,
 ) -> u32
-    ensures { IsRead (λ g. Of24 (Reads g)) HasRead (held reader.old) (held reader.new)
-        item.old item.new number.old number.new result }
+    ensures { IsRead 6 (λ g. record { it = g }) HasRead (holding reader.old.live reader.old.loose.side)
+        (holding reader.new.live reader.new.loose.side) item.old item.new number.old number.new result }
 {
-    four_slot_read::<Record24>(alloc, reader, item, number)
+    read::<FourSlotReader24, four_slot_reader_24::Loose, Record24, FourSlotReader<Record24>>(
+        6,
+        &mut reader.live,
+        &mut reader.loose,
+        item,
+        number,
+    )
 }
 
 #[unsafe(no_mangle)]
-pub extern "C" fn nidzaru_24_look(alloc: Global, reader: &mut Handle, number: &mut u64) -> u32
-    ensures { IsLook (λ g. Of24 (Reads g)) HasRead (held reader.old) (held reader.new) number.old number.new result }
+pub extern "C" fn nidzaru_24_look(reader: &mut four_slot_reader_24::Handle, number: &mut u64) -> u32
+    ensures { IsLook 6 (λ g. record { it = g }) HasRead (holding reader.old.live reader.old.loose.side)
+        (holding reader.new.live reader.new.loose.side) number.old number.new result }
 {
-    four_slot_look::<Record24>(alloc, reader, number)
+    look::<FourSlotReader24, four_slot_reader_24::Loose, Record24, FourSlotReader<Record24>>(
+        6,
+        &mut reader.live,
+        &mut reader.loose,
+        number,
+    )
 }
 
 #[unsafe(no_mangle)]
-pub extern "C" fn nidzaru_24_end_writer(alloc: Global, writer: &mut Handle) -> u32
-    ensures { IsEnd (λ p. Of24 (Writes p)) (held writer.old) (held writer.new) result }
+pub extern "C" fn nidzaru_24_end_writer(
+    alloc: Global,
+    writer: &mut four_slot_writer_24::Handle,
+) -> u32
+    ensures { IsEnd 5 (holding writer.old.live writer.old.loose.side) (holding writer.new.live writer.new.loose.side) result }
 {
-    four_slot_end_writer::<Record24>(alloc, writer)
+    end::<FourSlotWriter24, four_slot_writer_24::Handle>(alloc, writer)
 }
 
 #[unsafe(no_mangle)]
-pub extern "C" fn nidzaru_24_end_reader(alloc: Global, reader: &mut Handle) -> u32
-    ensures { IsEnd (λ g. Of24 (Reads g)) (held reader.old) (held reader.new) result }
+pub extern "C" fn nidzaru_24_end_reader(
+    alloc: Global,
+    reader: &mut four_slot_reader_24::Handle,
+) -> u32
+    ensures { IsEnd 6 (holding reader.old.live reader.old.loose.side) (holding reader.new.live reader.new.loose.side) result }
 {
-    four_slot_end_reader::<Record24>(alloc, reader)
+    end::<FourSlotReader24, four_slot_reader_24::Handle>(alloc, reader)
 }

@@ -1,14 +1,12 @@
 // made by c/exports.py
 //! A triple buffer with records of 1,024 bytes.
 ghost use Rattle.c_registers.specs.TripleCalls.{IsMade, HasWritten, HasRead, HasPublished, at_hand, in_slot};
-ghost use Rattle.c_registers.specs.Handles.{IsMake, IsWrite, IsRead, IsLook, IsHold, IsPublish, IsEnd};
-ghost use Rattle.c_handles.specs.Held.{held};
-ghost use Rattle.c_handles.specs.declared.side.Side.TheVariants.{Of1024};
-ghost use Rattle.c_handles.specs.declared.side.Party.TheVariants.{TripleWrites, TripleReads};
+ghost use Rattle.c_registers.specs.Handles.{holding, IsMake, IsWrite, IsRead, IsLook, IsHold, IsPublish, IsEnd};
 
-use c_handles::{
-    Handle, Record1024, triple_end_reader, triple_end_writer, triple_hold, triple_loan,
-    triple_look, triple_make, triple_publish, triple_read, triple_write,
+use c_handles::handles::{triple_reader_1024, triple_writer_1024};
+use c_handles::{Record1024, TripleReader1024, TripleWriter1024};
+use c_registers::{
+    DONE, TripleReader, TripleWriter, end, hold, look, make, publish, read, slot, write,
 };
 use std::alloc::Global;
 
@@ -16,87 +14,139 @@ use std::alloc::Global;
 pub extern "C" fn nidzaru_triple_1024_make(
     alloc: Global,
     first: &Record1024,
-    writer: &mut Handle,
-    reader: &mut Handle,
+    writer: &mut triple_writer_1024::Handle,
+    reader: &mut triple_reader_1024::Handle,
 ) -> u32
-    ensures { IsMake (λ p. Of1024 (TripleWrites p)) (λ g. Of1024 (TripleReads g)) IsMade
-        (held writer.old) (held reader.old) (held writer.new) (held reader.new) first.now result }
+    ensures { IsMake (19, 20) (λ p. record { it = p }) (λ g. record { it = g }) IsMade
+        (holding writer.old.live writer.old.loose.side) (holding reader.old.live reader.old.loose.side)
+        (holding writer.new.live writer.new.loose.side) (holding reader.new.live reader.new.loose.side) first.now result }
 {
-    triple_make::<Record1024>(alloc, first, writer, reader)
+    make::<
+        TripleWriter1024,
+        TripleReader1024,
+        triple_writer_1024::Handle,
+        triple_reader_1024::Handle,
+        Record1024,
+        TripleWriter<Record1024>,
+        TripleReader<Record1024>,
+    >(alloc, first, writer, reader)
 }
 
 #[unsafe(no_mangle)]
 pub extern "C" fn nidzaru_triple_1024_write(
-    alloc: Global,
-    writer: &mut Handle,
+    writer: &mut triple_writer_1024::Handle,
     item: &Record1024,
 ) -> u32
-    ensures { IsWrite (λ p. Of1024 (TripleWrites p)) (λ p. p.number) HasWritten (held writer.old) (held writer.new) item.now result }
+    ensures { IsWrite 19 (λ p. record { it = p }) (λ p. p.number) HasWritten (holding writer.old.live writer.old.loose.side)
+        (holding writer.new.live writer.new.loose.side) item.now result }
 {
-    triple_write::<Record1024>(alloc, writer, item)
+    write::<TripleWriter1024, triple_writer_1024::Loose, Record1024, TripleWriter<Record1024>>(
+        19,
+        &mut writer.live,
+        &mut writer.loose,
+        item,
+    )
 }
 
 #[unsafe(no_mangle)]
 pub extern "C" fn nidzaru_triple_1024_read(
-    alloc: Global,
-    reader: &mut Handle,
+    reader: &mut triple_reader_1024::Handle,
     item: &mut Record1024,
     number: &mut u64,
 ) -> u32
-    ensures { IsRead (λ g. Of1024 (TripleReads g)) HasRead (held reader.old) (held reader.new)
-        item.old item.new number.old number.new result }
+    ensures { IsRead 20 (λ g. record { it = g }) HasRead (holding reader.old.live reader.old.loose.side)
+        (holding reader.new.live reader.new.loose.side) item.old item.new number.old number.new result }
 {
-    triple_read::<Record1024>(alloc, reader, item, number)
+    read::<TripleReader1024, triple_reader_1024::Loose, Record1024, TripleReader<Record1024>>(
+        20,
+        &mut reader.live,
+        &mut reader.loose,
+        item,
+        number,
+    )
 }
 
 #[unsafe(no_mangle)]
 pub extern "C" fn nidzaru_triple_1024_look(
-    alloc: Global,
-    reader: &mut Handle,
+    reader: &mut triple_reader_1024::Handle,
     number: &mut u64,
 ) -> u32
-    ensures { IsLook (λ g. Of1024 (TripleReads g)) HasRead (held reader.old) (held reader.new) number.old number.new result }
+    ensures { IsLook 20 (λ g. record { it = g }) HasRead (holding reader.old.live reader.old.loose.side)
+        (holding reader.new.live reader.new.loose.side) number.old number.new result }
 {
-    triple_look::<Record1024>(alloc, reader, number)
+    look::<TripleReader1024, triple_reader_1024::Loose, Record1024, TripleReader<Record1024>>(
+        20,
+        &mut reader.live,
+        &mut reader.loose,
+        number,
+    )
 }
 
 #[unsafe(no_mangle)]
 pub extern "C" fn nidzaru_triple_1024_hold<'a>(
-    reader: &'a mut Handle,
+    reader: &'a mut triple_reader_1024::Handle,
     at: &mut &'a Record1024,
 ) -> u32
-    ensures { IsHold (λ g. Of1024 (TripleReads g)) at_hand (held reader.old) at.old.now at.new.now result }
+    ensures { IsHold 20 (λ g. record { it = g }) at_hand (holding reader.old.live reader.old.loose.side) at.old.now at.new.now result }
 {
-    triple_hold::<Record1024>(reader, at).status
+    let live = reader.live;
+    hold::<TripleReader1024, triple_reader_1024::Loose, Record1024>(
+        &mut reader.loose,
+        20,
+        live,
+        at,
+    ).status
 }
 
 #[unsafe(no_mangle)]
 pub extern "C" fn nidzaru_triple_1024_loan<'a>(
-    writer: &'a mut Handle,
+    writer: &'a mut triple_writer_1024::Handle,
     at: &mut &'a mut Record1024,
 ) -> u32
-    ensures { IsHold (λ p. Of1024 (TripleWrites p)) in_slot (held writer.old) at.old.now at.new.now result }
+    ensures { IsHold 19 (λ p. record { it = p }) in_slot (holding writer.old.live writer.old.loose.side) at.old.now at.new.now result }
 {
-    triple_loan::<Record1024>(writer, at)
+    let live = writer.live;
+    match slot::<TripleWriter1024, triple_writer_1024::Loose, Record1024>(
+        &mut writer.loose,
+        19,
+        live,
+    ) {
+        Err(status) => status,
+        Ok(words) => {
+            *at = words;
+            DONE
+        }
+    }
 }
 
 #[unsafe(no_mangle)]
-pub extern "C" fn nidzaru_triple_1024_publish(alloc: Global, writer: &mut Handle) -> u32
-    ensures { IsPublish (λ p. Of1024 (TripleWrites p)) (λ p. p.number) HasPublished (held writer.old) (held writer.new) result }
+pub extern "C" fn nidzaru_triple_1024_publish(writer: &mut triple_writer_1024::Handle) -> u32
+    ensures { IsPublish 19 (λ p. record { it = p }) (λ p. p.number) HasPublished (holding writer.old.live writer.old.loose.side)
+        (holding writer.new.live writer.new.loose.side) result }
 {
-    triple_publish::<Record1024>(alloc, writer)
+    publish::<TripleWriter1024, triple_writer_1024::Loose, Record1024>(
+        19,
+        &mut writer.live,
+        &mut writer.loose,
+    )
 }
 
 #[unsafe(no_mangle)]
-pub extern "C" fn nidzaru_triple_1024_end_writer(alloc: Global, writer: &mut Handle) -> u32
-    ensures { IsEnd (λ p. Of1024 (TripleWrites p)) (held writer.old) (held writer.new) result }
+pub extern "C" fn nidzaru_triple_1024_end_writer(
+    alloc: Global,
+    writer: &mut triple_writer_1024::Handle,
+) -> u32
+    ensures { IsEnd 19 (holding writer.old.live writer.old.loose.side) (holding writer.new.live writer.new.loose.side) result }
 {
-    triple_end_writer::<Record1024>(alloc, writer)
+    end::<TripleWriter1024, triple_writer_1024::Handle>(alloc, writer)
 }
 
 #[unsafe(no_mangle)]
-pub extern "C" fn nidzaru_triple_1024_end_reader(alloc: Global, reader: &mut Handle) -> u32
-    ensures { IsEnd (λ g. Of1024 (TripleReads g)) (held reader.old) (held reader.new) result }
+pub extern "C" fn nidzaru_triple_1024_end_reader(
+    alloc: Global,
+    reader: &mut triple_reader_1024::Handle,
+) -> u32
+    ensures { IsEnd 20 (holding reader.old.live reader.old.loose.side) (holding reader.new.live reader.new.loose.side) result }
 {
-    triple_end_reader::<Record1024>(alloc, reader)
+    end::<TripleReader1024, triple_reader_1024::Handle>(alloc, reader)
 }

@@ -1,14 +1,12 @@
 // made by c/exports.py
 //! A triple buffer with records of 24 bytes.
 ghost use Rattle.c_registers.specs.TripleCalls.{IsMade, HasWritten, HasRead, HasPublished, at_hand, in_slot};
-ghost use Rattle.c_registers.specs.Handles.{IsMake, IsWrite, IsRead, IsLook, IsHold, IsPublish, IsEnd};
-ghost use Rattle.c_handles.specs.Held.{held};
-ghost use Rattle.c_handles.specs.declared.side.Side.TheVariants.{Of24};
-ghost use Rattle.c_handles.specs.declared.side.Party.TheVariants.{TripleWrites, TripleReads};
+ghost use Rattle.c_registers.specs.Handles.{holding, IsMake, IsWrite, IsRead, IsLook, IsHold, IsPublish, IsEnd};
 
-use c_handles::{
-    Handle, Record24, triple_end_reader, triple_end_writer, triple_hold, triple_loan, triple_look,
-    triple_make, triple_publish, triple_read, triple_write,
+use c_handles::handles::{triple_reader_24, triple_writer_24};
+use c_handles::{Record24, TripleReader24, TripleWriter24};
+use c_registers::{
+    DONE, TripleReader, TripleWriter, end, hold, look, make, publish, read, slot, write,
 };
 use std::alloc::Global;
 
@@ -16,84 +14,130 @@ use std::alloc::Global;
 pub extern "C" fn nidzaru_triple_24_make(
     alloc: Global,
     first: &Record24,
-    writer: &mut Handle,
-    reader: &mut Handle,
+    writer: &mut triple_writer_24::Handle,
+    reader: &mut triple_reader_24::Handle,
 ) -> u32
-    ensures { IsMake (λ p. Of24 (TripleWrites p)) (λ g. Of24 (TripleReads g)) IsMade
-        (held writer.old) (held reader.old) (held writer.new) (held reader.new) first.now result }
+    ensures { IsMake (7, 8) (λ p. record { it = p }) (λ g. record { it = g }) IsMade
+        (holding writer.old.live writer.old.loose.side) (holding reader.old.live reader.old.loose.side)
+        (holding writer.new.live writer.new.loose.side) (holding reader.new.live reader.new.loose.side) first.now result }
 {
-    triple_make::<Record24>(alloc, first, writer, reader)
+    make::<
+        TripleWriter24,
+        TripleReader24,
+        triple_writer_24::Handle,
+        triple_reader_24::Handle,
+        Record24,
+        TripleWriter<Record24>,
+        TripleReader<Record24>,
+    >(alloc, first, writer, reader)
 }
 
 #[unsafe(no_mangle)]
 pub extern "C" fn nidzaru_triple_24_write(
-    alloc: Global,
-    writer: &mut Handle,
+    writer: &mut triple_writer_24::Handle,
     item: &Record24,
 ) -> u32
-    ensures { IsWrite (λ p. Of24 (TripleWrites p)) (λ p. p.number) HasWritten (held writer.old) (held writer.new) item.now result }
+    ensures { IsWrite 7 (λ p. record { it = p }) (λ p. p.number) HasWritten (holding writer.old.live writer.old.loose.side)
+        (holding writer.new.live writer.new.loose.side) item.now result }
 {
-    triple_write::<Record24>(alloc, writer, item)
+    write::<TripleWriter24, triple_writer_24::Loose, Record24, TripleWriter<Record24>>(
+        7,
+        &mut writer.live,
+        &mut writer.loose,
+        item,
+    )
 }
 
 #[unsafe(no_mangle)]
 pub extern "C" fn nidzaru_triple_24_read(
-    alloc: Global,
-    reader: &mut Handle,
+    reader: &mut triple_reader_24::Handle,
     item: &mut Record24,
     number: &mut u64,
 ) -> u32
-    ensures { IsRead (λ g. Of24 (TripleReads g)) HasRead (held reader.old) (held reader.new)
-        item.old item.new number.old number.new result }
+    ensures { IsRead 8 (λ g. record { it = g }) HasRead (holding reader.old.live reader.old.loose.side)
+        (holding reader.new.live reader.new.loose.side) item.old item.new number.old number.new result }
 {
-    triple_read::<Record24>(alloc, reader, item, number)
+    read::<TripleReader24, triple_reader_24::Loose, Record24, TripleReader<Record24>>(
+        8,
+        &mut reader.live,
+        &mut reader.loose,
+        item,
+        number,
+    )
 }
 
 #[unsafe(no_mangle)]
 pub extern "C" fn nidzaru_triple_24_look(
-    alloc: Global,
-    reader: &mut Handle,
+    reader: &mut triple_reader_24::Handle,
     number: &mut u64,
 ) -> u32
-    ensures { IsLook (λ g. Of24 (TripleReads g)) HasRead (held reader.old) (held reader.new) number.old number.new result }
+    ensures { IsLook 8 (λ g. record { it = g }) HasRead (holding reader.old.live reader.old.loose.side)
+        (holding reader.new.live reader.new.loose.side) number.old number.new result }
 {
-    triple_look::<Record24>(alloc, reader, number)
+    look::<TripleReader24, triple_reader_24::Loose, Record24, TripleReader<Record24>>(
+        8,
+        &mut reader.live,
+        &mut reader.loose,
+        number,
+    )
 }
 
 #[unsafe(no_mangle)]
-pub extern "C" fn nidzaru_triple_24_hold<'a>(reader: &'a mut Handle, at: &mut &'a Record24) -> u32
-    ensures { IsHold (λ g. Of24 (TripleReads g)) at_hand (held reader.old) at.old.now at.new.now result }
+pub extern "C" fn nidzaru_triple_24_hold<'a>(
+    reader: &'a mut triple_reader_24::Handle,
+    at: &mut &'a Record24,
+) -> u32
+    ensures { IsHold 8 (λ g. record { it = g }) at_hand (holding reader.old.live reader.old.loose.side) at.old.now at.new.now result }
 {
-    triple_hold::<Record24>(reader, at).status
+    let live = reader.live;
+    hold::<TripleReader24, triple_reader_24::Loose, Record24>(&mut reader.loose, 8, live, at).status
 }
 
 #[unsafe(no_mangle)]
 pub extern "C" fn nidzaru_triple_24_loan<'a>(
-    writer: &'a mut Handle,
+    writer: &'a mut triple_writer_24::Handle,
     at: &mut &'a mut Record24,
 ) -> u32
-    ensures { IsHold (λ p. Of24 (TripleWrites p)) in_slot (held writer.old) at.old.now at.new.now result }
+    ensures { IsHold 7 (λ p. record { it = p }) in_slot (holding writer.old.live writer.old.loose.side) at.old.now at.new.now result }
 {
-    triple_loan::<Record24>(writer, at)
+    let live = writer.live;
+    match slot::<TripleWriter24, triple_writer_24::Loose, Record24>(&mut writer.loose, 7, live) {
+        Err(status) => status,
+        Ok(words) => {
+            *at = words;
+            DONE
+        }
+    }
 }
 
 #[unsafe(no_mangle)]
-pub extern "C" fn nidzaru_triple_24_publish(alloc: Global, writer: &mut Handle) -> u32
-    ensures { IsPublish (λ p. Of24 (TripleWrites p)) (λ p. p.number) HasPublished (held writer.old) (held writer.new) result }
+pub extern "C" fn nidzaru_triple_24_publish(writer: &mut triple_writer_24::Handle) -> u32
+    ensures { IsPublish 7 (λ p. record { it = p }) (λ p. p.number) HasPublished (holding writer.old.live writer.old.loose.side)
+        (holding writer.new.live writer.new.loose.side) result }
 {
-    triple_publish::<Record24>(alloc, writer)
+    publish::<TripleWriter24, triple_writer_24::Loose, Record24>(
+        7,
+        &mut writer.live,
+        &mut writer.loose,
+    )
 }
 
 #[unsafe(no_mangle)]
-pub extern "C" fn nidzaru_triple_24_end_writer(alloc: Global, writer: &mut Handle) -> u32
-    ensures { IsEnd (λ p. Of24 (TripleWrites p)) (held writer.old) (held writer.new) result }
+pub extern "C" fn nidzaru_triple_24_end_writer(
+    alloc: Global,
+    writer: &mut triple_writer_24::Handle,
+) -> u32
+    ensures { IsEnd 7 (holding writer.old.live writer.old.loose.side) (holding writer.new.live writer.new.loose.side) result }
 {
-    triple_end_writer::<Record24>(alloc, writer)
+    end::<TripleWriter24, triple_writer_24::Handle>(alloc, writer)
 }
 
 #[unsafe(no_mangle)]
-pub extern "C" fn nidzaru_triple_24_end_reader(alloc: Global, reader: &mut Handle) -> u32
-    ensures { IsEnd (λ g. Of24 (TripleReads g)) (held reader.old) (held reader.new) result }
+pub extern "C" fn nidzaru_triple_24_end_reader(
+    alloc: Global,
+    reader: &mut triple_reader_24::Handle,
+) -> u32
+    ensures { IsEnd 8 (holding reader.old.live reader.old.loose.side) (holding reader.new.live reader.new.loose.side) result }
 {
-    triple_end_reader::<Record24>(alloc, reader)
+    end::<TripleReader24, triple_reader_24::Handle>(alloc, reader)
 }

@@ -1,14 +1,12 @@
 // made by c/exports.py
 //! A triple buffer with records of 256 bytes.
 ghost use Rattle.c_registers.specs.TripleCalls.{IsMade, HasWritten, HasRead, HasPublished, at_hand, in_slot};
-ghost use Rattle.c_registers.specs.Handles.{IsMake, IsWrite, IsRead, IsLook, IsHold, IsPublish, IsEnd};
-ghost use Rattle.c_handles.specs.Held.{held};
-ghost use Rattle.c_handles.specs.declared.side.Side.TheVariants.{Of256};
-ghost use Rattle.c_handles.specs.declared.side.Party.TheVariants.{TripleWrites, TripleReads};
+ghost use Rattle.c_registers.specs.Handles.{holding, IsMake, IsWrite, IsRead, IsLook, IsHold, IsPublish, IsEnd};
 
-use c_handles::{
-    Handle, Record256, triple_end_reader, triple_end_writer, triple_hold, triple_loan, triple_look,
-    triple_make, triple_publish, triple_read, triple_write,
+use c_handles::handles::{triple_reader_256, triple_writer_256};
+use c_handles::{Record256, TripleReader256, TripleWriter256};
+use c_registers::{
+    DONE, TripleReader, TripleWriter, end, hold, look, make, publish, read, slot, write,
 };
 use std::alloc::Global;
 
@@ -16,84 +14,139 @@ use std::alloc::Global;
 pub extern "C" fn nidzaru_triple_256_make(
     alloc: Global,
     first: &Record256,
-    writer: &mut Handle,
-    reader: &mut Handle,
+    writer: &mut triple_writer_256::Handle,
+    reader: &mut triple_reader_256::Handle,
 ) -> u32
-    ensures { IsMake (λ p. Of256 (TripleWrites p)) (λ g. Of256 (TripleReads g)) IsMade
-        (held writer.old) (held reader.old) (held writer.new) (held reader.new) first.now result }
+    ensures { IsMake (15, 16) (λ p. record { it = p }) (λ g. record { it = g }) IsMade
+        (holding writer.old.live writer.old.loose.side) (holding reader.old.live reader.old.loose.side)
+        (holding writer.new.live writer.new.loose.side) (holding reader.new.live reader.new.loose.side) first.now result }
 {
-    triple_make::<Record256>(alloc, first, writer, reader)
+    make::<
+        TripleWriter256,
+        TripleReader256,
+        triple_writer_256::Handle,
+        triple_reader_256::Handle,
+        Record256,
+        TripleWriter<Record256>,
+        TripleReader<Record256>,
+    >(alloc, first, writer, reader)
 }
 
 #[unsafe(no_mangle)]
 pub extern "C" fn nidzaru_triple_256_write(
-    alloc: Global,
-    writer: &mut Handle,
+    writer: &mut triple_writer_256::Handle,
     item: &Record256,
 ) -> u32
-    ensures { IsWrite (λ p. Of256 (TripleWrites p)) (λ p. p.number) HasWritten (held writer.old) (held writer.new) item.now result }
+    ensures { IsWrite 15 (λ p. record { it = p }) (λ p. p.number) HasWritten (holding writer.old.live writer.old.loose.side)
+        (holding writer.new.live writer.new.loose.side) item.now result }
 {
-    triple_write::<Record256>(alloc, writer, item)
+    write::<TripleWriter256, triple_writer_256::Loose, Record256, TripleWriter<Record256>>(
+        15,
+        &mut writer.live,
+        &mut writer.loose,
+        item,
+    )
 }
 
 #[unsafe(no_mangle)]
 pub extern "C" fn nidzaru_triple_256_read(
-    alloc: Global,
-    reader: &mut Handle,
+    reader: &mut triple_reader_256::Handle,
     item: &mut Record256,
     number: &mut u64,
 ) -> u32
-    ensures { IsRead (λ g. Of256 (TripleReads g)) HasRead (held reader.old) (held reader.new)
-        item.old item.new number.old number.new result }
+    ensures { IsRead 16 (λ g. record { it = g }) HasRead (holding reader.old.live reader.old.loose.side)
+        (holding reader.new.live reader.new.loose.side) item.old item.new number.old number.new result }
 {
-    triple_read::<Record256>(alloc, reader, item, number)
+    read::<TripleReader256, triple_reader_256::Loose, Record256, TripleReader<Record256>>(
+        16,
+        &mut reader.live,
+        &mut reader.loose,
+        item,
+        number,
+    )
 }
 
 #[unsafe(no_mangle)]
 pub extern "C" fn nidzaru_triple_256_look(
-    alloc: Global,
-    reader: &mut Handle,
+    reader: &mut triple_reader_256::Handle,
     number: &mut u64,
 ) -> u32
-    ensures { IsLook (λ g. Of256 (TripleReads g)) HasRead (held reader.old) (held reader.new) number.old number.new result }
+    ensures { IsLook 16 (λ g. record { it = g }) HasRead (holding reader.old.live reader.old.loose.side)
+        (holding reader.new.live reader.new.loose.side) number.old number.new result }
 {
-    triple_look::<Record256>(alloc, reader, number)
+    look::<TripleReader256, triple_reader_256::Loose, Record256, TripleReader<Record256>>(
+        16,
+        &mut reader.live,
+        &mut reader.loose,
+        number,
+    )
 }
 
 #[unsafe(no_mangle)]
-pub extern "C" fn nidzaru_triple_256_hold<'a>(reader: &'a mut Handle, at: &mut &'a Record256) -> u32
-    ensures { IsHold (λ g. Of256 (TripleReads g)) at_hand (held reader.old) at.old.now at.new.now result }
+pub extern "C" fn nidzaru_triple_256_hold<'a>(
+    reader: &'a mut triple_reader_256::Handle,
+    at: &mut &'a Record256,
+) -> u32
+    ensures { IsHold 16 (λ g. record { it = g }) at_hand (holding reader.old.live reader.old.loose.side) at.old.now at.new.now result }
 {
-    triple_hold::<Record256>(reader, at).status
+    let live = reader.live;
+    hold::<TripleReader256, triple_reader_256::Loose, Record256>(
+        &mut reader.loose,
+        16,
+        live,
+        at,
+    ).status
 }
 
 #[unsafe(no_mangle)]
 pub extern "C" fn nidzaru_triple_256_loan<'a>(
-    writer: &'a mut Handle,
+    writer: &'a mut triple_writer_256::Handle,
     at: &mut &'a mut Record256,
 ) -> u32
-    ensures { IsHold (λ p. Of256 (TripleWrites p)) in_slot (held writer.old) at.old.now at.new.now result }
+    ensures { IsHold 15 (λ p. record { it = p }) in_slot (holding writer.old.live writer.old.loose.side) at.old.now at.new.now result }
 {
-    triple_loan::<Record256>(writer, at)
+    let live = writer.live;
+    match slot::<TripleWriter256, triple_writer_256::Loose, Record256>(
+        &mut writer.loose,
+        15,
+        live,
+    ) {
+        Err(status) => status,
+        Ok(words) => {
+            *at = words;
+            DONE
+        }
+    }
 }
 
 #[unsafe(no_mangle)]
-pub extern "C" fn nidzaru_triple_256_publish(alloc: Global, writer: &mut Handle) -> u32
-    ensures { IsPublish (λ p. Of256 (TripleWrites p)) (λ p. p.number) HasPublished (held writer.old) (held writer.new) result }
+pub extern "C" fn nidzaru_triple_256_publish(writer: &mut triple_writer_256::Handle) -> u32
+    ensures { IsPublish 15 (λ p. record { it = p }) (λ p. p.number) HasPublished (holding writer.old.live writer.old.loose.side)
+        (holding writer.new.live writer.new.loose.side) result }
 {
-    triple_publish::<Record256>(alloc, writer)
+    publish::<TripleWriter256, triple_writer_256::Loose, Record256>(
+        15,
+        &mut writer.live,
+        &mut writer.loose,
+    )
 }
 
 #[unsafe(no_mangle)]
-pub extern "C" fn nidzaru_triple_256_end_writer(alloc: Global, writer: &mut Handle) -> u32
-    ensures { IsEnd (λ p. Of256 (TripleWrites p)) (held writer.old) (held writer.new) result }
+pub extern "C" fn nidzaru_triple_256_end_writer(
+    alloc: Global,
+    writer: &mut triple_writer_256::Handle,
+) -> u32
+    ensures { IsEnd 15 (holding writer.old.live writer.old.loose.side) (holding writer.new.live writer.new.loose.side) result }
 {
-    triple_end_writer::<Record256>(alloc, writer)
+    end::<TripleWriter256, triple_writer_256::Handle>(alloc, writer)
 }
 
 #[unsafe(no_mangle)]
-pub extern "C" fn nidzaru_triple_256_end_reader(alloc: Global, reader: &mut Handle) -> u32
-    ensures { IsEnd (λ g. Of256 (TripleReads g)) (held reader.old) (held reader.new) result }
+pub extern "C" fn nidzaru_triple_256_end_reader(
+    alloc: Global,
+    reader: &mut triple_reader_256::Handle,
+) -> u32
+    ensures { IsEnd 16 (holding reader.old.live reader.old.loose.side) (holding reader.new.live reader.new.loose.side) result }
 {
-    triple_end_reader::<Record256>(alloc, reader)
+    end::<TripleReader256, triple_reader_256::Handle>(alloc, reader)
 }

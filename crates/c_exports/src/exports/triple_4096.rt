@@ -1,14 +1,12 @@
 // made by c/exports.py
 //! A triple buffer with records of 4,096 bytes.
 ghost use Rattle.c_registers.specs.TripleCalls.{IsMade, HasWritten, HasRead, HasPublished, at_hand, in_slot};
-ghost use Rattle.c_registers.specs.Handles.{IsMake, IsWrite, IsRead, IsLook, IsHold, IsPublish, IsEnd};
-ghost use Rattle.c_handles.specs.Held.{held};
-ghost use Rattle.c_handles.specs.declared.side.Side.TheVariants.{Of4096};
-ghost use Rattle.c_handles.specs.declared.side.Party.TheVariants.{TripleWrites, TripleReads};
+ghost use Rattle.c_registers.specs.Handles.{holding, IsMake, IsWrite, IsRead, IsLook, IsHold, IsPublish, IsEnd};
 
-use c_handles::{
-    Handle, Record4096, triple_end_reader, triple_end_writer, triple_hold, triple_loan,
-    triple_look, triple_make, triple_publish, triple_read, triple_write,
+use c_handles::handles::{triple_reader_4096, triple_writer_4096};
+use c_handles::{Record4096, TripleReader4096, TripleWriter4096};
+use c_registers::{
+    DONE, TripleReader, TripleWriter, end, hold, look, make, publish, read, slot, write,
 };
 use std::alloc::Global;
 
@@ -16,87 +14,139 @@ use std::alloc::Global;
 pub extern "C" fn nidzaru_triple_4096_make(
     alloc: Global,
     first: &Record4096,
-    writer: &mut Handle,
-    reader: &mut Handle,
+    writer: &mut triple_writer_4096::Handle,
+    reader: &mut triple_reader_4096::Handle,
 ) -> u32
-    ensures { IsMake (λ p. Of4096 (TripleWrites p)) (λ g. Of4096 (TripleReads g)) IsMade
-        (held writer.old) (held reader.old) (held writer.new) (held reader.new) first.now result }
+    ensures { IsMake (23, 24) (λ p. record { it = p }) (λ g. record { it = g }) IsMade
+        (holding writer.old.live writer.old.loose.side) (holding reader.old.live reader.old.loose.side)
+        (holding writer.new.live writer.new.loose.side) (holding reader.new.live reader.new.loose.side) first.now result }
 {
-    triple_make::<Record4096>(alloc, first, writer, reader)
+    make::<
+        TripleWriter4096,
+        TripleReader4096,
+        triple_writer_4096::Handle,
+        triple_reader_4096::Handle,
+        Record4096,
+        TripleWriter<Record4096>,
+        TripleReader<Record4096>,
+    >(alloc, first, writer, reader)
 }
 
 #[unsafe(no_mangle)]
 pub extern "C" fn nidzaru_triple_4096_write(
-    alloc: Global,
-    writer: &mut Handle,
+    writer: &mut triple_writer_4096::Handle,
     item: &Record4096,
 ) -> u32
-    ensures { IsWrite (λ p. Of4096 (TripleWrites p)) (λ p. p.number) HasWritten (held writer.old) (held writer.new) item.now result }
+    ensures { IsWrite 23 (λ p. record { it = p }) (λ p. p.number) HasWritten (holding writer.old.live writer.old.loose.side)
+        (holding writer.new.live writer.new.loose.side) item.now result }
 {
-    triple_write::<Record4096>(alloc, writer, item)
+    write::<TripleWriter4096, triple_writer_4096::Loose, Record4096, TripleWriter<Record4096>>(
+        23,
+        &mut writer.live,
+        &mut writer.loose,
+        item,
+    )
 }
 
 #[unsafe(no_mangle)]
 pub extern "C" fn nidzaru_triple_4096_read(
-    alloc: Global,
-    reader: &mut Handle,
+    reader: &mut triple_reader_4096::Handle,
     item: &mut Record4096,
     number: &mut u64,
 ) -> u32
-    ensures { IsRead (λ g. Of4096 (TripleReads g)) HasRead (held reader.old) (held reader.new)
-        item.old item.new number.old number.new result }
+    ensures { IsRead 24 (λ g. record { it = g }) HasRead (holding reader.old.live reader.old.loose.side)
+        (holding reader.new.live reader.new.loose.side) item.old item.new number.old number.new result }
 {
-    triple_read::<Record4096>(alloc, reader, item, number)
+    read::<TripleReader4096, triple_reader_4096::Loose, Record4096, TripleReader<Record4096>>(
+        24,
+        &mut reader.live,
+        &mut reader.loose,
+        item,
+        number,
+    )
 }
 
 #[unsafe(no_mangle)]
 pub extern "C" fn nidzaru_triple_4096_look(
-    alloc: Global,
-    reader: &mut Handle,
+    reader: &mut triple_reader_4096::Handle,
     number: &mut u64,
 ) -> u32
-    ensures { IsLook (λ g. Of4096 (TripleReads g)) HasRead (held reader.old) (held reader.new) number.old number.new result }
+    ensures { IsLook 24 (λ g. record { it = g }) HasRead (holding reader.old.live reader.old.loose.side)
+        (holding reader.new.live reader.new.loose.side) number.old number.new result }
 {
-    triple_look::<Record4096>(alloc, reader, number)
+    look::<TripleReader4096, triple_reader_4096::Loose, Record4096, TripleReader<Record4096>>(
+        24,
+        &mut reader.live,
+        &mut reader.loose,
+        number,
+    )
 }
 
 #[unsafe(no_mangle)]
 pub extern "C" fn nidzaru_triple_4096_hold<'a>(
-    reader: &'a mut Handle,
+    reader: &'a mut triple_reader_4096::Handle,
     at: &mut &'a Record4096,
 ) -> u32
-    ensures { IsHold (λ g. Of4096 (TripleReads g)) at_hand (held reader.old) at.old.now at.new.now result }
+    ensures { IsHold 24 (λ g. record { it = g }) at_hand (holding reader.old.live reader.old.loose.side) at.old.now at.new.now result }
 {
-    triple_hold::<Record4096>(reader, at).status
+    let live = reader.live;
+    hold::<TripleReader4096, triple_reader_4096::Loose, Record4096>(
+        &mut reader.loose,
+        24,
+        live,
+        at,
+    ).status
 }
 
 #[unsafe(no_mangle)]
 pub extern "C" fn nidzaru_triple_4096_loan<'a>(
-    writer: &'a mut Handle,
+    writer: &'a mut triple_writer_4096::Handle,
     at: &mut &'a mut Record4096,
 ) -> u32
-    ensures { IsHold (λ p. Of4096 (TripleWrites p)) in_slot (held writer.old) at.old.now at.new.now result }
+    ensures { IsHold 23 (λ p. record { it = p }) in_slot (holding writer.old.live writer.old.loose.side) at.old.now at.new.now result }
 {
-    triple_loan::<Record4096>(writer, at)
+    let live = writer.live;
+    match slot::<TripleWriter4096, triple_writer_4096::Loose, Record4096>(
+        &mut writer.loose,
+        23,
+        live,
+    ) {
+        Err(status) => status,
+        Ok(words) => {
+            *at = words;
+            DONE
+        }
+    }
 }
 
 #[unsafe(no_mangle)]
-pub extern "C" fn nidzaru_triple_4096_publish(alloc: Global, writer: &mut Handle) -> u32
-    ensures { IsPublish (λ p. Of4096 (TripleWrites p)) (λ p. p.number) HasPublished (held writer.old) (held writer.new) result }
+pub extern "C" fn nidzaru_triple_4096_publish(writer: &mut triple_writer_4096::Handle) -> u32
+    ensures { IsPublish 23 (λ p. record { it = p }) (λ p. p.number) HasPublished (holding writer.old.live writer.old.loose.side)
+        (holding writer.new.live writer.new.loose.side) result }
 {
-    triple_publish::<Record4096>(alloc, writer)
+    publish::<TripleWriter4096, triple_writer_4096::Loose, Record4096>(
+        23,
+        &mut writer.live,
+        &mut writer.loose,
+    )
 }
 
 #[unsafe(no_mangle)]
-pub extern "C" fn nidzaru_triple_4096_end_writer(alloc: Global, writer: &mut Handle) -> u32
-    ensures { IsEnd (λ p. Of4096 (TripleWrites p)) (held writer.old) (held writer.new) result }
+pub extern "C" fn nidzaru_triple_4096_end_writer(
+    alloc: Global,
+    writer: &mut triple_writer_4096::Handle,
+) -> u32
+    ensures { IsEnd 23 (holding writer.old.live writer.old.loose.side) (holding writer.new.live writer.new.loose.side) result }
 {
-    triple_end_writer::<Record4096>(alloc, writer)
+    end::<TripleWriter4096, triple_writer_4096::Handle>(alloc, writer)
 }
 
 #[unsafe(no_mangle)]
-pub extern "C" fn nidzaru_triple_4096_end_reader(alloc: Global, reader: &mut Handle) -> u32
-    ensures { IsEnd (λ g. Of4096 (TripleReads g)) (held reader.old) (held reader.new) result }
+pub extern "C" fn nidzaru_triple_4096_end_reader(
+    alloc: Global,
+    reader: &mut triple_reader_4096::Handle,
+) -> u32
+    ensures { IsEnd 24 (holding reader.old.live reader.old.loose.side) (holding reader.new.live reader.new.loose.side) result }
 {
-    triple_end_reader::<Record4096>(alloc, reader)
+    end::<TripleReader4096, triple_reader_4096::Handle>(alloc, reader)
 }

@@ -1,14 +1,12 @@
 // made by c/exports.py
 //! A triple buffer with records of 64 bytes.
 ghost use Rattle.c_registers.specs.TripleCalls.{IsMade, HasWritten, HasRead, HasPublished, at_hand, in_slot};
-ghost use Rattle.c_registers.specs.Handles.{IsMake, IsWrite, IsRead, IsLook, IsHold, IsPublish, IsEnd};
-ghost use Rattle.c_handles.specs.Held.{held};
-ghost use Rattle.c_handles.specs.declared.side.Side.TheVariants.{Of64};
-ghost use Rattle.c_handles.specs.declared.side.Party.TheVariants.{TripleWrites, TripleReads};
+ghost use Rattle.c_registers.specs.Handles.{holding, IsMake, IsWrite, IsRead, IsLook, IsHold, IsPublish, IsEnd};
 
-use c_handles::{
-    Handle, Record64, triple_end_reader, triple_end_writer, triple_hold, triple_loan, triple_look,
-    triple_make, triple_publish, triple_read, triple_write,
+use c_handles::handles::{triple_reader_64, triple_writer_64};
+use c_handles::{Record64, TripleReader64, TripleWriter64};
+use c_registers::{
+    DONE, TripleReader, TripleWriter, end, hold, look, make, publish, read, slot, write,
 };
 use std::alloc::Global;
 
@@ -16,84 +14,135 @@ use std::alloc::Global;
 pub extern "C" fn nidzaru_triple_64_make(
     alloc: Global,
     first: &Record64,
-    writer: &mut Handle,
-    reader: &mut Handle,
+    writer: &mut triple_writer_64::Handle,
+    reader: &mut triple_reader_64::Handle,
 ) -> u32
-    ensures { IsMake (λ p. Of64 (TripleWrites p)) (λ g. Of64 (TripleReads g)) IsMade
-        (held writer.old) (held reader.old) (held writer.new) (held reader.new) first.now result }
+    ensures { IsMake (11, 12) (λ p. record { it = p }) (λ g. record { it = g }) IsMade
+        (holding writer.old.live writer.old.loose.side) (holding reader.old.live reader.old.loose.side)
+        (holding writer.new.live writer.new.loose.side) (holding reader.new.live reader.new.loose.side) first.now result }
 {
-    triple_make::<Record64>(alloc, first, writer, reader)
+    make::<
+        TripleWriter64,
+        TripleReader64,
+        triple_writer_64::Handle,
+        triple_reader_64::Handle,
+        Record64,
+        TripleWriter<Record64>,
+        TripleReader<Record64>,
+    >(alloc, first, writer, reader)
 }
 
 #[unsafe(no_mangle)]
 pub extern "C" fn nidzaru_triple_64_write(
-    alloc: Global,
-    writer: &mut Handle,
+    writer: &mut triple_writer_64::Handle,
     item: &Record64,
 ) -> u32
-    ensures { IsWrite (λ p. Of64 (TripleWrites p)) (λ p. p.number) HasWritten (held writer.old) (held writer.new) item.now result }
+    ensures { IsWrite 11 (λ p. record { it = p }) (λ p. p.number) HasWritten (holding writer.old.live writer.old.loose.side)
+        (holding writer.new.live writer.new.loose.side) item.now result }
 {
-    triple_write::<Record64>(alloc, writer, item)
+    write::<TripleWriter64, triple_writer_64::Loose, Record64, TripleWriter<Record64>>(
+        11,
+        &mut writer.live,
+        &mut writer.loose,
+        item,
+    )
 }
 
 #[unsafe(no_mangle)]
 pub extern "C" fn nidzaru_triple_64_read(
-    alloc: Global,
-    reader: &mut Handle,
+    reader: &mut triple_reader_64::Handle,
     item: &mut Record64,
     number: &mut u64,
 ) -> u32
-    ensures { IsRead (λ g. Of64 (TripleReads g)) HasRead (held reader.old) (held reader.new)
-        item.old item.new number.old number.new result }
+    ensures { IsRead 12 (λ g. record { it = g }) HasRead (holding reader.old.live reader.old.loose.side)
+        (holding reader.new.live reader.new.loose.side) item.old item.new number.old number.new result }
 {
-    triple_read::<Record64>(alloc, reader, item, number)
+    read::<TripleReader64, triple_reader_64::Loose, Record64, TripleReader<Record64>>(
+        12,
+        &mut reader.live,
+        &mut reader.loose,
+        item,
+        number,
+    )
 }
 
 #[unsafe(no_mangle)]
 pub extern "C" fn nidzaru_triple_64_look(
-    alloc: Global,
-    reader: &mut Handle,
+    reader: &mut triple_reader_64::Handle,
     number: &mut u64,
 ) -> u32
-    ensures { IsLook (λ g. Of64 (TripleReads g)) HasRead (held reader.old) (held reader.new) number.old number.new result }
+    ensures { IsLook 12 (λ g. record { it = g }) HasRead (holding reader.old.live reader.old.loose.side)
+        (holding reader.new.live reader.new.loose.side) number.old number.new result }
 {
-    triple_look::<Record64>(alloc, reader, number)
+    look::<TripleReader64, triple_reader_64::Loose, Record64, TripleReader<Record64>>(
+        12,
+        &mut reader.live,
+        &mut reader.loose,
+        number,
+    )
 }
 
 #[unsafe(no_mangle)]
-pub extern "C" fn nidzaru_triple_64_hold<'a>(reader: &'a mut Handle, at: &mut &'a Record64) -> u32
-    ensures { IsHold (λ g. Of64 (TripleReads g)) at_hand (held reader.old) at.old.now at.new.now result }
+pub extern "C" fn nidzaru_triple_64_hold<'a>(
+    reader: &'a mut triple_reader_64::Handle,
+    at: &mut &'a Record64,
+) -> u32
+    ensures { IsHold 12 (λ g. record { it = g }) at_hand (holding reader.old.live reader.old.loose.side) at.old.now at.new.now result }
 {
-    triple_hold::<Record64>(reader, at).status
+    let live = reader.live;
+    hold::<TripleReader64, triple_reader_64::Loose, Record64>(
+        &mut reader.loose,
+        12,
+        live,
+        at,
+    ).status
 }
 
 #[unsafe(no_mangle)]
 pub extern "C" fn nidzaru_triple_64_loan<'a>(
-    writer: &'a mut Handle,
+    writer: &'a mut triple_writer_64::Handle,
     at: &mut &'a mut Record64,
 ) -> u32
-    ensures { IsHold (λ p. Of64 (TripleWrites p)) in_slot (held writer.old) at.old.now at.new.now result }
+    ensures { IsHold 11 (λ p. record { it = p }) in_slot (holding writer.old.live writer.old.loose.side) at.old.now at.new.now result }
 {
-    triple_loan::<Record64>(writer, at)
+    let live = writer.live;
+    match slot::<TripleWriter64, triple_writer_64::Loose, Record64>(&mut writer.loose, 11, live) {
+        Err(status) => status,
+        Ok(words) => {
+            *at = words;
+            DONE
+        }
+    }
 }
 
 #[unsafe(no_mangle)]
-pub extern "C" fn nidzaru_triple_64_publish(alloc: Global, writer: &mut Handle) -> u32
-    ensures { IsPublish (λ p. Of64 (TripleWrites p)) (λ p. p.number) HasPublished (held writer.old) (held writer.new) result }
+pub extern "C" fn nidzaru_triple_64_publish(writer: &mut triple_writer_64::Handle) -> u32
+    ensures { IsPublish 11 (λ p. record { it = p }) (λ p. p.number) HasPublished (holding writer.old.live writer.old.loose.side)
+        (holding writer.new.live writer.new.loose.side) result }
 {
-    triple_publish::<Record64>(alloc, writer)
+    publish::<TripleWriter64, triple_writer_64::Loose, Record64>(
+        11,
+        &mut writer.live,
+        &mut writer.loose,
+    )
 }
 
 #[unsafe(no_mangle)]
-pub extern "C" fn nidzaru_triple_64_end_writer(alloc: Global, writer: &mut Handle) -> u32
-    ensures { IsEnd (λ p. Of64 (TripleWrites p)) (held writer.old) (held writer.new) result }
+pub extern "C" fn nidzaru_triple_64_end_writer(
+    alloc: Global,
+    writer: &mut triple_writer_64::Handle,
+) -> u32
+    ensures { IsEnd 11 (holding writer.old.live writer.old.loose.side) (holding writer.new.live writer.new.loose.side) result }
 {
-    triple_end_writer::<Record64>(alloc, writer)
+    end::<TripleWriter64, triple_writer_64::Handle>(alloc, writer)
 }
 
 #[unsafe(no_mangle)]
-pub extern "C" fn nidzaru_triple_64_end_reader(alloc: Global, reader: &mut Handle) -> u32
-    ensures { IsEnd (λ g. Of64 (TripleReads g)) (held reader.old) (held reader.new) result }
+pub extern "C" fn nidzaru_triple_64_end_reader(
+    alloc: Global,
+    reader: &mut triple_reader_64::Handle,
+) -> u32
+    ensures { IsEnd 12 (holding reader.old.live reader.old.loose.side) (holding reader.new.live reader.new.loose.side) result }
 {
-    triple_end_reader::<Record64>(alloc, reader)
+    end::<TripleReader64, triple_reader_64::Handle>(alloc, reader)
 }

@@ -1,14 +1,12 @@
 // made by c/exports.py
 //! A triple buffer with records of 65,536 bytes.
 ghost use Rattle.c_registers.specs.TripleCalls.{IsMade, HasWritten, HasRead, HasPublished, at_hand, in_slot};
-ghost use Rattle.c_registers.specs.Handles.{IsMake, IsWrite, IsRead, IsLook, IsHold, IsPublish, IsEnd};
-ghost use Rattle.c_handles.specs.Held.{held};
-ghost use Rattle.c_handles.specs.declared.side.Side.TheVariants.{Of65536};
-ghost use Rattle.c_handles.specs.declared.side.Party.TheVariants.{TripleWrites, TripleReads};
+ghost use Rattle.c_registers.specs.Handles.{holding, IsMake, IsWrite, IsRead, IsLook, IsHold, IsPublish, IsEnd};
 
-use c_handles::{
-    Handle, Record65536, triple_end_reader, triple_end_writer, triple_hold, triple_loan,
-    triple_look, triple_make, triple_publish, triple_read, triple_write,
+use c_handles::handles::{triple_reader_65536, triple_writer_65536};
+use c_handles::{Record65536, TripleReader65536, TripleWriter65536};
+use c_registers::{
+    DONE, TripleReader, TripleWriter, end, hold, look, make, publish, read, slot, write,
 };
 use std::alloc::Global;
 
@@ -16,87 +14,139 @@ use std::alloc::Global;
 pub extern "C" fn nidzaru_triple_65536_make(
     alloc: Global,
     first: &Record65536,
-    writer: &mut Handle,
-    reader: &mut Handle,
+    writer: &mut triple_writer_65536::Handle,
+    reader: &mut triple_reader_65536::Handle,
 ) -> u32
-    ensures { IsMake (λ p. Of65536 (TripleWrites p)) (λ g. Of65536 (TripleReads g)) IsMade
-        (held writer.old) (held reader.old) (held writer.new) (held reader.new) first.now result }
+    ensures { IsMake (27, 28) (λ p. record { it = p }) (λ g. record { it = g }) IsMade
+        (holding writer.old.live writer.old.loose.side) (holding reader.old.live reader.old.loose.side)
+        (holding writer.new.live writer.new.loose.side) (holding reader.new.live reader.new.loose.side) first.now result }
 {
-    triple_make::<Record65536>(alloc, first, writer, reader)
+    make::<
+        TripleWriter65536,
+        TripleReader65536,
+        triple_writer_65536::Handle,
+        triple_reader_65536::Handle,
+        Record65536,
+        TripleWriter<Record65536>,
+        TripleReader<Record65536>,
+    >(alloc, first, writer, reader)
 }
 
 #[unsafe(no_mangle)]
 pub extern "C" fn nidzaru_triple_65536_write(
-    alloc: Global,
-    writer: &mut Handle,
+    writer: &mut triple_writer_65536::Handle,
     item: &Record65536,
 ) -> u32
-    ensures { IsWrite (λ p. Of65536 (TripleWrites p)) (λ p. p.number) HasWritten (held writer.old) (held writer.new) item.now result }
+    ensures { IsWrite 27 (λ p. record { it = p }) (λ p. p.number) HasWritten (holding writer.old.live writer.old.loose.side)
+        (holding writer.new.live writer.new.loose.side) item.now result }
 {
-    triple_write::<Record65536>(alloc, writer, item)
+    write::<TripleWriter65536, triple_writer_65536::Loose, Record65536, TripleWriter<Record65536>>(
+        27,
+        &mut writer.live,
+        &mut writer.loose,
+        item,
+    )
 }
 
 #[unsafe(no_mangle)]
 pub extern "C" fn nidzaru_triple_65536_read(
-    alloc: Global,
-    reader: &mut Handle,
+    reader: &mut triple_reader_65536::Handle,
     item: &mut Record65536,
     number: &mut u64,
 ) -> u32
-    ensures { IsRead (λ g. Of65536 (TripleReads g)) HasRead (held reader.old) (held reader.new)
-        item.old item.new number.old number.new result }
+    ensures { IsRead 28 (λ g. record { it = g }) HasRead (holding reader.old.live reader.old.loose.side)
+        (holding reader.new.live reader.new.loose.side) item.old item.new number.old number.new result }
 {
-    triple_read::<Record65536>(alloc, reader, item, number)
+    read::<TripleReader65536, triple_reader_65536::Loose, Record65536, TripleReader<Record65536>>(
+        28,
+        &mut reader.live,
+        &mut reader.loose,
+        item,
+        number,
+    )
 }
 
 #[unsafe(no_mangle)]
 pub extern "C" fn nidzaru_triple_65536_look(
-    alloc: Global,
-    reader: &mut Handle,
+    reader: &mut triple_reader_65536::Handle,
     number: &mut u64,
 ) -> u32
-    ensures { IsLook (λ g. Of65536 (TripleReads g)) HasRead (held reader.old) (held reader.new) number.old number.new result }
+    ensures { IsLook 28 (λ g. record { it = g }) HasRead (holding reader.old.live reader.old.loose.side)
+        (holding reader.new.live reader.new.loose.side) number.old number.new result }
 {
-    triple_look::<Record65536>(alloc, reader, number)
+    look::<TripleReader65536, triple_reader_65536::Loose, Record65536, TripleReader<Record65536>>(
+        28,
+        &mut reader.live,
+        &mut reader.loose,
+        number,
+    )
 }
 
 #[unsafe(no_mangle)]
 pub extern "C" fn nidzaru_triple_65536_hold<'a>(
-    reader: &'a mut Handle,
+    reader: &'a mut triple_reader_65536::Handle,
     at: &mut &'a Record65536,
 ) -> u32
-    ensures { IsHold (λ g. Of65536 (TripleReads g)) at_hand (held reader.old) at.old.now at.new.now result }
+    ensures { IsHold 28 (λ g. record { it = g }) at_hand (holding reader.old.live reader.old.loose.side) at.old.now at.new.now result }
 {
-    triple_hold::<Record65536>(reader, at).status
+    let live = reader.live;
+    hold::<TripleReader65536, triple_reader_65536::Loose, Record65536>(
+        &mut reader.loose,
+        28,
+        live,
+        at,
+    ).status
 }
 
 #[unsafe(no_mangle)]
 pub extern "C" fn nidzaru_triple_65536_loan<'a>(
-    writer: &'a mut Handle,
+    writer: &'a mut triple_writer_65536::Handle,
     at: &mut &'a mut Record65536,
 ) -> u32
-    ensures { IsHold (λ p. Of65536 (TripleWrites p)) in_slot (held writer.old) at.old.now at.new.now result }
+    ensures { IsHold 27 (λ p. record { it = p }) in_slot (holding writer.old.live writer.old.loose.side) at.old.now at.new.now result }
 {
-    triple_loan::<Record65536>(writer, at)
+    let live = writer.live;
+    match slot::<TripleWriter65536, triple_writer_65536::Loose, Record65536>(
+        &mut writer.loose,
+        27,
+        live,
+    ) {
+        Err(status) => status,
+        Ok(words) => {
+            *at = words;
+            DONE
+        }
+    }
 }
 
 #[unsafe(no_mangle)]
-pub extern "C" fn nidzaru_triple_65536_publish(alloc: Global, writer: &mut Handle) -> u32
-    ensures { IsPublish (λ p. Of65536 (TripleWrites p)) (λ p. p.number) HasPublished (held writer.old) (held writer.new) result }
+pub extern "C" fn nidzaru_triple_65536_publish(writer: &mut triple_writer_65536::Handle) -> u32
+    ensures { IsPublish 27 (λ p. record { it = p }) (λ p. p.number) HasPublished (holding writer.old.live writer.old.loose.side)
+        (holding writer.new.live writer.new.loose.side) result }
 {
-    triple_publish::<Record65536>(alloc, writer)
+    publish::<TripleWriter65536, triple_writer_65536::Loose, Record65536>(
+        27,
+        &mut writer.live,
+        &mut writer.loose,
+    )
 }
 
 #[unsafe(no_mangle)]
-pub extern "C" fn nidzaru_triple_65536_end_writer(alloc: Global, writer: &mut Handle) -> u32
-    ensures { IsEnd (λ p. Of65536 (TripleWrites p)) (held writer.old) (held writer.new) result }
+pub extern "C" fn nidzaru_triple_65536_end_writer(
+    alloc: Global,
+    writer: &mut triple_writer_65536::Handle,
+) -> u32
+    ensures { IsEnd 27 (holding writer.old.live writer.old.loose.side) (holding writer.new.live writer.new.loose.side) result }
 {
-    triple_end_writer::<Record65536>(alloc, writer)
+    end::<TripleWriter65536, triple_writer_65536::Handle>(alloc, writer)
 }
 
 #[unsafe(no_mangle)]
-pub extern "C" fn nidzaru_triple_65536_end_reader(alloc: Global, reader: &mut Handle) -> u32
-    ensures { IsEnd (λ g. Of65536 (TripleReads g)) (held reader.old) (held reader.new) result }
+pub extern "C" fn nidzaru_triple_65536_end_reader(
+    alloc: Global,
+    reader: &mut triple_reader_65536::Handle,
+) -> u32
+    ensures { IsEnd 28 (holding reader.old.live reader.old.loose.side) (holding reader.new.live reader.new.loose.side) result }
 {
-    triple_end_reader::<Record65536>(alloc, reader)
+    end::<TripleReader65536, triple_reader_65536::Handle>(alloc, reader)
 }

@@ -1,14 +1,12 @@
 // made by c/exports.py
 //! A triple buffer with records of 8 bytes.
 ghost use Rattle.c_registers.specs.TripleCalls.{IsMade, HasWritten, HasRead, HasPublished, at_hand, in_slot};
-ghost use Rattle.c_registers.specs.Handles.{IsMake, IsWrite, IsRead, IsLook, IsHold, IsPublish, IsEnd};
-ghost use Rattle.c_handles.specs.Held.{held};
-ghost use Rattle.c_handles.specs.declared.side.Side.TheVariants.{Of8};
-ghost use Rattle.c_handles.specs.declared.side.Party.TheVariants.{TripleWrites, TripleReads};
+ghost use Rattle.c_registers.specs.Handles.{holding, IsMake, IsWrite, IsRead, IsLook, IsHold, IsPublish, IsEnd};
 
-use c_handles::{
-    Handle, Record8, triple_end_reader, triple_end_writer, triple_hold, triple_loan, triple_look,
-    triple_make, triple_publish, triple_read, triple_write,
+use c_handles::handles::{triple_reader_8, triple_writer_8};
+use c_handles::{Record8, TripleReader8, TripleWriter8};
+use c_registers::{
+    DONE, TripleReader, TripleWriter, end, hold, look, make, publish, read, slot, write,
 };
 use std::alloc::Global;
 
@@ -16,73 +14,130 @@ use std::alloc::Global;
 pub extern "C" fn nidzaru_triple_8_make(
     alloc: Global,
     first: &Record8,
-    writer: &mut Handle,
-    reader: &mut Handle,
+    writer: &mut triple_writer_8::Handle,
+    reader: &mut triple_reader_8::Handle,
 ) -> u32
-    ensures { IsMake (λ p. Of8 (TripleWrites p)) (λ g. Of8 (TripleReads g)) IsMade
-        (held writer.old) (held reader.old) (held writer.new) (held reader.new) first.now result }
+    ensures { IsMake (3, 4) (λ p. record { it = p }) (λ g. record { it = g }) IsMade
+        (holding writer.old.live writer.old.loose.side) (holding reader.old.live reader.old.loose.side)
+        (holding writer.new.live writer.new.loose.side) (holding reader.new.live reader.new.loose.side) first.now result }
 {
-    triple_make::<Record8>(alloc, first, writer, reader)
+    make::<
+        TripleWriter8,
+        TripleReader8,
+        triple_writer_8::Handle,
+        triple_reader_8::Handle,
+        Record8,
+        TripleWriter<Record8>,
+        TripleReader<Record8>,
+    >(alloc, first, writer, reader)
 }
 
 #[unsafe(no_mangle)]
-pub extern "C" fn nidzaru_triple_8_write(alloc: Global, writer: &mut Handle, item: &Record8) -> u32
-    ensures { IsWrite (λ p. Of8 (TripleWrites p)) (λ p. p.number) HasWritten (held writer.old) (held writer.new) item.now result }
+pub extern "C" fn nidzaru_triple_8_write(
+    writer: &mut triple_writer_8::Handle,
+    item: &Record8,
+) -> u32
+    ensures { IsWrite 3 (λ p. record { it = p }) (λ p. p.number) HasWritten (holding writer.old.live writer.old.loose.side)
+        (holding writer.new.live writer.new.loose.side) item.now result }
 {
-    triple_write::<Record8>(alloc, writer, item)
+    write::<TripleWriter8, triple_writer_8::Loose, Record8, TripleWriter<Record8>>(
+        3,
+        &mut writer.live,
+        &mut writer.loose,
+        item,
+    )
 }
 
 #[unsafe(no_mangle)]
 pub extern "C" fn nidzaru_triple_8_read(
-    alloc: Global,
-    reader: &mut Handle,
+    reader: &mut triple_reader_8::Handle,
     item: &mut Record8,
     number: &mut u64,
 ) -> u32
-    ensures { IsRead (λ g. Of8 (TripleReads g)) HasRead (held reader.old) (held reader.new)
-        item.old item.new number.old number.new result }
+    ensures { IsRead 4 (λ g. record { it = g }) HasRead (holding reader.old.live reader.old.loose.side)
+        (holding reader.new.live reader.new.loose.side) item.old item.new number.old number.new result }
 {
-    triple_read::<Record8>(alloc, reader, item, number)
+    read::<TripleReader8, triple_reader_8::Loose, Record8, TripleReader<Record8>>(
+        4,
+        &mut reader.live,
+        &mut reader.loose,
+        item,
+        number,
+    )
 }
 
 #[unsafe(no_mangle)]
-pub extern "C" fn nidzaru_triple_8_look(alloc: Global, reader: &mut Handle, number: &mut u64) -> u32
-    ensures { IsLook (λ g. Of8 (TripleReads g)) HasRead (held reader.old) (held reader.new) number.old number.new result }
+pub extern "C" fn nidzaru_triple_8_look(
+    reader: &mut triple_reader_8::Handle,
+    number: &mut u64,
+) -> u32
+    ensures { IsLook 4 (λ g. record { it = g }) HasRead (holding reader.old.live reader.old.loose.side)
+        (holding reader.new.live reader.new.loose.side) number.old number.new result }
 {
-    triple_look::<Record8>(alloc, reader, number)
+    look::<TripleReader8, triple_reader_8::Loose, Record8, TripleReader<Record8>>(
+        4,
+        &mut reader.live,
+        &mut reader.loose,
+        number,
+    )
 }
 
 #[unsafe(no_mangle)]
-pub extern "C" fn nidzaru_triple_8_hold<'a>(reader: &'a mut Handle, at: &mut &'a Record8) -> u32
-    ensures { IsHold (λ g. Of8 (TripleReads g)) at_hand (held reader.old) at.old.now at.new.now result }
+pub extern "C" fn nidzaru_triple_8_hold<'a>(
+    reader: &'a mut triple_reader_8::Handle,
+    at: &mut &'a Record8,
+) -> u32
+    ensures { IsHold 4 (λ g. record { it = g }) at_hand (holding reader.old.live reader.old.loose.side) at.old.now at.new.now result }
 {
-    triple_hold::<Record8>(reader, at).status
+    let live = reader.live;
+    hold::<TripleReader8, triple_reader_8::Loose, Record8>(&mut reader.loose, 4, live, at).status
 }
 
 #[unsafe(no_mangle)]
-pub extern "C" fn nidzaru_triple_8_loan<'a>(writer: &'a mut Handle, at: &mut &'a mut Record8) -> u32
-    ensures { IsHold (λ p. Of8 (TripleWrites p)) in_slot (held writer.old) at.old.now at.new.now result }
+pub extern "C" fn nidzaru_triple_8_loan<'a>(
+    writer: &'a mut triple_writer_8::Handle,
+    at: &mut &'a mut Record8,
+) -> u32
+    ensures { IsHold 3 (λ p. record { it = p }) in_slot (holding writer.old.live writer.old.loose.side) at.old.now at.new.now result }
 {
-    triple_loan::<Record8>(writer, at)
+    let live = writer.live;
+    match slot::<TripleWriter8, triple_writer_8::Loose, Record8>(&mut writer.loose, 3, live) {
+        Err(status) => status,
+        Ok(words) => {
+            *at = words;
+            DONE
+        }
+    }
 }
 
 #[unsafe(no_mangle)]
-pub extern "C" fn nidzaru_triple_8_publish(alloc: Global, writer: &mut Handle) -> u32
-    ensures { IsPublish (λ p. Of8 (TripleWrites p)) (λ p. p.number) HasPublished (held writer.old) (held writer.new) result }
+pub extern "C" fn nidzaru_triple_8_publish(writer: &mut triple_writer_8::Handle) -> u32
+    ensures { IsPublish 3 (λ p. record { it = p }) (λ p. p.number) HasPublished (holding writer.old.live writer.old.loose.side)
+        (holding writer.new.live writer.new.loose.side) result }
 {
-    triple_publish::<Record8>(alloc, writer)
+    publish::<TripleWriter8, triple_writer_8::Loose, Record8>(
+        3,
+        &mut writer.live,
+        &mut writer.loose,
+    )
 }
 
 #[unsafe(no_mangle)]
-pub extern "C" fn nidzaru_triple_8_end_writer(alloc: Global, writer: &mut Handle) -> u32
-    ensures { IsEnd (λ p. Of8 (TripleWrites p)) (held writer.old) (held writer.new) result }
+pub extern "C" fn nidzaru_triple_8_end_writer(
+    alloc: Global,
+    writer: &mut triple_writer_8::Handle,
+) -> u32
+    ensures { IsEnd 3 (holding writer.old.live writer.old.loose.side) (holding writer.new.live writer.new.loose.side) result }
 {
-    triple_end_writer::<Record8>(alloc, writer)
+    end::<TripleWriter8, triple_writer_8::Handle>(alloc, writer)
 }
 
 #[unsafe(no_mangle)]
-pub extern "C" fn nidzaru_triple_8_end_reader(alloc: Global, reader: &mut Handle) -> u32
-    ensures { IsEnd (λ g. Of8 (TripleReads g)) (held reader.old) (held reader.new) result }
+pub extern "C" fn nidzaru_triple_8_end_reader(
+    alloc: Global,
+    reader: &mut triple_reader_8::Handle,
+) -> u32
+    ensures { IsEnd 4 (holding reader.old.live reader.old.loose.side) (holding reader.new.live reader.new.loose.side) result }
 {
-    triple_end_reader::<Record8>(alloc, reader)
+    end::<TripleReader8, triple_reader_8::Handle>(alloc, reader)
 }

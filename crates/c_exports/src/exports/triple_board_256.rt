@@ -1,15 +1,12 @@
 // made by c/exports.py
 //! A board over triple buffers with records of 256 bytes.
-ghost use Rattle.c_registers.specs.Handles.{IsEnd};
+ghost use Rattle.c_registers.specs.Handles.{holding, IsEnd};
 ghost use Rattle.c_boards.specs.Places.{IsBoardMake, IsBoardWrite, IsBoardRead, IsBoardReadSince};
-ghost use Rattle.c_handles.specs.Held.{held, live_of, side_of};
-ghost use Rattle.c_handles.specs.declared.side.Side.TheVariants.{TripleBoard256};
 
-use c_boards::{Mark, Posts};
-use c_handles::{
-    Handle, Record256, TripleSeat256, board_end, board_make, board_read, board_read_since,
-    board_write,
-};
+use c_boards::{Mark, Posts, make_places, read_place, read_place_since, write_place};
+use c_handles::handles::triple_place_256;
+use c_handles::{Record256, TriplePlace256, TripleSeat256};
+use c_registers::end;
 use std::alloc::Global;
 
 #[unsafe(no_mangle)]
@@ -17,57 +14,78 @@ pub extern "C" fn nidzaru_triple_board_256_make(
     alloc: Global,
     first: &Record256,
     limit: u64,
-    places: &mut [Handle],
+    places: &mut [triple_place_256::Handle],
 ) -> u32
-    ensures { IsBoardMake live_of side_of TripleBoard256 ⟦<TripleSeat256 as Posts<Record256>>⟧.is_made
+    ensures { IsBoardMake (λ h. h.live) (λ h. h.loose.side) 37 (λ s. record { it = s }) ⟦<TripleSeat256 as Posts<Record256>>⟧.is_made
         limit places.old places.new first.now result }
 {
-    board_make::<Record256, TripleSeat256>(alloc, first, limit, places)
+    make_places::<TriplePlace256, triple_place_256::Handle, Record256, TripleSeat256>(
+        alloc, first, limit, places,
+    )
 }
 
 #[unsafe(no_mangle)]
 pub extern "C" fn nidzaru_triple_board_256_write(
-    alloc: Global,
-    place: &mut Handle,
+    place: &mut triple_place_256::Handle,
     item: &Record256,
     stamp: &mut Mark,
 ) -> u32
-    ensures { IsBoardWrite TripleBoard256 ⟦<TripleSeat256 as Posts<Record256>>⟧.has_posted ⟦<TripleSeat256 as Posts<Record256>>⟧.is_refused
-        (held place.old) (held place.new) item.now stamp.old stamp.new result }
+    ensures { IsBoardWrite 37 (λ s. record { it = s }) ⟦<TripleSeat256 as Posts<Record256>>⟧.has_posted ⟦<TripleSeat256 as Posts<Record256>>⟧.is_refused
+        (holding place.old.live place.old.loose.side) (holding place.new.live place.new.loose.side) item.now stamp.old stamp.new result }
 {
-    board_write::<Record256, TripleSeat256>(alloc, place, item, stamp)
+    write_place::<TriplePlace256, triple_place_256::Loose, Record256, TripleSeat256>(
+        37,
+        &mut place.live,
+        &mut place.loose,
+        item,
+        stamp,
+    )
 }
 
 #[unsafe(no_mangle)]
 pub extern "C" fn nidzaru_triple_board_256_read(
-    alloc: Global,
-    place: &mut Handle,
+    place: &mut triple_place_256::Handle,
     item: &mut Record256,
     stamp: &mut Mark,
 ) -> u32
-    ensures { IsBoardRead TripleBoard256 ⟦<TripleSeat256 as Posts<Record256>>⟧.has_seen
-        (held place.old) (held place.new) item.old item.new stamp.old stamp.new result }
+    ensures { IsBoardRead 37 (λ s. record { it = s }) ⟦<TripleSeat256 as Posts<Record256>>⟧.has_seen
+        (holding place.old.live place.old.loose.side) (holding place.new.live place.new.loose.side) item.old item.new stamp.old stamp.new result }
 {
-    board_read::<Record256, TripleSeat256>(alloc, place, item, stamp)
+    read_place::<TriplePlace256, triple_place_256::Loose, Record256, TripleSeat256>(
+        37,
+        &mut place.live,
+        &mut place.loose,
+        item,
+        stamp,
+    )
 }
 
 #[unsafe(no_mangle)]
 pub extern "C" fn nidzaru_triple_board_256_read_since(
-    alloc: Global,
-    place: &mut Handle,
+    place: &mut triple_place_256::Handle,
     least: &Mark,
     item: &mut Record256,
     stamp: &mut Mark,
 ) -> u32
-    ensures { IsBoardReadSince TripleBoard256 ⟦<TripleSeat256 as Posts<Record256>>⟧.has_seen
-        (held place.old) (held place.new) least.now item.old item.new stamp.old stamp.new result }
+    ensures { IsBoardReadSince 37 (λ s. record { it = s }) ⟦<TripleSeat256 as Posts<Record256>>⟧.has_seen
+        (holding place.old.live place.old.loose.side) (holding place.new.live place.new.loose.side) least.now item.old item.new stamp.old stamp.new result }
 {
-    board_read_since::<Record256, TripleSeat256>(alloc, place, least, item, stamp)
+    read_place_since::<TriplePlace256, triple_place_256::Loose, Record256, TripleSeat256>(
+        37,
+        &mut place.live,
+        &mut place.loose,
+        least,
+        item,
+        stamp,
+    )
 }
 
 #[unsafe(no_mangle)]
-pub extern "C" fn nidzaru_triple_board_256_end(alloc: Global, place: &mut Handle) -> u32
-    ensures { IsEnd TripleBoard256 (held place.old) (held place.new) result }
+pub extern "C" fn nidzaru_triple_board_256_end(
+    alloc: Global,
+    place: &mut triple_place_256::Handle,
+) -> u32
+    ensures { IsEnd 37 (holding place.old.live place.old.loose.side) (holding place.new.live place.new.loose.side) result }
 {
-    board_end::<TripleSeat256>(alloc, place)
+    end::<TriplePlace256, triple_place_256::Handle>(alloc, place)
 }

@@ -1,17 +1,24 @@
--- It is the reading side, which lends its last answer and stays as it is, or another one.
-use Rattle.std.proofs.Common.{refl}
-use Rattle.c_registers.specs.TripleCalls.{reader, other}
+-- The side's record is lent, and the side stays; or nothing is, and the room is as it was.
+use Rattle.std.proofs.Common.{rules, ◌≡◌, ◌∙◌, sym, refl}
+use Rattle.std.specs.Prelude.{◌≢◌}
+use Rattle.c_registers.specs.Handles as handles
 use Rattle.c_registers.proofs.calls.hold.Goals as goal
 
-pub returns-in-None : goal.returns-in-None
-returns-in-None g c = (
-  (refl, (λ d. tt), other c.in-None.ensures.none refl),
-  record { stays = tt; some = tt; none = c.in-None.ensures.none },
-)
+pub returns-then-live-code : goal.returns-then-live-code
+returns-then-live-code g c =
+    let not : c.args.live ≢ c.args.code = search rules in
+    ((refl, (λ d. tt), (refl, handles.refused not refl)), record { back = tt; hold = handles.refused not c.lacks.ensures refl })
 
-pub returns-in-Some : goal.returns-in-Some
-returns-in-Some g c =
-    let get = c.in-Some.get.now in (
-      (refl, (λ d. tt), reader get c.hold.follows.lender-at-none c.in-Some.ensures.some refl c.hold.follows.holds-at-none),
-      record { stays = tt; some = (get, c.in-Some.ensures.some, c.hold.ensures.held); none = tt },
+pub returns : goal.returns
+returns g c =
+    let is : c.args.live ≡ c.args.code = search rules in
+    let lent = c.reach-side.result.now in
+    let lay = sym c.reach-side.ensures.value ∙ sym (g.met.D.Wraps.whole_of lent) in
+    let back = c.hold_inside-record.follows.holds-at-none in (
+      (
+        refl,
+        (λ d. tt),
+        (g.met.L.Holds.stays _ _, handles.reader (g.D.Wraps.inner lent) back.0 (is, lay) (is, g.met.L.Holds.has _ _ ∙ back.1) back.2),
+      ),
+      record { back = tt; hold = handles.done (g.D.Wraps.inner lent) (is, lay) c.hold_inside-record.ensures.held },
     )

@@ -1,16 +1,19 @@
--- What the side's own call did, and what was taken is put back.
-use Rattle.std.proofs.Common.{rules, ◌≡◌, ◌∙◌, sym, refl}
-use Rattle.std.specs.Prelude.{◌≢◌}
-use Rattle.c_registers.specs.Handles.{ended}
-use Rattle.c_registers.proofs.Kept.{same_side}
-use Rattle.c_registers.proofs.Lives.{read_live}
+-- What the side's own call did, it did where the side lies.
+use Rattle.std.proofs.Common.{rules, ◌≡◌, ◌∙◌, sym, refl, ap}
+use Rattle.std.specs.Prelude.{◌≢◌, true, false}
+use Rattle.c_registers.specs.Handles.{done, refused}
 use Rattle.c_registers.proofs.calls.read.Goals as goal
 
-pub returns-then-live-eq0-clause-read : goal.returns-then-live-eq0-clause-read
-returns-then-live-eq0-clause-read g c = let none : c.args.live ≡ 0 = search rules in ended none (same_side refl refl) refl refl
+pub returns-then-live-code-clause-read : goal.returns-then-live-code-clause-read
+returns-then-live-code-clause-read g c =
+    let not : c.args.live.now ≢ c.args.code = search rules in refused (not, c.lacks.ensures, refl) refl refl
+
+pub returns-clause-full : goal.returns-clause-full
+returns-clause-full g c = g.met.L.Holds.stays _ _
 
 pub returns-clause-read : goal.returns-clause-read
 returns-clause-read g c =
-    let was : c.args.live ≢ 0 = search rules in
-    let before : g.L.Holds.side c.args.loose.now ≡ c.as_mut.result.now = sym c.take-side.ensures.1 ∙ sym c.as_mut.ensures.value in
-    read_live g.D.Offers.side c.args.live was before c.put.ensures.1 g.G.Reading.has_read _ _ _ _ c.read_among-status.ensures
+    let is : c.args.live.now ≡ c.args.code = search rules in
+    let did = c.read_inside.ensures in
+    done (g.D.Wraps.inner c.reach.result.now) did.0 (is, sym c.reach.ensures.value ∙ sym (g.met.D.Wraps.whole_of c.reach.result.now))
+    (refl, g.met.L.Holds.has _ _ ∙ did.1) did.2

@@ -1,0 +1,126 @@
+"""What crates/c_handles has for each side and place that C may have: a struct of its own with just that side (side.rt), the handle that
+C passes, whose box is an erased pointer (handles/), and the proofs that are made by hand once and differ by these names alone
+(proofs/). `c/exports.py` writes and compares them.
+
+A handle's `live` is the number of its type where it has a side. 0 is no side, and 255 a call that runs or was cut off."""
+
+import os
+
+SIZES = (8, 24, 64, 256, 1024, 4096, 65536, 1048576)
+BOARD_SIZES = (24, 256, 4096)
+TEMPLATES = os.path.join(os.path.dirname(os.path.realpath(__file__)), "handles")
+
+# The sides of a cell and the places at boards: the struct's name without the size, the type that it has, and what it is in words.
+CELL_SIDES = (
+    ("FourSlotWriter", "four_slot_writer", "FourSlotWriter<Record{size}>", "the writing side of a four-slot cell"),
+    ("FourSlotReader", "four_slot_reader", "FourSlotReader<Record{size}>", "the reading side of a four-slot cell"),
+    ("TripleWriter", "triple_writer", "TripleWriter<Record{size}>", "the writing side of a triple buffer"),
+    ("TripleReader", "triple_reader", "TripleReader<Record{size}>", "the reading side of a triple buffer"),
+)
+PLACES = (
+    ("FourSlotPlace", "four_slot_place", "FourSlotSeat{size}", "a place at a board over four-slot cells"),
+    ("TriplePlace", "triple_place", "TripleSeat{size}", "a place at a board over triple buffers"),
+)
+
+
+def kinds():
+    """Each kind of side: its struct, its module, the type in it, its words and its number. A number never changes."""
+    sides = [(kind, size) for size in SIZES for kind in CELL_SIDES] + [(kind, size) for kind in PLACES for size in BOARD_SIZES]
+    for code, ((struct, module, holds, words), size) in enumerate(sides, 1):
+        yield {
+            "struct": f"{struct}{size}",
+            "module": f"{module}_{size}",
+            "holds": holds.format(size=size),
+            "words": f"{words} with records of {size:,} bytes",
+            "code": str(code),
+        }
+
+
+def code_of(module):
+    """The number of the side with this module."""
+    return next(kind["code"] for kind in kinds() if kind["module"] == module)
+
+
+def template(name, kind):
+    """A template with this side's names in it."""
+    with open(os.path.join(TEMPLATES, f"{name}.template"), encoding="utf-8") as file:
+        text = file.read()
+    for word in ("struct", "module", "words", "code"):
+        text = text.replace(f"@{word.upper()}@", kind[word])
+    return text
+
+
+SIDE_HEAD = """//! What a handle can have, each in a struct of its own.
+ghost use Rattle.std.specs.Prelude.{{◌≡◌}};
+
+use crate::record::{{{records}}};
+use board_live::Posted;
+use c_boards::{{Place, Seated}};
+use c_registers::{{FourSlotReader, FourSlotWriter, TripleReader, TripleWriter, Wraps}};
+use family_four_slot::FourSlotFamily;
+use family_triple::TripleFamily;
+"""
+
+SEAT = """
+/// {words}.
+pub type {name}{size} = Seated<Place<Record{size}, {family}<Posted<Record{size}>>>>;
+"""
+
+SEATS = (
+    ("FourSlotSeat", "FourSlotFamily", "A place at a board over four-slot cells"),
+    ("TripleSeat", "TripleFamily", "A place at a board over triple buffers"),
+)
+
+SIDE = """
+/// {words}.
+#[derive(Drop)]
+pub struct {struct} {{
+    pub it: {holds},
+}}
+
+impl Wraps<{holds}> for {struct} {{
+    ghost use Rattle.std.proofs.Common.{{refl}};
+
+    ghost inner = {{ λ d. d.it }};
+
+    ghost side = {{ λ s. record {{ it = s }} }};
+
+    #[inline]
+    fn inside(&mut self) -> &mut {holds} {{
+        &mut self.it
+    }}
+
+    fn whole(variant: {holds}) -> {struct} {{
+        {struct} {{ it: variant }}
+    }}
+
+    ghost whole_of = {{ λ d. refl }};
+}}
+"""
+
+
+def sides():
+    """The text of side.rt."""
+    head = SIDE_HEAD.format(records=", ".join(f"Record{size}" for size in SIZES))
+    seats = "".join(
+        SEAT.format(name=name, family=family, words=f"{words} with records of {size:,} bytes", size=size)
+        for name, family, words in SEATS
+        for size in BOARD_SIZES
+    )
+    return head + seats + "".join(SIDE.format(**{**kind, "words": kind["words"][0].upper() + kind["words"][1:]}) for kind in kinds())
+
+
+def made():
+    """The files by their names below crates/c_handles, without their first line."""
+    files = {"src/side.rt": sides()}
+    modules = [kind["module"] for kind in kinds()]
+    files["src/handles.rt"] = "//! The handles, a type for each side and place.\n\n" + "".join(f"pub mod {name};\n" for name in sorted(modules))
+    for kind in kinds():
+        files[f"src/handles/{kind['module']}.rt"] = template("handle.rt", kind)
+        files[f"proofs/{kind['struct']}Words.antt"] = template("Words.antt", kind)
+        loose = f"proofs/handles/{kind['module']}/Loose"
+        for function in ("lend", "into_parts", "of_parts", "empty_like"):
+            files[f"{loose}/{function}/Proof.antt"] = template(f"{function}.antt", kind)
+        files[f"{loose}/TheSendSync/Send.antt"] = template("Send.antt", kind)
+    files["proofs/Lib.antt"] = "".join(f"pub mod {kind['struct']}Words\n" for kind in kinds())
+    return files

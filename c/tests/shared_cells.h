@@ -1,0 +1,41 @@
+/* What the tests of killed processes share: a record of BYTES bytes, whose words are a number and those that follow it, and the register or
+ * board that they kill over, by -DTRIPLE and -DBOARD. */
+#ifndef NIDZARU_TESTS_SHARED_CELLS_H
+#define NIDZARU_TESTS_SHARED_CELLS_H
+
+#ifndef BYTES
+#define BYTES 24
+#endif
+enum { WORDS = BYTES / 8, BOARD_PLACES = 3 };
+
+struct record { uint64_t words[WORDS]; };
+
+static struct record record_from(uint64_t first) {
+    struct record item;
+    for (size_t k = 0; k < WORDS; k++) item.words[k] = first + k;
+    return item;
+}
+
+static int is_torn(const struct record *item) {
+    for (size_t k = 0; k < WORDS; k++)
+        if (item->words[k] != item->words[0] + k) return 1;
+    return 0;
+}
+
+#ifdef BOARD
+#ifdef TRIPLE
+NIDZARU_TRIPLE_BOARD(cell, struct record);
+#else
+NIDZARU_BOARD(cell, struct record);
+#endif
+NIDZARU_SHARED_BOARD(cell, BOARD_PLACES);
+#else
+#ifdef TRIPLE
+NIDZARU_TRIPLE_REGISTER(cell, struct record);
+#else
+NIDZARU_REGISTER(cell, struct record);
+#endif
+NIDZARU_SHARED_REGISTER(cell);
+#endif
+
+#endif

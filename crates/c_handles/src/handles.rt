@@ -1,0 +1,41 @@
+// made by c/exports.py
+//! The handles, a type for each side and place.
+
+pub mod four_slot_place_24;
+pub mod four_slot_place_256;
+pub mod four_slot_place_4096;
+pub mod four_slot_reader_1024;
+pub mod four_slot_reader_1048576;
+pub mod four_slot_reader_24;
+pub mod four_slot_reader_256;
+pub mod four_slot_reader_4096;
+pub mod four_slot_reader_64;
+pub mod four_slot_reader_65536;
+pub mod four_slot_reader_8;
+pub mod four_slot_writer_1024;
+pub mod four_slot_writer_1048576;
+pub mod four_slot_writer_24;
+pub mod four_slot_writer_256;
+pub mod four_slot_writer_4096;
+pub mod four_slot_writer_64;
+pub mod four_slot_writer_65536;
+pub mod four_slot_writer_8;
+pub mod triple_place_24;
+pub mod triple_place_256;
+pub mod triple_place_4096;
+pub mod triple_reader_1024;
+pub mod triple_reader_1048576;
+pub mod triple_reader_24;
+pub mod triple_reader_256;
+pub mod triple_reader_4096;
+pub mod triple_reader_64;
+pub mod triple_reader_65536;
+pub mod triple_reader_8;
+pub mod triple_writer_1024;
+pub mod triple_writer_1048576;
+pub mod triple_writer_24;
+pub mod triple_writer_256;
+pub mod triple_writer_4096;
+pub mod triple_writer_64;
+pub mod triple_writer_65536;
+pub mod triple_writer_8;

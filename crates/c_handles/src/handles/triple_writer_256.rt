@@ -1,0 +1,161 @@
+// made by c/exports.py
+//! What C has of the writing side of a triple buffer with records of 256 bytes.
+ghost use Rattle.std.specs.Prelude.{◌≡◌, ◌≢◌, Bool, true, false};
+ghost use Rattle.c_handles.specs.Loosely.{loosely};
+ghost use Rattle.c_handles.specs.contracts.side.TripleWriter256 as sides;
+ghost use Rattle.c_handles.specs.declared.side.TripleWriter256.{TripleWriter256};
+
+use crate::layout::crosses;
+use crate::parts::Parts;
+use crate::side::TripleWriter256;
+use c_registers::{Hand, Holds};
+use std::alloc::Global;
+use std::marker::Model;
+
+/// A box of the side whose type names no other type, or nothing.
+#[repr(C)]
+pub struct Loose {
+    at: *mut u8,
+    pub ghost full: { Bool },
+    pub ghost side: { TripleWriter256 } by { sides.the_row.coded },
+}
+
+impl Model for Loose {
+    ghost also_owns = { λ l. loosely sides.the_row l.full l.at l.side };
+}
+
+impl Loose {
+    /// Nothing.
+    fn empty_like(other: &Loose) -> Loose
+        ensures { result.full ≡ false }
+    {
+        let _ = other;
+        Loose {
+            at: std::ptr::null_mut(),
+        }
+    }
+
+    fn of_parts(parts: Parts<TripleWriter256, Global>) -> Loose
+        ensures { (result.full ≡ true) × (result.side ≡ parts.value) }
+    {
+        let Parts { ptr, alloc: _ } = parts;
+        Loose { at: ptr as *mut u8 }
+    }
+
+    fn into_parts(self, alloc: Global) -> Parts<TripleWriter256, Global>
+        requires { self.full ≡ true }
+        ensures { result.value ≡ self.side }
+    {
+        let Loose { at } = self;
+        Parts {
+            ptr: at as *mut TripleWriter256,
+            alloc,
+        }
+    }
+
+    /// Lets nothing go.
+    fn end(self)
+        requires { self.full ≡ false }
+    {
+        let Loose { at: _ } = self;
+    }
+
+    /// Takes the box out.
+    fn take(&mut self, alloc: Global) -> Box<TripleWriter256>
+        requires { self.old.full ≡ true }
+        ensures { (self.new.full ≡ false) × (result.value ≡ self.old.side) }
+    {
+        let empty = Loose::empty_like(self);
+        std::mem::replace(self, empty).into_parts(alloc).into_box()
+    }
+
+    /// Puts a box where nothing is.
+    fn put(&mut self, boxed: Box<TripleWriter256>)
+        requires { self.old.full ≡ false }
+        ensures { (self.new.full ≡ true) × (self.new.side ≡ boxed.value) }
+    {
+        std::mem::replace(self, Loose::of_parts(Parts::of(boxed))).end();
+    }
+}
+
+impl Loose {
+    ghost use Rattle.std.specs.Borrow.{sem, Lends};
+    ghost use Rattle.c_handles.specs.contracts.handles.triple_writer_256.Loose as loose;
+
+    /// Lends the side in the box.
+    #[inline]
+    fn lend<'a>(&'a mut self) -> &'a mut TripleWriter256
+        requires { self.old.full ≡ true }
+        ensures* lent { sem 𝓛 (Lends loose.the_row sides.the_row self.entry result
+            (λ s. record { at = self.old.at; full = self.old.full; side = s })) }
+        ensures value { result.now ≡ self.old.side }
+    {
+        unsafe { &mut *(self.at as *mut TripleWriter256) }
+    }
+}
+
+impl Holds<TripleWriter256> for Loose {
+    ghost use Rattle.std.proofs.Common.{refl};
+
+    ghost full = { λ l. l.full };
+
+    ghost side = { λ l. l.side };
+
+    ghost having = { λ l s. record { at = l.at; full = l.full; side = s } };
+
+    #[inline]
+    fn reach(&mut self) -> &mut TripleWriter256 {
+        self.lend()
+    }
+
+    ghost stays = { λ l s. refl };
+
+    ghost has = { λ l s. refl };
+}
+
+unsafe impl Send for Loose {}
+
+/// The side behind a pointer where `live` is 15, else nothing of this type.
+#[repr(C)]
+pub struct Handle {
+    pub live: u64,
+    pub loose: Loose,
+    ghost held: { live ≡ 15 → loose.full ≡ true },
+    ghost gone: { live ≡ 0 → loose.full ≡ false },
+}
+
+impl Hand<TripleWriter256> for Handle {
+    ghost CODE = { 15 };
+
+    const CODE: u64 = 15;
+
+    ghost live = { λ h. h.live };
+
+    ghost side = { λ h. h.loose.side };
+
+    fn live(&self) -> u64 {
+        self.live
+    }
+
+    fn take(&mut self, alloc: Global) -> Box<TripleWriter256> {
+        self.live = 0;
+        self.loose.take(alloc)
+    }
+
+    fn put(&mut self, boxed: Box<TripleWriter256>)
+        requires { self.old.live ≡ 0 }
+        ensures { (self.new.live ≡ 15) × (self.new.loose.side ≡ boxed.value) }
+    {
+        self.loose.put(boxed);
+        self.live = 15;
+    }
+}
+
+const _: () = prove!(size_of::<Handle>() == 16);
+
+const _: () = prove!(align_of::<Handle>() == 8);
+
+/// A handle may go to another thread: C rests on this.
+pub fn handles_cross() {
+    crosses::<Handle>();
+}
