@@ -1,7 +1,12 @@
 """Proves and builds crates of the repository and those that they stand on, side by side where they don't stand on each other.
 
-    build.py CRATE ..
-    build.py --over-gate CRATE      proves and builds a library for C alone, over what the gate has built of those below it
+    build.py [--machine MACHINE] CRATE ..
+    build.py [--machine MACHINE] --over-gate CRATE
+                    proves and builds a library for C alone, over what the gate has built of those below it
+
+MACHINE is x86_64, the default, or aarch64, for which the library for C and the programs fsr and picture are built. Proofs and what is built
+of other crates don't depend on it. So these three keep what their proofs took in a folder of out/, from which the build for the other
+machine takes it, if no file has changed meanwhile. The line by which the prover tells that all is proved stays in the file `verdict`.
 
 A crate is proved by the toolchain's `rattle build`, over what the libraries below it state and without their proofs: so a verdict of
 `rt` proves it too, and it takes a fifth less than `rt lib`, which keeps all for the next check. What is built of a library stands in the
@@ -27,7 +32,10 @@ TOP = os.path.dirname(os.path.dirname(os.path.realpath(__file__)))
 SOURCES = ("src", "specs", "proofs")
 # The folder of out/ for what is built of a library, and for the sum of what a crate was built from.
 STATED = "stated"
-TARGET = "x86_64-unknown-linux-gnu"
+# The machines that are built for. What is built for another one than the first stands in a folder of its name.
+MACHINES = "x86_64", "aarch64"
+# What is built for all of them.
+FOR_ALL = "c_exports", "fsr", "picture"
 # A crate's proof gains little from more processors, and a program's nothing.
 MOST_JOBS, LONGEST_JOBS = 2, 3
 # Processor seconds below which a proof gets one job.
@@ -64,17 +72,22 @@ class Kit:
 
 
 class Crate:
-    def __init__(self, row, name, words):
-        self.row, self.name, self.words = row, name, words
+    def __init__(self, row, name, words, machine):
+        self.row, self.name, self.words, self.machine = row, name, words, machine
         self.folder = f"{TOP}/crates/{name}"
         self.stated = f"{self.folder}/out/{STATED}"
         self.is_program = os.path.isfile(f"{self.folder}/src/main.rt")
         self.is_static = "staticlib" in row.partition(":")[0].split()
         # where it is built, and where it stands then
         self.output = self.made = f"{self.stated}/{name}.rlib"
+        self.kept, self.proofs = self.stated, None
         if self.is_program or self.is_static:
+            own = "" if machine == MACHINES[0] else f"/{machine}"
             file = name if self.is_program else f"lib{name}.a"
-            self.output, self.made = f"{self.stated}/{file}", f"{self.folder}/out/{file}"
+            self.kept = f"{self.stated}{own}"
+            self.output, self.made = f"{self.kept}/{file}", f"{self.folder}/out{own}/{file}"
+        if name in FOR_ALL:
+            self.proofs = f"{self.stated}/proofs"
 
     def files(self, *parts):
         walked = (it for part in parts for it in os.walk(f"{self.folder}/{part}"))
@@ -90,7 +103,8 @@ class Crate:
     def sum(self, kit):
         """Of what it is made: the toolchain, its row, the crates below it as they are built, and its files."""
         found = hashlib.sha256(repr([kit.version, self.row, *(text_of(f"{it.stated}/sum") for it in self.uses)]).encode())
-        for path in self.files(*SOURCES):
+        linked = [f"{TOP}/c/os.c"] if self.proofs and self.is_program else []
+        for path in [*self.files(*SOURCES), *linked]:
             with open(path, "rb") as file:
                 found.update(repr([os.path.relpath(path, self.folder), file.read()]).encode())
         return found.hexdigest()
@@ -104,7 +118,7 @@ class Crate:
 
     def is_built(self, kit):
         """Whether it is built of what it is made of now. The crates below it are."""
-        kept = text_of(f"{self.stated}/sum")
+        kept = text_of(f"{self.kept}/sum")
         below_kept = all(text_of(f"{it.stated}/sum") for it in self.uses)
         return below_kept and os.path.exists(self.made) and kept == f"{self.sum(kit)} {self.seal()}"
 
@@ -112,8 +126,22 @@ class Crate:
         """Puts a program or the library for C in its place, with the time at which its build began, so that an edit during the build isn't
         missed."""
         if self.made != self.output:
+            os.makedirs(os.path.dirname(self.made), exist_ok=True)
             os.utime(self.output, (began, began))
             os.replace(self.output, self.made)
+
+    def begin_proofs(self, of):
+        """Empties the folder with what the proofs took, unless it is of these files."""
+        if self.proofs and text_of(f"{self.stated}/proofs_of") != of:
+            shutil.rmtree(self.proofs, ignore_errors=True)
+            with open(f"{self.stated}/proofs_of", "w", encoding="utf-8") as file:
+                file.write(of)
+
+    def keep_verdict(self, told):
+        """Keeps the line by which the prover tells that all is proved."""
+        lines = re.findall(r"(?m)^logic=.*$", told)
+        with open(f"{os.path.dirname(self.made)}/verdict", "w", encoding="utf-8") as file:
+            file.write(f"{lines[-1]}\n" if lines else "")
 
     def commands(self, kit, jobs, part, output):
         """What proves and builds it, run in its folder, over what lies in this part of the folders of those below it."""
@@ -122,19 +150,28 @@ class Crate:
         words = rattle_words(kit.folder, self.name, root, self.words, lower)
         build = [f"{kit.folder}/bin/rattle", "build", *words, "--jobs", str(jobs)]
         linked = ["--toolchain", f"{kit.folder}/toolchain", "--backend", "rattle" if self.name in FIRST else "llvm"]
+        if self.proofs:
+            linked += ["--target", f"{self.machine}-unknown-linux-gnu", "--incremental", self.proofs]
         if self.is_static:
             return [[*build, "--crate-type", "staticlib", "--links", f"{self.name}=", *linked, "-o", output]]
         if not self.is_program:
             return [[*build, "--statements", "-o", output]]
-        code, of_c = f"{self.stated}/{self.name}.o", [f"{kit.folder}/c/{it}" for it in ("libos_c.a", "liblibc_c.a")]
-        link = [f"{kit.folder}/bin/rattle-link", "--target", TARGET, *linked[:2], "-o", output, code, *of_c]
-        return [[*build, *linked, "-o", code], link]
+        code = f"{self.kept}/{self.name}.o"
+        return [[*build, *linked, "-o", code], self.link(kit, code, output)]
+
+    def link(self, kit, code, output):
+        """The command that makes the program of its object: for both machines with what c/os.c has of the system, else with the kit's."""
+        if self.proofs:
+            return ["sh", f"{TOP}/build/link.sh", self.machine, code, output]
+        of_c = [f"{kit.folder}/c/{it}" for it in ("libos_c.a", "liblibc_c.a")]
+        target = f"{MACHINES[0]}-unknown-linux-gnu"
+        return [f"{kit.folder}/bin/rattle-link", "--target", target, "--toolchain", f"{kit.folder}/toolchain", "-o", output, code, *of_c]
 
 
-def read_crates():
+def read_crates(machine=MACHINES[0]):
     """The crates of crates.txt by their names."""
     rows = read_rows(TOP)
-    crates = {name: Crate(row, name, words) for name, (row, words) in rows.items()}
+    crates = {name: Crate(row, name, words, machine) for name, (row, words) in rows.items()}
     for crate in crates.values():
         crate.uses = [crates[it] for it in crate.words if it in crates]
         crate.below = [crates[it] for it in crates_below(rows, crate.name)]
@@ -194,8 +231,10 @@ class Work:
     def __init__(self, crate, kit, jobs, held):
         self.crate, self.kit, self.jobs, self.held = crate, kit, jobs, held
         self.began, self.spent, self.sum = time.time(), 0, crate.sum(kit)
-        if os.path.exists(f"{crate.stated}/sum"):
-            os.remove(f"{crate.stated}/sum")
+        os.makedirs(crate.kept, exist_ok=True)
+        if os.path.exists(f"{crate.kept}/sum"):
+            os.remove(f"{crate.kept}/sum")
+        crate.begin_proofs(self.sum)
         self.log = open(f"{crate.folder}/out/build.log", "wb")
         self.commands = crate.commands(kit, jobs, STATED, crate.output)
         self.start()
@@ -230,8 +269,10 @@ class Work:
         self.log.close()
         if is_built:
             self.crate.settle(self.began)
+        if is_built and self.crate.proofs:
+            self.crate.keep_verdict(text_of(f"{self.crate.folder}/out/build.log"))
         if is_built and self.crate.sum(self.kit) == self.sum:
-            with open(f"{self.crate.stated}/sum", "w", encoding="utf-8") as file:
+            with open(f"{self.crate.kept}/sum", "w", encoding="utf-8") as file:
                 file.write(f"{self.sum} {self.crate.seal()}")
         unlock(self.held)
 
@@ -342,18 +383,34 @@ class Builder:
 
 
 def build_over_gate(crate):
-    """Proves and builds a library for C in place of this script. (`rt lib` would prove those below it anew: the gate keeps their statements,
-    without the stamp by which `rt lib` knows what it built itself.)"""
+    """Proves and builds a library for C; the status is the command's. (`rt lib` would prove those below it anew: the gate keeps their
+    statements, without the stamp by which `rt lib` knows what it built itself.) The build for the first machine takes nothing from an
+    earlier proof, and the others take all from that one."""
+    for folder in (crate.stated, os.path.dirname(crate.made)):
+        os.makedirs(folder, exist_ok=True)
+    if crate.proofs and crate.machine == MACHINES[0]:
+        shutil.rmtree(crate.proofs, ignore_errors=True)
+        if os.path.exists(f"{crate.stated}/proofs_of"):
+            os.remove(f"{crate.stated}/proofs_of")
     command = crate.commands(Kit(), 1, "rlib", crate.made)[0]
-    os.makedirs(f"{crate.folder}/out", exist_ok=True)
-    os.chdir(crate.folder)
-    os.execv(command[0], command)
+    done = subprocess.run(command, cwd=crate.folder, stdin=subprocess.DEVNULL, stdout=subprocess.PIPE, stderr=subprocess.STDOUT, check=False)
+    told = done.stdout.decode("utf-8", "replace")
+    sys.stderr.write(told)
+    if done.returncode == 0:
+        crate.keep_verdict(told)
+    return done.returncode
 
 
 def main(names):
-    crates = read_crates()
+    machine = MACHINES[0]
+    if names[:1] == ["--machine"] and names[1:2]:
+        machine, names = names[1], names[2:]
+    if machine not in MACHINES:
+        say(f"nothing is built for a machine {machine}, but for {' and '.join(MACHINES)}")
+        return 2
+    crates = read_crates(machine)
     if names[:1] == ["--over-gate"] and len(names) == 2 and names[1] in crates:
-        build_over_gate(crates[names[1]])
+        return build_over_gate(crates[names[1]])
     unknown = [it for it in names if it not in crates]
     if unknown or not names:
         say(f"crates.txt has no crate {unknown[0]}" if unknown else "no crate was named")
@@ -362,6 +419,10 @@ def main(names):
         say(f"{names[0]} can't be built: the Rattle toolchain's command rt isn't on the PATH")
         return 1
     tops = [crates[it] for it in names]
+    only_first = [it for it in names if machine != MACHINES[0] and not crates[it].proofs]
+    if only_first:
+        say(f"{only_first[0]} is built for {MACHINES[0]} alone")
+        return 2
     wanted = []
     for top in tops:
         wanted += [it for it in [*top.below, top] if it not in wanted]

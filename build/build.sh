@@ -2,6 +2,8 @@
 # folder at the top in $top.
 
 . "$top/build/spent.sh"
+. "$top/build/machine.sh"
+set_machine x86_64
 
 # (what is told of a build goes nowhere if standard error is closed)
 (: >&2) || exec 2>/dev/null
@@ -30,13 +32,37 @@ is_newer_than_sources() {
     [ -z "$(cd "$top" && find crates.txt "$@" -newer "$newer_than" -print -quit 2>/dev/null)" ]
 }
 
+# Where a program, or a library for C, stands that is built for the machine.
+built_file() {
+    case $machine in
+    x86_64) folder=$top/crates/$1/out ;;
+    *) folder=$top/crates/$1/out/$machine ;;
+    esac
+    case $1 in
+    *_exports) echo "$folder/lib$1.a" ;;
+    *) echo "$folder/$1" ;;
+    esac
+}
+
+# The proved object of a program: the gate's, or that of a build for this alone.
+object_of() {
+    folder=$(dirname -- "$(built_file "$1")")
+    case $machine in
+    x86_64) kept=$top/crates/$1/out/stated/$1.o ;;
+    *) kept=$top/crates/$1/out/stated/$machine/$1.o ;;
+    esac
+    if [ ! -e "$kept" ] || [ "$folder/$1.o" -nt "$kept" ]; then kept=$folder/$1.o; fi
+    echo "$kept"
+}
+
 # Whether a program, or a library for C, is there and no source that it is made of is newer. (build.py goes by the sums of the sources,
 # and gives what it finds built a new time.)
 is_fresh() {
     case $1 in
-    *_exports) is_newer_than_sources "$top/crates/$1/out/lib$1.a" "$1" ;;
-    *) [ -x "$top/crates/$1/out/$1" ] && is_newer_than_sources "$top/crates/$1/out/$1" "$1" ;;
+    *_exports) ;;
+    *) [ -x "$(built_file "$1")" ] || return 1 ;;
     esac
+    is_newer_than_sources "$(built_file "$1")" "$1"
 }
 
 # Proves and builds a crate and those below it.
@@ -46,7 +72,7 @@ build() {
         echo "build: from nothing $1 took ${cost% *} minutes on the machine of docs/dev/TESTING.md, ${cost#* } processor minutes;" \
             "the lines below say how far it is"
     fi
-    python3 "$top/build/build.py" "$1"
+    python3 "$top/build/build.py" --machine "$machine" "$1"
 }
 
 # Sees that a program or the library for C is fresh. Of two calls at once one builds, and the other waits until it has ended, however it

@@ -2,29 +2,48 @@
 
 . "$top/build/build.sh"
 
-# Builds the library over the crates below it as the gate has just proved and built them. As with the gate's programs, nothing is built
-# unless the crate's own code is proved over these statements.
+# Builds the library for this machine over the crates below it as the gate has just proved and built them. As with the gate's programs,
+# nothing is built unless the crate's own code is proved over these statements.
+#   build_over_gate MACHINE
 build_over_gate() {
     for crate in $(crates_below c_exports | sed '$d'); do
         made=$top/crates/$crate/out/rlib
         [ ! -e "$made/stamp" ] && is_newer_than_sources "$made/$crate.rlib" "$crate" || return 1
     done
-    python3 "$top/build/build.py" --over-gate c_exports </dev/null >&2
+    python3 "$top/build/build.py" --machine "$1" --over-gate c_exports </dev/null >&2
 }
 
-# The same as a verdict: it holds if the prover's last line says that all is proved, and has no word that something is left out or may wait.
-# The three axioms are the C library's functions that give and take memory.
+# Whether what a prover said is a verdict on the library for a machine: the last line says that all is proved, and has no word that
+# something is left out or may wait. The three axioms are the functions that give and take memory. What is taken from an earlier proof
+# (`incremental`) is that of the first machine's build, which begins with none.
+#   is_verdict MACHINE FILE
+is_verdict() {
+    goal="axioms=3 target=$1-unknown-linux-gnu"
+    [ "$1" != x86_64 ] || goal="$goal cpu=x86-64-v2"
+    trusted='native=nat,char,string logic-built=trusted libraries-built=trusted statements=trusted incremental=trusted'
+    grep -qx "logic=proved functions=[0-9]* $goal sum=[0-9a-f]* $trusted" "$2"
+}
+
+# Whether the second machine's verdict is of the same proofs as the first's: of as many functions and axioms, in the same logic, and over all
+# modules that the first has proved, without one of its own.
+#   is_same_proof FIRST SECOND      what the prover said of each
+is_same_proof() {
+    first=$(sed -n 's/^logic=proved \(functions=[0-9]* axioms=[0-9]*\) .* \(sum=[0-9a-f]*\) .*/\1 \2/p' "$1")
+    [ -n "$first" ] && [ "$first" = "$(sed -n 's/^logic=proved \(functions=[0-9]* axioms=[0-9]*\) .* \(sum=[0-9a-f]*\) .*/\1 \2/p' "$2")" ] \
+        || return 1
+    modules=$(awk '/^crate c_exports: modules / { split($4, loaded, "="); split($5, checked, "="); last = loaded[2] + checked[2] } END { print last }' "$1")
+    [ -n "$modules" ] && [ "$(grep '^crate c_exports: modules ' "$2")" = "crate c_exports: modules loaded=$modules checked=0" ]
+}
+
+# Proves and builds the library for both machines: the proofs once.
 prove_library() {
-    told=$(mktemp) || return 1
-    build_over_gate 2>"$told"
-    built=$?
-    cat "$told"
-    target='axioms=3 target=x86_64-unknown-linux-gnu cpu=x86-64-v2'
-    trusted='native=nat,char,string logic-built=trusted libraries-built=trusted statements=trusted'
-    grep -qx "logic=proved functions=[0-9]* $target sum=[0-9a-f]* $trusted" "$told"
-    is_whole=$?
-    rm -f "$told"
-    return $((built | is_whole))
+    told=$(mktemp) && told_again=$(mktemp) || return 1
+    build_over_gate x86_64 2>"$told" && is_verdict x86_64 "$told" \
+        && build_over_gate aarch64 2>"$told_again" && is_verdict aarch64 "$told_again" && is_same_proof "$told" "$told_again"
+    are_proved=$?
+    cat "$told_again" "$told"
+    rm -f "$told" "$told_again"
+    return $are_proved
 }
 
 # A name for each release whose calls the library has, nidzaru_since_2_1 and on up to $version: a header asks for its own, so that no
@@ -42,34 +61,31 @@ join_objects() {
     export LC_ALL=C
     releases >releases.s && {
         cat releases.s && sed -n 's/^\.globl /.hidden /p' releases.s
-        nm -g --defined-only ./*.o | awk '$3 ~ /^nidzaru_/ { print ".hidden " $3 }'
+        "${tools}nm" -g --defined-only ./*.o | awk '$3 ~ /^nidzaru_/ { print ".hidden " $3 }'
         echo '.section .note.GNU-stack,"",@progbits'
-    } >hidden.s && as hidden.s -o hidden.o && ld -r -o joined ./*.o && objcopy --wildcard --keep-global-symbol='nidzaru_*' joined nidzaru
-}
-
-# Compiles what takes the library's memory, by the kit's clang, so that the bytes are the same everywhere.
-compile_heap() {
-    "$kit/toolchain/bin/clang" -std=c11 -O2 -fPIC -ffreestanding -Wall -Wextra -Werror -c "$top/c/heap.c" -o heap.o
+    } >hidden.s && "${tools}as" hidden.s -o hidden.o && "${tools}ld" -r -o joined ./*.o \
+        && "${tools}objcopy" --wildcard --keep-global-symbol='nidzaru_*' joined nidzaru
 }
 
 # Sees that the library asks for nothing but this of the C library, and names what else it asks for.
 asks_for_little() {
-    more=$(nm -u "$1" | awk '$2 !~ /^(malloc|free|memcpy|memmove|memset)$/ { print $2 }' | tr '\n' ' ')
+    more=$("${tools}nm" -u "$1" | awk '$2 !~ /^(malloc|free|memcpy|memmove|memset)$/ { print $2 }' | tr '\n' ' ')
     [ -z "$more" ] || echo "library: it asks for more than memory: $more" >&2
     [ -z "$more" ]
 }
 
-# Proves and builds the library for C, where it isn't built, and puts it into the file that is named, an absolute path, with what takes its
-# memory.
+# Proves and builds the library for C and this machine, where it isn't built, and puts it into the file that is named, an absolute path,
+# with what takes its memory.
 make_library() {
-    here=$(CDPATH= cd -- "$top/crates/c_exports" && pwd) || return 1
+    has_tools "$machine" || { echo "library: there is no ${tools}ld, of Debian's package gcc-aarch64-linux-gnu" >&2 && return 1; }
     kit=$(dirname -- "$(rt doc)") || return 1
     make_fresh c_exports </dev/null >&2 || return 1
+    exports=$(readlink -f -- "$(built_file c_exports)") || return 1
     unpacked=$(mktemp -d) || return 1
     (
         version=$(version_of_header) && cd "$unpacked" || exit 1
-        ar x "$here/out/libc_exports.a" && compile_heap && join_objects && asks_for_little nidzaru && mv nidzaru nidzaru.o \
-            && rm -f "$1" && ar rcsD "$1" nidzaru.o
+        ar x "$exports" && compile_own heap && join_objects && asks_for_little nidzaru && mv nidzaru nidzaru.o \
+            && rm -f "$1" && "${tools}ar" rcsD "$1" nidzaru.o
     )
     made=$?
     rm -rf "$unpacked"
@@ -83,11 +99,11 @@ version_of_header() {
 
 # The pages that go with the library: what the header cites, what that page's readers need next, the examples and the licences.
 library_pages='CHANGELOG.md LICENSE-MIT LICENSE-APACHE docs/C.md docs/PACKAGE.md docs/LANGUAGES.md docs/BOARD-USE.md docs/ASSUMPTIONS.md
-    docs/ONE-TIME.md examples/c/tasks.c examples/c/tasks.cpp examples/c/board.c examples/c/own_memory.c examples/c/processes.c'
+    docs/BOARD.md docs/pictures/handed_on.svg docs/pictures/board_written_cell.svg examples/c/tasks.c examples/c/tasks.cpp examples/c/board.c examples/c/own_memory.c examples/c/processes.c'
 
 # Lays out the library with its headers and pages, and the script that installs them, in a new folder, an absolute path.
 lay_out() {
-    mkdir -p "$1/lib" "$1/include" && make_library "$1/lib/libnidzaru.a" && cp "$top/packaging/install" "$1/" \
+    mkdir -p "$1/lib" "$1/include" && make_library "$1/lib/libnidzaru.a" && sed "s/@MACHINE@/$machine/" "$top/packaging/install" >"$1/install" \
         && cp "$top/c/nidzaru.h" "$top/c/nidzaru.hpp" "$top/c/nidzaru_log.h" "$top/c/nidzaru_shared.h" "$1/include/" \
         && python3 "$top/packaging/pages.py" "$1/share/doc/nidzaru" $library_pages
 }

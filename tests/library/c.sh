@@ -70,17 +70,21 @@ test_shared_object() {
     fi
 }
 
-# Whether an object says that it keeps to Intel's CET: indirect branches that are tracked, or a shadow stack.
+# Whether an object says that it keeps to Intel's CET, indirect branches that are tracked or a shadow stack, or to BTI and PAC of ARM.
 claims_cet() {
-    readelf --notes "$1" | grep -q 'IBT\|SHSTK'
+    readelf --notes "$1" | grep -q 'IBT\|SHSTK\|BTI\|PAC'
 }
 
 # The library, which isn't made for it, says nothing of it, and an object that does is seen.
 test_cet() {
-    name="the library says nothing of Intel's CET"
+    name="the library says nothing of Intel's CET, or of BTI and PAC"
+    case $(cc -dumpmachine) in
+    aarch64*) protected=-mbranch-protection=standard ;;
+    *) protected=-fcf-protection=full ;;
+    esac
     if claims_cet "$installed/lib/libnidzaru.a"; then
         fail "$name" "it says that it keeps to it"
-    elif ! cc -fcf-protection=full -c c/tests/inside.c $flags -o "$room/inside.o" >"$room/built" 2>&1; then
+    elif ! cc $protected -c c/tests/inside.c $flags -o "$room/inside.o" >"$room/built" 2>&1; then
         fail "$name" "no object that does was built: $(head -n 3 "$room/built" | tr '\n' ' ')"
     elif claims_cet "$room/inside.o"; then
         pass "$name"
@@ -95,7 +99,7 @@ test_heap() {
     run_here "c/heap.c ($c)" "$c" -std=c11 $strict -O2 c/heap.c c/tests/heap.c -o "$room/program"
     for fault in 's/kept < bytes ? kept : bytes/bytes/' 's/kept < bytes ? kept : bytes/kept/' '/^        release(block);/d' \
         's/block ? block : &nowhere/block/' 's/block != 0,/1,/' 's/    if (more) {/release(block); &/' \
-        '/rattle_alloc/s/bytes ? bytes : alignment/bytes/' '/more = /s/bytes ? bytes : alignment/bytes/' \
+        '/tried(lines/s/bytes ? bytes : alignment/bytes/' '/more = /s/bytes ? bytes : alignment/bytes/' \
         's/LINE - (size)whole % LINE/16/' 's/ \* LINE + LINE/ * LINE/' 's/(bytes + LINE - 1) \/ LINE \* LINE/bytes/' 's/= whole;/= block;/'; do
         sed "$fault" c/heap.c >"$room/heap.c"
         if cmp -s c/heap.c "$room/heap.c"; then
@@ -107,8 +111,48 @@ test_heap() {
     done
 }
 
+# What takes the programs' memory and words, and the same with faults in it.
+test_os() {
+    os_wrapped='-Wl,--wrap=malloc,--wrap=realloc'
+    made="$c -std=c11 -O2 -o $room/os"
+    if $made $strict c/os.c c/tests/os.c $os_wrapped >"$room/built" 2>&1 && "$room/os" one '' three >"$room/said" 2>&1; then
+        pass "c/os.c ($c)"
+    else
+        fail "c/os.c ($c)" "$(head -n 3 "$room/built" "$room/said" | tr '\n' ' ')"
+    fi
+    for fault in 's/block != 0,/1,/' 's/block ? block : &nowhere/block/' 's/bytes ? bytes : alignment/bytes/' 's/which >= count || //' \
+        's/at < room/at <= room/' 's/word\[at\] ? -2/at == room ? -2/' 's/\*__errno_location() = number/(void)number/' \
+        's/return \*__errno_location()/return 0/' 's/words = at;/words = at + 1;/'; do
+        sed "$fault" c/os.c >"$room/os.c"
+        if cmp -s c/os.c "$room/os.c" || ! $made -w "$room/os.c" c/tests/os.c $os_wrapped >"$room/built" 2>&1; then
+            fail "c/os.c, planted: $fault ($c)" "it changes nothing, or isn't built"
+        elif ! "$room/os" one '' three >"$room/said" 2>&1 && grep -q '^os: ' "$room/said"; then
+            pass "c/os.c, planted: $fault ($c)"
+        else
+            fail "c/os.c, planted: $fault ($c)" "it isn't seen"
+        fi
+    done
+}
+
+# A program without a C library: it links and runs, and not without one of the functions that the library asks for.
+test_freestanding() {
+    made="$c -std=c11 -ffreestanding -nostdlib -static -fno-pie -fno-stack-protector -Wall -Wextra -Wpedantic -Werror -O2"
+    wants=passed
+    run_here "c/tests/freestanding.c ($c)" $made -I "$installed/include" c/tests/freestanding.c "$installed/lib/libnidzaru.a" -o "$room/program"
+    for it in malloc free memcpy memmove; do
+        if $made "-DWITHOUT_$it" -I "$installed/include" c/tests/freestanding.c "$installed/lib/libnidzaru.a" -o "$room/program" \
+            >"$room/built" 2>&1 || ! grep -q "undefined.*\b$it\b" "$room/built"; then
+            fail "c/tests/freestanding.c without $it ($c)" "the library doesn't ask for it"
+        else
+            pass "c/tests/freestanding.c without $it ($c)"
+        fi
+    done
+}
+
 test_in_c() {
     test_heap
+    test_os
+    test_freestanding
     wants=passed
     run_here "c/tests/test.c ($c)" "$c" -std=c11 -D_GNU_SOURCE $strict -O2 c/tests/test.c $flags -o "$room/program"
     run_here "c/tests/edges.c ($c)" "$c" -std=c11 $strict -O1 c/tests/edges.c $wrapped $flags -o "$room/program"
@@ -145,6 +189,18 @@ test_in_c() {
         run_control "c/tests/apart.c, planted: $wants ($c)" \
             "$c" -std=c11 $strict -O2 -DLINE=1024 c/tests/apart.c $wrapped $flags -o "$room/program"
     done
+    # (it goes one instruction at a time by the trap flag of x86-64)
+    if [ "$("$c" -dumpmachine | cut -d - -f 1)" = x86_64 ]; then
+        for kind in '' -DTRIPLE -DBOARD '-DBOARD -DTRIPLE'; do
+            wants='.* calls were cut off, .* and nothing was found'
+            run_here "c/tests/cut_off.c $kind($c)" \
+                "$c" -std=c11 -D_GNU_SOURCE $strict -O2 $kind c/tests/cut_off.c $flags -o "$room/program"
+            for wants in cut; do
+                run_control "c/tests/cut_off.c $kind, planted ($c)" \
+                    "$c" -std=c11 -D_GNU_SOURCE $strict -O2 $kind -DPLANTED c/tests/cut_off.c $flags -o "$room/program"
+            done
+        done
+    fi
     wants='no record was torn'
     run_here "examples/c/small.c ($c)" "$c" -std=c11 $strict -O2 examples/c/small.c $flags -o "$room/program"
     run_here "examples/c/tasks.c ($c)" "$c" -std=c11 $strict -O2 examples/c/tasks.c $flags -o "$room/program"
@@ -222,6 +278,9 @@ CMAKE
     fi
 }
 
+# (tests/arm.sh takes these functions alone)
+[ -z "$functions_alone" ] || return 0
+
 if ! command -v python3 >/dev/null 2>&1; then
     fail "exports of the library for C" "there is no python3"
 elif python3 c/exports.py check >"$room/out" 2>&1; then
@@ -231,7 +290,7 @@ else
 fi
 
 # (where that fails, `install` proves the crates below the library once more)
-is_fresh c_exports || build_over_gate 2>"$room/built"
+is_fresh c_exports || build_over_gate x86_64 2>"$room/built"
 if ! ./install "$installed" >"$room/installing" 2>&1; then
     fail "install" "$(tail -n 1 "$room/installing")"
 else

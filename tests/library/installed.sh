@@ -292,12 +292,16 @@ check_prefixes() {
 check_rust() {
     in_clean sh -c 'command -v cargo' >/dev/null || return
     check "Rust over the packaged crate, with no library installed" in_rust_of_package "nidzaru-$version"
-    check "the packaged crate links its own library on x86-64 Linux" links_its_library "$packages/nidzaru-$version/build.rs"
-    is_refused "the packaged crate for any system" 'it links on aarch64' links_with 's/"x86_64".into()/variable("CARGO_CFG_TARGET_ARCH")/'
+    check "the packaged crate links its own libraries on Linux" links_its_library "$packages/nidzaru-$version/build.rs"
+    is_refused "the packaged crate for any machine" 'it links on riscv64' links_with 's/!Path::new(&folder).is_dir()/false/'
+    is_refused "the packaged crate for any system" 'it links on x86_64-windows' links_with 's/\["linux", "none"\]/["linux", "none", "windows"]/'
     is_refused "the packaged crate never watched" 'not watched' links_with 's/"thread"/"memory"/'
     is_refused "the packaged crate with a shared object" 'on Linux' links_with 's/static=nidzaru/dylib=nidzaru/'
     write_over
     check "Rust over the installed library" tells_version "$number"
+    sed -i.kept 's/^machine=.*/machine=riscv64/' "$clean/prefix/lib/pkgconfig/nidzaru.pc"
+    is_refused "Rust over a library for another machine" 'the library is for riscv64, and this program for' run_over
+    mv "$clean/prefix/lib/pkgconfig/nidzaru.pc.kept" "$clean/prefix/lib/pkgconfig/nidzaru.pc"
     is_refused "a wrong version of it" 'it runs with' tells_version 1
     install_another
     check "Rust over another library in its place" tells_version "$((number + 1))"
@@ -307,4 +311,34 @@ check_rust() {
     done
     claim_version 2.99.0
     check "Rust over a later library" tells_version "$((number + 1))"
+}
+
+# A program for ARM over the unpacked tar, by pkg-config with its C compiler, or that of this machine, which has to be told.
+#   for_arm COMPILER
+for_arm() {
+    flags=$(PKG_CONFIG_PATH="$arm/lib/pkgconfig" pkg-config --cflags --libs nidzaru) || return 1
+    "$1" -std=c11 -O2 -Wall -Werror "$examples/tasks.c" $flags -pthread -o "$room/program" && readelf -h "$room/program" | grep -q AArch64
+}
+
+# The libraries for ARM: what the packages have, and that each of pkg-config, CMake and the crate tells a program for another machine.
+check_arm() {
+    arm=$packages/nidzaru-$version-aarch64-linux
+    check "the packages for ARM" is_arm_packed
+    check "Debian's packages side by side" are_alike "$packages/debian" "$packages/debian_arm"
+    echo "other" >>"$packages/debian_arm/usr/include/nidzaru.h"
+    is_refused "planted: another header beside it" nidzaru.h are_alike "$packages/debian" "$packages/debian_arm"
+    check "BUILD-INFO has both verdicts" has_verdicts "$made/BUILD-INFO"
+    sed '/^verdict/s/axioms=3 target=aarch64/axioms=2 target=aarch64/' "$made/BUILD-INFO" >"$packages/info"
+    is_refused "planted: a verdict of fewer axioms" "aren't of one proof" has_verdicts "$packages/info"
+    [ "$(PKG_CONFIG_PATH="$arm/lib/pkgconfig" pkg-config --variable=machine nidzaru)" = aarch64 ]
+    check "pkg-config tells the machine" [ $? = 0 ]
+    check "C for ARM by pkg-config" for_arm aarch64-linux-gnu-gcc
+    [ "$(uname -m)" != x86_64 ] || is_refused "C for x86-64 over the library for ARM" 'the library is for aarch64, and this program isn' for_arm cc
+    if command -v cmake >/dev/null 2>&1; then
+        check "CMake: the library for ARM" configure "$major.0" "$arm" -DCMAKE_SYSTEM_NAME=Linux -DCMAKE_SYSTEM_PROCESSOR=aarch64
+        is_refused "CMake: the library for ARM in a program for x86-64" 'for aarch64, and not x86_64' \
+            configure "$major.0" "$arm" -DCMAKE_SYSTEM_NAME=Linux -DCMAKE_SYSTEM_PROCESSOR=x86_64
+        is_refused "CMake: the library for x86-64 in a program for ARM" 'for x86_64, and not arm64' \
+            configure "$major.0" "$unpacked" -DCMAKE_SYSTEM_NAME=Linux -DCMAKE_SYSTEM_PROCESSOR=arm64
+    fi
 }

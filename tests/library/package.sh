@@ -1,7 +1,8 @@
 # The packages: `./package` runs on two copies of this tree that differ in all that the bytes may not depend on, and then what a user does
 # with them, with a PATH that has compilers and nothing of the toolchain, an empty home, and, where a namespace of mounts is permitted,
 # empty folders in place of the toolchain's and of this tree. (tests/library/roots.sh has fresh Debian roots: here headers and libraries of
-# this machine are at hand.) It takes the library and the programs that are built by then, and builds none.
+# this machine are at hand.) It takes the library and the programs that are built by then, and makes only the programs' objects if they are
+# missing. Without binaryen the packages have no page, and there are two checks less.
 . build/library.sh
 . tests/library/packed.sh
 . tests/library/installed.sh
@@ -83,18 +84,44 @@ fill_clean_path() {
     ! in_clean sh -c 'command -v rt || command -v python3 || command -v git'
 }
 
+# The objects of the programs, which the gate doesn't leave where it takes over what an earlier run proved.
+make_objects() {
+    for program in fsr picture; do
+        [ -e "$(object_of "$program")" ] || python3 build/build.py --over-gate "$program" </dev/null || return 1
+    done
+}
+
 # The tree as it lies here, as the only commit of a repository, with what is built.
 copy_tree() {
-    mkdir "$packages/one" && tar -c --exclude=./.git --exclude=./out --exclude='./crates/*/out' . | tar -x -C "$packages/one" \
+    make_objects && mkdir "$packages/one" && tar -c --exclude=./.git --exclude=./out --exclude='./crates/*/out' . | tar -x -C "$packages/one" \
         && git -C "$packages/one" init -q && git -C "$packages/one" add -A \
         && git -C "$packages/one" -c user.name=test -c user.email=test@nidzaru.example commit -q -m 'the tree' && put_built "$packages/one"
 }
 
-# What is built of the tree, for a copy of it: so nothing is built there.
+# What is built of the tree, for a copy of it: so nothing is built there. A program that isn't built for ARM has a stand-in.
 put_built() {
-    for built in c_exports/out/libc_exports.a fsr/out/fsr picture/out/picture; do
-        mkdir -p "$1/crates/${built%/*}" && cp "crates/$built" "$1/crates/$built" || return 1
-    done
+    for machine in $made_for; do
+        set_machine "$machine"
+        out=$(dirname -- "$(built_file c_exports)")
+        put "$1" "$out/libc_exports.a" && put "$1" "$out/verdict" || return 1
+        for program in fsr picture; do
+            put "$1" "$(object_of "$program")" "$(dirname "$(built_file "$program")")/$program.o" && put "$1" "$(built_file "$program")" \
+                || { [ "$machine" = aarch64 ] && stand_in "$1/crates/$program/out/aarch64/$program"; } || return 1
+        done
+    done 2>"$room/put"
+    set_machine x86_64
+    [ -z "$with_page" ] || { mkdir -p "$1/out" && cp -r out/page "$1/out/"; }
+}
+
+# Copies a built file to its place in a copy of the tree, or to that of another one.
+#   put FOLDER FILE [PLACE]
+put() {
+    place=${3:-$2}
+    mkdir -p "$(dirname "$1/${place#"$top"/}")" && cp "$2" "$1/${place#"$top"/}"
+}
+
+stand_in() {
+    mkdir -p "${1%/*}" && echo 'int main(void) { return 0; }' | "${tools}gcc" -O1 -c -x c - -o "$1.o" && cp "$1.o" "$1" && chmod +x "$1"
 }
 
 clone_tree() {
@@ -109,7 +136,7 @@ package_again() {
 
 package_clone() {
     mkdir -p "$packages/tmp" && { chgrp 1 "$packages/tmp" && chmod g+s "$packages/tmp" || true; } 2>/dev/null
-    (umask 077 && TMPDIR=$packages/tmp TZ=Asia/Tokyo LC_ALL=C.UTF-8 HOME=$clean/home GATE_LOG=$packages/log "$packages/$1/package") \
+    (umask 077 && TMPDIR=$packages/tmp TZ=Asia/Tokyo LC_ALL=C.UTF-8 HOME=$clean/home GATE_LOG=$packages/log "$packages/$1/package" $made_words) \
         && rmdir "$packages/tmp"
 }
 
@@ -125,7 +152,7 @@ plant_time() {
 
 with_change() {
     echo "more" >>"$packages/one/README.md"
-    "$packages/one/package"
+    "$packages/one/package" $made_words
     said=$?
     git -C "$packages/one" checkout -q README.md
     return $said
@@ -133,7 +160,7 @@ with_change() {
 
 with_new_file() {
     echo "more" >"$packages/one/more.txt"
-    "$packages/one/package"
+    "$packages/one/package" $made_words
     said=$?
     rm "$packages/one/more.txt"
     return $said
@@ -141,9 +168,18 @@ with_new_file() {
 
 with_another_logic() {
     library=$packages/one/crates/c_exports/out/libc_exports.a
-    cp "$library" "$packages/kept.a" && objcopy --remove-section=.comment "$library" && "$packages/one/package"
+    cp "$library" "$packages/kept.a" && objcopy --remove-section=.comment "$library" && "$packages/one/package" $made_words
     said=$?
     cp "$packages/kept.a" "$library"
+    return $said
+}
+
+# The packages over a verdict that a command of sed changes.
+with_verdict() {
+    verdict=$packages/one/crates/c_exports/out/verdict
+    cp "$verdict" "$packages/kept" && sed "$1" "$packages/kept" >"$verdict" && "$packages/one/package" $made_words
+    said=$?
+    cp "$packages/kept" "$verdict"
     return $said
 }
 
@@ -161,7 +197,7 @@ gate_log() {
 # Sees that ./package refuses a log, and why.
 #   refuses_log TITLE SAID
 refuses_log() {
-    is_refused "./package with the log of $1" "$2" env GATE_LOG="$packages/refused" "$packages/one/package"
+    is_refused "./package with the log of $1" "$2" env GATE_LOG="$packages/refused" "$packages/one/package" $made_words
 }
 
 refuse_logs() {
@@ -192,7 +228,9 @@ check_packages() {
     is_refused "./package over a changed tree" "aren't committed: .*README.md" with_change
     is_refused "./package with a new file" "aren't committed: .*more.txt" with_new_file
     is_refused "./package over a library of another logic" "proved by logic ''" with_another_logic
-    check "./package" env GATE_LOG="$packages/log" "$packages/one/package"
+    is_refused "./package over a library that isn't proved" 'no verdict' with_verdict 's/=proved/=not-proved/'
+    [ -z "$has_arm" ] || is_refused "./package over proofs of another number" 'the verdict for aarch64 is of' with_verdict 's/ axioms=3 / axioms=4 /'
+    check "./package" env GATE_LOG="$packages/log" "$packages/one/package" $made_words
     sum=$(sha256sum <"$packages/log")
     stand='wrong bodies: 7 of [0-9]* were tried, and [0-9]* stand by their sums'
     check "BUILD-INFO has the gate's last line" grep -qx "gate       $(tail -n 1 "$packages/log"); $stand; its log has the sum sha256 ${sum%% *}" \
@@ -205,12 +243,30 @@ check_packages() {
     check "the names in the packages" are_in_order
 }
 
+# Builds the page here, over what the gate has built: so nothing is built of it in the copies.
+with_page=
+! command -v wasm-opt >/dev/null 2>&1 || with_page=yes
+build_page() {
+    over=
+    [ ! -d crates/memory_answers/out/rlib ] || over="--over rlib"
+    ./page $over "$packages/page.html"
+}
+
+# The page in the packages is the one that ./page builds, it is listed, and a browser finds all in it.
+has_page() {
+    cmp "$packages/page.html" "$made/nidzaru-page-$version.html" || return 1
+    grep -q '^PackageName: nidzaru-check_exports' "$made/nidzaru-page-$version.spdx" || return 1
+    ! grep -n -E '(src|href)="[^#"]' "$made/nidzaru-page-$version.html"
+}
+
 tab=$(printf '\t')
 version=$(version_of_header)
 major=${version%%.*} before=$((${version%%.*} - 1)) next=$((${version%%.*} + 1))
 unpacked=$packages/nidzaru-$version-x86_64-linux
 examples=$unpacked/share/doc/nidzaru/examples/c
 made=$packages/one/out/packages
+made_for='x86_64 aarch64' made_words= has_arm=yes
+has_tools aarch64 programs || { made_for=x86_64 made_words='--machine x86_64' has_arm=; }
 tar=$made/nidzaru-$version-x86_64-linux.tar.gz
 programs=$made/nidzaru-programs-$version-x86_64-linux.tar.gz
 deb=$made/libnidzaru-dev_${version}_amd64.deb
@@ -227,6 +283,11 @@ else
     else
         echo "test: no namespace of mounts is permitted, so files of the toolchain and of this tree can be read"
     fi
+    if [ -n "$with_page" ]; then
+        check "the page for the packages" build_page
+    else
+        echo "test: the packages have no page: there is no wasm-opt"
+    fi
     check "a copy of the tree" copy_tree
     check_packages
     check_contents
@@ -234,7 +295,9 @@ else
     check_uninstall
     check_prefixes
     check "C over the Debian package" over_debian
+    [ -z "$has_arm" ] || check_arm
     ! command -v lintian >/dev/null 2>&1 || check "lintian has nothing to say" is_clean_for_lintian
     check_rust
     check "the packaged programs" use_programs
+    [ -z "$with_page" ] || check "the packaged page" has_page
 fi

@@ -7,7 +7,8 @@ is_summed() {
 # Whether the names in each tar stand in order: both copies lie in one file system, which may give their folders in one order.
 are_in_order() {
     for tar in "$made"/*.tar.gz "$made"/*.crate; do
-        tar -tzf "$tar" | LC_ALL=C sort -c || return 1
+        # (a folder's files stand before a file whose name goes on where the folder's ends)
+        tar -tzf "$tar" | tr / '\001' | LC_ALL=C sort -c || return 1
     done
 }
 
@@ -25,7 +26,7 @@ is_one_library() {
         || return 1
     sum=$(sha256sum <"$unpacked/lib/libnidzaru.a")
     [ "$(sha256sum <"$packages/debian/usr/lib/x86_64-linux-gnu/libnidzaru.a")" = "$sum" ] \
-        && [ "$(sha256sum <"$packages/nidzaru-$version/lib/libnidzaru.a")" = "$sum" ] \
+        && [ "$(sha256sum <"$packages/nidzaru-$version/lib/x86_64/libnidzaru.a")" = "$sum" ] \
         && grep -q "SHA256: ${sum%% *}$" "$made/nidzaru-$version.spdx"
 }
 
@@ -41,7 +42,7 @@ is_listed_with_licence() {
     for part in nidzaru-heap.o $(printf 'nidzaru-%s ' $(crates_below c_exports)); do
         [ "$(licence_of "$part" "$1")" = 'MIT OR Apache-2.0' ] || { echo "$part: $(licence_of "$part" "$1")" && return 1; }
     done
-    for part in libnidzaru.a kit-std kit-atomic_table; do
+    for part in $(printf 'libnidzaru.a-%s ' $made_for) kit-std kit-atomic_table; do
         [ "$(licence_of "$part" "$1")" = NOASSERTION ] || { echo "$part: $(licence_of "$part" "$1")" && return 1; }
     done
 }
@@ -52,7 +53,7 @@ list_tar() {
 }
 
 list_debian() {
-    dpkg-deb --fsys-tarfile "$deb" | tar -t | sed -n 's|^\./||; s|\.gz$||; /[^/]$/p'
+    dpkg-deb --fsys-tarfile "$1" | tar -t | sed -n 's|^\./||; s|\.gz$||; /[^/]$/p'
 }
 
 # Whether a list of files is this one.
@@ -73,7 +74,7 @@ lists_tar() {
 }
 
 lists_debian() {
-    libdir=usr/lib/x86_64-linux-gnu pages=usr/share/doc/libnidzaru-dev
+    libdir=usr/lib/${2:-x86_64-linux-gnu} pages=usr/share/doc/libnidzaru-dev
     lists "$1" $(printf 'usr/%s ' $headers) $libdir/libnidzaru.a $libdir/pkgconfig/nidzaru.pc \
         $libdir/cmake/nidzaru/nidzaruConfig.cmake $libdir/cmake/nidzaru/nidzaruConfigVersion.cmake \
         $(printf "$pages/%s\n" $library_pages | grep -v LICENSE-) $pages/BUILD-INFO "$pages/nidzaru-$version.spdx" \
@@ -81,7 +82,7 @@ lists_debian() {
 }
 
 lists_crate() {
-    lists "$1" $(cd rust/nidzaru && find src examples -type f) Cargo.toml build.rs lib/libnidzaru.a BUILD-INFO LICENSE-MIT LICENSE-APACHE \
+    lists "$1" $(cd rust/nidzaru && find src examples -type f) Cargo.toml build.rs $(printf 'lib/%s/libnidzaru.a ' $made_for) BUILD-INFO LICENSE-MIT LICENSE-APACHE \
         "nidzaru-$version.spdx"
 }
 
@@ -93,7 +94,7 @@ lists_programs() {
 # Whether each package has its files, and no other ones.
 have_their_files() {
     list_tar "$tar" >"$packages/listed" && lists_tar "$packages/listed" || return 1
-    list_debian >"$packages/listed_debian" && lists_debian "$packages/listed_debian" || return 1
+    list_debian "$deb" >"$packages/listed_debian" && lists_debian "$packages/listed_debian" || return 1
     list_tar "$made/nidzaru-$version.crate" >"$packages/listed_crate" && lists_crate "$packages/listed_crate" || return 1
     list_tar "$programs" >"$packages/listed_programs" && lists_programs "$packages/listed_programs"
 }
@@ -114,7 +115,7 @@ have_plain_modes() {
 # Whether BUILD-INFO names commit, kit, tools, what is proved and what is trusted.
 tells_build() {
     kit_folder=$(dirname -- "$(rt doc)") && hash=$(git -C "$packages/one" rev-parse HEAD) || return 1
-    for line in "version    $version, x86-64 Linux" "kit        $(rt version)" 'Proved of the exports' 'Trusted' 'Given on'; do
+    for line in "version    $version, Linux on $(echo "$made_for" | sed 's/ / and /; s/_/-/')" "kit        $(rt version)" 'Proved of the exports' 'Trusted' 'Given on'; do
         grep -qxF -e "$line" "$1" || { echo "no line '$line'" && return 1; }
     done
     for line in "commit     $hash, [0-9-]*T[0-9:]*Z" ' *the library.s .comment: rattle logic=[0-9a-f]\{64\}' \
@@ -156,17 +157,20 @@ is_debian_with() {
 # What the packaged crate's build script says to cargo on such a system, with such sanitizers.
 #   link_on SYSTEM [SANITIZERS]
 link_on() {
-    env CARGO_MANIFEST_DIR=/crate CARGO_CFG_TARGET_ARCH="${1%-*}" CARGO_CFG_TARGET_OS="${1#*-}" ${2:+"CARGO_CFG_SANITIZE=$2"} "$packages/build_rs"
+    env CARGO_MANIFEST_DIR="$packages/nidzaru-$version" CARGO_CFG_TARGET_ARCH="${1%-*}" CARGO_CFG_TARGET_OS="${1#*-}" ${2:+"CARGO_CFG_SANITIZE=$2"} "$packages/build_rs"
 }
 
-# Whether that links the crate's own archive on x86-64 Linux alone, and tells the crate of ThreadSanitizer.
+# Whether that links the crate's own archive of each machine on Linux, and tells the crate of ThreadSanitizer.
 links_its_library() {
     in_clean rustc --edition 2021 -o "$packages/build_rs" "$1" || return 1
-    said='cargo:rerun-if-changed=lib/libnidzaru.a\ncargo:rustc-link-search=native=/crate/lib\ncargo:rustc-link-lib=static=nidzaru\n'
-    [ "$(link_on x86_64-linux)" = "$(printf "$said")" ] || { echo "on Linux $(link_on x86_64-linux)" && return 1; }
-    [ "$(link_on x86_64-linux address,thread)" = "$(printf "cargo:rustc-cfg=nidzaru_watched\n$said")" ] || { echo "not watched" && return 1; }
-    for system in aarch64-linux x86_64-windows; do
-        ! link_on "$system" >"$room/linked" 2>&1 && grep -qx 'the library of nidzaru is for x86-64 Linux' "$room/linked" \
+    for at in $made_for; do
+        said="cargo:rerun-if-changed=lib/$at/libnidzaru.a\ncargo:rustc-link-search=native=$packages/nidzaru-$version/lib/$at\n"
+        said="${said}cargo:rustc-link-lib=static=nidzaru\n"
+        [ "$(link_on "$at-linux")" = "$(printf "$said")" ] || { echo "on Linux $(link_on "$at-linux")" && return 1; }
+        [ "$(link_on "$at-linux" address,thread)" = "$(printf "cargo:rustc-cfg=nidzaru_watched\n$said")" ] || { echo "not watched" && return 1; }
+    done
+    for system in riscv64-linux x86_64-windows; do
+        ! link_on "$system" >"$room/linked" 2>&1 && grep -qx "this crate has no library of nidzaru for $system" "$room/linked" \
             || { echo "it links on $system" && return 1; }
     done
 }
@@ -187,7 +191,7 @@ check_contents() {
     check "one library in tar, Debian package and crate" is_one_library
     check "what the library contains, with a licence or none" is_listed_with_licence "$made/nidzaru-$version.spdx"
     sed 's/^\(PackageLicense[A-Za-z]*:\) NOASSERTION/\1 MIT OR Apache-2.0/' "$made/nidzaru-$version.spdx" >"$packages/spdx"
-    is_refused "every licence ours" 'libnidzaru.a: MIT' is_listed_with_licence "$packages/spdx"
+    is_refused "every licence ours" 'libnidzaru.a-x86_64: MIT' is_listed_with_licence "$packages/spdx"
     check "the files of each package" have_their_files
     sed -i '/nidzaru_log.h/d' "$packages/listed" "$packages/listed_debian"
     is_refused "a tar without the recorder" 'nidzaru_log.h' lists_tar "$packages/listed"
@@ -203,4 +207,36 @@ check_contents() {
     is_refused "a Debian package of another version" 'version 2.0.0' is_debian_with 's/^Version: .*/Version: 2.0.0/' -Zgzip
     is_refused "a Debian package with its size in bytes" 'size [0-9]*000, not' is_debian_with 's/^Installed-Size: .*/&000/' -Zgzip
     is_refused "a Debian package by xz" 'it has .*data.tar.xz' is_debian_with '' -Zxz
+}
+
+# Whether the packages for ARM have their files, and an archive for it, of which the list tells; and whether Debian's two packages may be
+# installed side by side: what both have is the same.
+is_arm_packed() {
+    arm_deb=$made/libnidzaru-dev_${version}_arm64.deb arm_tar=$made/nidzaru-$version-aarch64-linux.tar.gz
+    list_tar "$arm_tar" >"$packages/listed_arm" && lists_tar "$packages/listed_arm" || return 1
+    list_debian "$arm_deb" >"$packages/listed_arm" && lists_debian "$packages/listed_arm" aarch64-linux-gnu || return 1
+    list_tar "$made/nidzaru-programs-$version-aarch64-linux.tar.gz" >"$packages/listed_arm" && lists_programs "$packages/listed_arm" || return 1
+    dpkg-deb -x "$arm_deb" "$packages/debian_arm" && tar -C "$packages" -xzf "$arm_tar" || return 1
+    [ "$(dpkg-deb -f "$arm_deb" Architecture)" = arm64 ] || { echo "it is for another machine" && return 1; }
+    sum=$(sha256sum <"$packages/nidzaru-$version-aarch64-linux/lib/libnidzaru.a")
+    [ "$(sha256sum <"$packages/debian_arm/usr/lib/aarch64-linux-gnu/libnidzaru.a")" = "$sum" ] \
+        && [ "$(sha256sum <"$packages/nidzaru-$version/lib/aarch64/libnidzaru.a")" = "$sum" ] \
+        && grep -q "SHA256: ${sum%% *}$" "$made/nidzaru-$version.spdx" || { echo "three archives" && return 1; }
+    readelf -h "$packages/nidzaru-$version-aarch64-linux/lib/libnidzaru.a" | grep -q 'Machine:.*AArch64' || { echo "no archive for ARM" && return 1; }
+}
+
+# Whether what two folders have of the same names is the same.
+are_alike() {
+    (cd "$1" && find . -type f) | while IFS= read -r path; do
+        [ ! -e "$2/$path" ] || cmp "$1/$path" "$2/$path" || return 1
+    done
+}
+
+# Whether BUILD-INFO has for each machine the line by which the prover told that its library is proved, both of as much.
+has_verdicts() {
+    [ "$(grep -c '^verdict    ' "$1")" = 2 ] && for at in x86_64 aarch64; do
+        grep -q "^verdict    $at: logic=proved functions=[0-9]* axioms=3 target=$at-unknown-linux-gnu " "$1" \
+            || { echo "they aren't of one proof" && return 1; }
+    done && [ "$(sed -n 's/^verdict .*: \(logic=proved functions=[0-9]* axioms=[0-9]*\) .* \(sum=[0-9a-f]*\) .*/\1 \2/p' "$1" | uniq | wc -l)" = 1 ] \
+        || { echo "they aren't of one proof" && return 1; }
 }

@@ -101,7 +101,7 @@ try_headers() {
 plant_faults() {
     planted 's/setrobust(&kind, PTHREAD_MUTEX_ROBUST)/settype(\&kind, PTHREAD_MUTEX_ERRORCHECK)/' 'a writer that yields'
     planted '/why = pthread_mutex_consistent/d' 'a writer that yields'
-    planted '/if (!handle->side.at)/d' signal
+    planted '/if (handle->side.live == NIDZARU_BUSY)/d' signal
     planted '/if (!handle->side.live)/d' 'a claim of an ended side'
     planted '/root_bytes != root_bytes) return/d' 'an attach of another type'
     planted 's/seen->type != type || //' 'an attach of another type'
@@ -120,7 +120,7 @@ plant_faults() {
     planted 's/^    nidzaru_making = block->head;/    nidzaru_making = NIDZARU_NOWHERE;/' "all memory was the block's"
     planted 's/^    nidzaru_making = NIDZARU_NOWHERE;//' signal
     planted 's/if (!part->from) free(part);/free(part);/' signal
-    planted 's/ || whole > head->bytes - used) return NIDZARU_NOWHERE;/) return NIDZARU_NOWHERE;/' signal
+    planted 's/ || whole > head->bytes - used) return NIDZARU_NOWHERE;/) return NIDZARU_NOWHERE;/' '\(no room\|a record\).*'
     planted 's/__ATOMIC_RELAXED)) return NIDZARU_IN_USE/__ATOMIC_RELAXED) \&\& 0) return NIDZARU_IN_USE/' 'a claim.*'
     planted '/nidzaru_lies_in(block, item)) return/d' 'a register outside'
     planted 's/    else __atomic_fetch_add(&block->held, 1, __ATOMIC_RELAXED);//' '.*'
