@@ -41,14 +41,14 @@ if command -v python3 >/dev/null 2>&1; then
         '0,/pub fn check_origin</s//pub fn check_origins</' python3 tests/docs/quotes.py docs/HEADLINES.md
     catches_in_tree "another number of files in a table" "tests/programs/races/ has [0-9]* files" docs/dev/TESTING.md \
         's/^\(| `tests\/programs\/races\/` | \)[0-9]*/\11/' python3 tests/docs/quotes.py docs/dev/TESTING.md
-    catches_in_tree "a clause that another crate's function of this name has" "no source has .quiet. of .write." docs/ONE-TIME.md \
-        's/(`quiet` of `read`)/(`quiet` of `read` and of `write`)/' python3 tests/docs/quotes.py docs/ONE-TIME.md
-    catches_in_tree "a clause that no function has" "no source has .unsaid. of .laws::runs_of_two." docs/ONE-TIME.md \
-        's/clause `untold`/clause `unsaid`/' python3 tests/docs/quotes.py docs/ONE-TIME.md
+    catches_in_tree "a clause that another crate's function of this name has" "no source has .quiet. of .write." docs/BOARD.md \
+        's/(`quiet` of `read`)/(`quiet` of `read` and of `write`)/' python3 tests/docs/quotes.py docs/BOARD.md
+    catches_in_tree "a clause that no function has" "no source has .unsaid. of .laws::runs_of_two." docs/BOARD.md \
+        's/clause `untold`/clause `unsaid`/' python3 tests/docs/quotes.py docs/BOARD.md
     catches_in_tree "a field that no definition has" "no source has .ended. of .IsReadOf." docs/BOARD.md \
         's/`begun` of `IsReadOf`/`ended` of `IsReadOf`/' python3 tests/docs/quotes.py docs/BOARD.md
-    catches_in_tree "an item that no crate has" "no source has .run_task. of .board_tasks." docs/ONE-TIME.md \
-        's/`run_tasks` of `board_tasks`/`run_task` of `board_tasks`/' python3 tests/docs/quotes.py docs/ONE-TIME.md
+    catches_in_tree "an item that no crate has" "no source has .run_task. of .board_tasks." docs/BOARD.md \
+        's/`run_tasks` of `board_tasks`/`run_task` of `board_tasks`/' python3 tests/docs/quotes.py docs/BOARD.md
     first="1. The checker: a verdict is right, and no order is missed; 2"
     catches_in_tree "a changed definition with as many lines" "another reading set of $first" \
         crates/history_core/specs/Orders.antt 's/^MayStand None Write times = times ≤ 1/MayStand None Write times = times ≤ 2/' \

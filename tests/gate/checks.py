@@ -23,20 +23,22 @@ from pathlib import Path
 MARKS = "<!-- counted by tests/gate/checks.py -->\n", "<!-- to here -->\n"
 # What scripts do without where it isn't there.
 TOOLS = {
+    "tests/gate/layout.sh": ("shellcheck", "clang-format"),
     "tests/programs/soak.sh": ("gcc",),
     "tests/library/c.sh": ("gcc", "g++", "clang", "clang++", "cmake", "valgrind", "cargo"),
     "tests/library/c_controls.sh": ("gcc", "cargo"),
-    "tests/programs/recorder.sh": ("gcc", "g++", "clang", "clang++", "rustc", "cargo"),
+    "tests/programs/recorder.sh": ("gcc", "g++", "clang", "clang++", "rustc", "cargo", "aarch64-linux-gnu-gcc"),
     "tests/library/shared.sh": ("gcc", "g++", "clang", "clang++"),
     "tests/programs/page.sh": ("gcc", "wasm-opt", "chromium"),
     "tests/library/in_memory.sh": ("gcc", "g++"),
-    "tests/library/package.sh": ("musl-gcc", "cmake", "cargo", "lintian", "unshare"),
+    "tests/library/package.sh": ("aarch64-linux-gnu-gcc", "musl-gcc", "cmake", "cargo", "lintian", "unshare", "wasm-opt"),
+    "tests/docs/stepper.sh": ("wasm-opt", "chromium"),
 }
 # The scripts that have no checks, and those that are run by hand alone.
-HELPERS = {"tests/gate/outcomes.sh", "build/spent.sh", "build/build.sh", "build/library.sh", "tests/programs/refused.sh"}
+HELPERS = {"tests/gate/outcomes.sh", "build/spent.sh", "build/machine.sh", "build/build.sh", "build/library.sh", "tests/programs/refused.sh"}
 # Those that another script reads.
 PARTS = {"tests/library/rust.sh", "tests/library/packed.sh", "tests/library/installed.sh"}
-BY_HAND = {"tests/library/roots.sh"}
+BY_HAND = {"tests/arm.sh", "tests/library/accesses.sh", "tests/library/roots.sh"}
 TOLD = re.compile(r"(?m)^test: (\S+(?: ci)?): (\d+) checks$")
 WHOLE = re.compile(r"(?m)^test: all of \./test ran on commit (\S+); its counts have the sum sha256 ([0-9a-f]{64})$")
 TRIED = re.compile(r"(?m)^test: (wrong bodies: \d+ of (\d+) were tried, and \d+ stand by their sums)")

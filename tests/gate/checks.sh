@@ -71,7 +71,8 @@ fi
 
 # The gate's sums and those of the wrong bodies are theirs, and noted.
 told=$(
-    passed=1 failed=1 counted=$room/sums_of_gate
+    mkdir "$room/gate_sums" && room=$room/gate_sums passed=1 failed=1
+    counted=$room/counted
     run_gate() {
         echo '5 passed, 3 failed'
     }
@@ -108,27 +109,43 @@ else
     fail "planted: another script's failures are counted" "$told"
 fi
 
-# The library counts as proved if its build passes and the prover's last line has no other word.
+# The library counts as proved if both builds pass, each prover's last line has no other word, and the second machine's verdict is of the
+# first one's proofs.
 told=$(
-    said='logic=proved functions=7 axioms=3 target=x86_64-unknown-linux-gnu cpu=x86-64-v2 sum=1f native=nat,char,string logic-built=trusted'
-    said="$said libraries-built=trusted statements=trusted" more= built=0
+    trusted='native=nat,char,string logic-built=trusted libraries-built=trusted statements=trusted incremental=trusted'
+    more='' more_again='' functions='' sum='' anew='' unbuilt='' unbuilt_again=''
     build_over_gate() {
-        echo "$said$more" >&2
-        return $built
+        case $1 in
+        x86_64)
+            echo "crate c_exports: modules loaded=0 checked=9" >&2
+            echo "logic=proved functions=7 axioms=3 target=x86_64-unknown-linux-gnu cpu=x86-64-v2 sum=1f $trusted$more" >&2
+            ;;
+        *)
+            echo "crate c_exports: modules loaded=$((9 - ${anew:-0})) checked=${anew:-0}" >&2
+            echo "logic=proved functions=${functions:-7} axioms=3 target=aarch64-unknown-linux-gnu sum=${sum:-1f} $trusted$more_again" >&2
+            return ${unbuilt_again:-0}
+            ;;
+        esac
+        return ${unbuilt:-0}
     }
-    {
-        prove_library && whole=yes
-        more=' incremental=trusted'
-        prove_library && worded=yes
-        more= built=1
-        prove_library && unbuilt=yes
-    } >/dev/null
-    echo "${whole:-no} ${worded:-no} ${unbuilt:-no}"
+    tries() {
+        eval "$1"
+        if prove_library >/dev/null; then printf 'yes '; else printf 'no '; fi
+        eval "$2"
+    }
+    tries : :
+    tries 'more=" may=wait"' more=
+    tries 'more_again=" may=wait"' more_again=
+    tries unbuilt=1 unbuilt=
+    tries unbuilt_again=1 unbuilt_again=
+    tries functions=6 functions=
+    tries sum=2e sum=
+    tries anew=1 anew=
 )
-if [ "$told" = 'yes no no' ]; then
-    pass "planted: a library that isn't proved whole"
+if [ "$told" = 'yes no no no no no no no ' ]; then
+    pass "planted: a library that isn't proved whole, or for one machine alone"
 else
-    fail "planted: a library that isn't proved whole" "$told"
+    fail "planted: a library that isn't proved whole, or for one machine alone" "$told"
 fi
 
 if ! command -v python3 >/dev/null 2>&1; then

@@ -13,3 +13,32 @@ are_laid_out $(find crates -name out -prune -o \( -name '*.rt' -o -name '*.antt'
 { cat crates/history_core/src/lib.rt && echo 'use  std::mem;'; } >"$room/planted.rt"
 catches "a file in another layout" "planted.rt is not in the layout" are_laid_out crates/history_core/src/lib.rt "$room/planted.rt"
 catches "no file" "the layout of 0 files" are_laid_out
+
+# Scripts have no error that shellcheck knows, and the headers whose functions are no macros have the layout of .clang-format, where these
+# tools are.
+are_sound_scripts() {
+    if shellcheck -S error -s sh "$@" >"$room/out" 2>&1 && [ $# -gt 0 ]; then
+        pass "shellcheck over $# scripts"
+    else
+        fail "shellcheck over $# scripts" "$(head -n 3 "$room/out" | tr '\n' ' ')"
+    fi
+}
+
+are_formatted() {
+    if clang-format --dry-run --Werror "$@" >"$room/out" 2>&1 && [ $# -gt 0 ]; then
+        pass "clang-format over $# files"
+    else
+        fail "clang-format over $# files" "$(head -n 3 "$room/out" | tr '\n' ' ')"
+    fi
+}
+
+if command -v shellcheck >/dev/null 2>&1; then
+    are_sound_scripts fsr install package page picture soak test $(find build c packaging tests tools -name '*.sh')
+    printf '#!/bin/sh\nif true; then echo\n' >"$room/planted.sh"
+    catches "a script that doesn't end" "over 1 scripts" are_sound_scripts "$room/planted.sh"
+fi
+if command -v clang-format >/dev/null 2>&1; then
+    are_formatted c/nidzaru.hpp c/nidzaru_check.h c/nidzaru_log.h c/heap.c
+    cp .clang-format "$room/" && { cat c/heap.c && echo 'int  more;'; } >"$room/planted.c"
+    catches "a C file in another layout" "over 1 files" are_formatted "$room/planted.c"
+fi

@@ -20,10 +20,11 @@ TWINS = (
     ({"FourSlotCalls", "TripleCalls"}, "crates/c_registers/specs/{}.antt"),
 )
 
-# Names of one idea over two kinds of thing, as a call of a history and one of a running board, or a slot that has what it was to get.
+# Names of one idea over two kinds of thing, as a call of a history and one of a running board, an operation of a register and one of any
+# object, or a slot that has what it was to get.
 OVER_TWO = {
-    "AreForwards", "EndsBefore", "IsBelow", "IsBoardRun", "IsCall", "IsCounted", "IsEarly", "IsFresh", "IsReady", "Sees",
-    "WritesOnce",
+    "Accesses", "AreForwards", "EndsBefore", "IsBelow", "IsBoardRun", "IsCall", "IsCounted", "IsEarly", "IsFresh", "IsListing", "IsReady",
+    "KeepsPrecedence", "MayStand", "Precedes", "Sees", "ShowsAll", "WritesOnce",
 }
 
 

@@ -44,10 +44,11 @@ make_stub() {
 
 # Runs a check over these programs.
 over_stubs() {
+    unstubbed=$built
     built=$room/stubs
     "$@"
     stubbed=$?
-    built=crates
+    built=$unstubbed
     return $stubbed
 }
 

@@ -100,6 +100,7 @@ Table::new(
 .shared.split_seat::<All>(
 .shared.join_seat::<Gathers>(
 .shared.load::<Shows<M,K>>(
+.shared.load::<ShowsAll<M,K>>(
 close(
 close_with(
 slot_mut(
@@ -109,20 +110,20 @@ is_listed crates/family_table/src/table.rt kinds
 
 cat >"$room/listed" <<'LIST'
 .shared.load::<Begins<K>>(
-.shared.store::<Stores>(
-.shared.store::<Finishes>(
+.shared.store::<Showing<Stores,FourSlotMechanism,K>>(
+.shared.store::<Showing<Finishes,FourSlotMechanism,K>>(
 .shared.load::<Asks>(
 .shared.store::<Says>(
-.shared.load::<Takes>(
+.shared.load::<Showing<Takes,FourSlotMechanism,K>>(
 LIST
 is_listed crates/family_four_slot/src/table.rt kinds
 
 cat >"$room/listed" <<'LIST'
 .shared.load::<PutTakes>(
 .shared.load::<GetTakes>(
-.shared.swap::<Publishes>(
-.shared.load::<Looks>(
-.shared.swap::<Fetches>(
+.shared.swap::<Showing<Publishes,TripleMechanism,K>>(
+.shared.load::<Showing<Looks,TripleMechanism,K>>(
+.shared.swap::<Showing<Fetches,TripleMechanism,K>>(
 LIST
 is_listed crates/family_triple/src/table.rt kinds
 
@@ -170,7 +171,7 @@ is_planted() {
     fault=$(fault_in "$file" kinds)
     case $fault in
     *"$2"*) pass "planted in a table.rt: $1" ;;
-    *) fail "planted in a table.rt: $1" "${fault:-it isn't seen}" ;;
+    *) fail "planted in a table.rt: $1" "${fault:-nothing is seen}" ;;
     esac
 }
 

@@ -51,7 +51,7 @@ class Converter:
         self.folder, self.planted = folder, planted
 
     def convert(self, name, *words, text=None):
-        command = [sys.executable, f"{self.folder}/{name.split('_')[0]}.py", *words]
+        command = [sys.executable, "-B", "-S", f"{self.folder}/{name.split('_')[0]}.py", *words]
         text = open(f"{HERE}/{name}", "rb").read() if text is None else text
         done = subprocess.run(command, input=text, capture_output=True, check=False)
         return done.returncode, done.stdout.decode(), done.stderr.decode()

@@ -19,7 +19,7 @@ has_compared() {
     *) return 1 ;;
     esac
     for kind in "$@"; do
-        echo "$line" | grep -q " [1-9][0-9]* $kind[,:]" || return 1
+        echo "$line" | grep -q " [1-9][0-9]* ${kind}[,:]" || return 1
     done
 }
 

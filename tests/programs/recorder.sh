@@ -117,6 +117,8 @@ test_in_c() {
     passes "c/tests/recorder.c, without the fence ($c)" "$c" -std=c11 -DNIDZARU_LOG_FENCE=0
     passes "c/tests/recorder.c, by clock_gettime ($c)" "$c" -std=c11 -D_POSIX_C_SOURCE=199309L -DNIDZARU_LOG_TSC=0
     for words in '' -DNIDZARU_LOG_FENCE=0 -DNIDZARU_LOG_TSC=0; do
+        # (the instructions of ARM's counter are no functions, which a test could replace: c/tests/planted_log.py looks at them)
+        [ "$words" = -DNIDZARU_LOG_TSC=0 ] || case $("$c" -dumpmachine) in aarch64*) continue ;; esac
         passes "c/tests/stamped.c${words:+, $words} ($c)" "$c" -std=c11 -D_POSIX_C_SOURCE=200809L $words
     done
     passes "c/tests/recorder.c in C++17 ($cpp)" "$cpp" -x c++ -std=c++17 -Wold-style-cast
@@ -288,6 +290,8 @@ else
             counts converters python3 tests/programs/converters.py --planted "${planted%,*}" "${planted#*,}"
     done
     for script in tests/programs/planted_converters.py c/tests/planted_log.py; do
+        # (most of the second's edits are of the counter of x86-64)
+        [ $script = tests/programs/planted_converters.py ] || case $(gcc -dumpmachine) in aarch64*) continue ;; esac
         python3 $script >"$room/told" 2>&1
         take_over $script
     done

@@ -98,6 +98,18 @@ long_log() {
     printf ']}'
 }
 
+# A log in lines whose header has so many bytes, and no operation.
+long_header() {
+    printf '{"kind":"lines","opening":0,"x":"'
+    copies $(($1 - 35)) x ''
+    printf '"}\n'
+}
+
+# The same behind a byte order mark.
+marked_header() {
+    printf '\357\273\277' && long_header "$1"
+}
+
 # A `cell` document of so many writes, this many reads and so many steps `w`, with a letter after them.
 long_cell() {
     printf '{"kind":"cell","opening":[0,0,0],"noise":[9,8,7],"writes":['
@@ -211,6 +223,9 @@ else
     sees_long order 'lawful\norder:' long_log 10000
     sees_long order 'document: range of ops' long_log 10001
     sees_long order 'document: kind' cat examples/lawful.json
+    sees_long order 'lawful\n0 operations, 0 unfinished, 1 records, 0 of them read; no last line `done`' long_header 4096
+    sees_long order 'document: kind' long_header 4097
+    sees_long order 'line 1: no header of kind `lines`, and no document: not JSON' marked_header 40
     sees_long play 'schedule: no operation left at step 50000' long_cell 10000 0 100000
     sees_long play 'document: range of reads' long_cell 10000 1 100001
     sees_long play 'document: range of steps' long_cell 10000 0 100001

@@ -37,6 +37,13 @@ soak_of() {
     fi
 }
 
+# The planted bug is found, in the first of five soaks that finds it. (Beside much other work the two sides may run in turn.)
+find_planted() {
+    tries=0
+    while has_program soak && [ $((tries += 1)) -lt 5 ] && "$built/soak/out/soak" planted >"$room/out" 2>&1 </dev/null; do :; done
+    soak_of planted 1 1 '^and (a torn|an older) record$'
+}
+
 # Runs a soak with the request for memory of this number refused: it ends with status 4 and says so, or with 6 where that was a thread's.
 # One that then has a thread too few goes on, and is ended here before it tells anything.
 #   refused_soak REQUEST
@@ -50,7 +57,7 @@ refused_soak() {
     esac
 }
 
-soak_of planted 1 1 '^and (a torn|an older) record$'
+find_planted
 starts_no_thread soak 10000 /dev/null run 1
 starts_no_thread soak 10000 /dev/null planted
 
@@ -92,7 +99,7 @@ catches "no read" "it printed planted: 0 writes, 0 reads" told_by_soak planted 0
 catches "a line too few" "it printed planted" told_by_soak planted 5 5 'nothing found' 0 2
 catches "a soak that ends at once" "it took less than 50 seconds" told_by_soak planted 5 5 'nothing found' 0 1 50
 catches "a torn record" "it printed planted: 5 writes, 5 reads, and a torn record" told_by_soak planted 5 5 'and a torn record' 0
-catches "a planted bug that isn't found" "it ended with status 0" over_stubs soak_of planted 1 1 '^and'
+catches "a planted bug that isn't found" "it ended with status 0" over_stubs find_planted
 
 catches "a soak that is run in turn" "it ended with status 0" over_stubs starts_no_thread soak 10000 /dev/null run 1
 
