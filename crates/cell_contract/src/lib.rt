@@ -1,6 +1,6 @@
 //! Registers that two threads share without waiting, and families of them. In a cell one thread writes whole records of several words,
 //! and another reads them. In a family each process writes to each other one, and reads what each other one wrote to it, all in one time.
-//! No call waits or fails, and only making a cell or a family takes memory. On a processor that has a swap as one instruction none tries again.
+//! No call waits or fails, and only making a cell or a family takes memory. Where a swap is one instruction, no call tries again.
 //!
 //! A program implements `Lawful` and `Kept` for its record: what a lawful record is, and which record may stand after which.
 //! `C::make` gives a cell with its two passes, the right to write and the right to read, one for each thread. An answer of
