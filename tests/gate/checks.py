@@ -33,6 +33,7 @@ TOOLS = {
     "tests/library/in_memory.sh": ("gcc", "g++"),
     "tests/library/package.sh": ("aarch64-linux-gnu-gcc", "musl-gcc", "cmake", "cargo", "lintian", "unshare", "wasm-opt"),
     "tests/docs/stepper.sh": ("wasm-opt", "chromium"),
+    "tests/docs/site.sh": ("chromium",),
 }
 # The scripts that have no checks, and those that are run by hand alone.
 HELPERS = {"tests/gate/outcomes.sh", "build/spent.sh", "build/machine.sh", "build/build.sh", "build/library.sh", "tests/programs/refused.sh"}
