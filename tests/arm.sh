@@ -53,7 +53,7 @@ test_library() {
     functions_alone=yes
     . tests/library/c.sh
     installed=$prefix
-    flags=$(PKG_CONFIG_PATH=$installed/lib/pkgconfig pkg-config --cflags --libs nidzaru)
+    set_flags
     c=gcc cpp=g++
     test_in_c
     test_in_cpp

@@ -5,9 +5,9 @@
 
 An operator is turned into its neighbour, a constant is one more, a condition is turned round, a statement is dropped. Each edit stands alone
 in a copy of the file, and the tests of this file run over it, the cheapest first, until one fails. What can't be built counts as neither.
-The files: c/nidzaru.h, c/nidzaru.hpp and rust/nidzaru/src/*.rs, which need a libnidzaru.a; c/nidzaru_log.h, rust/nidzaru/src/log.rs and
-tools/convert/*.py. With --most so many edits of each file are tried, chosen by the seed. Each edit that gets through is told by its line;
-the last lines are the sums.
+The files: c/nidzaru.h, c/nidzaru.hpp, c/nidzaru_shared.h and rust/nidzaru/src/*.rs, which need a libnidzaru.a; c/nidzaru_log.h,
+rust/nidzaru/src/log.rs and tools/convert/*.py. With --most so many edits of each file are tried, chosen by the seed. A test that doesn't end
+within some seconds has failed. Each edit that gets through is told by its line; the last lines are the sums.
 """
 
 import argparse
@@ -17,6 +17,7 @@ import os
 import queue
 import random
 import re
+import resource
 import shutil
 import sys
 import tempfile
@@ -26,6 +27,7 @@ sys.path[:0] = [f"{TOP}/c/tests", f"{TOP}/tests/programs"]
 import converters  # noqa: E402
 import conversions  # noqa: E402
 import edits  # noqa: E402
+import lines  # noqa: E402
 import planted  # noqa: E402
 import planted_converters  # noqa: E402
 import planted_log  # noqa: E402
@@ -183,6 +185,33 @@ class LogRoom:
             self.room.restore()
 
 
+class SharedRoom:
+    """The header for processes, over the library, by the tests of tests/library/shared.sh."""
+
+    # What is built, and what its last line says when it gets these words.
+    TESTS = [
+        ("shared.c", ["-std=c11", "-D_GNU_SOURCE", "-Wl,--wrap=malloc,--wrap=free"], [], "each refusal is by its name"),
+        *[("shared_kills.c", ["-std=gnu11", "-DBYTES=24", *kind], ["60", "1"], ".*, nothing found") for kind in ([], ["-DBOARD", "-DTRIPLE"])],
+        ("shared_steps.c", ["-std=gnu11", "-DBYTES=24"], [], ".*, nothing found"),
+    ]
+
+    def __init__(self, folder, library, _):
+        os.makedirs(folder)
+        self.folder, self.library = folder, library
+
+    def refused_by(self, mutant):
+        with open(f"{self.folder}/nidzaru_shared.h", "w", encoding="utf-8") as file:
+            file.write(mutant.made)
+        for source, words, its_words, wanted in self.TESTS:
+            built = ["gcc", "-O2", "-w", "-pthread", *words, "-I", self.folder, "-I", f"{TOP}/c", f"{TOP}/c/tests/{source}", self.library]
+            if planted_log.call([*built, "-o", f"{self.folder}/program"])[0]:
+                return None
+            status, said = planted_log.call([f"{self.folder}/program", *its_words])
+            if status or not re.fullmatch(wanted, (said.split("\n")[-2:-1] or [""])[0]):
+                return source
+        return ""
+
+
 class ConverterRoom:
     """The converters, by their histories, and what is joined and recorded."""
 
@@ -194,6 +223,15 @@ class ConverterRoom:
         self.histories = {"recorder.py": [], "join.py": []}.get(name, [it for it in every if name in ("lines.py", "edn.py") or it.startswith(name[:-3])])
         self.others = ["joined"] * (name in ("lines.py", "join.py")) + ["recorded"] * (name == "recorder.py")
 
+    def fails(self, check, name):
+        """Whether a history doesn't pass; that its test itself breaks off is a failure, too."""
+        try:
+            if name == "streams":
+                return check.faults_of_streams()
+            return check.faults_of_short(name) if name in conversions.ALL else check.faults_of_file(name)
+        except (OSError, ValueError, LookupError, TypeError, lines.Refused) as why:
+            return [str(why)]
+
     def refused_by(self, mutant):
         place = f"{self.folder}/{os.path.basename(mutant.path)}"
         with open(place, "w", encoding="utf-8") as file:
@@ -201,9 +239,7 @@ class ConverterRoom:
         check = converters.Converter(self.folder, None)
         try:
             for name in self.histories:
-                faults = check.faults_of_streams if name == "streams" else None
-                faults = faults or ((lambda: check.faults_of_short(name)) if name in conversions.ALL else (lambda: check.faults_of_file(name)))
-                if faults():
+                if self.fails(check, name):
                     return name
             for name in self.others:
                 if not planted_converters.passes(self.folder, [name])[0]:
@@ -216,11 +252,13 @@ class ConverterRoom:
 def room_for(path):
     if path.startswith("tools/convert/"):
         return ConverterRoom
+    if path == "c/nidzaru_shared.h":
+        return SharedRoom
     return LogRoom if path in (planted_log.H, planted_log.RUST) else HeaderRoom
 
 
 def try_file(path, words, folder):
-    """Tries the edits of a file, and tells of those that get through."""
+    """Tries the edits of a file, tells of those that get through, and says how many they are."""
     tried = mutants(path)
     random.Random(words.seed).shuffle(tried)
     tried = tried[: words.most] if words.most else tried
@@ -231,17 +269,17 @@ def try_file(path, words, folder):
     def work(mutant):
         room = rooms.get()
         try:
-            return room.refused_by(mutant)
-        except SyntaxError:
-            return None
+            by = room.refused_by(mutant)
         finally:
             rooms.put(room)
+        if by == "":
+            print(mutant.told, flush=True)
+        return by
 
     with concurrent.futures.ThreadPoolExecutor(words.jobs) as pool:
         found = list(pool.map(work, tried))
-    through = sorted(mutant.told for mutant, by in zip(tried, found) if by == "")
-    print("\n".join([*through, f"{path}: {len(tried)} of {len(mutants(path))} edits: {found.count(None)} can't be built, {len(through)} get through"]), flush=True)
-    return len(through)
+    print(f"{path}: {len(tried)} of {len(mutants(path))} edits: {found.count(None)} can't be built, {found.count('')} get through", flush=True)
+    return found.count("")
 
 
 def main():
@@ -252,8 +290,12 @@ def main():
     parser.add_argument("--jobs", type=int, default=int(os.environ.get("RT_JOBS") or os.cpu_count() or 1))
     parser.add_argument("files", nargs="+", metavar="FILE")
     words = parser.parse_args()
-    if not words.library and any(room_for(path) is HeaderRoom for path in words.files):
-        parser.error("c/nidzaru.h, c/nidzaru.hpp and the crate need --library")
+    if not words.library and any(room_for(path) in (HeaderRoom, SharedRoom) for path in words.files):
+        parser.error("c/nidzaru.h, c/nidzaru.hpp, c/nidzaru_shared.h and the crate need --library")
+    planted.LONGEST = planted_log.LONGEST = converters.LONGEST = 30
+    # (what takes all memory has failed, too; ThreadSanitizer maps more than there is)
+    if not any(room_for(path) is HeaderRoom for path in words.files):
+        resource.setrlimit(resource.RLIMIT_AS, (4 << 30, 4 << 30))
     with tempfile.TemporaryDirectory() as folder:
         return 1 if sum(try_file(path, words, folder) for path in words.files) else 0
 

@@ -8,13 +8,9 @@
 #include <signal.h>
 #include <stdio.h>
 #include <stdlib.h>
+#include "shared_cells.h"
 
-#ifndef BYTES
-#define BYTES 24
-#endif
-enum { WORDS = BYTES / 8, BEFORE = 16, AFTER = 6 };
-
-struct record { uint64_t words[WORDS]; };
+enum { BEFORE = 16, AFTER = 6 };
 
 static sigjmp_buf out;
 static volatile sig_atomic_t armed, left;
@@ -44,15 +40,8 @@ static void walk(void) { __asm__ volatile("pushfq; andq $~0x100,(%%rsp); popfq" 
 #define CUT(call)                                                                                                     \
     (left = cut_after, sigsetjmp(out, 1) ? (walk(), 1) : (armed = 1, step(), (void)!(call), walk(), armed = 0, 0))
 
-static struct record record_of(uint64_t n) {
-    struct record item;
-    for (size_t k = 0; k < WORDS; k++) item.words[k] = n * 1000 + k;
-    return item;
-}
-
 static uint64_t which(const struct record *item) {
-    for (size_t k = 0; k < WORDS; k++)
-        if (item->words[k] != item->words[0] + k || item->words[0] % 1000) fails("a torn record");
+    if (is_torn(item) || item->words[0] % 1000) fails("a torn record");
     return item->words[0] / 1000;
 }
 
@@ -71,12 +60,6 @@ static uint64_t planted;
 #endif
 
 #ifdef BOARD
-#ifdef TRIPLE
-NIDZARU_TRIPLE_BOARD(cell, struct record);
-#else
-NIDZARU_BOARD(cell, struct record);
-#endif
-
 static cell_place places[2];
 static nidzaru_stamp highest;
 static uint64_t written;
@@ -142,11 +125,9 @@ static const char *const calls[] = {"read", "write"};
 enum { CALLS = 2 };
 #else
 #ifdef TRIPLE
-NIDZARU_TRIPLE_REGISTER(cell, struct record);
 NIDZARU_LOAN(cell);
 static const char *const calls[] = {"read", "write", "look", "publish"};
 #else
-NIDZARU_REGISTER(cell, struct record);
 static const char *const calls[] = {"read", "write", "look"};
 #endif
 enum { CALLS = sizeof calls / sizeof *calls };

@@ -8,12 +8,15 @@ fail by one of its checks over the edited ones; that it can't be built doesn't c
 
 import os
 import re
+import signal
 import subprocess
 import sys
 import tempfile
 
 TOP = os.path.dirname(os.path.dirname(os.path.dirname(os.path.realpath(__file__))))
 H, RUST = "c/nidzaru_log.h", "rust/nidzaru/src/log.rs"
+# So many seconds a test may take.
+LONGEST = 120
 C11 = ["gcc", "-std=c11", "-D_POSIX_C_SOURCE=200809L", "-O0", "-w", "-pthread"]
 # Tests in C: the source, the words of the compiler, and those of the program.
 PROGRAMS = {
@@ -188,11 +191,15 @@ PLANTED = [
 
 
 def call(command, **more):
-    try:
-        done = subprocess.run(command, capture_output=True, text=True, errors="replace", timeout=120, check=False, **more)
-    except subprocess.TimeoutExpired:
-        return 124, "it didn't end"
-    return done.returncode, done.stdout + done.stderr
+    """The status and what was said; what doesn't end is killed with all that it began."""
+    with subprocess.Popen(command, stdout=subprocess.PIPE, stderr=subprocess.PIPE, text=True, errors="replace", start_new_session=True, **more) as it:
+        try:
+            out, err = it.communicate(timeout=LONGEST)
+        except subprocess.TimeoutExpired:
+            os.killpg(it.pid, signal.SIGKILL)
+            it.communicate()
+            return 124, "it didn't end"
+        return it.returncode, out + err
 
 
 class Room:

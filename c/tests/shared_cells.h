@@ -1,5 +1,5 @@
-/* What the tests of killed processes share: a record of BYTES bytes, whose words are a number and those that follow it, and the register or
- * board that they kill over, by -DTRIPLE and -DBOARD. */
+/* What the tests of killed processes and of cut-off calls share: a record of BYTES bytes, whose words are a number and those that follow it,
+ * and the register or board that they end over, by -DTRIPLE and -DBOARD. */
 #ifndef NIDZARU_TESTS_SHARED_CELLS_H
 #define NIDZARU_TESTS_SHARED_CELLS_H
 
@@ -22,19 +22,24 @@ static int is_torn(const struct record *item) {
     return 0;
 }
 
-#ifdef BOARD
-#ifdef TRIPLE
+/* The record of the n-th write has n times 1000 and the following numbers in its words. */
+static inline struct record record_of(uint64_t n) {
+    return record_from(n * 1000);
+}
+
+#if defined BOARD && defined TRIPLE
 NIDZARU_TRIPLE_BOARD(cell, struct record);
-#else
+#elif defined BOARD
 NIDZARU_BOARD(cell, struct record);
-#endif
-NIDZARU_SHARED_BOARD(cell, BOARD_PLACES);
-#else
-#ifdef TRIPLE
+#elif defined TRIPLE
 NIDZARU_TRIPLE_REGISTER(cell, struct record);
 #else
 NIDZARU_REGISTER(cell, struct record);
 #endif
+
+#if defined NIDZARU_SHARED_BOARD && defined BOARD
+NIDZARU_SHARED_BOARD(cell, BOARD_PLACES);
+#elif defined NIDZARU_SHARED_REGISTER
 NIDZARU_SHARED_REGISTER(cell);
 #endif
 

@@ -27,11 +27,6 @@ static void fails(const char *why) {
 
 #define DO(call) do { if (call) fails(#call); } while (0)
 
-/* The record of the n-th write has n times 1000 and the following numbers in its words. */
-static struct record record_of(uint64_t n) {
-    return record_from(n * 1000);
-}
-
 static uint64_t which(const struct record *item) {
     if (is_torn(item) || item->words[0] % 1000) fails("a torn record");
     return item->words[0] / 1000;

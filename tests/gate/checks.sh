@@ -109,6 +109,24 @@ else
     fail "planted: another script's failures are counted" "$told"
 fi
 
+# What a script leaves behind no other one has, and one that ends early is a failure.
+told=$(
+    mkdir "$room/runs" && room=$room/runs passed=1 failed=1
+    counted=$room/counted
+    printf 'left=behind\npass() {\n    :\n}\nfail a said\n' >"$room/first"
+    printf '[ -n "${left:-}" ] || pass a\n' >"$room/second"
+    printf 'pass a\nexit\n' >"$room/third"
+    for script in first second third; do
+        run "$room/$script"
+    done >/dev/null
+    echo "$passed $failed $(sed 's|.*/||' "$counted" | tr '\n' ' ')"
+)
+if [ "$told" = '2 3 first 1 second 1 third 1 ' ]; then
+    pass "planted: each script has a shell of its own"
+else
+    fail "planted: each script has a shell of its own" "$told"
+fi
+
 # The library counts as proved if both builds pass, each prover's last line has no other word, and the second machine's verdict is of the
 # first one's proofs.
 told=$(

@@ -55,13 +55,13 @@ over_stubs() {
 # Sees that a program that may map so many kilobytes, too few for a thread, ends with status 6 and says so, and prints nothing.
 #   starts_no_thread PROGRAM KILOBYTES INPUT WORDS..
 starts_no_thread() {
-    title="$1 $4 within $2 KB, where a thread can't start"
-    if ! has_program "$1"; then
-        fail "$title" "$1 wasn't built"
-        return
-    fi
     program=$built/$1/out/$1 named=$1 kilobytes=$2 input=$3
     shift 3
+    title="$named $(echo "$*" | sed "s|$room/||g") within $kilobytes KB, where a thread can't start"
+    if ! has_program "$named"; then
+        fail "$title" "$named wasn't built"
+        return
+    fi
     (ulimit -v "$kilobytes" && exec "$program" "$@") <"$input" >"$room/out" 2>"$room/err"
     status=$?
     if [ "$status" = 6 ] && [ ! -s "$room/out" ] && [ "$(cat "$room/err")" = "$named: a thread can't start" ]; then

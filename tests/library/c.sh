@@ -278,8 +278,18 @@ CMAKE
     fi
 }
 
-# (tests/arm.sh takes these functions alone)
-[ -z "$functions_alone" ] || return 0
+# Runs cargo on the crate, without a network and with its work in the room.
+in_rust() {
+    PKG_CONFIG_PATH=$installed/lib/pkgconfig CARGO_TARGET_DIR=$room/target cargo "$@" --offline --quiet --manifest-path "$room/rust/Cargo.toml"
+}
+
+# What a compiler needs for the library that is installed.
+set_flags() {
+    flags=$(PKG_CONFIG_PATH=$installed/lib/pkgconfig pkg-config --cflags --libs nidzaru)
+}
+
+# (tests/arm.sh and tests/library/c_controls.sh take these functions alone)
+[ -z "${functions_alone:-}" ] || return 0
 
 if ! command -v python3 >/dev/null 2>&1; then
     fail "exports of the library for C" "there is no python3"
@@ -295,7 +305,7 @@ if ! ./install "$installed" >"$room/installing" 2>&1; then
     fail "install" "$(tail -n 1 "$room/installing")"
 else
     pass "install"
-    flags=$(PKG_CONFIG_PATH=$installed/lib/pkgconfig pkg-config --cflags --libs nidzaru)
+    set_flags
     for pair in gcc,g++ clang,clang++; do
         c=${pair%,*} cpp=${pair#*,}
         ! command -v "$c" >/dev/null 2>&1 || test_in_c

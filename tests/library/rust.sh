@@ -1,11 +1,6 @@
 # The crate for Rust programs over the installed library, where cargo is: its tests, its documents' examples, and the program that runs
 # until it is told to stop. It names the installed prefix in $installed.
 
-# Runs cargo on the crate, without a network and with its work in the room.
-in_rust() {
-    PKG_CONFIG_PATH=$installed/lib/pkgconfig CARGO_TARGET_DIR=$room/target cargo "$@" --offline --quiet --manifest-path "$room/rust/Cargo.toml"
-}
-
 # Looks for what is newer in the standard library than Rust $1, as the crate's oldest compiler.
 is_as_old() {
     rm -rf "$room/old" && cp -r rust/nidzaru "$room/old" && sed -i "s/^rust-version = .*/rust-version = \"$1\"/" "$room/old/Cargo.toml" \

@@ -19,6 +19,8 @@ sys.path.insert(0, f"{TOP}/tests/programs/reference")
 import conversions  # noqa: E402
 import lines  # noqa: E402
 
+# So many seconds a converter may take.
+LONGEST = 120
 LOGS = {
     "jepsen_register.edn": {"only": "lawful"},
     "jepsen_keys.edn": {"0": "unlawful stale 2 3", "_b": "lawful"},
@@ -53,8 +55,11 @@ class Converter:
     def convert(self, name, *words, text=None):
         command = [sys.executable, "-B", "-S", f"{self.folder}/{name.split('_')[0]}.py", *words]
         text = open(f"{HERE}/{name}", "rb").read() if text is None else text
-        done = subprocess.run(command, input=text, capture_output=True, check=False)
-        return done.returncode, done.stdout.decode(), done.stderr.decode()
+        try:
+            done = subprocess.run(command, input=text, capture_output=True, timeout=LONGEST, check=False)
+        except subprocess.TimeoutExpired:
+            return 124, "", "it didn't end"
+        return done.returncode, done.stdout.decode(errors="replace"), done.stderr.decode(errors="replace")
 
     def planted_in(self, what, text):
         return f"{text} " if self.planted == what else text

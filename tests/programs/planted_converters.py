@@ -103,6 +103,7 @@ PLANTED = [
     ("an end that isn't kept in Python", "recorder.py", "self.last_end = begin if end is None else end", "pass", "recorded"),
     ("a write without an effect in Python", "recorder.py", "if took_effect(given):", "if True:", "recorded"),
     ("a write that failed in Python", "recorder.py", 'self.put("write", begin, None, record)', "pass", "recorded"),
+    ("lines that a killed program loses", "recorder.py", "self.to.flush()", "pass", "recorded"),
     ("a put that failed", "porcupine.py", 'or it.get("Error") or not it.get("Revision"):', "or False:", "porcupine_etcd_failed"),
     ("a put without its revision", "porcupine.py", 'return [[it["Revision"], value[1]]]', "return [[None, value[1]]]", "porcupine_etcd"),
     ("a range of several keys", "porcupine.py", 'if options.get("End") or it["Range"].get("Revision"):', "if False:", "porcupine_etcd_counted"),
@@ -111,7 +112,10 @@ PLANTED = [
 
 
 def run(*words):
-    done = subprocess.run([sys.executable, *words], capture_output=True, text=True, check=False)
+    try:
+        done = subprocess.run([sys.executable, *words], capture_output=True, text=True, timeout=120, check=False)
+    except subprocess.TimeoutExpired:
+        return False, "it didn't end"
     return done.returncode == 0, done.stdout + done.stderr
 
 

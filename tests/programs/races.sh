@@ -141,6 +141,8 @@ printf '{"kind":"race","opening":[0,0,0],"limit":9,"scripts":[["read"],["read"]]
 race_document 16 160 50 >"$room/sixteen.json"
 starts_no_thread fsr 10000 "$room/two.json" race
 starts_no_thread fsr 20000 "$room/sixteen.json" race
+starts_no_thread fsr 10000 /dev/null race "$room/two.json"
+starts_no_thread fsr 10000 /dev/null race -- "$room/two.json"
 
 # The controls: what a race of two tasks with four calls each may tell, limit 2, and with one word changed; and documents that are told
 # otherwise.

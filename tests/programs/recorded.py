@@ -29,9 +29,18 @@ def fail():
     raise ValueError
 
 
+class Kept(io.StringIO):
+    """A stream, and what would stay of it if its program were killed."""
+
+    kept = ""
+
+    def flush(self):
+        self.kept = self.getvalue()
+
+
 def faults_by_hand(recorder):
     """A clock that stands still for a look, and what has to be written. The call of the read looks at the clock, too."""
-    moments, text, faults = iter((10, 20, 20, 30, 35, 40, 50, 60, 70, 80)), io.StringIO(), []
+    moments, text, faults = iter((10, 20, 20, 30, 35, 40, 50, 60, 70, 80)), Kept(), []
     log = recorder.Log(3, text, lambda: next(moments))
     given = [log.write(7, lambda: "done"), log.read(lambda: next(moments), lambda it: 7), log.write(8, lambda: False, bool)]
     for call in (lambda: log.read(fail), lambda: log.write(9, fail)):
@@ -43,8 +52,8 @@ def faults_by_hand(recorder):
     if given != ["done", 35, False]:
         faults.append(f"the calls gave {given}")
     wanted = row(3, "write", 10, 20, 7) + row(3, "read", 30, 40, 7) + row(3, "write", 80, "null", 9)
-    if text.getvalue() != wanted:
-        faults.append(f"by hand: {text.getvalue()}")
+    if text.kept != wanted:
+        faults.append(f"by hand: {text.kept} of {text.getvalue()}")
     return faults
 
 
