@@ -128,6 +128,7 @@ plant_faults() {
     planted '/if (held == 1 &&/d' 'a detach'
     planted 's/    if (block->process == getpid()) return;/    return;/' 'a detach of a child, which has none'
     planted 's/  __atomic_store_n(&item->state, status ? NIDZARU_ITEM_EMPTY : NIDZARU_ITEM_MADE/  __atomic_store_n(\&item->state, NIDZARU_ITEM_MADE/' 'room'
+    catches "an edit of a comment alone" "it isn't seen" planted '1s/ / more /' '.*'
 }
 
 if [ -z "$prefix" ]; then
