@@ -6,8 +6,8 @@
 An operator is turned into its neighbour, a constant is one more, a condition is turned round, a statement is dropped. Each edit stands alone
 in a copy of the file, and the tests of this file run over it, the cheapest first, until one fails. What can't be built counts as neither.
 The files: c/nidzaru.h, c/nidzaru.hpp, c/nidzaru_shared.h and rust/nidzaru/src/*.rs, which need a libnidzaru.a; c/nidzaru_log.h,
-rust/nidzaru/src/log.rs and tools/convert/*.py. With --most so many edits of each file are tried, chosen by the seed. A test that doesn't end
-within some seconds has failed. Each edit that gets through is told by its line; the last lines are the sums.
+rust/nidzaru/src/log.rs and tools/convert/*.py. With --most so many edits of each file are tried, chosen by the seed. A test that takes
+30 processor seconds has failed. Each edit that gets through is told by its line; the last lines are the sums.
 """
 
 import argparse
@@ -17,7 +17,6 @@ import os
 import queue
 import random
 import re
-import resource
 import shutil
 import sys
 import tempfile
@@ -27,7 +26,6 @@ sys.path[:0] = [f"{TOP}/c/tests", f"{TOP}/tests/programs"]
 import converters  # noqa: E402
 import conversions  # noqa: E402
 import edits  # noqa: E402
-import lines  # noqa: E402
 import planted  # noqa: E402
 import planted_converters  # noqa: E402
 import planted_log  # noqa: E402
@@ -168,7 +166,8 @@ class LogRoom:
     def __init__(self, folder, _, path):
         os.makedirs(folder)
         self.room = planted_log.Room(folder)
-        self.tests = ["log.rs", "instructions"] if path.endswith(".rs") else ["stamped", "recorder", "unfenced", "by the clock", "steps"]
+        tests = ["log.rs", "instructions"] if path.endswith(".rs") else ["stamped", "recorder", "unfenced", "by the clock", "steps", *planted_log.ARM_ORDERS]
+        self.tests = [it for it in tests if planted_log.has(it)]
 
     def refused_by(self, mutant):
         with open(f"{self.room.folder}/{os.path.basename(mutant.path)}", "w", encoding="utf-8") as file:
@@ -219,34 +218,21 @@ class ConverterRoom:
         self.folder = f"{folder}/convert"
         shutil.copytree(f"{TOP}/tools/convert", self.folder)
         name = os.path.basename(path)
-        every = [*converters.LOGS, *converters.REFUSED, *conversions.ALL, "streams"]
-        self.histories = {"recorder.py": [], "join.py": []}.get(name, [it for it in every if name in ("lines.py", "edn.py") or it.startswith(name[:-3])])
-        self.others = ["joined"] * (name in ("lines.py", "join.py")) + ["recorded"] * (name == "recorder.py")
-
-    def fails(self, check, name):
-        """Whether a history doesn't pass; that its test itself breaks off is a failure, too."""
-        try:
-            if name == "streams":
-                return check.faults_of_streams()
-            return check.faults_of_short(name) if name in conversions.ALL else check.faults_of_file(name)
-        except (OSError, ValueError, LookupError, TypeError, lines.Refused) as why:
-            return [str(why)]
+        every = [] if name in ("recorder.py", "join.py") else [*converters.LOGS, *converters.REFUSED, *conversions.ALL, "streams"]
+        self.names = [it for it in every if name in ("lines.py", "edn.py") or it.startswith(name[:-3])]
+        self.names += ["joined"] * (name in ("lines.py", "join.py")) + ["recorded"] * (name == "recorder.py")
 
     def refused_by(self, mutant):
+        try:
+            compile(mutant.made, mutant.path, "exec")
+        except SyntaxError:
+            return None
         place = f"{self.folder}/{os.path.basename(mutant.path)}"
         with open(place, "w", encoding="utf-8") as file:
             file.write(mutant.made)
-        check = converters.Converter(self.folder, None)
-        try:
-            for name in self.histories:
-                if self.fails(check, name):
-                    return name
-            for name in self.others:
-                if not planted_converters.passes(self.folder, [name])[0]:
-                    return name
-            return ""
-        finally:
-            shutil.copy(f"{TOP}/{mutant.path}", place)
+        well, _ = planted_converters.passes(self.folder, self.names)
+        shutil.copy(f"{TOP}/{mutant.path}", place)
+        return "" if well else "converters"
 
 
 def room_for(path):
@@ -292,10 +278,9 @@ def main():
     words = parser.parse_args()
     if not words.library and any(room_for(path) in (HeaderRoom, SharedRoom) for path in words.files):
         parser.error("c/nidzaru.h, c/nidzaru.hpp, c/nidzaru_shared.h and the crate need --library")
-    planted.LONGEST = planted_log.LONGEST = converters.LONGEST = 30
     # (what takes all memory has failed, too; ThreadSanitizer maps more than there is)
-    if not any(room_for(path) is HeaderRoom for path in words.files):
-        resource.setrlimit(resource.RLIMIT_AS, (4 << 30, 4 << 30))
+    memory = [] if any(room_for(path) is HeaderRoom for path in words.files) else [f"--as={4 << 30}"]
+    planted.BEFORE = planted_log.BEFORE = planted_converters.BEFORE = ["prlimit", "--cpu=30", *memory]
     with tempfile.TemporaryDirectory() as folder:
         return 1 if sum(try_file(path, words, folder) for path in words.files) else 0
 

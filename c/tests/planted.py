@@ -26,8 +26,8 @@ sys.path.insert(0, HERE)
 import refused  # noqa: E402
 from edits import BOARDS, CLASSES, CRATE, H, HEADER, HPP, LIB, RAW, WATCHED  # noqa: E402
 
-# So many seconds a test may take.
-LONGEST = 240
+# What stands before a command, and so many seconds it may take.
+BEFORE, LONGEST = [], 240
 MEMORY = ["malloc", "realloc", "free"]
 PAUSED = ["8_write", "8_read", "8_look", "triple_8_write", "triple_8_publish", "triple_8_look", "board_24_write", "board_24_read", "board_24_read_since"]
 PAUSED_RUST = [name.replace("8_", "24_") for name in PAUSED]
@@ -129,7 +129,7 @@ class Room:
 
     def call(self, command, **more):
         try:
-            done = subprocess.run(command, capture_output=True, text=True, errors="replace", timeout=LONGEST, check=False, **more)
+            done = subprocess.run([*BEFORE, *command], capture_output=True, text=True, errors="replace", timeout=LONGEST, check=False, **more)
         except subprocess.TimeoutExpired:
             return 124, "it didn't end"
         return done.returncode, done.stdout + done.stderr

@@ -15,8 +15,8 @@ import tempfile
 
 TOP = os.path.dirname(os.path.dirname(os.path.dirname(os.path.realpath(__file__))))
 H, RUST = "c/nidzaru_log.h", "rust/nidzaru/src/log.rs"
-# So many seconds a test may take.
-LONGEST = 120
+# What stands before a command, and so many seconds it may take.
+BEFORE, LONGEST = [], 120
 C11 = ["gcc", "-std=c11", "-D_POSIX_C_SOURCE=200809L", "-O0", "-w", "-pthread"]
 # Tests in C: the source, the words of the compiler, and those of the program.
 PROGRAMS = {
@@ -192,7 +192,7 @@ PLANTED = [
 
 def call(command, **more):
     """The status and what was said; what doesn't end is killed with all that it began."""
-    with subprocess.Popen(command, stdout=subprocess.PIPE, stderr=subprocess.PIPE, text=True, errors="replace", start_new_session=True, **more) as it:
+    with subprocess.Popen([*BEFORE, *command], stdout=subprocess.PIPE, stderr=subprocess.PIPE, text=True, errors="replace", start_new_session=True, **more) as it:
         try:
             out, err = it.communicate(timeout=LONGEST)
         except subprocess.TimeoutExpired:

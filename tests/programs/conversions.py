@@ -120,11 +120,13 @@ JEPSEN = {
     ),
     "kinds_of_values": (
         jepsen("0 invoke write :a", "1 invoke write a", '2 invoke write "a"', "3 invoke write \\a", "4 invoke write 1", "5 invoke write 1.0",
-               "6 invoke write 1M", "7 invoke write true", '8 invoke write "\\u0061\\n"', "9 invoke write [1]"),
+               "6 invoke write 1M", "7 invoke write true", '8 invoke write "\\u0061\\n"', "9 invoke write [1]",
+               "10 invoke write false"),
         {
             "only": log(
                 "lawful", '0 write 0 null ":a"', '1 write 1 null "a"', '2 write 2 null "\\"a\\""', '3 write 3 null "\\\\a"', "4 write 4 null 1",
                 '5 write 5 null "1.0"', '6 write 6 null "1M"', '7 write 7 null "true"', '8 write 8 null "\\"a\\\\n\\""', '9 write 9 null "[1]"',
+                '10 write 10 null "false"',
             )
         },
     ),

@@ -2,16 +2,20 @@
 to come out, with its verdict, and each line that is refused. The logs were written by hand; of a file they are NAME.KEY.jsonl (`only` where
 there is no key). Prints how many there were.
 
-    converters.py [--tools FOLDER] [--planted log|verdict|refusal|history] [NAME..]
+    converters.py [--tools FOLDER] [--here] [--planted log|verdict|refusal|history] [NAME..]
 
-With names those histories alone. With a planted fault one thing that is wanted is changed, and the status has to be 1.
+With names those histories alone. With --here the converters run in this process, which is quicker, until the first fault. With a planted
+fault one thing that is wanted is changed, and the status has to be 1.
 """
 
 import argparse
+import io
 import os
+import runpy
 import subprocess
 import sys
 import tempfile
+import traceback
 
 TOP = os.path.dirname(os.path.dirname(os.path.dirname(os.path.realpath(__file__))))
 HERE = f"{TOP}/tests/programs/histories"
@@ -46,20 +50,52 @@ def text_of(path):
         return file.read()
 
 
+class Called:
+    """A converter's main file as a program of this process: its status, and what it wrote."""
+
+    def __init__(self, path, words, text):
+        # (the tools and the plain judge have a module of the same name)
+        streams, others = (sys.argv, sys.stdin, sys.stdout, sys.stderr), {name: sys.modules.pop(name, None) for name in ("lines", "edn")}
+        out, err = (io.TextIOWrapper(io.BytesIO(), encoding="utf-8") for _ in range(2))
+        sys.argv, sys.stdin, sys.stdout, sys.stderr = [path, *words], io.TextIOWrapper(io.BytesIO(text)), out, err
+        sys.path.insert(0, os.path.dirname(path))
+        try:
+            runpy.run_path(path, run_name="__main__")
+            self.status = 0
+        except SystemExit as ended:
+            self.status = ended.code or 0
+        except Exception:
+            self.status = 1
+            traceback.print_exc(file=err)
+        finally:
+            sys.argv, sys.stdin, sys.stdout, sys.stderr = streams
+            sys.path.pop(0)
+            sys.modules.update({name: it for name, it in others.items() if it})
+        self.out, self.err = (it.flush() or it.buffer.getvalue() for it in (out, err))
+
+
 class Converter:
     """The converters of a folder; `planted` is what is wanted in another way than it comes out."""
 
-    def __init__(self, folder, planted):
-        self.folder, self.planted = folder, planted
+    def __init__(self, folder, planted, here=False):
+        self.folder, self.planted, self.here = folder, planted, here
+        # (a converter may be changed between two calls)
+        sys.dont_write_bytecode = here
+
+    def call(self, name, words, text):
+        path = f"{self.folder}/{name.split('_')[0]}.py"
+        if self.here:
+            done = Called(path, words, text)
+            return done.status, done.out, done.err
+        try:
+            done = subprocess.run([sys.executable, "-B", "-S", path, *words], input=text, capture_output=True, timeout=LONGEST, check=False)
+        except subprocess.TimeoutExpired:
+            return 124, b"", b"it didn't end"
+        return done.returncode, done.stdout, done.stderr
 
     def convert(self, name, *words, text=None):
-        command = [sys.executable, "-B", "-S", f"{self.folder}/{name.split('_')[0]}.py", *words]
-        text = open(f"{HERE}/{name}", "rb").read() if text is None else text
-        try:
-            done = subprocess.run(command, input=text, capture_output=True, timeout=LONGEST, check=False)
-        except subprocess.TimeoutExpired:
-            return 124, "", "it didn't end"
-        return done.returncode, done.stdout.decode(errors="replace"), done.stderr.decode(errors="replace")
+        status, out, err = self.call(name, words, open(f"{HERE}/{name}", "rb").read() if text is None else text)
+        return status, out.decode(errors="replace"), err.decode(errors="replace")
 
     def planted_in(self, what, text):
         return f"{text} " if self.planted == what else text
@@ -133,14 +169,17 @@ def histories(planted):
 def main():
     parser = argparse.ArgumentParser()
     parser.add_argument("--tools", default=f"{TOP}/tools/convert")
+    parser.add_argument("--here", action="store_true")
     parser.add_argument("--planted", choices=("log", "verdict", "refusal", "history"))
     parser.add_argument("names", nargs="*")
     words = parser.parse_args()
-    it, faults, compared = Converter(words.tools, words.planted), [], 0
+    it, faults, compared = Converter(words.tools, words.planted, words.here), [], 0
     for name in words.names or (*LOGS, *REFUSED, *conversions.ALL, "streams"):
         check = it.faults_of_streams if name == "streams" else lambda: it.faults_of_short(name) if name in conversions.ALL else it.faults_of_file(name)
         faults += check()
         compared += 1
+        if faults and words.here:
+            break
     if histories(words.planted) != {*LOGS, *REFUSED}:
         faults.append(f"not compared: {sorted(histories(words.planted) ^ {*LOGS, *REFUSED})}")
     print("\n".join(faults or [f"{compared} histories give what was written by hand"]))

@@ -15,6 +15,8 @@ import tempfile
 
 TOP = os.path.dirname(os.path.dirname(os.path.dirname(os.path.realpath(__file__))))
 TOOLS = f"{TOP}/tools/convert"
+# What stands before a command, and so many seconds it may take.
+BEFORE, LONGEST = [], 120
 
 # The name of an edit, its file, the old text, the new one, and the histories of which one refuses it.
 PLANTED = [
@@ -69,6 +71,7 @@ PLANTED = [
     ("an infinite number in JSON", "porcupine.py", 'if not float("-inf") < float(text) < float("inf"):', "if False:", "porcupine_endless"),
     ("Infinity", "porcupine.py", "parse_constant=refuse", "parse_constant=float", "porcupine_infinite"),
     ("texts as names", "edn.py", "if isinstance(value, Name): return str(value)", "if isinstance(value, str): return str(value)", "jepsen_kinds_of_values"),
+    ("false as true", "edn.py", '"false": False', '"false": True', "jepsen_kinds_of_values"),
     ("letters as texts", "edn.py", "return Name(text) raise NoEdn", "return Text(text[1:])\n        raise NoEdn", "jepsen_kinds_of_values"),
     ("an array of one number", "lines.py", "2 <= len(value) <= 64", "1 <= len(value) <= 64", "jepsen_kinds_of_values"),
     ("a value that is written twice", "lines.py", "elif record in written:", "elif False:", "jepsen_repeated.edn"),
@@ -113,7 +116,7 @@ PLANTED = [
 
 def run(*words):
     try:
-        done = subprocess.run([sys.executable, *words], capture_output=True, text=True, timeout=120, check=False)
+        done = subprocess.run([*BEFORE, sys.executable, *words], capture_output=True, text=True, timeout=LONGEST, check=False)
     except subprocess.TimeoutExpired:
         return False, "it didn't end"
     return done.returncode == 0, done.stdout + done.stderr
@@ -122,7 +125,7 @@ def run(*words):
 def passes(folder, names):
     """Whether these histories pass, and, if they are among them, what is joined and what is recorded in Python."""
     histories = [name for name in names if name not in ("joined", "recorded")]
-    well, said = run(f"{TOP}/tests/programs/converters.py", "--tools", folder, *histories) if histories else (True, "")
+    well, said = run(f"{TOP}/tests/programs/converters.py", "--here", "--tools", folder, *histories) if histories else (True, "")
     if well and "recorded" in names:
         well, said = run(f"{TOP}/tests/programs/recorded.py", "--tool", folder)
     if well and "joined" in names:
