@@ -3,8 +3,9 @@
 
     tools/mutate.py [--library LIBRARY] [--most N] [--seed SEED] [--jobs JOBS] FILE..
 
-An operator is turned into its neighbour, a constant is one more, a condition is turned round, a statement is dropped. Each edit stands alone
-in a copy of the file, and the tests of this file run over it, the cheapest first, until one fails. What can't be built counts as neither.
+An operator is turned into its neighbour, a constant is one more, a condition is turned round, a statement is dropped. Each edit stands
+alone in a copy of the file, and the tests of this file run over it, the cheapest first, until one fails. What can't be built counts as
+neither.
 The files: c/nidzaru.h, c/nidzaru.hpp, c/nidzaru_shared.h and rust/nidzaru/src/*.rs, which need a libnidzaru.a; c/nidzaru_log.h,
 rust/nidzaru/src/log.rs and tools/convert/*.py. With --most so many edits of each file are tried, chosen by the seed. A test that takes
 30 processor seconds has failed. Each edit that gets through is told by its line; the last lines are the sums.
@@ -32,12 +33,13 @@ import planted_log  # noqa: E402
 
 # What becomes of an operator; those of one sign stand between blanks.
 OPERATORS = {
-    "==": "!=", "!=": "==", "<=": "<", ">=": ">", " < ": " <= ", " > ": " >= ", "&&": "||", "||": "&&", " + ": " - ", " - ": " + ", " * ": " + ",
-    " & ": " | ", " | ": " & ", " ^ ": " & ", "<<": ">>", ">>": "<<", " % ": " / ", " / ": " * ", "++": "--", " += ": " -= ", " -= ": " += ",
+    "==": "!=", "!=": "==", "<=": "<", ">=": ">", " < ": " <= ", " > ": " >= ", "&&": "||", "||": "&&", "<<": ">>", ">>": "<<",
+    " + ": " - ", " - ": " + ", " * ": " + ", " % ": " / ", " / ": " * ", "++": "--", " += ": " -= ", " -= ": " += ",
+    " & ": " | ", " | ": " & ", " ^ ": " & ",
 }
 PYTHON = {
-    ast.Eq: "!=", ast.NotEq: "==", ast.Lt: "<=", ast.LtE: "<", ast.Gt: ">=", ast.GtE: ">", ast.Is: "is not", ast.IsNot: "is", ast.In: "not in",
-    ast.NotIn: "in", ast.Add: "-", ast.Sub: "+", ast.Mult: "+", ast.Mod: "+", ast.And: "or", ast.Or: "and",
+    ast.Eq: "!=", ast.NotEq: "==", ast.Lt: "<=", ast.LtE: "<", ast.Gt: ">=", ast.GtE: ">", ast.Is: "is not", ast.IsNot: "is",
+    ast.In: "not in", ast.NotIn: "in", ast.Add: "-", ast.Sub: "+", ast.Mult: "+", ast.Mod: "+", ast.And: "or", ast.Or: "and",
 }
 
 
@@ -50,7 +52,8 @@ def hidden(text):
     def blank(found):
         return re.sub(r"[^\n]", " ", found[0])
 
-    told = r'/\*.*?\*/|//[^\n]*|"(?:\\.|[^"\\\n])*"|\'(?:\\.|[^\'\\\n])\'|^[ \t]*#[ \t]*(?:include|if|ifdef|ifndef|elif|else|endif|error|pragma)\b[^\n]*'
+    told = r'/\*.*?\*/|//[^\n]*|"(?:\\.|[^"\\\n])*"|\'(?:\\.|[^\'\\\n])\''
+    told += r"|^[ \t]*#[ \t]*(?:include|if|ifdef|ifndef|elif|else|endif|error|pragma)\b[^\n]*"
     return re.sub(told, blank, text, flags=re.S | re.M)
 
 
@@ -61,13 +64,14 @@ def edits_of_signs(text):
         for found in re.finditer(re.escape(old), seen):
             yield found.start(), found.end(), new
     for found in re.finditer(r"(?<![\w.])(0x[0-9a-fA-F]+|\d[\d_]*)(?=[uUlL]*\b|_?usize|_?u64)", seen):
-        yield found.start(), found.end(), hex(int(found[0], 16) + 1) if found[0].startswith("0x") else str(int(found[0].replace("_", "")) + 1)
+        is_hex = found[0].startswith("0x")
+        yield found.start(), found.end(), hex(int(found[0], 16) + 1) if is_hex else str(int(found[0].replace("_", "")) + 1)
     for found in re.finditer(r"(?<![\w=!)])!(?=[\w(*])", seen):
         yield found.start(), found.end(), ""
     for found in re.finditer(r"(?<=\bif \()(?=[^()\n]*(?:\([^()\n]*\)[^()\n]*)*\)\s)", seen):
         yield found.start(), found.end(), "!!0 && "
     for found in re.finditer(r"(?<=[;{})])([ \t\\\n]+)((?:return|goto|break|continue|\*|[a-zA-Z_(])[^;{}#]*);", seen):
-        if not re.match(r"(?:static|const|struct|enum|typedef|extern|use|mod|pub|let|using|return)\b", found[2]) or "return" in found[2][:6]:
+        if not re.match(r"(?:static|const|struct|enum|typedef|extern|use|mod|pub|let|using)\b", found[2]):
             yield found.start(2), found.end(2), ""
 
 
@@ -121,8 +125,9 @@ class Mutant:
 
     def __init__(self, path, text, begin, end, new):
         self.path, self.made = path, text[:begin] + new + text[end:]
-        line, old = text[:begin].count("\n") + 1, " ".join(text[begin:end].split())
-        self.told = f"{path}:{line}: {old or '(nothing)'} as {' '.join(new.split()) or '(nothing)'}, in: {' '.join(text.split(chr(10))[line - 1].split())[:100]}"
+        line, old, new = text[:begin].count("\n") + 1, " ".join(text[begin:end].split()), " ".join(new.split())
+        whole = " ".join(text.split("\n")[line - 1].split())
+        self.told = f"{path}:{line}: {old or '(nothing)'} as {new or '(nothing)'}, in: {whole[:100]}"
 
 
 def mutants(path):
@@ -140,24 +145,31 @@ class HeaderRoom:
 
     def __init__(self, folder, library, path):
         self.room = planted.Room(folder, library)
-        rows = {"c/nidzaru.h": edits.HEADER, "c/nidzaru.hpp": edits.CLASSES}.get(path, edits.CRATE)
-        named = list(dict.fromkeys(row[3] if len(row[2]) > 1 and path.startswith("c/") else row[4] for row in rows))
-        slow = ("races", "pairs", "seen", "watched", "loaned, watched", "led", "release", "crate_release", "doc", "lib --release")
-        self.tests = sorted(named, key=lambda it: it.startswith(slow))
+        rows = {"c/nidzaru.h": edits.HEADER, "c/nidzaru.hpp": edits.CLASSES}.get(path)
+        named = dict.fromkeys([row[3] for row in rows] if rows else [row[4] for row in edits.CRATE])
+        later = ("refused", "led", "watched", "loaned, watched", "pairs", "seen", "doc", "lib --", "races", "release", "crate_release")
+        self.tests = sorted(named, key=lambda it: next((place for place, begin in enumerate(later, 1) if it.startswith(begin)), 0))
 
     def refused_by(self, mutant):
-        place = f"{self.room.folder}/{mutant.path}" if mutant.path.startswith("c/") else f"{self.room.crate}/{mutant.path.removeprefix('rust/nidzaru/')}"
-        for test in self.tests:
-            self.room.is_edited, self.room.built = True, {}
-            with open(place, "w", encoding="utf-8") as file:
-                file.write(mutant.made)
-            built, passed, said = self.room.test(test)
+        name = mutant.path.removeprefix("rust/nidzaru/")
+        place = f"{self.room.folder}/{name}" if mutant.path.startswith("c/") else f"{self.room.crate}/{name}"
+        try:
+            for test in self.tests:
+                # (a test may make an edit of its own, and what is built is used by others)
+                if test in ("release", "crate_release"):
+                    self.room.restore()
+                if not self.room.is_edited:
+                    self.room.is_edited, self.room.built = True, {}
+                    with open(place, "w", encoding="utf-8") as file:
+                        file.write(mutant.made)
+                built, passed, _ = self.room.test(test)
+                if not built and not test.startswith(("edges", "board_edges", "objects")):
+                    return None
+                if not passed:
+                    return test
+            return ""
+        finally:
             self.room.restore()
-            if not built and not test.startswith(("edges", "board_edges", "objects")):
-                return None
-            if not passed:
-                return test
-        return ""
 
 
 class LogRoom:
@@ -166,8 +178,8 @@ class LogRoom:
     def __init__(self, folder, _, path):
         os.makedirs(folder)
         self.room = planted_log.Room(folder)
-        tests = ["log.rs", "instructions"] if path.endswith(".rs") else ["stamped", "recorder", "unfenced", "by the clock", "steps", *planted_log.ARM_ORDERS]
-        self.tests = [it for it in tests if planted_log.has(it)]
+        in_c = ["stamped", "recorder", "unfenced", "by the clock", "steps", *planted_log.ARM_ORDERS]
+        self.tests = [it for it in (["log.rs", "instructions"] if path.endswith(".rs") else in_c) if planted_log.has(it)]
 
     def refused_by(self, mutant):
         with open(f"{self.room.folder}/{os.path.basename(mutant.path)}", "w", encoding="utf-8") as file:
@@ -190,7 +202,8 @@ class SharedRoom:
     # What is built, and what its last line says when it gets these words.
     TESTS = [
         ("shared.c", ["-std=c11", "-D_GNU_SOURCE", "-Wl,--wrap=malloc,--wrap=free"], [], "each refusal is by its name"),
-        *[("shared_kills.c", ["-std=gnu11", "-DBYTES=24", *kind], ["60", "1"], ".*, nothing found") for kind in ([], ["-DBOARD", "-DTRIPLE"])],
+        *[("shared_kills.c", ["-std=gnu11", "-DBYTES=24", *kind], ["60", "1"], ".*, nothing found")
+          for kind in ([], ["-DBOARD", "-DTRIPLE"])],
         ("shared_steps.c", ["-std=gnu11", "-DBYTES=24"], [], ".*, nothing found"),
     ]
 
@@ -264,7 +277,8 @@ def try_file(path, words, folder):
 
     with concurrent.futures.ThreadPoolExecutor(words.jobs) as pool:
         found = list(pool.map(work, tried))
-    print(f"{path}: {len(tried)} of {len(mutants(path))} edits: {found.count(None)} can't be built, {found.count('')} get through", flush=True)
+    print(f"{path}: {len(tried)} of {len(mutants(path))} edits: {found.count(None)} can't be built, {found.count('')} get through",
+          flush=True)
     return found.count("")
 
 
