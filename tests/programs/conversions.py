@@ -130,6 +130,10 @@ JEPSEN = {
             )
         },
     ),
+    "same_fraction": (
+        jepsen("0 invoke write 10.0", "0 ok write 10.0", "1 invoke read nil", "1 ok read 1e1"),
+        {"only": log("lawful", '0 write 0 1 "10.0"', '1 read 2 3 "10.0"')},
+    ),
     "endless": (jepsen("0 invoke write 1", "1 invoke write 1e999"), "line 2: a number that is too large"),
     "long_number": (jepsen("0 invoke write " + "7" * 5000), "line 1: a number that is too large"),
     "deep": (jepsen("0 invoke write 1") + "[" * 3000, "line 2: nested too deep"),

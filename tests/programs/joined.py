@@ -1,4 +1,5 @@
-"""What tools/convert/join.py makes of several files: texts and refusals by hand, and random logs of right registers by two clocks.
+"""What tools/convert/join.py makes of several files: texts, what threads left and refusals by hand, and random logs of right registers by two
+clocks.
 
     joined.py [--logs NUMBER] [--tool FILE]
 
@@ -10,6 +11,7 @@ import argparse
 import json
 import os
 import random
+import struct
 import subprocess
 import sys
 import tempfile
@@ -30,9 +32,19 @@ def done(ops):
     return f'{{"kind":"done","ops":{ops}}}\n'
 
 
+def left(operations, under_way=(0, 0, 0, 0, 0, 0), room=None, count=None, lost=0, unpaired=0):
+    """What thread 4 left in a file, as nidzaru_log.h has it; an operation is its kind, times, number and hash, and so is the one under way,
+    with its place behind them."""
+    room, count = room or len(operations), len(operations) if count is None else count
+    state = struct.pack("=8s7Q6Q16x", b"nidzaru\1", 4, room, count, lost, unpaired, 0, 0, *under_way)
+    return state + b"".join(struct.pack("=5Q", *it) for it in operations) + bytes(40 * (room - len(operations)))
+
+
 WRITES = row(0, "write", 100, 110, 1) + row(0, "write", 200, 210, 2)
 READS = row(1, "read", 150, 160, 1) + row(1, "read", 190, 195, 1) + row(1, "read", 600, 610, 2)
-# The words, the files' texts, and what has to come: a text, or what stands behind `join: FILE` on standard error.
+LEFT = [(1, 5, 9, 1, 77), (2, 10, 12, 1, 77)]
+LEFT_ROWS = row(4, "write", 5, 9, [1, 77]) + row(4, "read", 10, 12, [1, 77])
+# The words, the files' texts or bytes, and what has to come: a text, or what stands behind `join: FILE` on standard error.
 BY_HAND = [
     ([], [HEAD + WRITES + done(2), READS], HEAD + row(0, "write", 100, 110, 1) + row(1, "read", 150, 160, 1) + row(1, "read", 190, 195, 1)
      + row(0, "write", 200, 210, 2) + row(1, "read", 600, 610, 2) + done(5)),
@@ -54,6 +66,16 @@ BY_HAND = [
     ([], [HEAD + WRITES, row(0, "read", 600, 610, 2)], ": its task 0 is in "),
     ([], [HEAD + WRITES + done(1)], ":4: there are 2 operations"),
     ([], [HEAD + WRITES + HEAD], ":4: a header behind the first line"),
+    # a write, and a read of it; then what was under way: a write that hadn't ended, one that had, a read, and nothing that is known
+    ([], [HEAD, left(LEFT)], HEAD + LEFT_ROWS + done(2)),
+    ([], [HEAD, left(LEFT, (1, 20, 0, 2, 88, 2), room=9)], HEAD + LEFT_ROWS + row(4, "write", 20, None, [2, 88]) + done(3)),
+    *[([], [HEAD, left(LEFT, under_way)], HEAD + LEFT_ROWS + done(2))
+      for under_way in ((1, 10, 0, 1, 77, 1), (2, 20, 0, 2, 88, 2), (9, 20, 0, 2, 88, 2))],
+    *[([], [HEAD, block], ": a log that was cut off")
+      for block in (left(LEFT)[:-1], left(LEFT) + b"\0", left(LEFT)[:100], left(LEFT, count=3), left(LEFT, room=3)[:-40])],
+    ([], [HEAD, left(LEFT, lost=1)], ": 1 operations had no room, and 0 began or ended out of turn"),
+    ([], [HEAD, left(LEFT, unpaired=1)], ": 0 operations had no room, and 1 began or ended out of turn"),
+    *[([], [HEAD, left([operation])], ": this is no log") for operation in ((0, 5, 9, 1, 77), (4, 5, 9, 1, 77), (1, 9, 5, 1, 77))],
     ([], [HEAD + "{\n"], ":2: not JSON"),
     ([], [HEAD + "7\n"], ":2: this is no object"),
     ([], [HEAD + '{"who":0}\n'], ":2: this is no operation"),
@@ -67,8 +89,8 @@ class Room:
     def join(self, words, texts):
         paths = [f"{self.folder}/{at}" for at in range(len(texts))]
         for path, text in zip(paths, texts):
-            with open(path, "w", encoding="utf-8") as file:
-                file.write(text)
+            with open(path, "wb") as file:
+                file.write(text if isinstance(text, bytes) else text.encode())
         run = subprocess.run([sys.executable, self.tool, *words, *paths], capture_output=True, text=True, check=False)
         return run.returncode, run.stdout, run.stderr
 
@@ -92,6 +114,20 @@ def faults_by_hand(room):
         elif status != 3 or out or wanted not in err or not err.startswith(f"join: {room.folder}/"):
             return [f"{words} of {texts}: status {status}: {out}{err}"]
     return []
+
+
+def faults_of_streams(room):
+    """A file that isn't there, and a stream that takes nothing."""
+    faults = []
+    with open(f"{room.folder}/whole", "w", encoding="utf-8") as file:
+        file.write(HEAD + WRITES)
+    for name, to, why in (("none", os.devnull, "none: No such file or directory"), ("whole", "/dev/full", "a stream: No space left on device")):
+        if os.path.exists(to):
+            with open(to, "w", encoding="utf-8") as out:
+                run = subprocess.run([sys.executable, room.tool, f"{room.folder}/{name}"], stdout=out, stderr=subprocess.PIPE, text=True, check=False)
+            if run.returncode != 5 or not run.stderr.endswith(f"{why}\n") or run.stderr.count("\n") != 1:
+                faults.append(f"{name}: status {run.returncode}: {run.stderr}")
+    return faults
 
 
 def recorded(random_numbers, count=24):
@@ -146,7 +182,7 @@ def main():
     words = parser.parse_args()
     with tempfile.TemporaryDirectory() as folder:
         room = Room(folder, words.tool)
-        faults = faults_by_hand(room) or faults_of_random(room, words.logs)
+        faults = faults_by_hand(room) or faults_of_streams(room) or faults_of_random(room, words.logs)
     print("\n".join(faults or [f"{len(BY_HAND)} joins as by hand, and {words.logs} random logs by two clocks"]))
     return 1 if faults else 0
 

@@ -52,7 +52,7 @@ class Operations:
             raise lines.Refused(self.path, f"{lost} operations had no room, and {unpaired} began or ended out of turn")
         for at in range(count):
             self.take(who, *OPERATION.unpack_from(block, STATE.size + at * OPERATION.size))
-        if place == count and KINDS[kind] == "write":
+        if (place, kind) == (count, KINDS.index("write")):
             self.take(who, kind, begin, None, number, code)
 
     def take(self, who, kind, begin, end, number, code):
