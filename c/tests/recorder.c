@@ -220,15 +220,26 @@ static void check_spoilt(const char *what, const char *path, size_t at, int byte
     check(nidzaru_log_open_left(&one, path) == NIDZARU_LOG_NO_FILE && !one.state, what);
 }
 
+/* The descriptor that the next file gets. */
+static int next_file(void) {
+    int file = open("/dev/null", O_RDONLY);
+    close(file);
+    return file;
+}
+
 /* What a thread did in a file is there for another one, finished or not. */
 static void check_files(const char *path) {
     size_t state = sizeof(nidzaru_log_state), operation = sizeof(nidzaru_log_operation);
+    int free_file = next_file();
+    void *mapped;
     check(state == 128 && operation == 40, "the sizes that join.py knows");
     check(nidzaru_log_open(&two, 5, 2) == 0 && nidzaru_log_open_file(&one, 3, 9, path) == 0, "a log in a file");
     write_one(&one, first);
     nidzaru_log_begin_write(&one, second[0], second, sizeof second);
     check(one.state->count == 1 && one.state->place == 1, "an operation and one that is under way");
+    mapped = one.state;
     nidzaru_log_close(&one);
+    check(msync(mapped, 1, MS_ASYNC) != 0, "a log that was closed has no place in memory");
     check(nidzaru_log_open_left(&one, path) == 0 && put(1, 0) == 0, "what is left");
     check(!strncmp(text, "{\"who\":3,\"kind\":\"write\",", 24) && strstr(text, "\"end\":null,\"record\":[2,"),
           "a write that ended and one that didn't");
@@ -250,6 +261,8 @@ static void check_files(const char *path) {
     memset(&one, 255, sizeof one);
     check(nidzaru_log_open_file(&one, 3, 9, "/dev/null/none") == NIDZARU_LOG_NO_FILE && !one.state, "no log where there is no file");
     memset(&one, 0, sizeof one);
+    check(nidzaru_log_open_file(&one, 3, 9, "/dev/null") == NIDZARU_LOG_NO_FILE, "a file that takes nothing");
+    check(next_file() == free_file, "a file that stays open");
 }
 #else
 static void check_files(const char *path) { (void)path; }
