@@ -11,3 +11,4 @@ pub mod Passing
 mod Plans
 mod Allowed
 mod SoFar
+mod Together

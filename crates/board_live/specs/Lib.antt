@@ -1,5 +1,6 @@
 pub mod Deals
 pub mod Ends
+pub mod Left
 pub mod Passes
 pub mod Plans
 pub mod Receipts

@@ -10,7 +10,9 @@ use crate::record::{Posted, RecordLaw};
 use cell_contract::Family;
 
 /// The greatest of the own records, of equal stamps that of the smaller process number.
-fn greatest_own<V: RecordLaw, F: Family<Posted<V>>>(passes: &Vec<Pass<V, F>>) -> Posted<V>
+pub(crate) fn greatest_own<V: RecordLaw, F: Family<Posted<V>>>(
+    passes: &Vec<Pass<V, F>>,
+) -> Posted<V>
     requires { 0 < vec_len passes.now }
     ensures { IsGreatest passes.now.items result }
 {

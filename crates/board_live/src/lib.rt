@@ -6,6 +6,7 @@ mod board;
 mod calls;
 mod deals;
 mod ends;
+mod left;
 mod passes;
 mod receipts;
 mod record;

@@ -1,6 +1,7 @@
 pub mod Halves
 pub mod LaneLists
 pub mod LogLaws
+pub mod Left
 pub mod Logged
 pub mod Ordered
 pub mod Runs
@@ -8,4 +9,5 @@ pub mod Works
 pub mod FoundWrites
 pub mod SoundLogs
 pub mod SoundOrders
+pub mod SoundRest
 pub mod SoundRuns

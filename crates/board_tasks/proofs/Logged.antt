@@ -32,7 +32,7 @@ has_by limit process (Write item) seen chosen (Ended p) h = ap stamped (h.2 ∙ 
 
 module _ {V F S T : Type 0} (family : FamilyWords F (Posted V) S T) (obeys : V → Bool) (board : Board V F S T) where
   -- the calls of which a log's entries tell
-  called : (old : Pass V F S T) (es : List (Entry V)) (new : Pass V F S T) (before : List (Called V)) →
+  pub called : (old : Pass V F S T) (es : List (Entry V)) (new : Pass V F S T) (before : List (Called V)) →
       AreCalls family obeys board old es new → HasMade family board old before → (cs : List (Called V)) × EachTells es cs
       × HasMade family board new (before ++ cs)
   called old [] new before h made =

@@ -1,6 +1,8 @@
 pub mod Jobs
 pub mod Lanes
+pub mod Left
 pub mod LogOrders
+pub mod Lost
 pub mod Logs
 pub mod Tasks
 pub mod Worked

@@ -3,12 +3,14 @@ ghost use Rattle.std.specs.Prelude.{◌≡◌, All, IfOk, length, map};
 ghost use Rattle.board_live.specs.Ends.{IsGreatest};
 ghost use Rattle.board_tasks.specs.LogOrders.{LogsInOrder};
 ghost use Rattle.board_tasks.specs.Lanes.{AreLanes};
+ghost use Rattle.board_tasks.specs.Left.{AreAtomicLogsWith, SomeHaveWorked};
 ghost use Rattle.board_tasks.specs.Logs.{Obeys};
 ghost use Rattle.board_tasks.specs.Worked.{AreAtomicLogs, HaveWorked, logs_of};
 
 use crate::lane::{Entry, Lane};
 use board_live::{Board, Pass, Posted, RecordLaw};
 use cell_contract::Family;
+use family_table::left::EndsWithSome;
 use history_core::{Items, Wish};
 use std::alloc::{AllocError, Global};
 
@@ -60,18 +62,13 @@ pub fn into_passes<V: RecordLaw + Drop, F: Family<Posted<V>>>(
     Ok(passes)
 }
 
-/// Ends the board of these lanes. Gives the log of each task, and the last record. The entries of the logs tell of calls that are atomic
-/// by their intervals, so the logs have one order. A refusal drops the board and the lanes.
-pub fn finish_lanes<V: RecordLaw + Drop, F: Family<Posted<V>>>(
+/// The passes of the lanes, and their logs.
+fn all_parts<V: RecordLaw + Drop, F: Family<Posted<V>>>(
     alloc: Global,
-    board: Board<V, F>,
     lanes: Vec<Lane<V, F>>,
-) -> Result<(Vec<Vec<Entry<V>>>, Posted<V>), AllocError>
-    requires { HaveWorked ⟦<F as Family<Posted<V>>>⟧ V.obeys board lanes.items }
-    ensures logs { IfOk result (λ r. map (λ v. v.items) r.0.items ≡ logs_of lanes.items) }
-    ensures last { IfOk result (λ r. IsGreatest (map (λ l. l.pass) lanes.items) r.1) }
-    ensures atomic { IfOk result (λ r. AreAtomicLogs ⟦<F as Family<Posted<V>>>⟧ board lanes.items r.1) }
-    ensures ordered { IfOk result (λ r. LogsInOrder board.first.item board.limit (logs_of lanes.items) r.1) }
+) -> Result<(Vec<Pass<V, F>>, Vec<Vec<Entry<V>>>), AllocError>
+    ensures passes { IfOk result (λ r. r.0.items ≡ map (λ l. l.pass) lanes.items) }
+    ensures logs { IfOk result (λ r. map (λ v. v.items) r.1.items ≡ logs_of lanes.items) }
 {
     let mut lanes = lanes;
     let mut passes = Vec::with_capacity(alloc, lanes.len())?;
@@ -86,5 +83,40 @@ pub fn finish_lanes<V: RecordLaw + Drop, F: Family<Posted<V>>>(
     }
     passes.reverse();
     logs.reverse();
+    Ok((passes, logs))
+}
+
+/// Ends the board of these lanes. Gives the log of each task, and the last record. The entries of the logs tell of calls that are atomic
+/// by their intervals, so the logs have one order. A refusal drops the board and the lanes.
+pub fn finish_lanes<V: RecordLaw + Drop, F: Family<Posted<V>>>(
+    alloc: Global,
+    board: Board<V, F>,
+    lanes: Vec<Lane<V, F>>,
+) -> Result<(Vec<Vec<Entry<V>>>, Posted<V>), AllocError>
+    requires { HaveWorked ⟦<F as Family<Posted<V>>>⟧ V.obeys board lanes.items }
+    ensures logs { IfOk result (λ r. map (λ v. v.items) r.0.items ≡ logs_of lanes.items) }
+    ensures last { IfOk result (λ r. IsGreatest (map (λ l. l.pass) lanes.items) r.1) }
+    ensures atomic { IfOk result (λ r. AreAtomicLogs ⟦<F as Family<Posted<V>>>⟧ board lanes.items r.1) }
+    ensures ordered { IfOk result (λ r. LogsInOrder board.first.item board.limit (logs_of lanes.items) r.1) }
+{
+    let (passes, logs) = all_parts(alloc, lanes)?;
     Ok((logs, board.finish(passes)))
+}
+
+/// Ends the board of the lanes that came back, at least one. Gives the log of each, and the greatest record that one of them has. The
+/// entries of the logs tell of calls that are atomic by their intervals, with some calls of the tasks that were lost, of which each may be
+/// cut off in its last. A refusal drops the board and the lanes.
+pub fn finish_left<V: RecordLaw + Drop, F: EndsWithSome<Posted<V>>>(
+    alloc: Global,
+    board: Board<V, F>,
+    lanes: Vec<Lane<V, F>>,
+) -> Result<(Vec<Vec<Entry<V>>>, Posted<V>), AllocError>
+    requires { SomeHaveWorked ⟦<F as Family<Posted<V>>>⟧ V.obeys board lanes.items }
+    ensures logs { IfOk result (λ r. map (λ v. v.items) r.0.items ≡ logs_of lanes.items) }
+    ensures last { IfOk result (λ r. IsGreatest (map (λ l. l.pass) lanes.items) r.1) }
+    ensures atomic { IfOk result (λ r. AreAtomicLogsWith ⟦<F as Family<Posted<V>>>⟧ board lanes.items) }
+{
+    let (passes, logs) = all_parts(alloc, lanes)?;
+    let last = board.finish_with(alloc, passes)?;
+    Ok((logs, last))
 }

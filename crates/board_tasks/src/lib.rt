@@ -12,6 +12,6 @@ mod tasks;
 
 pub use gate::{CountingGate, Gate, OpenGate, TimedGate, Turn};
 pub use lane::{Entry, Lane, Reply};
-pub use lanes::{finish_lanes, into_passes, make_lanes};
-pub use origin::{HasLog, Origin, check_origin};
+pub use lanes::{finish_lanes, finish_left, into_passes, make_lanes};
+pub use origin::{HasLog, Origin, check_origin, check_origin_beside};
 pub use tasks::run_tasks;

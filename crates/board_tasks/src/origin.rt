@@ -1,6 +1,7 @@
 //! The check of logs: whether every record that a call saw has its origin.
 ghost use Rattle.std.specs.Prelude.{◌≡◌, ℕ, List, map};
 ghost use Rattle.board_tasks.specs.LogOrders.{LogsInOrder};
+ghost use Rattle.board_tasks.specs.Lost.{AreWithoutLost, IsOriginBesideLost};
 ghost use Rattle.board_tasks.specs.declared.origin.Origin.TheVariants.{Sound};
 ghost use Rattle.board_tasks.specs.Origins.{AllKeep, in_order, IsOrigin};
 ghost use Rattle.board_tasks.specs.Told.{AreOfRun};
@@ -10,9 +11,11 @@ use board_live::{Posted, RecordLaw};
 use cell_contract::Family;
 
 mod known;
+mod lost;
 mod rule;
 
 use known::HasOrigin;
+use lost::MayHaveOrigin;
 use rule::{InOrder, first_break};
 
 /// What has a log: a lane, or a list of entries that a program kept itself.
@@ -64,6 +67,34 @@ pub fn check_origin<V: Copy + Eq, L: HasLog<V>>(opening: V, logs: &[L]) -> Origi
         return Origin::Broken { task, call };
     }
     if let Some((task, call)) = first_break(&HasOrigin { opening, logs }, logs) {
+        return Origin::Broken { task, call };
+    }
+    Origin::Sound
+}
+
+/// The same of logs of which some were lost, as those of tasks that never came back: such a log may be empty, and a record whose stamp names
+/// its task may have its origin there. Whether two records have one stamp of a lost task isn't looked at. Logs that are sound are sound
+/// without those that are lost.
+pub fn check_origin_beside<V: Copy + Eq, L: HasLog<V>>(
+    opening: V,
+    logs: &[L],
+    lost: &[bool],
+) -> Origin
+    ensures origin { IsOriginBesideLost V.eq opening lost.now (map L.logged logs.now) result }
+    ensures rest { (whole : _) → IsOrigin V.eq opening whole Sound → AreWithoutLost lost.now whole (map L.logged logs.now)
+        → result ≡ Sound }
+{
+    if let Some((task, call)) = first_break(&InOrder, logs) {
+        return Origin::Broken { task, call };
+    }
+    if let Some((task, call)) = first_break(
+        &MayHaveOrigin {
+            opening,
+            logs,
+            lost,
+        },
+        logs,
+    ) {
         return Origin::Broken { task, call };
     }
     Origin::Sound

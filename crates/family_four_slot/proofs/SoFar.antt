@@ -1,17 +1,19 @@
 -- What one seat is shown of all processes is what all have done so far, by the words of the family.
-use Rattle.std.proofs.Common.{◌≡◌, ◌≢◌, ℕ, ◌<◌, List, [], ◌∷◌, length, refl, sym, ap, ◌∙◌, subst, arith, zero, suc}
-use mathlib.Core.Option.{Option, some, none}
+use Rattle.std.proofs.Common.{◌≡◌, ◌≢◌, ℕ, ◌<◌, List, [], ◌∷◌, length, refl, sym, ap, ◌∙◌, subst}
+use mathlib.Core.Option.{some}
 use lib.ListN.{get_elem?}
 use Rattle.history_core.specs.Registers.{intervals, IsRegular}
 use Rattle.cell_contract.specs.Accesses.{ReadAccesses, WriteAccesses}
+use Rattle.cell_contract.specs.Ends.{Each}
 use Rattle.cell_contract.specs.Plans.{AreSoFar, Doings, doings}
 use Rattle.cell_contract.specs.declared.sight.Sight.TheVariants.{Spent}
 use Rattle.cell_four_slot.specs.Steps.{FourSlotSight}
 use Rattle.family_table.specs.declared.notes.Process.{Process}
 use Rattle.family_table.specs.Ends.{AllSoFar}
+use Rattle.family_table.specs.Left.{AreSoFarWith}
 use Rattle.family_table.specs.Places.{place}
-use Rattle.family_table.specs.Seated.{known_by, number_of, times_of}
-use Rattle.family_table.specs.Views.{no_process}
+use Rattle.family_table.specs.Seated.{AreAmong, known_by, number_of, times_of}
+use Rattle.family_table.proofs.Numbered.{first_there, or_none, there as process_there}
 use Rattle.family_table.proofs.Places.{place_in}
 use Rattle.family_four_slot.specs.declared.family.FourSlotFamily.{FourSlotFamily}
 use Rattle.family_four_slot.specs.Places.{four_slots}
@@ -21,16 +23,6 @@ use Rattle.family_four_slot.specs.Tables.{Done}
 use Rattle.family_four_slot.specs.Words.{reads_from, writes_to}
 use Rattle.family_four_slot.proofs.Calls.{sees_reads, sees_writes}
 
-some_at : {A : Type 0} (xs : List A) (i : ℕ) → i < length xs → (a : A) × (get_elem? xs i ≡ some a)
-some_at [] i l = absurd (omega arith)
-some_at (x ∷ xs) zero l = (x, refl)
-some_at (x ∷ xs) (suc i) l = some_at xs i (omega arith)
-
--- the process at a place
-abbrev pub or_none : {V : Type 0} → Option (Process V) → Process V
-or_none none = no_process
-or_none (some v) = v
-
 module _ {T : Type 0} (plan : T → ℕ → ℕ → ℕ → ℕ → Doings T → Type 0) (o : T) (n limit : ℕ) (ps : List (Process (FourSlotSight T)))
     (all : AllSoFar Spent (four_slots n) (Done o) (IsPlanned plan o limit n) n ps) where
   abbrev pub P : Type 0
@@ -39,14 +31,8 @@ module _ {T : Type 0} (plan : T → ℕ → ℕ → ℕ → ℕ → Doings T →
   abbrev pub at : ℕ → P
   at i = or_none (get_elem? all.processes i)
 
-  placed : (i : ℕ) (v : P) → get_elem? all.processes i ≡ some v → at i ≡ v
-  placed i v e = ap or_none e
-
   there : (i : ℕ) → i < n → get_elem? all.processes i ≡ some (at i)
-  there i l =
-      let many : length all.processes ≡ n = all.many in
-      let w = some_at all.processes i (omega arith) in
-      w.1 ∙ ap some (sym (placed i w.0 w.1))
+  there = process_there Spent (four_slots n) (Done o) (IsPlanned plan o limit n) n ps all
 
   registers : (i j : ℕ) → i < n → j < n → i ≢ j → IsRegular o (writes_to o n (at i) j).items
       (intervals (writes_to o n (at i) j).times.begins (writes_to o n (at i) j).times.ends) (reads_from o n (at j) i).answers
@@ -65,7 +51,7 @@ module _ {T : Type 0} (plan : T → ℕ → ℕ → ℕ → ℕ → Doings T →
       subst (λ (z : WriteAccesses T × ReadAccesses T). IsRegular o z.0.items (intervals z.0.times.begins z.0.times.ends)
       z.1.answers z.1.numbers (intervals z.1.times.begins z.1.times.ends)) (λ x. (sym w x, sym g x)) h
 
-  pub are_so_far : (who : ℕ) (own : Doings T) → done_by o n (at who) ≡ own → AreSoFar (plan o 3 n limit) o n who own
+  abbrev are_so_far : (who : ℕ) (own : Doings T) → done_by o n (at who) ≡ own → AreSoFar (plan o 3 n limit) o n who own
   are_so_far who own known = record {
     steps = all.steps;
     done = λ i. done_by o n (at i);
@@ -77,17 +63,46 @@ module _ {T : Type 0} (plan : T → ℕ → ℕ → ℕ → ℕ → Doings T →
     registers = registers;
   }
 
+-- the process of a seat is that with its number
+module _ {T : Type 0} (plan : T → ℕ → ℕ → ℕ → ℕ → Doings T → Type 0) (f : FourSlotFamily T) (ps : List (Process (FourSlotSight T)))
+    (all : AllSoFar Spent (four_slots (processes_of f)) (Done (opening_of f)) (IsPlanned plan (opening_of f) (limit_of f) (processes_of f))
+    (processes_of f) ps) (s : FourSlotSeat T) (own : IsSeat f s) (a : ℕ) (among : get_elem? ps a ≡ some (known_by s)) where
+  abbrev at_number : ℕ → Process (FourSlotSight T)
+  at_number = at plan (opening_of f) (processes_of f) (limit_of f) ps all
+
+  mine : at_number (number_of s) ≡ known_by s
+  mine = ap at_number (sym own.who) ∙ ap or_none (all.among a (known_by s) among)
+
+  known_of : done_by (opening_of f) (processes_of f) (at_number (number_of s)) ≡ doings (times_of s) (writes_of s) (reads_of s)
+  known_of i = done_by (sym own.opening i) (sym own.processes i) (mine i)
+
+  numbers_of : (i : ℕ) → (reads_from (opening_of f) (processes_of f) (at_number (number_of s)) i).numbers ≡ (reads_of s i).numbers
+  numbers_of i j = (reads_from (sym own.opening j) (sym own.processes j) (mine j) i).numbers
+
 module _ {T : Type 0} (plan : T → ℕ → ℕ → ℕ → ℕ → Doings T → Type 0) (f : FourSlotFamily T) (s : FourSlotSeat T) (own : IsSeat f s)
     (all : AllSoFar Spent (four_slots (processes_of f)) (Done (opening_of f)) (IsPlanned plan (opening_of f) (limit_of f) (processes_of f))
     (processes_of f) (known_by s ∷ [])) where
   pub seat_so_far : AreSoFar (plan (opening_of f) 3 (processes_of f) (limit_of f)) (opening_of f) (processes_of f) (number_of s)
       (doings (times_of s) (writes_of s) (reads_of s))
-  seat_so_far =
-      let o : T = opening_of f in
-      let n : ℕ = processes_of f in
-      let here : at plan o n (limit_of f) (known_by s ∷ []) all (known_by s).who ≡ known_by s =
-      placed plan o n (limit_of f) (known_by s ∷ []) all (known_by s).who (known_by s) (all.among 0 (known_by s) refl) in
-      let mine : at plan o n (limit_of f) (known_by s ∷ []) all (number_of s) ≡ known_by s =
-      ap (at plan o n (limit_of f) (known_by s ∷ []) all) (sym own.who) ∙ here in
-      are_so_far plan o n (limit_of f) (known_by s ∷ []) all (number_of s) (doings (times_of s) (writes_of s) (reads_of s))
-      (λ i. done_by (sym own.opening i) (sym own.processes i) (mine i))
+  seat_so_far = are_so_far plan (opening_of f) (processes_of f) (limit_of f) (known_by s ∷ []) all (number_of s)
+      (doings (times_of s) (writes_of s) (reads_of s)) (known_of plan f (known_by s ∷ []) all s own 0 refl)
+
+-- several seats are shown together, of which there is one
+module _ {T : Type 0} (plan : T → ℕ → ℕ → ℕ → ℕ → Doings T → Type 0) (f : FourSlotFamily T) (seats : List (FourSlotSeat T))
+    (some : 0 < length seats) (own : Each (λ i s. IsSeat f s) seats) (ps : List (Process (FourSlotSight T))) (among : AreAmong ps seats)
+    (all : AllSoFar Spent (four_slots (processes_of f)) (Done (opening_of f)) (IsPlanned plan (opening_of f) (limit_of f) (processes_of f))
+    (processes_of f) ps) where
+  pub seats_so_far : AreSoFarWith (plan (opening_of f) 3 (processes_of f) (limit_of f)) (opening_of f) (processes_of f) number_of
+      times_of writes_of reads_of seats
+  seats_so_far =
+      let first = first_there seats some in
+      let s : FourSlotSeat T = first.0 in
+      let of = among 0 s first.1 in
+      record {
+        one = number_of s;
+        own = doings (times_of s) (writes_of s) (reads_of s);
+        all = are_so_far plan (opening_of f) (processes_of f) (limit_of f) ps all (number_of s)
+            (doings (times_of s) (writes_of s) (reads_of s)) (known_of plan f ps all s (own 0 s first.1) of.0 of.1);
+        each = λ x t e. let b = among x t e in known_of plan f ps all t (own x t e) b.0 b.1;
+        numbers = λ x i t e. let b = among x t e in numbers_of plan f ps all t (own x t e) b.0 b.1 i;
+      }

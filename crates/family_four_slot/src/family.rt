@@ -5,6 +5,7 @@ ghost use Rattle.cell_contract.specs.Running.{last_or};
 ghost use Rattle.cell_contract.specs.Ends.{Each, EachTwo, IsSchedule, IsAtomicCell};
 ghost use Rattle.cell_contract.specs.Plans.{doings, MayRead, MayWrite};
 ghost use Rattle.cell_contract.specs.Rows.{IsReadFrom, IsWriteTo};
+ghost use Rattle.family_table.specs.Left.{AreSoFarWith};
 ghost use Rattle.family_table.specs.Places.{place};
 ghost use Rattle.family_four_slot.specs.FourSlots.{first_view};
 ghost use Rattle.family_table.specs.declared.notes.View.TheVariants.{Has};
@@ -20,6 +21,7 @@ ghost use Rattle.family_four_slot.specs.Seated.{named_by, carried_by, IsTold, th
 use crate::table::{FamilySeat, FamilyTable};
 use cell_contract::{Family, Kept, Planned, Sees, SharedFamily, SoFar};
 use cell_four_slot::{FourSlotSight, bit_of, other_bit, set_bit, slot_of};
+use family_table::left::EndsWithSome;
 use family_table::place;
 use family_table::processes::{ProcessSeat, ProcessTold, gathered, show};
 use std::alloc::{AllocError, Global};
@@ -283,6 +285,21 @@ impl<T: Planned> Family<T> for FourSlotFamily<T> {
 impl<T: Planned> SoFar<T> for FourSlotFamily<T> {
     fn so_far_from(&self, seat: &mut FourSlotSeat<T>) {
         self.table.rows.all_so_far(&mut seat.seat);
+    }
+}
+
+impl<T: Planned> EndsWithSome<T> for FourSlotFamily<T> {
+    fn finish_with(self, seats: Vec<FourSlotSeat<T>>)
+        requires some { 0 < vec_len seats }
+        requires seats { Each (λ i s. IsSeat self s) seats.items }
+        ensures so_far { AreSoFarWith (T.plan (opening_of self) 3 (processes_of self) (limit_of self)) (opening_of self)
+            (processes_of self) number_of times_of writes_of reads_of seats.items }
+    {
+        let FourSlotFamily { table } = self;
+        let FamilyTable { rows } = table;
+        let mut seat = gathered(&rows, seats);
+        rows.all_so_far(&mut seat);
+        rows.close(seat);
     }
 }
 

@@ -4,6 +4,7 @@ pub mod Firsts
 pub mod Frames
 pub mod Gathering
 pub mod Held
+pub mod Numbered
 pub mod Places
 pub mod Plans
 pub mod Receipts

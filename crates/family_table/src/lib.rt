@@ -4,6 +4,8 @@
 //! A family implements `Mechanism`: where its registers lie, which rule each keeps, and what receipts tell of it. `Rows` is then its table,
 //! of which seats are parted and joined, told and shown. The steps of the mechanism stand with it.
 //!
+//! `EndsWithSome` is the family's end with those seats that are left.
+//!
 //! `specs/Family.antt` has the rule that words, slots and seats keep between any two steps, of any rule that one register keeps;
 //! `specs/Layouts.antt` how registers lie in one table, and `specs/Seats.antt` what goes from seat to seat.
 #![tactic(auto)]
@@ -11,6 +13,7 @@
 ghost use Rattle.std.specs.Prelude.{◌≡◌, ◌<◌, ◌≤◌};
 ghost use Rattle.family_table.specs.Places.{place};
 
+pub mod left;
 pub mod mechanism;
 pub mod notes;
 pub mod plays;

@@ -4,6 +4,7 @@ ghost use Rattle.history_core.specs.Schedules.{positions};
 ghost use Rattle.cell_contract.specs.Ends.{Each, EachTwo, IsSchedule, IsAtomicCell};
 ghost use Rattle.cell_contract.specs.Plans.{doings, MayRead};
 ghost use Rattle.cell_contract.specs.Rows.{IsReadFrom};
+ghost use Rattle.family_table.specs.Left.{AreSoFarWith};
 ghost use Rattle.family_table.specs.Places.{place};
 ghost use Rattle.family_table.specs.declared.notes.View.TheVariants.{Has};
 ghost use Rattle.family_triple.specs.Triples.{first_view};
@@ -21,6 +22,7 @@ use crate::slots::{among, newest, take_slots, turn_by};
 use crate::table::{FamilySeat, FamilyTable, slot_place};
 use cell_contract::{Family, Kept, Planned, Sees, SharedFamily, SoFar};
 use cell_triple::TripleSight;
+use family_table::left::EndsWithSome;
 use family_table::place;
 use family_table::processes::{ProcessSeat, ProcessTold, gathered, show};
 use std::alloc::{AllocError, Global};
@@ -258,6 +260,21 @@ impl<T: Planned> Family<T> for TripleFamily<T> {
 impl<T: Planned> SoFar<T> for TripleFamily<T> {
     fn so_far_from(&self, seat: &mut TripleSeat<T>) {
         self.table.rows.all_so_far(&mut seat.seat);
+    }
+}
+
+impl<T: Planned> EndsWithSome<T> for TripleFamily<T> {
+    fn finish_with(self, seats: Vec<TripleSeat<T>>)
+        requires some { 0 < vec_len seats }
+        requires seats { Each (λ i s. IsSeat self s) seats.items }
+        ensures so_far { AreSoFarWith (T.plan (opening_of self) 1 (processes_of self) (limit_of self)) (opening_of self)
+            (processes_of self) number_of times_of writes_of reads_of seats.items }
+    {
+        let TripleFamily { table } = self;
+        let FamilyTable { rows } = table;
+        let mut seat = gathered(&rows, seats);
+        rows.all_so_far(&mut seat);
+        rows.close(seat);
     }
 }
 

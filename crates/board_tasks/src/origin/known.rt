@@ -35,7 +35,11 @@ impl<'a, V: Copy + Eq, L: HasLog<V>> Rule<V> for HasOrigin<'a, V, L> {
 }
 
 /// Whether a record is the opening at stamp 0.0, or was written in the log that its stamp names.
-fn is_known<V: Copy + Eq, L: HasLog<V>>(opening: V, logs: &[L], posted: &Posted<V>) -> bool
+pub(crate) fn is_known<V: Copy + Eq, L: HasLog<V>>(
+    opening: V,
+    logs: &[L],
+    posted: &Posted<V>,
+) -> bool
     requires { AllKeep in_order (map L.logged logs.now) }
     ensures { result ≡ is_known V.eq opening (map L.logged logs.now) posted.now }
 {

@@ -1,7 +1,7 @@
 -- The passes and the logs of the last lanes were taken out.
 use Rattle.std.proofs.Common.{◌≡◌, ◌+◌, length}
 use Rattle.board_live.proofs.Mapping.{MappedFrom}
-use Rattle.board_tasks.proofs.lanes.finish_lanes.Given as goal
+use Rattle.board_tasks.proofs.lanes.all_parts.Given as goal
 
 abbrev pub invariant-loop : goal.invariant-loop
 invariant-loop g l =
