@@ -1,0 +1,3 @@
+-- The laws.
+pub mod Effects
+pub mod Turns

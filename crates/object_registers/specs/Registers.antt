@@ -1,0 +1,39 @@
+-- The steps of two registers: what each holds after an operation, where it may give its answer.
+use Rattle.std.specs.Prelude.{◌≡◌, ℕ, ◌-◌, ◌&&◌, not, nat_eq, cond, List, slice_get, Option, None, Some}
+use Rattle.object_core.specs.declared.operation.Operation.{Operation}
+use Rattle.object_core.specs.Logs.{Precedes}
+use Rattle.object_registers.specs.declared.exchanging.Exchange.{Exchange}
+use Rattle.object_registers.specs.declared.exchanging.Exchange.TheVariants.{Sets, Gets, Swaps, Misses, Finds, Tries}
+use Rattle.object_registers.specs.declared.exchanging.Exchanging.{Exchanging}
+use Rattle.object_registers.specs.declared.limited.Access.{Access}
+use Rattle.object_registers.specs.declared.limited.Access.TheVariants.{Writes, Reads, IsRefused}
+use Rattle.object_registers.specs.declared.limited.Limited.{Limited}
+
+-- a register that refuses writes: only once none is due
+abbrev pub limited_after : Limited → Access → Option Limited
+limited_after s (Writes value) = Some (record { held = value; due = s.due - 1 })
+limited_after s (Reads value) = cond (nat_eq s.held value) (Some s) None
+limited_after s (IsRefused value) = cond (nat_eq s.held value && nat_eq s.due 0) (Some s) None
+
+-- a register with compare-and-set
+abbrev pub exchanging_after : Exchanging → Exchange → Option Exchanging
+exchanging_after s (Sets value) = Some (record { held = value })
+exchanging_after s (Gets value) = cond (nat_eq s.held value) (Some s) None
+exchanging_after s (Swaps from to) = cond (nat_eq s.held from) (Some (record { held = to })) None
+exchanging_after s (Misses from) = cond (nat_eq s.held from) None (Some s)
+exchanging_after s (Finds from found) = cond (nat_eq s.held found && not (nat_eq from found)) (Some s) None
+exchanging_after s (Tries from to) = Some (cond (nat_eq s.held from) (record { held = to }) s)
+
+-- at this place of the log is a write that didn't begin after the operation's end
+abbrev pub IsWriteFor : Operation Access → List (Operation Access) → ℕ → Type 0
+IsWriteFor o log q =
+    (a : Operation Access) × (value : ℕ) × (slice_get log q ≡ Some a) × (¬ Precedes o a) × (a.what ≡ Writes value)
+
+-- what can leave this record where another one was
+abbrev pub Makes : ℕ → Exchange → Type 0
+Makes value (Sets to) = to ≡ value
+Makes value (Gets seen) = ⊥
+Makes value (Swaps from to) = to ≡ value
+Makes value (Misses from) = ⊥
+Makes value (Finds from found) = ⊥
+Makes value (Tries from to) = to ≡ value

@@ -1,0 +1,2 @@
+-- The lock.
+pub mod Effects

@@ -1,0 +1,8 @@
+//! Worked rows of objects, and a lock, which is no register.
+#![tactic(auto)]
+
+mod lock;
+#[cfg(test)]
+mod steps;
+
+pub use lock::{Lock, Turn};
