@@ -4,5 +4,7 @@ pub mod Histories
 pub mod Instances
 pub mod ListLaws
 pub mod Merging
+pub mod OneOrder
 pub mod Reports
+pub mod Standing
 pub mod Timing

@@ -75,7 +75,7 @@ module _ {T : Type 0} where
   pub all_each : (P Q : T → Type 0) → ((x : T) → P x → Q x) → (xs : List T) → All P xs → All Q xs
   all_each P Q f xs h k d l = f (get_or xs k d) (h k d l)
 
-  all_one : (P : T → Type 0) (x : T) → P x → All P (x ∷ [])
+  pub all_one : (P : T → Type 0) (x : T) → P x → All P (x ∷ [])
   all_one P x p zero d l = p
   all_one P x p (suc k) d l = absurd (omega arith)
 

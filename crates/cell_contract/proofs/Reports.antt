@@ -14,33 +14,33 @@ use Rattle.cell_contract.proofs.Merging.{Call, write, read, number_of, index_of,
 use Rattle.cell_contract.proofs.Merging.{merged_writes}
 use Rattle.cell_contract.proofs.Merging.{Before, merged_in_order}
 
-map_at : {A B : Type 0} (f : A → B) (xs : List A) (p : ℕ) (x : A) → slice_get xs p ≡ Some x → slice_get (map f xs) p ≡ Some (f x)
+pub map_at : {A B : Type 0} (f : A → B) (xs : List A) (p : ℕ) (x : A) → slice_get xs p ≡ Some x → slice_get (map f xs) p ≡ Some (f x)
 map_at f [] p x e = absurd (none-some x e)
 map_at f (y ∷ ys) zero x e = ap (λ z. Some (f z)) (same_Some y x e)
 map_at f (y ∷ ys) (suc p) x e = map_at f ys p x e
 
-map_back : {A B : Type 0} (f : A → B) (xs : List A) (p : ℕ) (y : B) → slice_get (map f xs) p ≡ Some y →
+pub map_back : {A B : Type 0} (f : A → B) (xs : List A) (p : ℕ) (y : B) → slice_get (map f xs) p ≡ Some y →
     (x : A) × (slice_get xs p ≡ Some x) × (f x ≡ y)
 map_back f [] p y e = absurd (none-some y e)
 map_back f (x ∷ xs) zero y e = (x, refl, same_Some (f x) y e)
 map_back f (x ∷ xs) (suc p) y e = map_back f xs p y e
 
-map_long : {A B : Type 0} (f : A → B) (xs : List A) → length (map f xs) ≡ length xs
+pub map_long : {A B : Type 0} (f : A → B) (xs : List A) → length (map f xs) ≡ length xs
 map_long f [] = refl
 map_long f (x ∷ xs) = ap suc (map_long f xs)
 
 -- the places from b on
-abbrev upto : ℕ → ℕ → List ℕ
+abbrev pub upto : ℕ → ℕ → List ℕ
 upto b zero = []
 upto b (suc n) = b ∷ upto (b + 1) n
 
-upto_is : (b n i p : ℕ) → slice_get (upto b n) i ≡ Some p → (p ≡ b + i) × (i < n)
+pub upto_is : (b n i p : ℕ) → slice_get (upto b n) i ≡ Some p → (p ≡ b + i) × (i < n)
 upto_is b zero i p e = absurd (none-some p e)
 upto_is b (suc n) zero p e = let s : b ≡ p = same_Some b p e in (omega arith, omega arith)
 upto_is b (suc n) (suc i) p e = let t = upto_is (b + 1) n i p e in let x : p ≡ b + 1 + i = t.0 in
     let y : i < n = t.1 in (omega arith, omega arith)
 
-upto_has : (b n i : ℕ) → i < n → slice_get (upto b n) i ≡ Some (b + i)
+pub upto_has : (b n i : ℕ) → i < n → slice_get (upto b n) i ≡ Some (b + i)
 upto_has b zero i l = absurd (omega arith)
 upto_has b (suc n) zero l = ap (λ z. Some z) (let x : b ≡ b + 0 = omega arith in x)
 upto_has b (suc n) (suc i) l = upto_has (b + 1) n i (omega arith) ∙ ap (λ z. Some z) (let x : b + 1 + i ≡ b + suc i = omega arith in x)
@@ -61,7 +61,7 @@ begins_rise s h same i j a b at there lt =
     omega arith
 
 module _ {T : Type 0} (opening : T) (written : List T) (writes : Times) (answers : List T) (numbers : List ℕ) (reads : Times) where
-  abbrev op_of : Call → Op T
+  abbrev pub op_of : Call → Op T
   op_of (write k) = record {
     who = 0;
     kind = Write;
@@ -84,7 +84,7 @@ module _ {T : Type 0} (opening : T) (written : List T) (writes : Times) (answers
     abbrev number : ℕ → ℕ
     number p = number_or (slice_get calls p)
 
-    write_op : (k : ℕ) → k < length written → IsWriteOp written writes (op_of (write k)) k
+    pub write_op : (k : ℕ) → k < length written → IsWriteOp written writes (op_of (write k)) k
     write_op k l = record {
       kind = refl;
       starts = slice_get-get_or writes.begins k 0 (let a : length writes.begins ≡ length written = h.writes_begun in
@@ -93,7 +93,7 @@ module _ {T : Type 0} (opening : T) (written : List T) (writes : Times) (answers
       item = refl;
     }
 
-    read_op : (m n : ℕ) → m < length answers → IsReadOp answers reads (op_of (read m n)) m
+    pub read_op : (m n : ℕ) → m < length answers → IsReadOp answers reads (op_of (read m n)) m
     read_op m n l = record {
       kind = refl;
       starts = slice_get-get_or reads.begins m 0 (let a : length reads.begins ≡ length answers = h.reads_counted.0 in
@@ -102,7 +102,7 @@ module _ {T : Type 0} (opening : T) (written : List T) (writes : Times) (answers
       item = refl;
     }
 
-    each_of : (c : Call) (n : ℕ) → n ≡ number_of c → IsOf (length written) 0 0 numbers c →
+    pub each_of : (c : Call) (n : ℕ) → n ≡ number_of c → IsOf (length written) 0 0 numbers c →
         ((k : ℕ) × IsWriteOp written writes (op_of c) k × (n ≡ k + 1))
         ⊎ ((m : ℕ) × (a : ℕ) × IsReadOp answers reads (op_of c) m × At numbers m a × (n ≡ a))
     each_of (write k) n e is =
@@ -156,7 +156,7 @@ module _ {T : Type 0} (opening : T) (written : List T) (writes : Times) (answers
         let z : (op_of (read m n)).starts ≤ (op_of (read j a)).starts = omega arith in
         z
 
-    sorted_of : (c d : Call) (x y : ℕ) → x ≡ number_of c → y ≡ number_of d → IsOf (length written) 0 0 numbers c →
+    pub sorted_of : (c d : Call) (x y : ℕ) → x ≡ number_of c → y ≡ number_of d → IsOf (length written) 0 0 numbers c →
         IsOf (length written) 0 0 numbers d → Before c d →
         (x < y) ⊎ ((x ≡ y) × (is_write (op_of d).kind ≡ false) × (is_write (op_of c).kind ≡ false → (op_of c).starts ≤ (op_of d).starts))
     sorted_of c d x y e f ic id (inl lt) = inl (omega arith)

@@ -137,3 +137,10 @@ one_write = record { begins = 1 ∷ []; ends = 3 ∷ []; clock = 3 }
 
 abbrev pub two_reads : Times
 two_reads = record { begins = 2 ∷ 5 ∷ []; ends = 4 ∷ 6 ∷ []; clock = 6 }
+
+-- a write that began at 1 and is under way, and a read from 2 to 4
+abbrev pub write_begun : Times
+write_begun = record { begins = 1 ∷ []; ends = []; clock = 1 }
+
+abbrev pub one_read : Times
+one_read = record { begins = 2 ∷ []; ends = 4 ∷ []; clock = 4 }

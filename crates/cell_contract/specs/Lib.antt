@@ -2,6 +2,7 @@ pub mod Accesses
 pub mod Ends
 pub mod Rows
 pub mod Acts
+pub mod CallsSoFar
 pub mod Histories
 pub mod Intervals
 pub mod Plans

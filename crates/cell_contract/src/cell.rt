@@ -2,6 +2,7 @@
 ghost use Rattle.std.specs.Prelude.{◌≡◌, ℕ, ◌+◌, ◌≤◌, List, [], ◌∷◌, ◌++◌, IfOk};
 ghost use Rattle.std.specs.Fn.{FnOnceTakesAt, FnOnceReturnsAt};
 ghost use Rattle.cell_contract.specs.Running.{IsAnswer, Settled, last_or};
+ghost use Rattle.cell_contract.specs.CallsSoFar.{AreCallsSoFar};
 ghost use Rattle.cell_contract.specs.Intervals.{AreAtomic, AreFirst, AreHeeded, HaveEnded, IsHeard, IsNextAnswer, IsNextCall};
 ghost use Rattle.cell_contract.specs.Intervals.{known_as, no_times, none_known};
 ghost use Rattle.cell_contract.specs.declared.times.Times.{Times};
@@ -130,7 +131,8 @@ pub trait Calls<T: Lawful>: Sized + Drop {
         ensures timed { IsNextCall (get_times get.old) (get_times get.new) }
         ensures numbered { IsNextAnswer (opening self.now) (known get.old) (known get.new) (numbers get.old) (numbers get.new)
             (answers get.new) (get_times get.new) result }
-        ensures heeds { (heard get.new ≡ heard get.old) × AreHeeded (heard get.new) (known get.new) (last_or 0 (numbers get.new)) };
+        ensures heeds { (heard get.new ≡ heard get.old) × AreHeeded (heard get.new) (known get.new) (last_or 0 (numbers get.new)) }
+        ensures so_far { AreCallsSoFar T.fits T.rises (opening self.now) (heard get.new) (answers get.new) (get_times get.new) };
 
     /// Lends the same record where it lies, so that nothing is copied: `look` is called once with it.
     fn read_with<R, F: FnOnce(&T) -> R>(&self, get: &mut Self::Get, look: F) -> R
@@ -146,6 +148,7 @@ pub trait Calls<T: Lawful>: Sized + Drop {
         ensures numbered { IsNextAnswer (opening self.now) (known get.old) (known get.new) (numbers get.old) (numbers get.new)
             (answers get.new) (get_times get.new) (at_hand get.new) }
         ensures heeds { (heard get.new ≡ heard get.old) × AreHeeded (heard get.new) (known get.new) (last_or 0 (numbers get.new)) }
+        ensures so_far { AreCallsSoFar T.fits T.rises (opening self.now) (heard get.new) (answers get.new) (get_times get.new) }
         ensures looked { FnOnceReturnsAt F.FnOnce look (at_hand get.new) result };
 
     /// Gives a receipt for the record that was written last, which carries all the writes: once it is learnt, each answer may stand after

@@ -8,7 +8,7 @@ use Rattle.four_slot_core.specs.declared.state.ReaderStage.TheVariants as reader
 use Rattle.four_slot_core.specs.declared.event.WriteEvent.TheVariants.{W1, W2, W3, W4, W5}
 use Rattle.four_slot_core.specs.declared.event.ReadEvent.TheVariants.{R1, R2, R3, R4, R5}
 use Rattle.four_slot_core.specs.Events.{side, with_side, slot_with, bit_number, slot_number, both}
-use Rattle.cell_contract.specs.Running.{IsAnswer, snap}
+use Rattle.cell_contract.specs.Running.{IsAnswer, Rising, snap}
 use Rattle.cell_contract.specs.Intervals.{begun_at, passed_at, ended_at, heard_at, no_times, none_known, dated_at, known_as, AreHeeded}
 use Rattle.cell_contract.specs.Intervals.{IsNextAnswer}
 use Rattle.cell_contract.specs.declared.times.Dated.{Dated}
@@ -185,12 +185,13 @@ module _ {T : Type 0} where
   HasAnswered g h x = IsNextAnswer g.opening.value g.known h.known g.numbers h.numbers h.answers h.times x
 
   -- the load of the pair's bit, with which the seat takes the slot. What it has is the answer, which heeds each receipt that was learnt.
+  -- The writes shown are all that the writer has begun, and they obey the law
   abbrev pub takes : (T → Type 0) → (T → T → Type 0) → Step T → Sat T → ℕ → Sat T → Type 0
   takes fits rises st m n m' = (g : ReaderNotes T) → m.0 ≡ Reader g
       → (b : Bool) × (x : T) × (n ≡ bit_number b) × (t : ℕ) × (k : ℕ) × (writes : Known T) × (g.times.clock < t)
       × (m'.0 ≡ Reader (got_by g b x t k writes)) × (m'.1 ≡ (slot_number (slot_with g.slot.pair b), x) ∷ [])
       × IsAnswer fits rises g.opening.value g.answers g.told x × HasAnswered g (got_by g b x t k writes) x
-      × AreHeeded g.heard writes k
+      × AreHeeded g.heard writes k × Rising fits rises g.opening.value writes.items
 
   -- the views at the start, those that are parted off and those that are taken in
   abbrev pub first_writer : T → WriterNotes T

@@ -5,6 +5,7 @@ use Rattle.four_slot_core.specs.declared.event.WriteEvent.{WriteEvent}
 use Rattle.four_slot_core.specs.declared.event.ReadEvent.{ReadEvent}
 use Rattle.four_slot_core.specs.declared.event.ReadEvent.TheVariants.{R1, R2, R3, R4, R5}
 use Rattle.cell_contract.specs.Running.{Name, IsName, IsAnswer, last_or, snap}
+use Rattle.cell_contract.specs.CallsSoFar.{AreCallsSoFar}
 use Rattle.cell_contract.specs.Intervals.{AreHeeded, IsNextCall, IsNextAnswer}
 use Rattle.cell_contract.specs.declared.times.Times.{Times}
 use Rattle.cell_contract.specs.declared.times.Known.{Known}
@@ -125,3 +126,4 @@ module _ {T : Type 0} where
     pub numbered : IsNextAnswer (opening_of c) (known_to g) (known_to h) (numbers_of g)
         (numbers_of h) (answers_of h) (get_times h) (at_hand_of h)
     pub heeds : (heard_by h ≡ heard_by g) × AreHeeded (heard_by h) (known_to h) (last_or 0 (numbers_of h))
+    pub so_far : AreCallsSoFar fits rises (opening_of c) (heard_by h) (answers_of h) (get_times h)

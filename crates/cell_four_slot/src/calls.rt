@@ -6,6 +6,7 @@ ghost use Rattle.four_slot_core.specs.declared.event.ReadEvent.TheVariants.{R1, 
 ghost use Rattle.cell_contract.specs.Running.{last_or, IsAnswer, Settled, snap};
 ghost use Rattle.cell_contract.specs.Intervals.{AreAtomic, AreFirst, AreHeeded, HaveEnded, IsHeard, IsNextAnswer, IsNextCall};
 ghost use Rattle.cell_contract.specs.Intervals.{known_as, no_times, none_known};
+ghost use Rattle.cell_contract.specs.CallsSoFar.{AreCallsSoFar};
 ghost use Rattle.cell_four_slot.specs.Words.{opening_of, is_put_of, is_get_of, is_told_of, written_by, answers_of, at_hand_of};
 ghost use Rattle.cell_four_slot.specs.Words.{told_to, named_by, write_events, read_events, writer_accesses, reader_accesses};
 ghost use Rattle.cell_four_slot.specs.Words.{pair_said, pair_shown};
@@ -202,6 +203,7 @@ impl<T: Lawful> Calls<T> for FourSlotCell<T> {
             (answers_of get.new) (get_times get.new) result }
         ensures heeds { (heard_by get.new ≡ heard_by get.old)
             × AreHeeded (heard_by get.new) (known_to get.new) (last_or 0 (numbers_of get.new)) }
+        ensures so_far { AreCallsSoFar T.fits T.rises (opening_of self.now) (heard_by get.new) (answers_of get.new) (get_times get.new) }
     {
         let slot = choose(self, get);
         self.table.copy(&mut get.seat, slot)
@@ -227,6 +229,7 @@ impl<T: Lawful> Calls<T> for FourSlotCell<T> {
             (answers_of get.new) (get_times get.new) (at_hand_of get.new) }
         ensures heeds { (heard_by get.new ≡ heard_by get.old)
             × AreHeeded (heard_by get.new) (known_to get.new) (last_or 0 (numbers_of get.new)) }
+        ensures so_far { AreCallsSoFar T.fits T.rises (opening_of self.now) (heard_by get.new) (answers_of get.new) (get_times get.new) }
         ensures looked { FnOnceReturnsAt F.FnOnce look (at_hand_of get.new) result }
     {
         let slot = choose(self, get);

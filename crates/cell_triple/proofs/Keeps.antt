@@ -406,6 +406,9 @@ module _ {T : Type 0} (fits : T → Type 0) (rises : T → T → Type 0) (o : T)
           atomic = timed_atomic o r.put (answered g x t (last_number r) (all_known r)) t timed;
         })
 
+    writes_rise : (s : St) (r : Rule s) → Rising fits rises r.get.opening.value r.put.written
+    writes_rise s r = subst (λ (z : T). Rising fits rises z r.put.written) (sym r.openings.1) r.lawful.1
+
     -- the reader's load, where it finds the mark; and where it finds none, and decides the read
     pub asks_at : (s : St) (r : Rule s) (slots id : ℕ) (me : M) → id ≡ r.reader → me.0 ≡ Reader r.get → r.get.asked ≡ 0 →
         4 ≤ get_or s.words 0 0
@@ -478,6 +481,7 @@ module _ {T : Type 0} (fits : T → Type 0) (rises : T → T → Type 0) (o : T)
               subst (λ (z : ReaderNotes T). HasAnswered z (answered (looked_by z n) z.at_hand.value t k (all_known r)) z.at_hand.value)
                   also (has_answered s r t (looked_by g n) g.at_hand.value last timed r.openings.1 refl refl),
               subst (λ (z : ReaderNotes T). AreHeeded z.heard (all_known r) k) also r.timed.heeded,
+              subst (λ (z : ReaderNotes T). Rising fits rises z.opening.value r.put.written) also (writes_rise s r),
             ),
           ),
           refl,
@@ -590,6 +594,7 @@ module _ {T : Type 0} (fits : T → Type 0) (rises : T → T → Type 0) (o : T)
             subst (λ (z : ReaderNotes T). HasAnswered z (answered (fetched z m y) y t number (all_known r)) y) also
                 (has_answered s r t (fetched g m y) y last timed r.openings.1 refl refl),
             subst (λ (z : ReaderNotes T). AreHeeded z.heard (all_known r) number) also r.timed.heeded,
+            subst (λ (z : ReaderNotes T). Rising fits rises z.opening.value r.put.written) also (writes_rise s r),
           ),
           refl,
         )

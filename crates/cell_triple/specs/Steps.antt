@@ -1,7 +1,7 @@
 -- The steps of the triple buffer: what each tells its seat (this project's own).
 use Rattle.std.specs.Prelude.{◌≡◌, ℕ, ◌+◌, ◌%◌, ◌<◌, ◌≤◌, max, [], ◌∷◌, ◌++◌}
 use Rattle.atomic_table.specs.Table.{Me, Step}
-use Rattle.cell_contract.specs.Running.{last_or, IsAnswer, snap}
+use Rattle.cell_contract.specs.Running.{last_or, IsAnswer, Rising, snap}
 use Rattle.cell_contract.specs.Intervals.{made_at, heard_at, no_times, none_known, dated_at, known_as, AreHeeded, IsNextAnswer}
 use Rattle.cell_contract.specs.declared.times.Dated.{Dated}
 use Rattle.cell_contract.specs.declared.times.Known.{Known}
@@ -64,14 +64,14 @@ module _ {T : Type 0} where
     abbrev pub MayAnswer : ReaderNotes T → T → Type 0
     MayAnswer g x = IsAnswer fits rises g.opening.value g.answers g.told x
 
-    -- the reader's load: with no mark its own slot has the answer
+    -- the reader's load: with no mark its own slot has the answer. The writes shown are all that the writer has made, and they obey the law
     abbrev pub looked : Step T → Sat T → ℕ → Sat T → Type 0
     looked st m n m' = (g : ReaderNotes T) → m.0 ≡ Reader g
         → (m'.1 ≡ m.1) × (4 ≤ n → m'.0 ≡ Reader (asked_by g n))
         × (n < 4 → (t : ℕ) × (k : ℕ) × (writes : Known T) × (g.times.clock < t)
         × (m'.0 ≡ Reader (answered (looked_by g n) g.at_hand.value t k writes))
         × MayAnswer g g.at_hand.value × HasAnswered g (answered (looked_by g n) g.at_hand.value t k writes) g.at_hand.value
-        × AreHeeded g.heard writes k)
+        × AreHeeded g.heard writes k × Rising fits rises g.opening.value writes.items)
 
     -- the reader's swap takes the middle, which is the answer
     abbrev pub get_swapped : Step T → Sat T → ℕ → Sat T → Type 0
@@ -79,6 +79,7 @@ module _ {T : Type 0} where
         → (y : T) × (n % 4 < 3) × (t : ℕ) × (k : ℕ) × (writes : Known T) × (g.times.clock < t)
         × (m'.0 ≡ Reader (answered (fetched g (n % 4) y) y t k writes)) × (m'.1 ≡ (n % 4, y) ∷ []) × MayAnswer g y
         × HasAnswered g (answered (fetched g (n % 4) y) y t k writes) y × AreHeeded g.heard writes k
+        × Rising fits rises g.opening.value writes.items
 
   -- the views at the start: the writer has slot 0 and the reader slot 2
   abbrev pub first_writer : T → WriterNotes T

@@ -1,6 +1,7 @@
 -- The words of the contract, of the passes of a triple buffer (this project's own).
 use Rattle.std.specs.Prelude.{◌≡◌, ℕ, ◌+◌, ◌<◌, ◌≤◌, List, [], ◌∷◌, ◌++◌}
 use Rattle.cell_contract.specs.Running.{Name, IsName, IsAnswer, last_or}
+use Rattle.cell_contract.specs.CallsSoFar.{AreCallsSoFar}
 use Rattle.cell_contract.specs.Intervals.{AreHeeded, IsNextCall, IsNextAnswer}
 use Rattle.cell_contract.specs.declared.times.Times.{Times}
 use Rattle.cell_contract.specs.declared.times.Known.{Known}
@@ -108,3 +109,4 @@ module _ {T : Type 0} where
     pub numbered : IsNextAnswer (opening_of c) (known_to g) (known_to h) (numbers_of g)
         (numbers_of h) (answers_of h) (get_times h) (at_hand_of h)
     pub heeds : (heard_by h ≡ heard_by g) × AreHeeded (heard_by h) (known_to h) (last_or 0 (numbers_of h))
+    pub so_far : AreCallsSoFar fits rises (opening_of c) (heard_by h) (answers_of h) (get_times h)

@@ -2,6 +2,7 @@
 ghost use Rattle.std.specs.Prelude.{◌≡◌, ℕ, ◌+◌, ◌<◌, ◌≤◌, [], ◌∷◌, ◌++◌, IfOk};
 ghost use Rattle.std.specs.Fn.{FnOnceTakesAt, FnOnceReturnsAt};
 ghost use Rattle.cell_contract.specs.Running.{last_or, IsAnswer};
+ghost use Rattle.cell_contract.specs.CallsSoFar.{AreCallsSoFar};
 ghost use Rattle.cell_triple.specs.Words.{opening_of, is_put_of, is_get_of, is_told_of, written_by, answers_of, at_hand_of, told_to};
 ghost use Rattle.cell_triple.specs.Words.{named_by, swaps_of_put, loads_of, swaps_of, held_by, found_by, HasLooked};
 ghost use Rattle.cell_triple.specs.Words.{put_times, get_times, numbers_of, known_to, time_of, heard_by, writes_of};
@@ -202,6 +203,7 @@ impl<T: Lawful> Calls<T> for TripleCell<T> {
             (answers_of get.new) (get_times get.new) result }
         ensures heeds { (heard_by get.new ≡ heard_by get.old)
             × AreHeeded (heard_by get.new) (known_to get.new) (last_or 0 (numbers_of get.new)) }
+        ensures so_far { AreCallsSoFar T.fits T.rises (opening_of self.now) (heard_by get.new) (answers_of get.new) (get_times get.new) }
     {
         refresh(self, get);
         self.table.copy(&mut get.seat, get.slot)
@@ -227,6 +229,7 @@ impl<T: Lawful> Calls<T> for TripleCell<T> {
             (answers_of get.new) (get_times get.new) (at_hand_of get.new) }
         ensures heeds { (heard_by get.new ≡ heard_by get.old)
             × AreHeeded (heard_by get.new) (known_to get.new) (last_or 0 (numbers_of get.new)) }
+        ensures so_far { AreCallsSoFar T.fits T.rises (opening_of self.now) (heard_by get.new) (answers_of get.new) (get_times get.new) }
         ensures looked { FnOnceReturnsAt F.FnOnce look (at_hand_of get.new) result }
     {
         refresh(self, get);

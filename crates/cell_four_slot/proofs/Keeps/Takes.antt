@@ -11,7 +11,7 @@ use Rattle.four_slot_core.specs.declared.event.ReadEvent.TheVariants.{R3, R4, R5
 use Rattle.four_slot_core.specs.Events.{side, record_in, slot_with, bit_number, slot_number, opening_state}
 use Rattle.four_slot_core.specs.Invariant.{latest_slot}
 use Rattle.four_slot_core.specs.Freshness.{IsBegun}
-use Rattle.cell_contract.specs.Running.{IsAnswer, snap}
+use Rattle.cell_contract.specs.Running.{IsAnswer, Rising, snap}
 use Rattle.cell_contract.specs.Intervals.{AreHeeded, IsNextAnswer}
 use Rattle.cell_contract.specs.Acts.{Proper}
 use Rattle.cell_contract.specs.declared.times.Known.{Known}
@@ -158,6 +158,8 @@ module _ {T : Type 0} (fits : T → Type 0) (rises : T → T → Type 0) (o : T)
                 (subst (λ (z : T). IsAnswer fits rises z g.answers g.told x) (sym r.openings.1) answer),
             subst (λ (z : ReaderNotes T). HasAnswered z (got_by z b x t n writes) x) also answered,
             subst (λ (z : ReaderNotes T). AreHeeded z.heard writes n) also (r.timed.pair_heeded (subst IsBegun (sym said) tt)),
+            subst (λ (z : ReaderNotes T). Rising fits rises z.opening.value p.written) also
+                (subst (λ (z : T). Rising fits rises z p.written) (sym r.openings.1) r.lawful.1),
           ),
         )
 

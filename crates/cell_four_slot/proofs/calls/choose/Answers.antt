@@ -5,6 +5,8 @@ use Rattle.four_slot_core.specs.Events.{slot_with, bit_number, slot_number}
 use Rattle.cell_contract.specs.Running.{IsAnswer, last_or, snap}
 use Rattle.cell_contract.specs.Intervals.{AreHeeded, IsNextCall, IsNextAnswer}
 use Rattle.cell_contract.proofs.ListLaws.{last_snoc}
+use Rattle.cell_contract.proofs.OneOrder.{calls_so_far}
+use Rattle.cell_contract.specs.CallsSoFar.{AreCallsSoFar}
 use Rattle.cell_contract.specs.Sights.{reader_or}
 use Rattle.cell_four_slot.specs.Steps.{first_reader, asked_by, said_with, got_by, slot_of_choice, word_said}
 use Rattle.cell_four_slot.specs.declared.notes.ReaderNotes.{ReaderNotes}
@@ -92,4 +94,8 @@ returns g c =
         subst (λ (z : ReaderNotes g.row.T.Denot). AreHeeded z.heard z.known (last_or 0 z.numbers)) (λ i. reader_or d (sym v i))
             (subst (AreHeeded n.heard t.5) (sym (last_snoc 0 n.numbers t.4)) t.11),
       );
+      so_far = subst (λ (z : g.row.T.Denot × ReaderNotes g.row.T.Denot). AreCallsSoFar g.T.Lawful.fits g.T.Lawful.rises z.0 z.1.heard
+          z.1.answers z.1.times) (λ i. ((c.requires i).opening, reader_or d (sym v i)))
+          (calls_so_far g.T.Lawful.fits g.T.Lawful.rises n.opening.value n.known t.5 n.numbers (n.numbers ++ t.4 ∷ [])
+          (n.answers ++ t.1 ∷ []) (got_by n2 t.0 t.1 t.3 t.4 t.5).times t.1 n.heard t.4 t.12 t.10 t.11);
     }

@@ -2,9 +2,11 @@
 use Rattle.std.proofs.Common.{rules, arith, ◌≡◌, ◌%◌, ◌∷◌, ◌++◌, [], sym, ap, ◌∙◌, subst, refl, le_refl}
 use Rattle.cell_contract.specs.Running.{IsAnswer, last_or}
 use Rattle.cell_contract.specs.Sights.{reader_or}
-use Rattle.cell_triple.specs.Steps.{first_reader, asked_by}
+use Rattle.cell_triple.specs.Steps.{answered, asked_by, fetched, first_reader, looked_by}
 use Rattle.cell_contract.specs.Intervals.{AreHeeded, IsNextCall, IsNextAnswer}
 use Rattle.cell_contract.proofs.ListLaws.{last_snoc}
+use Rattle.cell_contract.proofs.OneOrder.{calls_so_far}
+use Rattle.cell_contract.specs.CallsSoFar.{AreCallsSoFar}
 use Rattle.cell_triple.specs.declared.notes.ReaderNotes.{ReaderNotes}
 use Rattle.cell_contract.specs.declared.sight.Sight.TheVariants.{Reader}
 use Rattle.cell_triple.proofs.calls.refresh.Goals as goal
@@ -62,6 +64,11 @@ returns-then-found-lt4 g c =
         subst (λ (z : ReaderNotes g.row.T.Denot). AreHeeded z.heard z.known (last_or 0 z.numbers)) (λ i. reader_or d (sym v i))
             (subst (AreHeeded n.heard u.2) (sym (last_snoc 0 n.numbers u.1)) u.7),
       );
+      so_far = subst (λ (z : g.row.T.Denot × ReaderNotes g.row.T.Denot). AreCallsSoFar g.T.Lawful.fits g.T.Lawful.rises z.0 z.1.heard
+          z.1.answers z.1.times) (λ i. ((c.requires i).opening, reader_or d (sym v i)))
+          (calls_so_far g.T.Lawful.fits g.T.Lawful.rises n.opening.value n.known u.2 n.numbers (n.numbers ++ u.1 ∷ [])
+          (n.answers ++ n.at_hand.value ∷ []) (answered (looked_by n c.look-found.result) n.at_hand.value u.0 u.1 u.2).times
+          n.at_hand.value n.heard u.1 u.8 u.6 u.7);
     }
 
 pub fetch-taken-requires-clause-marked : goal.fetch-taken-requires-clause-marked
@@ -127,4 +134,9 @@ returns g c =
         subst (λ (z : ReaderNotes g.row.T.Denot). AreHeeded z.heard z.known (last_or 0 z.numbers)) (λ i. reader_or d (sym v i))
             (subst (AreHeeded n.heard u.4) (sym (last_snoc 0 n.numbers u.3)) u.10),
       );
+      so_far = subst (λ (z : g.row.T.Denot × ReaderNotes g.row.T.Denot). AreCallsSoFar g.T.Lawful.fits g.T.Lawful.rises z.0 z.1.heard
+          z.1.answers z.1.times) (λ i. ((c.requires i).opening, reader_or d (sym v i)))
+          (calls_so_far g.T.Lawful.fits g.T.Lawful.rises n.opening.value n.known u.4 n.numbers (n.numbers ++ u.3 ∷ [])
+          (n.answers ++ u.0 ∷ []) (answered (fetched m (c.fetch-taken.result % 4) u.0) u.0 u.2 u.3 u.4).times
+          u.0 n.heard u.3 u.11 u.9 u.10);
     }
