@@ -32,3 +32,4 @@ mod Noting
 mod Dealing
 mod OnePass
 mod Keeping
+mod CellsSoFar

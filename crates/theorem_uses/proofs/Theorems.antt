@@ -1,5 +1,5 @@
 -- Each part of a theorem is a part of its record.
-use Rattle.std.proofs.Common.{◌≡◌, ◌≢◌, Bool, ℕ, ◌+◌, ◌<◌, ◌≤◌, List, [], ◌∷◌, ◌++◌, length, Result, Ok, Err, MatchResult, ◌⊎◌, inl, inr}
+use Rattle.std.proofs.Common.{◌≡◌, ◌≢◌, ℕ, ◌+◌, ◌<◌, ◌≤◌, List, [], ◌∷◌, ◌++◌, length, Result, Ok, Err, MatchResult, ◌⊎◌, inl, inr}
 use Rattle.std.proofs.Common.{refl, sym, ◌∙◌, ap, subst, arith}
 use Rattle.matrix_core.specs.declared.stamp.Stamp.{Stamp}
 use Rattle.matrix_core.specs.Stamps.{IsBelow}
@@ -9,16 +9,12 @@ use Rattle.history_core.specs.Searches.{IsAnswered, IsFault}
 use Rattle.cell_contract.specs.declared.cell.Calls.{Ghosts as CellWords}
 use Rattle.cell_contract.specs.declared.family.Family.{Ghosts as FamilyWords}
 use Rattle.board_live.specs.declared.record.Posted.{Posted}
-use Rattle.theorem_uses.specs.Products.{BoardCalls, BoardShows, CellHeeds, CellIsEnded, CellReads, CellWrites, GreatestIsThere}
+use Rattle.theorem_uses.specs.Products.{BoardCalls, BoardCallStands, BoardShows, CellHeeds, CellIsEnded, CellReads, CellWrites, GreatestIsThere}
 use Rattle.theorem_uses.specs.Products.{SearchMissesNone, VerdictIsExact, WritesChoose}
 
 not_below : (s : Stamp) → IsBelow s s → ⊥
 not_below s (inl tag) = omega (arith, tag)
 not_below s (inr writer) = let w = writer.1 in omega (arith, w)
-
-as_long : {A : Type 0} (xs : List A) (x y : A) → length (xs ++ x ∷ []) ≡ length (xs ++ y ∷ [])
-as_long [] x y = refl
-as_long (z ∷ xs) x y = let h = as_long xs x y in omega (arith, h)
 
 module _ {R : Type 0} (Same : R → R → Type 0) where
   pub verdicts : VerdictIsExact Same
@@ -39,37 +35,39 @@ module _ {C T P G R : Type 0} (words : CellWords C T P G R) (fits : T → Type 0
   writes cell put get item answer h = (h.wrote, h.written, h.write_timed, h.write_accesses, h.ended)
 
   pub tells : CellHeeds words fits rises
-  tells cell put get item answer h = (h.wrote, h.read, h.remembers ∙ h.hears, h.written, h.heeded)
+  tells cell put get item answer h =
+      let told : (words.put_times h.wrote).clock ≤ (words.get_times h.learnt).clock = h.heard.heard in
+      let after : (words.get_times h.learnt).clock < h.read_timed.begin = h.read_timed.after in (
+        h.wrote,
+        h.read,
+        h.read_timed.begin,
+        h.read_timed.end,
+        omega arith,
+        h.read_timed.forwards,
+        h.read_timed.begins ∙ ap (λ z. z ++ h.read_timed.begin ∷ []) h.heard.begins,
+        h.read_timed.ends ∙ ap (λ z. z ++ h.read_timed.end ∷ []) h.heard.ends,
+        h.written,
+      )
 
   pub reads : CellReads words fits rises
   reads cell put get item answer h =
-      (h.learnt, h.read, h.still, h.answers, h.lawful, h.read_timed, h.read_accesses, h.numbered)
+      (h.wrote, h.read, h.answers, h.read_accesses, h.lawful.0, h.lawful.1, h.lawful.2, h.so_far)
 
   pub ends : CellIsEnded words fits rises
-  ends cell put get item answer h = (h.wrote, h.read, h.settled, h.atomic, h.known)
+  ends cell put get item answer h = (h.wrote, h.read, h.order)
 
-module _ {V F S T : Type 0} (words : FamilyWords F (Posted V) S T) (obeys : V → Bool) where
-  pub board_calls : BoardCalls words obeys
-  board_calls board passes item read wrote shown last h = (
-    h.others,
-    h.pass,
-    h.between,
-    h.after,
-    h.seen,
-    h.taken,
-    h.reads,
-    h.read_known,
-    h.read_chosen,
-    h.writes,
-    h.write_known,
-    h.write_chosen,
-  )
+module _ {V F S T : Type 0} (words : FamilyWords F (Posted V) S T) where
+  pub board_calls : BoardCalls words
+  board_calls board passes item read wrote h =
+      (h.others, h.pass, h.between, h.after, h.seen, h.chosen, h.taken, h.reads, h.writes, h.chooses)
 
-  pub board_shows : BoardShows words obeys
-  board_shows board passes item read wrote shown last h = (
-    h.others ++ h.after ∷ [],
+  pub call_stands : BoardCallStands words
+  call_stands board kind old new seen chosen calls h made = let all = h.made calls made in
+      (h.call, h.is.0, h.is.1, h.is.2, h.timed.0, h.timed.1, all, h.atomic (calls ++ h.call ∷ []) all)
+
+  pub board_shows : BoardShows words
+  board_shows board passes shown last h = (
     h.final,
-    as_long h.others h.after h.pass ∙ ap length (sym h.taken),
     h.still,
     h.so_far.greatest,
     h.so_far.order,
@@ -79,7 +77,7 @@ module _ {V F S T : Type 0} (words : FamilyWords F (Posted V) S T) (obeys : V �
     h.ended.registers,
   )
 
-  pub greatest_is : GreatestIsThere words obeys
+  pub greatest_is : GreatestIsThere words
   greatest_is passes last h = (
     h.process,
     h.pass,
@@ -88,5 +86,5 @@ module _ {V F S T : Type 0} (words : FamilyWords F (Posted V) S T) (obeys : V �
     λ j q less at same. not_below last.stamp (subst (λ z. IsBelow z last.stamp) same (h.earliest j q less at)),
   )
 
-  pub chooses : WritesChoose words obeys
+  pub chooses : WritesChoose words
   chooses limit process item seen chosen = (λ s h. (h.0, h.1, h.2), λ e h. (h.0, h.1, h.2))

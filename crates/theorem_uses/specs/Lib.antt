@@ -1,5 +1,6 @@
 pub mod Boards
 pub mod Cells
+pub mod CellsSoFar
 pub mod Composed
 pub mod Dealt
 pub mod Going

@@ -1,8 +1,9 @@
 -- Consequences of the theorems of the checker, a cell and a board, part by part (this project's own).
-use Rattle.std.specs.Prelude.{◌≡◌, ◌≢◌, Bool, ℕ, ◌+◌, ◌<◌, ◌≤◌, List, [], ◌∷◌, ◌++◌, length, slice_get, map, Result, Ok, Err, Some}
+use Rattle.std.specs.Prelude.{◌≡◌, ◌≢◌, ℕ, ◌+◌, ◌<◌, ◌≤◌, List, [], ◌∷◌, ◌++◌, length, slice_get, map, Result, Ok, Err, Some}
 use Rattle.history_core.specs.declared.history.Op.{Op}
 use Rattle.history_core.specs.declared.history.Term.{Term}
-use Rattle.history_core.specs.declared.history.Kind.TheVariants.{Write, Read, Refused}
+use Rattle.history_core.specs.declared.history.Kind.{Kind}
+use Rattle.history_core.specs.declared.history.Kind.TheVariants.{Read}
 use Rattle.history_core.specs.declared.history.Verdict.{Verdict}
 use Rattle.history_core.specs.declared.history.Verdict.TheVariants.{Lawful}
 use Rattle.history_core.specs.Orders.{IsAtomicOrder, IsVerdict, RefusesLawfully}
@@ -14,16 +15,20 @@ use Rattle.history_core.specs.Reasons.{IsReason, rule_of}
 use Rattle.history_core.specs.Searches.{IsAnswered, IsFault}
 use Rattle.matrix_core.specs.declared.stamp.Stamp.{Stamp}
 use Rattle.cell_contract.specs.declared.cell.Calls.{Ghosts as CellWords}
-use Rattle.cell_contract.specs.Intervals.{AreAtomic, AreFirst, AreHeeded, HaveEnded, IsNextAnswer, IsNextCall, known_as}
-use Rattle.cell_contract.specs.Running.{IsAnswer, last_or, Settled}
+use Rattle.cell_contract.specs.CallsSoFar.{AreCallsSoFar, HaveOneOrder}
+use Rattle.cell_contract.specs.Intervals.{HaveEnded, IsNextCall, known_as}
+use Rattle.cell_contract.specs.Running.{last_or}
 use Rattle.cell_contract.specs.declared.family.Family.{Ghosts as FamilyWords}
 use Rattle.board_live.specs.declared.board.Board.{Board}
 use Rattle.board_live.specs.declared.board.Pass.{Pass}
 use Rattle.board_live.specs.declared.board.TagsEnded.{TagsEnded}
 use Rattle.board_live.specs.declared.record.Posted.{Posted}
 use Rattle.board_live.specs.Ends.{AllAtomic, HaveAtomicOrder, IsGreatest, standing}
-use Rattle.board_live.specs.Passes.{ChoosesStamp, IsCall, IsKnown, kind_of}
-use Rattle.theorems.specs.Boards.{BoardTheorem}
+use Rattle.board_history.specs.BoardRuns.{Called}
+use Rattle.board_live.specs.Passes.{ChoosesStamp, HasMade, kind_of}
+use Rattle.board_live.specs.Records.{stamped}
+use Rattle.board_live.specs.SoFar.{HasOrderSoFar}
+use Rattle.theorems.specs.Boards.{BoardEndTheorem, BoardTheorem, AddsCall}
 use Rattle.theorems.specs.Cells.{CellTheorem}
 use Rattle.theorems.specs.Checkers.{CheckerTheorem}
 
@@ -55,45 +60,52 @@ module _ {C T P G R : Type 0} (words : CellWords C T P G R) (fits : T → Type 0
       (wrote : P) × (words.written wrote ≡ words.written put ++ item ∷ []) × IsNextCall (words.put_times put) (words.put_times wrote)
       × (words.put_accesses wrote ≤ words.put_accesses put + 3) × HaveEnded (words.put_times wrote)
 
-  -- a reader that learns hears of what was written up to there, and answers nothing by that
+  -- the reader learnt that the write had ended: its read began after that, and else it made no call
   abbrev pub CellHeeds : Type 0
   CellHeeds = (cell : C) (put : P) (get : G) (item answer : T) → CellTheorem words fits rises cell put get item answer →
-      (wrote : P) × (read : G) × (words.heard read ≡ words.heard get ++ known_as (words.written wrote) (words.put_times wrote) ∷ [])
+      (wrote : P) × (read : G) × (begin : ℕ) × (end : ℕ) × ((words.put_times wrote).clock < begin) × (begin ≤ end)
+      × ((words.get_times read).begins ≡ (words.get_times get).begins ++ begin ∷ [])
+      × ((words.get_times read).ends ≡ (words.get_times get).ends ++ end ∷ [])
       × (words.written wrote ≡ words.written put ++ item ∷ [])
-      × AreHeeded (words.heard read) (words.known read) (last_or 0 (words.numbers read))
 
-  -- a read adds an answer and a call, of at most three accesses; the answer obeys the law, and is of the writes known
+  -- a read adds an answer, by at most three accesses; the answer obeys the law, and when it is given all calls so far have one order
   abbrev pub CellReads : Type 0
   CellReads = (cell : C) (put : P) (get : G) (item answer : T) → CellTheorem words fits rises cell put get item answer →
-      (learnt : G) × (read : G) × (words.answers learnt ≡ words.answers get) × (words.answers read ≡ words.answers get ++ answer ∷ [])
-      × IsAnswer fits rises (words.opening cell) (words.answers learnt) (words.told learnt) answer
-      × IsNextCall (words.get_times learnt) (words.get_times read) × (words.get_accesses read ≤ words.get_accesses learnt + 3)
-      × IsNextAnswer (words.opening cell) (words.known learnt) (words.known read) (words.numbers learnt) (words.numbers read)
-      (words.answers read) (words.get_times read) answer
+      (wrote : P) × (read : G) × (words.answers read ≡ words.answers get ++ answer ∷ [])
+      × (words.get_accesses read ≤ words.get_accesses get + 3) × fits answer
+      × rises (last_or (words.opening cell) (words.answers get)) answer × rises item answer
+      × AreCallsSoFar fits rises (words.opening cell) (known_as (words.written wrote) (words.put_times wrote) ∷ []) (words.answers read)
+      (words.get_times read)
 
-  -- at the end all answers are settled and all calls atomic, and the writes known are the first of those made
+  -- at the end all calls have one order
   abbrev pub CellIsEnded : Type 0
   CellIsEnded = (cell : C) (put : P) (get : G) (item answer : T) → CellTheorem words fits rises cell put get item answer →
-      (wrote : P) × (read : G) × Settled (words.opening cell ∷ words.written wrote) (words.answers read)
-      × AreAtomic (words.opening cell) (words.written wrote) (words.put_times wrote) (words.answers read) (words.numbers read)
-      (words.get_times read) × AreFirst (words.known read) (words.written wrote) (words.put_times wrote)
+      (wrote : P) × (read : G) × HaveOneOrder (words.opening cell) (words.written wrote) (words.put_times wrote) (words.answers read)
+      (words.get_times read)
 
-module _ {V F S T : Type 0} (words : FamilyWords F (Posted V) S T) (obeys : V → Bool) where
-  -- the last process's read and write are calls, the one after the other, of known records, and choose by what they saw
+module _ {V F S T : Type 0} (words : FamilyWords F (Posted V) S T) where
+  -- the last process's read and write are calls, the one after the other, and choose by what they saw
   abbrev pub BoardCalls : Type 0
-  BoardCalls = (board : Board V F S T) (passes : List (Pass V F S T)) (item : V) (read : Posted V) (wrote : Result Stamp (TagsEnded V))
-      (shown last : Posted V) → BoardTheorem words obeys board passes item read wrote shown last →
+  BoardCalls = (board : Board V F S T) (passes : List (Pass V F S T)) (item : V) (read : Posted V) (wrote : Result Stamp (TagsEnded V)) →
+      BoardTheorem words board passes item read wrote →
       (others : List (Pass V F S T)) × (pass : Pass V F S T) × (between : Pass V F S T) × (after : Pass V F S T) × (seen : Posted V)
-      × (passes ≡ others ++ pass ∷ []) × IsCall words obeys board Read pass between read × IsKnown words board pass between read
-      × (between.own ≡ read) × IsCall words obeys board (kind_of wrote) between after seen × IsKnown words board between after seen
-      × ChoosesStamp board.limit between.process item seen after.own wrote
+      × (chosen : Posted V) × (passes ≡ others ++ pass ∷ []) × AddsCall words board Read pass between read read
+      × AddsCall words board (kind_of wrote) between after seen chosen × ChoosesStamp board.limit pass.process item seen chosen wrote
+
+  -- whatever calls were made with the pass, this one is made with it too: it has its kind, what it saw and what it chose, it began after all
+  -- that its process knew of, and all calls so far have one order
+  abbrev pub BoardCallStands : Type 0
+  BoardCallStands = (board : Board V F S T) (kind : Kind) (old new : Pass V F S T) (seen chosen : Posted V) (calls : List (Called V)) →
+      AddsCall words board kind old new seen chosen → HasMade words board old calls →
+      (call : Called V) × (call.kind ≡ kind) × (call.seen ≡ stamped seen) × (call.chosen ≡ stamped chosen)
+      × (words.clock old.seat < call.begin) × (call.begin ≤ call.end) × HasMade words board new (calls ++ call ∷ [])
+      × HasOrderSoFar words board new (calls ++ call ∷ [])
 
   -- the calls so far and at the end are atomic, and the register shows the greatest record
   abbrev pub BoardShows : Type 0
-  BoardShows = (board : Board V F S T) (passes : List (Pass V F S T)) (item : V) (read : Posted V) (wrote : Result Stamp (TagsEnded V))
-      (shown last : Posted V) → BoardTheorem words obeys board passes item read wrote shown last →
-      (all : List (Pass V F S T)) × (final : List (Pass V F S T)) × (length all ≡ length passes) × (map standing final ≡ map standing all)
-      × IsGreatest all shown × HaveAtomicOrder words board all shown × AllAtomic words board all
+  BoardShows = (board : Board V F S T) (passes : List (Pass V F S T)) (shown last : Posted V) →
+      BoardEndTheorem words board passes shown last → (final : List (Pass V F S T)) × (map standing final ≡ map standing passes)
+      × IsGreatest passes shown × HaveAtomicOrder words board passes shown × AllAtomic words board passes
       × IsGreatest final last × HaveAtomicOrder words board final last × AllAtomic words board final
 
   -- the greatest record is that of the first of the passes that have it

@@ -1,6 +1,7 @@
 //! What the calls of a running cell say, one by one and all together when it ends.
 ghost use Rattle.theorem_uses.specs.Cells.{AnswersAKnownWrite, AreCounted, AreInTheHistory, GoInTurn, NeverGoesBack, ObeysTheLaw};
 ghost use Rattle.theorem_uses.specs.Cells.{AnswersNothingStale, AnswersTheWriter};
+ghost use Rattle.theorem_uses.specs.CellsSoFar.{StaleAnswersAreAbsurd};
 ghost use Rattle.theorem_uses.specs.Cells.{ReadsNoOlder, ReadsTheOpening, ReadsTheWrite, TakesItsTime};
 
 use cell_contract::Lawful;
@@ -32,4 +33,10 @@ pub fn next_answers_show<T: Lawful>()
 pub fn heeded_answers_show<T>()
     ensures written { AnswersTheWriter T }
     ensures fresh { AnswersNothingStale T }
+{}
+
+/// While the cell goes on, and whatever was written or is under way: an answer older than an earlier one, or than a record of which a receipt
+/// told, is absurd.
+pub fn stale_answers_are_absurd()
+    ensures { StaleAnswersAreAbsurd }
 {}

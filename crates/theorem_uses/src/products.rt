@@ -1,7 +1,7 @@
 //! What the theorems of the checker, a cell and a board come to, part by part.
 ghost use Rattle.std.specs.Prelude.{IsTrue};
-ghost use Rattle.theorem_uses.specs.Products.{BoardCalls, BoardShows, CellHeeds, CellIsEnded, CellReads, CellWrites, GreatestIsThere};
-ghost use Rattle.theorem_uses.specs.Products.{SearchMissesNone, VerdictIsExact, WritesChoose};
+ghost use Rattle.theorem_uses.specs.Products.{BoardCalls, BoardCallStands, BoardShows, CellHeeds, CellIsEnded, CellReads};
+ghost use Rattle.theorem_uses.specs.Products.{CellWrites, GreatestIsThere, SearchMissesNone, VerdictIsExact, WritesChoose};
 
 use board_live::{Posted, RecordLaw};
 use cell_contract::{Calls, Family, Lawful};
@@ -20,10 +20,11 @@ pub fn cells_show<T: Lawful, C: Calls<T>>()
     ensures ends { CellIsEnded ⟦<C as Calls<T>>⟧ T.fits T.rises }
 {}
 
-/// A board's read and write are calls of known records, and its calls are atomic while it goes on and at its end.
+/// A board's read and write are calls that stand in one order with all calls so far, and all its calls are atomic at its end.
 pub fn products_of_boards_show<V: RecordLaw, F: Family<Posted<V>>>()
-    ensures calls { BoardCalls ⟦<F as Family<Posted<V>>>⟧ V.obeys }
-    ensures shows { BoardShows ⟦<F as Family<Posted<V>>>⟧ V.obeys }
-    ensures greatest { GreatestIsThere ⟦<F as Family<Posted<V>>>⟧ V.obeys }
-    ensures chooses { WritesChoose ⟦<F as Family<Posted<V>>>⟧ V.obeys }
+    ensures calls { BoardCalls ⟦<F as Family<Posted<V>>>⟧ }
+    ensures stands { BoardCallStands ⟦<F as Family<Posted<V>>>⟧ }
+    ensures shows { BoardShows ⟦<F as Family<Posted<V>>>⟧ }
+    ensures greatest { GreatestIsThere ⟦<F as Family<Posted<V>>>⟧ }
+    ensures chooses { WritesChoose ⟦<F as Family<Posted<V>>>⟧ }
 {}

@@ -1,2 +1,3 @@
+mod Learnt
 mod Verdicts
 mod Rejoined

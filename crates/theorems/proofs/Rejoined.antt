@@ -1,4 +1,4 @@
--- With one pass that made calls the passes are still those of all processes.
+-- The last of all passes, and what a call of it shows.
 use Rattle.std.proofs.Common.{◌≡◌, Bool, ℕ, zero, suc, ◌+◌, List, [], ◌∷◌, ◌++◌, length, slice_get, Some, length-append}
 use Rattle.std.proofs.Common.{refl, sym, ◌∙◌, ap, subst, ◌⊎◌, inl, inr, arith}
 use Rattle.std.proofs.lemmas.Option.{none-some, same_Some}
@@ -7,7 +7,11 @@ use Rattle.board_live.specs.declared.board.Board.{Board}
 use Rattle.board_live.specs.declared.board.Pass.{Pass}
 use Rattle.board_live.specs.declared.record.Posted.{Posted}
 use Rattle.board_live.specs.Ends.{AllPasses}
-use Rattle.board_live.specs.Passes.{IsPass}
+use Rattle.board_live.specs.Passes.{IsCall, IsPass}
+use Rattle.board_live.specs.Records.{stamped}
+use Rattle.board_live.specs.SoFar.{HaveAtomicOrderSoFar}
+use Rattle.history_core.specs.declared.history.Kind.{Kind}
+use Rattle.theorems.specs.Boards.{AddsCall}
 
 -- an element is one of the first, or the last
 of_more : {A : Type 0} (xs : List A) (x y : A) (i : ℕ) → slice_get (xs ++ x ∷ []) i ≡ Some y →
@@ -36,22 +40,20 @@ module _ {V F S T : Type 0} (words : FamilyWords F (Posted V) S T) (obeys : V �
       pub last_pass : IsPass words obeys board p × (p.process ≡ length others)
       last_pass = all.each (length others) p (ap (λ z. slice_get z (length others)) is ∙ at_end others p)
 
-      pub rejoined : (q : Pass V F S T) → IsPass words obeys board q → q.process ≡ p.process →
-          AllPasses words obeys board (others ++ q ∷ [])
-      rejoined q pass process =
-          let n : length passes ≡ length others + 1 = ap length is ∙ length-append others (p ∷ []) in
-          let m : length (others ++ q ∷ []) ≡ length others + 1 = length-append others (q ∷ []) in
-          record {
-            all = m ∙ sym n ∙ all.all;
-            some = omega (arith, m);
-            each = each;
-          }
-        where
-          each : (i : ℕ) (r : Pass V F S T) → slice_get (others ++ q ∷ []) i ≡ Some r → IsPass words obeys board r × (r.process ≡ i)
-          each i r e = elim (of_more others q r i e) [
-            | inl old ↦ all.each i r (ap (λ z. slice_get z i) is ∙ at_front others (p ∷ []) i r old)
-            | inr new ↦ (
-              subst (IsPass words obeys board) new.1 pass,
-              ap (λ (z : Pass V F S T). z.process) (sym new.1) ∙ process ∙ last_pass.1 ∙ sym new.0,
-            )
-          ]
+  -- a call is one more of those made with the pass
+  pub of_call : (kind : Kind) (old new : Pass V F S T) (seen chosen : Posted V) → IsCall words obeys board kind old new seen →
+      new.own ≡ chosen → HaveAtomicOrderSoFar words board new → AddsCall words board kind old new seen chosen
+  of_call kind old new seen chosen h is atomic = record {
+    call = record {
+      begin = h.begin;
+      end = h.end;
+      kind = kind;
+      seen = stamped seen;
+      chosen = stamped new.own;
+      tells = h.tells;
+    };
+    is = (refl, refl, ap stamped is);
+    timed = (h.interval.0, h.interval.1);
+    made = h.made;
+    atomic = atomic;
+  }
