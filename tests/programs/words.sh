@@ -238,6 +238,40 @@ head -c 1048577 /dev/zero | tr '\0' ' ' >>"$room/headless.jsonl"
 echo 'fsr: line 1: no header of kind `lines`, and no document: longer than 1048576 bytes' >"$room/wanted"
 ends_fsr 3 err order "$room/headless.jsonl"
 
+# White space behind the last line up to its bound, and beyond: line feeds, and blanks.
+printf '{"kind":"lines","opening":0}' >"$room/spaced.jsonl"
+cp "$room/spaced.jsonl" "$room/blanks.jsonl"
+head -c 1048576 /dev/zero | tr '\0' '\n' >>"$room/spaced.jsonl"
+head -c 1048576 /dev/zero | tr '\0' ' ' >>"$room/blanks.jsonl"
+echo '0 operations, 0 unfinished, 1 records, 0 of them read; no last line `done`' | sed '1i lawful' >"$room/wanted"
+ends_fsr 0 out order "$room/spaced.jsonl"
+echo 'fsr: line 1: no header of kind `lines`, and no document: longer than 1048576 bytes' >"$room/wanted"
+ends_fsr 3 err order "$room/blanks.jsonl"
+echo >>"$room/spaced.jsonl"
+echo 'fsr: line 2: not JSON' >"$room/wanted"
+ends_fsr 3 err order "$room/spaced.jsonl"
+
+# Sees that a log behind which white space never ends is refused with this line by a program that may map 32 MB.
+#   refuses_endless PROGRAM BYTE LINE
+refuses_endless() {
+    title="order of a log behind which white space never ends: $3"
+    { printf '{"kind":"lines","opening":0}\n' && tr '\0' "$2" </dev/zero; } 2>/dev/null |
+        (ulimit -v 32768 && exec timeout 60 "$1" order) >"$room/out" 2>"$room/err"
+    status=$?
+    if [ "$status" = 3 ] && [ ! -s "$room/out" ] && [ "$(cat "$room/err")" = "fsr: $3" ]; then
+        pass "$title"
+    else
+        fail "$title" "it ended with status $status: $(head -c 200 "$room/out" "$room/err" | tr '\n' ' ')"
+    fi
+}
+
+if has_program fsr; then
+    refuses_endless "$built/fsr/out/fsr" '\n' 'line 2: not JSON'
+    refuses_endless "$built/fsr/out/fsr" ' ' 'line 2: longer than 1048576 bytes'
+    printf '#!/bin/sh\nexec tail -n 1\n' >"$room/keeps_all" && chmod +x "$room/keeps_all"
+    catches "white space that is kept" "it ended with status" refuses_endless "$room/keeps_all" ' ' 'line 2: longer than 1048576 bytes'
+fi
+
 # Sees how `picture` ends with these words: the status, and the line on standard error.
 #   ends_picture TITLE INPUT OUTPUT STATUS LINE WORDS..
 ends_picture() {

@@ -1,10 +1,12 @@
 -- The front of a document tells whether it's a log in lines, if it is longer than any header.
 use Rattle.std.proofs.Common.{rules, tests, ◌≡◌, ℕ, ◌<◌, ◌≤◌, List, [], ◌∷◌, ◌++◌, ◌⊎◌, inl, inr, length, refl, ap, sym, ◌∙◌, arith, Bool}
 use Rattle.std.proofs.Common.{true, false, length-append}
-use Rattle.std.specs.Prelude.{◌==◌, ◌&&◌, nat_le}
-use Rattle.read_document.specs.Document.{value_of}
+use Rattle.std.specs.Prelude.{◌==◌, nat_le}
+use Rattle.read_document.specs.Document.{json_of, max_bytes, value_of}
+use Rattle.read_document.specs.Refusals.{◌>>=◌, must, some_or}
+use Rattle.read_document.specs.declared.refusal.DocError.TheVariants.{Long, NotJson}
 use Rattle.read_document.specs.Splits.{in_front, lines_of}
-use Rattle.read_document.specs.Kinds.{are_lines, first_is_header, is_header, max_header, says_lines}
+use Rattle.read_document.specs.Kinds.{are_lines, first_is_header, is_header, says_lines}
 
 -- a front and what more comes have one first line, or the front is a part of the first line
 abbrev Begins : List ℕ → List ℕ → Type 0
@@ -37,14 +39,16 @@ begins : (x : ℕ) (xs more : List ℕ) → Begins (x ∷ xs) more
 begins x [] more = last_byte x more (x == 10) refl
 begins x (y ∷ ys) more = one_byte x (y ∷ ys) more (x == 10) (begins y ys more) refl
 
-too_long : (line : List ℕ) → max_header < length line → is_header line ≡ false
-too_long line long = by_test (nat_le (length line) max_header) refl
+too_long : (line : List ℕ) → max_bytes < length line → is_header line ≡ false
+unfolding value_of
+too_long line long = by_test (nat_le (length line) max_bytes) refl
   where
-    by_test : (b : Bool) → nat_le (length line) max_header ≡ b → (b && says_lines (value_of line)) ≡ false
-    by_test true test = absurd (let fits : length line ≤ max_header = search (rules, tests) in omega (arith, fits, long))
+    by_test : (b : Bool) → nat_le (length line) max_bytes ≡ b
+        → says_lines (must b Long >>= (λ short_enough. some_or NotJson (json_of line))) ≡ false
+    by_test true test = absurd (let fits : length line ≤ max_bytes = search (rules, tests) in omega (arith, fits, long))
     by_test false test = refl
 
-pub front_decides : (front more : List ℕ) → max_header < length front → are_lines (front ++ more) ≡ are_lines front
+pub front_decides : (front more : List ℕ) → max_bytes < length front → are_lines (front ++ more) ≡ are_lines front
 front_decides [] more long = absurd (omega (arith, long))
 front_decides (x ∷ xs) more long = by_way (begins x xs more)
   where

@@ -12,9 +12,8 @@ use Rattle.program_runs.specs.declared.fault.Fault.{Fault}
 use Rattle.read_document.specs.Splits.{in_front, IsSplit, lines_of}
 use Rattle.read_line.specs.Lines.{done, LineEntry, entry_of, Head, head_of, operation}
 use Rattle.lines_log.specs.Faults.{IsBodyFault, is_last, IsLineFault}
-use Rattle.lines_log.specs.Logs.{AreAll, AreLines, IsLinesLog, is_refused, judged, judged_line}
+use Rattle.lines_log.specs.Logs.{AreAll, AreLines, IsLinesLog, is_refused, judged, judged_line, text_of}
 use Rattle.std.specs.Prelude.{is_some, MatchOption, unwrap_or}
-use Rattle.std.specs.Str.{IsTrimAsciiEnd}
 use Rattle.history_thinning.specs.Thinnings.{IsThinnedLog}
 use Rattle.lines_log.specs.declared.lines_log.LinesLog.{LinesLog}
 use Rattle.lines_log.specs.inner.Readings.{IsFinished, AreRead, HasRest, IsReadWhole, IsPartlyRead, is_end, ReadsLine}
@@ -143,10 +142,10 @@ none_found Q (Some x) h none = absurd (none x refl)
 
 -- what was read is the log
 pub assembled : (bytes text first body : List ℕ) (head : Head) (limit : ℕ) (ended : Bool) (reader : Reader) (log : LinesLog)
-    → IsTrimAsciiEnd bytes text → IsSplit text first body → head_of first ≡ Ok head → reader.limited ≡ is_some head.limit
+    → text ≡ text_of bytes → IsSplit text first body → head_of first ≡ Ok head → reader.limited ≡ is_some head.limit
     → IsReadWhole head.opening (lines_of body) reader ended → limit ≡ unwrap_or head.limit 1 → IsFinished limit ended reader log
     → (ops : List (Op ℕ)) × IsLinesLog bytes ops log
-assembled bytes text first body head limit ended reader log trimmed split said limited whole limit_is finished =
+assembled bytes text first body head limit ended reader log is_text split said limited whole limit_is finished =
     let records = whole.read.records in
     let ops : List (Op ℕ) = whole.read.log in (
       ops,
@@ -157,9 +156,7 @@ assembled bytes text first body head limit ended reader log trimmed split said l
           header = first;
           body = lines_of body;
           lines = whole.lines;
-          text = text;
-          trimmed = trimmed;
-          split = split.lines;
+          split = ap lines_of (sym is_text) ∙ split.lines;
           said = said;
           ended = ended;
           all = subst (λ (b : Bool). AreAll b ended (lines_of body) whole.lines) limited whole.all;

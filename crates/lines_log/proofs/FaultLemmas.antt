@@ -1,13 +1,13 @@
 -- The header or a later line is at fault.
-use Rattle.std.proofs.Common.{◌≡◌, ◌≢◌, ◌⊎◌, inl, inr, ℕ, List, Bool, Result, Ok, Err, refl, ap, ◌∙◌, subst}
+use Rattle.std.proofs.Common.{◌≡◌, ◌≢◌, ◌⊎◌, inl, inr, ℕ, List, Bool, Result, Ok, Err, refl, ap, sym, ◌∙◌, subst}
 use Rattle.std.specs.Prelude.{is_some}
-use Rattle.std.specs.Str.{IsTrimAsciiEnd}
 use Rattle.read_document.specs.declared.refusal.DocError.{DocError}
 use Rattle.read_document.specs.declared.refusal.DocError.TheVariants.{Kind, Law, Long, Missing, NoMemory, NotJson, Range, Shape}
 use Rattle.program_runs.specs.declared.fault.Fault.{Fault}
 use Rattle.read_document.specs.Splits.{IsSplit, lines_of}
 use Rattle.read_line.specs.Lines.{Head, head_of}
 use Rattle.lines_log.specs.Faults.{IsBodyFault, IsLinesFault, refused_at}
+use Rattle.lines_log.specs.Logs.{text_of}
 
 is_memory : (why : DocError) → (why ≡ NoMemory) ⊎ (why ≢ NoMemory)
 is_memory Long = inr (λ e. cc)
@@ -19,9 +19,9 @@ is_memory (Range key) = inr (λ e. cc)
 is_memory (Law key) = inr (λ e. cc)
 is_memory NoMemory = inl refl
 
-pub header_fault : (bytes text first body : List ℕ) (why : DocError) (f : Fault) → IsTrimAsciiEnd bytes text → IsSplit text first body
+pub header_fault : (bytes text first body : List ℕ) (why : DocError) (f : Fault) → text ≡ text_of bytes → IsSplit text first body
     → (why ≢ NoMemory → head_of first ≡ Err why) → f ≡ refused_at 1 why → IsLinesFault bytes f
-header_fault bytes text first body why f trimmed split refused told = by_cause (is_memory why)
+header_fault bytes text first body why f is_text split refused told = by_cause (is_memory why)
   where
     by_cause : (why ≡ NoMemory) ⊎ (why ≢ NoMemory) → IsLinesFault bytes f
     by_cause (inl e) = inl (told ∙ ap (refused_at 1) e)
@@ -29,23 +29,19 @@ header_fault bytes text first body why f trimmed split refused told = by_cause (
       header = first;
       body = lines_of body;
       why = why;
-      text = text;
-      trimmed = trimmed;
-      split = split.lines;
+      split = ap lines_of (sym is_text) ∙ split.lines;
       refused = refused ne;
       told = told;
     })))
 
-pub later_fault : (bytes text first body : List ℕ) (head : Head) (limited : Bool) (f : Fault) → IsTrimAsciiEnd bytes text
+pub later_fault : (bytes text first body : List ℕ) (head : Head) (limited : Bool) (f : Fault) → text ≡ text_of bytes
     → IsSplit text first body → head_of first ≡ Ok head → limited ≡ is_some head.limit
     → IsBodyFault head.opening limited (lines_of body) f → IsLinesFault bytes f
-later_fault bytes text first body head limited f trimmed split said limits wrong = inr (inr (inr (record {
+later_fault bytes text first body head limited f is_text split said limits wrong = inr (inr (inr (record {
   header = first;
   body = lines_of body;
   head = head;
-  text = text;
-  trimmed = trimmed;
-  split = split.lines;
+  split = ap lines_of (sym is_text) ∙ split.lines;
   said = said;
   wrong = subst (λ (b : Bool). IsBodyFault head.opening b (lines_of body) f) limits wrong;
 })))

@@ -1,3 +1,4 @@
 pub mod BodyLemmas
 pub mod FaultLemmas
 pub mod ReadLemmas
+pub mod TextLemmas

@@ -1,6 +1,5 @@
 -- Why lines stand for no log: the first line at fault, and why. The lines before it are all right (this project's own).
 use Rattle.std.specs.Prelude.{◌≡◌, ℕ, ◌+◌, ◌⊎◌, true, false, List, [], ◌∷◌, ◌++◌, length, Bool, is_some, slice_get, Some, Ok, Err}
-use Rattle.std.specs.Str.{IsTrimAsciiEnd}
 use Rattle.history_core.specs.declared.history.Op.{Op}
 use Rattle.history_core.specs.Searches.{WritesOnce}
 use Rattle.history_core.specs.declared.reason.SearchError.{SearchError}
@@ -18,7 +17,7 @@ use Rattle.read_document.specs.Splits.{lines_of}
 use Rattle.read_line.specs.Places.{line_at}
 use Rattle.read_line.specs.Tasks.{Overlap, TakeTurns}
 use Rattle.read_line.specs.Lines.{Head, head_of}
-use Rattle.lines_log.specs.Logs.{AreLines, judged_line}
+use Rattle.lines_log.specs.Logs.{AreLines, judged_line, text_of}
 
 -- how a refusal of this line is told
 abbrev pub refused_at : ℕ → DocError → Fault
@@ -98,9 +97,7 @@ pub record IsHeaderFault (bytes : List ℕ) (f : Fault) : Type 0 where
   pub header : List ℕ
   pub body : List (List ℕ)
   pub why : DocError
-  pub text : List ℕ
-  pub trimmed : IsTrimAsciiEnd bytes text
-  pub split : lines_of text ≡ header ∷ body
+  pub split : lines_of (text_of bytes) ≡ header ∷ body
   pub refused : head_of header ≡ Err why
   pub told : f ≡ refused_at 1 why
 
@@ -109,13 +106,11 @@ pub record IsLaterFault (bytes : List ℕ) (f : Fault) : Type 0 where
   pub header : List ℕ
   pub body : List (List ℕ)
   pub head : Head
-  pub text : List ℕ
-  pub trimmed : IsTrimAsciiEnd bytes text
-  pub split : lines_of text ≡ header ∷ body
+  pub split : lines_of (text_of bytes) ≡ header ∷ body
   pub said : head_of header ≡ Ok head
   pub wrong : IsBodyFault head.opening (is_some head.limit) body f
 
 -- the fault of a text, unless memory ran out
 abbrev pub IsLinesFault : List ℕ → Fault → Type 0
 IsLinesFault bytes f =
-    (f ≡ fault.NoMemory) ⊎ ((IsTrimAsciiEnd bytes [] × (f ≡ refused_at 1 NotJson)) ⊎ (IsHeaderFault bytes f ⊎ IsLaterFault bytes f))
+    (f ≡ fault.NoMemory) ⊎ (((text_of bytes ≡ []) × (f ≡ refused_at 1 NotJson)) ⊎ (IsHeaderFault bytes f ⊎ IsLaterFault bytes f))

@@ -1,11 +1,11 @@
 -- The log that lines stand for: an operation a line, and a number for each record (this project's own).
-use Rattle.std.specs.Prelude.{◌≡◌, ℕ, ◌==◌, List, [], ◌∷◌, ◌++◌, length, Bool, true, false, ◌||◌, not, if◌then◌else◌, slice_get}
+use Rattle.std.specs.Prelude.{◌≡◌, ℕ, ◌-◌, ◌==◌, List, [], ◌∷◌, ◌++◌, length, take, Bool, true, false, ◌||◌, not, if◌then◌else◌, slice_get}
 use Rattle.std.specs.Prelude.{Option, None, Some, is_none, is_some, unwrap_or, Result, Ok, Err}
 use Rattle.std.specs.List.{count_by}
-use Rattle.std.specs.Str.{IsTrimAsciiEnd}
 use Rattle.history_core.specs.declared.history.Kind.{Kind}
 use Rattle.history_core.specs.declared.history.Kind.TheVariants.{Write, Read, Refused}
 use Rattle.history_core.specs.declared.history.Op.{Op}
+use Rattle.program_streams.specs.Spaces.{ends_in_space, space_behind}
 use Rattle.read_document.specs.declared.refusal.DocError.{DocError}
 use Rattle.read_document.specs.declared.refusal.DocError.TheVariants.{Law, Missing, Shape}
 use Rattle.read_document.specs.declared.key.Key.TheVariants as key
@@ -58,16 +58,17 @@ abbrev pub AreAll : Bool → Bool → List (List ℕ) → List (List ℕ) → Ty
 AreAll limited false body lines = body ≡ lines
 AreAll limited true body lines = (end : List ℕ) × (body ≡ lines ++ end ∷ []) × (judged_line limited (length lines) true end ≡ Ok None)
 
--- The log that bytes stand for, where white space behind the last line is left out: each record has its place among these for its number,
--- and the opening is the first. Of two operations
--- of one task the first has ended before the second begins.
+-- The text of a log: white space behind its last line is left out, unless there is too much of it. Then it stays, as lines that are none.
+abbrev pub text_of : List ℕ → List ℕ
+text_of bytes = if ends_in_space bytes then bytes else take (length bytes - space_behind bytes) bytes
+
+-- The log that bytes stand for: each record has its place among these for its number, and the opening is the first. Of two operations of
+-- one task the first has ended before the second begins.
 pub record IsLog (bytes : List ℕ) (head : Head) (records : List (List ℕ)) (log : List (Op ℕ)) : Type 0 where
   pub header : List ℕ
   pub body : List (List ℕ)
   pub lines : List (List ℕ)
-  pub text : List ℕ
-  pub trimmed : IsTrimAsciiEnd bytes text
-  pub split : lines_of text ≡ header ∷ body
+  pub split : lines_of (text_of bytes) ≡ header ∷ body
   pub said : head_of header ≡ Ok head
   pub ended : Bool
   pub all : AreAll (is_some head.limit) ended body lines

@@ -2,7 +2,7 @@
 ghost use Rattle.std.specs.Prelude.{◌≡◌, ◌<◌, ◌+◌, ◌^◌, ℕ, List, [], length, IfErr, IfOk, OnOk};
 ghost use Rattle.history_core.specs.declared.history.Op.{Op};
 ghost use Rattle.lines_log.specs.Faults.{IsBodyFault, IsLinesFault};
-ghost use Rattle.lines_log.specs.Logs.{IsLinesLog};
+ghost use Rattle.lines_log.specs.Logs.{IsLinesLog, text_of};
 ghost use Rattle.lines_log.specs.inner.Readings.{is_end, IsFinished, AreRead, IsReadWhole};
 ghost use Rattle.read_line.specs.Numberings.{IsNumbering};
 ghost use Rattle.read_document.specs.Splits.{lines_of};
@@ -11,6 +11,7 @@ use crate::faults::refused_at;
 use crate::lines_log::LinesLog;
 use crate::reader::Reader;
 use program_runs::Fault;
+use program_streams::ends_in_space;
 use read_document::{DocError, split_line};
 use read_line::{Numbering, read_header};
 use std::alloc::{AllocError, Global};
@@ -23,7 +24,7 @@ pub fn read_lines(alloc: Global, bytes: &[u8]) -> Result<LinesLog, Fault>
     ensures log { IfOk result (λ read. (log : List (Op ℕ)) × IsLinesLog bytes.now log read) }
     ensures fault { IfErr result (IsLinesFault bytes.now) }
 {
-    let text = bytes.trim_ascii_end();
+    let text = text_of(bytes);
     let Some((first, body)) = split_line(text) else {
         return Err(refused_at(HEADER, DocError::NotJson));
     };
@@ -43,6 +44,17 @@ pub fn read_lines(alloc: Global, bytes: &[u8]) -> Result<LinesLog, Fault>
     match finish(alloc, limit, ended, reader) {
         Ok(log) => Ok(log),
         Err(_) => Err(Fault::NoMemory),
+    }
+}
+
+/// The text of a log, without the white space behind its last line, if that isn't too much.
+fn text_of(bytes: &[u8]) -> &[u8]
+    ensures { result.now ≡ text_of bytes.now }
+{
+    if ends_in_space(bytes) {
+        bytes
+    } else {
+        bytes.trim_ascii_end()
     }
 }
 

@@ -5,10 +5,11 @@ use Rattle.std.proofs.lemmas.List.{take_all}
 use Rattle.std.proofs.KnownBytes.{Consumes-nil, Appends-nil}
 use Rattle.std.specs.Io.{StartsWith}
 use Rattle.std.specs.Io.KnownBytes.{Appends}
-use Rattle.program_streams.specs.Transfer.{IsWhole as IsInputWhole, TakesBytes as TakesInput}
+use Rattle.program_streams.proofs.SpaceLemmas.{within}
+use Rattle.program_streams.specs.Transfer.{IsWhole as IsInputWhole, most_taken, TakesBytes as TakesInput}
 use Rattle.program_runs.specs.Answers.{GivesReply, HasLowStatus}
-use Rattle.program_runs.specs.Run.{CountsTaking, Fails, GivesAnswer, IsToldBy, IsWholeInput, never, Runs, TakesInBound, TakesDocument}
-use Rattle.program_runs.specs.Run.{TellsFault, fault_status, nothing_asked}
+use Rattle.program_runs.specs.Run.{CountsTaking, Fails, GivesAnswer, IsInBound, IsToldBy, IsWholeInput, never, Runs, TakesInBound}
+use Rattle.program_runs.specs.Run.{TakesDocument, TellsFault, fault_status, nothing_asked}
 use Rattle.program_runs.specs.declared.fault.Answer.{Answer}
 use Rattle.program_runs.specs.declared.fault.Fault.{Fault}
 use Rattle.program_runs.specs.declared.fault.Fault.TheVariants as fault
@@ -16,15 +17,19 @@ use Rattle.program_runs.specs.declared.run.Program.{Program}
 
 -- ---- what was taken
 
+-- so many bytes end in no more white space than is kept
+short_in_bound : (taken : List ℕ) → length taken ≤ most_taken → IsInBound never taken
+short_in_bound taken short = (λ bounded. short, omega (arith, within taken, short))
+
 -- up to its bound an input was taken as a document is
 pub document_taken : (old new : Option (List ℕ)) (taken : List ℕ) → TakesInput old new taken → IsInputWhole taken new
     → TakesInBound never old new taken × IsWholeInput never taken new
-document_taken old new taken takes (inl long) = ((takes.0, λ bounded. takes.1), inr (refl, long))
-document_taken old new taken takes (inr end) = ((takes.0, λ bounded. takes.1), inl end)
+document_taken old new taken takes (inl long) = ((takes.0, short_in_bound taken takes.1), inr (inl (refl, long)))
+document_taken old new taken takes (inr end) = ((takes.0, short_in_bound taken takes.1), inl end)
 
 pub document_untaken : (old new : Option (List ℕ)) (status : ℕ) → (taken : List ℕ) × TakesInput old new taken
     → TakesDocument never old new (Err status)
-document_untaken old new status taken = (taken.0, (taken.1.0, λ bounded. taken.1.1))
+document_untaken old new status taken = (taken.0, (taken.1.0, short_in_bound taken.0 taken.1.1))
 
 -- ---- what a fault is told by
 
@@ -60,9 +65,13 @@ module _ (IsOutcome : List ℕ → Answer → Type 0) (is_unbounded : List ℕ �
     whole = λ not_two not_four not_five. absurd (not_four refl);
   }
 
+  -- nothing is in bound
+  nothing_taken : IsInBound is_unbounded []
+  nothing_taken = (λ bounded. omega arith, omega arith)
+
   -- memory ran out before anything was taken
   pub ends_at_once : (left out : Option (List ℕ)) → Runs IsOutcome is_unbounded left left out out 4
-  ends_at_once left out = ends_without_memory left left out [] (Consumes-nil left, λ bounded. omega arith)
+  ends_at_once left out = ends_without_memory left left out [] (Consumes-nil left, nothing_taken)
 
   -- nothing was asked that the program does
   pub ends_unasked : (left out : Option (List ℕ)) → IsOutcome [] nothing_asked → Runs IsOutcome is_unbounded left left out out 2
@@ -70,7 +79,7 @@ module _ (IsOutcome : List ℕ → Answer → Type 0) (is_unbounded : List ℕ �
     taken = [];
     sent = [];
     takes = Consumes-nil left;
-    at_most = λ bounded. omega arith;
+    at_most = nothing_taken;
     sends = Appends-nil out;
     front = inl refl;
     silent = λ two other. refl;

@@ -1,9 +1,10 @@
 -- What a run over a document does to its streams (this project's own).
-use Rattle.std.specs.Prelude.{◌≡◌, ◌≢◌, ◌≤◌, ◌<◌, ◌+◌, ◌++◌, ◌⊎◌, ◌↔◌, ℕ, Bool, false, List, [], length, Option, Result, Ok, Err, Vec}
+use Rattle.std.specs.Prelude.{◌≡◌, ◌≢◌, ◌≤◌, ◌<◌, ◌+◌, ◌++◌, ◌⊎◌, ◌↔◌, ℕ, Bool, true, false, List, [], length, Option, Result, Ok, Err, Vec}
 use Rattle.std.specs.declared.alloc.Global.{Global}
 use Rattle.std.specs.Io.{StartsWith}
 use Rattle.std.specs.Io.KnownBytes.{Consumes, Appends, IsAtEnd}
 use Rattle.program_streams.specs.Exits.{status_of}
+use Rattle.program_streams.specs.Spaces.{ends_in_space, KeepsSpace, most_kept_space, space_behind}
 use Rattle.program_streams.specs.Transfer.{most_taken, TellsLine}
 use Rattle.program_streams.specs.declared.exit.Exit.{Exit}
 use Rattle.program_streams.specs.declared.exit.Exit.TheVariants as exit
@@ -45,22 +46,27 @@ IsFront IsOutcome taken sent = (told : Answer) × IsOutcome taken told × Starts
 abbrev pub never : List ℕ → Bool
 never taken = false
 
--- These bytes were taken, and no more than a run takes, unless they are of a kind without a bound.
+-- No more was taken than a run takes, unless it is of a kind without a bound; and no more white space at its end than is kept.
+abbrev pub IsInBound : (List ℕ → Bool) → List ℕ → Type 0
+IsInBound is_unbounded taken = (is_unbounded taken ≡ false → length taken ≤ most_taken) × (space_behind taken ≤ most_kept_space)
+
 abbrev pub TakesInBound : (List ℕ → Bool) → Option (List ℕ) → Option (List ℕ) → List ℕ → Type 0
-TakesInBound is_unbounded old new taken = Consumes old new taken × (is_unbounded taken ≡ false → length taken ≤ most_taken)
+TakesInBound is_unbounded old new taken = Consumes old new taken × IsInBound is_unbounded taken
 
--- the input was taken to its end, or, where it has a bound, up to that
+-- the input was taken to its end; or, where it has a bound, up to that; or until it ended in more white space than may stand behind a log
 abbrev pub IsWholeInput : (List ℕ → Bool) → List ℕ → Option (List ℕ) → Type 0
-IsWholeInput is_unbounded taken left = IsAtEnd left ⊎ ((is_unbounded taken ≡ false) × (length taken ≡ most_taken))
+IsWholeInput is_unbounded taken left =
+    IsAtEnd left ⊎ (((is_unbounded taken ≡ false) × (length taken ≡ most_taken)) ⊎ (ends_in_space taken ≡ true))
 
--- A run ended with this status, in which such an outcome comes of the input, which is taken to its end where it is of a kind without a
--- bound. in_old and in_new are the bytes that were left of the input before and after, out_old and out_new those that had gone out.
+-- A run ended with this status, in which such an outcome comes of the input, which is taken to its end, or to too much white space, where
+-- it is of a kind without a bound. in_old and in_new are the bytes that were left of the input before and after, out_old and out_new
+-- those that had gone out.
 pub record Runs (IsOutcome : List ℕ → Answer → Type 0) (is_unbounded : List ℕ → Bool) (in_old in_new out_old out_new : Option (List ℕ))
     (status : ℕ) : Type 0 where
   pub taken : List ℕ
   pub sent : List ℕ
   pub takes : Consumes in_old in_new taken
-  pub at_most : is_unbounded taken ≡ false → length taken ≤ most_taken
+  pub at_most : IsInBound is_unbounded taken
   pub sends : Appends out_old out_new sent
   -- what went out is a front of the text for the whole input, also after a failed write
   pub front : (sent ≡ []) ⊎ (IsFront IsOutcome taken sent × IsWholeInput is_unbounded taken in_new)
@@ -83,10 +89,13 @@ abbrev pub TakesDocument : (List ℕ → Bool) → Option (List ℕ) → Option 
 TakesDocument is_unbounded old new (Ok v) = TakesInBound is_unbounded old new v.items × IsWholeInput is_unbounded v.items new
 TakesDocument is_unbounded old new (Err status) = (taken : List ℕ) × TakesInBound is_unbounded old new taken
 
--- the rest of the input was taken, and stands behind what had been taken; or some of it was
+-- the rest of the input was taken, and stands behind what had been taken, or as much of it as ends in too much white space; or some of
+-- it was
 abbrev pub TakesRestOf : Option (List ℕ) → Option (List ℕ) → List ℕ → Result (Vec ℕ Global) ℕ → Type 0
-TakesRestOf old new before (Ok v) = (taken : List ℕ) × Consumes old new taken × (v.items ≡ before ++ taken) × IsAtEnd new
-TakesRestOf old new before (Err status) = (taken : List ℕ) × Consumes old new taken
+TakesRestOf old new before (Ok v) =
+    (taken : List ℕ) × Consumes old new taken × (v.items ≡ before ++ taken) × (IsAtEnd new ⊎ (ends_in_space v.items ≡ true))
+    × KeepsSpace before v.items
+TakesRestOf old new before (Err status) = (taken : List ℕ) × Consumes old new taken × KeepsSpace before (before ++ taken)
 
 -- the status is 5 where a read failed, and else that of want of memory
 abbrev pub CountsTaking : ℕ → ℕ → Result (Vec ℕ Global) ℕ → Type 0

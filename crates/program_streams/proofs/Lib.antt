@@ -1,2 +1,4 @@
 pub mod ExitLemmas
+pub mod RestLemmas
+pub mod SpaceLemmas
 pub mod TransferLemmas

@@ -1,3 +1,4 @@
 pub mod Exits
+pub mod Spaces
 pub mod Stream
 pub mod Transfer

@@ -1,13 +1,9 @@
 //! Which documents are logs in lines.
 ghost use Rattle.std.specs.Prelude.{◌≡◌, IfOk};
-ghost use Rattle.read_document.specs.Document.{value_of};
-ghost use Rattle.read_document.specs.Kinds.{are_lines, is_header, says_lines};
+ghost use Rattle.read_document.specs.Kinds.{are_lines, is_header};
 
 use crate::{DocError, is_kind, read_value, split_line};
 use std::alloc::{AllocError, Global};
-
-/// The greatest number of bytes of a header.
-const MAX_HEADER: usize = 4096;
 
 /// Whether the first line of a document is a header of kind `lines`.
 pub fn are_lines(alloc: Global, bytes: &[u8]) -> Result<bool, AllocError>
@@ -21,16 +17,6 @@ pub fn are_lines(alloc: Global, bytes: &[u8]) -> Result<bool, AllocError>
 
 fn is_header(alloc: Global, line: &[u8]) -> Result<bool, AllocError>
     ensures { IfOk result (λ is. is ≡ is_header line.now) }
-{
-    if line.len() <= MAX_HEADER {
-        says_lines(alloc, line)
-    } else {
-        Ok(false)
-    }
-}
-
-fn says_lines(alloc: Global, line: &[u8]) -> Result<bool, AllocError>
-    ensures { IfOk result (λ says. says ≡ says_lines (value_of line.now)) }
 {
     match read_value(alloc, line) {
         Ok(value) => Ok(is_kind(&value, "lines")),

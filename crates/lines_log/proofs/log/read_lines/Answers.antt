@@ -7,19 +7,19 @@ use Rattle.lines_log.proofs.log.read_lines.Goals as goal
 
 pub returns-in-Ok-finish-clause-log : goal.returns-in-Ok-finish-clause-log
 returns-in-Ok-finish-clause-log c =
-    assembled c.args.bytes.now c.trim_ascii_end-text.result.now c.in-Some.first.now c.in-Some.body.now (head_seen c.in-Ok.header)
-    c.unwrap_or-limit.result c.in-Ok-read_body.ended c.read_body.new.reader c.in-Ok-finish.log c.trim_ascii_end-text.ensures.value
+    assembled c.args.bytes.now c.text_of-text.result.now c.in-Some.first.now c.in-Some.body.now (head_seen c.in-Ok.header)
+    c.unwrap_or-limit.result c.in-Ok-read_body.ended c.read_body.new.reader c.in-Ok-finish.log c.text_of-text.ensures
     c.in-Some.ensures c.in-Ok.ensures (c.in-Ok-read_body.ensures.limited ∙ c.in-Ok-new.ensures.limited)
     (c.in-Ok-read_body.ensures.read (string_bytes c.in-Ok.header.opening) c.in-Ok-new.ensures.read) c.unwrap_or-limit.ensures
     c.in-Ok-finish.ensures
 
 pub returns-in-Err-clause-fault : goal.returns-in-Err-clause-fault
 returns-in-Err-clause-fault c =
-    header_fault c.args.bytes.now c.trim_ascii_end-text.result.now c.in-Some.first.now c.in-Some.body.now c.in-Err.why
-    c.refused_at-in-Err.result c.trim_ascii_end-text.ensures.value c.in-Some.ensures c.in-Err.ensures c.refused_at-in-Err.ensures
+    header_fault c.args.bytes.now c.text_of-text.result.now c.in-Some.first.now c.in-Some.body.now c.in-Err.why
+    c.refused_at-in-Err.result c.text_of-text.ensures c.in-Some.ensures c.in-Err.ensures c.refused_at-in-Err.ensures
 
 pub returns-in-Err-read_body-clause-fault : goal.returns-in-Err-read_body-clause-fault
 returns-in-Err-read_body-clause-fault c =
-    later_fault c.args.bytes.now c.trim_ascii_end-text.result.now c.in-Some.first.now c.in-Some.body.now (head_seen c.in-Ok.header)
-    c.in-Ok-new.reader.limited c.in-Err-read_body.fault c.trim_ascii_end-text.ensures.value c.in-Some.ensures c.in-Ok.ensures
+    later_fault c.args.bytes.now c.text_of-text.result.now c.in-Some.first.now c.in-Some.body.now (head_seen c.in-Ok.header)
+    c.in-Ok-new.reader.limited c.in-Err-read_body.fault c.text_of-text.ensures c.in-Some.ensures c.in-Ok.ensures
     c.in-Ok-new.ensures.limited (c.in-Err-read_body.ensures.fault (string_bytes c.in-Ok.header.opening) c.in-Ok-new.ensures.read)
