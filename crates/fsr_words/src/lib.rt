@@ -2,6 +2,7 @@
 #![tactic(auto)]
 
 mod command;
+pub mod laws;
 mod refusal;
 
 pub use command::{Asked, NoCommand, Want, asked_of};

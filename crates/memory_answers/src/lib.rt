@@ -4,5 +4,6 @@
 
 mod answers;
 mod handing;
+pub mod laws;
 
 pub use answers::{check, order, picture, play, show_numbered};
