@@ -146,15 +146,21 @@ class Converter:
         return self.faults_of_logs(name, wanted, text, words)
 
     def faults_of_streams(self):
-        """A file that isn't there, a folder that can't be, a stream that takes nothing."""
+        """A folder that is there, a file that isn't, a folder that can't be, a stream that takes nothing."""
         faults, history = [], f"{HERE}/jepsen_register.edn"
+        with tempfile.TemporaryDirectory() as folder:
+            status, _, err = self.convert("jepsen_streams", "--to", folder, history, text=b"")
+            if status or err or not os.listdir(folder):
+                faults.append(f"a folder that is there: status {status}: {err}")
         for words, why in (([f"{HERE}/none"], "none: No such file"), (["--to", f"{HERE}/jepsen_cas.edn", history], "jepsen_cas.edn: File exists")):
             status, out, err = self.convert("jepsen_streams", *words, text=b"")
             if (status, out, err.count("\n")) != (5, "", 1) or why not in err:
                 faults.append(f"{words}: status {status}: {err}")
         if os.path.exists("/dev/full"):
             with open("/dev/full", "w", encoding="utf-8") as full:
-                done = subprocess.run([sys.executable, f"{self.folder}/jepsen.py", history], stdout=full, stderr=subprocess.PIPE, check=False)
+                # (what isn't kept in a buffer fails by itself)
+                env = {name: it for name, it in os.environ.items() if name != "PYTHONUNBUFFERED"}
+                done = subprocess.run([sys.executable, f"{self.folder}/jepsen.py", history], stdout=full, stderr=subprocess.PIPE, env=env, check=False)
             if (done.returncode, done.stderr) != (5, b"jepsen: a stream: No space left on device\n"):
                 faults.append(f"/dev/full: status {done.returncode}: {done.stderr.decode()}")
         return faults

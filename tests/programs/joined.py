@@ -117,14 +117,15 @@ def faults_by_hand(room):
 
 
 def faults_of_streams(room):
-    """A file that isn't there, and a stream that takes nothing."""
-    faults = []
+    """A file that isn't there, and a stream that takes nothing. (What isn't kept in a buffer fails by itself.)"""
+    faults, env = [], {name: it for name, it in os.environ.items() if name != "PYTHONUNBUFFERED"}
     with open(f"{room.folder}/whole", "w", encoding="utf-8") as file:
         file.write(HEAD + WRITES)
     for name, to, why in (("none", os.devnull, "none: No such file or directory"), ("whole", "/dev/full", "a stream: No space left on device")):
         if os.path.exists(to):
             with open(to, "w", encoding="utf-8") as out:
-                run = subprocess.run([sys.executable, room.tool, f"{room.folder}/{name}"], stdout=out, stderr=subprocess.PIPE, text=True, check=False)
+                command = [sys.executable, room.tool, f"{room.folder}/{name}"]
+                run = subprocess.run(command, stdout=out, stderr=subprocess.PIPE, text=True, env=env, check=False)
             if run.returncode != 5 or not run.stderr.endswith(f"{why}\n") or run.stderr.count("\n") != 1:
                 faults.append(f"{name}: status {run.returncode}: {run.stderr}")
     return faults
