@@ -54,6 +54,12 @@ releases() {
     }'
 }
 
+# A number for this build of the library, which processes that share a block compare: the beginning of the sum of its objects' bytes.
+fingerprint() {
+    sum=$(cat ./*.o | sha256sum | cut -c -16)
+    printf '.section .rodata\n.balign 8\n.globl nidzaru_fingerprint\n.hidden nidzaru_fingerprint\nnidzaru_fingerprint:\n.quad 0x%s\n' "$sum"
+}
+
 # Makes of the library's objects in this folder one whose only names for others are the library's own calls. They are hidden, so
 # that a shared object with the library inside exports none of them, and two such objects in a process don't mix their libraries.
 join_objects() {
@@ -62,6 +68,7 @@ join_objects() {
     releases >releases.s && {
         cat releases.s && sed -n 's/^\.globl /.hidden /p' releases.s
         "${tools}nm" -g --defined-only ./*.o | awk '$3 ~ /^nidzaru_/ { print ".hidden " $3 }'
+        fingerprint
         echo '.section .note.GNU-stack,"",@progbits'
     } >hidden.s && "${tools}as" hidden.s -o hidden.o && "${tools}ld" -r -o joined ./*.o \
         && "${tools}objcopy" --wildcard --keep-global-symbol='nidzaru_*' joined nidzaru
@@ -99,7 +106,8 @@ version_of_header() {
 
 # The pages that go with the library: what the header cites, what that page's readers need next, the examples and the licences.
 library_pages='CHANGELOG.md LICENSE-MIT LICENSE-APACHE docs/C.md docs/PACKAGE.md docs/LANGUAGES.md docs/BOARD-USE.md docs/ASSUMPTIONS.md
-    docs/BOARD.md docs/pictures/handed_on.svg docs/pictures/board_written_cell.svg examples/c/tasks.c examples/c/tasks.cpp examples/c/board.c examples/c/own_memory.c examples/c/processes.c'
+    docs/BOARD.md docs/pictures/handed_on.svg docs/pictures/board_written_cell.svg examples/c/tasks.c examples/c/tasks.cpp examples/c/board.c examples/c/own_memory.c
+    examples/c/processes.c examples/c/processes.cpp examples/c/plugins.c examples/c/jack.c'
 
 # Lays out the library with its headers and pages, and the script that installs them, in a new folder, an absolute path.
 lay_out() {

@@ -9,6 +9,7 @@
  *   limits_make(&opening, &writer, &reader)            a register that holds `opening`, as its two sides
  *   limits_write(&writer, &item)                       the writing thread: shows the record to the reader
  *   limits_read(&reader, &item, &number)               the reading thread: one whole record, and its number
+ *   limits_latest(&reader, &item)                      the same without the number
  *   limits_look(&reader, &number)                      the reading thread: the number that a read would give, without the record
  *   limits_news(&reader, &item, &number)               the same as a read where there is a greater number than this one, else nothing
  *   limits_end_writer(&writer), limits_end_reader(&reader)   in any order, each from its own thread
@@ -24,6 +25,10 @@
  * What the caller owes and nothing checks stands in docs/C.md, "What C owes". */
 #ifndef NIDZARU_H
 #define NIDZARU_H
+
+#if defined(__cplusplus) ? __cplusplus < 201103L : !defined(__STDC_VERSION__) || __STDC_VERSION__ < 201112L
+#error "nidzaru.h: compile this as C11, or as C++11 or later"
+#else
 
 #include <stddef.h>
 #include <stdint.h>
@@ -241,6 +246,9 @@ NIDZARU_ASSERT(sizeof(void *) == 8, "the library is built for pointers of 8 byte
 
 /* The library's version, as NIDZARU_VERSION is counted. */
 uint32_t nidzaru_version(void);
+
+/* A number for this very build of the library: two builds of one version have two. */
+extern const uint64_t nidzaru_fingerprint;
 
 /* Where the library's memory comes from. It has both, over `malloc` and `free`; a program may define its own two, and then the library asks
  * for no other memory. A block has at least so many bytes, is aligned to 16 and is no other live block; null says that there is no
@@ -567,6 +575,7 @@ NIDZARU_CHECKED int nidzaru_move_handle(nidzaru_handle *to, nidzaru_handle *from
     NIDZARU_ASSERT(sizeof(type) <= 1048576, "a record of a register has at most 1048576 bytes");                       \
     /* (below stands this name alone: a type may be called as an argument is) */                                       \
     typedef type name##_record;                                                                                        \
+    enum { name##_is_triple = (triple) };                                                                              \
     typedef struct {                                                                                                   \
         nidzaru_handle handle;                                                                                         \
         char apart[NIDZARU_APART];                                                                                     \
@@ -615,6 +624,11 @@ NIDZARU_CHECKED int nidzaru_move_handle(nidzaru_handle *to, nidzaru_handle *from
             return NIDZARU_DONE;                                                                                       \
         }                                                                                                              \
     }                                                                                                                  \
+    /* The same without the number. */                                                                                 \
+    NIDZARU_CHECKED int name##_latest(name##_reader *reader, name##_record *item) {                                    \
+        uint64_t number = 0;                                                                                           \
+        return name##_read(reader, item, &number);                                                                     \
+    }                                                                                                                  \
     /* Gives the number that a read would give, without the record: there is news where it is greater than the last    \
      * one. No later read gives a number below it. */                                                                  \
     NIDZARU_CHECKED int name##_look(name##_reader *reader, uint64_t *number) {                                         \
@@ -656,13 +670,14 @@ NIDZARU_CHECKED int nidzaru_move_handle(nidzaru_handle *to, nidzaru_handle *from
     NIDZARU_ASSERT(1, "takes a semicolon")
 
 /* The types NAME_writer and NAME_reader and the functions NAME_make, NAME_write, NAME_read, NAME_look, NAME_news,
- * NAME_move_writer, NAME_move_reader, NAME_end_writer and NAME_end_reader, for records of this type. */
+ * NAME_latest, NAME_move_writer, NAME_move_reader, NAME_end_writer and NAME_end_reader, for records of this type. */
 #define NIDZARU_REGISTER(name, type) NIDZARU_FUNCTIONS(name, type, 0)
 #define NIDZARU_TRIPLE_REGISTER(name, type) NIDZARU_FUNCTIONS(name, type, 1)
 
-/* NIDZARU_HOLD(name), below NIDZARU_TRIPLE_REGISTER(name, type), makes NAME_hold: a read without a copy, of records aligned to at most 8.
+/* NIDZARU_HOLD(name), below NIDZARU_TRIPLE_REGISTER(name, type), makes NAME_hold and NAME_hold_news: a read without a copy, of records aligned to at most 8.
  *
  *   limits_hold(&reader, &at, &number)                 makes `at` lead to one whole record where it lies, and gives its number
+ *   limits_hold_news(&reader, &at, &number)            the same where there is a greater number than this one, else NIDZARU_NO_NEWS
  *
  * No write goes there until the next call with this reader: then, or when its side is moved or ended, nothing is read through `at` any
  * more. Over four-slot cells it answers NIDZARU_OTHER_SIDE. */
@@ -677,6 +692,20 @@ NIDZARU_CHECKED int nidzaru_move_handle(nidzaru_handle *to, nidzaru_handle *from
         status = nidzaru_sized_hold(NIDZARU_SIZE(sizeof(name##_record)), &reader->handle, &held, number);              \
         if (!status) *at = NIDZARU_TO(const name##_record *, held);                                                    \
         return status;                                                                                                 \
+    }                                                                                                                  \
+    /* The same, if there is a record with a greater number than the one that stands there. Else NIDZARU_NO_NEWS, and  \
+     * `*at` stays; nothing is read through it any more all the same. */                                               \
+    NIDZARU_CHECKED int name##_hold_news(name##_reader *reader, const name##_record **at, uint64_t *number) {          \
+        const name##_record *held = NIDZARU_NOWHERE;                                                                   \
+        uint64_t given = 0;                                                                                            \
+        int status;                                                                                                    \
+        if (!at || !number) return NIDZARU_NULL;                                                                       \
+        status = name##_hold(reader, &held, &given);                                                                   \
+        if (status) return status;                                                                                     \
+        if (given <= *number) return NIDZARU_NO_NEWS;                                                                  \
+        *at = held;                                                                                                    \
+        *number = given;                                                                                               \
+        return NIDZARU_DONE;                                                                                           \
     }                                                                                                                  \
     NIDZARU_ASSERT(1, "takes a semicolon")
 
@@ -864,6 +893,7 @@ NIDZARU_INLINE int nidzaru_sized_board_end(int triple, size_t size, nidzaru_hand
     NIDZARU_ASSERT(NIDZARU_COPIES(type), "a record of a board is trivially copyable");                                 \
     NIDZARU_ASSERT(sizeof(type) <= 4096, "a record of a board has at most 4096 bytes");                                \
     typedef type name##_record;                                                                                        \
+    enum { name##_is_triple = (triple) };                                                                              \
     typedef struct {                                                                                                   \
         nidzaru_handle handle;                                                                                         \
         char apart[NIDZARU_APART];                                                                                     \
@@ -910,6 +940,11 @@ NIDZARU_INLINE int nidzaru_sized_board_end(int triple, size_t size, nidzaru_hand
             return NIDZARU_DONE;                                                                                       \
         }                                                                                                              \
     }                                                                                                                  \
+    /* The same without the stamp. */                                                                                  \
+    NIDZARU_CHECKED int name##_latest(name##_place *place, name##_record *item) {                                      \
+        nidzaru_stamp stamp = {0, 0};                                                                                  \
+        return name##_read(place, item, &stamp);                                                                       \
+    }                                                                                                                  \
     /* The same; NIDZARU_OLDER where the answer, which is given, has a smaller stamp than this one. */                 \
     NIDZARU_CHECKED int name##_read_since(name##_place *place, nidzaru_stamp least, name##_record *item, nidzaru_stamp *stamp) { \
         uint64_t words[NIDZARU_BOARD_SIZE(sizeof(name##_record)) / 8] = {0};                                           \
@@ -951,12 +986,13 @@ NIDZARU_INLINE int nidzaru_sized_board_end(int triple, size_t size, nidzaru_hand
     }                                                                                                                  \
     NIDZARU_ASSERT(1, "takes a semicolon")
 
-/* The type NAME_place and the functions NAME_make, NAME_make_limited, NAME_write, NAME_read, NAME_read_since, NAME_news, NAME_move and
- * NAME_end, for records of this type. */
+/* The type NAME_place and the functions NAME_make, NAME_make_limited, NAME_write, NAME_read, NAME_latest, NAME_read_since, NAME_news, NAME_move
+ * and NAME_end, for records of this type. */
 #define NIDZARU_BOARD(name, type) NIDZARU_BOARD_FUNCTIONS(name, type, 0)
 #define NIDZARU_TRIPLE_BOARD(name, type) NIDZARU_BOARD_FUNCTIONS(name, type, 1)
 
 #ifdef __cplusplus
 }
+#endif
 #endif
 #endif

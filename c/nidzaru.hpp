@@ -8,6 +8,7 @@
 //   reader.has_news()                                            whether `latest` would give another record than the last one
 //   reader.news()                                                one whole record, if it is another one than the last
 //   reader.hold()                                                where one whole record lies, over a triple buffer
+//   reader.hold_news()                                           the same, if it is another one than the last
 //
 //   auto places = nidzaru::make_board<3>(plan{})                 the three places of a board that holds this plan
 //   places[0].write(item, stamp)                                 puts the record there, and gives its stamp
@@ -21,6 +22,9 @@
 // 16, 32, 64 and more.
 #ifndef NIDZARU_HPP
 #define NIDZARU_HPP
+#if __cplusplus < 201703L
+#error "nidzaru.hpp: compile this as C++17 or later"
+#else
 #include "nidzaru.h"
 
 #include <array>
@@ -205,6 +209,13 @@ template <class T, cell C = cell::four_slot> class reader : detail::side {
         const void *at = before;
         if (nidzaru_sized_hold(record::size, &handle, &at, &last)) return nullptr;
         return std::launder(static_cast<const T *>(at));
+    }
+
+    // The same, if there is a greater number than the last one; else null, and what was held before isn't held any more. A call of its own.
+    [[nodiscard]] const T *hold_news() noexcept {
+        const std::uint64_t before = last;
+        const T *held = hold();
+        return last > before ? held : nullptr;
     }
 
     // Whether a read would give a greater number than the last read: than 0, the opening's, where there was none.
@@ -423,4 +434,5 @@ template <std::size_t N, cell C = cell::four_slot, class T>
 }
 
 } // namespace nidzaru
+#endif
 #endif

@@ -18,12 +18,13 @@
  *   plant_attach(&block, "/plant", &plant)             another process
  *   limits_claim_writer(&block, &plant->limits, &writer)  this thread uses the writer's side from now on: limits_write(writer, &item)
  *   limits_yield_writer(&block, &plant->limits)        another one may claim it
+ *   limits_recover_writer(&block, &plant->limits, &writer)  a claim that also takes over from an owner that died within a call
  *   nidzaru_shared_detach(&block), nidzaru_shared_unlink(&block, "/plant")
  *
  * Each call answers 0, a status of nidzaru.h, or one of those below, and with any but 0 it has changed nothing. No call of a register or
  * board touches a claim. If the owner of a claim dies between two calls, others may claim its side, which is as it left it. If it dies
- * within a call, the side is refused with NIDZARU_SHARED_OWNER_DEAD for good; the other sides go on. docs/C.md has the rest, "Between
- * processes". */
+ * within a call, a claim is refused with NIDZARU_SHARED_OWNER_DEAD; the other sides go on. Over four slots a recovery takes the side over.
+ * docs/C.md has the rest, "Between processes". */
 #ifndef NIDZARU_SHARED_H
 #define NIDZARU_SHARED_H
 
@@ -47,7 +48,8 @@ enum nidzaru_shared_status {
     NIDZARU_SHARED_OWNER_DEAD = 40,    /* a claim: the owner died within a call; attach: the maker died before it opened the block */
     NIDZARU_SHARED_NOT_OWNER = 41,     /* a yield, open: the claim isn't this thread's */
     NIDZARU_SHARED_ELSEWHERE = 42,     /* the register or board doesn't lie in this block, or the handle has no block */
-    NIDZARU_SHARED_SYSTEM = 43         /* the system refused it, and errno says why */
+    NIDZARU_SHARED_SYSTEM = 43,        /* the system refused it, and errno says why */
+    NIDZARU_SHARED_LOST = 44           /* a recovery: over a triple buffer what a side knew can't be told from what it shows */
 };
 
 /* The address at which a named block lies in each process, a multiple of 4096. A program that makes two blocks defines another one. */
@@ -61,10 +63,10 @@ typedef struct {
     pid_t process;
 } nidzaru_claim;
 
-/* What stands before a register or board in a block: whether it is made, and of which type. */
+/* What stands before a register or board in a block: whether it is made, the numbers of a register's sides, and of which type it is. */
 typedef struct {
     uint32_t state;
-    uint32_t claims;
+    uint16_t writer, reader;
     uint64_t type;
 } nidzaru_item;
 
@@ -87,6 +89,8 @@ int nidzaru_shared_attach(nidzaru_shared *block, const char *name, size_t root_b
 int nidzaru_item_begin(nidzaru_shared *block, nidzaru_item *item, nidzaru_claim *claims, size_t count, uint64_t type);
 int nidzaru_item_end(nidzaru_item *item, int status);
 int nidzaru_item_claim(nidzaru_shared *block, nidzaru_item *item, nidzaru_claim *claim, const nidzaru_handle *handle, uint64_t type);
+int nidzaru_item_recover(nidzaru_shared *block, nidzaru_item *item, nidzaru_claim *claim, nidzaru_handle *handle, uint64_t type, size_t size,
+                         int is_writer);
 int nidzaru_item_yield(nidzaru_shared *block, nidzaru_claim *claim);
 
 /* Lets others attach. The maker's thread that made the block opens it. */
@@ -136,7 +140,7 @@ NIDZARU_INLINE uint64_t nidzaru_shared_type(const char *name, size_t size, size_
     }                                                                                                                  \
     NIDZARU_ASSERT(1, "takes a semicolon")
 
-/* NAME_claim_SIDE and NAME_yield_SIDE of a register, whose claim of this side has this number. */
+/* NAME_claim_SIDE, NAME_recover_SIDE and NAME_yield_SIDE of a register, whose claim of this side has this number. */
 #define NIDZARU_SHARED_SIDE(name, side, number)                                                                        \
     /* Makes this thread the side's owner, and points `*side` to its handle. The thread lives as long as it is used. */ \
     NIDZARU_CHECKED int name##_claim_##side(nidzaru_shared *block, name##_shared *shared, name##_##side **side) {      \
@@ -147,12 +151,21 @@ NIDZARU_INLINE uint64_t nidzaru_shared_type(const char *name, size_t size, size_
         if (!status) *side = &shared->side;                                                                            \
         return status;                                                                                                 \
     }                                                                                                                  \
+    /* The same, and takes over from an owner that died within a call. Over a triple buffer NIDZARU_SHARED_LOST there. */ \
+    NIDZARU_CHECKED int name##_recover_##side(nidzaru_shared *block, name##_shared *shared, name##_##side **side) {    \
+        int status;                                                                                                    \
+        if (!block || !shared || !side) return NIDZARU_NULL;                                                           \
+        status = nidzaru_item_recover(block, &shared->item, &shared->claims[number], &shared->side.handle,             \
+                                      name##_shared_type(), name##_is_triple ? 0 : NIDZARU_SIZE(sizeof(name##_record)), (number) == 0); \
+        if (!status) *side = &shared->side;                                                                            \
+        return status;                                                                                                 \
+    }                                                                                                                  \
     NIDZARU_CHECKED int name##_yield_##side(nidzaru_shared *block, name##_shared *shared) {                            \
         return block && shared ? nidzaru_item_yield(block, &shared->claims[number]) : NIDZARU_NULL;                    \
     }
 
 /* Below NIDZARU_REGISTER(name, type) or NIDZARU_TRIPLE_REGISTER(name, type): the type NAME_shared and the functions NAME_shared_make,
- * NAME_claim_writer, NAME_yield_writer, NAME_claim_reader and NAME_yield_reader. */
+ * NAME_claim_writer, NAME_recover_writer, NAME_yield_writer, and the same three of the reader. */
 #define NIDZARU_SHARED_REGISTER(name)                                                                                  \
     typedef struct {                                                                                                   \
         nidzaru_item item;                                                                                             \
@@ -162,14 +175,19 @@ NIDZARU_INLINE uint64_t nidzaru_shared_type(const char *name, size_t size, size_
         name##_reader reader;                                                                                          \
     } name##_shared;                                                                                                   \
     NIDZARU_INLINE uint64_t name##_shared_type(void) {                                                                 \
-        return nidzaru_shared_type("register", sizeof(name##_record), NIDZARU_ALIGNMENT(name##_record));               \
+        return nidzaru_shared_type(name##_is_triple ? "triple register" : "register", sizeof(name##_record),           \
+                                   NIDZARU_ALIGNMENT(name##_record));                                                  \
     }                                                                                                                  \
     /* Makes the register in the block. NIDZARU_IN_USE where it is made, or another thread makes it. */                \
     NIDZARU_CHECKED int name##_shared_make(nidzaru_shared *block, name##_shared *shared, const name##_record *first) { \
         int status;                                                                                                    \
         if (!block || !shared || !first) return NIDZARU_NULL;                                                          \
         status = nidzaru_item_begin(block, &shared->item, shared->claims, 2, name##_shared_type());                    \
-        return status ? status : nidzaru_item_end(&shared->item, name##_make(first, &shared->writer, &shared->reader)); \
+        if (status) return status;                                                                                     \
+        status = name##_make(first, &shared->writer, &shared->reader);                                                 \
+        shared->item.writer = NIDZARU_TO(uint16_t, shared->writer.handle.side.live);                                   \
+        shared->item.reader = NIDZARU_TO(uint16_t, shared->reader.handle.side.live);                                   \
+        return nidzaru_item_end(&shared->item, status);                                                                \
     }                                                                                                                  \
     NIDZARU_SHARED_SIDE(name, writer, 0)                                                                               \
     NIDZARU_SHARED_SIDE(name, reader, 1)                                                                               \
@@ -186,7 +204,8 @@ NIDZARU_INLINE uint64_t nidzaru_shared_type(const char *name, size_t size, size_
         name##_place places[count];                                                                                    \
     } name##_shared;                                                                                                   \
     NIDZARU_INLINE uint64_t name##_shared_type(void) {                                                                 \
-        return nidzaru_shared_type("board", sizeof(name##_record), NIDZARU_ALIGNMENT(name##_record)) + (count);        \
+        return nidzaru_shared_type(name##_is_triple ? "triple board" : "board", sizeof(name##_record),                 \
+                                   NIDZARU_ALIGNMENT(name##_record)) + (count);                                        \
     }                                                                                                                  \
     /* Makes the board in the block. NIDZARU_IN_USE where it is made, or another thread makes it. */                   \
     NIDZARU_CHECKED int name##_shared_make(nidzaru_shared *block, name##_shared *shared, const name##_record *first) { \
@@ -289,13 +308,13 @@ void nidzaru_release(void *block) {
     if (!part->from) free(part);
 }
 
-/* What both programs must have alike. (Of the library it is the version alone: of two builds of one version only the header's sizes tell.) */
+/* What all programs must have alike: the build of the library, the version of the header or crate, and the sizes of what lies in a block. */
 static uint64_t nidzaru_build(void) {
-    const uint64_t sizes[] = {nidzaru_version(), sizeof(nidzaru_handle), NIDZARU_APART, sizeof(nidzaru_item), sizeof(nidzaru_claim),
+    const uint64_t parts[] = {nidzaru_fingerprint, sizeof(nidzaru_handle), NIDZARU_APART, sizeof(nidzaru_item), sizeof(nidzaru_claim),
                               sizeof(nidzaru_shared_head)};
     uint64_t sum = NIDZARU_VERSION;
     size_t k;
-    for (k = 0; k < sizeof sizes / sizeof *sizes; k++) sum = (sum ^ sizes[k]) * 1099511628211u;
+    for (k = 0; k < sizeof parts / sizeof *parts; k++) sum = (sum ^ parts[k]) * 1099511628211u;
     return sum;
 }
 
@@ -541,6 +560,85 @@ int nidzaru_item_claim(nidzaru_shared *block, nidzaru_item *item, nidzaru_claim 
     return status;
 }
 
+/* Where a register over four slots has what a side knows and what it shows, counted in words: no promise of the library. A side lies in a box,
+ * with a pointer to the cell; that has one to its 32 words and one to its four slots, whose records begin with their number, and these counts. */
+enum {
+    NIDZARU_BOX_CELL = 0,
+    NIDZARU_BOX_SAID = 1,   /* a reader: what it stored in `reading`, 2 at first */
+    NIDZARU_BOX_BITS = 1,   /* a writer: the bits of the pairs that it stored, then the pair in `latest`, then the number of its last write */
+    NIDZARU_BOX_LATEST = 3,
+    NIDZARU_BOX_NUMBER = 4,
+    NIDZARU_CELL_WORDS = 1,
+    NIDZARU_CELL_SLOTS = 2,
+    NIDZARU_CELL_COUNTS = 3,
+    NIDZARU_WORD_LATEST = 8,
+    NIDZARU_WORD_BITS = 10,
+    NIDZARU_WORD_READING = 24
+};
+
+/* So many words of the block to which this one leads; null where they don't lie in it. */
+static uint64_t *nidzaru_words(const nidzaru_shared *block, uint64_t at, size_t count) {
+    const uint64_t from = NIDZARU_ADDRESS(block->head), bytes = block->head->bytes;
+    if (at % 8 || at < from || at - from >= bytes || count * 8 > bytes - (at - from)) return NIDZARU_NOWHERE;
+    return NIDZARU_TO(uint64_t *, NIDZARU_AT(at));
+}
+
+/* Makes the box of a side, whose owner died within a call, know what the cell shows. What a dead call did is a call that ended or none:
+ *
+ * - A read's loads leave nothing, and its store, R2, is that of a read that ended. What the reader remembers of `reading` may not be so: it
+ *   forgets it, and its next read stores.
+ * - A write shows nothing before W4 stores the pair's bit, and then its record is whole and W5 alone is missing, if at all. So the greater
+ *   number of the two records that the bits show is that of the last write, and `latest` gets its pair. The writer remembers the bits.
+ *
+ * It may die itself: the handle has its mark until all is done, and the next recovery does it again. */
+static int nidzaru_mend(const nidzaru_shared *block, uint64_t box_at, size_t size, int is_writer) {
+    const size_t record = size / 8 + 1;
+    uint64_t *const box = nidzaru_words(block, box_at, NIDZARU_BOX_NUMBER + 1), *cell, *words, *slots, bits[2], numbers[2], latest, newest;
+    if (!box || !(cell = nidzaru_words(block, box[NIDZARU_BOX_CELL], NIDZARU_CELL_COUNTS + 2))) return 0;
+    if (cell[NIDZARU_CELL_COUNTS] != 32 || cell[NIDZARU_CELL_COUNTS + 1] != 4) return 0;
+    words = nidzaru_words(block, cell[NIDZARU_CELL_WORDS], 32);
+    slots = nidzaru_words(block, cell[NIDZARU_CELL_SLOTS], 4 * record);
+    if (!words || !slots) return 0;
+    latest = __atomic_load_n(&words[NIDZARU_WORD_LATEST], __ATOMIC_SEQ_CST);
+    bits[0] = __atomic_load_n(&words[NIDZARU_WORD_BITS], __ATOMIC_SEQ_CST);
+    bits[1] = __atomic_load_n(&words[NIDZARU_WORD_BITS + 1], __ATOMIC_SEQ_CST);
+    if (latest > 1 || bits[0] > 1 || bits[1] > 1 || __atomic_load_n(&words[NIDZARU_WORD_READING], __ATOMIC_SEQ_CST) > 1) return 0;
+    if (!is_writer) {
+        if (box[NIDZARU_BOX_SAID] > 2) return 0;
+        box[NIDZARU_BOX_SAID] = 2;
+        return 1;
+    }
+    numbers[0] = slots[bits[0] * record];
+    numbers[1] = slots[(2 + bits[1]) * record];
+    newest = numbers[0] > numbers[1] ? 0 : numbers[1] > numbers[0] ? 1 : latest;
+    if (box[NIDZARU_BOX_BITS] > 1 || box[NIDZARU_BOX_BITS + 1] > 1 || box[NIDZARU_BOX_LATEST] > 1) return 0;
+    if (latest != newest) __atomic_store_n(&words[NIDZARU_WORD_LATEST], newest, __ATOMIC_SEQ_CST);
+    box[NIDZARU_BOX_BITS] = bits[0];
+    box[NIDZARU_BOX_BITS + 1] = bits[1];
+    box[NIDZARU_BOX_LATEST] = newest;
+    box[NIDZARU_BOX_NUMBER] = numbers[newest];
+    return 1;
+}
+
+/* A claim, also of a side whose owner died within a call: of a register over four slots with records of this size of the library's, 0 over a
+ * triple buffer. There two slots may be the dead writer's: from the word alone nobody tells whether it had swapped. */
+int nidzaru_item_recover(nidzaru_shared *block, nidzaru_item *item, nidzaru_claim *claim, nidzaru_handle *handle, uint64_t type, size_t size,
+                         int is_writer) {
+    int status = nidzaru_item_claim(block, item, claim, handle, type);
+    if (status != NIDZARU_SHARED_OWNER_DEAD) return status;
+    if (!size) return NIDZARU_SHARED_LOST;
+    status = nidzaru_take_claim(block, claim);
+    if (status) return status;
+    status = nidzaru_look_at_handle(handle);
+    if (status == NIDZARU_SHARED_OWNER_DEAD && nidzaru_mend(block, NIDZARU_ADDRESS(handle->side.at), size, is_writer)) {
+        __atomic_store_n(&handle->side.live, is_writer ? item->writer : item->reader, __ATOMIC_RELEASE);
+        status = NIDZARU_DONE;
+    }
+    if (status) pthread_mutex_unlock(&claim->mutex);
+    else __atomic_fetch_add(&block->held, 1, __ATOMIC_RELAXED);
+    return status;
+}
+
 int nidzaru_item_yield(nidzaru_shared *block, nidzaru_claim *claim) {
     if (!nidzaru_lies_in(block, claim)) return NIDZARU_SHARED_ELSEWHERE;
     nidzaru_count_own(block);
@@ -563,6 +661,7 @@ const char *nidzaru_shared_text(int status) {
     case NIDZARU_SHARED_NOT_OWNER: return "this thread isn't its owner";
     case NIDZARU_SHARED_ELSEWHERE: return "it doesn't lie in this block";
     case NIDZARU_SHARED_SYSTEM: return "the system refused it";
+    case NIDZARU_SHARED_LOST: return "what its dead owner knew can't be told";
     default: return nidzaru_status_text(status);
     }
 }

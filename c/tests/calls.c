@@ -120,7 +120,13 @@ static void news_of_registers(void) {
     check(wholes_news(&copy, &y, &n) == NIDZARU_COPIED, "news", "a copied reader");
     check(wholes_news(0, &y, &n) == NIDZARU_NULL && wholes_news(&r, 0, &n) == NIDZARU_NULL && wholes_news(&r, &y, 0) == NIDZARU_NULL, "news",
           "null pointers");
+    y.low = 7;
+    check(!wholes_latest(&r, &y) && y.low == 1 && y.high == 3, "news", "the latest record");
+    y.low = 7;
+    check(wholes_latest(&copy, &y) == NIDZARU_COPIED && wholes_latest(0, &y) == NIDZARU_NULL && wholes_latest(&r, 0) == NIDZARU_NULL
+              && y.low == 7, "news", "what has no latest record");
     check(!wholes_end_writer(&w) && !wholes_end_reader(&r), "news", "ends");
+    check(wholes_latest(&r, &y) == NIDZARU_ENDED && y.low == 7, "news", "no latest record of an ended side");
 }
 
 static void news_of_boards(void) {
@@ -141,6 +147,8 @@ static void news_of_boards(void) {
     check(part_boards_news(&p[1], &y, &its) == NIDZARU_NO_NEWS && is_stamp(its, 1, 0) && y.low == 7, "a board's news", "the same again");
     its.writer = 1;
     check(part_boards_news(&p[1], &y, &its) == NIDZARU_NO_NEWS && is_stamp(its, 1, 1) && y.low == 7, "a board's news", "a greater stamp");
+    check(!part_boards_latest(&p[1], &y) && y.low == 1, "a board's news", "the latest record");
+    check(part_boards_latest(0, &y) == NIDZARU_NULL && part_boards_latest(&p[1], 0) == NIDZARU_NULL, "a board's news", "no latest record");
     check(!part_boards_end(&p[0]) && !part_boards_end(&p[1]), "a board's news", "ends");
 }
 

@@ -1,7 +1,7 @@
 """The wrong edits of the headers and of the crate for Rust that planted.py makes, each with the test that refuses it."""
 
 H, HPP, LIB, BOARDS, RAW = "c/nidzaru.h", "c/nidzaru.hpp", "src/lib.rs", "src/boards.rs", "src/raw.rs"
-WATCHED = "src/watched.rs"
+WATCHED, BLOCK, SHARED = "src/watched.rs", "src/block.rs", "src/shared.rs"
 COPIED = "if (nidzaru_is_copied(&{0}->handle)) return NIDZARU_COPIED;"
 WRITE = "int name##_write(name##_writer *writer, const name##_record *item) { if (!writer || !item) return NIDZARU_NULL; "
 B_WRITE = "int name##_write(name##_place *place, const name##_record *item, nidzaru_stamp *stamp) { "
@@ -16,11 +16,11 @@ B_END = "int name##_end(name##_place *place) { if (!place) return NIDZARU_NULL; 
 NO_CHECK = "NIDZARU_CHECKED int name##_{0}", "NIDZARU_INLINE int name##_{0}"
 # The calls whose status the compiler sees to, and how their functions begin.
 STATUSES = [
-    *[(call, f"{call}(") for call in ("look", "hold", "loan", "publish", "move_writer", "move_reader", "make_limited", "read_since", "move")],
+    *[(call, f"{call}(") for call in ("look", "hold", "hold_news", "loan", "publish", "move_writer", "move_reader", "make_limited", "read_since", "move")],
     ("make", "make(const name##_record *first, name##_writer"),
-    *[(call, f"{call}(name##_{side}") for call, side in (("write", "writer"), ("read", "reader"), ("news", "reader"))],
+    *[(call, f"{call}(name##_{side}") for call, side in (("write", "writer"), ("read", "reader"), ("latest", "reader"), ("news", "reader"))],
     ("a board's make", "make(const name##_record *first, name##_place"),
-    *[(f"a board's {call}", f"{call}(name##_place") for call in ("write", "read", "news")],
+    *[(f"a board's {call}", f"{call}(name##_place") for call in ("write", "read", "latest", "news")],
 ]
 
 
@@ -148,7 +148,7 @@ HEADER = [
         "(size) == 65536 ? nidzaru_triple_1048576_##call arguments : nidzaru_triple",
         "held",
     ),
-    ("a hold without its number", "*at = held; *number = given;", "*at = held;", "held"),
+    ("a hold without its number", "NIDZARU_FILLED(held, size); *at = held; *number = given;", "NIDZARU_FILLED(held, size); *at = held;", "held"),
     (
         "an opening that comes to the stack",
         "if (NIDZARU_PASSES(sizeof(name##_record), NIDZARU_ALIGNMENT(name##_record))) { return nidzaru_sized_make(",
@@ -237,6 +237,13 @@ HEADER = [
     ("a stamp of a refused write", "if (!status) *stamp = given;", "*stamp = given;", "boards"),
     ("nothing given where it is older", "if (status && status != NIDZARU_OLDER) return status;", "if (status) return status;", "calls"),
     ("old news", "return seen > *number ?", "return seen >= *number ?", "calls"),
+    ("old news that are held", "if (given <= *number) return", "if (given < *number) return", "held"),
+    ("held news without their number", "*at = held; *number = given; return NIDZARU_DONE; } NIDZARU_ASSERT(1,",
+     "*at = held; return NIDZARU_DONE; } NIDZARU_ASSERT(1,", "held"),
+    ("no news that are held", "if (given <= *number) return NIDZARU_NO_NEWS; *at = held;", "*at = held; if (given <= *number) return NIDZARU_NO_NEWS;",
+     "held"),
+    ("held news into no number", "if (!at || !number) return NIDZARU_NULL; status = name##_hold(", "if (!at) return NIDZARU_NULL; status = name##_hold(",
+     "held"),
     (
         "old news of a board",
         "if (!nidzaru_stamp_is_below(*stamp, given)) return NIDZARU_NO_NEWS;",
@@ -483,6 +490,7 @@ CLASSES = [
         "(!status) last = number;",
         "objects",
     ),
+    ("a class's old news that are held", "return last > before ? held", "return last >= before ? held", "test.cpp"),
     ("a class's old news", "return !look(number) && number > last;", "return !look(number) && number >= last;", "objects"),
     ("a place's old news", "return last > before ? item", "return last >= before ? item", "objects"),
     ("a place that always has news", "copy.words, &given) && given > last;", "copy.words, &given) && given >= last;", "objects"),
@@ -598,7 +606,7 @@ CRATE = [
         "test calls",
     ),
     ("a hold that looks alone", RAW, "DONE => hold_for(calls.size)(&mut reader.side, &mut at),", "DONE => DONE,", "test calls"),
-    ("a hold without its number", LIB, "self.last = number; item } } impl", "let _ = number; item } } impl", "test calls"),
+    ("a hold without its number", LIB, "self.last = number; item } /// The same, if a read", "let _ = number; item } /// The same, if a read", "test calls"),
     ("a hold of another size", RAW, "64 => nidzaru_triple_64_hold,", "64 => nidzaru_triple_24_hold,", "test calls"),
     ("a hold of a larger size", RAW, "65536 => nidzaru_triple_65536_hold,", "65536 => nidzaru_triple_1048576_hold,", "test large"),
     ("a loan of a larger size", RAW, '65536 => in_place!("triple_65536"),', '65536 => in_place!("triple_1048576"),', "test large"),
@@ -633,6 +641,7 @@ CRATE = [
     ("a board with a limit", BOARDS, "limited_board(n, GREATEST_LIMIT, first)", "limited_board(n, 1_000_000, first)", "test boards"),
     ("an older answer as a fresh one", RAW, "stamp, status == DONE)", "stamp, true)", "test boards"),
     ("old news", BOARDS, "(self.last > before)", "(self.last >= before)", "test boards"),
+    ("old news that are held", LIB, "(number > before).then_some(item)", "(number >= before).then_some(item)", "doc hold_news"),
     ("old news of a register", LIB, "self.look() > self.last", "self.look() >= self.last", "test calls"),
     (
         "a number that is forgotten",
@@ -691,6 +700,29 @@ CRATE = [
     ),
     *[(f"what Debug prints of a {name}", path, f'debug_struct("{name}")', 'debug_struct("Side")', "test calls")
       for name, path in (("Writer", LIB), ("Reader", LIB), ("Place", BOARDS))],
+    ("claims that a dead thread keeps", BLOCK, "if why == OWNER_DEAD { why = unsafe { pthread_mutex_consistent", "if false { why = unsafe { "
+     "pthread_mutex_consistent", "blocks"),
+    ("claims of sides that were cut off", BLOCK, "raw::BUSY => Err(Refused::OwnerDead),", "raw::BUSY => Ok(()),", "blocks"),
+    ("claims of sides that ended", BLOCK, "0 => Err(Refused::Ended),", "0 => Ok(()),", "blocks"),
+    ("a refused claim that is kept", BLOCK, "if let Err(why) = handle.look() { claim.give(); return Err(why);",
+     "if let Err(why) = handle.look() { return Err(why);", "blocks"),
+    ("claims that nobody gives back", BLOCK, "if self.claim.give() == 0 {", "if false {", "blocks"),
+    ("blocks of any build", BLOCK, "MARK if its_build == build() && bytes == size", "MARK if bytes == size", "blocks"),
+    ("blocks of any type", BLOCK, "if (its_kind, its_root_bytes) == (kind, root_bytes) {", "if true {", "blocks"),
+    ("blocks that others may open", BLOCK, " || seen.mode() & 0o77 != 0", "", "blocks"),
+    ("blocks that others read", BLOCK, ".mode(0o600)", ".mode(0o644)", "blocks"),
+    ("a maker whose death is told once", BLOCK, "OWNER_DEAD | NOT_RECOVERABLE => Err", "OWNER_DEAD => Err", "blocks"),
+    ("a register of another block", BLOCK, "self.has(item)?; if item.state.load", "if item.state.load", "blocks"),
+    ("a register in the process's own memory", BLOCK, "MAKING.set(self.head.as_ptr());", "", "blocks"),
+    ("all registers in the block", BLOCK, "MAKING.set(ptr::null()); if let Ok", "if let Ok", "blocks"),
+    ("a recovery by the other side's number", BLOCK, "codes[usize::from(!is_writer)]", "codes[usize::from(is_writer)]", "blocks"),
+    *[(f"a recovery without {what}", BLOCK, f"side.set(lies::{old});", "", "blocks")
+      for what, old in (("its number", "NUMBER, numbers[newest]"), ("what it showed", "LATEST, newest as u64"))],
+    ("what leads out of the block", BLOCK, "is_inside.then(||", "Some(is_inside).map(|_|", "blocks"),
+    ("records that point", SHARED, "const fn is<T: $crate::shared::Record>() {} $(is::<$type>();)*", "const fn is<T: $crate::shared::Record>() {}",
+     "blocks_doc shared_record"),
+    ("blocks of anything", SHARED, "const fn is<T: $crate::shared::Shares>() {} $(is::<$type>();)*", "const fn is<T: $crate::shared::Shares>() {}",
+     "blocks_doc shared_block"),
     ("one order for all registers", WATCHED, "Relaxed) % BYTES.len()", "Relaxed) % 1", "races other"),
     ("one place for all held records", WATCHED, "&HELD[self.at() as usize - BYTES.as_ptr() as usize]", "&HELD[0]", "races"),
     ("a held slot that isn't let go", WATCHED, "unsafe { __tsan_release(at) };", "", "races"),
@@ -710,7 +742,8 @@ CRATE = [
         "unsafe { __tsan_acquire(self.at()) }; let given = ignore(call);",
         "races",
     ),
-    ("sides of two orders", RAW, "ReadingSide { side: reader, order, end", "ReadingSide { side: reader, order: Order::new(), end", "races"),
+    ("sides of two orders", RAW, "ReadingSide { live: Live { side: reader, order }", "ReadingSide { live: Live { side: reader, order: Order::new() }",
+     "races"),
     *[(f"no order by {what}", RAW, f"{old} unsafe {{ (calls.{call})({rest}", f"ignore(|| unsafe {{ (calls.{call})({rest}", "races")
       for what, old, call, rest in (
           ("a write", "writer.order.show(||", "write", "&mut writer.side, ptr::from_ref(item)"),

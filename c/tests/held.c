@@ -24,9 +24,15 @@
             check(is_filled(at, sizeof given, i), #name, "the record");                                               \
             before = at;                                                                                              \
             check(!name##s_hold(&reader, &at, &number) && number == i - 1u && at == before, #name, "the same again"); \
+            at = 0;                                                                                                   \
+            check(name##s_hold_news(&reader, &at, &number) == NIDZARU_NO_NEWS && !at && number == i - 1u, #name, "no news"); \
+            number = i - 2u;                                                                                          \
+            check(!name##s_hold_news(&reader, &at, &number) && number == i - 1u && at == before, #name, "news");      \
         }                                                                                                             \
         check(name##s_hold(0, &at, &number) == NIDZARU_NULL && name##s_hold(&reader, 0, &number) == NIDZARU_NULL      \
             && name##s_hold(&reader, &at, 0) == NIDZARU_NULL, #name, "null");                                         \
+        check(name##s_hold_news(0, &at, &number) == NIDZARU_NULL && name##s_hold_news(&reader, 0, &number) == NIDZARU_NULL \
+            && name##s_hold_news(&reader, &at, 0) == NIDZARU_NULL, #name, "null of news");                            \
         {                                                                                                             \
             name##s_reader copy = reader;                                                                             \
             check(name##s_hold(&copy, &at, &number) == NIDZARU_COPIED, #name, "a copied handle");                     \
@@ -35,6 +41,7 @@
         check(!name##s_hold(&reader, &at, &number) && number == 98 && is_filled(at, sizeof given, 99), #name, "after its end"); \
         check(!name##s_end_reader(&reader), #name, "the reader's end");                                               \
         check(name##s_hold(&reader, &at, &number) == NIDZARU_ENDED && number == 98, #name, "after both");             \
+        check(name##s_hold_news(&reader, &at, &number) == NIDZARU_ENDED && number == 98, #name, "no news after both"); \
     }
 
 EACH_SIZE(TEST)

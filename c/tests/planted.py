@@ -24,7 +24,7 @@ HERE = os.path.dirname(os.path.realpath(__file__))
 TOP = os.path.dirname(os.path.dirname(HERE))
 sys.path.insert(0, HERE)
 import refused  # noqa: E402
-from edits import BOARDS, CLASSES, CRATE, H, HEADER, HPP, LIB, RAW, WATCHED  # noqa: E402
+from edits import BLOCK, BOARDS, CLASSES, CRATE, H, HEADER, HPP, LIB, RAW, SHARED, WATCHED  # noqa: E402
 
 # What stands before a command, and so many seconds it may take.
 BEFORE, LONGEST = [], 240
@@ -111,7 +111,7 @@ class Room:
         self.is_edited, self.built = False, {}
         for name in ("nidzaru.h", "nidzaru.hpp"):
             shutil.copy(f"{TOP}/c/{name}", self.headers)
-        for name in ("Cargo.toml", LIB, BOARDS, RAW, WATCHED):
+        for name in ("Cargo.toml", LIB, BOARDS, RAW, WATCHED, BLOCK, SHARED):
             shutil.copyfile(f"{TOP}/rust/nidzaru/{name}", f"{self.crate}/{name}")
 
     def edit(self, path, old, new, all_of_them=False):
@@ -201,7 +201,9 @@ class Room:
 
     def cargo(self, words):
         kind, *names = words.split()
-        targets = {"doc": ["--doc", *names], "test": ["--test", *names], "lib": ["--lib", *names]}[kind]
+        shared = ["--features", "shared"]
+        targets = {"doc": ["--doc", *names], "test": ["--test", *names], "lib": ["--lib", *names], "blocks": [*shared, "--test", "shared"],
+                   "blocks_doc": [*shared, "--doc", *names]}[kind]
         status, said = self.run_cargo("test", *targets)
         return "could not compile" not in said, status == 0 and "test result: ok" in said, said
 

@@ -16,6 +16,8 @@ NIDZARU_TRIPLE_REGISTER(plans, struct plan);
 NIDZARU_SHARED_REGISTER(plans);
 NIDZARU_REGISTER(narrows, struct narrow);
 NIDZARU_SHARED_REGISTER(narrows);
+NIDZARU_TRIPLE_REGISTER(thirds, struct limits);
+NIDZARU_SHARED_REGISTER(thirds);
 NIDZARU_BOARD(turns, struct limits);
 NIDZARU_SHARED_BOARD(turns, 3);
 
@@ -92,7 +94,12 @@ static int run_task(const char *task) {
         narrows_writer *narrow;
         return narrows_claim_writer(&block, (narrows_shared *)(void *)&plant->limits, &narrow);
     }
+    if (!strcmp(task, "third")) {
+        thirds_writer *third;
+        return thirds_claim_writer(&block, (thirds_shared *)(void *)&plant->limits, &third);
+    }
     if (!strcmp(task, "yield")) return limits_yield_writer(&block, &plant->limits);
+    if (!strcmp(task, "recover")) return limits_recover_writer(&block, &plant->limits, &writer);
     if (!strcmp(task, "make")) {
         const struct limits first = limits_of(5000);
         return limits_shared_make(&block, &plant->later, &first);
@@ -185,6 +192,7 @@ static void refuse_attaching(nidzaru_shared *block) {
     close(file);
     is("an attach", elsewhere("attach"), 0);
     is("a claim by another type", elsewhere("narrow"), NIDZARU_SHARED_OTHER_TYPE);
+    is("a claim by another mechanism", elsewhere("third"), NIDZARU_SHARED_OTHER_TYPE);
 }
 
 static void *claim_it(void *at) {
@@ -218,6 +226,7 @@ static void hand_over(nidzaru_shared *block, struct plant *plant) {
     uint64_t number = 0;
     is("a claim", limits_claim_writer(block, &plant->limits, &writer), 0);
     is("a claim of a claimed side", elsewhere("claim"), NIDZARU_SHARED_CLAIMED);
+    is("a recovery of a claimed side", elsewhere("recover"), NIDZARU_SHARED_CLAIMED);
     is("a yield of another's", elsewhere("yield"), NIDZARU_SHARED_NOT_OWNER);
     in_thread(claim_it, block);
     is("a detach with claims", nidzaru_shared_detach(block), NIDZARU_SHARED_CLAIMED);
@@ -240,6 +249,7 @@ static void hand_over(nidzaru_shared *block, struct plant *plant) {
     is("the reader's end", limits_claim_reader(block, &plant->limits, &reader) + limits_end_reader(reader), 0);
     is("its yield", limits_yield_reader(block, &plant->limits), 0);
     is("a claim of an ended side", limits_claim_reader(block, &plant->limits, &reader), NIDZARU_ENDED);
+    is("a recovery of an ended side", limits_recover_reader(block, &plant->limits, &reader), NIDZARU_ENDED);
     is("its writer's yield", limits_yield_writer(block, &plant->later), 0);
 }
 
@@ -276,6 +286,7 @@ static void cancel_owners(nidzaru_shared *block, struct plant *plant) {
         if (!status) is("a yield", plans_yield_writer(block, &plant->plans), 0);
     }
     is("an owner that is cancelled within a call", status, NIDZARU_SHARED_OWNER_DEAD);
+    is("a recovery over a triple buffer", plans_recover_writer(block, &plant->plans, &writer), NIDZARU_SHARED_LOST);
     is("a read after it", plans_read(reader, &plan, &number), 0);
     for (size_t k = 0; k < 32; k++) holds("a whole record", plan.words[k] == plan.words[0] + k);
     is("a yield", plans_yield_reader(block, &plant->plans), 0);
@@ -306,6 +317,34 @@ static void read_beside_signals(nidzaru_shared *block, struct plant *plant) {
     holds("no more signals", !setitimer(ITIMER_REAL, &never, NIDZARU_NOWHERE) && !refused);
     is("the handler's yield", limits_yield_writer(block, &plant->later), 0);
     is("the reader's yield", limits_yield_reader(block, &plant->later), 0);
+}
+
+/* A side over four slots that is marked as cut off is recovered, unless what it leads to isn't what it should be. */
+static void recover_side(nidzaru_shared *block, struct plant *plant) {
+    nidzaru_side *const side = &plant->later.writer.handle.side;
+    static uint64_t outside[NIDZARU_BOX_NUMBER + 1];
+    const uint64_t live = side->live;
+    void *const at = side->at;
+    limits_writer *writer;
+    limits_reader *reader;
+    struct limits item = limits_of(9000);
+    uint64_t number = 0, before = 0;
+    is("the reader of a recovered side", limits_claim_reader(block, &plant->later, &reader) + limits_read(reader, &item, &before), 0);
+    is("a recovery of a whole side", limits_recover_writer(block, &plant->later, &writer), 0);
+    is("its yield", limits_yield_writer(block, &plant->later), 0);
+    side->live = NIDZARU_BUSY;
+    is("a claim of a side that was cut off", limits_claim_writer(block, &plant->later, &writer), NIDZARU_SHARED_OWNER_DEAD);
+    memcpy(outside, at, sizeof outside);
+    side->at = outside;
+    is("a recovery of what leads elsewhere", limits_recover_writer(block, &plant->later, &writer), NIDZARU_SHARED_OWNER_DEAD);
+    side->at = at;
+    is("a recovery", limits_recover_writer(block, &plant->later, &writer), 0);
+    holds("its number is back", side->live == live);
+    item = limits_of(9000);
+    is("a write after it", limits_write(writer, &item), 0);
+    is("a read after it", limits_read(reader, &item, &number), 0);
+    holds("of the next record", number == before + 1 && are_limits_of(&item, 9000));
+    is("its yield", limits_yield_writer(block, &plant->later) + limits_yield_reader(block, &plant->later), 0);
 }
 
 static void use_board(nidzaru_shared *block, struct plant *plant) {
@@ -360,6 +399,7 @@ int main(int count, char **words) {
     refuse_attaching(&block);
     hand_over(&block, plant);
     read_beside_signals(&block, plant);
+    recover_side(&block, plant);
     use_board(&block, plant);
     cancel_owners(&block, plant);
     unlink_names(&block);

@@ -1,7 +1,7 @@
 /* Processes that are killed at random, and what the others then get. The victim has one side of a register, or place 0 of a board of three,
  * and calls all the time; this process has the others, calls beside it and after it, and looks at each word. Then it claims the dead one's
- * side: where that died between two calls this process goes on with it, and so does the next victim; where it died within one the side has to
- * be refused, and the next victim gets a new register.
+ * side: where that died between two calls this process goes on with it, and so does the next victim. Where it died within one the claim has
+ * to be refused; over four slots the side is then recovered, and goes on too, and else the next victim gets a new register or board.
  *
  *   shared_kills KILLS SEED         -DBYTES=24 (or 256, 4096), -DTRIPLE, -DBOARD; with -DPLAIN or -DSEQUENCE a plain record or a
  *                                   sequence lock stands in the register's place, which has to be found wanting */
@@ -136,14 +136,22 @@ static void call_once(cell_shared *cell, int kind) {
     }
 }
 
+static unsigned long kills, within, cut, recovered, calls;
+
 /* After the victim's death, with the side that it had. 1 where that is refused. */
 static int take_over(cell_shared *cell, int kind) {
     cell_writer *writer = &cell->writer;
     cell_reader *reader = &cell->reader;
     struct record item;
     uint64_t number = 0;
-    const int status = kind ? cell_claim_writer(&block, cell, &writer) : cell_claim_reader(&block, cell, &reader);
-    if (status == NIDZARU_SHARED_OWNER_DEAD) return 1;
+    int status = kind ? cell_claim_writer(&block, cell, &writer) : cell_claim_reader(&block, cell, &reader);
+    if (status == NIDZARU_SHARED_OWNER_DEAD) {
+        cut++;
+        status = kind ? cell_recover_writer(&block, cell, &writer) : cell_recover_reader(&block, cell, &reader);
+        if (cell_is_triple && status == NIDZARU_SHARED_LOST) return 1;
+        recovered++;
+        root->next += WORDS; /* (the record of the call that was cut off may be seen) */
+    }
     if (status) fails(nidzaru_shared_text(status));
     for (int k = 0; k < 3; k++) {
         item = record_from(root->next);
@@ -188,6 +196,7 @@ static int claim_own(cell_shared *cell, int kind) {
 }
 static int yield_own(cell_shared *cell, int kind) { return kind ? cell_yield_reader(&block, cell) : cell_yield_writer(&block, cell); }
 #else
+static unsigned long kills, within, cut, recovered, calls;
 static nidzaru_stamp stamps[BOARD_PLACES];
 static uint64_t own;
 
@@ -238,7 +247,7 @@ static int take_over(cell_shared *cell, int kind) {
     cell_place *place;
     const int status = cell_claim(&block, cell, 0, &place);
     (void)kind;
-    if (status == NIDZARU_SHARED_OWNER_DEAD) return 1;
+    if (status == NIDZARU_SHARED_OWNER_DEAD) return cut++, 1;
     if (status) fails(nidzaru_shared_text(status));
     read_place(cell, 0);
     write_place(cell, 0);
@@ -272,8 +281,6 @@ static int yield_own(cell_shared *cell, int kind) {
     return cell_yield(&block, cell, 1) ? 1 : cell_yield(&block, cell, 2);
 }
 #endif
-
-static unsigned long kills, within, cut, calls;
 
 /* One victim, of this kind: 1 writes, 0 reads. Says whether its side is refused afterwards. */
 static int kill_one(cell_shared *cell, int kind) {
@@ -318,13 +325,14 @@ int main(int count, char **words) {
         begin_cell(&root->cells[0]);
         for (int k = 0; k < ROOM && kills < wanted; k++)
             if (kill_one(&root->cells[begun], (int)random_below(2))) {
-                cut++;
-                if (++begun < ROOM) begin_cell(&root->cells[begun]);
+                if (++begun == ROOM) break;
+                begin_cell(&root->cells[begun]);
             }
         next = root->next + 2 * WORDS;
         DO(nidzaru_shared_detach(&block));
     }
     if (!cut || cut == kills) fails("no victim died within a call, or each did");
-    printf("%lu kills, %lu of them within a call, %lu sides refused; %lu calls of the others, nothing found\n", kills, within, cut, calls);
+    printf("%lu kills, %lu of them within a call, %lu sides refused, %lu recovered; %lu calls of the others, nothing found\n", kills, within, cut,
+           recovered, calls);
     return 0;
 }

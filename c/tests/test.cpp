@@ -212,6 +212,7 @@ template <class T> void holds(T (*of)(std::uint64_t), bool (*same)(const T &, co
         check(!w.write(of(2 * n - 1)) && !w.write(of(2 * n)) && same(*at, of(2 * n - 2)) && r.number() == 2 * n - 2, "what was held stays");
         at = r.hold();
         check(at && same(*at, of(2 * n)) && r.number() == 2 * n && r.hold() == at && !r.has_news(), "what is held");
+        check(!r.hold_news() && r.number() == 2 * n, "no news is held");
     }
     check(asked == took, "a hold took memory");
     auto moved = std::move(r);

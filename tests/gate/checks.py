@@ -28,7 +28,7 @@ TOOLS = {
     "tests/library/c.sh": ("gcc", "g++", "clang", "clang++", "cmake", "valgrind", "cargo"),
     "tests/library/c_controls.sh": ("gcc", "cargo"),
     "tests/programs/recorder.sh": ("gcc", "g++", "clang", "clang++", "rustc", "cargo", "aarch64-linux-gnu-gcc"),
-    "tests/library/shared.sh": ("gcc", "g++", "clang", "clang++"),
+    "tests/library/shared.sh": ("gcc", "g++", "clang", "clang++", "cargo", "jackd"),
     "tests/programs/page.sh": ("gcc", "wasm-opt", "chromium"),
     "tests/library/in_memory.sh": ("gcc", "g++"),
     "tests/library/package.sh": ("aarch64-linux-gnu-gcc", "musl-gcc", "cmake", "cargo", "lintian", "unshare", "wasm-opt"),

@@ -70,6 +70,59 @@ test_shared_object() {
     fi
 }
 
+# A host with two plugins, each with a library inside, of which it exports none.
+test_plugins() {
+    name="examples/c/plugins.c ($c)"
+    made="$c -std=gnu11 $strict -O2"
+    for half in EFFECT EDITOR; do
+        $made -fPIC -shared -D$half examples/c/plugins.c $flags -o "$room/$half.so" >"$room/built" 2>&1 || break
+    done
+    if ! grep -q . "$room/built" && $made examples/c/plugins.c $flags -ldl -o "$room/program" >"$room/built" 2>&1 \
+        && timeout 120 "$room/program" "$room/EFFECT.so" "$room/EDITOR.so" >"$room/said" 2>&1 && [ "$(tail -n 1 "$room/said")" = 'no record was torn' ] \
+        && [ "$(nm -D --defined-only "$room/EFFECT.so" "$room/EDITOR.so" | awk 'NF == 3 { print $3 }' | tr '\n' ' ')" = 'plugin plugin ' ]; then
+        pass "$name: $(head -n 1 "$room/said")"
+    else
+        fail "$name" "$(cat "$room/built" "$room/said" | tail -n 3 | tr '\n' ' ')"
+    fi
+}
+
+# Bytes of code in the program that was built.
+text_of_program() {
+    size "$room/program" | awk 'NR == 2 { print $1 }'
+}
+
+# The linker leaves out of a program what it doesn't call of the library, if it is asked to.
+test_sections() {
+    name="a program of what it calls of the library ($c)"
+    whole= part=
+    ! "$c" -std=c11 -O2 examples/c/small.c $flags -pthread -o "$room/program" >"$room/built" 2>&1 || whole=$(text_of_program)
+    ! "$c" -std=c11 -O2 examples/c/small.c $flags -pthread -Wl,--gc-sections -o "$room/program" >"$room/built" 2>&1 || part=$(text_of_program)
+    if [ -n "$part" ] && [ "$part" -lt 10000 ] && [ "$whole" -gt $((5 * part)) ] && "$room/program" >/dev/null; then
+        pass "$name: $part of $whole bytes"
+    else
+        fail "$name" "$part of $whole bytes: $(head -n 3 "$room/built" | tr '\n' ' ')"
+    fi
+}
+
+# A header says in one error which language it is for.
+#   test_language HEADER WORD COMPILER..
+test_language() {
+    header=$1 wanted=$2
+    shift 2
+    if ! echo "#include \"$header\"" | "$@" -fsyntax-only - >"$room/said" 2>&1 && [ "$(grep -c ' error: ' "$room/said")" = 1 ] \
+        && grep -q "error.*compile this as .*$wanted" "$room/said"; then
+        pass "$header by $*"
+    else
+        fail "$header by $*" "$(grep -c ' error: ' "$room/said") errors: $(grep -m 2 error "$room/said" | tr '\n' ' ')"
+    fi
+}
+
+# The same of a header that doesn't look.
+planted_language() {
+    mkdir -p "$room/older" && cp c/nidzaru.h "$room/older/" && sed 's/^#if __cplusplus < 201703L/#if 0/' c/nidzaru.hpp >"$room/older/nidzaru.hpp"
+    catches "nidzaru.hpp that doesn't look ($cpp)" ' errors: ' test_language "$room/older/nidzaru.hpp" C++17 "$cpp" -std=c++14 -x c++
+}
+
 # Whether an object says that it keeps to Intel's CET, indirect branches that are tracked or a shadow stack, or to BTI and PAC of ARM.
 claims_cet() {
     readelf --notes "$1" | grep -q 'IBT\|SHSTK\|BTI\|PAC'
@@ -213,6 +266,9 @@ test_in_c() {
     run_control "c/tests/test.c over a plain buffer ($c)" \
         "$c" -std=c11 -D_GNU_SOURCE $strict -O2 -I c c/tests/test.c c/tests/control.c -o "$room/program"
     test_shared_object
+    test_plugins
+    test_sections
+    test_language c/nidzaru.h C11 "$c" -std=c99 -x c -I .
     test_release
 }
 
@@ -230,6 +286,9 @@ test_in_cpp() {
     run_here "c/tests/aligned.cpp ($cpp)" "$cpp" -std=c++17 $strict -O2 c/tests/aligned.cpp $flags -o "$room/program"
     run_here "c/tests/bare.cpp, without exceptions ($cpp)" \
         "$cpp" -std=c++17 $strict -O2 -fno-exceptions -fno-rtti c/tests/bare.cpp $flags -o "$room/program"
+    test_language c/nidzaru.h C++11 "$cpp" -std=c++98 -x c++ -I .
+    test_language c/nidzaru.hpp C++17 "$cpp" -std=c++14 -x c++ -I .
+    planted_language
     wants='no record was torn'
     run_here "examples/c/tasks.cpp ($cpp)" "$cpp" -std=c++17 $strict -O2 examples/c/tasks.cpp $flags -o "$room/program"
 }

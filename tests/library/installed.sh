@@ -8,6 +8,13 @@ in_c() {
     in_clean "$room/program" >"$room/told" && tail -n 1 "$room/told" | grep -qx 'no record was torn'
 }
 
+# Programs over memory that processes share.
+between_processes() {
+    flags=$(in_clean PKG_CONFIG_PATH="$clean/prefix/lib/pkgconfig" pkg-config --cflags --libs nidzaru) || return 1
+    in_clean "$@" -O2 -Wall -Werror $flags -pthread -o "$room/program" && in_clean "$room/program" 10 >"$room/told" \
+        && tail -n 1 "$room/told" | grep -q 'none was torn$'
+}
+
 in_musl() {
     in_clean musl-gcc -static -std=c11 -O2 "$examples/tasks.c" "-I$1/include" "$1/lib/libnidzaru.a" -pthread \
         -o "$room/program" && in_clean "$room/program" | grep -qx 'no record was torn'
@@ -72,6 +79,12 @@ fn main() -> Result<(), Box<dyn std::error::Error>> {
 }
 RUST
     [ "$(in_clean PKG_CONFIG=/nowhere CARGO_TARGET_DIR="$packages/target" cargo run -q --offline)" = "1000 2.5 $number" ]
+}
+
+# The packaged crate's own example between processes.
+in_rust_between_processes() {
+    in_clean PKG_CONFIG=/nowhere CARGO_TARGET_DIR="$packages/target" cargo run -q --offline --features shared --example processes \
+        --manifest-path "$packages/nidzaru-$version/Cargo.toml" 10 >"$room/told" && grep -q 'none was torn$' "$room/told"
 }
 
 # A program over the crate of the repository, which looks for an installed library; it prints the library's version.
@@ -222,6 +235,8 @@ check_use() {
     check "the packages' install" install_to "$clean/prefix" lib
     check "C by pkg-config" in_c tasks.c "$clean/prefix/lib"
     check "C by pkg-config, a board" in_c board.c "$clean/prefix/lib"
+    check "C by pkg-config, between processes" between_processes cc -std=gnu11 "$examples/processes.c"
+    check "C++ by pkg-config, between processes" between_processes c++ -std=c++17 -D_GNU_SOURCE "$examples/processes.cpp"
     check "C from where the tar was unpacked" in_c tasks.c "$unpacked/lib"
     sed -i.kept 's|^prefix=.*|prefix=/nowhere|' "$clean/prefix/lib/pkgconfig/nidzaru.pc"
     is_refused "a package for pkg-config that leads nowhere" 'nidzaru.h' in_c tasks.c "$clean/prefix/lib"
@@ -292,6 +307,7 @@ check_prefixes() {
 check_rust() {
     in_clean sh -c 'command -v cargo' >/dev/null || return
     check "Rust over the packaged crate, with no library installed" in_rust_of_package "nidzaru-$version"
+    check "Rust over the packaged crate, between processes" in_rust_between_processes
     check "the packaged crate links its own libraries on Linux" links_its_library "$packages/nidzaru-$version/build.rs"
     is_refused "the packaged crate for any machine" 'it links on riscv64' links_with 's/!Path::new(&folder).is_dir()/false/'
     is_refused "the packaged crate for any system" 'it links on x86_64-windows' links_with 's/\["linux", "none"\]/["linux", "none", "windows"]/'

@@ -20,6 +20,16 @@ are_linked() {
     cd "$unpacked" && python3 "$packages/one/tests/docs/links.py" README.md share/doc/nidzaru/*.md share/doc/nidzaru/docs/*.md
 }
 
+# Whether each file that the tar's pages name is in it, or is said to be of the repository.
+names_files() {
+    python3 "$packages/one/packaging/pages.py" --check "$1"
+}
+
+# The pages with one as it stands in the repository.
+names_more() {
+    rm -rf "$packages/named" && cp -r "$unpacked/share/doc/nidzaru" "$packages/named" && cp docs/C.md "$packages/named/docs/" && names_files "$packages/named"
+}
+
 # Whether the three packages have one library, of which the list tells.
 is_one_library() {
     dpkg-deb -x "$deb" "$packages/debian" && tar -C "$packages" -xzf "$made/nidzaru-$version.crate" \
@@ -188,6 +198,8 @@ is_clean_for_lintian() {
 check_contents() {
     check "the packages' tar" unpack
     check "the links of the tar's pages" are_linked
+    check "the files that the tar's pages name" names_files "$unpacked/share/doc/nidzaru"
+    is_refused "a page that names what the tar lacks" 'C.md names c/tests' names_more
     check "one library in tar, Debian package and crate" is_one_library
     check "what the library contains, with a licence or none" is_listed_with_licence "$made/nidzaru-$version.spdx"
     sed 's/^\(PackageLicense[A-Za-z]*:\) NOASSERTION/\1 MIT OR Apache-2.0/' "$made/nidzaru-$version.spdx" >"$packages/spdx"

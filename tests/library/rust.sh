@@ -4,7 +4,7 @@
 # Looks for what is newer in the standard library than Rust $1, as the crate's oldest compiler.
 is_as_old() {
     rm -rf "$room/old" && cp -r rust/nidzaru "$room/old" && sed -i "s/^rust-version = .*/rust-version = \"$1\"/" "$room/old/Cargo.toml" \
-        && PKG_CONFIG_PATH=$installed/lib/pkgconfig CARGO_TARGET_DIR=$room/oldest cargo clippy --offline --quiet --all-targets \
+        && PKG_CONFIG_PATH=$installed/lib/pkgconfig CARGO_TARGET_DIR=$room/oldest cargo clippy --offline --quiet --all-targets --features shared \
             --manifest-path "$room/old/Cargo.toml" -- -A clippy::all -D clippy::incompatible_msrv >"$room/said" 2>&1
 }
 

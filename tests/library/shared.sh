@@ -1,9 +1,10 @@
 #!/bin/sh
 # Registers and boards between processes, over the library that is installed under PREFIX: what is refused, processes that are killed at
-# random and after each instruction, and the header with faults planted, which these have to refuse. With KILLS the random ones alone, so
-# many of each kind from this seed. The last line is the sums. usage: tests/library/shared.sh [PREFIX [KILLS [SEED]]]
+# random and after each instruction, the crate for Rust beside C, and the header with faults planted, which these have to refuse. With KILLS
+# the random ones alone, so many of each kind from this seed, or of one kind, as -DBYTES=24,-DTRIPLE; with `stand` the victims whose sides are
+# recovered beside calls that stand. The last line is the sums. usage: tests/library/shared.sh [PREFIX [KILLS|stand [SEED [KIND]]]]
 cd "$(dirname -- "$(readlink -f -- "$0")")/../.." || exit 1
-prefix=$1 many=$2 seed=${3:-1}
+prefix=$1 many=$2 seed=${3:-1} one_kind=$4
 most=${many:+36000}
 room=$(mktemp -d) || exit 1
 trap 'rm -rf "$room"' EXIT
@@ -28,7 +29,7 @@ builds() {
 says() {
     title=$1 wanted=$2
     shift 2
-    if timeout "${most:-60}" "$room/program" "$@" >"$room/said" 2>&1 && tail -n 1 "$room/said" | grep -qx "$wanted"; then
+    if timeout "${most:-240}" "$room/program" "$@" >"$room/said" 2>&1 && tail -n 1 "$room/said" | grep -qx "$wanted"; then
         pass "$title: $(tail -n 1 "$room/said")"
     else
         fail "$title" "$(tail -n 1 "$room/said")"
@@ -50,7 +51,7 @@ program() {
 # Victims of each kind, so many.
 kill_all() {
     words="$1 $seed"
-    for kind in $kinds; do
+    for kind in ${one_kind:-$kinds}; do
         program "killed at random, $kind" '.*, nothing found' c/tests/shared_kills.c gcc -std=gnu11 $(echo "$kind" | tr ',' ' ')
     done
 }
@@ -72,6 +73,94 @@ planted() {
             fail "planted: $1" "it isn't seen, or for another reason: $status $(tail -n 1 "$room/said")"
         fi
     fi
+}
+
+# A header with a fault in what recovers a side: victims are killed after each instruction, with these words.
+#   planted_recovery SED WORDS..
+planted_recovery() {
+    fault=$1
+    shift
+    mkdir -p "$room/planted" && sed "$fault" c/nidzaru_shared.h >"$room/planted/nidzaru_shared.h"
+    if cmp -s c/nidzaru_shared.h "$room/planted/nidzaru_shared.h"; then
+        fail "planted: $fault" "it changes nothing"
+    elif builds "$room/planted" c/tests/shared_steps.c gcc -std=gnu11 -w -O2 -pthread -DBYTES=24 \
+        && ! timeout 240 "$room/program" "$@" >"$room/said" 2>&1 && grep -q ': killed after' "$room/said"; then
+        pass "planted: $fault: $(tail -n 1 "$room/said")"
+    else
+        fail "planted: $fault" "$(tail -n 1 "$room/said" "$room/built")"
+    fi
+}
+
+# The same library, as another build of the version would be.
+other_build() {
+    mkdir -p "$room/other" && (
+        cd "$room/other" && ar x "$library" nidzaru.o && objcopy --redefine-sym nidzaru_fingerprint=nidzaru_fingerprint_before nidzaru.o \
+            && echo 'const unsigned long nidzaru_fingerprint = 1;' | gcc -O1 -c -x c - -o number.o && ar rcsD libnidzaru.a nidzaru.o number.o
+    )
+}
+
+# A controller and a driver, two programs over one block: what the last line says.
+#   drives TITLE WANTED CONTROLLER [DRIVER]
+drives() {
+    if timeout 60 "$3" 10 $4 >"$room/said" 2>&1; then :; fi
+    if grep -q "$2" "$room/said"; then
+        pass "$1: $(tail -n 1 "$room/said")"
+    else
+        fail "$1" "$(tail -n 1 "$room/said")"
+    fi
+}
+
+# Two programs in C, of one build of the library and of two; and C beside Rust.
+try_pairs() {
+    own=$library
+    if builds c examples/c/processes.c gcc -std=gnu11 $strict && cp "$room/program" "$room/in_c" && other_build && library=$room/other/libnidzaru.a \
+        && builds c examples/c/processes.c gcc -std=gnu11 $strict && cp "$room/program" "$room/of_other"; then
+        drives "two programs in C" 'none was torn' "$room/in_c" "$room/in_c"
+        drives "a driver over another build of the library" 'driver: the block is of another library' "$room/in_c" "$room/of_other"
+    else
+        fail "two builds of the library" "they weren't built: $(head -n 3 "$room/built" | tr '\n' ' ')"
+    fi
+    library=$own
+    ! command -v cargo >/dev/null 2>&1 || try_rust
+}
+
+try_rust() {
+    cp -r rust/nidzaru "$room/rust"
+    in_rust="env PKG_CONFIG_PATH=$prefix/lib/pkgconfig CARGO_TARGET_DIR=$room/target"
+    at="--release --offline --quiet --features shared --manifest-path $room/rust/Cargo.toml"
+    if $in_rust cargo test $at --test shared >"$room/said" 2>&1; then
+        pass "rust/nidzaru: blocks: $(awk '/^test result: ok/ { sum += $4 } END { print sum }' "$room/said") tests"
+    else
+        fail "rust/nidzaru: blocks" "$(grep -m 3 'error\|panicked\|FAILED' "$room/said" | tr '\n' ' ')"
+    fi
+    if ! $in_rust cargo build $at --example processes >"$room/said" 2>&1; then
+        fail "rust/nidzaru: two processes" "it wasn't built: $(grep -m 3 '^error' "$room/said" | tr '\n' ' ')"
+        return
+    fi
+    in_rust=$room/target/release/examples/processes
+    drives "rust/nidzaru: two processes" 'none was torn' "$in_rust"
+    drives "a driver in C, a controller in Rust" 'none was torn' "$in_rust" "$room/in_c"
+    drives "a driver in Rust, a controller in C" 'none was torn' "$room/in_c" "$in_rust"
+}
+
+# A client of JACK, where its server is, over each register and a mutex. (Of a time nothing is asked here: bench/README.md has what was measured.)
+try_jack() {
+    command -v jackd >/dev/null 2>&1 || return 0
+    if ! builds c examples/c/jack.c gcc -std=gnu11 $strict -Wl,--no-as-needed -ljack; then
+        fail "examples/c/jack.c" "it wasn't built: $(head -n 3 "$room/built" | tr '\n' ' ')"
+        return
+    fi
+    JACK_DEFAULT_SERVER=nidzaru-$$ JACK_NO_AUDIO_RESERVATION=1 && export JACK_DEFAULT_SERVER JACK_NO_AUDIO_RESERVATION
+    real=-R
+    jackd -R -d dummy -p 64 --help >/dev/null 2>&1 || real=-r
+    jackd $real -n "$JACK_DEFAULT_SERVER" -d dummy -r 48000 -p 64 >"$room/jackd" 2>&1 &
+    server=$!
+    sleep 2
+    for way in four_slot triple mutex; do
+        says "examples/c/jack.c, $way" 'no record was torn' $way 1
+    done
+    kill $server && wait $server
+    catches "examples/c/jack.c without a server" 'there is no server' says "no server" 'no record was torn' four_slot 1
 }
 
 # What stands in the register's place and isn't one.
@@ -101,7 +190,7 @@ try_headers() {
 plant_faults() {
     planted 's/setrobust(&kind, PTHREAD_MUTEX_ROBUST)/settype(\&kind, PTHREAD_MUTEX_ERRORCHECK)/' 'a writer that yields'
     planted '/why = pthread_mutex_consistent/d' 'a writer that yields'
-    planted '/if (handle->side.live == NIDZARU_BUSY)/d' signal
+    planted '/if (handle->side.live == NIDZARU_BUSY)/d' 'a claim of a side that was cut off'
     planted '/if (!handle->side.live)/d' 'a claim of an ended side'
     planted '/root_bytes != root_bytes) return/d' 'an attach of another type'
     planted 's/seen->type != type || //' 'an attach of another type'
@@ -127,12 +216,30 @@ plant_faults() {
     planted '/if (claim->process == block->process)/d' 'a detach'
     planted '/if (held == 1 &&/d' 'a detach'
     planted 's/    if (block->process == getpid()) return;/    return;/' 'a detach of a child, which has none'
+    planted 's/name##_is_triple ? "triple register" : "register"/"register"/' 'a claim by another mechanism'
+    planted 's/if (at % 8 || at < from.*/if (0) return NIDZARU_NOWHERE;/' 'a recovery of what leads elsewhere'
+    planted '/if (!size) return NIDZARU_SHARED_LOST;/d' 'a recovery over a triple buffer'
+    planted 's/is_writer ? item->writer : item->reader/is_writer ? item->reader : item->writer/' 'its number is back'
     planted 's/  __atomic_store_n(&item->state, status ? NIDZARU_ITEM_EMPTY : NIDZARU_ITEM_MADE/  __atomic_store_n(\&item->state, NIDZARU_ITEM_MADE/' 'room'
     catches "an edit of a comment alone" "it isn't seen" planted '1s/ / more /' '.*'
 }
 
+# What a recovery must do, left out piece by piece.
+plant_recoveries() {
+    planted_recovery 's/    if (latest != newest) __atomic_store_n.*//' 0
+    planted_recovery 's/box\[NIDZARU_BOX_NUMBER\] = numbers.*//' 0
+    planted_recovery 's/box\[NIDZARU_BOX_LATEST\] = newest;//' 0
+    planted_recovery 's/numbers\[0\] > numbers\[1\] ? 0/numbers[0] > numbers[1] ? 1/' 0
+    planted_recovery 's/box\[NIDZARU_BOX_SAID\] = 2;//' 1 r wrw
+    planted_recovery 's/box\[NIDZARU_BOX_BITS\] = bits\[0\];//' 3 w wr
+    planted_recovery 's/box\[NIDZARU_BOX_BITS + 1\] = bits\[1\];//' 3 w w
+}
+
 if [ -z "$prefix" ]; then
     fail "registers between processes" "no library is installed; tests/library/c.sh does that"
+elif [ "$many" = stand ]; then
+    words=1
+    program "killed, recovered, beside a call that stands" '.*, nothing found' c/tests/shared_steps.c gcc -std=gnu11 -DBYTES=24
 elif [ -n "$many" ]; then
     kill_all "$many"
 elif command -v gcc >/dev/null 2>&1; then
@@ -142,9 +249,16 @@ elif command -v gcc >/dev/null 2>&1; then
     for kind in -DBYTES=24 -DTRIPLE; do
         program "killed after each instruction, $kind" '.*, nothing found' c/tests/shared_steps.c gcc -std=gnu11 "$kind"
     done
+    for words in '3 r wrw' '3 w wr'; do
+        program "killed, recovered, beside a call that stands: $words" '.*, nothing found' c/tests/shared_steps.c gcc -std=gnu11 -DBYTES=24
+    done
+    words=
+    try_pairs
+    try_jack
     control -DPLAIN 'a torn record'
     control -DSEQUENCE 'a read that waits for a dead process'
     plant_faults
+    plant_recoveries
 fi
 echo "$passed passed, $failed failed"
 [ "$failed" = 0 ] && [ "$passed" -gt 0 ]

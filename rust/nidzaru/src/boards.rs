@@ -164,6 +164,38 @@ pub fn board_over<T: Copy + Send, M: Mechanism>(n: usize, first: T) -> Result<Ve
     limited_board(n, GREATEST_LIMIT, first)
 }
 
+/// A board over four-slot cells that holds `first`, as an array of its places.
+///
+/// ```
+/// let [mut control, mut planner] = nidzaru::places(1.5)?;
+/// planner.write(&2.5)?;
+/// assert_eq!(control.read(), 2.5);
+/// # Ok::<(), Box<dyn std::error::Error>>(())
+/// ```
+///
+/// There are 2 to 16 of them:
+///
+/// ```compile_fail,E0080
+/// let [only] = nidzaru::places(1.5).unwrap();
+/// ```
+pub fn places<T: Copy + Send, const N: usize>(first: T) -> Result<[Place<T>; N], BoardError> {
+    places_over(first)
+}
+
+/// The same over a mechanism that the caller, or what becomes of the places, names.
+///
+/// ```
+/// let [mut control, mut planner] = nidzaru::places_over::<_, nidzaru::Triple, 2>(1.5)?;
+/// planner.write(&2.5)?;
+/// assert_eq!(control.read(), 2.5);
+/// # Ok::<(), Box<dyn std::error::Error>>(())
+/// ```
+pub fn places_over<T: Copy + Send, M: Mechanism, const N: usize>(first: T) -> Result<[Place<T, M>; N], BoardError> {
+    const { assert!(2 <= N && N <= 16, "a board has 2 to 16 places") };
+    let places = board_over(N, first)?;
+    Ok(places.try_into().expect("as many places as were asked for"))
+}
+
 /// A board in whichever mechanism, whose tags end at a limit: of one place's writes so many are done, and the next is refused.
 ///
 /// ```

@@ -42,6 +42,11 @@
 //! program names an allocator, and it defines `malloc` and `free`, of which the library takes memory, or `nidzaru_allocate` and
 //! `nidzaru_release` beside them; `memcpy`, `memmove` and `memset` are those of `compiler_builtins`.
 //!
+//! # Between processes
+//!
+//! With the feature `shared` the module of that name has registers and boards in memory that processes share, each of which may be killed at
+//! any instruction.
+//!
 //! # Numbers
 //!
 //! The opening is number 0, and each write has the next number. A number never falls from one read to the next, and one
@@ -85,13 +90,18 @@ extern crate alloc;
 #[cfg(all(nidzaru_missing, not(doc)))]
 compile_error!(env!("NIDZARU_MISSING"));
 
+#[cfg(feature = "shared")]
+mod block;
 mod boards;
 #[cfg(feature = "std")]
 pub mod log;
 mod raw;
+#[cfg(feature = "shared")]
+pub mod shared;
 mod watched;
 
-pub use boards::{board, board_over, limited_board, triple_board, BoardError, Place, Since, Stamp, TagsEnded, GREATEST_LIMIT};
+pub use boards::{board, board_over, limited_board, places, places_over, triple_board};
+pub use boards::{BoardError, Place, Since, Stamp, TagsEnded, GREATEST_LIMIT};
 
 use core::fmt;
 use core::marker::PhantomData;
@@ -469,6 +479,24 @@ impl<T: Copy + Send> Reader<T, Triple> {
         let (item, number) = raw::hold(Known::<T, Triple>::CALLS, &mut self.side);
         self.last = number;
         item
+    }
+
+    /// The same, if a read gives a greater number than the last one.
+    ///
+    /// ```
+    /// let (mut writer, mut reader) = nidzaru::triple_register([0_u64; 512])?;
+    /// assert!(reader.hold_news().is_none());
+    /// writer.write(&[7; 512])?;
+    /// assert_eq!(reader.hold_news().map(|it| it[511]), Some(7));
+    /// assert!(reader.hold_news().is_none());
+    /// # Ok::<(), Box<dyn std::error::Error>>(())
+    /// ```
+    #[inline]
+    pub fn hold_news(&mut self) -> Option<&T> {
+        let before = self.last;
+        let (item, number) = raw::hold(Known::<T, Triple>::CALLS, &mut self.side);
+        self.last = number;
+        (number > before).then_some(item)
     }
 }
 

@@ -2,8 +2,9 @@
 //!
 //! What a call owes (the library's page for C lists it), and why it is met here:
 //!
-//! 1. *A handle begins empty, and only these calls write it.* A [`Side`] is made by [`open`] and [`open_board`] alone, its fields are
-//!    private to this module, and it is neither `Copy` nor `Clone`. The library doesn't know where a handle lies: it may be moved between calls.
+//! 1. *A handle begins empty, and only these calls write it.* A [`Side`] is made by [`open`] and [`open_board`] alone, and in a block by
+//!    `open_here` and `open_board_here`; its fields are private to this module, and it is neither `Copy` nor `Clone`. The library doesn't know
+//!    where a handle lies: it may be moved between calls. (In a block its claim's owner alone uses it; `block` sees to that.)
 //! 2. *One call at a time with one handle.* Each call takes the handle by `&mut`. From thread to thread it goes by a move, which
 //!    std's threads and channels order.
 //! 3. *Pointers lead to whole objects, and what one call is passed doesn't overlap.* A record of the library is passed as a `T` of just
@@ -23,6 +24,7 @@ use alloc::vec::Vec;
 use core::cell::UnsafeCell;
 use core::ffi::c_void;
 use core::mem::MaybeUninit;
+use core::ops::{Deref, DerefMut};
 use core::ptr;
 
 const DONE: u32 = 0;
@@ -182,6 +184,14 @@ pub fn version() -> u32 {
     unsafe { nidzaru_version() }
 }
 
+/// The size of the library's records that these calls are for.
+#[cfg(feature = "shared")]
+impl Calls {
+    pub fn size(&self) -> usize {
+        self.size
+    }
+}
+
 /// The calls for records of a size of at most 1,048,576 bytes.
 pub const fn calls_for(size: usize, triple: bool) -> &'static Calls {
     match (size, triple) {
@@ -205,21 +215,51 @@ pub const fn calls_for(size: usize, triple: bool) -> &'static Calls {
     }
 }
 
+/// A side or a place that is live, as the calls use it.
+#[repr(C)]
+pub struct Live {
+    side: Side,
+    order: Order,
+}
+
 /// A writing side that is live until it goes. Each call stores into it, so it has a cache line of its own.
 #[repr(align(64))]
 pub struct WritingSide {
-    side: Side,
-    order: Order,
+    live: Live,
     end: End,
 }
 
 /// A reading side that is live until it goes, with a cache line of its own.
 #[repr(align(64))]
 pub struct ReadingSide {
-    side: Side,
-    order: Order,
+    live: Live,
     end: End,
 }
+
+/// What has a live side is used as that side is.
+macro_rules! is_live {
+    ($name:ident) => {
+        impl Deref for $name {
+            type Target = Live;
+
+            #[inline]
+            fn deref(&self) -> &Live {
+                &self.live
+            }
+        }
+
+        impl DerefMut for $name {
+            #[inline]
+            fn deref_mut(&mut self) -> &mut Live {
+                &mut self.live
+            }
+        }
+    };
+}
+
+is_live!(WritingSide);
+is_live!(ReadingSide);
+is_live!(BoardPlace);
 
 // A side may go to another thread: the library's handles may cross threads, and the records are `Send`.
 unsafe impl Send for WritingSide {}
@@ -343,13 +383,76 @@ unsafe fn open_at(calls: &'static Calls, first: *const c_void) -> Option<(Writin
         other => unreachable!("both handles are empty, so the status isn't {other}"),
     }
     let order = Order::new();
-    let writer = WritingSide { side: writer, order, end: calls.end_writer };
-    Some((writer, ReadingSide { side: reader, order, end: calls.end_reader }))
+    let writer = WritingSide { live: Live { side: writer, order }, end: calls.end_writer };
+    Some((writer, ReadingSide { live: Live { side: reader, order }, end: calls.end_reader }))
+}
+
+/// What a side or place in shared memory says of itself: 0 where there is none, [`BUSY`] where a call runs or was cut off, else its number.
+#[cfg(feature = "shared")]
+impl Live {
+    pub fn state(&self) -> u64 {
+        self.side.live
+    }
+
+    /// Where what the side knows lies.
+    pub fn at(&self) -> u64 {
+        self.side.at as u64
+    }
+
+    /// Says that no call runs, with the number of the side.
+    pub fn mark(&mut self, state: u64) {
+        core::sync::atomic::fence(core::sync::atomic::Ordering::SeqCst);
+        self.side.live = state;
+    }
+}
+
+/// The state of a side while a call runs.
+#[cfg(feature = "shared")]
+pub const BUSY: u64 = 255;
+
+/// Makes a register, and puts its sides here, where none are. Gives the library's status.
+#[cfg(feature = "shared")]
+pub fn open_here<T: Copy>(calls: &'static Calls, first: &T, writer: &mut Live, reader: &mut Live) -> u32 {
+    ask_for_release();
+    by_size!(calls, open_here_by, (calls, first, writer, reader))
+}
+
+#[cfg(feature = "shared")]
+fn open_here_by<T: Copy, const N: usize>(calls: &'static Calls, first: &T, writer: &mut Live, reader: &mut Live) -> u32 {
+    // The words are as many as the library's record has, and both sides are others.
+    unsafe { (calls.make)(Words::<N>::of(first).as_ptr(), &mut writer.side, &mut reader.side) }
+}
+
+/// Makes a board of so many places, 2 to 16, and hands each out. Gives the library's status.
+#[cfg(feature = "shared")]
+pub fn open_board_here<T: Copy>(calls: &'static BoardCalls, n: usize, first: &T, mut put: impl FnMut(usize, Live)) -> u32 {
+    ask_for_release();
+    let mut sides = [const { Side::EMPTY }; 16];
+    let made: Result<(), NoBoard> = by_small_size!(calls, open_board_by, (calls, &mut sides[..n], u64::MAX - 1, first));
+    if made.is_err() {
+        return NO_MEMORY;
+    }
+    let order = Order::new();
+    sides.into_iter().take(n).enumerate().for_each(|(k, side)| put(k, Live { side, order }));
+    DONE
+}
+
+#[cfg(feature = "shared")]
+extern "C" {
+    #[link_name = "nidzaru_fingerprint"]
+    static FINGERPRINT: u64;
+}
+
+/// The number of this very build of the library.
+#[cfg(feature = "shared")]
+pub fn fingerprint() -> u64 {
+    // Nobody writes there.
+    unsafe { FINGERPRINT }
 }
 
 /// Writes the record. `false` where the numbers are used up.
 #[inline]
-pub fn write<T: Copy>(calls: &'static Calls, writer: &mut WritingSide, item: &T) -> bool {
+pub fn write<T: Copy>(calls: &'static Calls, writer: &mut Live, item: &T) -> bool {
     if passes::<T>(calls.size) {
         // The item is as large and aligned as the library's record.
         is_written(writer.order.show(|| unsafe { (calls.write)(&mut writer.side, ptr::from_ref(item).cast()) }))
@@ -359,7 +462,7 @@ pub fn write<T: Copy>(calls: &'static Calls, writer: &mut WritingSide, item: &T)
 }
 
 #[inline]
-fn write_by<T: Copy, const N: usize>(calls: &'static Calls, writer: &mut WritingSide, item: &T) -> bool {
+fn write_by<T: Copy, const N: usize>(calls: &'static Calls, writer: &mut Live, item: &T) -> bool {
     // The words are as many as the library's record has.
     let words = Words::<N>::of(item);
     is_written(writer.order.show(|| unsafe { (calls.write)(&mut writer.side, words.as_ptr()) }))
@@ -378,7 +481,7 @@ fn lend<const N: usize>(size: usize, loan: Loan, writer: &mut Side) -> (u32, *mu
 
 /// Fills the record in the writer's slot of a triple buffer where it lies, and publishes it. `false` where the numbers are used up.
 #[inline]
-pub fn write_in_place<T: Copy>(calls: &'static Calls, writer: &mut WritingSide, fill: impl FnOnce(&mut T)) -> bool {
+pub fn write_in_place<T: Copy>(calls: &'static Calls, writer: &mut Live, fill: impl FnOnce(&mut T)) -> bool {
     const { assert!(align_of::<T>() <= 8, "a record that is filled where it lies is aligned to at most 8") };
     let InPlace { loan, publish } = in_place_for(calls.size);
     let (status, at) = ignore(|| match calls.size {
@@ -406,7 +509,7 @@ fn is_written(status: u32) -> bool {
 
 /// Reads a record and its number.
 #[inline]
-pub fn read<T: Copy>(calls: &'static Calls, reader: &mut ReadingSide) -> (T, u64) {
+pub fn read<T: Copy>(calls: &'static Calls, reader: &mut Live) -> (T, u64) {
     if passes::<T>(calls.size) {
         let (mut item, mut number) = (MaybeUninit::<T>::uninit(), 0);
         // The place is as large and aligned as the library's record.
@@ -419,7 +522,7 @@ pub fn read<T: Copy>(calls: &'static Calls, reader: &mut ReadingSide) -> (T, u64
 }
 
 #[inline]
-fn read_by<T: Copy, const N: usize>(calls: &'static Calls, reader: &mut ReadingSide) -> (T, u64) {
+fn read_by<T: Copy, const N: usize>(calls: &'static Calls, reader: &mut Live) -> (T, u64) {
     let (mut words, mut number) = (Words::<N>::zero(), 0);
     // The words are as many as the library's record has.
     must_be_done(reader.order.see(|| unsafe { (calls.read)(&mut reader.side, words.as_mut_ptr(), &mut number) }));
@@ -429,7 +532,7 @@ fn read_by<T: Copy, const N: usize>(calls: &'static Calls, reader: &mut ReadingS
 
 /// Reads a record into place, and gives its number.
 #[inline]
-pub fn read_into<T: Copy>(calls: &'static Calls, reader: &mut ReadingSide, item: &mut T) -> u64 {
+pub fn read_into<T: Copy>(calls: &'static Calls, reader: &mut Live, item: &mut T) -> u64 {
     if passes::<T>(calls.size) {
         let mut number = 0;
         // The item is as large and aligned as the library's record, and gets the bytes of a `T`.
@@ -446,7 +549,7 @@ pub fn read_into<T: Copy>(calls: &'static Calls, reader: &mut ReadingSide, item:
 
 /// The number that a read would give.
 #[inline]
-pub fn look(calls: &'static Calls, reader: &mut ReadingSide) -> u64 {
+pub fn look(calls: &'static Calls, reader: &mut Live) -> u64 {
     let mut number = 0;
     // The pointer leads to a number.
     must_be_done(reader.order.see(|| unsafe { (calls.look)(&mut reader.side, &mut number) }));
@@ -473,7 +576,7 @@ fn any_record(size: usize) -> &'static [u64] {
 
 /// Where a record of a triple buffer's lies that a read would give, and its number.
 #[inline]
-pub fn hold<'a, T: Copy>(calls: &'static Calls, reader: &'a mut ReadingSide) -> (&'a T, u64) {
+pub fn hold<'a, T: Copy>(calls: &'static Calls, reader: &'a mut Live) -> (&'a T, u64) {
     const { assert!(align_of::<T>() <= 8, "a record that is read where it lies is aligned to at most 8") };
     let (mut at, mut number) = (any_record(calls.size).as_ptr().cast::<c_void>(), 0);
     // `at` leads to a whole record, as the library asks, and then to the one that the reader holds.
@@ -569,8 +672,7 @@ pub const fn board_calls_for(size: usize, triple: bool) -> &'static BoardCalls {
 /// A place that is live until it goes, with a cache line of its own.
 #[repr(align(64))]
 pub struct BoardPlace {
-    side: Side,
-    order: Order,
+    live: Live,
     end: End,
 }
 
@@ -604,7 +706,7 @@ pub fn open_board<T: Copy>(calls: &'static BoardCalls, n: usize, limit: u64, fir
     ask_for_release();
     by_small_size!(calls, open_board_by, (calls, &mut sides[..n], limit, first))?;
     let order = Order::new();
-    places.extend(sides.into_iter().take(n).map(|side| BoardPlace { side, order, end: calls.end }));
+    places.extend(sides.into_iter().take(n).map(|side| BoardPlace { live: Live { side, order }, end: calls.end }));
     Ok(places)
 }
 
@@ -622,7 +724,7 @@ fn open_board_by<T: Copy, const N: usize>(calls: &BoardCalls, sides: &mut [Side]
 
 /// Writes the record, and gives its stamp. None where the tags have ended.
 #[inline]
-pub fn write_place<T: Copy>(calls: &'static BoardCalls, place: &mut BoardPlace, item: &T) -> Option<Mark> {
+pub fn write_place<T: Copy>(calls: &'static BoardCalls, place: &mut Live, item: &T) -> Option<Mark> {
     if passes::<T>(calls.size) {
         let mut stamp = Mark::default();
         // The item is as large and aligned as the library's record.
@@ -634,7 +736,7 @@ pub fn write_place<T: Copy>(calls: &'static BoardCalls, place: &mut BoardPlace, 
 }
 
 #[inline]
-fn write_place_by<T: Copy, const N: usize>(calls: &BoardCalls, place: &mut BoardPlace, item: &T) -> Option<Mark> {
+fn write_place_by<T: Copy, const N: usize>(calls: &BoardCalls, place: &mut Live, item: &T) -> Option<Mark> {
     let mut stamp = Mark::default();
     let words = Words::<N>::of(item);
     // The words are as many as the library's record has.
@@ -644,7 +746,7 @@ fn write_place_by<T: Copy, const N: usize>(calls: &BoardCalls, place: &mut Board
 
 /// Reads a record and its stamp.
 #[inline]
-pub fn read_place<T: Copy>(calls: &'static BoardCalls, place: &mut BoardPlace) -> (T, Mark) {
+pub fn read_place<T: Copy>(calls: &'static BoardCalls, place: &mut Live) -> (T, Mark) {
     if passes::<T>(calls.size) {
         let (mut item, mut stamp) = (MaybeUninit::<T>::uninit(), Mark::default());
         // The place is as large and aligned as the library's record.
@@ -657,7 +759,7 @@ pub fn read_place<T: Copy>(calls: &'static BoardCalls, place: &mut BoardPlace) -
 }
 
 #[inline]
-fn read_place_by<T: Copy, const N: usize>(calls: &BoardCalls, place: &mut BoardPlace) -> (T, Mark) {
+fn read_place_by<T: Copy, const N: usize>(calls: &BoardCalls, place: &mut Live) -> (T, Mark) {
     let (mut words, mut stamp) = (Words::<N>::zero(), Mark::default());
     // The words are as many as the library's record has.
     must_be_done(place.order.see(|| unsafe { (calls.read)(&mut place.side, words.as_mut_ptr(), &mut stamp) }));
@@ -667,7 +769,7 @@ fn read_place_by<T: Copy, const N: usize>(calls: &BoardCalls, place: &mut BoardP
 
 /// Reads a record into place, and gives its stamp.
 #[inline]
-pub fn read_place_into<T: Copy>(calls: &'static BoardCalls, place: &mut BoardPlace, item: &mut T) -> Mark {
+pub fn read_place_into<T: Copy>(calls: &'static BoardCalls, place: &mut Live, item: &mut T) -> Mark {
     if passes::<T>(calls.size) {
         let mut stamp = Mark::default();
         // The item is as large and aligned as the library's record, and gets the bytes of a `T`.
@@ -682,12 +784,12 @@ pub fn read_place_into<T: Copy>(calls: &'static BoardCalls, place: &mut BoardPla
 
 /// Reads a record and its stamp, and says whether the stamp is at least this one.
 #[inline]
-pub fn read_place_since<T: Copy>(calls: &'static BoardCalls, place: &mut BoardPlace, least: Mark) -> (T, Mark, bool) {
+pub fn read_place_since<T: Copy>(calls: &'static BoardCalls, place: &mut Live, least: Mark) -> (T, Mark, bool) {
     by_small_size!(calls, read_place_since_by, (calls, place, least))
 }
 
 #[inline]
-fn read_place_since_by<T: Copy, const N: usize>(calls: &BoardCalls, place: &mut BoardPlace, least: Mark) -> (T, Mark, bool) {
+fn read_place_since_by<T: Copy, const N: usize>(calls: &BoardCalls, place: &mut Live, least: Mark) -> (T, Mark, bool) {
     let (mut words, mut stamp) = (Words::<N>::zero(), Mark::default());
     // The words are as many as the library's record has.
     let status = place.order.see(|| unsafe { (calls.read_since)(&mut place.side, &least, words.as_mut_ptr(), &mut stamp) });
@@ -708,9 +810,10 @@ mod tests {
         let goes = |it: Box<dyn FnOnce()>| std::panic::catch_unwind(std::panic::AssertUnwindSafe(it)).is_err();
         let (end_writer, end_reader) = (calls_for(24, false).end_writer, calls_for(24, false).end_reader);
         let end = board_calls_for(24, false).end;
-        assert!(goes(Box::new(move || drop(WritingSide { side: Side::EMPTY, order: Order::new(), end: end_writer }))));
-        assert!(goes(Box::new(move || drop(ReadingSide { side: Side::EMPTY, order: Order::new(), end: end_reader }))));
-        assert!(goes(Box::new(move || drop(BoardPlace { side: Side::EMPTY, order: Order::new(), end }))));
+        let empty = || Live { side: Side::EMPTY, order: Order::new() };
+        assert!(goes(Box::new(move || drop(WritingSide { live: empty(), end: end_writer }))));
+        assert!(goes(Box::new(move || drop(ReadingSide { live: empty(), end: end_reader }))));
+        assert!(goes(Box::new(move || drop(BoardPlace { live: empty(), end }))));
     }
 
     #[test]

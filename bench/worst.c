@@ -1,0 +1,103 @@
+/* Calls of a register or a board for worst.py, which sees each instruction and each access between two marks: a store to `begins`, by the kind
+ * of the call, and one to `ends`. The states before a call are drawn, of many new registers or boards: all orders of a few calls come up, and
+ * of a board also that each other place has written since. -DBYTES=24 [-DTRIPLE] [-DPLACES=4] */
+#include <nidzaru.h>
+
+#ifndef PLACES
+#define PLACES 0
+#endif
+struct record { uint64_t words[BYTES / 8]; };
+
+enum { WRITE, READ, LOOK, HOLD, LOAN, KINDS };
+volatile uint64_t begins[8 * KINDS], ends;
+#define MARKED(kind, call)              \
+    do {                                \
+        begins[8 * (kind)] = 1;         \
+        const int status_ = (call);     \
+        ends = 1;                       \
+        if (status_) return 1;          \
+    } while (0)
+
+static uint64_t state = 88172645463325252u;
+static uint64_t below(uint64_t bound) {
+    state ^= state << 13, state ^= state >> 7, state ^= state << 17;
+    return state % bound;
+}
+
+static _Alignas(64) struct record given, got;
+
+#if PLACES
+#ifdef TRIPLE
+NIDZARU_TRIPLE_BOARD(cells, struct record);
+#else
+NIDZARU_BOARD(cells, struct record);
+#endif
+static cells_place places[PLACES];
+static nidzaru_stamp stamp;
+
+static int call(int writes, size_t k) {
+    if (writes) MARKED(WRITE, cells_write(&places[k], &given, &stamp));
+    else MARKED(READ, cells_read(&places[k], &got, &stamp));
+    return 0;
+}
+
+static int calls(void) {
+    if (cells_make(&given, places, PLACES)) return 1;
+    for (size_t turn = 0; turn < 6 * PLACES; turn++)
+        if (call((int)below(2), below(PLACES))) return 1;
+    for (size_t me = 0; me < PLACES; me++)
+        for (int writes = 0; writes < 2; writes++) {
+            for (size_t k = 0; k < PLACES; k++)
+                if (k != me && call(1, k)) return 1;
+            if (call(writes, me)) return 1;
+        }
+    for (size_t k = 0; k < PLACES; k++) cells_end(&places[k]);
+    return 0;
+}
+#else
+#ifdef TRIPLE
+NIDZARU_TRIPLE_REGISTER(cells, struct record);
+NIDZARU_HOLD(cells);
+NIDZARU_LOAN(cells);
+#else
+NIDZARU_REGISTER(cells, struct record);
+#endif
+static cells_writer writer;
+static cells_reader reader;
+
+static int call(void) {
+    uint64_t number;
+    switch (below(cells_is_triple ? 5 : 3)) {
+    case WRITE: MARKED(WRITE, cells_write(&writer, &given)); break;
+    case READ: MARKED(READ, cells_read(&reader, &got, &number)); break;
+    case LOOK: MARKED(LOOK, cells_look(&reader, &number)); break;
+#ifdef TRIPLE
+    case HOLD: {
+        const struct record *at;
+        MARKED(HOLD, cells_hold(&reader, &at, &number));
+        break;
+    }
+    default: {
+        struct record *at;
+        MARKED(LOAN, cells_loan(&writer, &at) || cells_publish(&writer));
+        break;
+    }
+#endif
+    }
+    return 0;
+}
+
+static int calls(void) {
+    if (cells_make(&given, &writer, &reader)) return 1;
+    for (int turn = 0; turn < 16; turn++)
+        if (call()) return 1;
+    cells_end_writer(&writer), cells_end_reader(&reader);
+    return 0;
+}
+#endif
+
+int main(void) {
+    for (int n = 0; n < (PLACES ? 4 : 48); n++)
+        if (calls()) return 1;
+    return 0;
+}
