@@ -1,0 +1,3 @@
+-- The rules.
+pub mod Placed
+pub mod Whole
