@@ -19,7 +19,7 @@ passed=0 failed=0
 # Names the cross compiler and its tools as those of this machine.
 make_tools() {
     mkdir -p "$1" || return 1
-    for tool in gcc g++ as ld nm objcopy objdump readelf; do
+    for tool in gcc g++ as ld nm objcopy objdump readelf size; do
         printf '#!/bin/sh\nexec /usr/bin/aarch64-linux-gnu-%s "$@"\n' "$tool" >"$1/$tool" && chmod +x "$1/$tool" || return 1
     done
     ln -sf gcc "$1/cc" && ln -sf g++ "$1/c++"
