@@ -42,8 +42,8 @@ def examples():
     found = {}
     for name, command, shows in rows:
         if command in COMMANDS:
-            plain = re.sub(r" ?\(\[.*?\]\(.*?\)\)", "", shows).replace("`", "")
-            found[name] = {"command": command, "shows": plain, "text": read(f"{TOP}/examples/{name}")}
+            plain, _, status = re.sub(r" ?\(\[.*?\]\(.*?\)\)", "", shows).replace("`", "").partition(": status ")
+            found[name] = {"command": command, "shows": plain, "status": int(status or 0), "text": read(f"{TOP}/examples/{name}")}
     if not found:
         raise Refused("examples/README.md names no example")
     return dict(sorted(found.items(), key=lambda it: (COMMANDS.index(it[1]["command"]), it[0][-1] != "l")))
@@ -66,7 +66,9 @@ def stepper(cell):
 def page(made):
     """The text of the page."""
     parts = {mark: read(f"{HERE}/{name}") for mark, name in PARTS.items()}
-    parts |= {"WIDE": packed(made["wide.wasm"]), "NARROW": packed(made["narrow.wasm"]), "VERDICT": made["verdict"].decode()}
+    for mark, name in (("WIDE", "wide.wasm"), ("NARROW", "narrow.wasm")):
+        parts |= {mark: packed(made[name]), f"{mark}_SUM": hashlib.sha256(made[name]).hexdigest()}
+    parts["VERDICT"] = made["verdict"].decode()
     for mark, what in (("EXAMPLES", examples()), ("STEPPER", stepper(made["cell.wasm"]))):
         parts[mark] = json.dumps(what, ensure_ascii=False).replace("<", "\\u003c")
     for mark in ("STYLE", "DRIVER", "WORKER", "SCRIPT"):
@@ -77,7 +79,8 @@ def page(made):
 
 def sum_of_sources(kit, crate):
     """Of all that this crate's modules are made of."""
-    found = hashlib.sha256(read(f"{kit}/KIT-ID").encode() + read(f"{TOP}/crates.txt").encode())
+    lowers = module.run("wasm-opt", "--version")
+    found = hashlib.sha256("".join([read(f"{kit}/KIT-ID"), lowers, read(f"{TOP}/crates.txt")]).encode())
     names = [f"{HERE}/heap.c", f"{HERE}/module.py"]
     for it in [*crates_below(read_rows(TOP), crate), crate]:
         for part in ("src", "specs", "proofs"):

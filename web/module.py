@@ -5,6 +5,7 @@ library. That module is taken at the build, its target is changed, and clang com
 with heap.c, which stands for the C library's heap. Whatever isn't expected is refused: see `fault_in_text` and `fault_in_module`.
 """
 
+import concurrent.futures
 import os
 import re
 import subprocess
@@ -243,12 +244,13 @@ def make_modules(kit, room, part):
     """By their names the module for 64 bits, that for 32 bits, three for tests, and the prover's line."""
     module, verdict = capture_module(kit, room, part)
     text = printed_module(kit, room, module)
-    vectors = compile_text(kit, room, text, True)
+    with concurrent.futures.ThreadPoolExecutor(2) as pool:
+        # (lowering knows no vectors)
+        vectors, plain = pool.map(lambda it: compile_text(kit, room, text, it), (True, False))
     made = {"wide.wasm": link(kit, room, vectors), "refuses.wasm": link(kit, room, vectors, for_tests=True)}
     # (with the least stack that the linker gives, and with twice that)
     made |= {"shallow.wasm": link(kit, room, vectors, stack=1 << 16), "stack_128.wasm": link(kit, room, vectors, stack=1 << 17)}
-    # (lowering knows no vectors)
-    made["narrow.wasm"] = lower(room, link(kit, room, compile_text(kit, room, text, False)), exports_for(False))
+    made["narrow.wasm"] = lower(room, link(kit, room, plain), exports_for(False))
     return {**made, "verdict": verdict.encode()}
 
 

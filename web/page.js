@@ -37,9 +37,22 @@ async function unpacked(id) {
 
 const state = { worker: null, module: null, number: 0, running: false, began: 0, file: null, first: 1, kind: "", zoom: 1, picture: null };
 
+// Whether a module is the one of this page's build. (A page that came by http can't tell.)
+async function isOfBuild(id, bytes) {
+  if (!crypto.subtle) return true;
+  const sum = new Uint8Array(await crypto.subtle.digest("SHA-256", bytes));
+  return $(id).dataset.sum === [...sum].map(it => it.toString(16).padStart(2, "0")).join("");
+}
+
+async function read(id) {
+  const bytes = await unpacked(id);
+  if (!(await isOfBuild(id, bytes))) throw new Error("the page's module isn't the one of its build: the file is damaged");
+  return bytes;
+}
+
 async function begin() {
   const wide = isWide() && location.hash !== "#narrow";
-  state.module ||= await unpacked(wide ? "wide" : "narrow");
+  state.module ||= await read(wide ? "wide" : "narrow");
   document.body.dataset.width = wide ? "64" : "32";
   $("width").textContent = `this page uses the module of ${wide ? 64 : 32} bits`;
   const code = new Blob(['"use strict";', $("code").textContent], { type: "text/javascript" });
@@ -91,6 +104,7 @@ function stop() {
   state.number++;
   restart();
   over();
+  show({});
   tell("odd", "Stopped", "The document stays as it is.");
   document.body.dataset.ready = "stopped";
 }
@@ -102,7 +116,9 @@ function tick(phase) {
   const says = () => {
     const seconds = (performance.now() - state.began) / 1000;
     if (seconds < 0.3) return;
-    tell("", `${phase[0].toUpperCase()}${phase.slice(1)} ..`, "", `${seconds.toFixed(1)} s`, true);
+    const title = `${phase[0].toUpperCase()}${phase.slice(1)} ..`;
+    if ($("stop").hidden) announce(title);
+    putVerdict("", title, "", `${seconds.toFixed(1)} s`);
     $("stop").hidden = $("progress").hidden = false;
   };
   state.ticking = setInterval(says, 100);
@@ -111,6 +127,7 @@ function tick(phase) {
 function over() {
   state.running = false;
   clearInterval(state.ticking);
+  if (document.activeElement === $("stop")) $("answer").focus();
   $("stop").hidden = $("progress").hidden = true;
 }
 
@@ -118,24 +135,36 @@ function hear(data) {
   if (data.number !== state.number) return;
   if (data.phase) return tick(data.phase);
   over();
-  if (data.error || data.unread) {
-    show({ hidden: true });
-    if (data.error) tell("odd", "The module stopped", `It gave no answer: ${data.error}. The document stays as it is.`);
-    else tell("odd", "The file can't be read", data.unread);
-    document.body.dataset.ready = "error";
-    return;
-  }
-  answer(data);
+  if (data.unread) return unread(data.unread);
+  if (data.error) return fails("The module stopped", `It gave no answer: ${data.error}. The document stays as it is.`);
+  return answer(data);
 }
+
+function fails(title, sentence) {
+  show({});
+  tell("odd", title, sentence);
+  document.body.dataset.ready = "error";
+}
+
+const unread = error => fails("The file can't be read", String(error));
 
 // -- what is shown --
 
-function tell(kind, title, sentence, facts = "", quiet = false) {
+// What a screen reader says. (The same text twice would be said once, so it ends otherwise.)
+function announce(text) {
+  $("announced").textContent = $("announced").textContent === text ? `${text}\u00a0` : text;
+}
+
+function putVerdict(kind, title, sentence, facts) {
   $("verdict").className = kind;
-  $("verdict").setAttribute("aria-live", quiet ? "off" : "polite");
   $("title").textContent = title;
   $("sentence").replaceChildren(...(typeof sentence === "string" ? [sentence] : sentence));
   $("facts").textContent = facts;
+}
+
+function tell(kind, title, sentence, facts = "") {
+  putVerdict(kind, title, sentence, facts);
+  announce(`${title}. ${$("sentence").textContent}`);
 }
 
 const inUnits = (number, unit) => `${number.toFixed(number < 10 ? 1 : 0)} ${unit}`;
@@ -144,6 +173,7 @@ const timeOf = ms => (ms < 1e3 ? inUnits(ms, "ms") : inUnits(ms / 1e3, "s"));
 
 // The sentence of an answer: the program's own, where it prints one, else that of the picture.
 function sentenceOf(data, text) {
+  if (data.kind === "race") return `${text.trim()}. A race needs threads, which a page hasn't: ./fsr race runs it.`;
   if (data.status > 1) return text;
   const lines = text.split("\n").filter(it => it);
   const own = data.kind === "lines" && data.command !== "order --small" ? lines.find(it => /^Lines? \d/.test(it)) : undefined;
@@ -161,11 +191,12 @@ function answer(data) {
   const facts = [`${data.command}, status ${data.status}`, counts[0], ...spent].filter(it => it).join(" \u00b7 ");
   const title = data.status <= 1 ? WORDS[data.command][data.status] : ENDS[data.status] || `Status ${data.status}`;
   tell(["good", "bad"][data.status] || "odd", title, linked(sentenceOf(data, text)), facts);
+  $("printer").textContent = `What ${data.command === "picture" ? "picture" : `fsr ${data.command}`} prints`;
   show({ text: data.command === "picture" && data.status <= 1 ? "" : text, picture: data.picture });
 }
 
-function show({ text, picture, hidden }) {
-  $("printed").hidden = hidden || !text;
+function show({ text, picture }) {
+  $("answered").hidden = !text;
   if (text) $("printed").replaceChildren(...linked(text.length > MOST_SHOWN ? `${text.slice(0, MOST_SHOWN)}\n(cut here)` : text));
   $("figure").hidden = !picture;
   if (state.picture) URL.revokeObjectURL(state.picture);
@@ -175,7 +206,7 @@ function show({ text, picture, hidden }) {
     return;
   }
   state.picture = URL.createObjectURL(new Blob([picture.svg], { type: "image/svg+xml" }));
-  const captions = { small: "The lines of the verdict as a small log, with the ranks of their times", document: "The document's picture" };
+  const captions = { small: "The verdict's lines, by the ranks of their times", document: "The document's picture" };
   $("caption").textContent = captions[picture.of];
   $("picture").onload = () => {
     zoom("fit");
@@ -286,11 +317,15 @@ function put(text, name) {
 }
 
 async function take(file) {
-  if (file.size <= MOST_SHOWN) {
-    put(await file.text(), file.name);
-  } else {
-    const told = `${file.name}, ${sizeOf(file.size)}: only the front is shown, and the whole file is answered`;
-    put(await file.slice(0, FRONT).text(), told);
+  const isLong = file.size > MOST_SHOWN;
+  let text;
+  try {
+    text = await (isLong ? file.slice(0, FRONT) : file).text();
+  } catch (error) {
+    return unread(error);
+  }
+  put(text, isLong ? `${file.name}, ${sizeOf(file.size)}: only the front is shown, and the whole file is answered` : file.name);
+  if (isLong) {
     $("text").readOnly = true;
     state.file = file;
   }
@@ -298,10 +333,17 @@ async function take(file) {
   return ask();
 }
 
-// A text that is too long for the text field, a file, and what is pasted elsewhere than into the field.
+// Whether the text field has an example as it is.
+function isExample() {
+  const row = document.querySelector("#examples [aria-current=true]");
+  return row && EXAMPLES[row.dataset.name].text === $("text").value;
+}
+
+// A text that is too long for the text field, a file, and what is pasted elsewhere than into the field or over an example.
 function paste(event) {
   const [file] = event.clipboardData.files, text = event.clipboardData.getData("text");
-  if (!file && (!text || (event.target === $("text") && text.length <= MOST_SHOWN && !state.file))) return undefined;
+  const joins = event.target === $("text") && !state.file && !isExample();
+  if (!file && (!text || (joins && text.length <= MOST_SHOWN))) return undefined;
   event.preventDefault();
   return take(file || new File([text], "pasted"));
 }
@@ -338,7 +380,7 @@ async function link() {
   }
 }
 
-// Takes the document of a link, or the steps, if the address has one.
+// Takes the document of a link, or the steps, if the address has one, and says whether it had a document.
 async function follow() {
   const steps = /^#steps:([wr]*)$/.exec(location.hash);
   if (steps && location.hash !== state.hash) openPanel("mechanism", steps[1]);
@@ -349,8 +391,9 @@ async function follow() {
     const bytes = Uint8Array.from(atob(found[2].replace(/-/g, "+").replace(/_/g, "/")), it => it.charCodeAt(0));
     put(new TextDecoder().decode(await packed(bytes, new DecompressionStream("deflate-raw"))), "from the link");
   } catch {
-    put("", "The link's document is damaged.");
-    return false;
+    put("", "");
+    fails("The link is damaged", "Its document can't be read. Was the end of the link cut off?");
+    return true;
   }
   $("command").value = found[1].replace("_", " ");
   if ($("command").selectedIndex < 0) $("command").value = "";
@@ -391,11 +434,13 @@ function example(name) {
 }
 
 function listExamples() {
-  for (const [name, { command, shows }] of Object.entries(EXAMPLES)) {
-    const button = document.createElement("button"), kind = document.createElement("b"), row = document.createElement("li");
+  for (const [name, { command, shows, status }] of Object.entries(EXAMPLES)) {
+    const [button, kind, end, row] = ["button", "b", "i", "li"].map(it => document.createElement(it));
     button.dataset.name = name;
     kind.textContent = command;
-    button.append(kind, ` ${shows}`);
+    end.textContent = ["", "unlawful", "", "refused"][status];
+    end.className = ["", "bad", "", "odd"][status];
+    button.append(kind, ` ${shows} `, end);
     button.title = name;
     button.onclick = () => example(name);
     row.append(button);
@@ -414,7 +459,12 @@ function listen() {
   $("stop").onclick = stop;
   $("link").onclick = link;
   $("choose").onclick = () => $("file").click();
-  $("file").onchange = event => event.target.files[0] && take(event.target.files[0]);
+  $("file").onchange = event => {
+    const [file] = event.target.files;
+    // (so that the same file can be chosen again)
+    event.target.value = "";
+    return file && take(file);
+  };
   $("text").oninput = () => {
     $("name").textContent = "";
     clearTimeout(state.later);
@@ -455,10 +505,8 @@ async function start() {
   try {
     await state.ready;
   } catch (error) {
-    tell("odd", "This browser can't run the module", String(error));
-    document.body.dataset.ready = "error";
-    return;
+    return fails("The page can't begin", String(error));
   }
-  if (!(await follow())) example("lines_stale.jsonl");
+  return (await follow()) || example("lines_stale.jsonl");
 }
 start();

@@ -4,6 +4,7 @@ import base64
 import json
 import os
 import shutil
+import struct
 import subprocess
 import tempfile
 import time
@@ -39,10 +40,12 @@ class Browser:
         # (a browser that is handed a file by a relative path doesn't answer any more)
         return self.open(f"file://{os.path.abspath(path)}{suffix}", wide, high)
 
-    def keep_shot(self, path):
-        """Keeps a picture of what is shown."""
+    def keep_shot(self, path, whole=False):
+        """Keeps a picture of what is shown, or of the whole page, and gives its width and height."""
+        data = base64.b64decode(self.shot(whole))
         with open(path, "wb") as file:
-            file.write(base64.b64decode(self.shot()))
+            file.write(data)
+        return struct.unpack(">II", data[16:24])
 
     def wait_for_end(self):
         try:
@@ -51,6 +54,11 @@ class Browser:
             self.process.kill()
             self.process.wait(20)
         shutil.rmtree(self.room, ignore_errors=True)
+
+
+# What Chromium is told that a key with control edits, as headless it doesn't know, and the codes of keys that have no letter.
+EDITS = {"a": "selectAll", "c": "copy", "v": "paste"}
+CODES = {"Enter": 13, "Tab": 9, "Escape": 27}
 
 
 class Chromium(Browser):
@@ -122,8 +130,10 @@ class Chromium(Browser):
         return got["result"].get("value")
 
     def key(self, key, with_control=False):
-        text = {"text": key} if len(key) == 1 else {}
-        how = {"key": key, "code": key, "windowsVirtualKeyCode": 13 if key == "Enter" else 0, "modifiers": 2 if with_control else 0}
+        text = {"text": key} if len(key) == 1 and not with_control else {}
+        if with_control and key in EDITS:
+            text = {"commands": [EDITS[key]]}
+        how = {"key": key, "code": key, "windowsVirtualKeyCode": CODES.get(key, 0), "modifiers": 2 if with_control else 0}
         self.call("Input.dispatchKeyEvent", type="keyDown", **how, **text)
         self.call("Input.dispatchKeyEvent", type="keyUp", **how)
 
@@ -140,8 +150,17 @@ class Chromium(Browser):
         node = self.call("DOM.querySelector", nodeId=root, selector=selector)["nodeId"]
         self.call("DOM.setFileInputFiles", nodeId=node, files=[os.path.abspath(path)])
 
-    def shot(self):
-        return self.call("Page.captureScreenshot", format="png")["data"]
+    def shot(self, whole=False):
+        how = {}
+        if whole:
+            size = self.call("Page.getLayoutMetrics")["cssContentSize"]
+            how = {"captureBeyondViewport": True, "clip": {**size, "scale": 1}}
+        return self.call("Page.captureScreenshot", format="png", **how)["data"]
+
+    def parts(self):
+        """The roles and names of the page's parts, as a screen reader has them."""
+        nodes = self.call("Accessibility.getFullAXTree")["nodes"]
+        return [(it["role"]["value"].lower(), it.get("name", {}).get("value", "")) for it in nodes if not it["ignored"] and it.get("role")]
 
     def said(self):
         """What went wrong in the page, and what it fetched beyond files."""

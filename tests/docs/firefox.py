@@ -18,7 +18,7 @@ IN_PAGE = """const done = arguments[1], it = document.createElement("script");
 # What went wrong in pages, of the messages that the browser keeps.
 MESSAGES = """return Services.console.getMessageArray().filter(it => it instanceof Ci.nsIScriptError && /^(file|blob):/.test(it.sourceName))
     .map(it => it.errorMessage)"""
-KEYS = {"Enter": "\ue007", "Escape": "\ue00c", "ArrowLeft": "\ue012", "ArrowRight": "\ue014", "Backspace": "\ue003"}
+KEYS = {"Enter": "\ue007", "Escape": "\ue00c", "ArrowLeft": "\ue012", "ArrowRight": "\ue014", "Backspace": "\ue003", "Tab": "\ue004"}
 
 
 class Firefox(Browser):
@@ -113,8 +113,18 @@ class Firefox(Browser):
         """Gives a file to a field that asks for one."""
         self.call("WebDriver:ElementSendKeys", id=self.found(selector), text=os.path.abspath(path))
 
-    def shot(self):
-        return self.call("WebDriver:TakeScreenshot", full=False)["value"]
+    def shot(self, whole=False):
+        return self.call("WebDriver:TakeScreenshot", full=whole)["value"]
+
+    def parts(self):
+        """The roles and names of what one can use in the page, as a screen reader has them."""
+        found = []
+        for it in self.call("WebDriver:FindElements", using="css selector", value="button, select, textarea, a, img, h1, h2, [role]"):
+            words = {"id": it[ELEMENT]}
+            if self.call("WebDriver:IsElementDisplayed", **words)["value"]:
+                role, name = (self.call(f"WebDriver:GetComputed{what}", **words)["value"] for what in ("Role", "Label"))
+                found.append((role, name))
+        return found
 
     def said(self):
         """What went wrong in the page."""

@@ -1,13 +1,19 @@
-"""Compares what the module for Python answers to the documents of examples/ with the texts and statuses that stand beside them.
+"""Compares what the module for Python, or a program over nidzaru_check.h, answers to the documents of examples/ with the texts and statuses
+that stand beside them.
 
     in_memory.py LIBRARY [--planted]     LIBRARY: the shared object; --planted: with the text of another document, which has to be seen
+    in_memory.py --program PROGRAM [--planted]     PROGRAM: in_memory.c, built
 """
 
 import ctypes
+import functools
 import glob
 import os
 import re
+import subprocess
 import sys
+import types
+from typing import NamedTuple
 
 TOP = os.path.dirname(os.path.dirname(os.path.dirname(os.path.realpath(__file__))))
 sys.path.insert(0, f"{TOP}/python")
@@ -59,7 +65,30 @@ def cut(module):
             yield f"a buffer of {room} bytes has {buffer.raw!r}, and the length is {size.value}"
 
 
+class Told(NamedTuple):
+    """What a program printed, as the module for Python has it."""
+
+    status: int
+    text: str
+
+
+def through(program):
+    """The module's functions over a program that prints their answers."""
+
+    def ask(command, document, show=0):
+        done = subprocess.run([program, command, str(show)], input=document.encode(), capture_output=True, check=False)
+        text, other = (done.stdout, done.stderr) if done.returncode <= 1 else (done.stderr, done.stdout)
+        return Told(done.returncode, text.decode() + other.decode())
+
+    commands = {it: functools.partial(ask, it) for it in ("check", "order", "play", "picture")}
+    return types.SimpleNamespace(**commands, ORDER=1, SMALL=2)
+
+
 def main(library, *words):
+    if library == "--program":
+        found = list(faults(through(words[0]), "--planted" in words))
+        print("\n".join(found or [f"{len(list(cases()))} documents"]))
+        return 1 if found else 0
     os.environ["NIDZARU_CHECK"] = library
     import nidzaru_check
 

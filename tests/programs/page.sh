@@ -1,6 +1,6 @@
-# The page: its heap tried by itself, what its build refuses, and in headless browsers its answers beside those of the
-# programs, refused memory, and its use. It has one check less where there is no gcc, and none of the module where
-# binaryen or Chromium isn't there.
+# The page: its heap tried by itself, what its build refuses, two builds beside each other, and in headless browsers its answers beside those
+# of the programs, refused memory, little stack, and its use. It has one check less where there is no gcc, and none of the module where
+# binaryen or a browser isn't there.
 
 title="the page's heap"
 if ! command -v gcc >/dev/null 2>&1; then
@@ -48,12 +48,21 @@ make_page() {
     if [ -d crates/memory_answers/out/rlib ]; then ./page --over rlib "$@"; else ./page "$@"; fi
 }
 
-# Runs a part of page.py over the page.
-#   uses_page TITLE WORDS..
+# Sees that two builds gave the same page.
+are_same_pages() {
+    if cmp -s "$1" "$2"; then
+        pass "two builds of the page are the same"
+    else
+        fail "two builds of the page are the same" "they differ from byte $(cmp "$1" "$2" 2>&1 | sed 's/.* byte //') on"
+    fi
+}
+
+# Runs one of the page's scripts in its browsers.
+#   uses_page TITLE SCRIPT WORDS..
 uses_page() {
-    title=$1
-    shift
-    if timeout 1200 python3 tests/programs/page.py "$@" >"$room/out" 2>&1; then
+    title=$1 script=$2
+    shift 2
+    if timeout 1200 python3 "tests/programs/$script.py" "$@" >"$room/out" 2>&1; then
         pass "$title: $(tail -n 1 "$room/out")"
     else
         fail "$title" "$(tail -n 6 "$room/out" | tr '\n' ' ')"
@@ -61,22 +70,28 @@ uses_page() {
 }
 
 title="the page"
-if ! command -v wasm-opt >/dev/null 2>&1 || ! command -v chromium >/dev/null 2>&1; then
-    echo "test: the page isn't built: there is no wasm-opt or no chromium"
+if ! command -v wasm-opt >/dev/null 2>&1; then
+    echo "test: the page isn't built: there is no wasm-opt"
+elif ! command -v chromium >/dev/null 2>&1 && ! command -v firefox-esr >/dev/null 2>&1; then
+    echo "test: the page isn't tried: there is no chromium and no firefox-esr"
 elif ! has_program fsr || ! has_program picture; then
     fail "$title" "fsr or picture wasn't built"
 elif ! make_page "$room/nidzaru.html" >"$room/out" 2>&1; then
     fail "$title" "$(tail -n 3 "$room/out")"
 else
     pass "$(tail -n 1 "$room/out")"
-    page=$room/nidzaru.html fsr=crates/fsr/out/fsr picture=crates/picture/out/picture
-    if make_page "$room/again.html" >/dev/null 2>&1 && cmp -s "$page" "$room/again.html"; then
-        pass "the page made twice of the same modules is the same"
+    page=$room/nidzaru.html programs="crates/fsr/out/fsr crates/picture/out/picture" made=out/page
+    if make_page --anew "$room/again.html" >"$room/out" 2>&1; then
+        are_same_pages "$page" "$room/again.html"
     else
-        fail "the page made twice of the same modules is the same" "it isn't"
+        fail "a second build of the page" "$(tail -n 3 "$room/out")"
     fi
-    uses_page "the page's answers" answers "$page" "$fsr" "$picture"
-    uses_page "the page with memory refused" refused "$page" out/page/refuses.wasm
-    uses_page "the page in use" use "$page" out/page/shots
-    uses_page "the page, planted" planted "$page" "$fsr" "$picture"
+    sed 's/^main { max-width: 1240px/main { max-width: 1241px/' "$page" >"$room/other.html"
+    catches "a page of another build" "they differ from byte" are_same_pages "$page" "$room/other.html"
+    uses_page "the page's answers" page answers "$page" $programs
+    uses_page "the page with memory refused" page memory "$page" $made/refuses.wasm
+    uses_page "the page with little stack" page stacks "$page" $made/shallow.wasm $made/stack_128.wasm
+    uses_page "the page in use" page_use "$page" $made/shots $made/shallow.wasm
+    uses_page "the page, planted" page planted "$page" $programs $made/shallow.wasm
+    uses_page "the page in use, planted" page_use "$page" $made/planted $made/shallow.wasm --planted
 fi
