@@ -158,6 +158,7 @@ PLANTED = [
     ("a file that nobody else sees", H, "nidzaru_log_map(file, size, MAP_SHARED)", "nidzaru_log_map(file, size, MAP_PRIVATE)", "steps"),
     ("a log of another file", H, "memcmp(it->magic, NIDZARU_LOG_MAGIC, sizeof it->magic) ||", "", "recorder"),
     ("a log that was cut off", H, "nidzaru_log_size(it->room) != size ||", "", "recorder"),
+    ("a full log in a file", H, "it->count > it->room", "it->count >= it->room", "recorder"),
     ("a file that stays open", H, "if (file >= 0) close(file);", "", "recorder"),
     ("a file that stays open where it takes nothing", H, "close(file); return NIDZARU_LOG_NO_FILE;", "return NIDZARU_LOG_NO_FILE;", "recorder"),
     ("a closed log that keeps its place in memory", H, "if (log->mapped) munmap(log->state, log->mapped);", "", "recorder"),

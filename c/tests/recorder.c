@@ -210,11 +210,13 @@ static void spoil(const char *path, size_t at, int byte) {
     close(file);
 }
 
-/* A file of two operations in which a byte is spoilt isn't a log. */
+/* A file of two operations, as many as have room, is a log, and isn't one if a byte is spoilt. */
 static void check_spoilt(const char *what, const char *path, size_t at, int byte) {
     check(nidzaru_log_open_file(&one, 3, 2, path) == 0, "a log in a file");
     write_one(&one, first);
     read_one(&one, first);
+    nidzaru_log_close(&one);
+    check(nidzaru_log_open_left(&one, path) == 0, "a full log in a file");
     nidzaru_log_close(&one);
     spoil(path, at, byte);
     check(nidzaru_log_open_left(&one, path) == NIDZARU_LOG_NO_FILE && !one.state, what);

@@ -66,6 +66,7 @@ BY_HAND = [
     ([], [HEAD + WRITES, row(0, "read", 600, 610, 2)], ": its task 0 is in "),
     ([], [HEAD + WRITES + done(1)], ":4: there are 2 operations"),
     ([], [HEAD + WRITES + HEAD], ":4: a header behind the first line"),
+    ([], [HEAD + HEAD], ":2: a header behind the first line"),
     # a write, and a read of it; then what was under way: a write that hadn't ended, one that had, a read, and nothing that is known
     ([], [HEAD, left(LEFT)], HEAD + LEFT_ROWS + done(2)),
     ([], [HEAD, left(LEFT, (1, 20, 0, 2, 88, 2), room=9)], HEAD + LEFT_ROWS + row(4, "write", 20, None, [2, 88]) + done(3)),
