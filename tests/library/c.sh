@@ -242,6 +242,15 @@ test_in_c() {
         run_control "c/tests/apart.c, planted: $wants ($c)" \
             "$c" -std=c11 $strict -O2 -DLINE=1024 c/tests/apart.c $wrapped $flags -o "$room/program"
     done
+    for family in '' -DTRIPLE; do
+        wants=passed
+        run_here "c/tests/lost.c $family($c)" "$c" -std=c11 -D_GNU_SOURCE $strict -O2 -I c $family c/tests/lost.c $flags -o "$room/program"
+        # (elsewhere no thread is stopped in a call)
+        [ "$("$c" -dumpmachine | cut -d - -f 1)" = x86_64 ] || continue
+        wants='the others wait'
+        run_control "c/tests/lost.c $family, planted: a lock ($c)" \
+            "$c" -std=c11 -D_GNU_SOURCE $strict -O2 -I c $family -DLOCKED c/tests/lost.c $flags -o "$room/program"
+    done
     # (it goes one instruction at a time by the trap flag of x86-64)
     if [ "$("$c" -dumpmachine | cut -d - -f 1)" = x86_64 ]; then
         for kind in '' -DTRIPLE -DBOARD '-DBOARD -DTRIPLE'; do

@@ -136,6 +136,16 @@ test_in_c() {
     for register in seqlock atomic ${library:+cell triple board triple_board}; do
         records "$register ($c)" lawful timeout 120 "$room/recorded" "$register" "$operations"
     done
+    # (a thread is stopped in a call by the trap flag of x86-64)
+    ways=cancelled
+    case $("$c" -dumpmachine) in x86_64*) ways='cancelled read write' ;; esac
+    for way in ${library:+$ways}; do
+        if ! "$c" -std=c11 -D_GNU_SOURCE -O2 $strict c/tests/lost.c $library -o "$room/lost" >"$room/said" 2>&1; then
+            fail "c/tests/lost.c ($c)" "it wasn't built: $(head -n 3 "$room/said" | tr '\n' ' ')"
+        else
+            records "a board of which a thread is lost, $way ($c)" lawful timeout 120 "$room/lost" "$way" "$operations"
+        fi
+    done
     for register in torn early last; do
         records "$register ($c)" refused timeout 120 "$room/recorded" "$register" "$operations"
     done
