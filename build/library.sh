@@ -109,6 +109,9 @@ library_pages='CHANGELOG.md LICENSE-MIT LICENSE-APACHE docs/C.md docs/PACKAGE.md
     docs/BOARD.md docs/pictures/handed_on.svg docs/pictures/board_written_cell.svg examples/c/tasks.c examples/c/tasks.cpp examples/c/board.c examples/c/own_memory.c
     examples/c/processes.c examples/c/processes.cpp examples/c/plugins.c examples/c/jack.c'
 
+# What the tests of an installed library need, which have a tar of their own.
+tests_alone='build c examples rust tests tools/convert tools/library_soak.sh tools/disturb.c docs/LANGUAGES.md'
+
 # Lays out the library with its headers and pages, and the script that installs them, in a new folder, an absolute path.
 lay_out() {
     mkdir -p "$1/lib" "$1/include" && make_library "$1/lib/libnidzaru.a" && sed "s/@MACHINE@/$machine/" "$top/packaging/install" >"$1/install" \

@@ -1,9 +1,9 @@
 #!/bin/sh
 # The library, the recorder and the programs for 64-bit ARM. On x86-64 all is compiled by Debian's cross compiler and runs by qemu, in a
-# namespace where its programs just run; on an ARM machine by its own compiler. The library is built where none is named: with the PREFIX of
-# an installed one no toolchain is needed. All runs on one processor, since qemu doesn't keep ARM's order (docs/dev/TESTING.md); an ARM
-# machine uses all. Where compiler, qemu or namespace is missing, that is all that it says. By hand, the word `programs` has fsr and picture
-# built for ARM, and their examples and refusals run. The last line is the sums.
+# namespace where its programs just run, on one processor; on an ARM machine by its own compiler, on all processors. Without words the
+# library is that of this tree; with the PREFIX of an installed one no toolchain is needed. Where compiler, qemu or namespace is missing, it
+# says so and checks nothing. By hand, the word `programs` has fsr and picture built for ARM, and their examples, refusals, and refused
+# memory run. The last line is the sums.
 # usage: tests/arm.sh [PREFIX | programs]
 cd "$(dirname -- "$(readlink -f -- "$0")")/.." || exit 1
 top=$PWD
@@ -23,10 +23,6 @@ make_tools() {
         printf '#!/bin/sh\nexec /usr/bin/aarch64-linux-gnu-%s "$@"\n' "$tool" >"$1/$tool" && chmod +x "$1/$tool" || return 1
     done
     ln -sf gcc "$1/cc" && ln -sf g++ "$1/c++"
-    # (what has another machine's compiler isn't for ARM)
-    for tool in clang clang++ rustc cargo; do
-        printf '#!/bin/sh\nexit 127\n' >"$1/$tool"
-    done
 }
 
 # Runs a script of this one's parts where ARM's programs run.
@@ -35,20 +31,22 @@ in_arm() {
     if [ "$(uname -m)" = aarch64 ]; then
         "$@"
     else
-        PATH=$room/tools:$PATH QEMU_LD_PREFIX=/usr/aarch64-linux-gnu taskset -c 0 python3 tests/library/emulate.py "$@"
+        PATH=$room/tools:$PATH QEMU_LD_PREFIX=/usr/aarch64-linux-gnu python3 tests/library/emulate.py "$@"
     fi
 }
 
 # What is missing for emulation, or nothing.
 missing() {
     [ "$(uname -m)" != aarch64 ] || return
-    for tool in aarch64-linux-gnu-gcc aarch64-linux-gnu-g++ qemu-aarch64-static python3 taskset pkg-config; do
+    for tool in aarch64-linux-gnu-gcc aarch64-linux-gnu-g++ qemu-aarch64-static python3 pkg-config; do
         command -v "$tool" >/dev/null 2>&1 || { echo "$tool" && return; }
     done
     in_arm true 2>/dev/null || echo "a namespace with its own formats of programs"
 }
 
-# The tests of c.sh in C and C++, by this machine's compiler: it is the one that ARM's programs run on.
+# The tests of c.sh in C and C++, by ARM's compiler, and the recorder's. On an ARM machine also those in Rust, and with several processors
+# what needs as many: whole logs, as of a record that waits behind other stores, and the soak, which looks at the order of memory; and what
+# qemu's programs have no robust mutexes for, registers between processes, which are only compiled under emulation.
 test_library() {
     functions_alone=yes
     . tests/library/c.sh
@@ -58,14 +56,35 @@ test_library() {
     test_in_c
     test_in_cpp
     test_cet
-    test_recorder
     if [ "$(uname -m)" = aarch64 ] && command -v cargo >/dev/null 2>&1; then
         . tests/library/rust.sh
     fi
+    if [ "$(nproc)" -gt 1 ]; then
+        sh tests/programs/recorder.sh "$prefix" >"$room/told" 2>&1
+        take_over tests/programs/recorder.sh
+        sh tests/library/shared.sh "$prefix" >"$room/told" 2>&1
+        take_over tests/library/shared.sh
+        test_soak
+    else
+        test_recorder
+        if gcc -std=c11 $strict -O2 -D_GNU_SOURCE c/tests/shared.c $flags -Wl,--wrap=malloc,--wrap=free -o "$room/program" \
+            >"$room/built" 2>&1; then
+            pass "c/tests/shared.c is compiled"
+        else
+            fail "c/tests/shared.c" "it wasn't built: $(head -n 3 "$room/built" | tr '\n' ' ')"
+        fi
+    fi
 }
 
-# The recorder by ARM's counter: its own tests, and logs of right and of wrong registers. (What needs two processors at once, as a record that
-# waits behind other stores, is tests/programs/recorder.sh's, which runs on an ARM machine.)
+test_soak() {
+    if LIBRARY=$prefix/lib/libnidzaru.a sh tools/library_soak.sh 1 >"$room/said" 2>&1; then
+        pass "tools/library_soak.sh: $(tail -n 2 "$room/said" | tr '\n' ' ')"
+    else
+        fail "tools/library_soak.sh" "$(tail -n 2 "$room/said" | tr '\n' ' ')"
+    fi
+}
+
+# The recorder by ARM's counter on one processor: its own tests, and logs of right and of wrong registers.
 test_recorder() {
     recorder='-Wall -Wextra -Wpedantic -Wconversion -Wshadow -Werror -pthread -O2 -I c'
     wants=passed
@@ -99,16 +118,19 @@ judges_lawful() {
     fi
 }
 
-# The programs' answers to the worked examples, and what they refuse. (The smaller programs are those of x86-64.)
+# The programs' answers to the worked examples, what they refuse and draw, and each request for memory refused in turn. (The smaller
+# programs aren't built for ARM: in their place stands fsr with their command.)
 test_programs() {
     built=$room/programs
     . tests/programs/examples.sh
     . tests/programs/refusals.sh
-    if "$built/picture/out/picture" <examples/found_order.json >"$room/out" && cmp -s "$room/out" docs/pictures/found_order.svg; then
-        pass "picture for ARM"
-    else
-        fail "picture for ARM" "it draws something else"
-    fi
+    . tests/programs/pictures.sh
+    wanted_status=0
+    : >"$room/wanted_line"
+    for name in lawful found_order cell race; do
+        cp "examples/$name.txt" "$room/wanted"
+        refuse_each fsr "examples/$name.json" "$(command_for "examples/$name.json")"
+    done
 }
 
 case ${ARM_PART:-} in
@@ -124,35 +146,23 @@ trap 'exit 1' HUP INT TERM
 make_tools "$room/tools" || exit 1
 missing=$(missing)
 if [ -n "$missing" ]; then
-    pass "nothing is run for ARM: there is no $missing"
-    echo "1 passed, 0 failed"
+    echo "test: nothing is run for ARM: there is no $missing"
+    echo "0 passed, 0 failed"
     exit
 fi
 
-# Takes over what a part says, one line each and the sums last.
-take_part() {
-    sed '$d' "$room/told"
-    sums=$(tail -n 1 "$room/told")
-    case $sums in
-    *[0-9]' passed, '*[0-9]' failed')
-        passed=$((passed + ${sums%% *}))
-        sums=${sums##* passed, }
-        failed=$((failed + ${sums%% *}))
-        ;;
-    *) fail "$1" "it didn't say how it ended: $sums" ;;
-    esac
-}
-
 if [ "${1:-}" = programs ]; then
     set_machine aarch64
-    for program in fsr fsr_check fsr_order fsr_play picture; do
-        case $program in
-        fsr | picture) made=$(built_file "$program") && make_fresh "$program" </dev/null >&2 ;;
-        *) made=crates/$program/out/$program && [ -x "$made" ] ;;
-        esac && mkdir -p "$room/programs/$program/out" && cp "$made" "$room/programs/$program/out/" || fail "$program" "it isn't built"
+    for program in fsr picture; do
+        make_fresh "$program" </dev/null >&2 && mkdir -p "$room/programs/$program/out" \
+            && cp "$(built_file "$program")" "$room/programs/$program/out/" || fail "$program" "it isn't built"
+    done
+    for word in check order play; do
+        small=$room/programs/fsr_$word/out/fsr_$word
+        mkdir -p "${small%/*}" && printf '#!/bin/sh\nexec %s/programs/fsr/out/fsr %s\n' "$room" "$word" >"$small" && chmod +x "$small"
     done
     ARM_PART=programs room=$room in_arm sh tests/arm.sh "$room" >"$room/told" 2>&1
-    take_part programs
+    take_over "tests/arm.sh programs"
     echo "$passed passed, $failed failed"
     [ "$failed" = 0 ]
     exit
@@ -162,8 +172,10 @@ if [ -z "$prefix" ]; then
     ./install --machine aarch64 "$prefix" >"$room/said" 2>&1 || fail "./install --machine aarch64" "$(tail -n 1 "$room/said")"
 fi
 if [ -f "$prefix/lib/libnidzaru.a" ]; then
-    ARM_PART=library room=$room in_arm sh tests/arm.sh "$prefix" >"$room/told" 2>&1
-    take_part library
+    # (over what the tests' tar has, and nothing else of the tree)
+    mkdir "$room/alone" && tar -c $tests_alone | tar -x -C "$room/alone"
+    ARM_PART=library room=$room in_arm sh "$room/alone/tests/arm.sh" "$prefix" >"$room/told" 2>&1
+    take_over tests/arm.sh
 fi
 echo "$passed passed, $failed failed"
 [ "$failed" = 0 ] && [ "$passed" -gt 0 ]

@@ -2,19 +2,19 @@
 # By hand: the library's registers with records of eight sizes, and its boards of 2, 4 and 16 tasks with records of 24, 256 and 4,096 bytes,
 # over both mechanisms, for so many seconds each. With a seed threads are stopped, moved between processors and given other priorities at
 # random meanwhile (disturb.c). Before that each program has to find a torn and an older record that are planted in it. The last lines are
-# the sums of calls and what was found. It ends with status 1 at the first wrong record.
-# usage: tools/library_soak.sh SECONDS [SEED]
+# the sums of calls and what was found. It ends with status 1 at the first wrong record. With LIBRARY=FILE it is that archive, and no
+# toolchain is needed. usage: [LIBRARY=FILE] tools/library_soak.sh SECONDS [SEED]
 top=$(dirname -- "$(dirname -- "$(readlink -f -- "$0")")")
 case $#:$1:${2:-0} in
 [12]:*[!0-9:]* | [12]::* | [12]:0* | [!12]:*)
-    echo "usage: tools/library_soak.sh SECONDS [SEED]      of each of 16 registers and 18 boards" >&2
+    echo "usage: [LIBRARY=FILE] tools/library_soak.sh SECONDS [SEED]      of each of 16 registers and 18 boards" >&2
     exit 2
     ;;
 esac
 room=$(mktemp -d) || exit 1
 trap 'rm -rf "$room"' EXIT
 . "$top/build/library.sh"
-make_library "$room/libnidzaru.a" || exit 70
+if [ -n "$LIBRARY" ]; then cp "$LIBRARY" "$room/libnidzaru.a"; else make_library "$room/libnidzaru.a"; fi || exit 70
 disturbed=
 if [ $# = 2 ]; then
     cc -std=c11 -O2 "$top/tools/disturb.c" -o "$room/disturb" || exit 70

@@ -30,16 +30,20 @@ TOOLS = {
     "tests/programs/recorder.sh": ("gcc", "g++", "clang", "clang++", "rustc", "cargo", "aarch64-linux-gnu-gcc"),
     "tests/library/shared.sh": ("gcc", "g++", "clang", "clang++", "cargo", "jackd"),
     "tests/programs/page.sh": ("gcc", "wasm-opt", "chromium"),
+    "tests/library/accesses.sh": ("aarch64-linux-gnu-gcc",),
+    "tests/arm.sh": ("aarch64-linux-gnu-gcc", "qemu-aarch64-static"),
     "tests/library/in_memory.sh": ("gcc", "g++"),
     "tests/library/package.sh": ("aarch64-linux-gnu-gcc", "musl-gcc", "cmake", "cargo", "lintian", "unshare", "wasm-opt"),
     "tests/docs/stepper.sh": ("wasm-opt", "chromium"),
     "tests/docs/site.sh": ("chromium",),
 }
+# The scripts that check nothing where one of their tools isn't there.
+OPTIONAL = {"tests/arm.sh"}
 # The scripts that have no checks, and those that are run by hand alone.
 HELPERS = {"tests/gate/outcomes.sh", "build/spent.sh", "build/machine.sh", "build/build.sh", "build/library.sh", "tests/programs/refused.sh"}
 # Those that another script reads.
 PARTS = {"tests/library/rust.sh", "tests/library/packed.sh", "tests/library/installed.sh"}
-BY_HAND = {"tests/arm.sh", "tests/library/accesses.sh", "tests/library/roots.sh"}
+BY_HAND = {"tests/library/roots.sh"}
 TOLD = re.compile(r"(?m)^test: (\S+(?: ci)?): (\d+) checks$")
 WHOLE = re.compile(r"(?m)^test: all of \./test ran on commit (\S+); its counts have the sum sha256 ([0-9a-f]{64})$")
 TRIED = re.compile(r"(?m)^test: (wrong bodies: \d+ of (\d+) were tried, and \d+ stand by their sums)")
@@ -71,11 +75,13 @@ def stated(top):
 
 
 def is_here(tool):
-    """Whether there is such a program, and of `unshare` whether it may make a namespace of mounts."""
+    """Whether there is such a program, of `unshare` whether it may make a namespace of mounts, and of qemu one with its own formats."""
     if not shutil.which(tool):
         return False
     as_root = [] if os.getuid() == 0 else ["--map-root-user"]
-    return tool != "unshare" or subprocess.run(["unshare", "--mount", *as_root, "true"], stderr=subprocess.DEVNULL, check=False).returncode == 0
+    emulate = Path(__file__).resolve().parents[1] / "library/emulate.py"
+    tried = {"unshare": ["unshare", "--mount", *as_root, "true"], "qemu-aarch64-static": [sys.executable, emulate, "true"]}
+    return tool not in tried or subprocess.run(tried[tool], stderr=subprocess.DEVNULL, check=False).returncode == 0
 
 
 def tools_here():
@@ -93,7 +99,7 @@ def wrong_numbers(top, counted, only):
         is_alike = all((it in had) == (it in here) and it in had | lacked for it in tools)
         if name not in counted:
             yield f"{name} wasn't run"
-        elif counted[name] == 0:
+        elif counted[name] == 0 and not (name in OPTIONAL and {*tools} - {*here}):
             yield f"{name} made no check"
         elif name not in numbers:
             yield f"{name} isn't in the table of docs/dev/TESTING.md"

@@ -199,6 +199,18 @@ else
     fi
     catches_number "a script that wasn't run" "tests/gate/sources.sh wasn't run" '/^tests\/gate\/sources.sh /d'
     catches_number "a script without a check" "tests/programs/races.sh made no check" 's/^\(tests\/programs\/races.sh\) .*/\1 0/'
+    # (on a machine without tools a script may check nothing that needs one for all that it checks, and no other script)
+    mkdir "$room/few" && ln -s "$(python3 -c 'import sys; print(sys.executable)')" "$room/few/python3"
+    stated_numbers | sed 's/^\(tests\/arm.sh\) .*/\1 0/' >"$room/numbers"
+    if ! (PATH=$room/few compares_numbers) >"$room/out" 2>&1; then
+        fail "a script without a check for want of tools" "$(cat "$room/out")"
+    elif sed -i 's/^\(tests\/library\/orders.sh\) .*/\1 0/' "$room/numbers" && (PATH=$room/few compares_numbers) >"$room/out" 2>&1; then
+        fail "a script without a check for want of tools" "another one isn't seen"
+    elif [ "$(cat "$room/out")" = "tests/library/orders.sh made no check" ]; then
+        pass "planted: a script without a check for want of tools"
+    else
+        fail "a script without a check for want of tools" "$(cat "$room/out")"
+    fi
     catches_number "a check too few" "tests/docs/release.sh made 3 checks, and docs/dev/TESTING.md says [0-9]*" \
         's/^\(tests\/docs\/release.sh\) .*/\1 3/'
     catches_number "wrong bodies that weren't tried" "tests/gate/wrong_bodies.py made 7 checks, and docs/dev/TESTING.md says [0-9]*" \

@@ -10,6 +10,28 @@ fail() {
     failed=$((failed + 1))
 }
 
+# Takes over the counts of a last line `N passed, M failed`.
+take_counts() {
+    line=$(tail -n 1 "$1")
+    more_passed=${line%% passed, *}
+    more_failed=${line##* passed, }
+    more_failed=${more_failed%% failed}
+    case $more_passed$more_failed in
+    *[!0-9]* | '')
+        echo "test: $2 did not say how it ended"
+        more_passed=0 more_failed=1
+        ;;
+    esac
+    passed=$((passed + more_passed)) failed=$((failed + more_failed))
+}
+
+# Takes over what a script has said, in $room/told: one line each and the sums last.
+#   take_over NAME
+take_over() {
+    sed '$d' "$room/told"
+    take_counts "$room/told" "$1"
+}
+
 # The control of a check: with a planted fault in what it looks at, the check has to fail, and say this.
 #   catches TITLE SAID CHECK WORDS..
 catches() {

@@ -1,6 +1,6 @@
 #!/bin/sh
-# By hand, and no part of `./test`: the accesses that each call of a register has in the built library, for both machines, against a table.
-# The last line is the sums. usage: tests/library/accesses.sh
+# The accesses that each call of a register has in the built library, for x86-64 and, where there are binutils for it, for 64-bit ARM,
+# against a table. The last line is the sums. usage: tests/library/accesses.sh
 cd "$(dirname -- "$(readlink -f -- "$0")")/../.." || exit 1
 top=$PWD
 passed=0 failed=0
@@ -44,11 +44,15 @@ try_accesses() {
         sees_fault "a write that stores by str" 'write of .*24' nidzaru_24_write 's/\tstlr\t/\tstr\t/'
         sees_fault "a swap without release" 'nidzaru_triple_24_write has stxr' nidzaru_triple_24_write 's/\tstlxr\t/\tstxr\t/'
         sees_fault "a large read that copies nothing" 'large_read of 4096' nidzaru_4096_read '/R_AARCH64_.*mem/d'
+        sees_fault "a read of 64 bytes that copies nothing" 'large_read of 64:' nidzaru_64_read '/\tldu\{0,1\}[rp]\tq/d'
+        sees_fault "a write of 64 bytes that copies nothing" 'large_write of 64:' nidzaru_64_write '/\tstu\{0,1\}[rp]\tq/d'
+        sees_fault "a board's write that swaps" 'board_write of nidzaru_board_24_write' nidzaru_board_24_write 's/\tstlr\t/\tstlxr\t/'
         ;;
     *)
         sees_fault "a write that stores by mov" 'write of .*24' nidzaru_24_write 's/\txchg /\tmov /'
         sees_fault "a swap that is a mov" 'triple_write of .*24' nidzaru_triple_24_write 's/\txchg /\tmov /'
         sees_fault "a large read that copies nothing" 'large_read of 4096' nidzaru_4096_read '/R_X86_64_.*mem/d'
+        sees_fault "a write of 64 bytes that copies nothing" 'large_write of 64:' nidzaru_64_write '/\tmov[au]p/d'
         ;;
     esac
 }

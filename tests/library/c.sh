@@ -36,12 +36,6 @@ run_control() {
     fi
 }
 
-# Takes over what a script says, one line each and the sums last.
-take_over() {
-    sed '$d' "$room/told"
-    take_counts "$room/told" "$1"
-}
-
 # A header of the next release, which asks for a name that the library doesn't have, doesn't link with it.
 test_release() {
     minor=$(awk '/^#define NIDZARU_VERSION_MINOR/ { print $3 }' c/nidzaru.h)

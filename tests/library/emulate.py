@@ -1,4 +1,5 @@
-"""Runs a command where programs for 64-bit ARM just run, by qemu, in a namespace of its own: outside of it nothing changes.
+"""Runs a command where programs for 64-bit ARM just run, by qemu, in a namespace of its own: outside of it nothing changes. All runs on one
+processor, since qemu doesn't keep ARM's order between several (docs/dev/TESTING.md).
 
     emulate.py COMMAND ..
 
@@ -44,6 +45,7 @@ def enter(libc, command):
 
 def main(command):
     libc = ctypes.CDLL(None, use_errno=True)
+    os.sched_setaffinity(0, {max(os.sched_getaffinity(0))})
     is_root, user, group = os.getuid() == 0, os.getuid(), os.getgid()
     entered, let = os.pipe(), os.pipe()
     child = os.fork()

@@ -231,6 +231,21 @@ use_programs() {
         && in_clean bin/picture <examples/lawful.json | grep -q '</svg>'
 }
 
+# The packaged programs take their memory by c/os.c: each request is refused in turn.
+refuse_packaged() {
+    . tests/programs/refused.sh
+    for it in fsr picture; do
+        mkdir -p "$packages/linked/$it/out" && cp "$unpacked_programs/bin/$it" "$packages/linked/$it/out/"
+    done
+    wanted_status=0 unlinked=$built built=$packages/linked
+    : >"$room/wanted_line"
+    cp examples/lawful.txt "$room/wanted"
+    make_refusing && refuse_each fsr examples/lawful.json check
+    cp docs/pictures/found_order.svg "$room/wanted"
+    refuse_each picture examples/found_order.json
+    built=$unlinked
+}
+
 check_use() {
     check "the packages' install" install_to "$clean/prefix" lib
     check "C by pkg-config" in_c tasks.c "$clean/prefix/lib"

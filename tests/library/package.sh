@@ -299,5 +299,6 @@ else
     ! command -v lintian >/dev/null 2>&1 || check "lintian has nothing to say" is_clean_for_lintian
     check_rust
     check "the packaged programs" use_programs
+    refuse_packaged
     [ -z "$with_page" ] || check "the packaged page" has_page
 fi

@@ -36,6 +36,32 @@ test_oldest_rust() {
     fi
 }
 
+# Builds the program without a C library, which takes the crate without `std`, after a change by a command of sed.
+#   builds_freestanding SED
+builds_freestanding() {
+    rm -rf "$room/freestanding" && cp -r rust/freestanding "$room/freestanding" \
+        && sed -i "s|\"../nidzaru\"|\"../rust\"|; $1" "$room/freestanding/Cargo.toml" || return 1
+    host=$(rustc -vV | sed -n 's/^host: //p')
+    RUSTFLAGS='-Crelocation-model=static -Clink-arg=-nostdlib -Clink-arg=-static -Clink-arg=-no-pie' \
+        PKG_CONFIG_PATH=$installed/lib/pkgconfig CARGO_TARGET_DIR=$room/alone_target \
+        cargo build --release --offline --quiet --target "$host" --manifest-path "$room/freestanding/Cargo.toml" >"$room/said" 2>&1
+}
+
+test_freestanding_in_rust() {
+    if builds_freestanding '' && [ "$("$room/alone_target/$host/release/freestanding")" = passed ]; then
+        pass "rust/freestanding: the crate without std, and no C library"
+    else
+        fail "rust/freestanding" "$(head -n 3 "$room/said" | tr '\n' ' ')"
+    fi
+    if builds_freestanding 's/, default-features = false//'; then
+        fail "planted: rust/freestanding over the crate with std" "it is built all the same"
+    elif grep -q 'found duplicate lang item' "$room/said"; then
+        pass "planted: rust/freestanding over the crate with std"
+    else
+        fail "planted: rust/freestanding over the crate with std" "another reason: $(grep -m 2 '^error' "$room/said" | tr '\n' ' ')"
+    fi
+}
+
 # Sees that the pair of this word is a race.
 #   sees_race_in_rust WORD TITLE
 sees_race_in_rust() {
@@ -114,6 +140,7 @@ if command -v cargo >/dev/null 2>&1; then
         pass "rust/nidzaru over an older library"
     fi
     test_oldest_rust
+    test_freestanding_in_rust
     test_races_in_rust
     # (the numbers of the errors of examples that don't compile are looked at by the nightly compiler alone)
     if cargo +nightly --version >/dev/null 2>&1; then

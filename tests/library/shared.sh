@@ -246,7 +246,8 @@ elif command -v gcc >/dev/null 2>&1; then
     try_headers
     kill_all 60
     words=
-    for kind in -DBYTES=24 -DTRIPLE; do
+    # (it reads the registers of x86-64)
+    [ "$(gcc -dumpmachine | cut -d - -f 1)" != x86_64 ] || for kind in -DBYTES=24 -DTRIPLE; do
         program "killed after each instruction, $kind" '.*, nothing found' c/tests/shared_steps.c gcc -std=gnu11 "$kind"
     done
     for words in '3 r wrw' '3 w wr'; do

@@ -14,7 +14,7 @@ done
 
 if ! command -v python3 >/dev/null 2>&1; then
     fail "pictures are well-formed XML" "there is no python3"
-elif python3 tests/programs/pictures.py crates/picture/out/picture examples/*.json >"$room/out" 2>&1; then
+elif python3 tests/programs/pictures.py "$built/picture/out/picture" examples/*.json >"$room/out" 2>&1; then
     pass "pictures are well-formed XML ($(tail -n 1 "$room/out"))"
 else
     fail "pictures are well-formed XML" "$(tail -n 1 "$room/out")"
@@ -43,7 +43,7 @@ if [ -z "$compiler" ] || ! make_refusing; then
 else
     : >"$room/wanted_line"
     for name in lawful found_order crossed cell matrix board; do
-        crates/picture/out/picture <"examples/$name.json" >"$room/wanted" 2>/dev/null
+        "$built/picture/out/picture" <"examples/$name.json" >"$room/wanted" 2>/dev/null
         wanted_status=0
         [ -f "examples/$name.status" ] && wanted_status=$(cat "examples/$name.status")
         refuse_each picture "examples/$name.json"

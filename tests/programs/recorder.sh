@@ -260,20 +260,6 @@ test_crate() {
     records "a register in Rust" lawful timeout 120 "$room/target/release/examples/record_board" "$operations" register
 }
 
-# Takes over the sums of a script that ends with them.
-take_over() {
-    sed '$d' "$room/told"
-    sums=$(tail -n 1 "$room/told")
-    case $sums in
-    *[0-9]' passed, '*[0-9]' failed')
-        passed=$((passed + ${sums%% *}))
-        sums=${sums##* passed, }
-        failed=$((failed + ${sums%% *}))
-        ;;
-    *) fail "$1" "it didn't say how it ended: $sums" ;;
-    esac
-}
-
 # A script whose last line says what it compared.
 counts() {
     name=$1

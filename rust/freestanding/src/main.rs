@@ -63,6 +63,23 @@ unsafe extern "C" fn memset(at: *mut u8, byte: i32, size: usize) -> *mut u8 {
     at
 }
 
+/// What Rust's own libraries ask for beside: this, and a name that nothing calls, as no panic unwinds.
+///
+/// # Safety
+/// As C's.
+#[no_mangle]
+unsafe extern "C" fn bcmp(a: *const u8, b: *const u8, size: usize) -> i32 {
+    for k in 0..size {
+        if a.add(k).read_volatile() != b.add(k).read_volatile() {
+            return 1;
+        }
+    }
+    0
+}
+
+#[no_mangle]
+extern "C" fn rust_eh_personality() {}
+
 struct OfTheLibrary;
 // SAFETY: blocks are aligned to 64, and no two overlap.
 unsafe impl GlobalAlloc for OfTheLibrary {
