@@ -27,9 +27,11 @@ def cut_links(page, text, pages):
 
 
 def lacks(path, pages):
-    """Whether the repository has this file or folder, and the package has nothing of it."""
+    """Whether the repository has this file or folder, and the package has nothing of it. (What is built in out/ is nobody's.)"""
     path = path.removeprefix("./").rstrip("/")
-    return os.path.exists(f"{TOP}/{path}") and path != "install" and not any(it == path or it.startswith(f"{path}/") for it in pages)
+    if path == "install" or path.startswith("out/") or any(it == path or it.startswith(f"{path}/") for it in pages):
+        return False
+    return os.path.exists(f"{TOP}/{path}")
 
 
 def tell_files(text, pages):

@@ -16,7 +16,7 @@ run_here() {
     shift
     if ! "$@" >"$room/built" 2>&1; then
         fail "$name" "it wasn't built: $(head -n 3 "$room/built" | tr '\n' ' ')"
-    elif timeout 120 "$room/program" >"$room/said" 2>&1 && tail -n 1 "$room/said" | grep -qx "$wants"; then
+    elif timeout "${longest:-120}" "$room/program" >"$room/said" 2>&1 && tail -n 1 "$room/said" | grep -qx "$wants"; then
         pass "$name"
     else
         fail "$name" "$(head -n 3 "$room/said" | tr '\n' ' ')"
@@ -29,7 +29,7 @@ run_control() {
     shift
     if ! "$@" >"$room/built" 2>&1; then
         fail "$name" "it wasn't built: $(head -n 3 "$room/built" | tr '\n' ' ')"
-    elif timeout 120 "$room/program" >"$room/said" 2>&1 || ! grep -q "$wants" "$room/said"; then
+    elif timeout "${longest:-120}" "$room/program" >"$room/said" 2>&1 || ! grep -q "$wants" "$room/said"; then
         fail "$name" "it took a plain buffer for a register"
     else
         pass "$name"
