@@ -38,7 +38,8 @@ def quotes_otherwise(page):
 
 def counts_otherwise(page):
     """Tables that haven't the rows of WHY's, by name and first figure."""
-    wanted = re.split(r"(?m)^\| Shared by .*$", read("docs/WHY.md"))[1:]
+    stops = read("docs/WHY.md").partition("## The third task reads")[2].partition("## An effect")[0]
+    wanted = re.split(r"(?m)^\| Shared by .*$", stops)[1:]
     found = re.findall(r'<table class="bars" data-from="WHY.md".*?</table>', page, re.S)
     if len(found) != len(wanted):
         yield f"{len(found)} tables in place of WHY's {len(wanted)}"
