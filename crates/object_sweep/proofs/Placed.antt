@@ -1,14 +1,14 @@
 -- One operation is placed: what may follow, both ways.
 use Rattle.std.proofs.Common.{◌≡◌, ◌≢◌, ℕ, ◌+◌, ◌<◌, ◌≤◌, Bool, true, false, cond, not, ◌&&◌, ◌||◌, nat_eq, List, [], ◌∷◌}
-use Rattle.std.proofs.Common.{slice_get, is_some, Option, None, Some, refl, sym, ◌∙◌, ap, subst, arith, ◌⊎◌, inl, inr, ◌↔◌}
+use Rattle.std.proofs.Common.{slice_get, is_some, Option, None, Some, refl, sym, ◌∙◌, ap, subst, arith, ◌⊎◌, inl, inr}
 use Rattle.std.proofs.lemmas.Bool.{cases_Bool, cases_eq, cases_lt}
 use Rattle.std.proofs.lemmas.Bool.Decides.{nat_tests}
-use Rattle.std.proofs.lemmas.Option.{same_Some, slice_get_within}
+use Rattle.std.proofs.lemmas.Option.{same_Some}
 use Rattle.std.specs.Prelude.{IsSomeAnd}
 use Rattle.history_core.proofs.Listing.{times_cons}
 use Rattle.history_core.specs.Orders.{times_of}
 use Rattle.object_core.specs.declared.operation.Operation.{Operation}
-use Rattle.object_core.specs.Logs.{CanMake, is_due, KeepsPrecedence, MayStand, NonePrecedes, Precedes}
+use Rattle.object_core.specs.Logs.{is_due, NonePrecedes}
 use Rattle.object_sweep.specs.Rests.{CanFinish, CanPlace, IsRest, MayStandBehind, NoOpenEndBefore, RunForwards}
 
 -- a number and itself, and two numbers
@@ -96,16 +96,14 @@ module _ {S W : Type 0} (after : S → W → Option S) (log : List (Operation W)
           let starts : can.0.starts ≡ b.starts = ap (λ (z : Operation W). z.starts) same in
           omega (arith, w.2, le, starts, can.3)
 
-  -- and complete: where an operation follows, something can be placed first that began by its end
-  pub complete : RunForwards log → (f : ℕ → Bool) (end p : ℕ) (o : Operation W) → slice_get log p ≡ Some o → o.ends ≡ Some end →
-      (s : S) (rest : List ℕ) → IsRest after log f s rest → 0 < times_of p rest →
-      (q : ℕ) × (t : S) × CanPlace after log f end s q t × CanFinish after log (λ r. f r || nat_eq r q) t
-  complete forwards f end p o at ends s [] h stood = let z : times_of p [] ≡ 0 = refl in absurd (omega arith)
-  complete forwards f end p o at ends s (q ∷ rest) h stood = (
-    q,
+  -- and complete: where an operation follows, the first that does can be placed, and began by its end
+  pub complete_tail : RunForwards log → (f : ℕ → Bool) (end p : ℕ) (o : Operation W) → slice_get log p ≡ Some o → o.ends ≡ Some end →
+      (s : S) (q : ℕ) (rest : List ℕ) → IsRest after log f s (q ∷ rest) → 0 < times_of p (q ∷ rest) →
+      (t : S) × CanPlace after log f end s q t × IsRest after log (λ r. f r || nat_eq r q) t rest
+  complete_tail forwards f end p o at ends s q rest h stood = (
     h.steps.1,
     (h.steps.0, h.steps.2, free, starts, h.steps.3),
-    (rest, record { listing = listing; precedence = h.precedence.1; steps = h.steps.4 }),
+    record { listing = listing; precedence = h.precedence.1; steps = h.steps.4 },
   )
     where
       here : times_of q (q ∷ rest) ≡ 1 + times_of q rest
@@ -145,6 +143,13 @@ module _ {S W : Type 0} (after : S → W → Option S) (log : List (Operation W)
             let same : (f r || nat_eq r q) ≡ f r = or_left (f r) (nat_eq r q) (other_number r q (λ e. ne (sym e))) in
             subst Q (sym same) (subst P (times_there r q rest ne) (h.listing r a ra))
       ]
+
+  pub complete : RunForwards log → (f : ℕ → Bool) (end p : ℕ) (o : Operation W) → slice_get log p ≡ Some o → o.ends ≡ Some end →
+      (s : S) (rest : List ℕ) → IsRest after log f s rest → 0 < times_of p rest →
+      (q : ℕ) × (t : S) × CanPlace after log f end s q t × CanFinish after log (λ r. f r || nat_eq r q) t
+  complete forwards f end p o at ends s [] h stood = let z : times_of p [] ≡ 0 = refl in absurd (omega arith)
+  complete forwards f end p o at ends s (q ∷ rest) h stood =
+      let c = complete_tail forwards f end p o at ends s q rest h stood in (q, c.0, c.1, (rest, c.2))
 
   -- without one that may have done nothing, and doesn't follow
   pub dropped : (f : ℕ → Bool) (p end : ℕ) (o : Operation W) → slice_get log p ≡ Some o → o.ends ≡ Some end → (s : S) (rest : List ℕ) →

@@ -1,6 +1,6 @@
 -- The opening, one end, and the last one.
-use Rattle.std.proofs.Common.{◌≡◌, ℕ, ◌+◌, ◌<◌, ◌≤◌, Bool, true, false, ◌||◌, ◌&&◌, not, nat_eq, List, [], slice_get, is_some}
-use Rattle.std.proofs.Common.{Option, None, Some, sym, ◌∙◌, ap, subst, arith, ◌⊎◌, inl, inr, ◌↔◌, refl}
+use Rattle.std.proofs.Common.{◌≡◌, ℕ, ◌<◌, ◌≤◌, Bool, true, false, ◌||◌, ◌&&◌, not, nat_eq, List, [], slice_get, is_some}
+use Rattle.std.proofs.Common.{Option, None, Some, sym, ap, subst, arith, ◌⊎◌, inl, inr, ◌↔◌, refl}
 use Rattle.std.proofs.lemmas.Bool.{cases_lt}
 use Rattle.history_core.specs.Orders.{times_of}
 use Rattle.object_core.specs.declared.operation.Operation.{Operation}

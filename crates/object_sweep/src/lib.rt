@@ -1,4 +1,12 @@
-//! The rules of the sweep, which decides whether a log of an object has a lawful order, after G. Lowe, 2017.
+//! The sweep, which decides whether a log of an object has a lawful order, after G. Lowe, 2017, and its rules.
 #![tactic(auto)]
 
+mod configuration;
+mod ending;
+mod event;
 pub mod laws;
+mod log_sweep;
+mod places;
+
+pub use configuration::Configuration;
+pub use log_sweep::{SweepError, Verdict, sweep};

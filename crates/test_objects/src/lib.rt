@@ -1,7 +1,9 @@
-//! Worked rows of objects, and a lock, which is no register.
+//! Worked rows and logs of objects, and a lock, which is no register.
 #![tactic(auto)]
 
 mod lock;
+#[cfg(test)]
+mod logs;
 #[cfg(test)]
 mod steps;
 

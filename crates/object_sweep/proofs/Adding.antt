@@ -1,0 +1,480 @@
+-- What each step adds to the configurations.
+use Rattle.std.proofs.Common.{◌≡◌, ℕ, ◌+◌, ◌<◌, ◌≤◌, Bool, true, false, ◌||◌, cond, nat_eq, List, [], ◌∷◌, ◌++◌, length, slice_get}
+use Rattle.std.proofs.Common.{get_or, Option, None, Some, refl, sym, ◌∙◌, ap, subst, arith, ◌⊎◌, inl, inr}
+use Rattle.std.proofs.lemmas.Bool.{cases_Bool, cases_lt}
+use Rattle.std.proofs.lemmas.Option.{same_Some, slice_get_within, slice_get-get_or}
+use Rattle.object_core.specs.declared.operation.Operation.{Operation}
+use Rattle.object_sweep.specs.declared.configuration.Configuration.{Configuration}
+use Rattle.object_sweep.specs.inner.Steps.{AnyCanFinish, AreExplored, AreSound, AreStarted, AreUnderWay, IsAdded, IsCopyAt, IsExplored}
+use Rattle.object_sweep.specs.inner.Steps.{IsGrown, IsHandled, IsLeftOut, IsMadeOf, IsPassed, IsPut, IsPutIn, IsSorted, IsTried, made_by}
+use Rattle.object_sweep.specs.inner.Steps.{may_be_left_out, maybe_of, step_from}
+use Rattle.object_sweep.specs.Reached.{AreApart, AreReachable, AreTooMany, is_closed, is_in, IsHeld, IsNextEnd, IsReachable, IsSameAs}
+use Rattle.object_sweep.specs.Reached.{is_within}
+use Rattle.object_sweep.specs.Reached.{without}
+use Rattle.object_sweep.specs.Reached.IsReachable.{Places, Ends}
+use Rattle.object_sweep.specs.Rests.{CanPlace, RunForwards}
+use Rattle.object_sweep.proofs.Lists.{closed_behind, get_front, get_last, get_push, is_in_at, is_in_push, same_if, without_none}
+use Rattle.object_sweep.proofs.Lists.{without_push}
+use Rattle.object_sweep.proofs.Lists.{within_itself}
+use Rattle.object_sweep.proofs.Placed.{same_number}
+use Rattle.object_sweep.proofs.Exact.{finished, held_finish, same_finish, same_rests}
+
+module _ {S : Type 0} where
+  turned_same : (one : Configuration S) (other : Configuration S) → IsSameAs one other.state other.placed.items →
+      IsSameAs other one.state one.placed.items
+  turned_same one other h = (sym h.0, h.2, h.1)
+
+  pub of_same : (one : Configuration S) (s : S) (placed : List ℕ) → IsMadeOf one s placed → IsSameAs one s placed
+  of_same one s placed h =
+      let P : List ℕ → Type 0 = λ z. (is_within one.placed.items z ≡ true) × (is_within z one.placed.items ≡ true) in
+      let w = subst P h.1 (within_itself one.placed.items, within_itself one.placed.items) in (h.0, w.0, w.1)
+
+  -- the same is held, or it is pushed
+  pub added_held : (old : List (Configuration S)) (s : S) (placed : List ℕ) → IsHeld old s placed → IsAdded old s placed old
+  added_held old s placed h = record { grown = λ i one e. e; held = h; from = λ i one e. inl (i, e); apart = λ a. a }
+
+  pub added_push : (old : List (Configuration S)) (s : S) (placed : List ℕ) (one : Configuration S) → ¬ IsHeld old s placed →
+      IsMadeOf one s placed → IsAdded old s placed (old ++ one ∷ [])
+  added_push old s placed one not_held of = record {
+    grown = get_front old (one ∷ []);
+    held = (length old, one, get_last old one, of_same one s placed of);
+    from = from;
+    apart = apart;
+  }
+    where
+      from : (i : ℕ) (other : Configuration S) → slice_get (old ++ one ∷ []) i ≡ Some other →
+          ((j : ℕ) × (slice_get old j ≡ Some other)) ⊎ IsMadeOf other s placed
+      from i other e = by_place (get_push old one i other e)
+        where
+          by_place : (slice_get old i ≡ Some other) ⊎ ((i ≡ length old) × (one ≡ other)) →
+              ((j : ℕ) × (slice_get old j ≡ Some other)) ⊎ IsMadeOf other s placed
+          by_place (inl f) = inl (i, f)
+          by_place (inr f) = inr (subst (λ (z : Configuration S). IsMadeOf z s placed) f.1 of)
+
+      as_held : (i : ℕ) (other : Configuration S) → slice_get old i ≡ Some other → IsSameAs other one.state one.placed.items → ⊥
+      as_held i other e same =
+          let P : S → Type 0 = λ z. other.state ≡ z in
+          let Q : List ℕ → Type 0 = λ z. (is_within other.placed.items z ≡ true) × (is_within z other.placed.items ≡ true) in
+          let w = subst Q of.1 (same.1, same.2) in not_held (i, other, e, (subst P of.0 same.0, w.0, w.1))
+
+      apart : AreApart old → AreApart (old ++ one ∷ [])
+      apart yet i j a b ea eb ne same = by_places (get_push old one i a ea) (get_push old one j b eb)
+        where
+          by_places : (slice_get old i ≡ Some a) ⊎ ((i ≡ length old) × (one ≡ a)) →
+              (slice_get old j ≡ Some b) ⊎ ((j ≡ length old) × (one ≡ b)) → ⊥
+          by_places (inl f) (inl g) = yet i j a b f g ne same
+          by_places (inl f) (inr g) =
+              let P : Configuration S → Type 0 = λ z. IsSameAs a z.state z.placed.items in as_held i a f (subst P (sym g.1) same)
+          by_places (inr f) (inl g) =
+              let P : Configuration S → Type 0 = λ z. IsSameAs b z.state z.placed.items in
+              as_held j b g (subst P (sym f.1) (turned_same a b same))
+          by_places (inr f) (inr g) = ne (f.0 ∙ sym g.0)
+
+  -- lists that grow
+  pub held_grown : (old new : List (Configuration S)) (s : S) (placed : List ℕ) → IsGrown old new → IsHeld old s placed →
+      IsHeld new s placed
+  held_grown old new s placed grown h = (h.0, h.1, grown h.0 h.1 h.2, h.3)
+
+  pub put_in_grown : (b : Bool) (q : ℕ) (t : S) (placed : List ℕ) (waiting kept waiting' kept' : List (Configuration S)) →
+      IsGrown waiting waiting' → IsGrown kept kept' → IsPutIn b q t placed waiting kept → IsPutIn b q t placed waiting' kept'
+  put_in_grown true q t placed waiting kept waiting' kept' w k h = held_grown kept kept' t placed k h
+  put_in_grown false q t placed waiting kept waiting' kept' w k h = held_grown waiting waiting' t (placed ++ q ∷ []) w h
+
+  pub same_grown : (old new : List (Configuration S)) → new ≡ old → IsGrown old new
+  same_grown old new e i one h = ap (λ z. slice_get z i) e ∙ h
+
+  put_facts : (b : Bool) (q : ℕ) (t : S) (placed : List ℕ) (waiting kept waiting' kept' : List (Configuration S)) →
+      IsPut b q t placed waiting kept waiting' kept' →
+      IsGrown waiting waiting' × IsGrown kept kept' × IsPutIn b q t placed waiting' kept'
+  put_facts true q t placed waiting kept waiting' kept' h = (same_grown waiting waiting' h.0, h.1.grown, h.1.held)
+  put_facts false q t placed waiting kept waiting' kept' h = (h.1.grown, same_grown kept kept' h.0, h.1.held)
+
+  tried_facts : (m : Option S) (ending : ℕ) (placed : List ℕ) (q : ℕ) (waiting kept waiting' kept' : List (Configuration S)) →
+      IsTried m ending placed q waiting kept waiting' kept' → IsGrown waiting waiting' × IsGrown kept kept' ×
+      ((t : S) → m ≡ Some t → IsPutIn (nat_eq q ending) q t placed waiting' kept')
+  tried_facts None ending placed q waiting kept waiting' kept' h =
+      (same_grown waiting waiting' h.0, same_grown kept kept' h.1, λ t e. cc)
+  tried_facts (Some t) ending placed q waiting kept waiting' kept' h =
+      let f = put_facts (nat_eq q ending) q t placed waiting kept waiting' kept' h in
+      (f.0, f.1, λ u e. subst (λ z. IsPutIn (nat_eq q ending) q z placed waiting' kept') (same_Some t u e) f.2)
+
+module _ {S W : Type 0} (after : S → W → Option S) (opening : S) (log : List (Operation W)) where
+  reached_of : (ended : List ℕ) (one : Configuration S) (s : S) (placed : List ℕ) → IsMadeOf one s placed →
+      IsReachable after opening log ended s placed → IsReachable after opening log ended one.state one.placed.items
+  reached_of ended one s placed of h =
+      let P : S → Type 0 = λ z. IsReachable after opening log ended z one.placed.items in
+      let Q : List ℕ → Type 0 = λ z. IsReachable after opening log ended s z in subst P (sym of.0) (subst Q (sym of.1) h)
+
+  reached_more : (ended : List ℕ) (old new : List (Configuration S)) (s : S) (placed : List ℕ) → IsAdded old s placed new →
+      AreReachable after opening log ended old → IsReachable after opening log ended s placed → AreReachable after opening log ended new
+  reached_more ended old new s placed added yet h i one at = by_from (added.from i one at)
+    where
+      by_from : ((j : ℕ) × (slice_get old j ≡ Some one)) ⊎ IsMadeOf one s placed →
+          IsReachable after opening log ended one.state one.placed.items
+      by_from (inl f) = yet f.0 one f.1
+      by_from (inr of) = reached_of ended one s placed of h
+
+  sound_waiting : (ended : List ℕ) (ending : ℕ) (waiting kept waiting' : List (Configuration S)) (s : S) (placed : List ℕ) →
+      IsAdded waiting s placed waiting' → IsReachable after opening log ended s placed → is_in ending placed ≡ false →
+      AreSound after opening log ended ending waiting kept → AreSound after opening log ended ending waiting' kept
+  sound_waiting ended ending waiting kept waiting' s placed added h lack yet = record {
+    reached_waiting = reached_more ended waiting waiting' s placed added yet.reached_waiting h;
+    lacking = lacking;
+    reached_kept = yet.reached_kept;
+    waiting_apart = added.apart yet.waiting_apart;
+    kept_apart = yet.kept_apart;
+  }
+    where
+      lacking : (i : ℕ) (one : Configuration S) → slice_get waiting' i ≡ Some one → is_in ending one.placed.items ≡ false
+      lacking i one at = by_from (added.from i one at)
+        where
+          by_from : ((j : ℕ) × (slice_get waiting j ≡ Some one)) ⊎ IsMadeOf one s placed → is_in ending one.placed.items ≡ false
+          by_from (inl f) = yet.lacking f.0 one f.1
+          by_from (inr of) = ap (is_in ending) of.1 ∙ lack
+
+  sound_kept : (ended : List ℕ) (ending : ℕ) (waiting kept kept' : List (Configuration S)) (s : S) (placed : List ℕ) →
+      IsAdded kept s placed kept' → IsReachable after opening log (ending ∷ ended) s placed →
+      AreSound after opening log ended ending waiting kept → AreSound after opening log ended ending waiting kept'
+  sound_kept ended ending waiting kept kept' s placed added h yet = record {
+    reached_waiting = yet.reached_waiting;
+    lacking = yet.lacking;
+    reached_kept = reached_more (ending ∷ ended) kept kept' s placed added yet.reached_kept h;
+    waiting_apart = yet.waiting_apart;
+    kept_apart = added.apart yet.kept_apart;
+  }
+
+  -- one that has the operation that ends is behind its end, also one that leaves it out
+  behind_placed : (ended : List ℕ) (ending end : ℕ) (t : S) (placed : List ℕ) → IsNextEnd log ended ending end →
+      IsReachable after opening log ended t (placed ++ ending ∷ []) → is_in ending placed ≡ false →
+      IsReachable after opening log (ending ∷ ended) t placed
+  behind_placed ended ending end t placed next h lack =
+      let Q : List ℕ → Type 0 = λ z. IsReachable after opening log (ending ∷ ended) t z in
+      let has : is_in ending (placed ++ ending ∷ []) ≡ true =
+      is_in_push placed ending ending ∙ (ap (λ b. is_in ending placed || b) (same_number ending) ∙ ap (λ b. b || true) lack) in
+      subst Q (without_push placed ending lack) (Ends ended (placed ++ ending ∷ []) t h ending end next (inl has))
+
+  behind_left : (ended : List ℕ) (ending end : ℕ) (s : S) (placed : List ℕ) → IsNextEnd log ended ending end →
+      IsReachable after opening log ended s placed → is_in ending placed ≡ false → may_be_left_out log ending ≡ true →
+      IsReachable after opening log (ending ∷ ended) s placed
+  behind_left ended ending end s placed next h lack may =
+      let Q : List ℕ → Type 0 = λ z. IsReachable after opening log (ending ∷ ended) s z in
+      let maybe : next.0.maybe ≡ true = sym (ap maybe_of next.1) ∙ may in
+      subst Q (without_none placed ending lack) (Ends ended placed s h ending end next (inr (next.0, next.1, maybe)))
+
+  -- what a step makes can be placed
+  step_parts : (s : S) (placed : List ℕ) (q : ℕ) (t : S) → step_from after log s placed q ≡ Some t →
+      (is_in q placed ≡ false) × (made_by after s (slice_get log q) ≡ Some t)
+  step_parts s placed q t e = by_in (is_in q placed) refl e
+    where
+      by_in : (b : Bool) → is_in q placed ≡ b → cond b None (made_by after s (slice_get log q)) ≡ Some t →
+          (is_in q placed ≡ false) × (made_by after s (slice_get log q) ≡ Some t)
+      by_in true f g = cc
+      by_in false f g = (f, g)
+
+  made_parts : (s : S) (m : Option (Operation W)) (t : S) → made_by after s m ≡ Some t → (o : Operation W) × (m ≡ Some o)
+      × (after s o.what ≡ Some t)
+  made_parts s None t e = cc
+  made_parts s (Some o) t e = (o, refl, e)
+
+  placing : (ended under_way : List ℕ) (end : ℕ) → AreUnderWay log under_way ended end → (s : S) (placed : List ℕ) (n q : ℕ) (t : S) →
+      slice_get under_way n ≡ Some q → step_from after log s placed q ≡ Some t → CanPlace after log (is_closed ended placed) end s q t
+  placing ended under_way end way s placed n q t at e =
+      let p = step_parts s placed q t e in
+      let m = made_parts s (slice_get log q) t p.1 in
+      let b = way.begun q (is_in_at under_way n q at) in
+      let same : b.0 ≡ m.0 = same_Some b.0 m.0 (sym b.1 ∙ m.1) in
+      let starts : m.0.starts ≤ end = subst (λ (z : Operation W). z.starts ≤ end) same b.2 in
+      let free : is_closed ended placed q ≡ false = neither (is_in q ended) (is_in q placed) b.3 p.0 in
+      (m.0, m.1, free, starts, m.2)
+    where
+      neither : (a b : Bool) → a ≡ false → b ≡ false → (a || b) ≡ false
+      neither false b f g = g
+      neither true b f g = cc
+
+  put_sound : (ended under_way : List ℕ) (ending end : ℕ) → IsNextEnd log ended ending end → (s : S) (placed : List ℕ) (q : ℕ) (t : S) →
+      CanPlace after log (is_closed ended placed) end s q t → IsReachable after opening log ended s placed → is_in ending placed ≡ false →
+      (waiting kept waiting' kept' : List (Configuration S)) (b : Bool) → nat_eq q ending ≡ b →
+      IsPut b q t placed waiting kept waiting' kept' → AreSound after opening log ended ending waiting kept →
+      AreSound after opening log ended ending waiting' kept'
+  put_sound ended under_way ending end next s placed q t can h lack waiting kept waiting' kept' true e put yet =
+      let r = Places ended placed s h ending end q t next can in
+      let Q : ℕ → Type 0 = λ z. IsReachable after opening log ended t (placed ++ z ∷ []) in
+      let there = behind_placed ended ending end t placed next (subst Q (same_if q ending e) r) lack in
+      let P : List (Configuration S) → Type 0 = λ z. AreSound after opening log ended ending z kept' in
+      subst P (sym put.0) (sound_kept ended ending waiting kept kept' t placed put.1 there yet)
+  put_sound ended under_way ending end next s placed q t can h lack waiting kept waiting' kept' false e put yet =
+      let lacks : is_in ending (placed ++ q ∷ []) ≡ false =
+      is_in_push placed q ending ∙ (ap (λ b. is_in ending placed || b) e ∙ ap (λ b. b || false) lack) in
+      let P : List (Configuration S) → Type 0 = λ z. AreSound after opening log ended ending waiting' z in
+      subst P (sym put.0) (sound_waiting ended ending waiting kept waiting' t (placed ++ q ∷ []) put.1
+      (Places ended placed s h ending end q t next can) lacks yet)
+
+  tried_sound : (ended under_way : List ℕ) (ending end : ℕ) → IsNextEnd log ended ending end → AreUnderWay log under_way ended end →
+      (s : S) (placed : List ℕ) (n q : ℕ) → slice_get under_way n ≡ Some q → IsReachable after opening log ended s placed →
+      is_in ending placed ≡ false → (waiting kept waiting' kept' : List (Configuration S)) (m : Option S) →
+      step_from after log s placed q ≡ m → IsTried m ending placed q waiting kept waiting' kept' →
+      AreSound after opening log ended ending waiting kept → AreSound after opening log ended ending waiting' kept'
+  tried_sound ended under_way ending end next way s placed n q at h lack waiting kept waiting' kept' None e tried yet =
+      let P : List (Configuration S) → Type 0 = λ z. AreSound after opening log ended ending z kept' in
+      let Q : List (Configuration S) → Type 0 = λ z. AreSound after opening log ended ending waiting z in
+      subst P (sym tried.0) (subst Q (sym tried.1) yet)
+  tried_sound ended under_way ending end next way s placed n q at h lack waiting kept waiting' kept' (Some t) e tried yet =
+      put_sound ended under_way ending end next s placed q t (placing ended under_way end way s placed n q t at e) h lack waiting kept
+      waiting' kept' (nat_eq q ending) refl tried yet
+
+  left_sound : (ended : List ℕ) (ending end : ℕ) → IsNextEnd log ended ending end → (s : S) (placed : List ℕ) →
+      IsReachable after opening log ended s placed → is_in ending placed ≡ false → (waiting kept waiting' kept' : List (Configuration S))
+      (b : Bool) → may_be_left_out log ending ≡ b → IsLeftOut b s placed waiting kept waiting' kept' →
+      AreSound after opening log ended ending waiting kept → AreSound after opening log ended ending waiting' kept'
+  left_sound ended ending end next s placed h lack waiting kept waiting' kept' true e left yet =
+      let P : List (Configuration S) → Type 0 = λ z. AreSound after opening log ended ending z kept' in
+      subst P (sym left.0) (sound_kept ended ending waiting kept kept' s placed left.1 (behind_left ended ending end s placed next h lack
+      e) yet)
+  left_sound ended ending end next s placed h lack waiting kept waiting' kept' false e left yet =
+      let P : List (Configuration S) → Type 0 = λ z. AreSound after opening log ended ending z kept' in
+      let Q : List (Configuration S) → Type 0 = λ z. AreSound after opening log ended ending waiting z in
+      subst P (sym left.0) (subst Q (sym left.1) yet)
+
+  sorted_sound : (ended : List ℕ) (ending end : ℕ) → IsNextEnd log ended ending end → (s : S) (placed : List ℕ) →
+      IsReachable after opening log ended s placed → (waiting kept waiting' kept' : List (Configuration S))
+      (b : Bool) → is_in ending placed ≡ b → IsSorted b ending s placed waiting kept waiting' kept' →
+      AreSound after opening log ended ending waiting kept → AreSound after opening log ended ending waiting' kept'
+  sorted_sound ended ending end next s placed h waiting kept waiting' kept' true e sorted yet =
+      let P : List (Configuration S) → Type 0 = λ z. AreSound after opening log ended ending z kept' in
+      subst P (sym sorted.0) (sound_kept ended ending waiting kept kept' s (without ending placed) sorted.1
+      (Ends ended placed s h ending end next (inl e)) yet)
+  sorted_sound ended ending end next s placed h waiting kept waiting' kept' false e sorted yet =
+      let P : List (Configuration S) → Type 0 = λ z. AreSound after opening log ended ending waiting' z in
+      subst P (sym sorted.0) (sound_waiting ended ending waiting kept waiting' s placed sorted.1 h e yet)
+
+module _ {S W : Type 0} (after : S → W → Option S) (log : List (Operation W)) where
+  left_facts : (b : Bool) (s : S) (placed : List ℕ) (waiting kept waiting' kept' : List (Configuration S)) →
+      IsLeftOut b s placed waiting kept waiting' kept' → IsGrown waiting waiting' × IsGrown kept kept' × (b ≡ true → IsHeld kept' s placed)
+  left_facts true s placed waiting kept waiting' kept' h = (same_grown waiting waiting' h.0, h.1.grown, λ e. h.1.held)
+  left_facts false s placed waiting kept waiting' kept' h = (same_grown waiting waiting' h.0, same_grown kept kept' h.1, λ e. cc)
+
+  pub explored_none : (under_way : List ℕ) (ending : ℕ) (s : S) (placed : List ℕ) (waiting kept waiting' kept' : List (Configuration S)) →
+      IsLeftOut (may_be_left_out log ending) s placed waiting kept waiting' kept' →
+      IsExplored after log under_way ending s placed 0 waiting kept waiting' kept'
+  explored_none under_way ending s placed waiting kept waiting' kept' h =
+      let f = left_facts (may_be_left_out log ending) s placed waiting kept waiting' kept' h in
+      record {
+        grown_waiting = f.0;
+        grown_kept = f.1;
+        left_out = f.2;
+        tried = λ j q t l. absurd (omega arith);
+        sound = λ opening ended end next way r lack. left_sound after opening log ended ending end next s placed r lack waiting kept
+            waiting' kept' (may_be_left_out log ending) refl h;
+      }
+
+  pub explored_more : (under_way : List ℕ) (ending : ℕ) (s : S) (placed : List ℕ) (n q : ℕ) → slice_get under_way n ≡ Some q →
+      (waiting kept waiting' kept' waiting'' kept'' : List (Configuration S)) →
+      IsExplored after log under_way ending s placed n waiting kept waiting' kept' →
+      IsTried (step_from after log s placed q) ending placed q waiting' kept' waiting'' kept'' →
+      IsExplored after log under_way ending s placed (n + 1) waiting kept waiting'' kept''
+  explored_more under_way ending s placed n q at waiting kept waiting' kept' waiting'' kept'' yet h = record {
+    grown_waiting = λ i one e. f.0 i one (yet.grown_waiting i one e);
+    grown_kept = λ i one e. f.1 i one (yet.grown_kept i one e);
+    left_out = λ e. held_grown kept' kept'' s placed f.1 (yet.left_out e);
+    tried = tried;
+    sound = λ opening ended end next way r lack before. tried_sound after opening log ended under_way ending end next way s placed n q at r
+        lack waiting' kept' waiting'' kept'' (step_from after log s placed q) refl h (yet.sound opening ended end next way r lack before);
+  }
+    where
+      f : IsGrown waiting' waiting'' × IsGrown kept' kept'' ×
+          ((t : S) → step_from after log s placed q ≡ Some t → IsPutIn (nat_eq q ending) q t placed waiting'' kept'')
+      f = tried_facts (step_from after log s placed q) ending placed q waiting' kept' waiting'' kept'' h
+
+      tried : (j r : ℕ) (t : S) → j < n + 1 → slice_get under_way j ≡ Some r → step_from after log s placed r ≡ Some t →
+          IsPutIn (nat_eq r ending) r t placed waiting'' kept''
+      tried j r t l there e = elim (cases_lt j n) [
+        | inl less ↦ put_in_grown (nat_eq r ending) r t placed waiting' kept' waiting'' kept'' f.0 f.1 (yet.tried j r t less there e)
+        | inr le ↦
+            let same : j ≡ n = omega arith in
+            let one : q ≡ r = same_Some q r (sym at ∙ (ap (slice_get under_way) (sym same) ∙ there)) in
+            let P : ℕ → Type 0 = λ z. IsPutIn (nat_eq z ending) z t placed waiting'' kept'' in
+            subst P one (f.2 t (ap (step_from after log s placed) one ∙ e))
+      ]
+
+  handled_grown : (under_way : List ℕ) (ending : ℕ) (s : S) (placed : List ℕ) (waiting kept waiting' kept' : List (Configuration S)) →
+      IsGrown waiting waiting' → IsGrown kept kept' → IsHandled after log under_way ending s placed waiting kept →
+      IsHandled after log under_way ending s placed waiting' kept'
+  handled_grown under_way ending s placed waiting kept waiting' kept' w k h = record {
+    left_out = λ e. held_grown kept kept' s placed k (h.left_out e);
+    tried = λ j q t at e. put_in_grown (nat_eq q ending) q t placed waiting kept waiting' kept' w k (h.tried j q t at e);
+  }
+
+  pub explored_first : (under_way : List ℕ) (ending : ℕ) (waiting kept : List (Configuration S)) →
+      AreExplored after log under_way ending 0 waiting kept waiting kept
+  explored_first under_way ending waiting kept = record {
+    grown_waiting = λ i one e. e;
+    grown_kept = λ i one e. e;
+    handled = λ i one l. absurd (omega arith);
+    sound = λ opening ended end next way yet. yet;
+  }
+
+  pub explored_next : (under_way : List ℕ) (ending n : ℕ) (from : Configuration S)
+      (waiting kept waiting' kept' waiting'' kept'' : List (Configuration S)) →
+      AreExplored after log under_way ending n waiting kept waiting' kept' → IsCopyAt waiting' n from →
+      IsExplored after log under_way ending from.state from.placed.items (length under_way) waiting' kept' waiting'' kept'' →
+      AreExplored after log under_way ending (n + 1) waiting kept waiting'' kept''
+  explored_next under_way ending n from waiting kept waiting' kept' waiting'' kept'' yet copy h = record {
+    grown_waiting = λ i one e. h.grown_waiting i one (yet.grown_waiting i one e);
+    grown_kept = λ i one e. h.grown_kept i one (yet.grown_kept i one e);
+    handled = handled;
+    sound = λ opening ended end next way before.
+        let now = yet.sound opening ended end next way before in
+        h.sound opening ended end next way (reached_of after opening log ended from copy.0.state copy.0.placed.items copy.2
+        (now.reached_waiting n copy.0 copy.1)) (ap (is_in ending) copy.2.1 ∙ now.lacking n copy.0 copy.1) now;
+  }
+    where
+      here : IsHandled after log under_way ending from.state from.placed.items waiting'' kept''
+      here = record {
+        left_out = h.left_out;
+        tried = λ j q t at e. h.tried j q t (slice_get_within under_way j q at) at e;
+      }
+
+      there : IsHandled after log under_way ending copy.0.state copy.0.placed.items waiting'' kept''
+      there =
+          let P : S → Type 0 = λ z. IsHandled after log under_way ending z copy.0.placed.items waiting'' kept'' in
+          let Q : List ℕ → Type 0 = λ z. IsHandled after log under_way ending from.state z waiting'' kept'' in
+          subst P copy.2.0 (subst Q copy.2.1 here)
+
+      handled : (i : ℕ) (one : Configuration S) → i < n + 1 → slice_get waiting'' i ≡ Some one →
+          IsHandled after log under_way ending one.state one.placed.items waiting'' kept''
+      handled i one l at = elim (cases_lt i n) [
+        | inl less ↦
+            let m : n < length waiting' = slice_get_within waiting' n copy.0 copy.1 in
+            let old : slice_get waiting' i ≡ Some (get_or waiting' i one) = slice_get-get_or waiting' i one (omega arith) in
+            let same : get_or waiting' i one ≡ one = same_Some (get_or waiting' i one) one (sym (h.grown_waiting i (get_or waiting' i one)
+            old) ∙ at) in
+            let was : slice_get waiting' i ≡ Some one = old ∙ ap Some same in
+            handled_grown under_way ending one.state one.placed.items waiting' kept' waiting'' kept'' h.grown_waiting h.grown_kept
+            (yet.handled i one less was)
+        | inr le ↦
+            let same : i ≡ n = omega arith in
+            let e : copy.0 ≡ one = same_Some copy.0 one (sym (h.grown_waiting n copy.0 copy.1) ∙ (ap (slice_get waiting'') (sym same)
+            ∙ at)) in
+            let P : Configuration S → Type 0 = λ z. IsHandled after log under_way ending z.state z.placed.items waiting'' kept'' in
+            subst P e there
+      ]
+
+  pub started_none : (ending : ℕ) (configurations : List (Configuration S)) → AreStarted after log ending 0 configurations [] []
+  started_none ending configurations = record {
+    held = λ i one l. absurd (omega arith);
+    sound = λ opening ended end next reached. record {
+      reached_waiting = λ i one e. cc;
+      lacking = λ i one e. cc;
+      reached_kept = λ i one e. cc;
+      waiting_apart = λ i j a b e. cc;
+      kept_apart = λ i j a b e. cc;
+    };
+  }
+
+  sorted_facts : (b : Bool) (ending : ℕ) (s : S) (placed : List ℕ) (waiting kept waiting' kept' : List (Configuration S)) →
+      IsSorted b ending s placed waiting kept waiting' kept' → IsGrown waiting waiting' × IsGrown kept kept' ×
+      (b ≡ true → IsHeld kept' s (without ending placed)) × (b ≡ false → IsHeld waiting' s placed)
+  sorted_facts true ending s placed waiting kept waiting' kept' h =
+      (same_grown waiting waiting' h.0, h.1.grown, λ e. h.1.held, λ e. cc)
+  sorted_facts false ending s placed waiting kept waiting' kept' h =
+      (h.1.grown, same_grown kept kept' h.0, λ e. cc, λ e. h.1.held)
+
+  pub started_more : (ending n : ℕ) (configurations : List (Configuration S)) (one : Configuration S) →
+      slice_get configurations n ≡ Some one → (waiting kept waiting' kept' : List (Configuration S)) →
+      AreStarted after log ending n configurations waiting kept →
+      IsSorted (is_in ending one.placed.items) ending one.state one.placed.items waiting kept waiting' kept' →
+      AreStarted after log ending (n + 1) configurations waiting' kept'
+  started_more ending n configurations one at waiting kept waiting' kept' yet h = record {
+    held = held;
+    sound = λ opening ended end next reached. sorted_sound after opening log ended ending end next one.state one.placed.items
+        (reached n one at) waiting kept waiting' kept' (is_in ending one.placed.items) refl h (yet.sound opening ended end next reached);
+  }
+    where
+      f : IsGrown waiting waiting' × IsGrown kept kept' ×
+          (is_in ending one.placed.items ≡ true → IsHeld kept' one.state (without ending one.placed.items)) ×
+          (is_in ending one.placed.items ≡ false → IsHeld waiting' one.state one.placed.items)
+      f = sorted_facts (is_in ending one.placed.items) ending one.state one.placed.items waiting kept waiting' kept' h
+
+      held : (i : ℕ) (other : Configuration S) → i < n + 1 → slice_get configurations i ≡ Some other →
+          (is_in ending other.placed.items ≡ true → IsHeld kept' other.state (without ending other.placed.items)) ×
+          (is_in ending other.placed.items ≡ false → IsHeld waiting' other.state other.placed.items)
+      held i other l there = elim (cases_lt i n) [
+        | inl less ↦ (
+          λ e.
+              held_grown kept kept' other.state (without ending other.placed.items) f.1 ((yet.held i other less there).0 e),
+          λ e.
+              held_grown waiting waiting' other.state other.placed.items f.0 ((yet.held i other less there).1 e),
+        )
+        | inr le ↦
+            let same : i ≡ n = omega arith in
+            let e : one ≡ other = same_Some one other (sym at ∙ (ap (slice_get configurations) (sym same) ∙ there)) in
+            let P : Configuration S → Type 0 = λ z.
+            (is_in ending z.placed.items ≡ true → IsHeld kept' z.state (without ending z.placed.items)) ×
+            (is_in ending z.placed.items ≡ false → IsHeld waiting' z.state z.placed.items) in
+            subst P e (f.2, f.3)
+      ]
+
+  pub passed : (under_way : List ℕ) (ending : ℕ) (configurations first first' waiting kept : List (Configuration S)) →
+      AreStarted after log ending (length configurations) configurations first first' →
+      AreExplored after log under_way ending (length waiting) first first' waiting kept →
+      IsPassed after log under_way ending configurations kept
+  passed under_way ending configurations first first' waiting kept started explored = record {
+    reached = λ opening ended end next way reached. (explored.sound opening ended end next way (started.sound opening ended end next
+        reached)).reached_kept;
+    complete = complete;
+  }
+    where
+      complete : (opening : S) (ended : List ℕ) (end : ℕ) → RunForwards log → IsNextEnd log ended ending end →
+          AreUnderWay log under_way ended end → AreReachable after opening log ended configurations →
+          AnyCanFinish after log ended configurations → AnyCanFinish after log (ending ∷ ended) kept
+      complete opening ended end forwards next way reached any = by_in (cases_Bool (is_in ending any.1.placed.items))
+        where
+          start : (is_in ending any.1.placed.items ≡ true → IsHeld first' any.1.state (without ending any.1.placed.items)) ×
+              (is_in ending any.1.placed.items ≡ false → IsHeld first any.1.state any.1.placed.items)
+          start = started.held any.0 any.1 (slice_get_within configurations any.0 any.1 any.2) any.2
+
+          by_in : (is_in ending any.1.placed.items ≡ true) ⊎ (is_in ending any.1.placed.items ≡ false) →
+              AnyCanFinish after log (ending ∷ ended) kept
+          by_in (inl e) =
+              held_finish after log (ending ∷ ended) kept any.1.state (without ending any.1.placed.items)
+              (held_grown first' kept any.1.state (without ending any.1.placed.items) explored.grown_kept (start.0 e))
+              (same_finish after log (is_closed ended any.1.placed.items) (is_closed (ending ∷ ended) (without ending any.1.placed.items))
+              (λ z. sym (closed_behind ended any.1.placed.items ending z e)) any.1.state any.3)
+          by_in (inr e) =
+              let snd = explored.sound opening ended end next way (started.sound opening ended end next reached) in
+              let w = held_grown first waiting any.1.state any.1.placed.items explored.grown_waiting (start.1 e) in
+              let r = same_rests after log ended w.1 any.1.state any.1.placed.items w.3 any.3.0 any.3.1 in
+              finished after log forwards ended ending end next under_way way waiting kept snd.lacking
+              (λ i one at. explored.handled i one (slice_get_within waiting i one at) at) (length any.3.0) w.0 w.1 w.2 any.3.0 r (omega
+              arith)
+
+  pub too_many : (under_way : List ℕ) (ending budget n : ℕ) (configurations first first' waiting kept : List (Configuration S)) →
+      AreStarted after log ending (length configurations) configurations first first' →
+      AreExplored after log under_way ending n first first' waiting kept → (budget < length waiting) ⊎ (budget < length kept) →
+      (opening : S) (ended : List ℕ) (end : ℕ) → IsNextEnd log ended ending end → AreUnderWay log under_way ended end →
+      AreReachable after opening log ended configurations → AreTooMany after opening log budget ending
+  too_many under_way ending budget n configurations first first' waiting kept started explored more opening ended end next way reached =
+      by_set more
+    where
+      now : AreSound after opening log ended ending waiting kept
+      now = explored.sound opening ended end next way (started.sound opening ended end next reached)
+
+      by_set : (budget < length waiting) ⊎ (budget < length kept) → AreTooMany after opening log budget ending
+      by_set (inl l) = record {
+        ended = ended;
+        end = end;
+        next = next;
+        held = waiting;
+        more = l;
+        apart = now.waiting_apart;
+        reached = inl now.reached_waiting;
+      }
+      by_set (inr l) = record {
+        ended = ended;
+        end = end;
+        next = next;
+        held = kept;
+        more = l;
+        apart = now.kept_apart;
+        reached = inr now.reached_kept;
+      }

@@ -1,0 +1,136 @@
+-- One end, exact both ways: what is reached leads back to the opening, and what can be finished is kept.
+use Rattle.std.proofs.Common.{◌≡◌, ℕ, ◌≤◌, Bool, true, false, ◌||◌, nat_eq, List, [], ◌∷◌, ◌++◌, length, slice_get}
+use Rattle.std.proofs.Common.{Option, Some, zero, suc, refl, sym, ◌∙◌, ap, subst, arith, ◌⊎◌, inl, inr}
+use Rattle.std.proofs.lemmas.Bool.{cases_Bool, cases_lt, or_parts}
+use Rattle.history_core.specs.Orders.{times_of}
+use Rattle.object_core.specs.declared.operation.Operation.{Operation}
+use Rattle.object_core.specs.Logs.{is_due}
+use Rattle.object_sweep.specs.declared.configuration.Configuration.{Configuration}
+use Rattle.object_sweep.specs.inner.Steps.{AnyCanFinish, AreUnderWay, IsHandled, IsPutIn, may_be_left_out, maybe_of, step_from}
+use Rattle.object_sweep.specs.Reached.{is_closed, is_in, IsHeld, IsNextEnd, IsReachable, IsSameAs, MayBeLeftOut, without}
+use Rattle.object_sweep.specs.Reached.IsReachable.{Opens, Places, Ends}
+use Rattle.object_sweep.specs.Rests.{CanFinish, CanPlace, IsRest, MayStandBehind, NoOpenEndBefore, RunForwards}
+use Rattle.object_sweep.proofs.Lists.{at_is_in, closed_behind, closed_ended, closed_left_out, closed_placed, same_closed, same_if}
+use Rattle.object_sweep.proofs.Placed.{complete_tail, dropped, sound, undropped}
+
+module _ {S W : Type 0} (after : S → W → Option S) (log : List (Operation W)) where
+  -- what follows depends on what is closed alone
+  pub same_rest : (f g : ℕ → Bool) → ((q : ℕ) → f q ≡ g q) → (s : S) (rest : List ℕ) → IsRest after log f s rest → IsRest after log g s rest
+  same_rest f g same s rest h = record { listing = listing; precedence = h.precedence; steps = h.steps }
+    where
+      listing : (p : ℕ) (o : Operation W) → slice_get log p ≡ Some o → MayStandBehind (g p) (is_due o) (times_of p rest)
+      listing p o at = let P : Bool → Type 0 = λ b. MayStandBehind b (is_due o) (times_of p rest) in subst P (same p) (h.listing p o at)
+
+  pub same_finish : (f g : ℕ → Bool) → ((q : ℕ) → f q ≡ g q) → (s : S) → CanFinish after log f s → CanFinish after log g s
+  same_finish f g same s h = (h.0, same_rest f g same s h.0 h.1)
+
+  -- a configuration that is the same has the same rests
+  pub same_rests : (ended : List ℕ) (one : Configuration S) (s : S) (placed : List ℕ) → IsSameAs one s placed → (rest : List ℕ) →
+      IsRest after log (is_closed ended placed) s rest → IsRest after log (is_closed ended one.placed.items) one.state rest
+  same_rests ended one s placed same rest h =
+      let P : S → Type 0 = λ z. IsRest after log (is_closed ended one.placed.items) z rest in
+      subst P (sym same.0) (same_rest (is_closed ended placed) (is_closed ended one.placed.items)
+      (same_closed ended placed one.placed.items same.2 same.1) s rest h)
+
+  pub held_finish : (ended : List ℕ) (held : List (Configuration S)) (s : S) (placed : List ℕ) → IsHeld held s placed →
+      CanFinish after log (is_closed ended placed) s → AnyCanFinish after log ended held
+  held_finish ended held s placed h c = (h.0, h.1, h.2, (c.0, same_rests ended h.1 s placed h.3 c.0 c.1))
+
+  -- what is reached leads back to the opening
+  pub back : (opening : S) {ended : List ℕ} {s : S} {placed : List ℕ} → IsReachable after opening log ended s placed →
+      CanFinish after log (is_closed ended placed) s → CanFinish after log (λ q. false) opening
+  back opening Opens h = h
+  back opening (Places ended before s r place end q t next can) h =
+      back opening r (sound after log (is_closed ended before) end last s q t can
+      (same_finish (is_closed ended (before ++ q ∷ [])) (λ z. is_closed ended before z || nat_eq z q) (closed_placed ended before q) t h))
+    where
+      last : NoOpenEndBefore log (is_closed ended before) end
+      last z at a free za ends = next.4 z at a (or_parts (is_in z ended) (is_in z before) free).0 za ends
+  back opening (Ends before rest s r place end next out) h =
+      back opening r (by_in (cases_Bool (is_in place rest)) out)
+    where
+      by_in : (is_in place rest ≡ true) ⊎ (is_in place rest ≡ false) → (is_in place rest ≡ true) ⊎ MayBeLeftOut log place →
+          CanFinish after log (is_closed before rest) s
+      by_in (inl e) o = same_finish (is_closed (place ∷ before) (without place rest)) (is_closed before rest)
+          (λ z. closed_behind before rest place z e) s h
+      by_in (inr e) (inl o) = cc
+      by_in (inr e) (inr o) =
+          undropped after log (is_closed before rest) place o.0 o.1 o.2 (free (is_in place before) (is_in place rest) next.3 e) s
+          (same_finish (is_closed (place ∷ before) (without place rest)) (λ z. is_closed before rest z || nat_eq z place)
+          (λ z. closed_left_out before rest place z e) s h)
+        where
+          free : (a b : Bool) → a ≡ false → b ≡ false → (a || b) ≡ false
+          free false b f g = g
+          free true b f g = cc
+
+  -- what can be finished is kept
+  module _ (forwards : RunForwards log) (ended : List ℕ) (ending end : ℕ) (next : IsNextEnd log ended ending end) (under_way : List ℕ)
+      (way : AreUnderWay log under_way ended end) (waiting kept : List (Configuration S))
+      (lacking : (i : ℕ) (one : Configuration S) → slice_get waiting i ≡ Some one → is_in ending one.placed.items ≡ false)
+      (handled : (i : ℕ) (one : Configuration S) → slice_get waiting i ≡ Some one →
+      IsHandled after log under_way ending one.state one.placed.items waiting kept) where
+    left_out : (one : Configuration S) → IsHandled after log under_way ending one.state one.placed.items waiting kept →
+        is_in ending one.placed.items ≡ false → (rest : List ℕ) →
+        IsRest after log (is_closed ended one.placed.items) one.state rest → times_of ending rest ≡ 0 →
+        AnyCanFinish after log (ending ∷ ended) kept
+    left_out one done lack rest h none =
+        let free : is_closed ended one.placed.items ending ≡ false = open_yet (is_in ending ended) (is_in ending one.placed.items) next.3
+        lack in
+        let d = dropped after log (is_closed ended one.placed.items) ending end next.0 next.1 next.2 one.state rest h none free in
+        let may : may_be_left_out log ending ≡ true = ap maybe_of next.1 ∙ d.0 in
+        held_finish (ending ∷ ended) kept one.state one.placed.items (done.left_out may)
+        (same_finish (λ z. is_closed ended one.placed.items z || nat_eq z ending) (is_closed (ending ∷ ended) one.placed.items)
+        (λ z. sym (closed_ended ended one.placed.items ending z)) one.state d.1)
+      where
+        open_yet : (a b : Bool) → a ≡ false → b ≡ false → (a || b) ≡ false
+        open_yet false b f g = g
+        open_yet true b f g = cc
+
+    -- what the first of a rest leads to
+    module _ (one : Configuration S) (done : IsHandled after log under_way ending one.state one.placed.items waiting kept) (q : ℕ) (t : S)
+        (can : CanPlace after log (is_closed ended one.placed.items) end one.state q t) (rest : List ℕ)
+        (r : IsRest after log (λ z. is_closed ended one.placed.items z || nat_eq z q) t rest) where
+      open_parts : (is_in q ended ≡ false) × (is_in q one.placed.items ≡ false)
+      open_parts = or_parts (is_in q ended) (is_in q one.placed.items) can.2
+
+      stepped : step_from after log one.state one.placed.items q ≡ Some t
+      stepped = rw (open_parts.1, can.1) can.4
+
+      put : IsPutIn (nat_eq q ending) q t one.placed.items waiting kept
+      put = let a = at_is_in under_way q (way.all q can.0 can.1 can.3 open_parts.0) in done.tried a.0 q t a.1 stepped
+
+      ends_it : nat_eq q ending ≡ true → AnyCanFinish after log (ending ∷ ended) kept
+      ends_it e =
+          let same : (z : ℕ) → (is_closed ended one.placed.items z || nat_eq z q) ≡ is_closed (ending ∷ ended) one.placed.items z =
+          λ z. ap (λ b. is_closed ended one.placed.items z || nat_eq z b) (same_if q ending e)
+          ∙ sym (closed_ended ended one.placed.items ending z) in
+          held_finish (ending ∷ ended) kept t one.placed.items (subst (λ b. IsPutIn b q t one.placed.items waiting kept) e put)
+          (same_finish (λ z. is_closed ended one.placed.items z || nat_eq z q) (is_closed (ending ∷ ended) one.placed.items) same t (
+            rest,
+            r,
+          ))
+
+      waits : nat_eq q ending ≡ false → (i : ℕ) × (other : Configuration S) × (slice_get waiting i ≡ Some other)
+          × IsRest after log (is_closed ended other.placed.items) other.state rest
+      waits e =
+          let held : IsHeld waiting t (one.placed.items ++ q ∷ []) = subst (λ b. IsPutIn b q t one.placed.items waiting kept) e put in
+          let there = same_rest (λ z. is_closed ended one.placed.items z || nat_eq z q) (is_closed ended (one.placed.items ++ q ∷ []))
+          (λ z. sym (closed_placed ended one.placed.items q z)) t rest r in
+          (held.0, held.1, held.2, same_rests ended held.1 t (one.placed.items ++ q ∷ []) held.3 rest there)
+
+    pub finished : (n i : ℕ) (one : Configuration S) → slice_get waiting i ≡ Some one → (rest : List ℕ) →
+        IsRest after log (is_closed ended one.placed.items) one.state rest → length rest ≤ n → AnyCanFinish after log (ending ∷ ended) kept
+    finished n i one at [] h few = left_out one (handled i one at) (lacking i one at) [] h refl
+    finished zero i one at (q ∷ rest) h few = absurd (omega arith)
+    finished (suc n) i one at (q ∷ rest) h few = elim (cases_lt 0 (times_of ending (q ∷ rest))) [
+      | inr le ↦ left_out one (handled i one at) (lacking i one at) (q ∷ rest) h (omega arith)
+      | inl l ↦
+          let c = complete_tail after log forwards (is_closed ended one.placed.items) end ending next.0 next.1 next.2 one.state q rest h l
+          in
+          elim (cases_Bool (nat_eq q ending)) [
+            | inl e ↦ ends_it one (handled i one at) q c.0 c.1 rest c.2 e
+            | inr e ↦
+                let w = waits one (handled i one at) q c.0 c.1 rest c.2 e in
+                finished n w.0 w.1 w.2 rest w.3 (omega arith)
+          ]
+    ]

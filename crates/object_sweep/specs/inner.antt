@@ -1,0 +1,3 @@
+pub mod Ends
+pub mod Events
+pub mod Steps

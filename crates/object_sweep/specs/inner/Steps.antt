@@ -1,0 +1,165 @@
+-- What one step of the sweep adds to the configurations. Only private functions cite this.
+use Rattle.std.specs.Prelude.{◌≡◌, ℕ, ◌<◌, ◌≤◌, Bool, true, false, nat_eq, cond, List, [], ◌∷◌, ◌++◌, length, slice_get}
+use Rattle.std.specs.Prelude.{Option, None, Some}
+use Rattle.std.specs.Prelude.{◌⊎◌}
+use Rattle.object_core.specs.declared.operation.Operation.{Operation}
+use Rattle.object_sweep.specs.declared.configuration.Configuration.{Configuration}
+use Rattle.object_sweep.specs.Reached.{AreApart, AreReachable, is_closed, is_in, IsHeld, IsNextEnd, IsReachable}
+use Rattle.object_sweep.specs.Reached.{without}
+use Rattle.object_sweep.specs.Rests.{CanFinish, RunForwards}
+
+module _ {S : Type 0} where
+  -- it has the very list of places
+  abbrev pub IsMadeOf : Configuration S → S → List ℕ → Type 0
+  IsMadeOf one state placed = (one.state ≡ state) × (one.placed.items ≡ placed)
+
+  -- all that stood there stands there
+  abbrev pub IsGrown : List (Configuration S) → List (Configuration S) → Type 0
+  IsGrown old new = (i : ℕ) (one : Configuration S) → slice_get old i ≡ Some one → slice_get new i ≡ Some one
+
+  -- one more, where the same wasn't held
+  pub record IsAdded (old : List (Configuration S)) (state : S) (placed : List ℕ)
+      (new : List (Configuration S)) : Type 0 where
+    pub grown : IsGrown old new
+    pub held : IsHeld new state placed
+    pub from : (i : ℕ) (one : Configuration S) → slice_get new i ≡ Some one →
+        ((j : ℕ) × (slice_get old j ≡ Some one)) ⊎ IsMadeOf one state placed
+    pub apart : AreApart old → AreApart new
+
+  -- the one at this place, copied
+  abbrev pub IsCopyAt : List (Configuration S) → ℕ → Configuration S → Type 0
+  IsCopyAt held place copy = (one : Configuration S) × (slice_get held place ≡ Some one)
+      × IsMadeOf copy one.state one.placed.items
+
+  -- the configuration after one more operation, by whether that is the one that ends
+  abbrev pub IsPut : Bool → ℕ → S → List ℕ → List (Configuration S) → List (Configuration S) → List (Configuration S) →
+      List (Configuration S) → Type 0
+  IsPut true place state placed waiting kept waiting' kept' = (waiting' ≡ waiting) × IsAdded kept state placed kept'
+  IsPut false place state placed waiting kept waiting' kept' = (kept' ≡ kept)
+      × IsAdded waiting state (placed ++ place ∷ []) waiting'
+
+  abbrev pub IsTried : Option S → ℕ → List ℕ → ℕ → List (Configuration S) → List (Configuration S) →
+      List (Configuration S) →
+      List (Configuration S) → Type 0
+  IsTried None ending placed place waiting kept waiting' kept' = (waiting' ≡ waiting) × (kept' ≡ kept)
+  IsTried (Some state) ending placed place waiting kept waiting' kept' =
+      IsPut (nat_eq place ending) place state placed waiting kept waiting' kept'
+
+  abbrev pub IsLeftOut : Bool → S → List ℕ → List (Configuration S) → List (Configuration S) → List (Configuration S) →
+      List (Configuration S) → Type 0
+  IsLeftOut true state placed waiting kept waiting' kept' = (waiting' ≡ waiting) × IsAdded kept state placed kept'
+  IsLeftOut false state placed waiting kept waiting' kept' = (waiting' ≡ waiting) × (kept' ≡ kept)
+
+  -- one of the configurations at hand, as the end begins
+  abbrev pub IsSorted : Bool → ℕ → S → List ℕ → List (Configuration S) → List (Configuration S) →
+      List (Configuration S) →
+      List (Configuration S) → Type 0
+  IsSorted true ending state placed waiting kept waiting' kept' = (waiting' ≡ waiting)
+      × IsAdded kept state (without ending placed) kept'
+  IsSorted false ending state placed waiting kept waiting' kept' = (kept' ≡ kept)
+      × IsAdded waiting state placed waiting'
+
+  -- the configuration after one more operation is held
+  abbrev pub IsPutIn : Bool → ℕ → S → List ℕ → List (Configuration S) → List (Configuration S) → Type 0
+  IsPutIn true place state placed waiting kept = IsHeld kept state placed
+  IsPutIn false place state placed waiting kept = IsHeld waiting state (placed ++ place ∷ [])
+
+-- whether the operation at a place may have done nothing
+abbrev pub maybe_of : {W : Type 0} → Option (Operation W) → Bool
+maybe_of None = false
+maybe_of (Some o) = o.maybe
+
+abbrev pub may_be_left_out : {W : Type 0} → List (Operation W) → ℕ → Bool
+may_be_left_out log place = maybe_of (slice_get log place)
+
+-- these are under way at a moment, and no others
+pub record AreUnderWay {W : Type 0} (log : List (Operation W)) (under_way ended : List ℕ) (end : ℕ) : Type 0 where
+  pub begun : (q : ℕ) → is_in q under_way ≡ true →
+      (o : Operation W) × (slice_get log q ≡ Some o) × (o.starts ≤ end) × (is_in q ended ≡ false)
+  pub all : (q : ℕ) (o : Operation W) → slice_get log q ≡ Some o → o.starts ≤ end → is_in q ended ≡ false →
+      is_in q under_way ≡ true
+
+module _ {S W : Type 0} where
+  -- the state after one more operation, if it can be placed
+  abbrev pub made_by : (S → W → Option S) → S → Option (Operation W) → Option S
+  made_by after s None = None
+  made_by after s (Some o) = after s o.what
+
+  abbrev pub step_from : (S → W → Option S) → List (Operation W) → S → List ℕ → ℕ → Option S
+  step_from after log s placed q = cond (is_in q placed) None (made_by after s (slice_get log q))
+
+  -- at an end: what waits, and what is behind it, is reached, and no two are the same
+  pub record AreSound (after : S → W → Option S) (opening : S) (log : List (Operation W)) (ended : List ℕ) (ending : ℕ)
+      (waiting kept : List (Configuration S)) : Type 0 where
+    pub reached_waiting : AreReachable after opening log ended waiting
+    pub lacking : (i : ℕ) (one : Configuration S) → slice_get waiting i ≡ Some one →
+        is_in ending one.placed.items ≡ false
+    pub reached_kept : AreReachable after opening log (ending ∷ ended) kept
+    pub waiting_apart : AreApart waiting
+    pub kept_apart : AreApart kept
+
+  -- all that a configuration leads to is held
+  pub record IsHandled (after : S → W → Option S) (log : List (Operation W)) (under_way : List ℕ) (ending : ℕ) (s : S)
+      (placed : List ℕ)
+      (waiting kept : List (Configuration S)) : Type 0 where
+    pub left_out : may_be_left_out log ending ≡ true → IsHeld kept s placed
+    pub tried : (j q : ℕ) (t : S) → slice_get under_way j ≡ Some q → step_from after log s placed q ≡ Some t →
+        IsPutIn (nat_eq q ending) q t placed waiting kept
+
+  -- the first operations under way are tried
+  pub record IsExplored (after : S → W → Option S) (log : List (Operation W)) (under_way : List ℕ) (ending : ℕ) (s : S)
+      (placed : List ℕ) (n : ℕ) (waiting kept waiting' kept' : List (Configuration S)) : Type 0 where
+    pub grown_waiting : IsGrown waiting waiting'
+    pub grown_kept : IsGrown kept kept'
+    pub left_out : may_be_left_out log ending ≡ true → IsHeld kept' s placed
+    pub tried : (j q : ℕ) (t : S) → j < n → slice_get under_way j ≡ Some q → step_from after log s placed q ≡ Some t →
+        IsPutIn (nat_eq q ending) q t placed waiting' kept'
+    pub sound : (opening : S) (ended : List ℕ) (end : ℕ) → IsNextEnd log ended ending end →
+        AreUnderWay log under_way ended end →
+        IsReachable after opening log ended s placed → is_in ending placed ≡ false →
+        AreSound after opening log ended ending waiting kept → AreSound after opening log ended ending waiting' kept'
+
+  -- the first of those that wait are explored
+  pub record AreExplored (after : S → W → Option S) (log : List (Operation W)) (under_way : List ℕ) (ending n : ℕ)
+      (waiting kept waiting' kept' : List (Configuration S)) : Type 0 where
+    pub grown_waiting : IsGrown waiting waiting'
+    pub grown_kept : IsGrown kept kept'
+    pub handled : (i : ℕ) (one : Configuration S) → i < n → slice_get waiting' i ≡ Some one →
+        IsHandled after log under_way ending one.state one.placed.items waiting' kept'
+    pub sound : (opening : S) (ended : List ℕ) (end : ℕ) → IsNextEnd log ended ending end →
+        AreUnderWay log under_way ended end →
+        AreSound after opening log ended ending waiting kept → AreSound after opening log ended ending waiting' kept'
+
+  -- all of those that wait, or there are too many
+  abbrev pub IsClosed : (S → W → Option S) → List (Operation W) → List ℕ → ℕ → ℕ → List (Configuration S) →
+      List (Configuration S) →
+      List (Configuration S) → List (Configuration S) → Bool → Type 0
+  IsClosed after log under_way ending budget waiting kept waiting' kept' true =
+      AreExplored after log under_way ending (length waiting') waiting kept waiting' kept'
+  IsClosed after log under_way ending budget waiting kept waiting' kept' false =
+      (n : ℕ) × AreExplored after log under_way ending n waiting kept waiting' kept' ×
+      ((budget < length waiting') ⊎ (budget < length kept'))
+
+  -- as an end begins: each of the first n configurations waits, or has placed the operation that ends
+  pub record AreStarted (after : S → W → Option S) (log : List (Operation W)) (ending n : ℕ)
+      (configurations waiting kept : List (Configuration S)) : Type 0 where
+    pub held : (i : ℕ) (one : Configuration S) → i < n → slice_get configurations i ≡ Some one →
+        (is_in ending one.placed.items ≡ true → IsHeld kept one.state (without ending one.placed.items)) ×
+        (is_in ending one.placed.items ≡ false → IsHeld waiting one.state one.placed.items)
+    pub sound : (opening : S) (ended : List ℕ) (end : ℕ) → IsNextEnd log ended ending end →
+        AreReachable after opening log ended configurations → AreSound after opening log ended ending waiting kept
+
+  -- one of these can be finished
+  abbrev pub AnyCanFinish : (S → W → Option S) → List (Operation W) → List ℕ → List (Configuration S) → Type 0
+  AnyCanFinish after log ended held = (i : ℕ) × (one : Configuration S) × (slice_get held i ≡ Some one)
+      × CanFinish after log (is_closed ended one.placed.items) one.state
+
+  -- behind an end: what is kept, or that there are too many
+  pub record IsPassed (after : S → W → Option S) (log : List (Operation W)) (under_way : List ℕ) (ending : ℕ)
+      (configurations kept : List (Configuration S)) : Type 0 where
+    pub reached : (opening : S) (ended : List ℕ) (end : ℕ) → IsNextEnd log ended ending end →
+        AreUnderWay log under_way ended end →
+        AreReachable after opening log ended configurations → AreReachable after opening log (ending ∷ ended) kept
+    pub complete : (opening : S) (ended : List ℕ) (end : ℕ) → RunForwards log → IsNextEnd log ended ending end →
+        AreUnderWay log under_way ended end → AreReachable after opening log ended configurations →
+        AnyCanFinish after log ended configurations → AnyCanFinish after log (ending ∷ ended) kept

@@ -1,0 +1,232 @@
+//! The end of one operation.
+
+ghost use Rattle.std.specs.Prelude.{◌≡◌, ◌<◌, List, nat_eq, length, IfNone, IfOk, IfSome, OnOk};
+ghost use Rattle.object_core.specs.declared.operation.Operation.{Operation};
+ghost use Rattle.object_sweep.specs.Reached.{is_in};
+ghost use Rattle.object_sweep.specs.inner.Ends.{AreAlwaysTooMany};
+ghost use Rattle.object_sweep.specs.inner.Steps.{AreStarted, IsClosed, IsCopyAt, IsExplored, IsLeftOut, IsPassed};
+ghost use Rattle.object_sweep.specs.inner.Steps.{IsPut, IsSorted};
+ghost use Rattle.object_sweep.specs.inner.Steps.{IsTried, may_be_left_out, step_from};
+
+use crate::configuration::{Configuration, add};
+use crate::places::{is_in, with, without};
+use object_core::{Object, Operation};
+use std::alloc::{AllocError, Global};
+
+/// The configurations at the end of an operation.
+#[derive(Drop)]
+pub(crate) struct Ending<O> {
+    /// Those in which it isn't placed.
+    pub waiting: Vec<Configuration<O>>,
+    /// Those behind its end.
+    pub kept: Vec<Configuration<O>>,
+}
+
+/// The state after one more operation, if it can be placed.
+fn step_from<O: Object>(
+    log: &[Operation<O::What>],
+    state: O,
+    placed: &[usize],
+    place: usize,
+) -> Option<O>
+    ensures { result ≡ step_from O.after log.now state placed.now place }
+{
+    if is_in(place, placed) {
+        return None;
+    }
+    match log.get(place) {
+        Some(op) => state.step(op.what),
+        None => None,
+    }
+}
+
+/// Whether the operation at a place may have done nothing.
+fn may_be_left_out<W>(log: &[Operation<W>], place: usize) -> bool
+    ensures { result ≡ may_be_left_out log.now place }
+{
+    match log.get(place) {
+        Some(op) => op.maybe,
+        None => false,
+    }
+}
+
+/// Adds the configuration after one more operation: it waits, unless that is the one that ends.
+fn put<O: Object>(
+    alloc: Global,
+    ending: usize,
+    placed: &[usize],
+    place: usize,
+    state: O,
+    sets: &mut Ending<O>,
+) -> Result<(), AllocError>
+    ensures { OnOk result (IsPut (nat_eq place ending) place state placed.now sets.old.waiting.items sets.old.kept.items
+        sets.new.waiting.items sets.new.kept.items) }
+{
+    if place == ending {
+        let behind = Vec::from_slice(alloc, placed)?;
+        add(&mut sets.kept, state, behind)
+    } else {
+        let more = with(alloc, placed, place)?;
+        add(&mut sets.waiting, state, more)
+    }
+}
+
+/// Places one more operation, if it can be.
+fn try_place<O: Object>(
+    alloc: Global,
+    log: &[Operation<O::What>],
+    ending: usize,
+    from: &Configuration<O>,
+    place: usize,
+    sets: &mut Ending<O>,
+) -> Result<(), AllocError>
+    ensures { OnOk result (IsTried (step_from O.after log.now from.now.state from.now.placed.items place) ending
+        from.now.placed.items place
+        sets.old.waiting.items sets.old.kept.items sets.new.waiting.items sets.new.kept.items) }
+{
+    match step_from(log, from.state, from.placed.as_slice(), place) {
+        Some(state) => put(alloc, ending, from.placed.as_slice(), place, state, sets),
+        None => Ok(()),
+    }
+}
+
+/// Leaves out the operation that ends, if it may have done nothing.
+fn leave_out<O: Object>(
+    alloc: Global,
+    log: &[Operation<O::What>],
+    ending: usize,
+    from: &Configuration<O>,
+    sets: &mut Ending<O>,
+) -> Result<(), AllocError>
+    ensures { OnOk result (IsLeftOut (may_be_left_out log.now ending) from.now.state from.now.placed.items
+        sets.old.waiting.items sets.old.kept.items
+        sets.new.waiting.items sets.new.kept.items) }
+{
+    if !may_be_left_out(log, ending) {
+        return Ok(());
+    }
+    let behind = Vec::from_slice(alloc, from.placed.as_slice())?;
+    add(&mut sets.kept, from.state, behind)
+}
+
+/// All that a configuration leads to.
+fn explore<O: Object>(
+    alloc: Global,
+    log: &[Operation<O::What>],
+    under_way: &[usize],
+    ending: usize,
+    from: &Configuration<O>,
+    sets: &mut Ending<O>,
+) -> Result<(), AllocError>
+    ensures { OnOk result (IsExplored O.after log.now under_way.now ending from.now.state from.now.placed.items (length
+        under_way.now)
+        sets.old.waiting.items sets.old.kept.items sets.new.waiting.items sets.new.kept.items) }
+{
+    leave_out(alloc, log, ending, from, sets)?;
+    for place in under_way {
+        try_place(alloc, log, ending, from, *place, sets)?;
+    }
+    Ok(())
+}
+
+/// A copy of the one at this place.
+fn copied<O: Object>(
+    alloc: Global,
+    held: &[Configuration<O>],
+    place: usize,
+) -> Result<Configuration<O>, AllocError>
+    requires { place < length held.now }
+    ensures { IfOk result (IsCopyAt held.now place) }
+{
+    let one = &held[place];
+    Ok(Configuration {
+        state: one.state,
+        placed: Vec::from_slice(alloc, one.placed.as_slice())?,
+    })
+}
+
+/// Explores what waits until that leads to nothing new; false where more are held than the budget.
+fn close<O: Object>(
+    alloc: Global,
+    log: &[Operation<O::What>],
+    under_way: &[usize],
+    ending: usize,
+    budget: usize,
+    sets: &mut Ending<O>,
+) -> Result<bool, AllocError>
+    ensures { IfOk result (IsClosed O.after log.now under_way.now ending budget
+        sets.old.waiting.items sets.old.kept.items sets.new.waiting.items sets.new.kept.items) }
+{
+    let mut next: usize = 0;
+    while next < sets.waiting.len() {
+        if budget <= next {
+            return Ok(false);
+        }
+        let from = copied(alloc, sets.waiting.as_slice(), next)?;
+        explore(alloc, log, under_way, ending, &from, sets)?;
+        next += 1;
+    }
+    Ok(sets.kept.len() <= budget)
+}
+
+/// Sorts one of the configurations at hand by whether it has placed the operation that ends.
+fn sort<O: Object>(
+    alloc: Global,
+    ending: usize,
+    one: &Configuration<O>,
+    sets: &mut Ending<O>,
+) -> Result<(), AllocError>
+    ensures { OnOk result (IsSorted (is_in ending one.now.placed.items) ending one.now.state one.now.placed.items
+        sets.old.waiting.items sets.old.kept.items sets.new.waiting.items sets.new.kept.items) }
+{
+    if is_in(ending, one.placed.as_slice()) {
+        let behind = without(alloc, ending, one.placed.as_slice())?;
+        add(&mut sets.kept, one.state, behind)
+    } else {
+        let placed = Vec::from_slice(alloc, one.placed.as_slice())?;
+        add(&mut sets.waiting, one.state, placed)
+    }
+}
+
+/// The configurations as an end begins.
+fn start<O: Object>(
+    alloc: Global,
+    ending: usize,
+    configurations: &[Configuration<O>],
+) -> Result<Ending<O>, AllocError>
+    ensures { IfOk result (λ sets. (log : List (Operation O.What)) →
+        AreStarted O.after log ending (length configurations.now)
+        configurations.now sets.waiting.items sets.kept.items) }
+{
+    let mut sets = Ending {
+        waiting: Vec::new(alloc),
+        kept: Vec::new(alloc),
+    };
+    for one in configurations {
+        sort(alloc, ending, one, &mut sets)?;
+    }
+    Ok(sets)
+}
+
+/// The configurations behind the end of an operation; none where more than the budget are held.
+pub(crate) fn pass<O: Object>(
+    alloc: Global,
+    log: &[Operation<O::What>],
+    under_way: &[usize],
+    ending: usize,
+    configurations: &[Configuration<O>],
+    budget: usize,
+) -> Result<Option<Vec<Configuration<O>>>, AllocError>
+    ensures many { IfOk result (λ r. IfNone r (AreAlwaysTooMany O.after log.now under_way.now ending configurations.now
+        budget)) }
+    ensures passed { IfOk result (λ r. IfSome r (λ v. IsPassed O.after log.now under_way.now ending configurations.now
+        v.items)) }
+{
+    let mut sets = start(alloc, ending, configurations)?;
+    if close(alloc, log, under_way, ending, budget, &mut sets)? {
+        let Ending { waiting: _, kept } = sets;
+        Ok(Some(kept))
+    } else {
+        Ok(None)
+    }
+}

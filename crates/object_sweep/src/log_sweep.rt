@@ -1,0 +1,161 @@
+//! The sweep over a log.
+
+ghost use Rattle.std.specs.Prelude.{IfOk, MatchResult};
+ghost use Rattle.object_sweep.specs.Rests.{RunForwards};
+ghost use Rattle.object_sweep.specs.Verdicts.{IsSweepFault, IsSweepVerdict};
+ghost use Rattle.object_sweep.specs.inner.Ends.{IsEndPassed, IsEventPassed};
+ghost use Rattle.object_sweep.specs.inner.Events.{AreEvents, IsOpened};
+
+use crate::configuration::Configuration;
+use crate::ending::pass;
+use crate::event::{Event, events_in, first_backwards};
+use crate::places::{is_in, without};
+use object_core::{Object, Operation};
+use std::alloc::{AllocError, Global};
+
+/// What is known of a log.
+#[derive(Clone, Copy, Debug, PartialEq, Eq, Drop)]
+pub enum Verdict {
+    /// It has a lawful order.
+    Lawful,
+    /// It has none.
+    Unlawful,
+    /// At the end of the operation at this place there are more configurations than the budget.
+    TooMany { place: usize },
+}
+
+/// Why there is no verdict.
+#[derive(Clone, Copy, Debug, PartialEq, Eq, Drop)]
+pub enum SweepError {
+    NoMemory,
+    /// The operation at this place ended before it began.
+    Backwards { place: usize },
+}
+
+/// What the sweep holds behind an event.
+#[derive(Drop)]
+struct Front<O> {
+    under_way: Vec<usize>,
+    configurations: Vec<Configuration<O>>,
+}
+
+/// Whether a log of an object has a lawful order. The sweep goes over beginnings and ends, and at each end explores
+/// what may
+/// be placed by then, in at most `budget` configurations.
+pub fn sweep<O: Object>(
+    alloc: Global,
+    opening: O,
+    log: &[Operation<O::What>],
+    budget: usize,
+) -> Result<Verdict, SweepError>
+    ensures { MatchResult result (IsSweepVerdict O.after opening log.now budget) (IsSweepFault log.now) }
+{
+    if let Some(place) = first_backwards(log) {
+        return Err(SweepError::Backwards { place });
+    }
+    match sweep_log(alloc, opening, log, budget) {
+        Ok(verdict) => Ok(verdict),
+        Err(_) => Err(SweepError::NoMemory),
+    }
+}
+
+fn sweep_log<O: Object>(
+    alloc: Global,
+    opening: O,
+    log: &[Operation<O::What>],
+    budget: usize,
+) -> Result<Verdict, AllocError>
+    requires { RunForwards log.now }
+    ensures { IfOk result (IsSweepVerdict O.after opening log.now budget) }
+{
+    let events = events_in(alloc, log)?;
+    sweep_events(alloc, opening, log, events.as_slice(), budget)
+}
+
+fn sweep_events<O: Object>(
+    alloc: Global,
+    opening: O,
+    log: &[Operation<O::What>],
+    events: &[Event],
+    budget: usize,
+) -> Result<Verdict, AllocError>
+    requires forwards { RunForwards log.now }
+    requires events { AreEvents log.now events.now }
+    ensures { IfOk result (IsSweepVerdict O.after opening log.now budget) }
+{
+    let mut front = first_front(alloc, opening)?;
+    for event in events {
+        if let Some(verdict) = pass_event(alloc, log, event, budget, &mut front)? {
+            return Ok(verdict);
+        }
+    }
+    Ok(Verdict::Lawful)
+}
+
+/// Nothing is under way, and the object is as it was opened.
+fn first_front<O: Object>(alloc: Global, opening: O) -> Result<Front<O>, AllocError>
+    ensures { IfOk result (λ f. IsOpened opening f.under_way.items f.configurations.items) }
+{
+    let mut configurations = Vec::with_capacity(alloc, 1)?;
+    configurations.push(Configuration {
+        state: opening,
+        placed: Vec::new(alloc),
+    })?;
+    Ok(Front {
+        under_way: Vec::new(alloc),
+        configurations,
+    })
+}
+
+/// The end of the operation at a place: a verdict, or the front behind it.
+fn end<O: Object>(
+    alloc: Global,
+    log: &[Operation<O::What>],
+    place: usize,
+    budget: usize,
+    front: &mut Front<O>,
+) -> Result<Option<Verdict>, AllocError>
+    ensures { IfOk result (IsEndPassed O.after log.now budget place front.old.under_way.items
+        front.old.configurations.items
+        front.new.under_way.items front.new.configurations.items) }
+{
+    if !is_in(place, front.under_way.as_slice()) {
+        return Ok(None);
+    }
+    match pass(
+        alloc,
+        log,
+        front.under_way.as_slice(),
+        place,
+        front.configurations.as_slice(),
+        budget,
+    )? {
+        None => Ok(Some(Verdict::TooMany { place })),
+        Some(kept) => {
+            if kept.is_empty() {
+                return Ok(Some(Verdict::Unlawful));
+            }
+            front.under_way = without(alloc, place, front.under_way.as_slice())?;
+            front.configurations = kept;
+            Ok(None)
+        }
+    }
+}
+
+/// One more event: a verdict, or the front behind it.
+fn pass_event<O: Object>(
+    alloc: Global,
+    log: &[Operation<O::What>],
+    event: &Event,
+    budget: usize,
+    front: &mut Front<O>,
+) -> Result<Option<Verdict>, AllocError>
+    ensures { IfOk result (IsEventPassed event.now.ends O.after log.now budget event.now.place front.old.under_way.items
+        front.old.configurations.items front.new.under_way.items front.new.configurations.items) }
+{
+    if event.ends {
+        return end(alloc, log, event.place, budget, front);
+    }
+    front.under_way.push(event.place)?;
+    Ok(None)
+}

@@ -1,0 +1,188 @@
+//! Logs worked by hand: whether one has a lawful order, by the sweep.
+
+use crate::{Lock, Turn};
+use object_core::{Object, Operation};
+use object_registers::{Access, Exchange, Exchanging, Limited};
+use object_sweep::{SweepError, Verdict, sweep};
+use std::alloc::Global;
+
+/// An operation that ended and took effect.
+fn done<W>(starts: u64, ends: u64, what: W) -> Operation<W> {
+    Operation {
+        starts,
+        ends: Some(ends),
+        maybe: false,
+        what,
+    }
+}
+
+/// One that ended, and may have done nothing.
+fn perhaps<W>(starts: u64, ends: u64, what: W) -> Operation<W> {
+    Operation {
+        starts,
+        ends: Some(ends),
+        maybe: true,
+        what,
+    }
+}
+
+/// One that never ended.
+fn unfinished<W>(starts: u64, what: W) -> Operation<W> {
+    Operation {
+        starts,
+        ends: None,
+        maybe: false,
+        what,
+    }
+}
+
+/// The verdict on a log of a register that holds 0.
+fn of_register(alloc: Global, log: &[Operation<Exchange>]) -> Option<Verdict> {
+    verdict(alloc, Exchanging { held: 0 }, log)
+}
+
+fn verdict<O: Object>(alloc: Global, opening: O, log: &[Operation<O::What>]) -> Option<Verdict> {
+    sweep(alloc, opening, log, 100).ok()
+}
+
+/// A read may have what a write beside it leaves, or what was there before; behind that write's end it has what it
+/// left.
+#[test]
+fn reads(rt: HostRuntime) {
+    let alloc = rt.alloc();
+    let write = done(1, 4, Exchange::Sets(1));
+    for (starts, ends, seen, wanted) in [
+        (2, 3, 0, Verdict::Lawful),
+        (2, 3, 1, Verdict::Lawful),
+        (4, 5, 0, Verdict::Lawful),
+        (5, 6, 1, Verdict::Lawful),
+        (5, 6, 0, Verdict::Unlawful),
+        (5, 6, 2, Verdict::Unlawful),
+    ] {
+        let log = [write, done(starts, ends, Exchange::Gets(seen))];
+        assert_eq!(rt;
+            of_register(alloc, &log),
+            Some(wanted),
+            "{seen} from {starts} to {ends}"
+        );
+    }
+}
+
+/// What was read once may be read again only if it was written again; a write that never ended takes effect once.
+#[test]
+fn repeats(rt: HostRuntime) {
+    let alloc = rt.alloc();
+    let over = done(4, 5, Exchange::Sets(0));
+    let again = done(6, 7, Exchange::Gets(1));
+    let late = unfinished(1, Exchange::Sets(1));
+    let seen = done(2, 3, Exchange::Gets(1));
+    assert_eq!(rt;
+        of_register(alloc, &[late, over, again]),
+        Some(Verdict::Lawful)
+    );
+    assert_eq!(rt;
+        of_register(alloc, &[late, seen, over, again]),
+        Some(Verdict::Unlawful)
+    );
+    let twice = unfinished(1, Exchange::Sets(1));
+    assert_eq!(rt;
+        of_register(alloc, &[late, twice, seen, over, again]),
+        Some(Verdict::Lawful)
+    );
+}
+
+/// A write that may have done nothing takes effect before its end, or not at all.
+#[test]
+fn perhaps_written(rt: HostRuntime) {
+    let alloc = rt.alloc();
+    let write = perhaps(1, 2, Exchange::Sets(1));
+    let old = done(3, 4, Exchange::Gets(0));
+    let new = done(5, 6, Exchange::Gets(1));
+    assert_eq!(rt; of_register(alloc, &[write, old]), Some(Verdict::Lawful));
+    assert_eq!(rt; of_register(alloc, &[write, new]), Some(Verdict::Lawful));
+    assert_eq!(rt;
+        of_register(alloc, &[write, old, new]),
+        Some(Verdict::Unlawful)
+    );
+}
+
+/// Of two swaps from one record side by side one has to fail; a chain of two may stand in one order alone.
+#[test]
+fn swaps(rt: HostRuntime) {
+    let alloc = rt.alloc();
+    let first = done(1, 4, Exchange::Swaps(0, 1));
+    for (what, wanted) in [
+        (Exchange::Swaps(1, 2), Verdict::Lawful),
+        (Exchange::Swaps(0, 2), Verdict::Unlawful),
+        (Exchange::Misses(0), Verdict::Lawful),
+        (Exchange::Finds(2, 1), Verdict::Lawful),
+        (Exchange::Finds(1, 1), Verdict::Unlawful),
+        (Exchange::Tries(5, 6), Verdict::Lawful),
+    ] {
+        assert_eq!(rt;
+            of_register(alloc, &[first, done(2, 3, what)]),
+            Some(wanted),
+            "{what:?}"
+        );
+    }
+}
+
+/// A refused write stands behind as many writes as were due, also one that never ended.
+#[test]
+fn limits(rt: HostRuntime) {
+    let alloc = rt.alloc();
+    let opening = Limited { held: 5, due: 2 };
+    let write = done(1, 2, Access::Writes(6));
+    let refused = done(3, 4, Access::IsRefused(6));
+    assert_eq!(rt;
+        verdict(alloc, opening, &[write, refused]),
+        Some(Verdict::Unlawful)
+    );
+    let other = unfinished(1, Access::Writes(7));
+    assert_eq!(rt;
+        verdict(alloc, opening, &[write, refused, other]),
+        Some(Verdict::Lawful)
+    );
+}
+
+/// A lock is taken once it is let go.
+#[test]
+fn locks(rt: HostRuntime) {
+    let alloc = rt.alloc();
+    let free = Lock { holder: None };
+    let one = done(1, 2, Turn::Took(1));
+    let other = done(3, 6, Turn::Took(2));
+    assert_eq!(rt;
+        verdict(alloc, free, &[one, other]),
+        Some(Verdict::Unlawful)
+    );
+    let let_go = done(4, 5, Turn::LetGo(1));
+    assert_eq!(rt;
+        verdict(alloc, free, &[one, other, let_go]),
+        Some(Verdict::Lawful)
+    );
+}
+
+/// Two writes side by side make four configurations at the first end, two of which have it behind them.
+#[test]
+fn budgets(rt: HostRuntime) {
+    let alloc = rt.alloc();
+    let opening = Exchanging { held: 0 };
+    let log = [done(1, 4, Exchange::Sets(1)), done(1, 5, Exchange::Sets(2))];
+    for (budget, wanted) in [
+        (0, Verdict::TooMany { place: 0 }),
+        (1, Verdict::TooMany { place: 0 }),
+        (2, Verdict::Lawful),
+    ] {
+        assert_eq!(rt;
+            sweep(alloc, opening, &log, budget).ok(),
+            Some(wanted),
+            "budget {budget}"
+        );
+    }
+    let backwards = [done(3, 2, Exchange::Sets(1))];
+    assert_eq!(rt;
+        sweep(alloc, opening, &backwards, 9).err(),
+        Some(SweepError::Backwards { place: 0 })
+    );
+}
