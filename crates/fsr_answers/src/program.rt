@@ -27,7 +27,7 @@ pub fn answer<F: SharedFamily<Posted<Band>>, R: Threads + Sync>(
 ) -> Result<Answer, Fault>
 where
     F::Seat: Send,
-    F::Told: Send,
+    F::Receipt: Send,
     ensures { GivesReply (IsFsrAnswer ⟦<F as Family<Posted<Band>>>⟧ want bytes.now) result }
 {
     match want {
@@ -72,7 +72,7 @@ pub fn run<F: SharedFamily<Posted<Band>>, R: Threads + Sync, I: Source, O: Sink,
 ) -> u8
 where
     F::Seat: Send,
-    F::Told: Send,
+    F::Receipt: Send,
     requires input { HasRoom (I.failed input.old) }
     requires out { HasRoom (O.failed out.old) }
     requires faults { HasRoom (E.failed faults.old) }

@@ -33,7 +33,7 @@ pub fn run_race<R: Threads + Sync, F: SharedFamily<Posted<Band>>>(
 ) -> Result<Answer, Fault>
 where
     F::Seat: Send,
-    F::Told: Send,
+    F::Receipt: Send,
     ensures { GivesReply (IsRaceAnswer ⟦<F as Family<Posted<Band>>>⟧ bytes.now) result }
 {
     let document = read(alloc, bytes)?;
@@ -60,7 +60,7 @@ fn race_to_the_end<R: Threads + Sync, F: SharedFamily<Posted<Band>>>(
 ) -> Result<Answer, Fault>
 where
     F::Seat: Send,
-    F::Told: Send,
+    F::Receipt: Send,
     requires { CanRace document.opening document.limit document.scripts }
     ensures { GivesReply (AnswersRace ⟦<F as Family<Posted<Band>>>⟧ document) result }
 {
@@ -99,7 +99,7 @@ pub fn race<R: Threads + Sync, G: Gate + Sync, F: SharedFamily<Posted<Band>>>(
 ) -> Result<Report, Fault>
 where
     F::Seat: Send,
-    F::Told: Send,
+    F::Receipt: Send,
     requires { CanRace opening limit scripts }
     ensures report { IfOk result (IsRace ⟦<F as Family<Posted<Band>>>⟧ (Permitted G.is_for gate.now) (G.may_stop gate.now)
         opening limit scripts) }

@@ -1,7 +1,8 @@
 -- All that is printed of a log in lines (this project's own).
-use Rattle.std.specs.Prelude.{ℕ, ◌++◌, List, codes, Bool, true, false}
+use Rattle.std.specs.Prelude.{ℕ, ◌*◌, ◌++◌, List, [], codes, Bool, true, false, nat_eq, nat_lt, if◌then◌else◌}
 use Rattle.std.specs.Fmt.{decimal}
 use Rattle.history_core.specs.declared.thinned.LogAnswer.{LogAnswer}
+use Rattle.history_core.specs.declared.thinned.LogAnswer.TheVariants.{Lawful, Unlawful}
 use Rattle.lines_log.specs.declared.lines_log.LinesLog.{LinesLog}
 use Rattle.print_reasons.specs.Text.{verdict_text}
 
@@ -20,7 +21,17 @@ counts_text log =
     count_text log.ops (codes " operations, ") ++ count_text log.unfinished (codes " unfinished, ")
     ++ count_text log.records (codes " records, ") ++ count_text log.read (codes " of them read") ++ end_text log.ended
 
+-- how little a lawful log shows: nothing if it has no operation, and little if less than one record of a hundred was read
+abbrev pub little_text : ℕ → ℕ → ℕ → List ℕ
+little_text ops records read =
+    if nat_eq ops 0 then codes "Nothing was shown: there is no operation.\n"
+    else (if nat_lt (read * 100) records then codes "Little was shown: less than 1 % of the records were read.\n" else [])
+
+abbrev pub shown_text : LinesLog → LogAnswer → List ℕ
+shown_text log (Lawful writes) = little_text log.ops log.records log.read
+shown_text log (Unlawful reason) = []
+
 -- the answer, with the writes in order if that is asked for
 abbrev pub lines_text : Bool → List ℕ → LinesLog → ℕ → LogAnswer → List ℕ
 lines_text order bytes log most found =
-    verdict_text order bytes log.thinned most found ++ counts_text log
+    verdict_text order bytes log.thinned most found ++ shown_text log found ++ counts_text log

@@ -1,7 +1,7 @@
 //! All that is printed of a log in lines.
-ghost use Rattle.std.specs.Prelude.{◌≡◌, ◌++◌, IfOk, OnOk};
+ghost use Rattle.std.specs.Prelude.{◌≡◌, ◌++◌, ◌*◌, nat_lt, IfOk, OnOk};
 ghost use Rattle.std.specs.Fmt.{decimal};
-ghost use Rattle.fsr_order_answers.specs.Text.{count_text, counts_text, end_text, lines_text};
+ghost use Rattle.fsr_order_answers.specs.Text.{count_text, counts_text, end_text, lines_text, little_text, shown_text};
 
 use history_core::LogAnswer;
 use itoa::Buffer;
@@ -9,7 +9,8 @@ use lines_log::LinesLog;
 use print_reasons::verdict_text;
 use std::alloc::{AllocError, Global};
 
-/// The verdict, with the writes in order if that is asked for, and the counts.
+/// The verdict, with the writes in order if that is asked for, how little is shown, if so, and the counts.
+#[tactic(auto, using(std::proofs::Common::append_assoc))]
 pub(crate) fn lines_text(
     alloc: Global,
     order: bool,
@@ -21,8 +22,43 @@ pub(crate) fn lines_text(
     ensures { IfOk result (λ text. text.items ≡ lines_text order bytes.now log.now most found.now) }
 {
     let mut text = verdict_text(alloc, order, bytes, &log.thinned, most, found)?;
+    push_shown(&mut text, log, found)?;
     push_counts(&mut text, log)?;
     Ok(text)
+}
+
+fn push_shown(text: &mut Vec<u8>, log: &LinesLog, found: &LogAnswer) -> Result<(), AllocError>
+    ensures { OnOk result (text.new.items ≡ text.old.items ++ shown_text log.now found.now) }
+{
+    match found {
+        LogAnswer::Lawful { .. } => push_little(text, log.ops, log.records, log.read),
+        LogAnswer::Unlawful { .. } => Ok(()),
+    }
+}
+
+/// How little so many operations and records show, if so.
+fn push_little(
+    text: &mut Vec<u8>,
+    ops: usize,
+    records: usize,
+    read: usize,
+) -> Result<(), AllocError>
+    ensures { OnOk result (text.new.items ≡ text.old.items ++ little_text ops records read) }
+{
+    if ops == 0 {
+        text.extend_from_slice(b"Nothing was shown: there is no operation.\n")
+    } else if are_few(read, records) {
+        text.extend_from_slice(b"Little was shown: less than 1 % of the records were read.\n")
+    } else {
+        Ok(())
+    }
+}
+
+/// Whether these are less than one of a hundred.
+fn are_few(read: usize, records: usize) -> bool
+    ensures { result ≡ nat_lt (read * 100) records }
+{
+    u128::from(read as u64) * 100 < u128::from(records as u64)
 }
 
 fn push_counts(text: &mut Vec<u8>, log: &LinesLog) -> Result<(), AllocError>

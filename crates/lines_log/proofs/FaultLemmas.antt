@@ -1,13 +1,12 @@
 -- The header or a later line is at fault.
-use Rattle.std.proofs.Common.{◌≡◌, ◌≢◌, ◌⊎◌, inl, inr, ℕ, List, Bool, Result, Ok, Err, refl, ap, sym, ◌∙◌, subst}
-use Rattle.std.specs.Prelude.{is_some}
+use Rattle.std.proofs.Common.{◌≡◌, ◌≢◌, ◌⊎◌, inl, inr, ℕ, List, Result, Ok, Err, refl, ap, sym, ◌∙◌, subst}
 use Rattle.read_document.specs.declared.refusal.DocError.{DocError}
 use Rattle.read_document.specs.declared.refusal.DocError.TheVariants.{Kind, Law, Long, Missing, NoMemory, NotJson, Range, Shape}
 use Rattle.program_runs.specs.declared.fault.Fault.{Fault}
 use Rattle.read_document.specs.Splits.{IsSplit, lines_of}
 use Rattle.read_line.specs.Lines.{Head, head_of}
 use Rattle.lines_log.specs.Faults.{IsBodyFault, IsLinesFault, refused_at}
-use Rattle.lines_log.specs.Logs.{text_of}
+use Rattle.lines_log.specs.Logs.{LineRule, rule_in, text_of}
 
 is_memory : (why : DocError) → (why ≡ NoMemory) ⊎ (why ≢ NoMemory)
 is_memory Long = inr (λ e. cc)
@@ -34,14 +33,14 @@ header_fault bytes text first body why f is_text split refused told = by_cause (
       told = told;
     })))
 
-pub later_fault : (bytes text first body : List ℕ) (head : Head) (limited : Bool) (f : Fault) → text ≡ text_of bytes
-    → IsSplit text first body → head_of first ≡ Ok head → limited ≡ is_some head.limit
-    → IsBodyFault head.opening limited (lines_of body) f → IsLinesFault bytes f
-later_fault bytes text first body head limited f is_text split said limits wrong = inr (inr (inr (record {
+pub later_fault : (bytes text first body : List ℕ) (head : Head) (rule : LineRule) (f : Fault) → text ≡ text_of bytes
+    → IsSplit text first body → head_of first ≡ Ok head → rule ≡ rule_in head (lines_of body)
+    → IsBodyFault head.opening rule (lines_of body) f → IsLinesFault bytes f
+later_fault bytes text first body head rule f is_text split said limits wrong = inr (inr (inr (record {
   header = first;
   body = lines_of body;
   head = head;
   split = ap lines_of (sym is_text) ∙ split.lines;
   said = said;
-  wrong = subst (λ (b : Bool). IsBodyFault head.opening b (lines_of body) f) limits wrong;
+  wrong = subst (λ (b : LineRule). IsBodyFault head.opening b (lines_of body) f) limits wrong;
 })))

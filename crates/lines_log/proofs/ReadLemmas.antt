@@ -24,9 +24,9 @@ use Rattle.read_line.specs.declared.line.LineOp.{LineOp}
 use Rattle.lines_log.specs.Faults.{IsLineFault, IsOverlap, told_of}
 use Rattle.read_line.specs.Reads.{KnowsReads}
 use Rattle.read_line.specs.Places.{line_at}
-use Rattle.lines_log.specs.Logs.{AreLines, IsItem, IsNumberedOp, judged_line, unfinished_in}
+use Rattle.lines_log.specs.Logs.{AreLines, IsItem, IsNumberedOp, judged_line, LineRule, unfinished_in}
 use Rattle.lines_log.specs.inner.Numbers.{Grow, IsNumberedNow}
-use Rattle.lines_log.specs.inner.Readings.{IsEntryFault, AreRead}
+use Rattle.lines_log.specs.inner.Readings.{IsEntryFault, AreRead, rule_of}
 use Rattle.lines_log.specs.declared.reader.Reader.{Reader}
 
 grown_item : (records after : List (List ℕ)) → Grow records after → (said : Option (List ℕ)) (item : Option ℕ) → IsItem records said item
@@ -46,18 +46,18 @@ grown_op records after grows said op is = record {
   item = grown_item records after grows said.item op.item is.item;
 }
 
-pub more_lines : (limited : Bool) (lines records after : List (List ℕ)) (line : List ℕ)
+pub more_lines : (rule : LineRule) (lines records after : List (List ℕ)) (line : List ℕ)
     (last : Bool) (log : List (Op ℕ)) (said : Op (List ℕ))
-    (next : Op ℕ) → AreLines limited lines records log → Grow records after → judged_line limited (length lines) last line ≡ Ok (Some said)
-    → IsNumberedOp after said next → AreLines limited (lines ++ line ∷ []) after (log ++ next ∷ [])
-more_lines limited lines records after line last log said next are grows judged is = record {
+    (next : Op ℕ) → AreLines rule lines records log → Grow records after → judged_line rule (length lines) last line ≡ Ok (Some said)
+    → IsNumberedOp after said next → AreLines rule (lines ++ line ∷ []) after (log ++ next ∷ [])
+more_lines rule lines records after line last log said next are grows judged is = record {
   long = omega (arith, length-append log (next ∷ []), length-append lines (line ∷ []), are.long);
   each = λ p l o at_l at_o. by_places p l o (get_pushed_cases lines line p l at_l) (get_pushed_cases log next p o at_o);
 }
   where
     by_places : (p : ℕ) (l : List ℕ) (o : Op ℕ) → (slice_get lines p ≡ Some l) ⊎ ((p ≡ length lines) × (line ≡ l))
         → (slice_get log p ≡ Some o) ⊎ ((p ≡ length log) × (next ≡ o))
-        → (was : Op (List ℕ)) × (at_end : Bool) × (judged_line limited p at_end l ≡ Ok (Some was)) × IsNumberedOp after was o
+        → (was : Op (List ℕ)) × (at_end : Bool) × (judged_line rule p at_end l ≡ Ok (Some was)) × IsNumberedOp after was o
     by_places p l o (inl old) (inl also) =
         let here = are.each p l o old also in
         (here.0, here.1, here.2, grown_op records after grows here.0 o here.3)
@@ -66,10 +66,10 @@ more_lines limited lines records after line last log said next are grows judged 
     by_places p l o (inr new) (inl old) =
         absurd (let within : p < length log = slice_get_within log p o old in omega (arith, within, new.0, are.long))
     by_places p l o (inr new) (inr also) =
-        let at_place : judged_line limited p last line ≡ Ok (Some said) =
-        subst (λ (n : ℕ). judged_line limited n last line ≡ Ok (Some said)) (sym new.0) judged in
-        let at_line : judged_line limited p last l ≡ Ok (Some said) =
-        subst (λ (k : List ℕ). judged_line limited p last k ≡ Ok (Some said)) new.1 at_place in
+        let at_place : judged_line rule p last line ≡ Ok (Some said) =
+        subst (λ (n : ℕ). judged_line rule n last line ≡ Ok (Some said)) (sym new.0) judged in
+        let at_line : judged_line rule p last l ≡ Ok (Some said) =
+        subst (λ (k : List ℕ). judged_line rule p last k ≡ Ok (Some said)) new.1 at_place in
         (said, last, at_line, subst (λ (k : Op ℕ). IsNumberedOp after said k) also.1 is)
 
 from_zero : (n : ℕ) → 0 + n ≡ n
@@ -87,7 +87,7 @@ few_unfinished log = count_by-le-length (λ (o : Op ℕ). is_none o.ends) log
 
 -- an operation was entered
 pub entered : (opening : List ℕ) (lines : List (List ℕ)) (line : List ℕ) (last : Bool) (old new : Reader) (said : Op (List ℕ)) (next : Op ℕ)
-    → (read : AreRead opening lines old) → judged_line old.limited (length lines) last line ≡ Ok (Some said) → new.limited ≡ old.limited
+    → (read : AreRead opening lines old) → judged_line (rule_of old) (length lines) last line ≡ Ok (Some said) → rule_of new ≡ (rule_of old)
     → ((records : List (List ℕ)) → IsNumbering records old.numbering → IsNumberedNow records said new.numbering next)
     → (KnowsTasks read.log old.turns → KnowsTasks (read.log ++ next ∷ []) new.turns)
     → (IsThinning read.log old.thinner → IsThinning (read.log ++ next ∷ []) new.thinner)
@@ -96,12 +96,12 @@ pub entered : (opening : List ℕ) (lines : List (List ℕ)) (line : List ℕ) (
     → AreRead opening (lines ++ line ∷ []) new
 entered opening lines line last old new said next read judged limits numbered turns thins gives count unfinished =
     let now = numbered read.records read.numbering in
-    let are : AreLines old.limited (lines ++ line ∷ []) now.after (read.log ++ next ∷ []) =
-    more_lines old.limited lines read.records now.after line last read.log said next read.are now.grows judged now.is in
+    let are : AreLines (rule_of old) (lines ++ line ∷ []) now.after (read.log ++ next ∷ []) =
+    more_lines (rule_of old) lines read.records now.after line last read.log said next read.are now.grows judged now.is in
     record {
       records = now.after;
       log = read.log ++ next ∷ [];
-      are = subst (λ (b : Bool). AreLines b (lines ++ line ∷ []) now.after (read.log ++ next ∷ [])) (sym limits) are;
+      are = subst (λ (b : LineRule). AreLines b (lines ++ line ∷ []) now.after (read.log ++ next ∷ [])) (sym limits) are;
       numbering = now.numbers;
       opened = now.grows 0 opening read.opened;
       tasks = turns read.tasks;
@@ -124,9 +124,9 @@ entry_fault log error f stands (inr told) = inr (error, stands, told)
 -- with the operation the log can't be searched
 pub repeated : (opening : List ℕ) (lines : List (List ℕ)) (line : List ℕ) (last : Bool) (old : Reader) (numbering : Numbering)
     (said : Op (List ℕ)) (next : Op ℕ) (f : Fault) → (read : AreRead opening lines old)
-    → judged_line old.limited (length lines) last line ≡ Ok (Some said)
+    → judged_line (rule_of old) (length lines) last line ≡ Ok (Some said)
     → ((records : List (List ℕ)) → IsNumbering records old.numbering → IsNumberedNow records said numbering next)
-    → IsEntryFault (read.log ++ next ∷ []) f → IsLineFault opening old.limited lines line last f
+    → IsEntryFault (read.log ++ next ∷ []) f → IsLineFault opening (rule_of old) lines line last f
 repeated opening lines line last old numbering said next f read judged numbered (inl none) = inl none
 repeated opening lines line last old numbering said next f read judged numbered (inr fault) =
     let now = numbered read.records read.numbering in
@@ -134,7 +134,7 @@ repeated opening lines line last old numbering said next f read judged numbered 
       records = now.after;
       log = read.log ++ next ∷ [];
       error = fault.0;
-      are = more_lines old.limited lines read.records now.after line last read.log said next read.are now.grows judged now.is;
+      are = more_lines (rule_of old) lines read.records now.after line last read.log said next read.are now.grows judged now.is;
       opened = now.grows 0 opening read.opened;
       distinct = distinct now.after numbering now.numbers;
       stands = fault.1;
@@ -166,10 +166,10 @@ item_there records o op may is counted =
 -- an operation overlaps one of its task
 pub overlapped : (opening : List ℕ) (lines : List (List ℕ)) (line : List ℕ) (last : Bool) (old : Reader) (numbering : Numbering)
     (said : Op (List ℕ)) (next : Op ℕ) (place first second : ℕ) → (read : AreRead opening lines old)
-    → judged_line old.limited (length lines) last line ≡ Ok (Some said)
+    → judged_line (rule_of old) (length lines) last line ≡ Ok (Some said)
     → ((records : List (List ℕ)) → IsNumbering records old.numbering → IsNumberedNow records said numbering next)
     → Overlap read.log next place → first ≡ line_at place → second ≡ line_at (length read.log)
-    → IsOverlap old.limited lines line next.who first second
+    → IsOverlap (rule_of old) lines line next.who first second
 overlapped opening lines line last old numbering said next place first second read judged numbered overlap at_first at_second =
     let now = numbered read.records read.numbering in
     record {
@@ -177,7 +177,7 @@ overlapped opening lines line last old numbering said next place first second re
       log = read.log;
       next = next;
       place = place;
-      are = more_lines old.limited lines read.records now.after line last read.log said next read.are now.grows judged now.is;
+      are = more_lines (rule_of old) lines read.records now.after line last read.log said next read.are now.grows judged now.is;
       task = refl;
       overlap = overlap;
       first_line = at_first;
@@ -185,9 +185,9 @@ overlapped opening lines line last old numbering said next place first second re
     }
 
 -- what was said of a line at a place, at the number of the lines before it
-pub judged_as : (limited : Bool) (place count : ℕ) (last : Bool) (bytes : List ℕ) (found : Option LineOp) (op : LineOp)
-    → judged_line limited place last bytes ≡ Ok (option_map op_seen found) → found ≡ Some op → place ≡ count
-    → judged_line limited count last bytes ≡ Ok (Some (op_seen op))
-judged_as limited place count last bytes found op said is same =
-    subst (λ (n : ℕ). judged_line limited n last bytes ≡ Ok (Some (op_seen op))) same
+pub judged_as : (rule : LineRule) (place count : ℕ) (last : Bool) (bytes : List ℕ) (found : Option LineOp) (op : LineOp)
+    → judged_line rule place last bytes ≡ Ok (option_map op_seen found) → found ≡ Some op → place ≡ count
+    → judged_line rule count last bytes ≡ Ok (Some (op_seen op))
+judged_as rule place count last bytes found op said is same =
+    subst (λ (n : ℕ). judged_line rule n last bytes ≡ Ok (Some (op_seen op))) same
     (said ∙ ap (λ (o : Option LineOp). Ok (option_map op_seen o)) is)

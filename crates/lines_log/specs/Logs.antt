@@ -2,6 +2,7 @@
 use Rattle.std.specs.Prelude.{◌≡◌, ℕ, ◌-◌, ◌==◌, List, [], ◌∷◌, ◌++◌, length, take, Bool, true, false, ◌||◌, not, if◌then◌else◌, slice_get}
 use Rattle.std.specs.Prelude.{Option, None, Some, is_none, is_some, unwrap_or, Result, Ok, Err}
 use Rattle.std.specs.List.{count_by}
+use Rattle.std.specs.Str.{bytes_eq}
 use Rattle.history_core.specs.declared.history.Kind.{Kind}
 use Rattle.history_core.specs.declared.history.Kind.TheVariants.{Write, Read, Refused}
 use Rattle.history_core.specs.declared.history.Op.{Op}
@@ -18,19 +19,45 @@ use Rattle.read_document.specs.Splits.{lines_of}
 use Rattle.read_line.specs.Tasks.{TakeTurns}
 use Rattle.read_line.specs.Lines.{LineEntry, operation, done, entry_of, Head, head_of}
 
+-- what the lines behind a header are judged by: whether it has a limit, and the key of the first operation
+pub record LineRule : Type 0 where
+  pub limited : Bool
+  pub key : Option (List ℕ)
+
+abbrev pub key_said : Result LineEntry DocError → Option (List ℕ)
+key_said (Ok (operation o)) = o.key
+key_said (Ok (done ops)) = None
+key_said (Err why) = None
+
+-- the key of the operation on the first of these lines, if it has one
+abbrev pub first_key : List (List ℕ) → Option (List ℕ)
+first_key [] = None
+first_key (line ∷ lines) = key_said (entry_of line)
+
+abbrev pub rule_in : Head → List (List ℕ) → LineRule
+rule_in head body = record { limited = is_some head.limit; key = first_key body }
+
+abbrev pub same_key : Option (List ℕ) → Option (List ℕ) → Bool
+same_key None None = true
+same_key None (Some other) = false
+same_key (Some key) None = false
+same_key (Some key) (Some other) = bytes_eq key other
+
 abbrev pub is_refused : Kind → Bool
 is_refused Write = false
 is_refused Read = false
 is_refused Refused = true
 
--- What a line is behind so many operations: an operation, or the end of the log. A write is refused only where the header has a limit,
--- and the end stands on the last line, with the number of the operations.
-abbrev pub judged : Bool → ℕ → Bool → LineEntry → Result (Option (Op (List ℕ))) DocError
-judged limited count last (operation o) = if limited || not (is_refused o.kind) then Ok (Some o) else Err (Missing key.Limit)
-judged limited count last (done ops) = if last then (if ops == count then Ok None else Err (Law key.Ops)) else Err (Shape key.Kind)
+-- What a line is behind so many operations: an operation, or the end of the log. All operations have one key, or none. A write is refused
+-- only where the header has a limit, and the end stands on the last line, with the number of the operations.
+abbrev pub judged : LineRule → ℕ → Bool → LineEntry → Result (Option (Op (List ℕ))) DocError
+judged rule count last (operation o) =
+    if same_key rule.key o.key then (if rule.limited || not (is_refused o.op.kind) then Ok (Some o.op) else Err (Missing key.Limit))
+    else Err (Law key.Key)
+judged rule count last (done ops) = if last then (if ops == count then Ok None else Err (Law key.Ops)) else Err (Shape key.Kind)
 
-abbrev pub judged_line : Bool → ℕ → Bool → List ℕ → Result (Option (Op (List ℕ))) DocError
-judged_line limited count last line = entry_of line >>= judged limited count last
+abbrev pub judged_line : LineRule → ℕ → Bool → List ℕ → Result (Option (Op (List ℕ))) DocError
+judged_line rule count last line = entry_of line >>= judged rule count last
 
 -- the number of a record, where there is one
 abbrev pub IsItem : List (List ℕ) → Option (List ℕ) → Option ℕ → Type 0
@@ -48,15 +75,15 @@ pub record IsNumberedOp (records : List (List ℕ)) (said : Op (List ℕ)) (op :
   pub item : IsItem records said.item op.item
 
 -- these operations stand on these lines, where these are the records
-pub record AreLines (limited : Bool) (lines records : List (List ℕ)) (log : List (Op ℕ)) : Type 0 where
+pub record AreLines (rule : LineRule) (lines records : List (List ℕ)) (log : List (Op ℕ)) : Type 0 where
   pub long : length log ≡ length lines
   pub each : (p : ℕ) (line : List ℕ) (op : Op ℕ) → slice_get lines p ≡ Some line → slice_get log p ≡ Some op →
-      (said : Op (List ℕ)) × (last : Bool) × (judged_line limited p last line ≡ Ok (Some said)) × IsNumberedOp records said op
+      (said : Op (List ℕ)) × (last : Bool) × (judged_line rule p last line ≡ Ok (Some said)) × IsNumberedOp records said op
 
 -- the lines behind the header are those of the operations, and the end if it is there
-abbrev pub AreAll : Bool → Bool → List (List ℕ) → List (List ℕ) → Type 0
-AreAll limited false body lines = body ≡ lines
-AreAll limited true body lines = (end : List ℕ) × (body ≡ lines ++ end ∷ []) × (judged_line limited (length lines) true end ≡ Ok None)
+abbrev pub AreAll : LineRule → Bool → List (List ℕ) → List (List ℕ) → Type 0
+AreAll rule false body lines = body ≡ lines
+AreAll rule true body lines = (end : List ℕ) × (body ≡ lines ++ end ∷ []) × (judged_line rule (length lines) true end ≡ Ok None)
 
 -- The text of a log: white space behind its last line is left out, unless there is too much of it. Then it stays, as lines that are none.
 abbrev pub text_of : List ℕ → List ℕ
@@ -71,8 +98,8 @@ pub record IsLog (bytes : List ℕ) (head : Head) (records : List (List ℕ)) (l
   pub split : lines_of (text_of bytes) ≡ header ∷ body
   pub said : head_of header ≡ Ok head
   pub ended : Bool
-  pub all : AreAll (is_some head.limit) ended body lines
-  pub are : AreLines (is_some head.limit) lines records log
+  pub all : AreAll (rule_in head body) ended body lines
+  pub are : AreLines (rule_in head body) lines records log
   pub opening : slice_get records 0 ≡ Some head.opening
   pub distinct : AreDistinct records
   pub turns : TakeTurns log

@@ -1,9 +1,9 @@
 //! From bytes to the log that they stand for.
-ghost use Rattle.std.specs.Prelude.{◌≡◌, ◌<◌, ◌+◌, ◌^◌, ℕ, List, [], length, IfErr, IfOk, OnOk};
+ghost use Rattle.std.specs.Prelude.{◌≡◌, ◌<◌, ◌+◌, ◌^◌, ℕ, List, [], length, option_map, string_bytes, IfErr, IfOk, OnOk};
 ghost use Rattle.history_core.specs.declared.history.Op.{Op};
 ghost use Rattle.lines_log.specs.Faults.{IsBodyFault, IsLinesFault};
-ghost use Rattle.lines_log.specs.Logs.{IsLinesLog, text_of};
-ghost use Rattle.lines_log.specs.inner.Readings.{is_end, IsFinished, AreRead, IsReadWhole};
+ghost use Rattle.lines_log.specs.Logs.{first_key, IsLinesLog, text_of};
+ghost use Rattle.lines_log.specs.inner.Readings.{is_end, IsFinished, AreRead, IsReadWhole, rule_of};
 ghost use Rattle.read_line.specs.Numberings.{IsNumbering};
 ghost use Rattle.read_document.specs.Splits.{lines_of};
 
@@ -13,7 +13,7 @@ use crate::reader::Reader;
 use program_runs::Fault;
 use program_streams::ends_in_space;
 use read_document::{DocError, split_line};
-use read_line::{Numbering, read_header};
+use read_line::{LineOp, LogLine, Numbering, read_header, read_line};
 use std::alloc::{AllocError, Global};
 
 /// The line of the header.
@@ -33,7 +33,11 @@ pub fn read_lines(alloc: Global, bytes: &[u8]) -> Result<LinesLog, Fault>
         Err(why) => return Err(refused_at(HEADER, why)),
     };
     let limit = header.limit.unwrap_or(1);
-    let mut reader = match Reader::new(alloc, header) {
+    let key = match first_key(alloc, body) {
+        Ok(key) => key,
+        Err(_) => return Err(Fault::NoMemory),
+    };
+    let mut reader = match Reader::new(alloc, header, key) {
         Ok(reader) => reader,
         Err(_) => return Err(Fault::NoMemory),
     };
@@ -58,15 +62,37 @@ fn text_of(bytes: &[u8]) -> &[u8]
     }
 }
 
+/// The key of the operation on the first of these lines, if it has one.
+fn first_key(alloc: Global, body: &[u8]) -> Result<Option<String>, AllocError>
+    ensures { IfOk result (λ key. option_map string_bytes key ≡ first_key (lines_of body.now)) }
+{
+    let Some((line, _)) = split_line(body) else {
+        return Ok(None);
+    };
+    match read_line(alloc, line) {
+        Ok(LogLine::Operation(op)) => Ok(key_of(op)),
+        Ok(LogLine::Done(_)) => Ok(None),
+        Err(DocError::NoMemory) => Err(AllocError),
+        Err(_) => Ok(None),
+    }
+}
+
+fn key_of(op: LineOp) -> Option<String>
+    ensures { result ≡ op.key }
+{
+    let LineOp { key, .. } = op;
+    key
+}
+
 /// Reads the lines behind the header, and says whether the last one is the end.
 fn read_body(alloc: Global, reader: &mut Reader, body: &[u8]) -> Result<bool, Fault>
     requires room { reader.old.count + length body.now + 1 < 2 ^ 64 }
     requires known { (opening : List ℕ) × AreRead opening [] reader.old }
     ensures read { IfOk result (λ ended. (opening : List ℕ) → AreRead opening [] reader.old →
         IsReadWhole opening (lines_of body.now) reader.new ended) }
-    ensures limited { OnOk result (reader.new.limited ≡ reader.old.limited) }
+    ensures rule { OnOk result (rule_of reader.new ≡ rule_of reader.old) }
     ensures fault { IfErr result (λ fault. (opening : List ℕ) → AreRead opening [] reader.old →
-        IsBodyFault opening reader.old.limited (lines_of body.now) fault) }
+        IsBodyFault opening (rule_of reader.old) (lines_of body.now) fault) }
 {
     let mut rest = body;
     let mut ended = false;

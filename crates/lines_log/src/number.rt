@@ -19,6 +19,7 @@ pub(crate) fn number_op(numbering: &mut Numbering, op: LineOp) -> Result<Op<usiz
         begin,
         end,
         record,
+        ..
     } = op;
     let item = number_record(numbering, record)?;
     Ok(Op {

@@ -19,6 +19,8 @@ use std::alloc::{AllocError, Global};
 pub(crate) struct Reader {
     /// Whether the header has a limit.
     pub limited: bool,
+    /// The key of each operation, if it has one.
+    pub key: Option<String>,
     pub numbering: Numbering,
     pub turns: Turns,
     pub thinner: Thinner,
@@ -30,18 +32,20 @@ pub(crate) struct Reader {
 }
 
 impl Reader {
-    ghost use Rattle.lines_log.specs.inner.Readings.{HasReadLines, AreRead, ReadsLine};
+    ghost use Rattle.lines_log.specs.inner.Readings.{HasReadLines, AreRead, ReadsLine, rule_of};
 
     /// No line yet.
-    pub fn new(alloc: Global, header: LogHeader) -> Result<Reader, AllocError>
+    pub fn new(alloc: Global, header: LogHeader, key: Option<String>) -> Result<Reader, AllocError>
         ensures read { IfOk result (AreRead (string_bytes header.opening) []) }
-        ensures limited { IfOk result (λ reader. reader.limited ≡ is_some header.limit) }
+        ensures rule { IfOk result (λ reader. rule_of reader ≡
+            record { limited = is_some header.limit; key = option_map string_bytes key }) }
         ensures none { IfOk result (λ reader. reader.count ≡ 0) }
     {
         let limited = header.limit.is_some();
         let numbering = Numbering::new(alloc, header.opening)?;
         Ok(Reader {
             limited,
+            key,
             numbering,
             turns: Turns::new(alloc),
             thinner: Thinner::new(alloc),
@@ -57,13 +61,13 @@ impl Reader {
         requires known { HasReadLines self.old }
         ensures read { IfOk result (λ ended. (opening : List ℕ) (lines : List (List ℕ)) → AreRead opening lines self.old →
             ReadsLine opening lines bytes.now last self.old self.new ended) }
-        ensures limited { OnOk result (self.new.limited ≡ self.old.limited) }
+        ensures rule { OnOk result (rule_of self.new ≡ rule_of self.old) }
         ensures grows { OnOk result (self.new.count ≤ self.old.count + 1) }
         ensures fault { IfErr result (λ fault. (opening : List ℕ) (lines : List (List ℕ)) → AreRead opening lines self.old →
-            IsLineFault opening self.old.limited lines bytes.now last fault) }
+            IsLineFault opening (rule_of self.old) lines bytes.now last fault) }
     {
         let place = self.count;
-        match read_op(alloc, self.limited, place, last, bytes) {
+        match read_op(alloc, self.limited, &self.key, place, last, bytes) {
             Ok(Some(op)) => match self.enter(op) {
                 Ok(()) => Ok(false),
                 Err(fault) => Err(fault),
@@ -79,13 +83,13 @@ impl Reader {
         requires room { self.old.count + 2 < 2 ^ 64 }
         requires known { HasReadLines self.old }
         ensures entered { OnOk result ((opening : List ℕ) (lines : List (List ℕ)) (line : List ℕ) (last : Bool) →
-            AreRead opening lines self.old → judged_line self.old.limited (length lines) last line ≡ Ok (Some (op_seen op)) →
+            AreRead opening lines self.old → judged_line (rule_of self.old) (length lines) last line ≡ Ok (Some (op_seen op)) →
             AreRead opening (lines ++ line ∷ []) self.new) }
-        ensures limited { OnOk result (self.new.limited ≡ self.old.limited) }
+        ensures rule { OnOk result (rule_of self.new ≡ rule_of self.old) }
         ensures grows { OnOk result (self.new.count ≤ self.old.count + 1) }
         ensures fault { IfErr result (λ fault. (opening : List ℕ) (lines : List (List ℕ)) (line : List ℕ) (last : Bool) →
-            AreRead opening lines self.old → judged_line self.old.limited (length lines) last line ≡ Ok (Some (op_seen op)) →
-            IsLineFault opening self.old.limited lines line last fault) }
+            AreRead opening lines self.old → judged_line (rule_of self.old) (length lines) last line ≡ Ok (Some (op_seen op)) →
+            IsLineFault opening (rule_of self.old) lines line last fault) }
     {
         let place = self.count;
         let next = match number_op(&mut self.numbering, op) {

@@ -3,7 +3,7 @@ use Rattle.std.specs.Prelude.{ℕ, List, codes}
 use Rattle.read_document.specs.declared.key.Key.{Key}
 use Rattle.read_document.specs.declared.key.Key.TheVariants.{Opening, Noise, Limit, Ops, Order}
 use Rattle.read_document.specs.declared.key.Key.TheVariants.{Writes, Reads, Steps, Plans, Scripts, Terms}
-use Rattle.read_document.specs.declared.key.Key.TheVariants.{Who, Kind, Begin, End, Record}
+use Rattle.read_document.specs.declared.key.Key.TheVariants.{Who, Kind, Begin, End, Record, Key as OfKey}
 
 abbrev pub name_of : Key → List ℕ
 name_of Opening = codes "opening"
@@ -22,3 +22,4 @@ name_of Kind = codes "kind"
 name_of Begin = codes "begin"
 name_of End = codes "end"
 name_of Record = codes "record"
+name_of OfKey = codes "key"

@@ -21,6 +21,7 @@ pub enum Key {
     Begin,
     End,
     Record,
+    Key,
 }
 
 impl Key {
@@ -47,6 +48,7 @@ impl Key {
             Key::Begin => "begin",
             Key::End => "end",
             Key::Record => "record",
+            Key::Key => "key",
         }
     }
 }

@@ -23,9 +23,14 @@ use Rattle.read_line.specs.declared.line.LineOp.{LineOp}
 
 -- ---- what a line says
 
+-- an operation, and its key if it has one
+pub record KeyedOp : Type 0 where
+  pub key : Option (List ℕ)
+  pub op : Op (List ℕ)
+
 -- an operation, or how many there are
 pub data LineEntry : Type 0 where
-  operation : Op (List ℕ) → LineEntry
+  operation : KeyedOp → LineEntry
   done : ℕ → LineEntry
 
 -- what the log is of
@@ -37,8 +42,11 @@ pub record Head : Type 0 where
 abbrev pub op_seen : LineOp → Op (List ℕ)
 op_seen o = record { who = o.who; kind = o.kind; starts = o.begin; ends = o.end; item = option_map string_bytes o.«record» }
 
+abbrev pub keyed_seen : LineOp → KeyedOp
+keyed_seen o = record { key = option_map string_bytes o.key; op = op_seen o }
+
 abbrev pub line_seen : LogLine → LineEntry
-line_seen (Operation o) = operation (op_seen o)
+line_seen (Operation o) = operation (keyed_seen o)
 line_seen (Done ops) = done ops
 
 abbrev pub head_seen : LogHeader → Head
@@ -73,7 +81,11 @@ kind_in d = option_and_then kind_named (option_and_then as_str (get (codes "kind
 abbrev pub record_in : Data → Result (Option (List ℕ)) DocError
 record_in d = some_or (Shape key.Record) (optional record_text (get (codes "record") d))
 
-unfoldable pub operation_in : Data → Result (Op (List ℕ)) DocError
+-- a key is what may be a record
+abbrev pub key_in : Data → Result (Option (List ℕ)) DocError
+key_in d = some_or (Shape key.Key) (optional record_text (get (codes "key") d))
+
+unfoldable pub operation_in : Data → Result KeyedOp DocError
 operation_in d = do
   all_there ← required (key.Who ∷ key.Kind ∷ key.Begin ∷ key.End ∷ key.Record ∷ []) d
   who ← field key.Who as_whole d
@@ -81,8 +93,9 @@ operation_in d = do
   begin ← field key.Begin as_whole d
   ends ← some_or (Shape key.End) (optional as_whole (get (codes "end") d))
   item ← record_in d
+  which ← key_in d
   as_allowed ← allowed kind begin ends (is_some item)
-  Ok (record { who = who; kind = kind; starts = begin; ends = ends; item = item })
+  Ok (record { key = which; op = record { who = who; kind = kind; starts = begin; ends = ends; item = item } })
 
 unfoldable pub done_in : Data → Result ℕ DocError
 done_in d = do

@@ -9,6 +9,8 @@ pub struct LineOp {
     /// None where it is unfinished.
     pub end: Option<u64>,
     pub record: Option<String>,
+    /// The text of what tells its register from others, if there is any.
+    pub key: Option<String>,
 }
 
 /// A line behind the header.

@@ -3,7 +3,7 @@ ghost use Rattle.std.specs.Prelude.{◌≡◌, true, option_map, is_some, string
 ghost use Rattle.serde_json.specs.View.{view};
 ghost use Rattle.read_document.specs.Refusals.{Gives};
 ghost use Rattle.read_line.specs.Lines.{allowed, done_in, ends_later, entry_in, entry_of, has_record, line_seen, IsAllowed, MayFollow};
-ghost use Rattle.read_line.specs.Lines.{op_seen, operation_in, record_in};
+ghost use Rattle.read_line.specs.Lines.{key_in, keyed_seen, operation_in, record_in};
 
 use crate::line::{LineOp, LogLine};
 use crate::record::record_text;
@@ -50,7 +50,7 @@ fn done_in(value: &Value) -> Result<usize, DocError>
 
 #[tactic(auto, unfolding(crate::specs::Lines::operation_in))]
 fn operation_in(alloc: Global, value: &Value) -> Result<LineOp, DocError>
-    ensures said { Gives op_seen result (operation_in (view value.now)) }
+    ensures said { Gives keyed_seen result (operation_in (view value.now)) }
     ensures allowed { IfOk result IsAllowed }
 {
     required(
@@ -62,6 +62,7 @@ fn operation_in(alloc: Global, value: &Value) -> Result<LineOp, DocError>
     let begin = number_field(value, Key::Begin)?;
     let end = shaped(Key::End, optional_number(value.get("end")))?;
     let record = record_in(alloc, value)?;
+    let key = key_in(alloc, value)?;
     allowed(kind, begin, end, record.is_some())?;
     Ok(LineOp {
         who,
@@ -69,6 +70,7 @@ fn operation_in(alloc: Global, value: &Value) -> Result<LineOp, DocError>
         begin,
         end,
         record,
+        key,
     })
 }
 
@@ -81,6 +83,19 @@ fn record_in(alloc: Global, value: &Value) -> Result<Option<String>, DocError>
         Some(found) => match record_text(alloc, found)? {
             Some(text) => Ok(Some(text)),
             None => Err(DocError::Shape(Key::Record)),
+        },
+    }
+}
+
+/// The text of the key, which may be missing or null.
+fn key_in(alloc: Global, value: &Value) -> Result<Option<String>, DocError>
+    ensures { Gives (option_map string_bytes) result (key_in (view value.now)) }
+{
+    match value.get("key") {
+        None | Some(Value::Null) => Ok(None),
+        Some(found) => match record_text(alloc, found)? {
+            Some(text) => Ok(Some(text)),
+            None => Err(DocError::Shape(Key::Key)),
         },
     }
 }

@@ -1,10 +1,11 @@
 -- How far a log is read. Only private functions cite this, which is this project's own.
-use Rattle.std.specs.Prelude.{◌≡◌, ℕ, List, [], ◌∷◌, ◌++◌, ◌⊎◌, length, Bool, true, false, slice_get, None, Some, Ok}
+use Rattle.std.specs.Prelude.{◌≡◌, ℕ, List, [], ◌∷◌, ◌++◌, ◌⊎◌, length, Bool, true, false, slice_get, None, Some, Ok, option_map}
+use Rattle.std.specs.Prelude.{string_bytes}
 use Rattle.read_line.specs.Numberings.{IsNumbering}
 use Rattle.read_line.specs.Reads.{WereRead, KnowsReads}
 use Rattle.read_document.specs.Splits.{lines_of}
 use Rattle.read_line.specs.Tasks.{KnowsTasks}
-use Rattle.lines_log.specs.Logs.{AreAll, AreLines, judged_line, unfinished_in}
+use Rattle.lines_log.specs.Logs.{AreAll, AreLines, judged_line, LineRule, unfinished_in}
 use Rattle.history_core.specs.declared.history.Op.{Op}
 use Rattle.history_core.specs.declared.reason.SearchError.{SearchError}
 use Rattle.history_thinning.specs.Answers.{IsThinnedFault}
@@ -16,11 +17,15 @@ use Rattle.lines_log.specs.Faults.{told_of}
 use Rattle.lines_log.specs.declared.lines_log.LinesLog.{LinesLog}
 use Rattle.lines_log.specs.declared.reader.Reader.{Reader}
 
+-- what the lines are judged by
+abbrev pub rule_of : Reader → LineRule
+rule_of reader = record { limited = reader.limited; key = option_map string_bytes reader.key }
+
 -- these lines were read
 pub record AreRead (opening : List ℕ) (lines : List (List ℕ)) (reader : Reader) : Type 0 where
   pub records : List (List ℕ)
   pub log : List (Op ℕ)
-  pub are : AreLines reader.limited lines records log
+  pub are : AreLines (rule_of reader) lines records log
   pub numbering : IsNumbering records reader.numbering
   pub opened : slice_get records 0 ≡ Some opening
   pub tasks : KnowsTasks log reader.turns
@@ -36,30 +41,30 @@ IsEntryFault log f = (f ≡ NoMemory) ⊎ ((error : SearchError) × IsThinnedFau
 -- one more line was read: an operation was entered, or it is the end
 abbrev pub ReadsLine : List ℕ → List (List ℕ) → List ℕ → Bool → Reader → Reader → Bool → Type 0
 ReadsLine opening lines line last old new false = AreRead opening (lines ++ line ∷ []) new
-ReadsLine opening lines line last old new true = AreRead opening lines new × (judged_line old.limited (length lines) last line ≡ Ok None)
+ReadsLine opening lines line last old new true = AreRead opening lines new × (judged_line (rule_of old) (length lines) last line ≡ Ok None)
 
 -- some lines were read
 abbrev pub HasReadLines : Reader → Type 0
 HasReadLines reader = (opening : List ℕ) × (lines : List (List ℕ)) × AreRead opening lines reader
 
 -- this body goes on with the rest; or its end was read, and nothing is left
-abbrev pub HasRest : Bool → Bool → List (List ℕ) → List (List ℕ) → List ℕ → Type 0
-HasRest limited false body lines rest = body ≡ lines ++ lines_of rest
-HasRest limited true body lines rest = (rest ≡ []) × AreAll limited true body lines
+abbrev pub HasRest : LineRule → Bool → List (List ℕ) → List (List ℕ) → List ℕ → Type 0
+HasRest rule false body lines rest = body ≡ lines ++ lines_of rest
+HasRest rule true body lines rest = (rest ≡ []) × AreAll rule true body lines
 
 -- lines of this body were read
-pub record IsPartlyRead (opening : List ℕ) (limited ended : Bool) (body : List (List ℕ)) (rest : List ℕ) (reader : Reader) :
+pub record IsPartlyRead (opening : List ℕ) (rule : LineRule) (ended : Bool) (body : List (List ℕ)) (rest : List ℕ) (reader : Reader) :
     Type 0 where
   pub lines : List (List ℕ)
   pub read : AreRead opening lines reader
-  pub limits : reader.limited ≡ limited
-  pub left : HasRest limited ended body lines rest
+  pub limits : rule_of reader ≡ rule
+  pub left : HasRest rule ended body lines rest
 
 -- the body was read
 pub record IsReadWhole (opening : List ℕ) (body : List (List ℕ)) (reader : Reader) (ended : Bool) : Type 0 where
   pub lines : List (List ℕ)
   pub read : AreRead opening lines reader
-  pub all : AreAll reader.limited ended body lines
+  pub all : AreAll (rule_of reader) ended body lines
 
 -- whether nothing is left
 abbrev pub is_end : List ℕ → Bool
