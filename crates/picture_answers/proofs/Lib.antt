@@ -1,1 +1,2 @@
 pub mod LowStatus
+pub mod MomentLemmas

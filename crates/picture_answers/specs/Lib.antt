@@ -1,3 +1,4 @@
 pub mod Answers
 pub mod Run
+pub mod Moments
 pub mod Scenes

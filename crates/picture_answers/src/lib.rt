@@ -2,6 +2,7 @@
 #![tactic(auto)]
 
 mod drawings;
+mod moments;
 mod program;
 mod scenes;
 

@@ -1,11 +1,11 @@
 //! The scenes of the documents of each kind.
 
-ghost use Rattle.std.specs.Prelude.{◌≡◌, [], IfOk};
+ghost use Rattle.std.specs.Prelude.{◌≡◌, IfOk};
 ghost use Rattle.matrix_core.specs.Runs.{CanPlay};
-ghost use Rattle.picture_shapes.specs.declared.shape.lanes.Lanes.TheVariants.{Actors};
-ghost use Rattle.picture_answers.specs.Scenes.{ArePointsOf, finding_of, IsSceneOf, ShowsBoard, ShowsCell, ShowsCheck, ShowsLog};
-ghost use Rattle.picture_answers.specs.Scenes.{ShowsMatrix};
+ghost use Rattle.picture_answers.specs.Scenes.{ArePointsOf, finding_of, IsPlainSceneOf, IsSceneOf};
+ghost use Rattle.picture_answers.specs.Scenes.{ShowsBoard, ShowsCell, ShowsCheck, ShowsLog, ShowsMatrix};
 
+use crate::moments::{moments_of, ranked_history};
 use four_slot_core::{CellReport, CellSchedule};
 use history_core::{Band, History, Items, Search};
 use history_explain::{Break, first_break, points};
@@ -46,20 +46,23 @@ pub fn log_scene(alloc: Global, log: History<Band>, search: Search) -> Result<Sc
     }
 }
 
-/// The scene of operations without stamps and slots.
+/// The scene of operations without stamps and slots. Its columns are the ranks of their moments.
 fn plain_scene(
     alloc: Global,
     history: History<Band>,
     order: Items<usize>,
     finding: Finding,
 ) -> Result<Scene, AllocError>
-    ensures { IfOk result (IsSceneOf history order finding [] Actors []) }
+    ensures { IfOk result (IsPlainSceneOf history order finding) }
 {
+    let moments = moments_of(alloc, history.ops.as_slice())?;
+    let ranked = ranked_history(alloc, moments.as_slice(), history)?;
     let stamps = Items::new(Vec::new(alloc));
     let visits = Items::new(Vec::new(alloc));
     scene_of(
         alloc,
-        history,
+        ranked,
+        Items::new(moments),
         order,
         finding,
         stamps,
@@ -83,9 +86,11 @@ pub fn cell_scene(
     let visits = cell_visits(alloc, schedule, history.ops.as_slice(), slots.as_slice())?;
     let stamps = Items::new(Vec::new(alloc));
     let visits = Items::new(visits);
+    let no_moments = Items::new(Vec::new(alloc));
     scene_of(
         alloc,
         history,
+        no_moments,
         order,
         Finding::Lawful,
         stamps,
@@ -103,9 +108,11 @@ pub fn matrix_scene(alloc: Global, report: MatrixReport<Band>) -> Result<Scene, 
         order,
     } = report;
     let no_visits = Items::new(Vec::new(alloc));
+    let no_moments = Items::new(Vec::new(alloc));
     scene_of(
         alloc,
         history,
+        no_moments,
         order,
         Finding::Lawful,
         stamps,
@@ -138,9 +145,11 @@ pub fn board_scene(
         slots.as_slice(),
     )?;
     let visits = Items::new(visits);
+    let no_moments = Items::new(Vec::new(alloc));
     scene_of(
         alloc,
         history,
+        no_moments,
         order,
         Finding::Lawful,
         stamps,
@@ -153,17 +162,19 @@ pub fn board_scene(
 fn scene_of(
     alloc: Global,
     history: History<Band>,
+    moments: Items<u64>,
     order: Items<usize>,
     finding: Finding,
     stamps: Items<Option<Stamp>>,
     lanes: Lanes,
     visits: Items<Visit>,
 ) -> Result<Scene, AllocError>
-    ensures { IfOk result (IsSceneOf history order finding stamps lanes visits) }
+    ensures { IfOk result (IsSceneOf history moments order finding stamps lanes visits) }
 {
     let points = points_of(alloc, &history, &order)?;
     Ok(Scene {
         history,
+        moments,
         order,
         points,
         finding,

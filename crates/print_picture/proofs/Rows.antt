@@ -12,8 +12,8 @@ lane_step lanes far n start before after so_far pushed =
     let next = ap (lanes_text lanes far) (add-one n) in
     row start (lanes_text lanes far n) (lane_text lanes far n) before after (lanes_text lanes far (n + 1)) next so_far pushed
 
-pub tick_step : (s : Scale) (high n : ℕ) (start before after : List ℕ) → before ≡ start ++ ticks_text s high n
-    → after ≡ before ++ tick_at s high n → after ≡ start ++ ticks_text s high (n + 1)
-tick_step s high n start before after so_far pushed =
-    let next = ap (ticks_text s high) (add-one n) in
-    row start (ticks_text s high n) (tick_at s high n) before after (ticks_text s high (n + 1)) next so_far pushed
+pub tick_step : (moments : List ℕ) (s : Scale) (high n : ℕ) (start before after : List ℕ) → before ≡ start ++ ticks_text moments s high n
+    → after ≡ before ++ tick_at moments s high n → after ≡ start ++ ticks_text moments s high (n + 1)
+tick_step moments s high n start before after so_far pushed =
+    let next = ap (ticks_text moments s high) (add-one n) in
+    row start (ticks_text moments s high n) (tick_at moments s high n) before after (ticks_text moments s high (n + 1)) next so_far pushed

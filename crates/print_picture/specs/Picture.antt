@@ -1,5 +1,5 @@
--- The text of a picture (this project's own): lanes, axis and terms, then the operations, the slot accesses, the marks of what breaks
--- the order or of why there is none, and the order's joins and points.
+-- The text of a picture (this project's own): lanes, axis and terms, then arrows, the operations, the slot accesses, the marks of what
+-- breaks the order or of why there is none, and the order's joins and points.
 use Rattle.std.specs.Prelude.{ℕ, ◌+◌, ◌-◌, ◌*◌, ◌/◌, ◌^◌, ◌++◌, min, List, [], ◌∷◌, codes, Bool, true, false, Option, None, Some, slice_get}
 use Rattle.std.specs.Prelude.{zero, suc, nat_le, if◌then◌else◌}
 use Rattle.std.specs.Fmt.{decimal}
@@ -45,16 +45,19 @@ abbrev pub lanes_text : Lanes → ℕ → ℕ → List ℕ
 lanes_text lanes far zero = []
 lanes_text lanes far (suc n) = lanes_text lanes far n ++ lane_text lanes far n
 
--- every fifth column has its moment on the axis
+-- every fifth column has its moment on the axis: where the columns are ranks, the moment of that rank
 abbrev pub tick_moment : Scale → ℕ → ℕ
 tick_moment s n = min (2 ^ 64 - 1) (s.least + min (2 ^ 64 - 1) (unit_in s * (5 * n)))
 
-abbrev pub tick_at : Scale → ℕ → ℕ → List ℕ
-tick_at s high n = tick_text (x_of s (tick_moment s n)) high (tick_moment s n)
+abbrev pub told_moment : List ℕ → ℕ → ℕ
+told_moment moments rank = unwrap_or (slice_get moments rank) rank
 
-abbrev pub ticks_text : Scale → ℕ → ℕ → List ℕ
-ticks_text s high zero = []
-ticks_text s high (suc n) = ticks_text s high n ++ tick_at s high n
+abbrev pub tick_at : List ℕ → Scale → ℕ → ℕ → List ℕ
+tick_at moments s high n = tick_text (x_of s (tick_moment s n)) high (told_moment moments (tick_moment s n))
+
+abbrev pub ticks_text : List ℕ → Scale → ℕ → ℕ → List ℕ
+ticks_text moments s high zero = []
+ticks_text moments s high (suc n) = ticks_text moments s high n ++ tick_at moments s high n
 
 abbrev pub ticks_of : Scale → ℕ
 ticks_of s = min 20000 ((s.most - s.least) / unit_in s / 5) + 1
@@ -211,10 +214,9 @@ arrow_text s None b = []
 arrow_text s (Some a) None = []
 arrow_text s (Some a) (Some b) = join_text Precedes (end_spot s a) (begin_spot s b)
 
--- an operation that precedes another: both with their places, and an arrow from the end of the one to the beginning of the other
-unfoldable pub precedence_text : Scale → List (Op Band) → ℕ → ℕ → List ℕ
-precedence_text s ops m n =
-    named_text s m (slice_get ops m) ++ named_text s n (slice_get ops n) ++ arrow_text s (slice_get ops m) (slice_get ops n)
+-- an operation that precedes another, both with their places
+abbrev pub precedence_text : Scale → List (Op Band) → ℕ → ℕ → List ℕ
+precedence_text s ops m n = named_text s m (slice_get ops m) ++ named_text s n (slice_get ops n)
 
 unfoldable pub reason_text : Scale → List (Op Band) → Reason → List ℕ
 reason_text s ops (reason.Unwritten read) = named_text s read (slice_get ops read)
@@ -222,6 +224,17 @@ reason_text s ops (reason.Early read write) = precedence_text s ops read write
 reason_text s ops (reason.Stale before read) = precedence_text s ops before read
 reason_text s ops (reason.Crossed a b c d) = precedence_text s ops a b ++ precedence_text s ops c d
 reason_text s ops (reason.Limit refused) = named_text s refused (slice_get ops refused)
+
+-- an arrow from the end of an operation to the beginning of one that it precedes
+abbrev pub arrow_between : Scale → List (Op Band) → ℕ → ℕ → List ℕ
+arrow_between s ops m n = arrow_text s (slice_get ops m) (slice_get ops n)
+
+unfoldable pub reason_arrows : Scale → List (Op Band) → Reason → List ℕ
+reason_arrows s ops (reason.Unwritten read) = []
+reason_arrows s ops (reason.Early read write) = arrow_between s ops read write
+reason_arrows s ops (reason.Stale before read) = arrow_between s ops before read
+reason_arrows s ops (reason.Crossed a b c d) = arrow_between s ops a b ++ arrow_between s ops c d
+reason_arrows s ops (reason.Limit refused) = []
 
 -- ---- what is said of the history
 
@@ -234,6 +247,12 @@ abbrev pub finding_text : Scale → List (Op Band) → List ℕ → List ℕ →
 finding_text s ops order points Lawful = []
 finding_text s ops order points (Broken broken) = break_text s ops order points broken
 finding_text s ops order points (NoOrder why) = reason_text s ops why
+
+-- arrows lie below the operations and their words
+abbrev pub arrows_text : Scale → List (Op Band) → Finding → List ℕ
+arrows_text s ops Lawful = []
+arrows_text s ops (Broken broken) = []
+arrows_text s ops (NoOrder why) = reason_arrows s ops why
 
 -- ---- the whole
 
@@ -252,9 +271,10 @@ shown_terms Actors terms = terms
 shown_terms Cell terms = []
 shown_terms (Board n) terms = terms
 
-unfoldable pub frame_text : Lanes → Scale → ℕ → ℕ → List (Op Band) → List Term → List ℕ
-frame_text lanes s count high ops terms =
-    head_text (far_of s) high ++ lanes_text lanes (far_of s) count ++ ticks_text s high (ticks_of s) ++ terms_text s high ops 1 terms
+unfoldable pub frame_text : Lanes → List ℕ → Scale → ℕ → ℕ → List (Op Band) → List Term → List ℕ
+frame_text lanes moments s count high ops terms =
+    head_text (far_of s) high ++ lanes_text lanes (far_of s) count ++ ticks_text moments s high (ticks_of s)
+    ++ terms_text s high ops 1 terms
 
 unfoldable pub order_shapes : Scale → List (Op Band) → List ℕ → List ℕ → List ℕ
 order_shapes s ops order points = joins_text s ops points 0 None order ++ points_text s ops points 0 order
@@ -269,6 +289,6 @@ unfoldable pub picture_of : Scene → List ℕ
 picture_of c =
     let s = scale_of c.history.ops in
     let count = lanes_of c.lanes c.history.ops in
-    frame_text c.lanes s count (high_of count) c.history.ops (shown_terms c.lanes c.history.terms)
-    ++ ops_text s c.stamps 0 c.history.ops ++ flat_map (visit_text c.lanes s) c.visits
+    frame_text c.lanes c.moments s count (high_of count) c.history.ops (shown_terms c.lanes c.history.terms)
+    ++ arrows_text s c.history.ops c.finding ++ ops_text s c.stamps 0 c.history.ops ++ flat_map (visit_text c.lanes s) c.visits
     ++ finding_text s c.history.ops c.order c.points c.finding ++ order_shapes s c.history.ops c.order c.points ++ end_text c.finding

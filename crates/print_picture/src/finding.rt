@@ -1,15 +1,30 @@
 //! What a picture says of its history: marks in it, and a line of text.
 
 ghost use Rattle.std.specs.Prelude.{◌≡◌, ◌++◌, OnOk, length};
-ghost use Rattle.print_picture.specs.Picture.{end_text, finding_text, finding_words};
+ghost use Rattle.print_picture.specs.Picture.{arrows_text, end_text, finding_text, finding_words};
 
 use crate::breaking::{push_break, put_break_words};
-use crate::reasons::{push_reason, put_reason_words};
+use crate::reasons::{push_reason, push_reason_arrows, put_reason_words};
 use crate::scene::Finding;
 use history_core::{Band, Op};
 use picture_shapes::Scale;
 use print_report::Line;
 use std::alloc::AllocError;
+
+/// The arrows of the reason why no order is lawful.
+pub fn push_arrows(
+    text: &mut Vec<u8>,
+    scale: &Scale,
+    ops: &[Op<Band>],
+    finding: Finding,
+) -> Result<(), AllocError>
+    ensures { OnOk result (text.new.items ≡ text.old.items ++ arrows_text scale.now ops.now finding) }
+{
+    match finding {
+        Finding::Lawful | Finding::Broken(_) => Ok(()),
+        Finding::NoOrder(reason) => push_reason_arrows(text, scale, ops, reason),
+    }
+}
 
 /// The marks of what breaks the order, or of the reason why no order is lawful.
 pub fn push_finding(

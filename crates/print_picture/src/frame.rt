@@ -2,7 +2,7 @@
 
 ghost use Rattle.std.specs.Prelude.{◌≡◌, ◌<◌, ◌≤◌, ◌^◌, ◌++◌, OnOk, length, slice_get};
 ghost use Rattle.print_picture.specs.Picture.{begin_x, frame_text, head_text, lanes_text, size_text, terms_text, tick_at, tick_moment};
-ghost use Rattle.print_picture.specs.Picture.{ticks_of, ticks_text};
+ghost use Rattle.print_picture.specs.Picture.{ticks_of, ticks_text, told_moment};
 ghost use Rattle.picture_shapes.specs.Shapes.{cell_rows, lane_text, row_text};
 
 use history_core::{Band, Op, Term};
@@ -14,18 +14,19 @@ use std::alloc::AllocError;
 pub fn push_frame(
     text: &mut Vec<u8>,
     lanes: Lanes,
+    moments: &[u64],
     scale: &Scale,
     count: usize,
     high: u64,
     ops: &[Op<Band>],
     terms: &[Term],
 ) -> Result<(), AllocError>
-    ensures { OnOk result (text.new.items ≡ text.old.items ++ frame_text lanes scale.now count high ops.now terms.now) }
+    ensures { OnOk result (text.new.items ≡ text.old.items ++ frame_text lanes moments.now scale.now count high ops.now terms.now) }
 {
     let far = scale.far();
     push_head(text, far, high)?;
     push_lanes(text, lanes, far, count)?;
-    push_ticks(text, scale, high, ticks_of(scale))?;
+    push_ticks(text, moments, scale, high, ticks_of(scale))?;
     push_terms(text, scale, high, ops, terms)
 }
 
@@ -105,13 +106,19 @@ fn ticks_of(scale: &Scale) -> u64
     20000.min(scale.most.saturating_sub(scale.least) / scale.unit() / 5) + 1
 }
 
-fn push_ticks(text: &mut Vec<u8>, scale: &Scale, high: u64, ticks: u64) -> Result<(), AllocError>
+fn push_ticks(
+    text: &mut Vec<u8>,
+    moments: &[u64],
+    scale: &Scale,
+    high: u64,
+    ticks: u64,
+) -> Result<(), AllocError>
     requires { ticks ≤ 20001 }
-    ensures { OnOk result (text.new.items ≡ text.old.items ++ ticks_text scale.now high ticks) }
+    ensures { OnOk result (text.new.items ≡ text.old.items ++ ticks_text moments.now scale.now high ticks) }
 {
     let mut line = Line::new();
     for n in 0..ticks {
-        push_tick(text, &mut line, scale, high, n)?;
+        push_tick(text, &mut line, moments, scale, high, n)?;
     }
     Ok(())
 }
@@ -119,17 +126,28 @@ fn push_ticks(text: &mut Vec<u8>, scale: &Scale, high: u64, ticks: u64) -> Resul
 fn push_tick(
     text: &mut Vec<u8>,
     line: &mut Line,
+    moments: &[u64],
     scale: &Scale,
     high: u64,
     n: u64,
 ) -> Result<(), AllocError>
     requires { n ≤ 20000 }
-    ensures { OnOk result (text.new.items ≡ text.old.items ++ tick_at scale.now high n) }
+    ensures { OnOk result (text.new.items ≡ text.old.items ++ tick_at moments.now scale.now high n) }
 {
     let moment = tick_moment(scale, n);
     line.clear();
-    put_tick(line, scale.x_of(moment), high, moment);
+    put_tick(line, scale.x_of(moment), high, told_moment(moments, moment));
     text.extend_from_slice(line.as_bytes())
+}
+
+/// The moment of a rank, where the columns are ranks.
+fn told_moment(moments: &[u64], rank: u64) -> u64
+    ensures { result ≡ told_moment moments.now rank }
+{
+    match moments.get(rank as usize) {
+        Some(moment) => *moment,
+        None => rank,
+    }
 }
 
 fn tick_moment(scale: &Scale, n: u64) -> u64

@@ -3,7 +3,7 @@
 ghost use Rattle.std.specs.Prelude.{◌≡◌, [], IfOk};
 ghost use Rattle.print_picture.specs.Picture.{high_of, picture_of, shown_terms};
 
-use crate::finding::{push_end, push_finding};
+use crate::finding::{push_arrows, push_end, push_finding};
 use crate::frame::push_frame;
 use crate::lanes::lanes_of;
 use crate::marks::{push_ops, push_order, push_visits};
@@ -30,12 +30,14 @@ pub fn picture_text(alloc: Global, scene: &Scene) -> Result<Vec<u8>, AllocError>
     push_frame(
         &mut text,
         scene.lanes,
+        scene.moments.as_slice(),
         &scale,
         count,
         high_of(count),
         ops,
         terms,
     )?;
+    push_arrows(&mut text, &scale, ops, scene.finding)?;
     push_ops(&mut text, &scale, scene.stamps.as_slice(), ops)?;
     push_visits(&mut text, scene.lanes, &scale, scene.visits.as_slice())?;
     push_finding(&mut text, &scale, ops, order, points, scene.finding)?;

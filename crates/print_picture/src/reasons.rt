@@ -1,9 +1,10 @@
-//! Why no order is lawful: the operations of the reason with their places, an arrow from each that precedes another, and a line of text.
+//! Why no order is lawful: the operations of the reason with their places, an arrow from each that precedes another, and a line of
+//! text.
 
 ghost use Rattle.std.specs.Prelude.{◌≡◌, ◌+◌, ◌≤◌, ◌++◌, OnOk, length, slice_get};
-ghost use Rattle.print_picture.specs.Picture.{arrow_text, begin_spot, both_words, crossed_words, end_spot, named_text, place_spot};
-ghost use Rattle.print_picture.specs.Picture.{precedence_text};
-ghost use Rattle.print_picture.specs.Picture.{precedes_words, reason_text, reason_words};
+ghost use Rattle.print_picture.specs.Picture.{arrow_between, arrow_text, begin_spot, both_words, crossed_words, end_spot, named_text};
+ghost use Rattle.print_picture.specs.Picture.{place_spot, precedence_text};
+ghost use Rattle.print_picture.specs.Picture.{precedes_words, reason_arrows, reason_text, reason_words};
 
 use crate::marks::op_at;
 use history_core::{Band, Op, Reason};
@@ -36,7 +37,7 @@ pub fn push_reason(
 }
 
 /// An operation that precedes another.
-#[tactic(auto, unfolding(crate::specs::Picture::precedence_text), using(std::proofs::Common::append_assoc))]
+#[tactic(auto, using(std::proofs::Common::append_assoc))]
 fn push_precedence(
     text: &mut Vec<u8>,
     scale: &Scale,
@@ -49,8 +50,7 @@ fn push_precedence(
     let a = op_at(ops, m);
     let b = op_at(ops, n);
     push_named(text, scale, m, a)?;
-    push_named(text, scale, n, b)?;
-    push_arrow(text, scale, a, b)
+    push_named(text, scale, n, b)
 }
 
 /// The mark of an operation, with its place.
@@ -75,6 +75,39 @@ fn push_named(
     line.clear();
     put_place(&mut line, place, place_spot(scale, &op));
     text.extend_from_slice(line.as_bytes())
+}
+
+/// The arrows of a reason: each from the end of an operation to the beginning of one that it precedes.
+#[tactic(auto, unfolding(crate::specs::Picture::reason_arrows), using(std::proofs::Common::append_assoc))]
+pub fn push_reason_arrows(
+    text: &mut Vec<u8>,
+    scale: &Scale,
+    ops: &[Op<Band>],
+    reason: Reason,
+) -> Result<(), AllocError>
+    ensures { OnOk result (text.new.items ≡ text.old.items ++ reason_arrows scale.now ops.now reason) }
+{
+    match reason {
+        Reason::Unwritten { .. } | Reason::Limit { .. } => Ok(()),
+        Reason::Early { read, write } => push_arrow_between(text, scale, ops, read, write),
+        Reason::Stale { before, read } => push_arrow_between(text, scale, ops, before, read),
+        Reason::Crossed { a, b, c, d } => {
+            push_arrow_between(text, scale, ops, a, b)?;
+            push_arrow_between(text, scale, ops, c, d)
+        }
+    }
+}
+
+fn push_arrow_between(
+    text: &mut Vec<u8>,
+    scale: &Scale,
+    ops: &[Op<Band>],
+    m: usize,
+    n: usize,
+) -> Result<(), AllocError>
+    ensures { OnOk result (text.new.items ≡ text.old.items ++ arrow_between scale.now ops.now m n) }
+{
+    push_arrow(text, scale, op_at(ops, m), op_at(ops, n))
 }
 
 fn push_arrow(

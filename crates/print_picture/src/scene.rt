@@ -17,7 +17,10 @@ pub enum Finding {
 /// What a picture shows.
 #[derive(Drop)]
 pub struct Scene {
+    /// Its times are moments, or ranks of the moments below.
     pub history: History<Band>,
+    /// The moments of which its times are the ranks; none where its times are moments.
+    pub moments: Items<u64>,
     /// An order of its operations, as places in it.
     pub order: Items<usize>,
     /// The point of each entry of the order; without them an operation's beginning stands in its point's place.

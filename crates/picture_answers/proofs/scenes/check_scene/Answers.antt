@@ -1,5 +1,5 @@
 -- What `first_break` says of the slice it says of the order that it shows.
-use Rattle.std.proofs.Common.{◌≡◌, [], List, ℕ, IfSome, Option, subst}
+use Rattle.std.proofs.Common.{◌≡◌, List, ℕ, IfSome, Option, subst}
 use Rattle.std.proofs.lemmas.Result.{IfOk-weaker}
 use Rattle.history_explain.specs.Breaks.{IsFirstBreak, verdict_of}
 use Rattle.history_core.specs.Orders.{IsVerdict}
@@ -7,21 +7,20 @@ use Rattle.history_core.specs.declared.band.Band.{Band}
 use Rattle.history_explain.specs.declared.breaks.Break.{Break}
 use Rattle.history_core.specs.declared.history.History.{History}
 use Rattle.print_picture.specs.declared.scene.Finding.{Finding}
-use Rattle.picture_shapes.specs.declared.shape.lanes.Lanes.TheVariants.{Actors}
 use Rattle.print_picture.specs.declared.scene.Scene.{Scene}
-use Rattle.picture_answers.specs.Scenes.{AreSame, finding_of, IsSceneOf, ShowsCheck}
+use Rattle.picture_answers.specs.Scenes.{AreSame, finding_of, IsPlainSceneOf, ShowsCheck}
 use Rattle.picture_answers.proofs.scenes.check_scene.Goals as goal
 
 module _ (history : History Band) (order slice : List ℕ) (broken : Option Break) where
   shows_check : (scene : Scene) (finding : Finding) → slice ≡ order → finding ≡ finding_of broken
-      → IsSceneOf history order finding [] Actors [] scene
+      → IsPlainSceneOf history order finding scene
       → IsVerdict AreSame history.opening history.terms history.ops slice (verdict_of broken)
       → IfSome broken (IsFirstBreak AreSame history.opening history.terms history.ops slice)
       → ShowsCheck history order scene
   shows_check scene finding same found shown rule first =
       let P : List ℕ → Type 0 = λ xs. IsVerdict AreSame history.opening history.terms history.ops xs (verdict_of broken) in
       let Q : List ℕ → Type 0 = λ xs. IfSome broken (IsFirstBreak AreSame history.opening history.terms history.ops xs) in
-      let S : Finding → Type 0 = λ f. IsSceneOf history order f [] Actors [] scene in
+      let S : Finding → Type 0 = λ f. IsPlainSceneOf history order f scene in
       record { broken = broken; shown = subst S found shown; rule = subst P same rule; first = subst Q same first }
 
 pub returns : goal.returns
